@@ -1,5 +1,5 @@
--- The words of `init` and `replay`, and their options.
-use Rattle.std.proofs.Common.{Bool, not, true, false, ◌≡◌, ◌≢◌, ◌≤◌, ◌<◌, ◌+◌, inl, inr, ◌⊎◌, ℕ, List, [], ◌∷◌, ◌++◌, map, length, get_or, drop, All, codes, decimal, refl, sym, ◌∙◌, ap, subst, append_assoc, arith, length-append, drop-cons, add-one}
+-- The words of `init` and `replay`, and their options; and the words of `remove`.
+use Rattle.std.proofs.Common.{Bool, not, true, false, ◌≡◌, ◌≢◌, ◌≤◌, ◌<◌, ◌+◌, inl, inr, ◌⊎◌, ℕ, List, [], ◌∷◌, ◌++◌, map, length, get_or, drop, All, Option, codes, decimal, refl, sym, ◌∙◌, ap, subst, append_assoc, arith, length-append, drop-cons, add-one}
 use Rattle.std.proofs.lemmas.Bool.{not-false}
 use Rattle.std.specs.Borrow.{Bor}
 use Rattle.std.specs.Option.{option_to_list}
@@ -10,10 +10,10 @@ use Rattle.std.proofs.lemmas.List.{append-nil, map-append}
 use Rattle.std.proofs.lemmas.List.Elements.{All-push, All-head, All-tail}
 use Rattle.arch_base.specs.Configs.{IsConfig}
 use Rattle.arch_base.specs.declared.config.Config.{Config}
-use Rattle.archive_cli.specs.Words.{IsMade, IsInit, IsReplay, AsksFor, IsSetting, IsUpTo, EachOnce, setting_word, limit_of, slice_of, max_of, mirror_of, limits, slices, maxes, mirrors, spelled, limit_in, slice_in, max_in, mirror_in}
+use Rattle.archive_cli.specs.Words.{IsMade, IsInit, IsReplay, IsRemove, IsJob, AsksFor, IsSetting, IsUpTo, EachOnce, setting_word, limit_of, slice_of, max_of, mirror_of, limits, slices, maxes, mirrors, spelled, limit_in, slice_in, max_in, mirror_in}
 use Rattle.archive_cli.specs.Options.{Holds, HoldsMore, HoldsTwo, marks}
 use Rattle.archive_cli.specs.declared.words.Job.{Job}
-use Rattle.archive_cli.specs.declared.words.Job.TheVariants.{Help, Version, Replay, Init, Deliver, Check}
+use Rattle.archive_cli.specs.declared.words.Job.TheVariants.{Help, Version, Replay, Init, Deliver, Remove, Check}
 use Rattle.archive_cli.specs.declared.words.Setting.{Setting}
 use Rattle.archive_cli.specs.declared.words.Setting.TheVariants.{Limit, Slice, Max, Mirror}
 use Rattle.archive_cli.specs.declared.words.Settings.{Settings}
@@ -168,28 +168,99 @@ same_made words settings others config other m n =
     let spelling : map setting_word settings ≡ map setting_word others = cc (m.is, n.is) in
     same_settings settings others m.ranges n.ranges spelling
 
+-- The word `remove` is none of those before a name.
+remove-init : codes "remove" ≢ codes "init"
+remove-init e = apart 114 105 (codes "emove") (codes "nit") (omega arith) e
+
+remove-replay : codes "remove" ≢ codes "replay"
+remove-replay e = apart 109 112 (codes "ove") (codes "lay") (omega arith) (ap (drop 2) e)
+
+-- Equal words have equal first and second words and equal rests.
+module _ (v w x y : List ℕ) (xs ys : List (List ℕ)) where
+  first-word : v ∷ xs ≡ w ∷ ys → v ≡ w
+  first-word e = cc e
+
+  second-word : v ∷ x ∷ xs ≡ w ∷ y ∷ ys → x ≡ y
+  second-word e = cc e
+
+  third-words : v ∷ x ∷ xs ≡ w ∷ y ∷ ys → xs ≡ ys
+  third-words e = cc e
+
+  not-alone : v ∷ x ∷ xs ≡ w ∷ [] → ⊥
+  not-alone e = cc e
+
+-- Words that start with `remove` and one more word, and that ask for a job, ask for a removal.
+module _ (word : List ℕ) (more : List (List ℕ)) where
+  remove_only : (job : Job) → AsksFor (codes "remove" ∷ word ∷ more) job → (number : ℕ) × (job ≡ Remove number) × IsRemove (codes "remove" ∷ word ∷ more) number
+  remove_only Help e = absurd (not-alone (codes "remove") (codes "--help") word [] more [] e)
+  remove_only Version e = absurd (not-alone (codes "remove") (codes "--version") word [] more [] e)
+  remove_only Deliver e = absurd (not-alone (codes "remove") (codes "deliver") word [] more [] e)
+  remove_only Check e = absurd (not-alone (codes "remove") (codes "check") word [] more [] e)
+  remove_only (Remove number) r = (number, refl, r)
+  remove_only (Init config) i = absurd (remove-init (first-word (codes "remove") (codes "init") [] [] (word ∷ more) i.after i.is))
+  remove_only (Replay config) r = absurd (remove-replay (first-word (codes "remove") (codes "replay") [] [] (word ∷ more) r.after r.is))
+
+  -- More words after the number ask for no job.
+  pub removal_long : more ≢ [] → (job : Job) → AsksFor (codes "remove" ∷ word ∷ more) job → ⊥
+  removal_long some job asked =
+      let removal = remove_only job asked in
+      some (third-words (codes "remove") (codes "remove") word (decimal removal.0) more [] removal.2.is)
+
+  -- Nor does a word that spells no number.
+  pub removal_unread : ((number : ℕ) → IsUpTo 2147483647 number → word ≢ decimal number) → (job : Job) → AsksFor (codes "remove" ∷ word ∷ more) job → ⊥
+  removal_unread none job asked =
+      let removal = remove_only job asked in
+      none removal.0 removal.2.range (second-word (codes "remove") (codes "remove") word (decimal removal.0) more [] removal.2.is)
+
+  -- A number alone.
+  pub removal_read : (number : ℕ) → more ≡ [] → IsUpTo 2147483647 number → word ≡ decimal number → IsRemove (codes "remove" ∷ word ∷ more) number
+  removal_read number none range spelling = record { is = cc (none, spelling); range = range }
+
+-- Words ask for the removal of at most one number.
+pub same_number : (words : List (List ℕ)) (m n : ℕ) → IsRemove words m → IsRemove words n → m ≡ n
+same_number words m n a b =
+    let spelling : decimal m ≡ decimal n = second-word (codes "remove") (codes "remove") (decimal m) (decimal n) [] [] (sym a.is ∙ b.is) in
+    decimal_injective m n (omega (arith, a.range.1)) (omega (arith, b.range.1)) spelling
+
+-- Words that ask for a removal ask for nothing else.
+pub only_removes : (words : List (List ℕ)) (number : ℕ) (job : Job) → IsRemove words number → AsksFor words job → job ≡ Remove number
+only_removes words number job asked also =
+    let removal = remove_only (decimal number) [] job (subst (λ (ws : List (List ℕ)). AsksFor ws job) asked.is also) in
+    removal.1 ∙ ap Remove (same_number (codes "remove" ∷ decimal number ∷ []) removal.0 number removal.2 (subst (λ (ws : List (List ℕ)). IsRemove ws number) asked.is asked))
+
+-- The words of no words.
+pub spelled-none : (words : List (Bor (List ℕ))) → spelled words ≡ [] → words ≡ []
+spelled-none [] e = refl
+spelled-none (w ∷ ws) e = absurd (cc e)
+
+-- What is asked for by `remove` is asked for by a word that is `remove`.
+pub removal_named : (word : List ℕ) (after : List (List ℕ)) (found : Option Job) → word ≡ codes "remove" → IsJob (codes "remove" ∷ after) found → IsJob (word ∷ after) found
+removal_named word after found is asked = subst (λ (w : List ℕ). IsJob (w ∷ after) found) (sym is) asked
+
 module _ (word name : List ℕ) (options : List (List ℕ)) where
   -- A word, and then the words that make an archive.
   after_word : (command : List ℕ) (after : List (List ℕ)) (settings : List Setting) (config : Config) → word ∷ name ∷ options ≡ command ∷ after → IsMade after settings config → IsMade (name ∷ options) settings config
   after_word command after settings config is m = subst (λ ws. IsMade ws settings config) (cc is) m
 
-  -- Words that make no archive ask for no job.
-  pub not_made : ((settings : List Setting) (config : Config) → IsMade (name ∷ options) settings config → ⊥) → (job : Job) → AsksFor (word ∷ name ∷ options) job → ⊥
-  not_made h Help e = cc e
-  not_made h Version e = cc e
-  not_made h Deliver e = cc e
-  not_made h Check e = cc e
-  not_made h (Init config) i = h i.settings config (after_word (codes "init") i.after i.settings config i.is i.made)
-  not_made h (Replay config) r = h r.settings config (after_word (codes "replay") r.after r.settings config r.is r.made)
+  -- Words that make no archive, and whose first isn't `remove`, ask for no job.
+  pub not_made : word ≢ codes "remove" → ((settings : List Setting) (config : Config) → IsMade (name ∷ options) settings config → ⊥) → (job : Job) → AsksFor (word ∷ name ∷ options) job → ⊥
+  not_made o h Help e = cc e
+  not_made o h Version e = cc e
+  not_made o h Deliver e = cc e
+  not_made o h Check e = cc e
+  not_made o h (Remove number) r = o (cc r.is)
+  not_made o h (Init config) i = h i.settings config (after_word (codes "init") i.after i.settings config i.is i.made)
+  not_made o h (Replay config) r = h r.settings config (after_word (codes "replay") r.after r.settings config r.is r.made)
 
   -- Words whose first is another ask for no job.
-  pub other_word : word ≢ codes "init" → word ≢ codes "replay" → (job : Job) → AsksFor (word ∷ name ∷ options) job → ⊥
-  other_word p q Help e = cc e
-  other_word p q Version e = cc e
-  other_word p q Deliver e = cc e
-  other_word p q Check e = cc e
-  other_word p q (Init config) i = p (cc i.is)
-  other_word p q (Replay config) r = q (cc r.is)
+  pub other_word : word ≢ codes "remove" → word ≢ codes "init" → word ≢ codes "replay" → (job : Job) → AsksFor (word ∷ name ∷ options) job → ⊥
+  other_word o p q Help e = cc e
+  other_word o p q Version e = cc e
+  other_word o p q Deliver e = cc e
+  other_word o p q Check e = cc e
+  other_word o p q (Remove number) r = o (cc r.is)
+  other_word o p q (Init config) i = p (cc i.is)
+  other_word o p q (Replay config) r = q (cc r.is)
 
   module _ (config : Config) (is : word ≡ codes "replay") (made : (settings : List Setting) × IsMade (name ∷ options) settings config) where
     -- `replay` and an archive that is no mirror.
@@ -208,6 +279,7 @@ module _ (word name : List ℕ) (options : List (List ℕ)) where
     not_replayed e Version f = cc f
     not_replayed e Deliver f = cc f
     not_replayed e Check f = cc f
+    not_replayed e (Remove number) r = remove-replay (sym (first-word word (codes "remove") [] [] (name ∷ options) (decimal number ∷ []) r.is) ∙ is)
     not_replayed e (Init other) i = apart 105 114 (codes "nit") (codes "eplay") (omega arith) (cc (i.is, is))
     not_replayed e (Replay other) r =
         let found : IsMade (name ∷ options) r.settings other = after_word (codes "replay") r.after r.settings other r.is r.made in

@@ -1,4 +1,4 @@
--- What `init`, `deliver` and `check` do, by the calls below them.
+-- What `init`, `check` and a command do, by the calls below them.
 use Rattle.std.specs.Prelude.{◌≡◌, ◌≢◌, ◌<◌, ◌≤◌, ℕ, zero, suc, true, List, [], length, Option, Some, None, Result, Ok, Err, refl}
 use Rattle.std.proofs.Common.{◌∙◌, sym, ap, subst, inl, inr, arith}
 use Rattle.arch_base.specs.Counts.{Rose, RoseIf}
@@ -33,7 +33,7 @@ use Rattle.archive_core.specs.Engines.{Owning}
 use Rattle.archive_core.specs.Openings.{LeavesKindly}
 use Rattle.archive_core.proofs.Stored.{stored-length}
 use Rattle.archive_core.proofs.Engines.{all_recover, reads_one, stands_for}
-use Rattle.archive_cli.specs.DiskCommands.{Makes, unmade, IsFault, IsOpenedAs, Answers, DeliversTo, ChecksTo, StandsAs, StaysUnopened, DeliversOn, DeliveryLeaves, DeliveryLeavesAmong}
+use Rattle.archive_cli.specs.DiskCommands.{Makes, unmade, IsFault, IsOpenedAs, Answers, TakesTo, ChecksTo, StandsAs, StaysUnopened, TakesOn, CommandLeaves, CommandLeavesAmong}
 use Rattle.archive_cli.specs.declared.outcome.Outcome.{Outcome}
 use Rattle.archive_cli.specs.declared.outcome.Outcome.TheVariants.{Made, Checked, Answered, Unopened}
 
@@ -120,12 +120,12 @@ answered-cause before mid now reply same later cause steady = record {
     of_answer (inl same_outcome) = cc same_outcome
     of_answer (inr other) = absurd (cc other)
 
--- What a refusal to open leaves of an archive that a message was for.
-pub unopened-delivers : (a : Archive) (bytes : List ℕ) (moment : ℕ) (why : OpenRefusal) (old new : Option Content) → ReadsAs a old → IsWant why → LeavesKindly why old new → DeliversTo a bytes moment (Unopened why) new
-unopened-delivers a bytes moment refusal.NoArchive old new reads want kind = absurd want
-unopened-delivers a bytes moment (refusal.Damaged file at) old new reads want kind = absurd want
-unopened-delivers a bytes moment refusal.DiskFault old new reads want kind = tt
-unopened-delivers a bytes moment refusal.NoMemory old new reads want kind = kind a [] reads
+-- What a refusal to open leaves of an archive that a command was for.
+pub unopened-takes : (a : Archive) (wanted : Done) (why : OpenRefusal) (old new : Option Content) → ReadsAs a old → IsWant why → LeavesKindly why old new → TakesTo a wanted (Unopened why) new
+unopened-takes a wanted refusal.NoArchive old new reads want kind = absurd want
+unopened-takes a wanted (refusal.Damaged file at) old new reads want kind = absurd want
+unopened-takes a wanted refusal.DiskFault old new reads want kind = tt
+unopened-takes a wanted refusal.NoMemory old new reads want kind = kind a [] reads
 
 -- What a refusal to open leaves of an archive that was to be checked.
 pub unopened-checks : (a : Archive) (why : OpenRefusal) (old new : Option Content) → ReadsAs a old → IsWant why → LeavesKindly why old new → ChecksTo a (Unopened why) new
@@ -146,19 +146,19 @@ opened-as v None entries live next answer count following = tt
 opened-as v (Some k) entries live next answer count following = (v, answer, count, following)
 
 -- The answer of an open archive is the answer on the disk.
-pub done-answers : (v : View) (a : Archive) (wanted : Done) (reply : Answer) (content : Option Content) → ((n : ℕ) → wanted.answer ≡ answer.NotLive n → ⊥) → DoneBy v [] a wanted reply content → Answers a wanted reply content
-done-answers v a wanted answer.NoMemory content living done = (v, done)
-done-answers v a wanted answer.DiskFault content living done = tt
-done-answers v a wanted (answer.Ok number id) content living done = record { answer_is = done.answer_is; own = (v, done.store) }
-done-answers v a wanted (answer.Duplicate number) content living done = record { answer_is = done.answer_is; own = (v, done.store) }
-done-answers v a wanted answer.NoFields content living done = record { answer_is = done.answer_is; own = (v, done.store) }
-done-answers v a wanted (answer.TooLarge len) content living done = record { answer_is = done.answer_is; own = (v, done.store) }
-done-answers v a wanted (answer.Full max) content living done = record { answer_is = done.answer_is; own = (v, done.store) }
-done-answers v a wanted (answer.Collision number) content living done = record { answer_is = done.answer_is; own = (v, done.store) }
-done-answers v a wanted answer.IsMirror content living done = record { answer_is = done.answer_is; own = (v, done.store) }
-done-answers v a wanted (answer.NotLive number) content living done = absurd (living number done.answer_is)
-done-answers v a wanted (answer.NoText number) content living done = absurd done
-done-answers v a wanted (answer.Damaged file at) content living done = absurd done
+pub done-answers : (v : View) (a : Archive) (wanted : Done) (reply : Answer) (content : Option Content) → DoneBy v [] a wanted reply content → Answers a wanted reply content
+done-answers v a wanted answer.NoMemory content done = (v, done)
+done-answers v a wanted answer.DiskFault content done = tt
+done-answers v a wanted (answer.Ok number id) content done = record { answer_is = done.answer_is; own = (v, done.store) }
+done-answers v a wanted (answer.Duplicate number) content done = record { answer_is = done.answer_is; own = (v, done.store) }
+done-answers v a wanted answer.NoFields content done = record { answer_is = done.answer_is; own = (v, done.store) }
+done-answers v a wanted (answer.TooLarge len) content done = record { answer_is = done.answer_is; own = (v, done.store) }
+done-answers v a wanted (answer.Full max) content done = record { answer_is = done.answer_is; own = (v, done.store) }
+done-answers v a wanted (answer.Collision number) content done = record { answer_is = done.answer_is; own = (v, done.store) }
+done-answers v a wanted answer.IsMirror content done = record { answer_is = done.answer_is; own = (v, done.store) }
+done-answers v a wanted (answer.NotLive number) content done = record { answer_is = done.answer_is; own = (v, done.store) }
+done-answers v a wanted (answer.NoText number) content done = absurd done
+done-answers v a wanted (answer.Damaged file at) content done = absurd done
 
 -- A disk that stands so leaves nothing else at first.
 pub image-all : (may : List (Option Archive)) (k : Option Content) (image : Files) → AllRecoverOf may k → Image k image → RecoversOf may image
@@ -235,11 +235,11 @@ module _ {D : Type 0} (content : D → Option Content) (moment : D → ℕ) (lef
     module _ (new : Owning D) (wanted : Archive → Done) (reply : Answer)
         (taken : (a : Archive) (cache : List ℕ) → IsStoreWith e.view cache a (content e.disk) → DoneBy new.view cache a (wanted a) reply (content new.disk))
         (left : (a : Archive) (cache : List ℕ) → IsStoreWith e.view cache a (content e.disk) → LeavesOnly moment left_since e.disk new.disk (RecoversEitherWith cache a (wanted a).archive)) where
-      pub delivered-answers : ((a : Archive) (n : ℕ) → (wanted a).answer ≡ answer.NotLive n → ⊥) → (a : Archive) → ReadsAs a (content old) → Answers a (wanted a) reply (content new.disk)
-      delivered-answers living a reads = done-answers new.view a (wanted a) reply (content new.disk) (living a) (taken a [] (done a [] reads))
+      pub taken-answers : (a : Archive) → ReadsAs a (content old) → Answers a (wanted a) reply (content new.disk)
+      taken-answers a reads = done-answers new.view a (wanted a) reply (content new.disk) (taken a [] (done a [] reads))
 
-      pub delivered-leaves : (s : Standing) → StandsAs s (content old) → DeliveryLeaves content moment left_since old new.disk s wanted
-      delivered-leaves s all =
+      pub taken-leaves : (s : Standing) → StandsAs s (content old) → CommandLeaves content moment left_since old new.disk s wanted
+      taken-leaves s all =
           let found = found-at s old all in
           inr (record {
             found = found.0;
@@ -252,8 +252,8 @@ module _ {D : Type 0} (content : D → Option Content) (moment : D → ℕ) (lef
                 (λ image one. inl one) (λ image either. either);
           })
 
-      pub delivered-among : (may : List (Option Archive)) → AllRecoverOf may (content old) → WhereTold (λ (k : Content). Opens (as_read k) (Ok e.view)) (content old) → DeliveryLeavesAmong content moment left_since old new.disk may wanted
-      delivered-among may all answer =
+      pub taken-among : (may : List (Option Archive)) → AllRecoverOf may (content old) → WhereTold (λ (k : Content). Opens (as_read k) (Ok e.view)) (content old) → CommandLeavesAmong content moment left_since old new.disk may wanted
+      taken-among may all answer =
           let found = read-among may (content old) (reads_fit old) all e.view answer in
           inr (record {
             found = found.0;
@@ -271,12 +271,12 @@ module _ {D : Type 0} (content : D → Option Content) (moment : D → ℕ) (lef
         own-stands : (a : Archive) → IsStoreOf new.view a (content new.disk) → StandsAs (standing a None) (content new.disk)
         own-stands a store = one-stands a new.disk (λ image now. stands_for new.view [] a (content new.disk) image store now)
 
-        stands-done : (r : Answer) → reply ≡ r → (wanted b).answer ≡ r → IsStoreOf new.view (wanted b).archive (content new.disk) → ((t : Standing) → Obeys (standing b None) wanted r t → Comes true (standing b None) wanted r t) → (t : Standing) × StandsAs t (content new.disk) × DeliversOn s (content old) wanted (Answered r) t
+        stands-done : (r : Answer) → reply ≡ r → (wanted b).answer ≡ r → IsStoreOf new.view (wanted b).archive (content new.disk) → ((t : Standing) → Obeys (standing b None) wanted r t → Comes true (standing b None) wanted r t) → (t : Standing) × StandsAs t (content new.disk) × TakesOn s (content old) wanted (Answered r) t
         stands-done r is answer_is store comes =
             let obeys : Obeys (standing b None) wanted r (standing (wanted b).archive None) = record { found = b; is_found = inl refl; answer_is = answer_is; stands = refl } in
             (standing (wanted b).archive None, own-stands (wanted b).archive store, record { found = b; is_found = found; reads = reads; comes = comes (standing (wanted b).archive None) obeys })
 
-        stands-by : (r : Answer) → reply ≡ r → DoneBy new.view [] b (wanted b) r (content new.disk) → (t : Standing) × StandsAs t (content new.disk) × DeliversOn s (content old) wanted (Answered r) t
+        stands-by : (r : Answer) → reply ≡ r → DoneBy new.view [] b (wanted b) r (content new.disk) → (t : Standing) × StandsAs t (content new.disk) × TakesOn s (content old) wanted (Answered r) t
         stands-by answer.NoMemory is store = (standing b None, own-stands b store, record { found = b; is_found = found; reads = reads; comes = inr (record { found = inl refl; sure = refl }) })
         stands-by answer.DiskFault is nothing =
             let run = left b [] (done b [] reads) in
@@ -300,7 +300,7 @@ module _ {D : Type 0} (content : D → Option Content) (moment : D → ℕ) (lef
         stands-by (answer.NoText number) is never = absurd never
         stands-by (answer.Damaged file at) is never = absurd never
 
-      pub delivered-stands : (s : Standing) → StandsAs s (content old) → (t : Standing) × StandsAs t (content new.disk) × DeliversOn s (content old) wanted (Answered reply) t
-      delivered-stands s all =
+      pub taken-stands : (s : Standing) → StandsAs s (content old) → (t : Standing) × StandsAs t (content new.disk) × TakesOn s (content old) wanted (Answered reply) t
+      taken-stands s all =
           let found = found-at s old all in
           stands-by s found.0 found.1 found.2 reply refl (taken found.0 [] (done found.0 [] found.2))

@@ -1,5 +1,5 @@
 -- What the plain function prints of events is a transcript of them.
-use Rattle.std.proofs.Common.{◌≡◌, ℕ, List, [], ◌∷◌, ◌++◌, Option, Some, None, Bool, true, false, refl, subst, arith}
+use Rattle.std.proofs.Common.{◌≡◌, ℕ, List, [], ◌∷◌, ◌++◌, Option, Some, None, Bool, true, false, refl, subst}
 use Rattle.line_door.specs.Acts.{Said, outside}
 use Rattle.line_door.specs.Course.{Talk, talk, PlainFed, Fed}
 use Rattle.line_door.specs.Plain.{plain}

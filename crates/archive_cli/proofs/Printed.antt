@@ -1,5 +1,5 @@
 -- How what is due is printed.
-use Rattle.std.proofs.Common.{◌≡◌, ◌≤◌, ◌<◌, inl, inr, ℕ, List, [], ◌++◌, length, take, codes, decimal, Option, Some, None, Result, Ok, Err, is_ok, refl, sym, ◌∙◌, ap, subst, append_assoc, arith, length-append, if◌then◌else◌}
+use Rattle.std.proofs.Common.{◌≡◌, ◌≢◌, ◌≤◌, ◌<◌, inl, inr, ℕ, List, [], ◌++◌, length, take, codes, decimal, Option, Some, None, Result, Ok, Err, is_ok, refl, sym, ◌∙◌, ap, subst, append_assoc, arith, length-append, if◌then◌else◌}
 use Rattle.arch_base.specs.declared.config.Config.{Config}
 use Rattle.edge_io.specs.Left.{before, IsUsedUp}
 use Rattle.edge_io.specs.Scripts.{Arrival, IsScript, IsBad}
@@ -8,6 +8,10 @@ use Rattle.edge_io.specs.declared.sink.SinkFault.{SinkFault}
 use Rattle.std.proofs.lemmas.List.{append-nil, take_all, length-take}
 use Rattle.std.proofs.Math.Seq.{take-append_seam}
 use Rattle.answer_lines.specs.Lines.{whole_line}
+use Rattle.arch_model.specs.Archives.{Archive}
+use Rattle.arch_model.specs.declared.answer.Answer.TheVariants as answer
+use Rattle.archive_core.proofs.Answered.{delivery-lives}
+use Rattle.archive_cli.specs.DiskCommands.{IsDone, TakesTo, delivering, removing}
 use Rattle.archive_cli.specs.Words.{IsJob, AsksFor}
 use Rattle.archive_cli.specs.Turns.{World, Transcript, before_stop}
 use Rattle.archive_cli.specs.Plays.{PlaysSome}
@@ -15,14 +19,15 @@ use Rattle.disk_model.specs.Disk.{Content}
 use Rattle.edge_io.specs.Coming.{Moments, IsFirst}
 use Rattle.archive_cli.specs.Outcomes.{outcome_line, status_of}
 use Rattle.archive_cli.specs.declared.outcome.Outcome.{Outcome}
-use Rattle.archive_cli.specs.Program.{Edges, all_edges, NoneFailed, Acts, IsInput, IsDue, Ends, Ran, start, input_limit, TookAtMost}
-use Rattle.archive_cli.specs.Printing.{Printed, Exactly, IsReplayDue, Replayed, IsPieceRead, IsOutcomeDue, JobDone, InputDone, IsUnread}
+use Rattle.archive_cli.specs.declared.outcome.Outcome.TheVariants.{Answered}
+use Rattle.archive_cli.specs.Program.{Edges, all_edges, NoneFailed, Acts, EndsBy, InitActs, CommandActs, DeliverActs, CheckActs, IsInput, IsDue, Ends, Ran, start, input_limit, message_of, TookAtMost}
+use Rattle.archive_cli.specs.Printing.{Printed, Exactly, IsReplayDue, Replayed, IsPieceRead, JobDone, InputDone, IsUnread}
 use Rattle.archive_cli.specs.declared.status.Status.{Status}
 use Rattle.archive_cli.specs.declared.status.Status.TheVariants as exit
 use Rattle.archive_cli.specs.declared.reading.InputRefusal.{InputRefusal}
 use Rattle.archive_cli.specs.declared.reading.InputRefusal.TheVariants.{Fault, TooLong, NoMemory}
 use Rattle.archive_cli.specs.declared.words.Job.{Job}
-use Rattle.archive_cli.specs.declared.words.Job.TheVariants.{Replay, Init, Deliver, Check}
+use Rattle.archive_cli.specs.declared.words.Job.TheVariants.{Replay, Init, Deliver, Remove, Check}
 
 module _ (out : Option (List ℕ)) (lost : ℕ) (out' : Option (List ℕ)) (lost' : ℕ) where
   -- What is due by one rule is due by another.
@@ -101,48 +106,77 @@ ran-replayed words config status i j asked (inl r) kept clock disk =
 ran-replayed words config status i j asked (inr r) kept clock disk = inr (inl (record { asked = inl (config, asked); rose = r.1; silent = record { status_is = r.0; taken_is = r.2; lost_kept = r.3; kept = kept } }))
 
 -- An archive that was to be made is a run.
-pub ran-made : (words : List (List ℕ)) (config : Config) (status : Status) (i j : Edges) → AsksFor words (Init config) → JobDone (Init config) [] status i j → Ran words status i j
+pub ran-made : (words : List (List ℕ)) (config : Config) (status : Status) (i j : Edges) → AsksFor words (Init config) → JobDone (InitActs config) status i j → Ran words status i j
 ran-made words config status i j asked (inl p) =
     let given = some-input i.left in
-    ran-printed words given.0 status i j (IsOutcomeDue (Init config) [] i j) given.1
-    (λ s printed due. inl (record { job = Some (Init config); asked = asked; ends = record { outcome = due.outcome; acts = record { moment = due.acts.moment; first = due.acts.first; acts = due.acts.acts; fault = due.acts.fault; input_kept = due.acts.input_kept; clock_kept = due.acts.clock_kept; disk_kept = due.acts.disk_kept }; status_is = due.status_is; printed_is = due.printed_is } })) p
+    ran-printed words given.0 status i j (EndsBy (InitActs config) i j) given.1 (λ s printed due. inl (record { job = Some (Init config); asked = asked; ends = due })) p
 ran-made words config status i j asked (inr missed) = inr (inr (inl (record { asked = inl (config, asked); rose = missed.1; silent = missed.0 })))
 
 -- A message that was to be delivered is a run.
 pub ran-delivered : (words : List (List ℕ)) (status : Status) (i j : Edges) → AsksFor words Deliver → InputDone status i j → Ran words status i j
 ran-delivered words status i j asked (inl (input, told, inl p)) =
-    ran-printed words input status i j (IsOutcomeDue Deliver input i j) told (λ s printed due. inl (record { job = Some Deliver; asked = asked; ends = due })) p
-ran-delivered words status i j asked (inl (input, told, inr missed)) = inr (inr (inl (record { asked = inr asked; rose = missed.1; silent = missed.0 })))
+    ran-printed words input status i j (EndsBy (DeliverActs (message_of input)) i j) told (λ s printed due. inl (record { job = Some Deliver; asked = asked; ends = due })) p
+ran-delivered words status i j asked (inl (input, told, inr missed)) = inr (inr (inl (record { asked = inr (inl asked); rose = missed.1; silent = missed.0 })))
 ran-delivered words status i j asked (inr (inl p)) =
     let given = some-input i.left in
     ran-printed words given.0 status i j (IsUnread i j) given.1 (λ s printed unread. inr (inr (record { asked = asked; status_is = unread.status_is; printed_is = unread.printed_is; kept = unread.kept; spared = unread.spared }))) p
 ran-delivered words status i j asked (inr (inr failed)) = inr (inl (record { asked = inr asked; rose = failed.1; silent = failed.0 }))
 
+-- A message that was to be removed is a run.
+pub ran-removed : (words : List (List ℕ)) (number : ℕ) (status : Status) (i j : Edges) → AsksFor words (Remove number) → JobDone (CommandActs (removing number)) status i j → Ran words status i j
+ran-removed words number status i j asked (inl p) =
+    let given = some-input i.left in
+    ran-printed words given.0 status i j (EndsBy (CommandActs (removing number)) i j) given.1 (λ s printed due. inl (record { job = Some (Remove number); asked = asked; ends = due })) p
+ran-removed words number status i j asked (inr missed) = inr (inr (inl (record { asked = inr (inr (number, asked)); rose = missed.1; silent = missed.0 })))
+
 -- A check is a run.
-pub ran-checked : (words : List (List ℕ)) (status : Status) (i j : Edges) (o : Outcome) → AsksFor words Check → ((input : List ℕ) → Acts Check input i j o) → Printed (Exactly (whole_line (outcome_line o)) (status_of o)) status i.taken i.lost j.taken j.lost → Ran words status i j
+pub ran-checked : (words : List (List ℕ)) (status : Status) (i j : Edges) (o : Outcome) → AsksFor words Check → Acts CheckActs i j o → Printed (Exactly (whole_line (outcome_line o)) (status_of o)) status i.taken i.lost j.taken j.lost → Ran words status i j
 ran-checked words status i j o asked acts p =
     let given = some-input i.left in
     ran-printed words given.0 status i j (Exactly (whole_line (outcome_line o)) (status_of o)) given.1
-    (λ s printed e. inl (record { job = Some Check; asked = asked; ends = record { outcome = o; acts = acts given.0; status_is = e.status_is; printed_is = e.words_is } })) p
+    (λ s printed e. inl (record { job = Some Check; asked = asked; ends = record { outcome = o; acts = acts; status_is = e.status_is; printed_is = e.words_is } })) p
 
 -- What was printed of an outcome is due by it.
-pub outcome-due : (job : Job) (input : List ℕ) (status : Status) (i j : Edges) (o : Outcome) → Acts job input i j o → Printed (Exactly (whole_line (outcome_line o)) (status_of o)) status i.taken i.lost j.taken j.lost → Printed (IsOutcomeDue job input i j) status i.taken i.lost j.taken j.lost
-outcome-due job input status i j o acts p =
-    printed-as i.taken i.lost j.taken j.lost (Exactly (whole_line (outcome_line o)) (status_of o)) (IsOutcomeDue job input i j) status p
+pub outcome-due : (did : ℕ → Option Content → Option Content → Outcome → Type 0) (status : Status) (i j : Edges) (o : Outcome) → Acts did i j o → Printed (Exactly (whole_line (outcome_line o)) (status_of o)) status i.taken i.lost j.taken j.lost → Printed (EndsBy did i j) status i.taken i.lost j.taken j.lost
+outcome-due did status i j o acts p =
+    printed-as i.taken i.lost j.taken j.lost (Exactly (whole_line (outcome_line o)) (status_of o)) (EndsBy did i j) status p
     (λ s words e. record { outcome = o; acts = acts; status_is = e.status_is; printed_is = e.words_is })
 
+-- What a job did is also something else.
+pub job-as : (did other : ℕ → Option Content → Option Content → Outcome → Type 0) (status : Status) (i j : Edges) → ((moment : ℕ) (old new : Option Content) (o : Outcome) → did moment old new o → other moment old new o) → JobDone did status i j → JobDone other status i j
+job-as did other status i j also (inl p) =
+    inl (printed-as i.taken i.lost j.taken j.lost (EndsBy did i j) (EndsBy other i j) status p (λ s words due. record {
+      outcome = due.outcome;
+      acts = record { moment = due.acts.moment; first = due.acts.first; acts = also due.acts.moment i.content j.content due.outcome due.acts.acts; fault = due.acts.fault; input_kept = due.acts.input_kept; clock_kept = due.acts.clock_kept; disk_kept = due.acts.disk_kept };
+      status_is = due.status_is;
+      printed_is = due.printed_is;
+    }))
+job-as did other status i j also (inr missed) = inr missed
+
+-- On the disk of an archive a delivery isn't answered that a number isn't live.
+never-dead : (bytes : List ℕ) (moment : ℕ) (a : Archive) (number : ℕ) (o : Outcome) (new : Option Content) → TakesTo a (delivering bytes moment a) o new → o ≢ Answered (answer.NotLive number)
+never-dead bytes moment a number o new takes is =
+    let done : IsDone (delivering bytes moment a) (answer.NotLive number) new = subst (λ (p : Outcome). TakesTo a (delivering bytes moment a) p new) is takes in
+    delivery-lives a bytes moment number done.answer_is
+
+-- The command that delivers the message on an input did what `deliver` does.
+pub delivers-as : (bytes input : List ℕ) → bytes ≡ message_of input → (moment : ℕ) (old new : Option Content) (o : Outcome) → CommandActs (delivering bytes) moment old new o → DeliverActs (message_of input) moment old new o
+delivers-as bytes input is moment old new o acts =
+    let of_message : CommandActs (delivering (message_of input)) moment old new o = subst (λ (b : List ℕ). CommandActs (delivering b) moment old new o) is acts in
+    record { acts = of_message; lives = λ a reads number. never-dead (message_of input) moment a number o new (of_message.done a reads) }
+
 -- A job over the disk does not depend on the end of the input.
-pub job-moved : (job : Job) (input : List ℕ) (status : Status) (left left' : Option (List ℕ)) (unread unread' : ℕ) (taken taken' : Option (List ℕ)) (lost lost' : ℕ) (coming coming' : Option Moments) (missed missed' : ℕ) (content content' : Option Content) (broken broken' : ℕ)
-    → unread' ≡ unread → JobDone job input status (all_edges None 0 taken lost coming missed content broken) (all_edges None 0 taken' lost' coming' missed' content' broken')
-    → JobDone job input status (all_edges left unread taken lost coming missed content broken) (all_edges left' unread' taken' lost' coming' missed' content' broken')
-job-moved job input status left left' unread unread' taken taken' lost lost' coming coming' missed missed' content content' broken broken' same (inl p) =
+pub job-moved : (did : ℕ → Option Content → Option Content → Outcome → Type 0) (status : Status) (left left' : Option (List ℕ)) (unread unread' : ℕ) (taken taken' : Option (List ℕ)) (lost lost' : ℕ) (coming coming' : Option Moments) (missed missed' : ℕ) (content content' : Option Content) (broken broken' : ℕ)
+    → unread' ≡ unread → JobDone did status (all_edges None 0 taken lost coming missed content broken) (all_edges None 0 taken' lost' coming' missed' content' broken')
+    → JobDone did status (all_edges left unread taken lost coming missed content broken) (all_edges left' unread' taken' lost' coming' missed' content' broken')
+job-moved did status left left' unread unread' taken taken' lost lost' coming coming' missed missed' content content' broken broken' same (inl p) =
     inl (printed-as taken lost taken' lost' _ _ status p (λ s words due. record {
       outcome = due.outcome;
       acts = record { moment = due.acts.moment; first = due.acts.first; acts = due.acts.acts; fault = due.acts.fault; input_kept = same; clock_kept = due.acts.clock_kept; disk_kept = due.acts.disk_kept };
       status_is = due.status_is;
       printed_is = due.printed_is;
     }))
-job-moved job input status left left' unread unread' taken taken' lost lost' coming coming' missed missed' content content' broken broken' same (inr m) =
+job-moved did status left left' unread unread' taken taken' lost lost' coming coming' missed missed' content content' broken broken' same (inr m) =
     inr (record { status_is = m.0.status_is; taken_is = m.0.taken_is; lost_kept = m.0.lost_kept; kept = m.0.kept }, m.1)
 
 -- The line for out of memory is due if a message wasn't read.

@@ -1,14 +1,14 @@
 -- Runs on one disk, in order.
-use Rattle.std.specs.Prelude.{◌≡◌, ◌≢◌, ◌⊎◌, ℕ, true, List, [], ◌∷◌, codes, get_or, Option, Some, None, refl}
+use Rattle.std.specs.Prelude.{◌≡◌, ◌≢◌, ◌⊎◌, ℕ, true, List, [], ◌∷◌, codes, decimal, get_or, Option, Some, None, refl}
 use Rattle.std.proofs.Common.{◌∙◌, sym, ap, subst, inl, inr, arith}
 use Rattle.std.proofs.lemmas.Bool.{false≢true}
 use Rattle.arch_base.specs.declared.config.Config.{Config}
 use Rattle.disk_model.specs.Disk.{Files, Content, Image, WhereTold}
 use Rattle.edge_io.specs.Coming.{IsFirst}
 use Rattle.arch_model.specs.Archives.{Archive, empty_archive, live, text_of}
-use Rattle.arch_model.specs.Delivery.{Done, delivered}
+use Rattle.arch_model.specs.Delivery.{Done}
 use Rattle.arch_model.specs.Keeping.{Settles, Comes, Obeys, Doubts}
-use Rattle.arch_model.specs.Laws.{KeepsNumbers}
+use Rattle.arch_model.specs.Laws.{KeepsNumbers, TakesFromView}
 use Rattle.arch_model.specs.Standing.{Standing, standing, one_of, IsFound}
 use Rattle.arch_model.specs.declared.answer.Answer.{Answer}
 use Rattle.arch_model.specs.declared.answer.Answer.TheVariants as answer
@@ -24,13 +24,14 @@ use Rattle.archive_cli.specs.declared.outcome.Outcome.TheVariants.{Made, Exists,
 use Rattle.archive_cli.specs.declared.status.Status.{Status}
 use Rattle.archive_cli.specs.declared.status.Status.TheVariants as exit
 use Rattle.archive_cli.specs.declared.words.Job.{Job}
-use Rattle.archive_cli.specs.declared.words.Job.TheVariants.{Help, Version, Replay, Init, Deliver, Check}
-use Rattle.archive_cli.specs.DiskCommands.{Makes, StandsAs, StaysUnopened, DeliversOn}
-use Rattle.archive_cli.specs.Laws.{WithMessage, Goes, RunsInARow}
+use Rattle.archive_cli.specs.declared.words.Job.TheVariants.{Help, Version, Replay, Init, Deliver, Remove, Check}
+use Rattle.archive_cli.specs.DiskCommands.{Makes, StandsAs, StaysUnopened, TakesOn, delivering, removing}
+use Rattle.archive_cli.specs.Laws.{WithMessage, WithRemoval, Goes, RunsInARow}
 use Rattle.archive_cli.specs.Outcomes.{status_of}
-use Rattle.archive_cli.specs.Program.{Edges, EndsBy, IsDue, Ends, Ran, IsInput, AsksForInit, message_of, made_at}
+use Rattle.archive_cli.specs.Program.{Edges, EndsBy, InitActs, CommandActs, DeliverActs, IsDue, Ends, Ran, IsInput, AsksForInit, AsksForCommand, message_of, made_at}
 use Rattle.archive_cli.specs.Statuses.{code_of}
 use Rattle.archive_cli.specs.Words.{AsksFor, IsJob}
+use Rattle.archive_cli.proofs.Grammar.{only_removes}
 
 -- Words that start with different bytes differ.
 other-words : (c d : ℕ) (x y : List ℕ) (xs ys : List (List ℕ)) → c ≢ d → (c ∷ x) ∷ xs ≡ (d ∷ y) ∷ ys → ⊥
@@ -42,8 +43,24 @@ only-delivers words Deliver asked also = refl
 only-delivers words Help asked also = absurd (other-words 100 45 (codes "eliver") (codes "-help") [] [] (omega arith) (sym asked ∙ also))
 only-delivers words Version asked also = absurd (other-words 100 45 (codes "eliver") (codes "-version") [] [] (omega arith) (sym asked ∙ also))
 only-delivers words Check asked also = absurd (other-words 100 99 (codes "eliver") (codes "heck") [] [] (omega arith) (sym asked ∙ also))
+only-delivers words (Remove number) asked also = absurd (other-words 100 114 (codes "eliver") (codes "emove") [] (decimal number ∷ []) (omega arith) (sym asked ∙ also.is))
 only-delivers words (Replay config) asked also = absurd (other-words 100 114 (codes "eliver") (codes "eplay") [] also.after (omega arith) (sym asked ∙ also.is))
 only-delivers words (Init config) asked also = absurd (other-words 100 105 (codes "eliver") (codes "nit") [] also.after (omega arith) (sym asked ∙ also.is))
+
+-- The job is a command on an archive.
+abbrev IsCommand : Job → Type 0
+IsCommand Deliver = Unit {0}
+IsCommand (Remove number) = Unit {0}
+IsCommand Help = ⊥
+IsCommand Version = ⊥
+IsCommand Check = ⊥
+IsCommand (Replay config) = ⊥
+IsCommand (Init config) = ⊥
+
+-- Words that ask for a command ask for nothing else.
+only-commands : (words : List (List ℕ)) (job : Job) → AsksForCommand words → AsksFor words job → IsCommand job
+only-commands words job (inl asked) also = subst IsCommand (sym (only-delivers words job asked also)) tt
+only-commands words job (inr asked) also = subst IsCommand (sym (only_removes words asked.0 job asked.1 also)) tt
 
 -- Nor do words that ask to make an archive.
 only-makes : (words : List (List ℕ)) (job : Job) → AsksForInit words → AsksFor words job → (config : Config) × (job ≡ Init config)
@@ -53,38 +70,33 @@ only-makes words Version asked also = absurd (other-words 105 45 (codes "nit") (
 only-makes words Check asked also = absurd (other-words 105 99 (codes "nit") (codes "heck") asked.1.after [] (omega arith) (sym asked.1.is ∙ also))
 only-makes words (Replay config) asked also = absurd (other-words 105 114 (codes "nit") (codes "eplay") asked.1.after also.after (omega arith) (sym asked.1.is ∙ also.is))
 only-makes words Deliver asked also = absurd (other-words 105 100 (codes "nit") (codes "eliver") asked.1.after [] (omega arith) (sym asked.1.is ∙ also))
+only-makes words (Remove number) asked also = absurd (other-words 105 114 (codes "nit") (codes "emove") asked.1.after (decimal number ∷ []) (omega arith) (sym asked.1.is ∙ also.is))
 
--- The archive is the same, or has the message.
-abbrev FromBy : Edges → Archive → Archive → Type 0
-FromBy i old new = (new ≡ old) ⊎ WithMessage i old new
+-- The archive is the same, or what the command of the words makes of it.
+abbrev FromBy : List (List ℕ) → Edges → Archive → Archive → Type 0
+FromBy words i old new = (new ≡ old) ⊎ (WithMessage words i old new ⊎ WithRemoval words i old new)
 
 -- Each archive of one standing goes on from one of another.
-abbrev Steps : Edges → Standing → Standing → Type 0
-Steps i s t = (b : Archive) → IsFound t b → (a : Archive) × IsFound s a × FromBy i a b
+abbrev Steps : List (List ℕ) → Edges → Standing → Standing → Type 0
+Steps words i s t = (b : Archive) → IsFound t b → (a : Archive) × IsFound s a × FromBy words i a b
 
-module _ (i : Edges) where
-  steps-same : (s t : Standing) → t ≡ s → Steps i s t
+module _ (words : List (List ℕ)) (i : Edges) where
+  steps-same : (s t : Standing) → t ≡ s → Steps words i s t
   steps-same s t same b found = (b, subst (λ (x : Standing). IsFound x b) same found, inl refl)
 
-  steps-settled : (s t : Standing) → Settles s t → Steps i s t
+  steps-settled : (s t : Standing) → Settles s t → Steps words i s t
   steps-settled s t settles b (inl is) = (t.archive, settles.found, inl is)
   steps-settled s t settles b (inr doubt) = absurd (let no : None ≡ Some b = sym settles.sure ∙ doubt in cc)
 
-  module _ (input : List ℕ) (told : IsInput i.left input) (at : ℕ) (first : IsFirst at i.coming) where
-    abbrev wanted : Archive → Done
-    wanted a = delivered a (message_of input) at
-
-    with-message : (a b : Archive) → b ≡ (wanted a).archive → FromBy i a b
-    with-message a b is = inr (record { input = input; told = told; at = at; first = first; is = is })
-
+  module _ (wanted : Archive → Done) (goes : (a b : Archive) → b ≡ (wanted a).archive → FromBy words i a b) where
     module _ (s : Standing) (a : Archive) (found : IsFound s a) (t : Standing) where
-      steps-obeyed : (reply : Answer) → Obeys (standing a None) wanted reply t → Steps i s t
+      steps-obeyed : (reply : Answer) → Obeys (standing a None) wanted reply t → Steps words i s t
       steps-obeyed reply obeys b (inl is) =
           let same : obeys.found ≡ a = found-one a obeys.found obeys.is_found in
-          (a, found, with-message a b (is ∙ ap (λ (x : Standing). x.archive) obeys.stands ∙ ap (λ (x : Archive). (wanted x).archive) same))
+          (a, found, goes a b (is ∙ ap (λ (x : Standing). x.archive) obeys.stands ∙ ap (λ (x : Archive). (wanted x).archive) same))
       steps-obeyed reply obeys b (inr doubt) = absurd (let no : None ≡ Some b = sym (ap (λ (x : Standing). x.doubt) obeys.stands) ∙ doubt in cc)
 
-      steps-doubted : Doubts (standing a None) wanted t → Steps i s t
+      steps-doubted : Doubts (standing a None) wanted t → Steps words i s t
       steps-doubted doubts b (inl is) =
           let same : doubts.found ≡ a = found-one a doubts.found doubts.is_found in
           (a, found, inl (is ∙ ap (λ (x : Standing). x.archive) doubts.stands ∙ same))
@@ -92,13 +104,13 @@ module _ (i : Edges) where
           let same : doubts.found ≡ a = found-one a doubts.found doubts.is_found in
           let one : Some b ≡ Some (wanted doubts.found).archive = sym doubt ∙ ap (λ (x : Standing). x.doubt) doubts.stands in
           let is : b ≡ (wanted doubts.found).archive = cc in
-          (a, found, with-message a b (is ∙ ap (λ (x : Archive). (wanted x).archive) same))
+          (a, found, goes a b (is ∙ ap (λ (x : Archive). (wanted x).archive) same))
 
-      steps-starved : Settles (standing a None) t → Steps i s t
+      steps-starved : Settles (standing a None) t → Steps words i s t
       steps-starved settles b (inl is) = (a, found, inl (is ∙ found-one a t.archive settles.found))
       steps-starved settles b (inr doubt) = absurd (let no : None ≡ Some b = sym settles.sure ∙ doubt in cc)
 
-      steps-answered : (reply : Answer) → Comes true (standing a None) wanted reply t → Steps i s t
+      steps-answered : (reply : Answer) → Comes true (standing a None) wanted reply t → Steps words i s t
       steps-answered answer.NoMemory (inl unopened) = absurd (false≢true (sym unopened.stale))
       steps-answered answer.NoMemory (inr settles) = steps-starved settles
       steps-answered answer.DiskFault (inl unopened) = absurd (false≢true (sym unopened.stale))
@@ -114,48 +126,65 @@ module _ (i : Edges) where
       steps-answered answer.IsMirror obeys = steps-obeyed answer.IsMirror obeys
       steps-answered (answer.Damaged file offset) never = absurd never
 
-    steps-unopened : (s t : Standing) (old : Option Content) (why : OpenRefusal) → StaysUnopened s old why t → Steps i s t
+    steps-unopened : (s t : Standing) (old : Option Content) (why : OpenRefusal) → StaysUnopened s old why t → Steps words i s t
     steps-unopened s t old refusal.DiskFault same = steps-same s t same
     steps-unopened s t old refusal.NoMemory settles = steps-settled s t settles.0
     steps-unopened s t old refusal.NoArchive never = absurd never
     steps-unopened s t old (refusal.Damaged file offset) never = absurd never
 
-    steps-done : (s t : Standing) (old : Option Content) (o : Outcome) → DeliversOn s old wanted o t → Steps i s t
+    steps-done : (s t : Standing) (old : Option Content) (o : Outcome) → TakesOn s old wanted o t → Steps words i s t
     steps-done s t old (Answered reply) done = steps-answered s done.found done.is_found t reply done.comes
     steps-done s t old (Unopened why) stays = steps-unopened s t old why stays
     steps-done s t old (Made name) never = absurd never
     steps-done s t old Exists never = absurd never
     steps-done s t old (Checked entries live next) never = absurd never
 
-  -- A delivery leads from what the disk stood for to what it stands for then.
+  -- A command leads from what the disk stood for to what it stands for then.
   abbrev Leads : Standing → Edges → Type 0
-  Leads s j = (t : Standing) × StandsAs t j.content × Steps i s t
+  Leads s j = (t : Standing) × StandsAs t j.content × Steps words i s t
 
-  module _ (words : List (List ℕ)) (asked : AsksFor words Deliver) (j : Edges) (s : Standing) (all : StandsAs s i.content) where
+  module _ (j : Edges) (s : Standing) (all : StandsAs s i.content) where
     leads-kept : j.content ≡ i.content → Leads s j
     leads-kept same = (s, subst (λ (k : Option Content). StandsAs s k) (sym same) all, steps-same s s refl)
 
-    leads-ends : (input : List ℕ) → IsInput i.left input → (status : Status) (printed : List ℕ) → EndsBy Deliver input i j status printed → Leads s j
-    leads-ends input told status printed ends =
+    leads-delivered : AsksFor words Deliver → (input : List ℕ) → IsInput i.left input → (status : Status) (printed : List ℕ) → EndsBy (DeliverActs (message_of input)) i j status printed → Leads s j
+    leads-delivered asked input told status printed ends =
+        let at = ends.acts.moment in
+        let t = ends.acts.acts.acts.stands s all in
+        (t.0, t.1, steps-done (delivering (message_of input) at) (λ a b is. inr (inl (record { asked = asked; input = input; told = told; at = at; first = ends.acts.first; is = is }))) s t.0 i.content ends.outcome t.2)
+
+    leads-removed : (number : ℕ) → AsksFor words (Remove number) → (status : Status) (printed : List ℕ) → EndsBy (CommandActs (removing number)) i j status printed → Leads s j
+    leads-removed number asked status printed ends =
+        let at = ends.acts.moment in
         let t = ends.acts.acts.stands s all in
-        (t.0, t.1, steps-done input told ends.acts.moment ends.acts.first s t.0 i.content ends.outcome t.2)
+        (t.0, t.1, steps-done (removing number at) (λ a b is. inr (inr (record { number = number; asked = asked; at = at; first = ends.acts.first; is = is }))) s t.0 i.content ends.outcome t.2)
 
-    leads-does : (input : List ℕ) → IsInput i.left input → (status : Status) (printed : List ℕ) (job : Option Job) → IsJob words job → Ends job input i j status printed → Leads s j
-    leads-does input told status printed None asks ends = absurd (asks Deliver asked)
-    leads-does input told status printed (Some job) asks ends =
-        let same = only-delivers words job asked asks in
-        leads-ends input told status printed (subst (λ (x : Job). Ends (Some x) input i j status printed) same ends)
+    module _ (asked : AsksForCommand words) where
+      -- Words that ask for nothing don't ask for a command.
+      leads-none : ((job : Job) → AsksFor words job → ⊥) → AsksForCommand words → ⊥
+      leads-none none (inl one) = none Deliver one
+      leads-none none (inr one) = none (Remove one.0) one.1
 
-    leads-due : (input : List ℕ) → IsInput i.left input → (status : Status) (printed : List ℕ) → IsDue words input i j status printed → Leads s j
-    leads-due input told status printed (inl does) = leads-does input told status printed does.job does.asked does.ends
-    leads-due input told status printed (inr (inl out)) = absurd (let no : Replay out.config ≡ Deliver = only-delivers words (Replay out.config) asked out.asked in cc)
-    leads-due input told status printed (inr (inr out)) = leads-kept out.kept
+      leads-does : (input : List ℕ) → IsInput i.left input → (status : Status) (printed : List ℕ) (job : Option Job) → IsJob words job → Ends job input i j status printed → Leads s j
+      leads-does input told status printed None asks ends = absurd (leads-none asks asked)
+      leads-does input told status printed (Some Deliver) asks ends = leads-delivered asks input told status printed ends
+      leads-does input told status printed (Some (Remove number)) asks ends = leads-removed number asks status printed ends
+      leads-does input told status printed (Some Help) asks ends = absurd (only-commands words Help asked asks)
+      leads-does input told status printed (Some Version) asks ends = absurd (only-commands words Version asked asks)
+      leads-does input told status printed (Some Check) asks ends = absurd (only-commands words Check asked asks)
+      leads-does input told status printed (Some (Replay config)) asks ends = absurd (only-commands words (Replay config) asked asks)
+      leads-does input told status printed (Some (Init config)) asks ends = absurd (only-commands words (Init config) asked asks)
 
-    pub leads : (status : Status) → Ran words status i j → Leads s j
-    leads status (inl printed) = leads-due printed.input printed.told status printed.printed printed.due
-    leads status (inr (inl failed)) = leads-kept failed.silent.kept
-    leads status (inr (inr (inl failed))) = leads-kept failed.silent.kept
-    leads status (inr (inr (inr failed))) = leads-due failed.input failed.told failed.due_status failed.printed failed.due
+      leads-due : (input : List ℕ) → IsInput i.left input → (status : Status) (printed : List ℕ) → IsDue words input i j status printed → Leads s j
+      leads-due input told status printed (inl does) = leads-does input told status printed does.job does.asked does.ends
+      leads-due input told status printed (inr (inl out)) = absurd (only-commands words (Replay out.config) asked out.asked)
+      leads-due input told status printed (inr (inr out)) = leads-kept out.kept
+
+      pub leads : (status : Status) → Ran words status i j → Leads s j
+      leads status (inl printed) = leads-due printed.input printed.told status printed.printed printed.due
+      leads status (inr (inl failed)) = leads-kept failed.silent.kept
+      leads status (inr (inr (inl failed))) = leads-kept failed.silent.kept
+      leads status (inr (inr (inr failed))) = leads-due failed.input failed.told failed.due_status failed.printed failed.due
 
 -- An archive was made.
 pub record IsMadeOn (words : List (List ℕ)) (i : Edges) (k : Content) : Type 0 where
@@ -191,7 +220,7 @@ module _ (words : List (List ℕ)) (asked : AsksForInit words) (i j : Edges) (k 
   made-job input status printed None asks ends done = absurd (asks (Init asked.0) asked.1)
   made-job input status printed (Some job) asks ends done =
       let same = only-makes words job asked asks in
-      let made : EndsBy (Init same.0) input i j status printed = subst (λ (x : Job). Ends (Some x) input i j status printed) same.1 ends in
+      let made : EndsBy (InitActs same.0) i j status printed = subst (λ (x : Job). Ends (Some x) input i j status printed) same.1 ends in
       made-by same.0 (subst (λ (x : Job). AsksFor words x) same.1 asks) made.acts.moment made.acts.first made.outcome made.acts.acts (sym made.status_is ∙ done)
 
   made-due : (input : List ℕ) (status : Status) (printed : List ℕ) → IsDue words input i j status printed → status ≡ exit.Done → IsMadeOn words i k
@@ -217,37 +246,44 @@ done-code exit.Memory is = absurd (omega (arith, is))
 done-code exit.Script is = absurd (omega (arith, is))
 
 -- Numbers keep their texts on the way.
-goes-by : KeepsNumbers → (i : Edges) (a b : Archive) → FromBy i a b → Goes i a b
-goes-by keeps i a b (inl same) = record { from = inl same; texts = λ n text is. subst (λ (x : Archive). text_of (live x.entries) n ≡ Some text) (sym same) is }
-goes-by keeps i a b (inr more) = record {
-  from = inr more;
-  texts = λ n text is. subst (λ (x : Archive). text_of (live x.entries) n ≡ Some text) (sym more.is) (keeps a (message_of more.input) more.at n text is);
-}
+module _ (keeps : KeepsNumbers) (takes : TakesFromView) where
+  goes-by : (words : List (List ℕ)) (i : Edges) (a b : Archive) → FromBy words i a b → Goes words i a b
+  goes-by words i a b (inl same) = record { from = inl same; texts = λ n text spared is. subst (λ (x : Archive). text_of (live x.entries) n ≡ Some text) (sym same) is }
+  goes-by words i a b (inr (inl more)) = record {
+    from = inr (inl more);
+    texts = λ n text spared is. subst (λ (x : Archive). text_of (live x.entries) n ≡ Some text) (sym more.is) (keeps a (message_of more.input) more.at n text is);
+  }
+  goes-by words i a b (inr (inr less)) = record {
+    from = inr (inr less);
+    texts = λ n text spared is.
+        let other : n ≢ less.number = λ same. spared (subst (λ (m : ℕ). AsksFor words (Remove m)) (sym same) less.asked) in
+        subst (λ (x : Archive). text_of (live x.entries) n ≡ Some text) (sym less.is) ((takes a less.number less.at).0 n other ∙ is);
+  }
 
--- The three runs.
-pub in-a-row : KeepsNumbers → RunsInARow
-in-a-row keeps first second third a b i j k l m n made asks_first one told kept asks_second two on asks_third three image left =
-    let e = made-ran first asks_first i j made told one.0 one.2 (done-code one.0 one.1) in
-    let empty : Archive = empty_archive (made_at e.config e.born) in
-    let start : StandsAs (standing empty None) k.content =
-    subst (λ (c : Option Content). StandsAs (standing empty None) c) (sym kept) (λ image there. store-recovers e.view [] empty (Some made) (one_of (standing empty None)) image e.disk (0, omega arith, refl) there) in
-    let t = leads k second asks_second l (standing empty None) start two.0 two.2 in
-    let u = leads m third asks_third n t.0 (subst (λ (c : Option Content). StandsAs t.0 c) (sym on) t.1) three.0 three.2 in
-    let last = recovers_either u.0 [] image (at_last u.0 n.content u.1 image left) in
-    let back = u.2 last.0 last.1 in
-    let before = t.2 back.0 back.1 in
-    record {
-      config = e.config;
-      asked = e.asked;
-      born = e.born;
-      is_born = e.is_born;
-      one = back.0;
-      first = goes-by keeps k empty back.0 (subst (λ (x : Archive). FromBy k x back.0) (found-one empty before.0 before.1) before.2);
-      two = last.0;
-      second = goes-by keeps m back.0 last.0 back.2;
-      stands = last.2;
-    }
-  where
-    at_last : (s : Standing) (c : Option Content) → StandsAs s c → (image : Files) → Image c image → RecoversOf (one_of s) image
-    at_last s None all image left = absurd all
-    at_last s (Some c) all image left = all image left
+  -- The three runs.
+  pub in-a-row : RunsInARow
+  in-a-row first second third a b i j k l m n made asks_first one told kept asks_second two on asks_third three image left =
+      let e = made-ran first asks_first i j made told one.0 one.2 (done-code one.0 one.1) in
+      let empty : Archive = empty_archive (made_at e.config e.born) in
+      let start : StandsAs (standing empty None) k.content =
+      subst (λ (c : Option Content). StandsAs (standing empty None) c) (sym kept) (λ image there. store-recovers e.view [] empty (Some made) (one_of (standing empty None)) image e.disk (0, omega arith, refl) there) in
+      let t = leads second k l (standing empty None) start asks_second two.0 two.2 in
+      let u = leads third m n t.0 (subst (λ (c : Option Content). StandsAs t.0 c) (sym on) t.1) asks_third three.0 three.2 in
+      let last = recovers_either u.0 [] image (at_last u.0 n.content u.1 image left) in
+      let back = u.2 last.0 last.1 in
+      let before = t.2 back.0 back.1 in
+      record {
+        config = e.config;
+        asked = e.asked;
+        born = e.born;
+        is_born = e.is_born;
+        one = back.0;
+        to_one = goes-by second k empty back.0 (subst (λ (x : Archive). FromBy second k x back.0) (found-one empty before.0 before.1) before.2);
+        two = last.0;
+        to_two = goes-by third m back.0 last.0 back.2;
+        stands = last.2;
+      }
+    where
+      at_last : (s : Standing) (c : Option Content) → StandsAs s c → (image : Files) → Image c image → RecoversOf (one_of s) image
+      at_last s None all image left = absurd all
+      at_last s (Some c) all image left = all image left

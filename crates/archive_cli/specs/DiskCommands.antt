@@ -1,4 +1,5 @@
--- What `init`, `deliver` and `check` do to a disk, and how they end.
+-- What `init`, `check` and a command on an archive do to a disk, and how they end. `deliver` and
+-- `remove` are such commands.
 use Rattle.std.specs.Prelude.{◌≡◌, ◌⊎◌, ℕ, true, List, length, Option, Some, None, Ok, Err}
 use Rattle.std.specs.List.{Contains}
 use Rattle.arch_base.specs.declared.config.Config.{Config}
@@ -6,9 +7,10 @@ use Rattle.disk_model.specs.Disk.{Files, Content, Told, WhereTold, LeavesOnly}
 use Rattle.root_slots.specs.RootName.{root_name}
 use Rattle.root_slots.specs.Slots.{IsShutFile}
 use Rattle.arch_model.specs.Archives.{Archive, empty_archive, live as live_entries}
-use Rattle.arch_model.specs.Delivery.{Done, delivered}
+use Rattle.arch_model.specs.Delivery.{Done, delivered, removed, applied}
 use Rattle.arch_model.specs.Keeping.{Settles, Comes}
 use Rattle.arch_model.specs.Standing.{Standing, standing, one_of, IsFound}
+use Rattle.arch_model.specs.declared.command.Command.{Command}
 use Rattle.arch_model.specs.declared.answer.Answer.{Answer}
 use Rattle.arch_model.specs.declared.answer.Answer.TheVariants as answer
 use Rattle.arch_model.specs.declared.opening.OpenRefusal.{OpenRefusal}
@@ -55,14 +57,26 @@ unmade making.Exists = Exists
 unmade making.DiskFault = Answered answer.DiskFault
 unmade making.NoMemory = Answered answer.NoMemory
 
+-- What a command makes of an archive at a moment.
+abbrev pub taking : Command → ℕ → Archive → Done
+taking command moment a = applied a command moment
+
+-- What the delivery of bytes makes of an archive at a moment.
+abbrev pub delivering : List ℕ → ℕ → Archive → Done
+delivering bytes moment a = delivered a bytes moment
+
+-- What the removal of a number makes of an archive at a moment.
+abbrev pub removing : ℕ → ℕ → Archive → Done
+removing number moment a = removed a number moment
+
 -- The answer is that of the definition, and the disk is the own disk of the definition's archive.
 pub record IsDone (wanted : Done) (reply : Answer) (new : Option Content) : Type 0 where
   pub answer_is : wanted.answer ≡ reply
   pub own : IsOwn wanted.archive new
 
--- The answer to a delivery to this archive, and the disk then. Out of memory the archive is
--- unchanged, and after a fault of the disk it has to be reopened. No answer is about a number that
--- isn't live or has no text, or about a damaged file.
+-- The answer to a command on this archive, and the disk then. Out of memory the archive is
+-- unchanged, and after a fault of the disk it has to be reopened. No answer is about a number without
+-- a text, or about a damaged file.
 abbrev pub Answers : Archive → Done → Answer → Option Content → Type 0
 Answers a wanted answer.NoMemory new = IsOwn a new
 Answers a wanted answer.DiskFault new = Unit {0}
@@ -73,20 +87,20 @@ Answers a wanted (answer.TooLarge len) new = IsDone wanted (answer.TooLarge len)
 Answers a wanted (answer.Full max) new = IsDone wanted (answer.Full max) new
 Answers a wanted (answer.Collision number) new = IsDone wanted (answer.Collision number) new
 Answers a wanted answer.IsMirror new = IsDone wanted answer.IsMirror new
-Answers a wanted (answer.NotLive number) new = ⊥
+Answers a wanted (answer.NotLive number) new = IsDone wanted (answer.NotLive number) new
 Answers a wanted (answer.NoText number) new = ⊥
 Answers a wanted (answer.Damaged file at) new = ⊥
 
--- How `deliver` of a message at a moment ends on the disk of an archive.
-abbrev pub DeliversTo : Archive → List ℕ → ℕ → Outcome → Option Content → Type 0
-DeliversTo a bytes moment (Answered reply) new = Answers a (delivered a bytes moment) reply new
-DeliversTo a bytes moment (Unopened refusal.DiskFault) new = Unit {0}
-DeliversTo a bytes moment (Unopened refusal.NoMemory) new = ReadsAs a new
-DeliversTo a bytes moment (Unopened refusal.NoArchive) new = ⊥
-DeliversTo a bytes moment (Unopened (refusal.Damaged file at)) new = ⊥
-DeliversTo a bytes moment (Made name) new = ⊥
-DeliversTo a bytes moment Exists new = ⊥
-DeliversTo a bytes moment (Checked entries live next) new = ⊥
+-- How a command ends on the disk of an archive of which it is to make this.
+abbrev pub TakesTo : Archive → Done → Outcome → Option Content → Type 0
+TakesTo a wanted (Answered reply) new = Answers a wanted reply new
+TakesTo a wanted (Unopened refusal.DiskFault) new = Unit {0}
+TakesTo a wanted (Unopened refusal.NoMemory) new = ReadsAs a new
+TakesTo a wanted (Unopened refusal.NoArchive) new = ⊥
+TakesTo a wanted (Unopened (refusal.Damaged file at)) new = ⊥
+TakesTo a wanted (Made name) new = ⊥
+TakesTo a wanted Exists new = ⊥
+TakesTo a wanted (Checked entries live next) new = ⊥
 
 -- How `check` ends on the disk of an archive.
 abbrev pub ChecksTo : Archive → Outcome → Option Content → Type 0
@@ -100,7 +114,7 @@ ChecksTo a (Made name) new = ⊥
 ChecksTo a Exists new = ⊥
 ChecksTo a (Answered reply) new = ⊥
 
--- How a command on opened files ends, whether or not they stand for an archive: with the refusal to
+-- How a run on opened files ends, whether or not they stand for an archive: with the refusal to
 -- open them, or with what was done with what was found.
 abbrev pub IsOpenedAs : Files → Outcome → Type 0
 IsOpenedAs files (Unopened why) = Opens files (Err why)
@@ -120,13 +134,13 @@ LeavesUnopened (Answered reply) old new = Unit {0}
 LeavesUnopened (Made name) old new = Unit {0}
 LeavesUnopened Exists old new = Unit {0}
 
--- A delivery is answered, or the archive wasn't opened.
-abbrev pub IsDelivery : Outcome → Type 0
-IsDelivery (Made name) = ⊥
-IsDelivery Exists = ⊥
-IsDelivery (Checked entries live next) = ⊥
-IsDelivery (Answered reply) = Unit {0}
-IsDelivery (Unopened why) = Unit {0}
+-- A command is answered, or the archive wasn't opened.
+abbrev pub IsReply : Outcome → Type 0
+IsReply (Made name) = ⊥
+IsReply Exists = ⊥
+IsReply (Checked entries live next) = ⊥
+IsReply (Answered reply) = Unit {0}
+IsReply (Unopened why) = Unit {0}
 
 -- A check counts, or the archive wasn't opened.
 abbrev pub IsCheck : Outcome → Type 0
@@ -149,21 +163,21 @@ StaysUnopened s old refusal.NoMemory t = Settles s t × ReadsAs t.archive old
 StaysUnopened s old refusal.NoArchive t = ⊥
 StaysUnopened s old (refusal.Damaged file at) t = ⊥
 
--- A delivery was answered on the archive that was found, which is the one as which the disk read.
-pub record DeliveredOn (s : Standing) (old : Option Content) (wanted : Archive → Done)
+-- A command was answered on the archive that was found, which is the one as which the disk read.
+pub record TakenOn (s : Standing) (old : Option Content) (wanted : Archive → Done)
     (reply : Answer) (t : Standing) : Type 0 where
   pub found : Archive
   pub is_found : IsFound s found
   pub reads : ReadsAs found old
   pub comes : Comes true (standing found None) wanted reply t
 
--- How `deliver` leaves a disk that stood so.
-abbrev pub DeliversOn : Standing → Option Content → (Archive → Done) → Outcome → Standing → Type 0
-DeliversOn s old wanted (Answered reply) t = DeliveredOn s old wanted reply t
-DeliversOn s old wanted (Unopened why) t = StaysUnopened s old why t
-DeliversOn s old wanted (Made name) t = ⊥
-DeliversOn s old wanted Exists t = ⊥
-DeliversOn s old wanted (Checked entries live next) t = ⊥
+-- How a command leaves a disk that stood so.
+abbrev pub TakesOn : Standing → Option Content → (Archive → Done) → Outcome → Standing → Type 0
+TakesOn s old wanted (Answered reply) t = TakenOn s old wanted reply t
+TakesOn s old wanted (Unopened why) t = StaysUnopened s old why t
+TakesOn s old wanted (Made name) t = ⊥
+TakesOn s old wanted Exists t = ⊥
+TakesOn s old wanted (Checked entries live next) t = ⊥
 
 -- How `check` leaves a disk that stood so.
 abbrev pub ChecksOn : Standing → Option Content → Outcome → Standing → Type 0
@@ -177,8 +191,8 @@ ChecksOn s old (Answered reply) t = ⊥
 module _ {D : Type 0} (content : D → Option Content) (moment : D → ℕ)
     (left_since : D → ℕ → Files → Type 0) where
   -- The disk was synced first. Until then a crash leaves the archive of a standing, or the one in
-  -- doubt there; from then on, the one that was found, or what the delivery makes of it.
-  pub record DeliveryRuns (old new : D) (s : Standing) (wanted : Archive → Done) : Type 0 where
+  -- doubt there; from then on, the one that was found, or what the command makes of it.
+  pub record CommandRuns (old new : D) (s : Standing) (wanted : Archive → Done) : Type 0 where
     pub found : Archive
     pub is_found : IsFound s found
     pub reads : ReadsAs found (content old)
@@ -187,15 +201,15 @@ module _ {D : Type 0} (content : D → Option Content) (moment : D → ℕ)
     pub before : LeavesOnly moment left_since old synced (RecoversOf (one_of s))
     pub after : LeavesOnly moment left_since synced new (RecoversEither found (wanted found).archive)
 
-  -- The same; or nothing was delivered, and a crash leaves one of the two archives.
-  abbrev pub DeliveryLeaves : D → D → Standing → (Archive → Done) → Type 0
-  DeliveryLeaves old new s wanted = LeavesOnly moment left_since old new (RecoversOf (one_of s))
-      ⊎ DeliveryRuns old new s wanted
+  -- The same; or nothing was done, and a crash leaves one of the two archives.
+  abbrev pub CommandLeaves : D → D → Standing → (Archive → Done) → Type 0
+  CommandLeaves old new s wanted = LeavesOnly moment left_since old new (RecoversOf (one_of s))
+      ⊎ CommandRuns old new s wanted
 
-  -- A delivery to one of some archives that the disk may have stood for, where it may have stood for
+  -- A command on one of some archives that the disk may have stood for, where it may have stood for
   -- none. Until the sync a crash leaves one of them, or none; from then on, the archive that was found,
-  -- or what the delivery makes of it.
-  pub record DeliveryRunsAmong (old new : D) (may : List (Option Archive)) (wanted : Archive → Done)
+  -- or what the command makes of it.
+  pub record CommandRunsAmong (old new : D) (may : List (Option Archive)) (wanted : Archive → Done)
       : Type 0 where
     pub found : Archive
     pub is_among : Contains may (Some found)
@@ -205,10 +219,10 @@ module _ {D : Type 0} (content : D → Option Content) (moment : D → ℕ)
     pub before : LeavesOnly moment left_since old synced (RecoversOf may)
     pub after : LeavesOnly moment left_since synced new (RecoversEither found (wanted found).archive)
 
-  -- The same; or nothing was delivered, and a crash leaves what it might have left before.
-  abbrev pub DeliveryLeavesAmong : D → D → List (Option Archive) → (Archive → Done) → Type 0
-  DeliveryLeavesAmong old new may wanted = LeavesOnly moment left_since old new (RecoversOf may)
-      ⊎ DeliveryRunsAmong old new may wanted
+  -- The same; or nothing was done, and a crash leaves what it might have left before.
+  abbrev pub CommandLeavesAmong : D → D → List (Option Archive) → (Archive → Done) → Type 0
+  CommandLeavesAmong old new may wanted = LeavesOnly moment left_since old new (RecoversOf may)
+      ⊎ CommandRunsAmong old new may wanted
 
 -- The outcome tells that the disk failed.
 abbrev pub IsFault : Outcome → Type 0

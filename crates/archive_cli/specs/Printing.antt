@@ -4,17 +4,10 @@ use Rattle.arch_base.specs.Counts.{Rose}
 use Rattle.arch_base.specs.declared.config.Config.{Config}
 use Rattle.edge_io.specs.Phrases.{Says}
 use Rattle.edge_io.specs.declared.sink.SinkFault.{SinkFault}
-use Rattle.disk_model.specs.Disk.{Files, Content, LeavesOnly}
-use Rattle.edge_io.specs.Coming.{Moments, IsFirst}
-use Rattle.arch_model.specs.Archives.{Archive}
-use Rattle.arch_model.specs.Delivery.{delivered}
-use Rattle.arch_model.specs.Standing.{Standing, one_of}
-use Rattle.epoch_store.specs.Opens.{RecoversOf}
+use Rattle.disk_model.specs.Disk.{Content}
 use Rattle.answer_lines.specs.Lines.{whole_line}
-use Rattle.archive_cli.specs.DiskCommands.{DeliveryRuns, DeliveryRunsAmong}
-use Rattle.archive_cli.specs.declared.words.Job.{Job}
-use Rattle.archive_cli.specs.declared.words.Job.TheVariants.{Deliver}
-use Rattle.archive_cli.specs.Program.{Edges, NoneFailed, EndsBy, IsSilent, IsInput, input_limit, Replays, StopsShort}
+use Rattle.archive_cli.specs.declared.outcome.Outcome.{Outcome}
+use Rattle.archive_cli.specs.Program.{Edges, NoneFailed, EndsBy, DeliverActs, IsSilent, IsInput, input_limit, message_of, Replays, StopsShort}
 use Rattle.edge_io.specs.Left.{before, IsUsedUp}
 use Rattle.archive_cli.specs.declared.status.Status.{Status}
 use Rattle.archive_cli.specs.declared.status.Status.TheVariants as exit
@@ -88,35 +81,16 @@ Replayed config status i j =
     × Printed (IsReplayDue config input) status i.taken i.lost j.taken j.lost)
     ⊎ ((status ≡ exit.Edges) × Rose i.unread j.unread × (j.taken ≡ i.taken) × (j.lost ≡ i.lost))
 
--- A job over the disk is due to print its outcome.
-abbrev pub IsOutcomeDue : Job → List ℕ → Edges → Edges → Status → List ℕ → Type 0
-IsOutcomeDue job input i j status printed = EndsBy job input i j status printed
-
 -- The clock failed: nothing was printed, and the disk is unchanged.
 abbrev pub MissesMoment : Status → Edges → Edges → Type 0
 MissesMoment status i j = IsSilent status i j × Rose i.missed j.missed
 
--- A job over the disk at the clock's moment: what was due is printed, or the clock failed.
-abbrev pub JobDone : Job → List ℕ → Status → Edges → Edges → Type 0
-JobDone job input status i j = Printed (IsOutcomeDue job input i j)
-    status i.taken i.lost j.taken j.lost ⊎ MissesMoment status i j
-
--- What a crash leaves while a message is delivered at the first moment to come.
-abbrev pub BytesLeave : {D : Type 0} → (D → Option Content) → (D → ℕ) → (D → ℕ → Files → Type 0) → D → D
-    → Standing → List ℕ → Option Moments → Type 0
-BytesLeave content moment left_since old new s bytes coming =
-    LeavesOnly moment left_since old new (RecoversOf (one_of s))
-    ⊎ ((at : ℕ) × IsFirst at coming
-    × DeliveryRuns content moment left_since old new s (λ (a : Archive). delivered a bytes at))
-
--- The same where the disk may have stood for any of these archives, or for none.
-abbrev pub BytesLeaveAmong : {D : Type 0} → (D → Option Content) → (D → ℕ)
-    → (D → ℕ → Files → Type 0) → D → D → List (Option Archive) → List ℕ → Option Moments → Type 0
-BytesLeaveAmong content moment left_since old new may bytes coming =
-    LeavesOnly moment left_since old new (RecoversOf may)
-    ⊎ ((at : ℕ) × IsFirst at coming
-    × DeliveryRunsAmong content moment left_since old new may
-    (λ (a : Archive). delivered a bytes at))
+-- A job over the disk at the clock's moment: what was due by what it did is printed, or the clock
+-- failed.
+abbrev pub JobDone : (ℕ → Option Content → Option Content → Outcome → Type 0) → Status → Edges
+    → Edges → Type 0
+JobDone did status i j = Printed (EndsBy did i j) status i.taken i.lost j.taken j.lost
+    ⊎ MissesMoment status i j
 
 -- The message was not read, because memory ran out. No device failed.
 pub record IsUnread (i j : Edges) (status : Status) (printed : List ℕ) : Type 0 where
@@ -129,6 +103,7 @@ pub record IsUnread (i j : Edges) (status : Status) (printed : List ℕ) : Type 
 -- read, or the input failed.
 abbrev pub InputDone : Status → Edges → Edges → Type 0
 InputDone status i j =
-    ((input : List ℕ) × IsInput i.left input × JobDone Deliver input status i j)
+    ((input : List ℕ) × IsInput i.left input
+    × JobDone (DeliverActs (message_of input)) status i j)
     ⊎ (Printed (IsUnread i j) status i.taken i.lost j.taken j.lost
     ⊎ (IsSilent status i j × Rose i.unread j.unread))

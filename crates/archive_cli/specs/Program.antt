@@ -1,5 +1,5 @@
 -- What a run of the program ends with: its status, and all that it prints.
-use Rattle.std.specs.Prelude.{◌≡◌, ◌<◌, ◌≤◌, ◌⊎◌, ◌+◌, ℕ, min, max, List, [], ◌++◌, length, take, codes, decimal, Option, Some, None, MatchOption}
+use Rattle.std.specs.Prelude.{◌≡◌, ◌≢◌, ◌<◌, ◌≤◌, ◌⊎◌, ◌+◌, ℕ, min, max, List, [], ◌++◌, length, take, codes, decimal, Option, Some, None, MatchOption}
 use Rattle.arch_base.specs.Counts.{Rose}
 use Rattle.arch_base.specs.declared.config.Config.{Config}
 use Rattle.disk_model.specs.Disk.{Files, Content, WhereTold, LeavesOnly}
@@ -8,21 +8,23 @@ use Rattle.edge_io.specs.Taken.{plus}
 use Rattle.edge_io.specs.Left.{before}
 use Rattle.edge_io.specs.Scripts.{Arrival, IsScript, IsBad}
 use Rattle.arch_model.specs.Archives.{Archive, empty_archive}
-use Rattle.arch_model.specs.Delivery.{delivered}
+use Rattle.arch_model.specs.Delivery.{Done}
 use Rattle.arch_model.specs.Standing.{Standing, standing, one_of}
+use Rattle.arch_model.specs.declared.answer.Answer.TheVariants as answer
 use Rattle.epoch_store.specs.Files.{as_read}
 use Rattle.epoch_store.specs.First.{MakingLeaves}
 use Rattle.epoch_store.specs.Opens.{ReadsAs, RecoversOf}
 use Rattle.answer_lines.specs.Lines.{whole_line}
-use Rattle.archive_cli.specs.DiskCommands.{Makes, DeliversTo, ChecksTo, IsOpenedAs, IsFault, IsDelivery, IsCheck, StandsAs, DeliversOn, ChecksOn, DeliveryRuns, DeliveryRunsAmong, LeavesUnopened}
+use Rattle.archive_cli.specs.DiskCommands.{Makes, TakesTo, ChecksTo, IsOpenedAs, IsFault, IsReply, IsCheck, StandsAs, TakesOn, ChecksOn, CommandRuns, CommandRunsAmong, LeavesUnopened, delivering, removing}
 use Rattle.archive_cli.specs.Outcomes.{outcome_line, status_of}
 use Rattle.archive_cli.specs.Statuses.{code_of}
 use Rattle.archive_cli.specs.Words.{IsJob, AsksFor}
 use Rattle.archive_cli.specs.Turns.{World, Transcript, before_stop}
 use Rattle.archive_cli.specs.Plays.{PlaysSome}
 use Rattle.archive_cli.specs.declared.words.Job.{Job}
-use Rattle.archive_cli.specs.declared.words.Job.TheVariants.{Help, Version, Replay, Init, Deliver, Check}
+use Rattle.archive_cli.specs.declared.words.Job.TheVariants.{Help, Version, Replay, Init, Deliver, Remove, Check}
 use Rattle.archive_cli.specs.declared.outcome.Outcome.{Outcome}
+use Rattle.archive_cli.specs.declared.outcome.Outcome.TheVariants.{Answered}
 use Rattle.archive_cli.specs.declared.status.Status.{Status}
 use Rattle.archive_cli.specs.declared.status.Status.TheVariants as exit
 use Rattle.archive_cli.specs.declared.texts.TheConstants.{HELP, VERSION}
@@ -130,51 +132,55 @@ made_at config moment = record {
 abbrev pub message_of : List ℕ → List ℕ
 message_of input = take message_limit input
 
--- How `deliver` of a message at a moment ended. Whatever the disk stood for, it stands for what is
--- answered.
-pub record DeliverActs (bytes : List ℕ) (moment : ℕ) (old new : Option Content) (o : Outcome)
-    : Type 0 where
-  pub kind : IsDelivery o
-  pub done : (a : Archive) → ReadsAs a old → DeliversTo a bytes moment o new
+-- How `init` ended at a moment.
+abbrev pub InitActs : Config → ℕ → Option Content → Option Content → Outcome → Type 0
+InitActs config moment old new o = Makes (made_at config moment) o old new
+
+-- How a command ended that at a moment is to make this of an archive. Whatever the disk stood for, it
+-- stands for what is answered.
+pub record CommandActs (wanted : ℕ → Archive → Done) (moment : ℕ) (old new : Option Content)
+    (o : Outcome) : Type 0 where
+  pub kind : IsReply o
+  pub done : (a : Archive) → ReadsAs a old → TakesTo a (wanted moment a) o new
   pub stands : (s : Standing) → StandsAs s old → (t : Standing) × StandsAs t new
-      × DeliversOn s old (λ (a : Archive). delivered a bytes moment) o t
+      × TakesOn s old (wanted moment) o t
   pub answer : WhereTold (λ k. IsOpenedAs (as_read k) o) old
   pub unopened : LeavesUnopened o old new
 
--- How `check` ended. Whatever the disk stood for, it stands for what is counted.
-pub record CheckActs (old new : Option Content) (o : Outcome) : Type 0 where
+-- How `deliver` of a message ended at a moment: as a command, and on the disk of an archive never
+-- with the answer that a number isn't live.
+pub record DeliverActs (bytes : List ℕ) (moment : ℕ) (old new : Option Content) (o : Outcome)
+    : Type 0 where
+  pub acts : CommandActs (delivering bytes) moment old new o
+  pub lives : (a : Archive) → ReadsAs a old → (number : ℕ) → o ≢ Answered (answer.NotLive number)
+
+-- How `check` ended, at whatever moment. Whatever the disk stood for, it stands for what is counted.
+pub record CheckActs (moment : ℕ) (old new : Option Content) (o : Outcome) : Type 0 where
   pub kind : IsCheck o
   pub done : (a : Archive) → ReadsAs a old → ChecksTo a o new
   pub stands : (s : Standing) → StandsAs s old → (t : Standing) × StandsAs t new × ChecksOn s old o t
   pub answer : WhereTold (λ k. IsOpenedAs (as_read k) o) old
   pub unopened : LeavesUnopened o old new
 
--- How a job over the archive on a disk ended, by the content of the disk before and after.
-abbrev pub ActsBy : Job → List ℕ → ℕ → Option Content → Option Content → Outcome → Type 0
-ActsBy (Init config) input moment old new o = Makes (made_at config moment) o old new
-ActsBy Deliver input moment old new o = DeliverActs (message_of input) moment old new o
-ActsBy Check input moment old new o = CheckActs old new o
-ActsBy Help input moment old new o = ⊥
-ActsBy Version input moment old new o = ⊥
-ActsBy (Replay config) input moment old new o = ⊥
-
--- The same, at the first moment to come. The input and the clock didn't fail. The disk's count of
--- faults rose if the outcome tells that the disk failed, and otherwise stays. So no fault is told as
--- out of memory.
-pub record Acts (job : Job) (input : List ℕ) (i j : Edges) (o : Outcome) : Type 0 where
+-- How a job over the archive on a disk ended, which did this there by the first moment to come, by
+-- the content of the disk before and after, and by the outcome. The input and the clock didn't fail.
+-- The disk's count of faults rose if the outcome tells that the disk failed, and otherwise stays. So
+-- no fault is told as out of memory.
+pub record Acts (did : ℕ → Option Content → Option Content → Outcome → Type 0) (i j : Edges)
+    (o : Outcome) : Type 0 where
   pub moment : ℕ
   pub first : IsFirst moment i.coming
-  pub acts : ActsBy job input moment i.content j.content o
+  pub acts : did moment i.content j.content o
   pub fault : IsFault o → Rose i.broken j.broken
   pub input_kept : j.unread ≡ i.unread
   pub clock_kept : j.missed ≡ i.missed
   pub disk_kept : (IsFault o → ⊥) → j.broken ≡ i.broken
 
--- What a job over the archive on a disk ends with.
-pub record EndsBy (job : Job) (input : List ℕ) (i j : Edges) (status : Status) (printed : List ℕ)
-    : Type 0 where
+-- What a job over the archive on a disk ends with, by what it did there.
+pub record EndsBy (did : ℕ → Option Content → Option Content → Outcome → Type 0) (i j : Edges)
+    (status : Status) (printed : List ℕ) : Type 0 where
   pub outcome : Outcome
-  pub acts : Acts job input i j outcome
+  pub acts : Acts did i j outcome
   pub status_is : status ≡ status_of outcome
   pub printed_is : printed ≡ whole_line (outcome_line outcome)
 
@@ -185,9 +191,12 @@ Ends None input i j status printed = (status ≡ exit.NotRead)
 Ends (Some Help) input i j status printed = (status ≡ exit.Done) × (printed ≡ HELP.now)
 Ends (Some Version) input i j status printed = (status ≡ exit.Done) × (printed ≡ VERSION.now)
 Ends (Some (Replay config)) input i j status printed = Replays config input status printed
-Ends (Some (Init config)) input i j status printed = EndsBy (Init config) input i j status printed
-Ends (Some Deliver) input i j status printed = EndsBy Deliver input i j status printed
-Ends (Some Check) input i j status printed = EndsBy Check input i j status printed
+Ends (Some (Init config)) input i j status printed = EndsBy (InitActs config) i j status printed
+Ends (Some Deliver) input i j status printed =
+    EndsBy (DeliverActs (message_of input)) i j status printed
+Ends (Some (Remove number)) input i j status printed =
+    EndsBy (CommandActs (removing number)) i j status printed
+Ends (Some Check) input i j status printed = EndsBy CheckActs i j status printed
 
 -- What a run of words on an input ends with, by the rules.
 pub record Does (words : List (List ℕ)) (input : List ℕ) (i j : Edges) (status : Status)
@@ -256,9 +265,21 @@ pub record IsPrinted (words : List (List ℕ)) (status : Status) (i j : Edges) :
 abbrev pub AsksForInput : List (List ℕ) → Type 0
 AsksForInput words = ((config : Config) × AsksFor words (Replay config)) ⊎ AsksFor words Deliver
 
+-- The words ask to make an archive.
+abbrev pub AsksForInit : List (List ℕ) → Type 0
+AsksForInit words = (config : Config) × AsksFor words (Init config)
+
+-- The words ask to remove a message.
+abbrev pub AsksForRemoval : List (List ℕ) → Type 0
+AsksForRemoval words = (number : ℕ) × AsksFor words (Remove number)
+
+-- The words ask for a command on an archive: a delivery or a removal.
+abbrev pub AsksForCommand : List (List ℕ) → Type 0
+AsksForCommand words = AsksFor words Deliver ⊎ AsksForRemoval words
+
 -- The words ask for a job that reads the clock.
 abbrev pub AsksForMoment : List (List ℕ) → Type 0
-AsksForMoment words = ((config : Config) × AsksFor words (Init config)) ⊎ AsksFor words Deliver
+AsksForMoment words = AsksForInit words ⊎ AsksForCommand words
 
 -- Nothing was printed, and the disk is unchanged. The input or the clock failed.
 pub record IsSilent (status : Status) (i j : Edges) : Type 0 where
@@ -320,37 +341,32 @@ abbrev pub InitLeaves : Config → Option Moments → Option Content → Files �
 InitLeaves config coming old image = (moment : ℕ) × IsFirst moment coming
     × MakingLeaves (empty_archive (made_at config moment)) old image
 
--- The words ask to make an archive.
-abbrev pub AsksForInit : List (List ℕ) → Type 0
-AsksForInit words = (config : Config) × AsksFor words (Init config)
-
 -- What a crash leaves while the archive that the words ask for is made.
 abbrev pub WordsLeave : List (List ℕ) → Option Moments → Option Content → Files → Type 0
 WordsLeave words coming old image = (config : Config) × AsksFor words (Init config)
     × InitLeaves config coming old image
 
--- What a crash leaves while the message on the input is delivered at the first moment to come. Until
--- the disk was synced, that is the archive of a standing, or the one in doubt there; from then on, the
--- one that was found, or what the delivery makes of it.
+-- What a crash leaves while a command is carried out at the first moment to come, which is to make
+-- this of an archive. Until the disk was synced, that is the archive of a standing, or the one in
+-- doubt there; from then on, the one that was found, or what the command makes of it.
 abbrev pub RunLeaves : {D : Type 0} → (D → Option Content) → (D → ℕ) → (D → ℕ → Files → Type 0) → D → D
-    → Standing → Option (List ℕ) → Option Moments → Type 0
-RunLeaves content moment left_since old new s left coming =
+    → Standing → Option Moments → (ℕ → Archive → Done) → Type 0
+RunLeaves content moment left_since old new s coming wanted =
     LeavesOnly moment left_since old new (RecoversOf (one_of s))
-    ⊎ ((input : List ℕ) × IsInput left input × (at : ℕ) × IsFirst at coming
-    × DeliveryRuns content moment left_since old new s
-    (λ (a : Archive). delivered a (message_of input) at))
+    ⊎ ((at : ℕ) × IsFirst at coming
+    × CommandRuns content moment left_since old new s (wanted at))
 
 -- The same where the disk may have stood for any of these archives, or for none, as after an `init` in
 -- doubt.
 abbrev pub RunLeavesAmong : {D : Type 0} → (D → Option Content) → (D → ℕ) → (D → ℕ → Files → Type 0)
-    → D → D → List (Option Archive) → Option (List ℕ) → Option Moments → Type 0
-RunLeavesAmong content moment left_since old new may left coming =
+    → D → D → List (Option Archive) → Option Moments → (ℕ → Archive → Done) → Type 0
+RunLeavesAmong content moment left_since old new may coming wanted =
     LeavesOnly moment left_since old new (RecoversOf may)
-    ⊎ ((input : List ℕ) × IsInput left input × (at : ℕ) × IsFirst at coming
-    × DeliveryRunsAmong content moment left_since old new may
-    (λ (a : Archive). delivered a (message_of input) at))
+    ⊎ ((at : ℕ) × IsFirst at coming
+    × CommandRunsAmong content moment left_since old new may (wanted at))
 
 -- The words ask for a job without a disk.
 abbrev pub LeavesDisk : List (List ℕ) → Type 0
 LeavesDisk words = ((config : Config) → AsksFor words (Init config) → ⊥)
-    × (AsksFor words Deliver → ⊥) × (AsksFor words Check → ⊥)
+    × (AsksFor words Deliver → ⊥) × ((number : ℕ) → AsksFor words (Remove number) → ⊥)
+    × (AsksFor words Check → ⊥)

@@ -5,7 +5,7 @@ use Rattle.std.specs.Borrow.{Bor}
 use Rattle.arch_base.specs.Names.{IsName}
 use Rattle.arch_base.specs.declared.config.Config.{Config}
 use Rattle.archive_cli.specs.declared.words.Job.{Job}
-use Rattle.archive_cli.specs.declared.words.Job.TheVariants.{Help, Version, Replay, Init, Deliver, Check}
+use Rattle.archive_cli.specs.declared.words.Job.TheVariants.{Help, Version, Replay, Init, Deliver, Remove, Check}
 use Rattle.archive_cli.specs.declared.words.Setting.{Setting}
 use Rattle.archive_cli.specs.declared.words.Setting.TheVariants.{Limit, Slice, Max, Mirror}
 
@@ -134,6 +134,11 @@ pub record IsReplay (words : List (List ℕ)) (config : Config) : Type 0 where
   pub made : IsMade after settings config
   pub no_mirror : mirrors settings ≡ []
 
+-- The word `remove`, and then a number of a message, from 1 to 2147483647, in decimal.
+pub record IsRemove (words : List (List ℕ)) (number : ℕ) : Type 0 where
+  pub is : words ≡ codes "remove" ∷ decimal number ∷ []
+  pub range : IsUpTo 2147483647 number
+
 -- The words ask for this job.
 abbrev pub AsksFor : List (List ℕ) → Job → Type 0
 AsksFor words Help = words ≡ codes "--help" ∷ []
@@ -141,6 +146,7 @@ AsksFor words Version = words ≡ codes "--version" ∷ []
 AsksFor words (Replay config) = IsReplay words config
 AsksFor words (Init config) = IsInit words config
 AsksFor words Deliver = words ≡ codes "deliver" ∷ []
+AsksFor words (Remove number) = IsRemove words number
 AsksFor words Check = words ≡ codes "check" ∷ []
 
 -- The job that words ask for, or none if they aren't in the grammar.

@@ -1,4 +1,4 @@
-//! The work of `init`, `deliver` and `check` on the archive on a disk.
+//! The work of `init`, `check` and a command on the archive on a disk.
 //!
 //! Each takes the disk, and hands it back.
 ghost use Rattle.std.specs.Prelude.{◌≡◌, ◌≤◌, List, Option};
@@ -7,12 +7,11 @@ ghost use Rattle.arch_base.specs.Counts.{RoseIf};
 ghost use Rattle.arch_base.specs.Moments.{last_moment};
 ghost use Rattle.disk_model.specs.Disk.{WhereTold, LeavesOnly};
 ghost use Rattle.arch_model.specs.Archives.{Archive, empty_archive};
-ghost use Rattle.arch_model.specs.Delivery.{delivered};
 ghost use Rattle.arch_model.specs.Standing.{Standing};
 ghost use Rattle.epoch_store.specs.Files.{as_read};
 ghost use Rattle.epoch_store.specs.First.{MakingLeaves};
 ghost use Rattle.epoch_store.specs.Opens.{AllRecoverOf, ReadsAs, RecoversOf};
-ghost use Rattle.archive_cli.specs.DiskCommands.{Makes, unmade, DeliversTo, ChecksTo, IsOpenedAs, LeavesUnopened, IsDelivery, IsCheck, StandsAs, DeliversOn, ChecksOn, DeliveryLeaves, DeliveryLeavesAmong, IsFault};
+ghost use Rattle.archive_cli.specs.DiskCommands.{Makes, unmade, TakesTo, ChecksTo, IsOpenedAs, LeavesUnopened, IsReply, IsCheck, StandsAs, TakesOn, ChecksOn, CommandLeaves, CommandLeavesAmong, IsFault, taking};
 
 use crate::outcome::Outcome;
 use arch_base::Config;
@@ -47,29 +46,33 @@ fn outcome_of(why: &InitRefusal) -> Outcome
     }
 }
 
-/// Delivers a message to the archive on a disk, at a moment in seconds since 1970 UTC.
-pub(crate) fn deliver<D: Disk>(alloc: Global, disk: D, bytes: &[u8], moment: u64) -> (Outcome, D)
+/// Carries out a command on the archive on a disk, at a moment in seconds since 1970 UTC.
+pub(crate) fn take<D: Disk>(
+    alloc: Global,
+    disk: D,
+    command: &Command<'_>,
+    moment: u64,
+) -> (Outcome, D)
     requires moment { moment ≤ last_moment }
     ensures any_moment { (s : Standing) → StandsAs s (D.content disk)
-        → DeliveryLeaves D.content D.moment D.left_since disk result.1 s
-        (λ (a : Archive). delivered a bytes.now moment) }
+        → CommandLeaves D.content D.moment D.left_since disk result.1 s (taking command.now moment) }
     ensures among { (may : List (Option Archive)) → AllRecoverOf may (D.content disk)
-        → DeliveryLeavesAmong D.content D.moment D.left_since disk result.1 may
-        (λ (a : Archive). delivered a bytes.now moment) }
+        → CommandLeavesAmong D.content D.moment D.left_since disk result.1 may
+        (taking command.now moment) }
     ensures stands { (s : Standing) → StandsAs s (D.content disk) → (t : Standing)
         × StandsAs t (D.content result.1)
-        × DeliversOn s (D.content disk) (λ (a : Archive). delivered a bytes.now moment) result.0 t }
+        × TakesOn s (D.content disk) (taking command.now moment) result.0 t }
     ensures done { (a : Archive) → ReadsAs a (D.content disk)
-        → DeliversTo a bytes.now moment result.0 (D.content result.1) }
+        → TakesTo a (taking command.now moment a) result.0 (D.content result.1) }
     ensures answer { WhereTold (λ k. IsOpenedAs (as_read k) result.0) (D.content disk) }
     ensures unopened { LeavesUnopened result.0 (D.content disk) (D.content result.1) }
-    ensures kind { IsDelivery result.0 }
+    ensures kind { IsReply result.0 }
     ensures cause { RoseIf (IsFault result.0) (D.faults disk) (D.faults result.1) }
 {
     match Engine::open(alloc, disk) {
         Ok(engine) => {
             let mut engine = engine;
-            let answer = engine.take(&Command::Deliver(bytes), moment);
+            let answer = engine.take(command, moment);
             (Outcome::Answered(answer), engine.into_disk())
         }
         Err(NotOpened { disk, why }) => (Outcome::Unopened(why), disk),

@@ -9,10 +9,10 @@ pub fn plain_is_transcript()
     ensures { PlainIsTranscript }
 {}
 
-/// Shows what a crash leaves after `init` and two deliveries on one disk, by the clause `ends` of
-/// `run` alone.
+/// Shows what a crash leaves after `init` and two commands on one disk, each `deliver` or `remove`, by
+/// the clause `ends` of `run` alone.
 ///
-/// The first delivery may be stopped by a fault. No number ever has two texts.
+/// The first command may be stopped by a fault. Each live number keeps its text until it is removed.
 pub fn runs_in_a_row()
     ensures { RunsInARow }
 {

@@ -1,22 +1,22 @@
 //! All that the program does, over the disk, input, output and clock that it is given.
-ghost use Rattle.std.specs.Prelude.{◌≡◌, ◌≤◌, ◌+◌, ◌++◌, [], ℕ, List, All, Option, None, false, length, codes, decimal};
+ghost use Rattle.std.specs.Prelude.{◌≡◌, ◌≤◌, ◌+◌, ◌++◌, ℕ, List, All, Option, None, false, length, codes, decimal};
 ghost use Rattle.disk_model.specs.Disk.{LeavesOnly};
 ghost use Rattle.arch_model.specs.Archives.{Archive, empty_archive};
 ghost use Rattle.epoch_store.specs.Opens.{AllRecoverOf, RecoversOf};
 ghost use Rattle.answer_lines.specs.Lines.{whole_line};
 ghost use Rattle.archive_cli.specs.Words.{spelled, AsksFor};
-ghost use Rattle.archive_cli.specs.declared.words.Job.TheVariants.{Init, Deliver, Check};
+ghost use Rattle.archive_cli.specs.declared.words.Job.TheVariants.{Deliver, Remove, Check};
 ghost use Rattle.arch_base.specs.declared.config.Config.{Config};
 ghost use Rattle.arch_model.specs.Standing.{Standing};
-ghost use Rattle.archive_cli.specs.DiskCommands.{StandsAs};
+ghost use Rattle.archive_cli.specs.DiskCommands.{StandsAs, delivering, removing, taking};
 ghost use Rattle.archive_cli.specs.Outcomes.{outcome_line, status_of};
-ghost use Rattle.archive_cli.specs.Program.{RanTo, TakesInput, TookAtMost, LeavesDisk, AsksForInit, WordsLeave, InitLeaves, RunLeaves, RunLeavesAmong, all_edges, edges, input_limit, message_limit, message_of, made_at};
-ghost use Rattle.archive_cli.specs.Printing.{Printed, Exactly, IsReplayDue, Replayed, JobDone, InputDone, BytesLeave, BytesLeaveAmong};
+ghost use Rattle.archive_cli.specs.Program.{RanTo, TakesInput, TookAtMost, LeavesDisk, AsksForInit, CommandActs, InitActs, IsInput, WordsLeave, InitLeaves, RunLeaves, RunLeavesAmong, all_edges, edges, input_limit, message_limit, message_of, made_at};
+ghost use Rattle.archive_cli.specs.Printing.{Printed, Exactly, IsReplayDue, Replayed, JobDone, InputDone};
 ghost use Rattle.arch_base.specs.Configs.{IsConfig};
 ghost use Rattle.edge_io.specs.Phrases.{Says};
 ghost use Rattle.edge_io.specs.Scripts.{IsArrival, IsScript};
 
-use crate::disk_commands::{check, deliver, make};
+use crate::disk_commands::{check, make, take};
 use crate::outcome::Outcome;
 use crate::player::{CountedKeep, Player};
 use crate::reading::{InputRefusal, read_input, read_message};
@@ -25,6 +25,7 @@ use crate::texts::{HELP, VERSION};
 use crate::words::{Job, read_words};
 use answer_lines::{say_memory, say_number};
 use arch_base::{Bytes, Config, NoMemory, Numbers};
+use arch_model::Command;
 use archive_core::Engine;
 use disk_model::{Disk, MemDisk};
 use edge_io::{Clock, ClockFault, Script, ScriptRefusal, Sink, SinkFault, Source, say, script};
@@ -58,13 +59,23 @@ pub fn run<D: Disk, S: Source, O: Sink, C: Clock>(
     // A crash while a message is delivered leaves, until the disk was synced, the archive that was
     // there or the one in doubt; from then on the one that was found, or that one with the message.
     ensures deliver { (s : Standing) → AsksFor (spelled words.now) Deliver
-        → StandsAs s (D.content disk) → RunLeaves D.content D.moment D.left_since disk result.1 s
-        (S.left input.old) (C.coming clock.old) }
+        → StandsAs s (D.content disk) → (sent : List ℕ) × IsInput (S.left input.old) sent
+        × RunLeaves D.content D.moment D.left_since disk result.1 s (C.coming clock.old)
+        (delivering (message_of sent)) }
     // The same where there may be no archive, as after an `init` in doubt.
     ensures among { (may : List (Option Archive)) → AsksFor (spelled words.now) Deliver
         → AllRecoverOf may (D.content disk)
-        → RunLeavesAmong D.content D.moment D.left_since disk result.1 may (S.left input.old)
-        (C.coming clock.old) }
+        → (sent : List ℕ) × IsInput (S.left input.old) sent
+        × RunLeavesAmong D.content D.moment D.left_since disk result.1 may (C.coming clock.old)
+        (delivering (message_of sent)) }
+    // The same while a message is removed.
+    ensures remove { (s : Standing) (number : ℕ) → AsksFor (spelled words.now) (Remove number)
+        → StandsAs s (D.content disk) → RunLeaves D.content D.moment D.left_since disk result.1 s
+        (C.coming clock.old) (removing number) }
+    ensures remove_among { (may : List (Option Archive)) (number : ℕ)
+        → AsksFor (spelled words.now) (Remove number) → AllRecoverOf may (D.content disk)
+        → RunLeavesAmong D.content D.moment D.left_since disk result.1 may (C.coming clock.old)
+        (removing number) }
     // A crash while an archive is checked leaves one that the disk may have stood for.
     ensures check { (may : List (Option Archive)) → AsksFor (spelled words.now) Check
         → AllRecoverOf may (D.content disk)
@@ -87,6 +98,10 @@ pub fn run<D: Disk, S: Source, O: Sink, C: Clock>(
             let (status, disk) = deliver_input(alloc, disk, input, out, clock);
             (status.code(), disk)
         }
+        Some(Job::Remove { number }) => {
+            let (status, disk) = carry_out(alloc, disk, &Command::Remove(number), out, clock);
+            (status.code(), disk)
+        }
         Some(Job::Check) => {
             let (outcome, disk) = check(alloc, disk);
             (print_outcome(&outcome, out).code(), disk)
@@ -103,7 +118,7 @@ fn init<D: Disk, O: Sink, C: Clock>(
     clock: &mut C,
 ) -> (Status, D)
     requires { IsConfig config }
-    ensures ends { JobDone (Init config) [] result.0
+    ensures ends { JobDone (InitActs config) result.0
         (all_edges None 0 (O.taken out.old) (O.faults out.old) (C.coming clock.old)
         (C.faults clock.old) (D.content disk) (D.faults disk))
         (all_edges None 0 (O.taken out.new) (O.faults out.new) (C.coming clock.new)
@@ -149,11 +164,13 @@ fn deliver_input<D: Disk, S: Source, O: Sink, C: Clock>(
     ensures later { S.faults input.old ≤ S.faults input.new }
     ensures few { TookAtMost message_limit (S.left input.old) (S.left input.new) }
     ensures any_moment { (s : Standing) → StandsAs s (D.content disk)
-        → RunLeaves D.content D.moment D.left_since disk result.1 s (S.left input.old)
-        (C.coming clock.old) }
+        → (sent : List ℕ) × IsInput (S.left input.old) sent
+        × RunLeaves D.content D.moment D.left_since disk result.1 s (C.coming clock.old)
+        (delivering (message_of sent)) }
     ensures among { (may : List (Option Archive)) → AllRecoverOf may (D.content disk)
-        → RunLeavesAmong D.content D.moment D.left_since disk result.1 may (S.left input.old)
-        (C.coming clock.old) }
+        → (sent : List ℕ) × IsInput (S.left input.old) sent
+        × RunLeavesAmong D.content D.moment D.left_since disk result.1 may (C.coming clock.old)
+        (delivering (message_of sent)) }
     ensures disk_later { D.faults disk ≤ D.faults result.1 }
     ensures clock_later { C.faults clock.old ≤ C.faults clock.new }
     ensures sink { O.alike out.old out.new }
@@ -163,30 +180,29 @@ fn deliver_input<D: Disk, S: Source, O: Sink, C: Clock>(
         Err(InputRefusal::NoMemory) => (print_no_memory(out), disk),
         // A message's front is never too long.
         Err(InputRefusal::TooLong) => (print_no_memory(out), disk),
-        Ok(bytes) => deliver_bytes(alloc, disk, bytes.as_slice(), out, clock),
+        Ok(bytes) => carry_out(alloc, disk, &Command::Deliver(bytes.as_slice()), out, clock),
     }
 }
 
-/// Delivers a message to the archive on the disk, at the clock's moment.
-fn deliver_bytes<D: Disk, O: Sink, C: Clock>(
+/// Carries out a command on the archive on the disk, at the clock's moment.
+fn carry_out<D: Disk, O: Sink, C: Clock>(
     alloc: Global,
     disk: D,
-    bytes: &[u8],
+    command: &Command<'_>,
     out: &mut O,
     clock: &mut C,
 ) -> (Status, D)
-    ensures ends { (input : List ℕ) → bytes.now ≡ message_of input
-        → JobDone Deliver input result.0
+    ensures ends { JobDone (CommandActs (taking command.now)) result.0
         (all_edges None 0 (O.taken out.old) (O.faults out.old) (C.coming clock.old)
         (C.faults clock.old) (D.content disk) (D.faults disk))
         (all_edges None 0 (O.taken out.new) (O.faults out.new) (C.coming clock.new)
         (C.faults clock.new) (D.content result.1) (D.faults result.1)) }
     ensures any_moment { (s : Standing) → StandsAs s (D.content disk)
-        → BytesLeave D.content D.moment D.left_since disk result.1 s bytes.now
-        (C.coming clock.old) }
+        → RunLeaves D.content D.moment D.left_since disk result.1 s (C.coming clock.old)
+        (taking command.now) }
     ensures among { (may : List (Option Archive)) → AllRecoverOf may (D.content disk)
-        → BytesLeaveAmong D.content D.moment D.left_since disk result.1 may bytes.now
-        (C.coming clock.old) }
+        → RunLeavesAmong D.content D.moment D.left_since disk result.1 may (C.coming clock.old)
+        (taking command.now) }
     ensures disk_later { D.faults disk ≤ D.faults result.1 }
     ensures clock_later { C.faults clock.old ≤ C.faults clock.new }
     ensures sink { O.alike out.old out.new }
@@ -195,7 +211,7 @@ fn deliver_bytes<D: Disk, O: Sink, C: Clock>(
         Ok(moment) => moment,
         Err(ClockFault) => return (Status::Edges, disk),
     };
-    let (outcome, disk) = deliver(alloc, disk, bytes, moment);
+    let (outcome, disk) = take(alloc, disk, command, moment);
     (print_outcome(&outcome, out), disk)
 }
 

@@ -9,7 +9,7 @@ use edge_io::SinkFault;
 pub enum Status {
     /// All is done, or the message is there already.
     Done,
-    /// The message is refused.
+    /// The command is refused.
     Refused,
     /// The words aren't in the grammar.
     NotRead,

@@ -9,6 +9,7 @@ piv2: a mailing list archive
                      limit, slice, max and mirror are settings of the archive, in any order: a mirror takes no messages
   piv2 deliver       put the message on the input into the archive in the folder piv2-store of the current folder,
                      and print the answer
+  piv2 remove N      remove the message of number N from the archive there, and print the answer: it is shown no more
   piv2 check         read all of the archive there, and print entries E live L next N
   piv2 replay NAME [limit=N] [slice=N] [max=N]
                      run a script from the input over an archive in memory, and print what it writes;

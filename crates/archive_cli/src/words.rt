@@ -1,5 +1,5 @@
 //! The words of a command line.
-ghost use Rattle.std.specs.Prelude.{◌≡◌, ◌∷◌, [], decimal};
+ghost use Rattle.std.specs.Prelude.{◌≡◌, ◌∷◌, [], codes, decimal};
 ghost use Rattle.edge_io.specs.Parsing.{Spells};
 ghost use Rattle.archive_cli.specs.Words.{IsJob, IsSetting, IsUpTo, setting_word, spelled};
 ghost use Rattle.archive_cli.specs.Options.{IsCollected, IsConfigured, IsWith, config_by};
@@ -30,6 +30,8 @@ pub enum Job {
     Init { config: Config },
     /// `deliver`: delivers the message on the input to the archive.
     Deliver,
+    /// `remove N`: removes the message with this number from view.
+    Remove { number: u32 },
     /// `check`: reads the whole archive.
     Check,
 }
@@ -106,15 +108,16 @@ impl Settings {
 
 /// Returns what these words ask for, or `None` if they aren't in the grammar.
 ///
-/// The grammar is `--help`, `--version`, `deliver`, `check`, or `init` or `replay` with the name of
-/// an archive and options. Each option comes at most once, in any order:
+/// The grammar is `--help`, `--version`, `deliver`, `check`, `remove` with a number from 1 to
+/// 2,147,483,647, or `init` or `replay` with the name of an archive and options. Each option comes at
+/// most once, in any order:
 ///
 /// * `limit=N`: 1 to 1,099,511,627,776, by default 1,073,741,824;
 /// * `slice=N`: 1 to 1,000,000, by default 50,000;
 /// * `max=N`: 1 to 2,147,483,647, which is the default;
 /// * `mirror`: after `init` only.
 ///
-/// N is a decimal without leading zeros. Allocates nothing.
+/// Numbers are decimals without leading zeros. Allocates nothing.
 pub fn read_words(words: &[&str]) -> Option<Job>
     ensures { IsJob (spelled words.now) result }
 {
@@ -138,17 +141,32 @@ fn read_one(word: &str) -> Option<Job>
     }
 }
 
-/// Returns what two words and the options after them ask for.
-#[tactic(auto, using(crate::proofs::Grammar::not_made, crate::proofs::Grammar::other_word, crate::proofs::Grammar::replayed, crate::proofs::Grammar::not_replayed))]
+/// Returns what two words and those after them ask for.
+#[tactic(auto, using(crate::proofs::Grammar::not_made, crate::proofs::Grammar::other_word, crate::proofs::Grammar::replayed, crate::proofs::Grammar::not_replayed, crate::proofs::Grammar::removal_named))]
 fn read_named(word: &str, name: &str, options: &[&str]) -> Option<Job>
     ensures { IsJob (word.now ∷ name.now ∷ spelled options.now) result }
 {
+    if word == "remove" {
+        return read_removal(name, options);
+    }
     let config = read_config(name, options)?;
     match word {
         "init" => Some(Job::Init { config }),
         "replay" if !config.mirror => Some(Job::Replay { config }),
         _ => None,
     }
+}
+
+/// Returns the removal that `remove`, a word and those after it ask for: the word spells the number,
+/// and none comes after it.
+fn read_removal(word: &str, more: &[&str]) -> Option<Job>
+    ensures { IsJob (codes "remove" ∷ word.now ∷ spelled more.now) result }
+{
+    if !more.is_empty() {
+        return None;
+    }
+    let number = read_number(word.as_bytes())?;
+    Some(Job::Remove { number })
 }
 
 /// Returns the settings that a name and the options after it give.
@@ -194,8 +212,16 @@ fn read_setting(word: &str) -> Option<Setting>
         return Some(Setting::Slice(slice as u32));
     }
     let digits = word.strip_prefix(b"max=")?;
-    let max = read_up_to(MAX_NUMBER, digits)?;
-    Some(Setting::Max(max as u32))
+    let max = read_number(digits)?;
+    Some(Setting::Max(max))
+}
+
+/// Returns the number of a message that a text spells, or `None` if it spells none.
+fn read_number(text: &[u8]) -> Option<u32>
+    ensures { Spells (IsUpTo 2147483647) decimal text.now result }
+{
+    let number = read_up_to(MAX_NUMBER, text)?;
+    Some(number as u32)
 }
 
 /// Returns the number that a text spells, or `None` if it spells none from 1 to `most`.

@@ -1,15 +1,11 @@
 -- The entries of a store by their indexes.
-use Rattle.std.specs.Prelude.{◌≡◌, ℕ, zero, suc, List, [], ◌∷◌, ◌++◌, slice_get, Option, refl}
+use Rattle.std.specs.Prelude.{◌≡◌, ℕ, zero, suc, List, [], ◌∷◌, ◌++◌, slice_get, refl}
 use Rattle.std.proofs.Common.{◌∙◌, ap}
-use Rattle.arch_model.specs.Archives.{Entry, Archive, blob_number}
+use Rattle.arch_model.specs.Archives.{Entry, Archive}
 use Rattle.arch_model.specs.Shelves.{lines_after, line_at}
-use Rattle.arch_judge.specs.Indexes.{number_in}
-use Rattle.arch_judge.specs.declared.index.Index.{Index}
 use Rattle.epoch_store.specs.declared.entries.StoredEntry.{StoredEntry}
 use Rattle.epoch_store.specs.Reads.{line_if}
 use Rattle.epoch_store.specs.Stores.{View, Keeps, stored_after}
-use Rattle.archive_core.specs.Kept.{IndexesStored}
-use Rattle.archive_core.proofs.Indexes.{index-of_kept}
 
 -- The line at an index.
 lines_same : (before es : List Entry) (i : ℕ) → line_if (slice_get (stored_after before es) i) ≡ slice_get (lines_after before es) i

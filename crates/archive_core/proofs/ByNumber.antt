@@ -1,8 +1,7 @@
 -- The messages of a store by their numbers: the places that are found, and their texts.
 use Rattle.std.specs.Prelude.{◌≡◌, ◌≢◌, ◌⊎◌, ◌+◌, ◌<◌, ◌≤◌, ◌==◌, ◌&&◌, ◌||◌, ℕ, zero, suc, Bool, true, false, List, [], ◌∷◌, length, get_or, slice_get, Option, Some, None, Result, Ok, Err, is_some, refl}
-use Rattle.std.specs.List.{filter}
 use Rattle.std.specs.List.Sorted.{IsPartitionPoint}
-use Rattle.std.proofs.Common.{◌-◌, ◌∙◌, sym, ap, subst, inl, inr, arith, ltb, ltb-true, ltb-false}
+use Rattle.std.proofs.Common.{◌∙◌, sym, ap, subst, inl, inr, arith, ltb, ltb-true, ltb-false}
 use Rattle.std.proofs.lemmas.Bool.Decides.{nat_tests}
 use Rattle.std.proofs.lemmas.Option.{slice_get_within, slice_get-get_or}
 use Rattle.disk_model.specs.Disk.{Content, WhereTold}
@@ -14,14 +13,13 @@ use Rattle.arch_model.specs.declared.text_refusal.TextRefusal.{TextRefusal}
 use Rattle.arch_model.specs.declared.text_refusal.TextRefusal.TheVariants.{DiskFault, Damaged, NoMemory}
 use Rattle.epoch_store.specs.declared.entries.StoredEntry.{StoredEntry}
 use Rattle.epoch_store.specs.Reads.{GivesText, FindsText, GivesTextOf, text_if, IsEpochFound}
-use Rattle.epoch_store.specs.Stores.{View, Keeps, IsStoreWith, live_kept, stored_after}
+use Rattle.epoch_store.specs.Stores.{View, Keeps, live_kept, stored_after}
 use Rattle.archive_core.specs.Numbers.{has_live, IsMessageAt, IsLiveAt, GivesKept, GivesTextKept, TellsOther}
 use Rattle.archive_core.specs.Placing.{message_places, PlacesFrom, PlacesRise, live_place, IsPlaceOf}
 use Rattle.archive_core.specs.declared.placing.MessagePlace.{MessagePlace}
-use Rattle.archive_core.proofs.Places.{places-sorted, places-rise, places-low, places-one, places-tell, live-places, message-place}
+use Rattle.archive_core.proofs.Places.{places-rise, places-low, places-one, places-tell, live-places, message-place}
 use Rattle.archive_core.proofs.ByBlob.{message-of}
 use Rattle.archive_core.proofs.Stored.{has_live-is, kept-at, shown-at, contains-number, live-number}
-use Rattle.archive_core.proofs.Standing.{store_keeps}
 
 only : {X : Type 0} (x y : X) → Some x ≡ Some y → x ≡ y
 only x y is = cc

@@ -1,7 +1,7 @@
 -- How many live messages an archive has.
 use Rattle.std.specs.Prelude.{◌≡◌, ◌+◌, ◌<◌, ◌≤◌, ◌&&◌, ℕ, Bool, true, false, nat_le, List, [], ◌∷◌, length, min, if◌then◌else◌, refl}
 use Rattle.std.specs.List.{AllByRecursion, filter}
-use Rattle.std.proofs.Common.{◌∙◌, ap, arith}
+use Rattle.std.proofs.Common.{arith}
 use Rattle.std.proofs.lemmas.Bool.Decides.{nat_tests}
 use Rattle.arch_model.specs.Archives.{Entry, Archive, live}
 use Rattle.arch_model.specs.Shelves.{is_between, live_between}

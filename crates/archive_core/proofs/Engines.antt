@@ -1,5 +1,5 @@
 -- What the calls of an archive that owns its disk do, by the calls below it.
-use Rattle.std.specs.Prelude.{◌≡◌, ◌⊎◌, ◌+◌, ◌≤◌, ◌<◌, ℕ, zero, suc, Bool, true, false, not, List, [], length, get_or, Option, Some, None, Result, Ok, Err, refl}
+use Rattle.std.specs.Prelude.{◌≡◌, ◌⊎◌, ◌||◌, ◌+◌, ◌≤◌, ◌<◌, ℕ, zero, suc, Bool, true, false, not, List, [], length, get_or, Option, Some, None, Result, Ok, Err, refl}
 use Rattle.std.specs.List.{Contains}
 use Rattle.std.proofs.Common.{◌∙◌, sym, ap, subst, inl, inr, arith}
 use Rattle.std.proofs.lemmas.Bool.{false≢true}
@@ -15,22 +15,23 @@ use Rattle.arch_model.specs.Shelves.{Stays, ReadCause, ReadsOnce}
 use Rattle.arch_model.specs.Standing.{Standing, standing, with_doubt, one_of, IsFound}
 use Rattle.arch_model.specs.declared.answer.Answer.{Answer}
 use Rattle.arch_model.specs.declared.answer.Answer.TheVariants as answer
+use Rattle.arch_model.specs.declared.command.Command.{Command}
 use Rattle.arch_model.specs.declared.opening.OpenRefusal.{OpenRefusal}
 use Rattle.arch_model.specs.declared.opening.OpenRefusal.TheVariants as refusal
 use Rattle.arch_model.specs.declared.text_refusal.TextRefusal.{TextRefusal}
 use Rattle.arch_model.specs.declared.text_refusal.TextRefusal.TheVariants as reading
 use Rattle.arch_model.proofs.Keepers.{has-own, moves-stale, moves-on, comes-by, unopened-comes, unopened-ready, unopened-cause}
 use Rattle.epoch_store.specs.Files.{as_read}
-use Rattle.epoch_store.specs.declared.entries.StoredEntry.{StoredEntry}
 use Rattle.epoch_store.specs.Laws.{CachesOne}
 use Rattle.epoch_store.specs.Leaving.{disk_recovers}
 use Rattle.epoch_store.specs.Opens.{RecoversOfWith, AllRecoverWith, ReadsWith, IsWant}
 use Rattle.epoch_store.specs.Reads.{AnswersQuietly}
 use Rattle.epoch_store.specs.Recovery.{RecoversWith, RecoversSomeWith}
 use Rattle.epoch_store.specs.Stores.{View, Keeps, IsStoreWith, RecoversEitherWith}
-use Rattle.archive_core.specs.Commands.{DoneBy, OnRefusal, UnlessFault, OnlyLooks}
-use Rattle.archive_core.specs.Engines.{Owning, needs_opening, Holds, RowsKeepUp, is_ready, Leaves, ReadsOn, reading-same, store-left, now-left, reading-kept}
-use Rattle.archive_core.specs.Numbers.{GivesKept, GivesTextKept, GivesBlobKept, TellsOther}
+use Rattle.archive_core.specs.Commands.{DoneBy, OnRefusal, UnlessFault, IfUnread, OnlyLooks}
+use Rattle.archive_core.specs.Engines.{Owning, needs_opening, Holds, RowsKeepUp, IfRefused, is_ready, Leaves, ReadsOn, reading-same, store-left, now-left, reading-kept}
+use Rattle.archive_core.specs.Numbers.{GivesBlobKept, TellsOther}
+use Rattle.archive_core.specs.Walks.{RowsAfter}
 use Rattle.archive_core.proofs.Standing.{store_keeps}
 
 -- One of the archives that may be there is the archive, or the one in doubt.
@@ -288,6 +289,44 @@ module _ {D : Type 0} (content : D → Option Content) (moment : D → ℕ) (lef
     taken-at (answer.NoText number) stale never rows untouched = absurd never
     taken-at (answer.Damaged file at) stale never rows untouched = absurd never
 
+  -- A refusal leaves all but the disk as it was, and the disk was only read.
+  module _ (e new : Owning D) (ok : Bool) (command : Command) (text : List ℕ) (arrived : ℕ) where
+    only-reads : new.view ≡ e.view → new.rows ≡ e.rows → new.stale ≡ e.stale → OnlyLooks content moment left_since e.disk new.disk → ReadsOn content moment left_since e new
+    only-reads view rows stale looks = record { view_is = view; rows_are = rows; stale_is = stale; files = looks.same; run = looks.any_moment }
+
+    same-owning : new.disk ≡ e.disk → new.view ≡ e.view → new.rows ≡ e.rows → new.stale ≡ e.stale → new ≡ e
+    same-owning disk view rows stale = λ i. record { disk = disk i; view = view i; rows = rows i; stale = stale i }
+
+    pub refused-at : (reply : Answer) → e.stale ≡ false → new.stale ≡ (needs_opening reply || not ok) → OnRefusal reply (ok ≡ true) → OnRefusal reply (new.view ≡ e.view) → (ok ≡ true → RowsAfter command reply text arrived e.rows new.rows)
+        → OnRefusal reply (UnlessFault reply (OnlyLooks content moment left_since e.disk new.disk)) → IfRefused reply (ReadsOn content moment left_since e new)
+    refused-at answer.NoMemory ready stale followed view rows looks = only-reads view (rows followed) (stale ∙ ap not followed ∙ sym ready) looks
+    refused-at (answer.Duplicate n) ready stale followed view rows looks = only-reads view (rows followed) (stale ∙ ap not followed ∙ sym ready) looks
+    refused-at answer.NoFields ready stale followed view rows looks = only-reads view (rows followed) (stale ∙ ap not followed ∙ sym ready) looks
+    refused-at (answer.TooLarge len) ready stale followed view rows looks = only-reads view (rows followed) (stale ∙ ap not followed ∙ sym ready) looks
+    refused-at (answer.Full max) ready stale followed view rows looks = only-reads view (rows followed) (stale ∙ ap not followed ∙ sym ready) looks
+    refused-at (answer.Collision n) ready stale followed view rows looks = only-reads view (rows followed) (stale ∙ ap not followed ∙ sym ready) looks
+    refused-at (answer.NotLive n) ready stale followed view rows looks = only-reads view (rows followed) (stale ∙ ap not followed ∙ sym ready) looks
+    refused-at (answer.NoText n) ready stale followed view rows looks = only-reads view (rows followed) (stale ∙ ap not followed ∙ sym ready) looks
+    refused-at answer.IsMirror ready stale followed view rows looks = only-reads view (rows followed) (stale ∙ ap not followed ∙ sym ready) looks
+    refused-at (answer.Ok n id) ready stale followed view rows looks = tt
+    refused-at answer.DiskFault ready stale followed view rows looks = tt
+    refused-at (answer.Damaged file at) ready stale followed view rows looks = tt
+
+    pub unmoved-at : (reply : Answer) → e.stale ≡ false → new.stale ≡ (needs_opening reply || not ok) → OnRefusal reply (ok ≡ true) → OnRefusal reply (new.view ≡ e.view) → (ok ≡ true → RowsAfter command reply text arrived e.rows new.rows) → IfUnread reply (new.disk ≡ e.disk)
+        → IfUnread reply (new ≡ e)
+    unmoved-at answer.NoMemory ready stale followed view rows disk = tt
+    unmoved-at (answer.Duplicate n) ready stale followed view rows disk = same-owning disk view (rows followed) (stale ∙ ap not followed ∙ sym ready)
+    unmoved-at answer.NoFields ready stale followed view rows disk = same-owning disk view (rows followed) (stale ∙ ap not followed ∙ sym ready)
+    unmoved-at (answer.TooLarge len) ready stale followed view rows disk = same-owning disk view (rows followed) (stale ∙ ap not followed ∙ sym ready)
+    unmoved-at (answer.Full max) ready stale followed view rows disk = tt
+    unmoved-at (answer.Collision n) ready stale followed view rows disk = tt
+    unmoved-at (answer.NotLive n) ready stale followed view rows disk = same-owning disk view (rows followed) (stale ∙ ap not followed ∙ sym ready)
+    unmoved-at (answer.NoText n) ready stale followed view rows disk = same-owning disk view (rows followed) (stale ∙ ap not followed ∙ sym ready)
+    unmoved-at answer.IsMirror ready stale followed view rows disk = same-owning disk view (rows followed) (stale ∙ ap not followed ∙ sym ready)
+    unmoved-at (answer.Ok n id) ready stale followed view rows disk = tt
+    unmoved-at answer.DiskFault ready stale followed view rows disk = tt
+    unmoved-at (answer.Damaged file at) ready stale followed view rows disk = tt
+
   -- Memory ran out, and nothing was done on the archive that is held.
   pub starved-at : (e : Owning D) (a : Archive) (wanted : Archive → Done) → Holds content e a → (t : Standing) × Going e (standing a None) e t × Comes true (standing a None) wanted answer.NoMemory t
   starved-at e a wanted store = (
@@ -360,9 +399,6 @@ module _ {D : Type 0} (content : D → Option Content) (moment : D → ℕ) (lef
     pub cause-from : {T : Type 0} (faults : D → ℕ) (disk : D) (r : Result T TextRefusal) → RoseIf (r ≡ Err reading.DiskFault) (faults inside.disk) (faults disk) → TellsOther r → ReadCause (faults old.disk) (faults disk) r
     cause-from faults disk r rose other = subst (λ (o : Owning D). ReadCause (faults o.disk) (faults disk) r) is (read-cause (faults inside.disk) (faults disk) r rose other)
 
-    pub ids-from : (meets : StoredEntry → Type 0) (had has : List ℕ) (r : Result Unit TextRefusal) → GivesKept meets inside.view (content inside.disk) had has r → GivesKept meets old.view (content old.disk) had has r
-    ids-from meets had has r kept = subst (λ (o : Owning D). GivesKept meets o.view (content o.disk) had has r) is kept
-
     pub blob-ids-from : (id : Id20) (had has : List ℕ) (r : Result Bool TextRefusal) → GivesBlobKept inside.view (content inside.disk) id had has r → GivesBlobKept old.view (content old.disk) id had has r
     blob-ids-from id had has r kept = subst (λ (o : Owning D). GivesBlobKept o.view (content o.disk) id had has r) is kept
 
@@ -403,6 +439,16 @@ module _ {D : Type 0} (content : D → Option Content) (moment : D → ℕ) (lef
     stays-from faults disk ready files run later =
         subst (λ (o : Owning D). is_ready o ≡ true → Stays (Holds content) is_ready (ReadsOn content moment left_since) (λ (p : Owning D). faults p.disk) o (record { disk = disk; view = inside.view; rows = inside.rows; stale = inside.stale })) is
         (λ at_hand. stays-at faults inside disk at_hand files run later) ready
+
+    pub refused-from : (new : Owning D) (ok : Bool) (command : Command) (text : List ℕ) (arrived : ℕ) (reply : Answer) → old.stale ≡ false → new.stale ≡ (needs_opening reply || not ok) → OnRefusal reply (ok ≡ true) → OnRefusal reply (new.view ≡ inside.view)
+        → (ok ≡ true → RowsAfter command reply text arrived inside.rows new.rows) → OnRefusal reply (UnlessFault reply (OnlyLooks content moment left_since inside.disk new.disk)) → IfRefused reply (ReadsOn content moment left_since old new)
+    refused-from new ok command text arrived reply ready stale followed view rows looks =
+        subst (λ (o : Owning D). o.stale ≡ false → IfRefused reply (ReadsOn content moment left_since o new)) is (λ at_hand. refused-at inside new ok command text arrived reply at_hand stale followed view rows looks) ready
+
+    pub unmoved-from : (new : Owning D) (ok : Bool) (command : Command) (text : List ℕ) (arrived : ℕ) (reply : Answer) → old.stale ≡ false → new.stale ≡ (needs_opening reply || not ok) → OnRefusal reply (ok ≡ true) → OnRefusal reply (new.view ≡ inside.view)
+        → (ok ≡ true → RowsAfter command reply text arrived inside.rows new.rows) → IfUnread reply (new.disk ≡ inside.disk) → IfUnread reply (new ≡ old)
+    unmoved-from new ok command text arrived reply ready stale followed view rows disk =
+        subst (λ (o : Owning D). o.stale ≡ false → IfUnread reply (new ≡ o)) is (λ at_hand. unmoved-at inside new ok command text arrived reply at_hand stale followed view rows disk) ready
 
 -- The answer to a command whose archive wasn't reopened, which was stale then.
 pub refused-comes : (was : Bool) (s t : Standing) (wanted : Archive → Done) (why : OpenRefusal) (reply : Answer) → reply ≡ opening_answer why → (was ≡ true → false ≡ true) → StaysShut s why t → Comes was s wanted reply t

@@ -1,31 +1,29 @@
 -- The index of what a store keeps: that of an archive's entries, with one more entry, and with a text
 -- that was taken back.
-use Rattle.std.specs.Prelude.{◌≡◌, ◌≢◌, ◌+◌, ◌<◌, ℕ, zero, suc, Bool, true, false, List, [], ◌∷◌, ◌++◌, length, take, get_or, Option, Some, None, IsSome, unwrap_or, option_map, if◌then◌else◌, refl}
+use Rattle.std.specs.Prelude.{◌≡◌, ◌≢◌, ◌+◌, ◌<◌, ℕ, zero, suc, true, false, List, [], ◌∷◌, ◌++◌, length, take, get_or, Option, Some, None, IsSome, unwrap_or, option_map, refl}
 use Rattle.std.specs.List.{AllByRecursion}
-use Rattle.std.specs.Str.{bytes_eq}
 use Rattle.std.specs.Global.{Vec}
 use Rattle.std.specs.Map.{lookup}
 use Rattle.std.specs.BTreeMap.{is_at}
 use Rattle.std.specs.Ordering.{nat_cmp}
 use Rattle.std.specs.Cmp.Lexicographic.{slice_cmp}
 use Rattle.std.proofs.Common.{◌∙◌, sym, ap, subst, arith, append_assoc}
-use Rattle.std.proofs.lemmas.Slice.Eq.{bytes_eq-Decides}
 use Rattle.arch_base.specs.declared.ids.Id20.{Id20}
 use Rattle.git_objects.specs.Objects.{blob_id_of}
 use Rattle.git_objects.specs.declared.entry_kind.EntryKind.{EntryKind}
 use Rattle.git_objects.specs.declared.entry_kind.EntryKind.TheVariants.{Message, Deletion}
 use Rattle.mail_reader.specs.Ids.{own_id}
 use Rattle.mail_reader.specs.Content.{content_id_of}
-use Rattle.arch_model.specs.Archives.{Entry, Archive, message, deletion, live, text_of, owner, IsFree}
-use Rattle.arch_model.specs.Validity.{IsEntry, IsArchive, IsFrom, number_after, Rise, AtEachPlace, EndsLive, IdsDiffer, LiveDiffer}
+use Rattle.arch_model.specs.Archives.{Entry, Archive, message, deletion, live, text_of, owner}
+use Rattle.arch_model.specs.Validity.{IsEntry, IsArchive, number_after, Rise, AtEachPlace, EndsLive, IdsDiffer, LiveDiffer}
 use Rattle.arch_model.proofs.LiveEntries.{live-message, ids-now}
-use Rattle.arch_judge.specs.Indexes.{IsIndex, HasSame, Puts, Loses, TakesBack, first_found, owner_of, owner_in, number_in}
+use Rattle.arch_judge.specs.Indexes.{IsIndex, Puts, Loses, owner_of, owner_in, number_in}
 use Rattle.arch_judge.specs.declared.index.Index.{Index}
 use Rattle.arch_judge.specs.declared.index.Owner.{Owner}
 use Rattle.arch_judge.proofs.Indexes.{IsIndex-push, IsIndex-same, unowned}
 use Rattle.arch_judge.proofs.Endings.{IsIndex-ends, owner-none}
 use Rattle.epoch_store.specs.declared.entries.StoredEntry.{StoredEntry}
-use Rattle.epoch_store.specs.Stores.{View, Accepts, AddsEntry, EndsEntry, Keeps, stored_at, stored_after}
+use Rattle.epoch_store.specs.Stores.{View, AddsEntry, EndsEntry, Keeps, stored_at, stored_after}
 use Rattle.archive_core.specs.Kept.{AreInOrder, AreOf, IndexesStored, TakesBy, Takes, PutsText, TakesBackText, LosesText, IsNewTo, owner_kept}
 use Rattle.archive_core.proofs.Stored.{stored-push}
 

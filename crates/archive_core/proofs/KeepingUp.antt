@@ -1,18 +1,17 @@
 -- The rows of live messages after a command.
-use Rattle.std.specs.Prelude.{◌≡◌, ◌||◌, ◌<◌, ◌+◌, ℕ, Bool, true, false, not, nat_lt, List, [], ◌∷◌, ◌++◌, Option, Some, None, Result, Ok, Err, OnOk, is_ok, is_some, option_copied, if◌then◌else◌, refl}
+use Rattle.std.specs.Prelude.{◌≡◌, ◌||◌, ◌<◌, ◌+◌, ℕ, Bool, true, false, not, nat_lt, List, [], ◌∷◌, Option, Some, None, Result, Ok, Err, OnOk, is_ok, is_some, option_copied, if◌then◌else◌, refl}
 use Rattle.std.specs.List.{AllByRecursion}
-use Rattle.std.proofs.Common.{Bor, ◌∙◌, sym, ap, subst}
+use Rattle.std.proofs.Common.{Bor, ◌∙◌, sym, ap}
 use Rattle.arch_base.specs.declared.ids.Id20.{Id20}
-use Rattle.arch_base.specs.declared.sequence.NoMemory.{NoMemory}
 use Rattle.disk_model.specs.Disk.{Content}
 use Rattle.git_objects.specs.Objects.{blob_id_of}
 use Rattle.mail_forms.specs.declared.row.Row.{Row}
 use Rattle.mail_reader.specs.Stored.{stored}
 use Rattle.mail_reader.specs.declared.storing.StoredRefusal.{StoredRefusal}
 use Rattle.mail_reader.specs.declared.storing.StoredRefusal.TheVariants as storing
-use Rattle.arch_model.specs.Archives.{Entry, Archive, message, with_entry, with_deletion, live, text_of}
+use Rattle.arch_model.specs.Archives.{Entry, Archive, message, with_entry, live, text_of}
 use Rattle.arch_model.specs.Candidates.{choice_of}
-use Rattle.arch_model.specs.Delivery.{Done, applied, delivered, delivered_form, delivered_choice, delivered_kept, removed, removed_text, refused, new_epoch, collision}
+use Rattle.arch_model.specs.Delivery.{Done, applied, delivered, delivered_form, delivered_choice, delivered_kept, removed_text, refused, new_epoch, collision}
 use Rattle.arch_model.specs.Keeping.{StaysReady}
 use Rattle.arch_model.specs.Listings.{rows_of, row_at}
 use Rattle.arch_model.specs.Rows.{row_of}

@@ -1,6 +1,6 @@
 -- An archive that was opened, and then read for its rows.
-use Rattle.std.specs.Prelude.{◌≡◌, ◌≤◌, ℕ, List, Option, Some, None, Result, Ok, Err, IfOk, refl}
-use Rattle.std.proofs.Common.{◌∙◌, sym, ap, subst, arith}
+use Rattle.std.specs.Prelude.{◌≡◌, ◌≤◌, ℕ, List, Option, Some, None, Result, Ok, Err, refl}
+use Rattle.std.proofs.Common.{sym, ap, subst}
 use Rattle.arch_base.specs.Counts.{RoseIf}
 use Rattle.disk_model.specs.Disk.{Files, Content, Image, Told, WhereTold, Unchanged, LeavesOnly}
 use Rattle.disk_model.specs.Moments.{joined}
@@ -13,7 +13,7 @@ use Rattle.arch_model.specs.declared.text_refusal.TextRefusal.{TextRefusal}
 use Rattle.arch_model.specs.declared.text_refusal.TextRefusal.TheVariants as reading
 use Rattle.epoch_store.specs.declared.entries.StoredEntry.{StoredEntry}
 use Rattle.epoch_store.specs.Files.{as_read}
-use Rattle.epoch_store.specs.Opens.{RecoversOfWith, AllRecoverWith, ReadsWith, Opens, OpensWell, SyncsFirst, OnSynced}
+use Rattle.epoch_store.specs.Opens.{RecoversOfWith, Opens, OpensWell, SyncsFirst, OnSynced}
 use Rattle.epoch_store.specs.Promises.{OpensArchive}
 use Rattle.epoch_store.specs.Reads.{HasTexts}
 use Rattle.epoch_store.specs.Recovery.{RecoversWith}

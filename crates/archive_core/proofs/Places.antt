@@ -1,10 +1,8 @@
 -- The places of messages: how they follow from entries, and what they tell of them.
-use Rattle.std.proofs.Common.{◌≡◌, ◌≢◌, ◌⊎◌, inl, inr, ◌+◌, ◌-◌, ◌<◌, ◌≤◌, ◌==◌, ◌&&◌, ◌||◌, ℕ, zero, suc, Bool, true, false, not, List, [], ◌∷◌, ◌++◌, length, drop, reverse, get_or, slice_get, Option, Some, None, refl, sym, ap, subst, ◌∙◌, arith, if◌then◌else◌}
-use Rattle.std.specs.List.{list_any, AllAdjacentBelow, Contains}
+use Rattle.std.proofs.Common.{◌≡◌, ◌+◌, ◌<◌, ◌≤◌, ◌==◌, ◌&&◌, ◌||◌, ℕ, zero, suc, Bool, true, false, not, List, [], ◌∷◌, ◌++◌, length, drop, reverse, slice_get, Option, Some, refl, ap, subst, ◌∙◌, arith, if◌then◌else◌}
+use Rattle.std.specs.List.{AllAdjacentBelow, Contains}
 use Rattle.std.specs.List.Sorted.{IsNonDecreasingBy}
-use Rattle.std.specs.Ordering.{nat_cmp}
 use Rattle.std.specs.BTreeSet.{BTreeSet}
-use Rattle.std.proofs.lemmas.Grind.{reverse_onto}
 use Rattle.std.proofs.lemmas.Bool.Decides.{nat_tests}
 use Rattle.std.proofs.lemmas.List.Sorted.{IsNonDecreasingBy-from_all_adjacent}
 use Rattle.git_objects.specs.declared.entry_kind.EntryKind.{EntryKind}
@@ -12,9 +10,9 @@ use Rattle.git_objects.specs.declared.entry_kind.EntryKind.TheVariants.{Message,
 use Rattle.arch_model.specs.Archives.{Entry, is_message, messages, text_of}
 use Rattle.arch_model.specs.Validity.{IsFrom, number_after, Rise}
 use Rattle.epoch_store.specs.declared.entries.StoredEntry.{StoredEntry}
-use Rattle.epoch_store.specs.Stores.{is_ended_in, live_kept, stored_at, stored_after}
+use Rattle.epoch_store.specs.Stores.{is_ended_in, live_kept, stored_after}
 use Rattle.archive_core.specs.Numbers.{has_number, has_live}
-use Rattle.archive_core.specs.Placing.{message_places, ended_place, ends_place, has_ended, PlacesBy, PlacesFrom, PlacesRise, live_place}
+use Rattle.archive_core.specs.Placing.{message_places, has_ended, PlacesFrom, PlacesRise, live_place}
 use Rattle.archive_core.specs.declared.placing.MessagePlace.{MessagePlace}
 
 -- The place of a message at an index.
@@ -26,46 +24,6 @@ place_of number index live = record { number = number; entry = index; live = liv
 pub record FrontOf (entries : List StoredEntry) (index : ℕ) (places : List MessagePlace) (ended : BTreeSet ℕ) : Type 0 where
   pub places_are : places ≡ reverse (message_places index (drop index entries))
   pub ended_are : (q : ℕ) → has_ended ended q ≡ is_ended_in (drop index entries) q
-
-drop_all : (es : List StoredEntry) → drop (length es) es ≡ []
-drop_all [] = refl
-drop_all (e ∷ es) = drop_all es
-
-none_ended : (ended : BTreeSet ℕ) → ended.keys ≡ [] → (q : ℕ) → has_ended ended q ≡ false
-none_ended ended none q = ap (λ (ks : List ℕ). has_ended (record { keys = ks }) q) none
-
-pub front-none : (entries : List StoredEntry) (places : List MessagePlace) (ended : BTreeSet ℕ) (count : ℕ) → count ≡ length entries → places ≡ [] → ended.keys ≡ [] → FrontOf entries count places ended
-front-none entries places ended count count_is places_is ended_is = record {
-  places_are = places_is ∙ sym (ap (λ (n : ℕ). reverse (message_places n (drop n entries))) count_is ∙ ap (λ (es : List StoredEntry). reverse (message_places (length entries) es)) (drop_all entries));
-  ended_are = λ q. none_ended ended ended_is q ∙ sym (ap (λ (n : ℕ). is_ended_in (drop n entries) q) count_is ∙ ap (λ (es : List StoredEntry). is_ended_in es q) (drop_all entries));
-}
-
-drop_one : (es : List StoredEntry) (i : ℕ) (e : StoredEntry) → i < length es → e ≡ get_or es i e → drop i es ≡ e ∷ drop (i + 1) es
-drop_one [] i e less is = absurd (omega (arith, less))
-drop_one (x ∷ es) zero e less is = ap (λ (y : StoredEntry). y ∷ es) (sym is)
-drop_one (x ∷ es) (suc i) e less is = let on : suc i + 1 ≡ suc (i + 1) = omega arith in rw on (drop_one es i e (omega (arith, less)) is)
-
--- One more entry before the others.
-front_by : (k : EntryKind) (e : StoredEntry) (es : List StoredEntry) (index : ℕ) (old new : List MessagePlace) (ended more : BTreeSet ℕ) → PlacesBy k old new ended more e index → old ≡ reverse (message_places (index + 1) es) → ((q : ℕ) → has_ended ended q ≡ is_ended_in es q)
-    → (new ≡ reverse (if is_message k then place_of e.number index (not (is_ended_in es e.number)) ∷ message_places (index + 1) es else message_places (index + 1) es))
-    × ((q : ℕ) → has_ended more q ≡ ((not (is_message k) && e.number == q) || is_ended_in es q))
-front_by Message e es index old new ended more by old_is ended_is = (
-  by.0
-      ∙ ap (λ (ps : List MessagePlace). ps ++ place_of e.number index (not (has_ended ended e.number)) ∷ []) old_is
-      ∙ ap (λ (b : Bool). reverse (message_places (index + 1) es) ++ place_of e.number index (not b) ∷ []) (ended_is e.number)
-      ∙ sym (reverse_onto (message_places (index + 1) es) (place_of e.number index (not (is_ended_in es e.number))) []),
-  λ q. by.1 q ∙ ended_is q,
-)
-front_by Deletion e es index old new ended more by old_is ended_is = (by.0 ∙ old_is, λ q. by.1 q ∙ ap (λ (b : Bool). e.number == q || b) (ended_is q))
-
-pub front-more : (entries : List StoredEntry) (index : ℕ) (e : StoredEntry) (old new : List MessagePlace) (ended more : BTreeSet ℕ) → index < length entries → e ≡ get_or entries index e → FrontOf entries (index + 1) old ended → PlacesBy e.seen.kind old new ended more e index → FrontOf entries index new more
-front-more entries index e old new ended more less is front by =
-    let both = front_by e.seen.kind e (drop (index + 1) entries) index old new ended more by front.places_are front.ended_are in
-    let at = drop_one entries index e less is in
-    record {
-      places_are = both.0 ∙ sym (ap (λ (es : List StoredEntry). reverse (message_places index es)) at);
-      ended_are = λ q. both.1 q ∙ sym (ap (λ (es : List StoredEntry). is_ended_in es q) at);
-    }
 
 -- The live places have the numbers of the live entries.
 live_step : (m ended : Bool) (n number index : ℕ) (e : StoredEntry) (ps : List MessagePlace) (es : List StoredEntry) → number ≡ e.number → live_place ps n ≡ has_number es n

@@ -1,5 +1,5 @@
 -- What a store keeps, and what its own disk leaves while it is only read.
-use Rattle.std.specs.Prelude.{◌≡◌, ◌++◌, ◌∷◌, [], ℕ, Bool, true, List, Option, Some, None, Ok, Err, if◌then◌else◌}
+use Rattle.std.specs.Prelude.{◌≡◌, ◌++◌, ◌∷◌, [], ℕ, Bool, true, List, Option, Some, None, Err, if◌then◌else◌}
 use Rattle.std.proofs.Common.{◌∙◌, sym, ap, subst, inl}
 use Rattle.disk_model.specs.Disk.{Files, Content, Image, Told, Unchanged, LeavesOnly}
 use Rattle.disk_model.specs.Moments.{joined, weaker}

@@ -1,5 +1,5 @@
 -- The verdict on the delivery of a message to an archive on a disk.
-use Rattle.std.specs.Prelude.{◌≡◌, ◌≤◌, ℕ, Bool, true, false, List, [], length, Option, Some, None, Result, Ok, Err, if◌then◌else◌, refl}
+use Rattle.std.specs.Prelude.{◌≡◌, ◌≤◌, ℕ, Bool, true, false, List, [], length, Some, None, Ok, Err, if◌then◌else◌}
 use Rattle.std.specs.Str.{bytes_eq}
 use Rattle.std.proofs.Common.{◌∙◌, sym, ap, subst, arith}
 use Rattle.std.proofs.lemmas.Slice.Eq.{bytes_eq-Decides}
@@ -13,7 +13,7 @@ use Rattle.arch_model.proofs.Owners.{collision-alone, collision-first}
 use Rattle.arch_model.specs.declared.text_refusal.TextRefusal.{TextRefusal}
 use Rattle.arch_model.specs.declared.text_refusal.TextRefusal.TheVariants as reading
 use Rattle.arch_judge.specs.Judging.{IsKnownBy, Judges, Compares, unless_same, MayCome, MayBeKept, TakesThis, TakesSame, IsForDelivery}
-use Rattle.arch_judge.specs.Indexes.{owner_in, number_in}
+use Rattle.arch_judge.specs.Indexes.{number_in}
 use Rattle.arch_judge.proofs.Endings.{live-few}
 use Rattle.arch_judge.specs.declared.index.Index.{Index}
 use Rattle.arch_judge.specs.declared.judging.Verdict.{Verdict}

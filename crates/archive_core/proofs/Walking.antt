@@ -1,5 +1,5 @@
 -- What is walked through of a store, and the rows of the entries so far.
-use Rattle.std.specs.Prelude.{◌≡◌, ◌≢◌, ◌+◌, ◌<◌, ◌≤◌, ℕ, zero, suc, List, [], ◌∷◌, ◌++◌, length, take, drop, slice_get, Option, Some, None, Result, Ok, Err, IfErr, refl}
+use Rattle.std.specs.Prelude.{◌≡◌, ◌+◌, ◌<◌, ◌≤◌, ℕ, zero, suc, List, [], ◌∷◌, ◌++◌, length, take, slice_get, Option, Some, None, Result, Ok, Err, IfErr, refl}
 use Rattle.std.proofs.Common.{◌∙◌, sym, ap, subst, arith}
 use Rattle.disk_model.specs.Disk.{Content, WhereTold}
 use Rattle.git_objects.specs.Objects.{blob_id_of}
@@ -7,7 +7,7 @@ use Rattle.git_objects.specs.declared.entry_kind.EntryKind.{EntryKind}
 use Rattle.git_objects.specs.declared.entry_kind.EntryKind.TheVariants.{Message, Deletion}
 use Rattle.mail_forms.specs.declared.row.Row.{Row}
 use Rattle.arch_model.specs.Archives.{Entry, Archive, message, deletion, live}
-use Rattle.arch_model.specs.Listings.{rows_of, row_at}
+use Rattle.arch_model.specs.Listings.{rows_of}
 use Rattle.arch_model.specs.Rows.{row_of}
 use Rattle.arch_model.specs.Shelves.{line_after, lines_after, line_at, IsUndamaged}
 use Rattle.arch_model.specs.Validity.{IsArchive, Rise, number_after}
@@ -17,7 +17,6 @@ use Rattle.arch_model.specs.declared.text_refusal.TextRefusal.{TextRefusal}
 use Rattle.arch_model.specs.declared.text_refusal.TextRefusal.TheVariants as reading
 use Rattle.arch_model.proofs.LiveEntries.{live-message, live-deletion, without as without_number}
 use Rattle.arch_judge.proofs.Endings.{Ascend, live-ascend}
-use Rattle.epoch_store.specs.Files.{epoch_file_of}
 use Rattle.epoch_store.specs.Reads.{line_of, line_if, GivesText, FindsText, GivesTextOf, HasTexts, text_if}
 use Rattle.epoch_store.specs.Stores.{View}
 use Rattle.epoch_store.specs.declared.entries.StoredEntry.{StoredEntry}

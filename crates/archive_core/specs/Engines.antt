@@ -81,6 +81,21 @@ RowsKeepUp (answer.NotLive number) ready rows a b = rows ≡ rows_of (live b.ent
 RowsKeepUp (answer.NoText number) ready rows a b = rows ≡ rows_of (live b.entries)
 RowsKeepUp answer.IsMirror ready rows a b = rows ≡ rows_of (live b.entries)
 
+-- What holds after a refusal by the rules, or where memory ran out.
+abbrev pub IfRefused : Answer → Type 0 → Type 0
+IfRefused (answer.Ok number id) P = Unit {0}
+IfRefused answer.DiskFault P = Unit {0}
+IfRefused (answer.Damaged file at) P = Unit {0}
+IfRefused answer.NoMemory P = P
+IfRefused (answer.Duplicate number) P = P
+IfRefused answer.NoFields P = P
+IfRefused (answer.TooLarge len) P = P
+IfRefused (answer.Full max) P = P
+IfRefused (answer.Collision number) P = P
+IfRefused (answer.NotLive number) P = P
+IfRefused (answer.NoText number) P = P
+IfRefused answer.IsMirror P = P
+
 -- Only reads of the disk lead from one state to the other.
 pub record ReadsOn {D : Type 0} (content : D → Option Content) (moment : D → ℕ)
     (left_since : D → ℕ → Files → Type 0) (old new : Owning D) : Type 0 where

@@ -1,7 +1,7 @@
 -- The entries of a store and their texts, one after another, and the rows of the live ones.
-use Rattle.std.specs.Prelude.{◌≡◌, ◌≢◌, ◌<◌, ℕ, List, [], ◌∷◌, length, Option, Some, None, Result, Ok, Err, refl}
+use Rattle.std.specs.Prelude.{◌≡◌, ◌<◌, ℕ, List, [], ◌∷◌, Option, Some, None, Result, Ok, Err}
 use Rattle.std.proofs.Common.{◌∙◌, sym, subst}
-use Rattle.disk_model.specs.Disk.{Files, Content, Image, Told, Unchanged, LeavesOnly}
+use Rattle.disk_model.specs.Disk.{Files, Content, Image, Told, Unchanged}
 use Rattle.disk_model.specs.Moments.{started, joined}
 use Rattle.mail_forms.specs.declared.row.Row.{Row}
 use Rattle.arch_model.specs.Archives.{Entry, Archive}

@@ -13,8 +13,8 @@ ghost use Rattle.arch_model.specs.declared.answer.Answer.{Answer};
 ghost use Rattle.epoch_store.specs.Opens.{ReadsWith};
 ghost use Rattle.epoch_store.specs.Promises.{MakesArchive, OpensArchive};
 ghost use Rattle.epoch_store.specs.Stores.{IsStoreWith, RecoversEitherWith};
-ghost use Rattle.archive_core.specs.Commands.{DoneBy, IsForCommand};
-ghost use Rattle.archive_core.specs.Engines.{Holds, Leaves, ReadsOn, is_ready, needs_opening as needs_opening_after, reading-same, reading-joined, store-left, now-left, reading-kept};
+ghost use Rattle.archive_core.specs.Commands.{DoneBy, IfUnread, IsForCommand};
+ghost use Rattle.archive_core.specs.Engines.{Holds, IfRefused, Leaves, ReadsOn, is_ready, needs_opening as needs_opening_after, reading-same, reading-joined, store-left, now-left, reading-kept};
 ghost use Rattle.archive_core.specs.HandedBack.{disk_made, made_or_why, disk_opened, opened_or_why};
 ghost use Rattle.archive_core.specs.Numbers.{GivesTextKept, GivesBlobKept, Names};
 ghost use Rattle.archive_core.specs.Openings.{RefusesKindly};
@@ -193,6 +193,11 @@ impl<D: Disk> Engine<D> {
             (standing a None) self.new t
             × Comes true (standing a None) (λ (b : Archive). applied b command.now moment) result t }
         ensures ready { StaysReady true result (is_ready self.new) }
+        // A refusal by the rules, and `NoMemory`, change nothing but what reading changes, and a
+        // refusal before which no text is read changes nothing at all.
+        ensures untouched { IfRefused result (ReadsOn D.content D.moment D.left_since self.old
+            self.new) }
+        ensures unmoved { IfUnread result (self.new ≡ self.old) }
         ensures for_command { IsForCommand command.now result }
         ensures later { D.faults self.old.disk ≤ D.faults self.new.disk }
         ensures cause { AnswerCause (D.faults self.old.disk) (D.faults self.new.disk) result }

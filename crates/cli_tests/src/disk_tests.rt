@@ -1,10 +1,8 @@
-//! Runs of the program over a disk in memory: an archive is made, messages are delivered, and it is
-//! checked.
+//! Runs of the program over a disk in memory: an archive is made, messages are delivered and removed,
+//! and it is checked.
 use crate::run_tests::{Due, bytes, numbers};
 use arch_base::{NoMemory, Numbers};
-use arch_model::{Answer, Command};
 use archive_cli::run;
-use archive_core::Engine;
 use disk_model::{Disk, FileKind, FileName, FuseDisk, MemDisk};
 use edge_io::{Clock, ClockFault, MemSink, MemSource};
 use std::alloc::Global;
@@ -15,16 +13,22 @@ use std::test::Fail;
 const MAIL: &[u8] =
     b"From: Ann <ann@example.org>\nDate: Thu, 1 Feb 2024 10:00:00 +0000\nSubject: first\nMessage-ID: <a@x>\n\none\n";
 
-/// What its delivery to an archive without messages is answered.
+/// What its delivery to an archive without messages is answered, and then its removal.
 const TAKEN: &[u8] = b"1 ok 1 1d023c572ccd6f3cc82ae855343346b043adaba5\n";
 
-/// What is read of an archive without messages, and of one with a message.
+/// What is read of an archive without messages, of one with a message, and of one whose message was
+/// removed.
 const NONE: &[u8] = b"entries 0 live 0 next 1\n";
 
 const ONE: &[u8] = b"entries 1 live 1 next 2\n";
 
-/// More calls than a delivery makes on a disk.
+const GONE: &[u8] = b"entries 2 live 0 next 2\n";
+
+/// More calls than a command makes on a disk.
 const ENOUGH: u64 = 1000;
+
+/// Fewer calls than a command makes that is done: tests of stopped commands are cut in two here.
+const LATE: u64 = 15;
 
 /// A clock that stands still.
 #[derive(Drop)]
@@ -142,7 +146,7 @@ const DELIVERED: Due<'_> = Due {
 };
 
 /// Runs that make an archive and fill it, each way that a run may end.
-const FILLED: [Due<'_>; 8] = [
+const FILLED: [Due<'_>; 9] = [
     Due {
         words: &["check"],
         input: b"",
@@ -152,6 +156,12 @@ const FILLED: [Due<'_>; 8] = [
     Due {
         words: &["deliver"],
         input: MAIL,
+        status: 3,
+        printed: b"no archive\n",
+    },
+    Due {
+        words: &["remove", "1"],
+        input: b"",
         status: 3,
         printed: b"no archive\n",
     },
@@ -186,23 +196,42 @@ fn an_archive_is_made_filled_and_checked(rt: HostRuntime) {
     assert!(rt; has_files_of_one(&mut disk));
 }
 
-/// Removes the message of an archive, which has the number 1. `None` if it isn't answered so.
-fn without_message(alloc: Global, disk: MemDisk) -> Option<MemDisk> {
-    let mut engine = Engine::open(alloc, disk).ok()?;
-    match engine.take(&Command::Remove(1), 1_706_781_800) {
-        Answer::Ok { number: 1, .. } => Some(engine.into_disk()),
-        _ => None,
-    }
-}
+/// A run that removes the message of number 1, which is there.
+const REMOVED: Due<'_> = Due {
+    words: &["remove", "1"],
+    input: b"",
+    status: 0,
+    printed: TAKEN,
+};
 
-/// Runs on an archive whose message was removed: it is counted as an entry and not as live, and comes
-/// again under a number of its own.
-const REMOVED: [Due<'_>; 4] = [
+/// Runs on an archive without messages. A message comes and is removed: it is counted as an entry and
+/// not as live, isn't removed twice, and comes again under a number of its own.
+const REMOVED_AND_BACK: [Due<'_>; 9] = [
+    Due {
+        words: &["remove", "9"],
+        input: b"",
+        status: 1,
+        printed: b"7 not live 9\n",
+    },
+    DELIVERED,
+    Due {
+        words: &["remove", "2"],
+        input: b"",
+        status: 1,
+        printed: b"7 not live 2\n",
+    },
+    REMOVED,
+    Due {
+        words: &["remove", "1"],
+        input: MAIL,
+        status: 1,
+        printed: b"7 not live 1\n",
+    },
     Due {
         words: &["check"],
         input: b"",
         status: 0,
-        printed: b"entries 2 live 0 next 2\n",
+        printed: GONE,
     },
     Due {
         words: &["deliver"],
@@ -224,20 +253,19 @@ const REMOVED: [Due<'_>; 4] = [
     },
 ];
 
-/// Makes an archive, delivers a message, removes it, and makes the runs on what is left.
-fn removed_and_come_again(alloc: Global) -> Option<MemDisk> {
-    let disk = printing_all(alloc, empty(alloc), &[MADE, DELIVERED])?;
-    let disk = without_message(alloc, disk)?;
-    printing_all(alloc, disk, &REMOVED)
+/// Makes an archive, and the runs on it.
+fn removed_and_back(alloc: Global) -> Option<MemDisk> {
+    let disk = with_archive(alloc)?;
+    printing_all(alloc, disk, &REMOVED_AND_BACK)
 }
 
 #[test]
 fn a_removed_message_is_counted_and_comes_again(rt: HostRuntime) {
-    assert!(rt; removed_and_come_again(rt.alloc()).is_some());
+    assert!(rt; removed_and_back(rt.alloc()).is_some());
 }
 
-/// Runs that make a mirror and deliver to it.
-const MIRRORED: [Due<'_>; 2] = [
+/// Runs that make a mirror, and deliver to it and remove from it.
+const MIRRORED: [Due<'_>; 3] = [
     Due {
         words: &["init", "list", "mirror"],
         input: b"",
@@ -250,10 +278,16 @@ const MIRRORED: [Due<'_>; 2] = [
         status: 1,
         printed: b"9 is mirror\n",
     },
+    Due {
+        words: &["remove", "1"],
+        input: b"",
+        status: 1,
+        printed: b"9 is mirror\n",
+    },
 ];
 
 #[test]
-fn a_mirror_takes_no_message(rt: HostRuntime) {
+fn a_mirror_takes_no_command(rt: HostRuntime) {
     assert!(rt; printing_all(rt.alloc(), empty(rt.alloc()), &MIRRORED).is_some());
 }
 
@@ -262,31 +296,55 @@ fn with_archive(alloc: Global) -> Option<MemDisk> {
     printing(alloc, empty(alloc), &MADE)
 }
 
-/// Returns whether the archive on a disk has no message or one, and one where its delivery is done.
-fn has_one(alloc: Global, disk: MemDisk, done: bool) -> bool {
+/// A command that may be stopped: its run, and what is read of the archive before it and after it.
+#[derive(Clone, Copy)]
+struct Stopped<'a> {
+    run: Due<'a>,
+    before: &'a [u8],
+    after: &'a [u8],
+}
+
+/// The delivery of a message to an archive without any.
+const DELIVERY: Stopped<'_> = Stopped {
+    run: DELIVERED,
+    before: NONE,
+    after: ONE,
+};
+
+/// The removal of the message of an archive.
+const REMOVAL: Stopped<'_> = Stopped {
+    run: REMOVED,
+    before: ONE,
+    after: GONE,
+};
+
+/// Returns whether the archive on a disk is that before a command or after it, and the latter where it
+/// is done.
+fn has_either(alloc: Global, disk: MemDisk, command: &Stopped<'_>, done: bool) -> bool {
     match ran_on(alloc, disk, &["check"], b"") {
         None => false,
         Some((status, _disk, sink)) => {
-            let one = sink.taken() == ONE;
-            let none = !done && sink.taken() == NONE;
-            status == 0 && (one || none)
+            let after = sink.taken() == command.after;
+            let before = !done && sink.taken() == command.before;
+            status == 0 && (after || before)
         }
     }
 }
 
-/// Returns whether an image that a crash at a moment may leave has no message or one, and one where
-/// its delivery is done.
-fn image_has_one(
+/// Returns whether an image that a crash at a moment may leave has the archive before a command or
+/// after it, and the latter where it is done.
+fn image_has_either(
     alloc: Global,
     disk: &MemDisk,
     (at, pick): (u64, u64),
+    command: &Stopped<'_>,
     done: bool,
 ) -> Result<bool, NoMemory> {
     if at > disk.moments() || pick > 3 {
         return Ok(false);
     }
     let image = disk.image(at, pick)?;
-    Ok(has_one(alloc, image, done))
+    Ok(has_either(alloc, image, command, done))
 }
 
 /// Checks each image that a crash at a moment may leave.
@@ -295,82 +353,121 @@ fn check_moment(
     alloc: Global,
     disk: &MemDisk,
     at: u64,
+    command: &Stopped<'_>,
     done: bool,
 ) -> Result<(), NoMemory> {
     for pick in 0..4 {
-        assert!(rt; image_has_one(alloc, disk, (at, pick), done)?);
+        assert!(rt; image_has_either(alloc, disk, (at, pick), command, done)?);
     }
     Ok(())
 }
 
-/// Checks each image since a moment; at the last moment the delivery is done, if it was answered
-/// so.
-fn check_since(
-    rt: &impl Abort,
-    alloc: Global,
-    disk: &MemDisk,
-    start: u64,
-    done: bool,
-) -> Result<(), NoMemory> {
-    let end = disk.moments();
-    for at in start..=end {
-        check_moment(rt, alloc, disk, at, done && at == end)?;
-    }
-    Ok(())
-}
-
-/// Returns whether a delivery ends with this status and this line: it is done, or the disk failed.
-fn ends_so(status: u8, printed: &[u8]) -> bool {
-    match status {
-        0 => printed == TAKEN,
-        4 => printed == b"10 disk fault\n".as_slice(),
-        _ => false,
-    }
-}
-
-/// Delivers a message over a disk that stops after this many calls. Returns the disk, and whether
-/// there was no stop, if the answer is right.
-fn try_delivery(alloc: Global, disk: MemDisk, passes: u64) -> Option<(MemDisk, bool)> {
-    let fuse = FuseDisk::new(disk, passes);
-    let (status, fuse, sink) = ran_on(alloc, fuse, &["deliver"], MAIL)?;
-    if ends_so(status, sink.taken()) {
-        Some((fuse.into_inner(), status == 0))
-    } else {
-        None
-    }
-}
-
-/// A disk after a delivery that may have been stopped: how many changes it had before, and whether
+/// A disk after a command that may have been stopped: how many changes it had before, and whether
 /// there was no stop.
 #[derive(Drop)]
-struct Delivered {
+struct Left {
     disk: MemDisk,
     start: u64,
     done: bool,
 }
 
-/// Delivers a message to an archive without any, over a disk that stops after this many calls. `None`
-/// if the answer is wrong.
-fn delivered_to_none(alloc: Global, passes: u64) -> Option<Delivered> {
-    let made = with_archive(alloc)?;
-    let start = made.moments();
-    let (disk, done) = try_delivery(alloc, made, passes)?;
-    Some(Delivered { disk, start, done })
+/// Checks each image since the start of a command; at the last moment it is done, if it was answered
+/// so.
+fn check_since(
+    rt: &impl Abort,
+    alloc: Global,
+    left: &Left,
+    command: &Stopped<'_>,
+) -> Result<(), NoMemory> {
+    let end = left.disk.moments();
+    for at in left.start..=end {
+        let done = left.done && at == end;
+        check_moment(rt, alloc, &left.disk, at, command, done)?;
+    }
+    Ok(())
 }
 
-/// Delivers a message to an archive without any, over a disk that stops after this many calls, and
-/// checks each image since. Returns whether there was no stop.
-fn deliver_stopped(rt: &impl Abort, alloc: Global, passes: u64) -> Result<bool, Fail> {
-    let delivered = delivered_to_none(alloc, passes).ok_or("a wrong answer")?;
-    check_since(rt, alloc, &delivered.disk, delivered.start, delivered.done)?;
-    Ok(delivered.done)
+/// Returns whether a command ends with this status and this line: it is done, or the disk failed.
+fn ends_so(status: u8, printed: &[u8], command: &Stopped<'_>) -> bool {
+    match status {
+        0 => printed == command.run.printed,
+        4 => printed == b"10 disk fault\n".as_slice(),
+        _ => false,
+    }
+}
+
+/// Runs a command over a disk that stops after this many calls. `None` if the answer is wrong.
+fn run_stopped(alloc: Global, disk: MemDisk, command: &Stopped<'_>, passes: u64) -> Option<Left> {
+    let start = disk.moments();
+    let fuse = FuseDisk::new(disk, passes);
+    let (status, fuse, sink) = ran_on(alloc, fuse, command.run.words, command.run.input)?;
+    if ends_so(status, sink.taken(), command) {
+        Some(Left {
+            disk: fuse.into_inner(),
+            start,
+            done: status == 0,
+        })
+    } else {
+        None
+    }
+}
+
+/// Runs a command over a disk that stops after this many calls, and checks each image since. Returns
+/// whether there was no stop.
+fn is_done_or_not(
+    rt: &impl Abort,
+    alloc: Global,
+    disk: Option<MemDisk>,
+    command: &Stopped<'_>,
+    passes: u64,
+) -> Result<bool, Fail> {
+    let disk = disk.ok_or("no disk to begin with")?;
+    let left = run_stopped(alloc, disk, command, passes).ok_or("a wrong answer")?;
+    check_since(rt, alloc, &left, command)?;
+    Ok(left.done)
 }
 
 #[test]
-fn a_stopped_delivery_is_done_or_not(rt: HostRuntime) -> Result<(), Fail> {
-    for passes in 0..ENOUGH {
-        if deliver_stopped(&rt, rt.alloc(), passes)? {
-            assert!(rt; passes > 5);
+fn a_delivery_that_is_stopped_early_is_done_or_not(rt: HostRuntime) -> Result<(), Fail> {
+    for passes in 0..LATE {
+        let made = with_archive(rt.alloc());
+        let done = is_done_or_not(&rt, rt.alloc(), made, &DELIVERY, passes)?;
+        assert!(rt; !done);
+    }
+    Ok(())
+}
+
+#[test]
+fn a_delivery_that_is_stopped_late_is_done_or_not(rt: HostRuntime) -> Result<(), Fail> {
+    for passes in LATE..ENOUGH {
+        let made = with_archive(rt.alloc());
+        if is_done_or_not(&rt, rt.alloc(), made, &DELIVERY, passes)? {
+            return Ok(());
+        }
+    }
+    Ok(assert!(rt; false, "no run without a stop"))
+}
+
+/// Makes an archive with one message on a new disk.
+fn with_message(alloc: Global) -> Option<MemDisk> {
+    printing_all(alloc, empty(alloc), &[MADE, DELIVERED])
+}
+
+#[test]
+fn a_removal_that_is_stopped_early_is_done_or_not(rt: HostRuntime) -> Result<(), Fail> {
+    for passes in 0..LATE {
+        let filled = with_message(rt.alloc());
+        let done = is_done_or_not(&rt, rt.alloc(), filled, &REMOVAL, passes)?;
+        assert!(rt; !done);
+    }
+    Ok(())
+}
+
+#[test]
+fn a_removal_that_is_stopped_late_is_done_or_not(rt: HostRuntime) -> Result<(), Fail> {
+    for passes in LATE..ENOUGH {
+        let filled = with_message(rt.alloc());
+        if is_done_or_not(&rt, rt.alloc(), filled, &REMOVAL, passes)? {
             return Ok(());
         }
     }

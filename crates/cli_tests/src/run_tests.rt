@@ -159,6 +159,7 @@ fn asked(words: &[&str]) -> &'static str {
         Some(Job::Replay { config: _ }) => "replay",
         Some(Job::Init { config: _ }) => "init",
         Some(Job::Deliver) => "deliver",
+        Some(Job::Remove { number: _ }) => "remove",
         Some(Job::Check) => "check",
     }
 }
@@ -171,7 +172,7 @@ struct Request<'a> {
 }
 
 /// Words in the grammar.
-const JOBS: [Request<'_>; 8] = [
+const JOBS: [Request<'_>; 10] = [
     Request {
         words: &["--help"],
         job: "help",
@@ -187,6 +188,14 @@ const JOBS: [Request<'_>; 8] = [
     Request {
         words: &["check"],
         job: "check",
+    },
+    Request {
+        words: &["remove", "1"],
+        job: "remove",
+    },
+    Request {
+        words: &["remove", "2147483647"],
+        job: "remove",
     },
     Request {
         words: &["replay", "list"],
@@ -270,6 +279,45 @@ fn words_that_ask_for_no_archive(rt: HostRuntime) {
     for words in &NO_ARCHIVES {
         assert!(rt; asked(words) == "none");
     }
+}
+
+/// Words that start with `remove` and are not in the grammar: without a number, with one out of range
+/// or out of form, or with more words.
+const NO_REMOVALS: [&[&str]; 12] = [
+    &["remove"],
+    &["remove", ""],
+    &["remove", "0"],
+    &["remove", "01"],
+    &["remove", "+1"],
+    &["remove", "1 "],
+    &["remove", "x"],
+    &["remove", "2147483648"],
+    &["remove", "18446744073709551617"],
+    &["remove", "1", "2"],
+    &["remove", "list", "max=1"],
+    &["Remove", "1"],
+];
+
+#[test]
+fn words_that_ask_for_no_removal(rt: HostRuntime) {
+    for words in &NO_REMOVALS {
+        assert!(rt; asked(words) == "none");
+    }
+}
+
+/// Returns the number whose removal words ask for.
+fn number_of(words: &[&str]) -> Option<u32> {
+    match read_words(words)? {
+        Job::Remove { number } => Some(number),
+        _ => None,
+    }
+}
+
+#[test]
+fn numbers_that_words_ask_to_remove(rt: HostRuntime) {
+    assert!(rt; number_of(&["remove", "1"]) == Some(1));
+    assert!(rt; number_of(&["remove", "10"]) == Some(10));
+    assert!(rt; number_of(&["remove", "2147483647"]) == Some(2_147_483_647));
 }
 
 /// Returns the settings of the archive that words ask for.

@@ -1,5 +1,5 @@
 -- The facts of a row, by what the calls below give.
-use Rattle.std.proofs.Common.{◌≡◌, ℕ, List, [], Option, Some, None, arith, FitsSigned, w16, refl, sym, ap, ◌∙◌}
+use Rattle.std.proofs.Common.{◌≡◌, ℕ, List, [], Option, Some, None, arith, FitsSigned, w16, refl, sym, ap}
 use Rattle.std.specs.Prelude.{ℤ, option_map, length}
 use Rattle.std.proofs.lemmas.Int.{ints}
 use Rattle.std.proofs.lemmas.Option.{same_Some, none-some}

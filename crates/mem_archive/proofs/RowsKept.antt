@@ -1,5 +1,5 @@
 -- The rows of the archive in memory after one more entry.
-use Rattle.std.specs.Prelude.{◌≡◌, ◌==◌, ◌+◌, ◌<◌, ◌≤◌, ℕ, Bool, true, false, List, [], ◌∷◌, ◌++◌, length, Option, Some, None, is_some, option_copied, refl, if◌then◌else◌}
+use Rattle.std.specs.Prelude.{◌≡◌, ◌==◌, ◌+◌, ◌<◌, ℕ, Bool, true, false, List, [], ◌∷◌, ◌++◌, length, Option, Some, None, is_some, option_copied, refl, if◌then◌else◌}
 use Rattle.std.specs.List.{AllByRecursion}
 use Rattle.std.specs.BTreeMap.{insert_entry}
 use Rattle.std.specs.Ordering.{nat_cmp}
@@ -17,7 +17,6 @@ use Rattle.arch_model.proofs.LiveEntries.{live-message, live-deletion, live-all}
 use Rattle.arch_model.proofs.ValidArchives.{all_weaker}
 use Rattle.arch_judge.specs.Indexes.{HasSame}
 use Rattle.arch_judge.specs.declared.index.Index.{Index}
-use Rattle.arch_judge.specs.declared.index.Owner.{Owner}
 use Rattle.arch_judge.proofs.Endings.{Ascend, live-ascend}
 use Rattle.arch_judge.proofs.Indexes.{IsIndex-same}
 use Rattle.overview_index.specs.Listings.{row_in, with_row, without}

@@ -19,11 +19,6 @@ unfolding moment_text year_at
 year-printed moment text one within printed =
     rw (moment-printed moment text one within printed) (year-read (date_at moment).year (date_shown moment within).valid.day.year.1)
 
--- The year of a moment has four digits.
-pub year-bound : (moment : ℕ) → moment ≤ last_second → (1970 ≤ year_at moment) × (year_at moment ≤ 9999)
-unfolding year_at
-year-bound moment within = (date_shown moment within).valid.day.year
-
 -- What DATE says, by the printed moment.
 pub words-printed : (moment : ℕ) (text : List ℕ) → PrintedDateIsOne → moment ≤ last_second → PrintsUtc rfc3339_text moment text
     → 49 ∷ 49 ∷ 49 ∷ 32 ∷ get_or text 0 0 ∷ get_or text 1 0 ∷ get_or text 2 0 ∷ get_or text 3 0 ∷ get_or text 5 0 ∷ get_or text 6 0 ∷ get_or text 8 0 ∷ get_or text 9 0 ∷ get_or text 11 0 ∷ get_or text 12 0 ∷ get_or text 14 0 ∷ get_or text 15 0 ∷ get_or text 17 0 ∷ get_or text 18 0 ∷ 13 ∷ 10 ∷ [] ≡ date_words moment

@@ -6,13 +6,13 @@ use Rattle.edge_io.specs.Phrases.{Says}
 use Rattle.edge_io.specs.declared.sink.SinkFault.{SinkFault}
 use Rattle.edge_io.proofs.Wording.{take-first}
 use Rattle.line_door.specs.Acts.{Outside, Said, Way, Plain, Memory, Disk, Newer, WayCause, SaidShort, Acts, held_if}
-use Rattle.line_door.specs.Making.{says, streams}
+use Rattle.line_door.specs.Making.{streams}
 use Rattle.line_door.proofs.Acting.{acts-by_held, acts-by_says}
 use Rattle.line_door.proofs.Streaming.{acts-short}
 use Rattle.arch_model.specs.Archives.{Entry, Archive, live, text_of}
 use Rattle.nntp_words.specs.declared.numbers.Range.{Range}
 use Rattle.wire_replies.specs.Blocks.{block_end}
-use Rattle.wire_replies.proofs.Wording.{SoFar, sofar-none, sofar-lost, Waits-then, Waits-flushed}
+use Rattle.wire_replies.proofs.Wording.{SoFar, sofar-lost, Waits-then, Waits-flushed}
 use Rattle.nntp_reader.specs.Choices.{number_or, range_start}
 use Rattle.nntp_reader.specs.Commands.{Headers, Field, Within}
 use Rattle.nntp_reader.specs.Door.{reader, said_to, range_said}
@@ -20,8 +20,7 @@ use Rattle.nntp_reader.specs.Numbers.{live_in, first_of}
 use Rattle.nntp_reader.specs.declared.group.Group.TheVariants as group
 use Rattle.nntp_reader.specs.declared.notice.Notice.TheVariants as notice
 use Rattle.nntp_reader.specs.Headers.{field_at, field_lines, fields_block}
-use Rattle.nntp_reader.specs.Notices.{memory_line, disk_line}
-use Rattle.nntp_reader.specs.Sessions.{SaysUnread, IsValue, start_if}
+use Rattle.nntp_reader.specs.Sessions.{IsValue, start_if}
 use Rattle.nntp_reader.specs.declared.field.Value.TheVariants as value
 use Rattle.nntp_reader.proofs.Replying.{Waits-ended}
 use Rattle.nntp_reader.proofs.Walking.{fields-rest, fields-none}
@@ -80,10 +79,6 @@ left-value name entries begun at last n is =
     ∙ ap (λ (x : List ℕ). start_if (not begun) ++ x) (append_assoc (field_at name entries n) (field_lines name entries (n + 1) last) block_end)
     ∙ sym (append_assoc (start_if (not begun)) (field_at name entries n) (field_lines name entries (n + 1) last ++ block_end))
 
--- The reply begins with nothing.
-pub begun-none : (name : List ℕ) (entries : List Entry) (range : Range) (i : Outside) → Begun name entries range false range.first i [] i
-begun-none name entries range i = record { so_far = sofar-none (fields_block name entries range.first range.last) [] i.out i.lost; some = λ h. absurd (cc h); none = λ h. (refl, refl, refl); kept = refl }
-
 -- There is always something left.
 left-some : (name : List ℕ) (entries : List Entry) (begun : Bool) (at last : ℕ) → 0 < length (fields_left name entries begun at last)
 left-some name entries begun at last = omega (arith, length-append (start_if (not begun)) (field_lines name entries at last ++ block_end), length-append (field_lines name entries at last) block_end)
@@ -128,11 +123,6 @@ module _ (a : Archive) (g : Group) (name : List ℕ) (range : Range) (rest : Lis
   range-lost i j fault kept said =
       acts-by_says (range_said a g name range rest) Plain (streams a (reader g rest) (fields_block name (live a.entries) range.first range.last)) i j None a (Err fault) refl kept (omega (arith, kept)) said refl refl
 
-  -- The first text was not read, and it was said why.
-  pub range-unread : (i j : Outside) (sent : Result Unit SinkFault) → SaysUnread i sent j → Acts (range_said a g name range rest) i (held_if (is_ok sent) (reader g rest)) a j
-  range-unread i j sent (inl disk) = acts-by_held (range_said a g name range rest) Disk (says a (reader g rest) disk_line) i j (reader g rest) a sent refl refl disk.0 disk.1 disk.2 refl
-  range-unread i j sent (inr memory) = acts-by_held (range_said a g name range rest) Memory (says a (reader g rest) memory_line) i j (reader g rest) a sent refl refl memory.0 (omega (arith, memory.0)) memory.1 refl
-
   -- A later text was not read, and the reply stops.
   pub range-stopped : (at : ℕ) (begun : Bool) (i k : Outside) (front : List ℕ) (sent : Result Unit SinkFault) → fields_block name (live a.entries) range.first range.last ≡ front ++ fields_left name (live a.entries) begun at range.last → 0 < length front
       → Rose i.disk k.disk ⊎ (k.disk ≡ i.disk) → i.disk ≤ k.disk → Says front i.out i.lost k.out k.lost sent → Acts (range_said a g name range rest) i None a k
@@ -144,17 +134,6 @@ module _ (a : Archive) (g : Group) (name : List ℕ) (range : Range) (rest : Lis
 cause-on : (first before now last : ℕ) → before ≡ first → last ≡ now → Rose before now ⊎ (now ≡ before) → Rose first last ⊎ (last ≡ first)
 cause-on first before now last kept same (inl rose) = let more : Rose first last = omega (arith, kept, same, rose) in inl more
 cause-on first before now last kept same (inr stayed) = inr (same ∙ stayed ∙ kept)
-
--- It was said why a text was not read, after nothing was said.
-unread-from : (i j k : Outside) (sent : Result Unit SinkFault) → j.out ≡ i.out → j.disk ≡ i.disk → j.lost ≡ i.lost → SaysUnread j sent k → SaysUnread i sent k
-unread-from i j k sent out disk lost (inl failed) =
-    let rose : Rose i.disk k.disk = subst (λ (d : ℕ). Rose d k.disk) disk failed.0 in
-    let later : i.disk ≤ k.disk = subst (λ (d : ℕ). d ≤ k.disk) disk failed.1 in
-    let said : Says disk_line i.out i.lost k.out k.lost sent = subst (λ (o : Option (List ℕ)). Says disk_line o i.lost k.out k.lost sent) out (subst (λ (l : ℕ). Says disk_line j.out l k.out k.lost sent) lost failed.2) in
-    inl (rose, later, said)
-unread-from i j k sent out disk lost (inr none) =
-    let said : Says memory_line i.out i.lost k.out k.lost sent = subst (λ (o : Option (List ℕ)). Says memory_line o i.lost k.out k.lost sent) out (subst (λ (l : ℕ). Says memory_line j.out l k.out k.lost sent) lost none.1) in
-    inr (none.0 ∙ disk, said)
 
 -- After the last value the end is left.
 left-none : (name : List ℕ) (entries : List Entry) (begun : Bool) (at first last : ℕ) → is_some (first_of (live_in entries first last)) ≡ true → first_of (live_in entries at last) ≡ None → (begun ≡ false → at ≡ first) → fields_left name entries begun at last ≡ block_end
@@ -181,12 +160,6 @@ module _ (a : Archive) (g : Group) (name : List ℕ) (range : Range) (rest : Lis
       range-stopped a g name range rest at begun i m before.so_far.front sent before.so_far.joined (before.some short.0)
       (cause-on i.disk j.disk k.disk m.disk before.kept same short.5) (let later = short.4 in omega (arith, before.kept, same))
       (Waits-flushed before.so_far.front [] waiting i.out j.out m.out i.lost j.lost m.lost tt sent before.so_far.waits on)
-
-  -- The first text was not read, and it was said why.
-  pub begun-unread : (n : ℕ) (new : List ℕ) (k : Outside) (sent : Result Unit SinkFault) → IsValue name n begun (text_of (live a.entries) n) waiting j (value.Unread sent) new k → Acts (range_said a g name range rest) i (held_if (is_ok sent) (reader g rest)) a k
-  begun-unread n new k sent unread =
-      let none = before.none unread.0 in
-      range-unread a g name range rest i k sent (unread-from i j k sent none.1 before.kept none.2 unread.2)
 
   -- All values were appended, and the reply ends.
   pub begun-all : (k : Outside) (sent : Result Unit SinkFault) → is_some (first_of (live_in (live a.entries) range.first range.last)) ≡ true → first_of (live_in (live a.entries) at range.last) ≡ None → k.disk ≡ j.disk → Says (waiting ++ block_end) j.out j.lost k.out k.lost sent

@@ -84,9 +84,6 @@ line-held held bytes piece part n is passage front =
 pub line-part : (bytes line rest : List ℕ) → skipping_front longest_line bytes ≡ Taken line rest → skipping_front longest_line line ≡ Unended
 line-part bytes line rest is = (skipping_laws.unended longest_line line).1 (taken-is_line longest_line bytes line rest is).single
 
-pub line-short : (bytes held part rest : List ℕ) → skipping_front longest_line bytes ≡ Taken (held ++ part) rest → length held + length part < longest_line
-line-short bytes held part rest is = let short = (taken-is_line longest_line bytes (held ++ part) rest is).short in omega (arith, short, length-append held part)
-
 -- All of a short line is held.
 pub line-whole : (held line : List ℕ) → length held + length line < longest_line → held_of longest_line (held ++ line) ≡ held ++ line
 line-whole held line short = take_all longest_line (held ++ line) (omega (arith, short, length-append held line))

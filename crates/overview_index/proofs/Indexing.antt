@@ -1,18 +1,16 @@
 -- The orders of rows, after one row more or less.
-use Rattle.std.proofs.Common.{◌≡◌, ℕ, Bool, true, false, List, [], ◌∷◌, Option, Some, None, refl, sym, ap, ◌∙◌, subst, if◌then◌else◌}
+use Rattle.std.proofs.Common.{◌≡◌, ℕ, false, List, [], Some, None, refl, sym, ap, ◌∙◌}
 use Rattle.std.specs.List.{AllByRecursion, list_any}
 use Rattle.std.specs.List.Sorted.{IsStrictlySortedBy}
 use Rattle.std.specs.Ordering.{nat_cmp}
 use Rattle.std.specs.Map.{keys_of, lookup}
 use Rattle.std.specs.Global.{Vec}
 use Rattle.std.specs.Cmp.Lexicographic.{slice_cmp}
-use Rattle.std.specs.BTreeMap.{is_at, insert_entry}
-use Rattle.std.specs.BTreeSet.{insert_key}
+use Rattle.std.specs.BTreeMap.{is_at}
 use Rattle.std.specs.Set.{remove_key}
-use Rattle.std.specs.Str.{bytes_eq}
 use Rattle.mail_forms.specs.declared.row.Row.{Row}
-use Rattle.overview_index.specs.Listings.{row_in, number_of, with_row, without, spot_of, spot_cmp, spots}
-use Rattle.overview_index.specs.Views.{number_in, AreViews, Adds, Loses, IsSame}
+use Rattle.overview_index.specs.Listings.{row_in, number_of, with_row, without, spot_of, spot_cmp}
+use Rattle.overview_index.specs.Views.{AreViews, Adds, Loses, IsSame}
 use Rattle.overview_index.specs.declared.spot.Spot.{Spot}
 use Rattle.overview_index.specs.declared.views.Views.{Views}
 use Rattle.overview_index.proofs.RowLists.{all-insert, all-remove, all-found, differ-insert, differ-remove, keys-insert, keys-remove, number-insert, number-remove, absent_number}

@@ -1,11 +1,10 @@
-use Rattle.std.proofs.Common.{[], inl, refl, subst}
+use Rattle.std.proofs.Common.{inl, refl, subst}
 use Rattle.disk_model.specs.Moments.{started, weaker}
 use Rattle.arch_base.specs.declared.config.Config.{Config}
 use Rattle.arch_model.specs.Archives.{empty_archive}
 use Rattle.disk_model.specs.Disk.{LeavesOnly}
 use Rattle.epoch_store.specs.First.{MakingLeaves}
-use Rattle.archive_cli.specs.Program.{InitLeaves}
-use Rattle.archive_cli.specs.declared.words.Job.TheVariants.{Init}
+use Rattle.archive_cli.specs.Program.{InitActs, InitLeaves}
 use Rattle.archive_cli.proofs.Leaving.{init-first}
 use Rattle.archive_cli.proofs.Printed.{outcome-due}
 use Rattle.archive_cli.proofs.program.init.Goals as goal
@@ -26,4 +25,4 @@ returns-clause-any_moment g c =
 
 pub returns-clause-ends : goal.returns-clause-ends
 returns-clause-ends g c =
-    inl (outcome-due (Init c.args.config) [] _ _ _ c.make-outcome.result.0 (record { moment = c.in-Ok.moment; first = c.in-Ok.ensures.first; acts = rw c.config_at-config.ensures.at at c.make-outcome.ensures.made; fault = c.make-outcome.ensures.cause.failed; input_kept = refl; clock_kept = c.in-Ok.ensures.cause.kept; disk_kept = c.make-outcome.ensures.cause.kept }) c.print_outcome.ensures.printed)
+    inl (outcome-due (InitActs c.args.config) _ _ _ c.make-outcome.result.0 (record { moment = c.in-Ok.moment; first = c.in-Ok.ensures.first; acts = rw c.config_at-config.ensures.at at c.make-outcome.ensures.made; fault = c.make-outcome.ensures.cause.failed; input_kept = refl; clock_kept = c.in-Ok.ensures.cause.kept; disk_kept = c.make-outcome.ensures.cause.kept }) c.print_outcome.ensures.printed)

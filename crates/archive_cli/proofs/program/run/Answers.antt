@@ -1,13 +1,14 @@
-use Rattle.std.proofs.Common.{Some, None, codes, refl, []}
+use Rattle.std.proofs.Common.{Some, None, codes, refl, ℕ, subst}
 use Rattle.disk_model.specs.Moments.{weaker}
 use Rattle.answer_lines.specs.Lines.{whole_line}
-use Rattle.archive_cli.specs.Program.{InitLeaves, WordsLeave}
+use Rattle.archive_cli.specs.DiskCommands.{removing}
+use Rattle.archive_cli.specs.Program.{CommandActs, InitActs, InitLeaves, RunLeaves, RunLeavesAmong, WordsLeave}
 use Rattle.archive_cli.specs.Words.{spelled}
-use Rattle.archive_cli.specs.declared.words.Job.TheVariants.{Help, Version, Init, Deliver}
+use Rattle.archive_cli.specs.declared.words.Job.TheVariants.{Help, Version, Init, Deliver, Remove}
 use Rattle.archive_cli.specs.declared.status.Status.TheVariants as exit
 use Rattle.archive_cli.specs.declared.texts.TheConstants.{HELP, VERSION}
-use Rattle.archive_cli.proofs.Grammar.{replay-config, init-config}
-use Rattle.archive_cli.proofs.Printed.{ran-exactly, ran-replayed, ran-made, ran-delivered, ran-checked, job-moved, some-moment}
+use Rattle.archive_cli.proofs.Grammar.{replay-config, init-config, same_number}
+use Rattle.archive_cli.proofs.Printed.{ran-exactly, ran-replayed, ran-made, ran-delivered, ran-removed, ran-checked, job-moved, some-moment}
 use Rattle.archive_cli.proofs.program.run.Goals as goal
 
 pub returns-in-None-clause-ends : goal.returns-in-None-clause-ends
@@ -34,7 +35,7 @@ returns-in-Some-Init-clause-ends g c = (
   c.init-status.result.0,
   c.code-in-Some-Init.ensures,
   ran-made (spelled c.args.words.now) c.in-Some-Init.config _ _ _ (rw c.in-Some-Init.field-0-is at c.in-Some-Init.ensures)
-      (job-moved (Init c.in-Some-Init.config) [] c.init-status.result.0 _ _ _ _ _ _ _ _ _ _ _ _ _ _ _ _ refl c.init-status.ensures.ends),
+      (job-moved (InitActs c.in-Some-Init.config) c.init-status.result.0 _ _ _ _ _ _ _ _ _ _ _ _ _ _ _ _ refl c.init-status.ensures.ends),
 )
 
 pub returns-in-Some-Deliver-clause-ends : goal.returns-in-Some-Deliver-clause-ends
@@ -67,7 +68,7 @@ returns-in-Some-Check-clause-ends g c =
       c.print_outcome.result,
       c.code-in-Some-Check.ensures,
       ran-checked (spelled c.args.words.now) _ _ _ c.check-outcome.result.0 (rw c.in-Some-Check.field-0-is at c.in-Some-Check.ensures)
-          (λ input. record { moment = some.0; first = some.1; acts = record { kind = c.check-outcome.ensures.kind; done = c.check-outcome.ensures.done; stands = c.check-outcome.ensures.stands; answer = c.check-outcome.ensures.answer; unopened = c.check-outcome.ensures.unopened }; fault = c.check-outcome.ensures.cause.failed; input_kept = refl; clock_kept = refl; disk_kept = c.check-outcome.ensures.cause.kept }) c.print_outcome.ensures.printed,
+          (record { moment = some.0; first = some.1; acts = record { kind = c.check-outcome.ensures.kind; done = c.check-outcome.ensures.done; stands = c.check-outcome.ensures.stands; answer = c.check-outcome.ensures.answer; unopened = c.check-outcome.ensures.unopened }; fault = c.check-outcome.ensures.cause.failed; input_kept = refl; clock_kept = refl; disk_kept = c.check-outcome.ensures.cause.kept }) c.print_outcome.ensures.printed,
     )
 
 pub returns-in-Some-Check-clause-check : goal.returns-in-Some-Check-clause-check
@@ -78,3 +79,29 @@ returns-in-None-clause-among g c = λ may asked all. absurd (c.in-None.ensures D
 
 pub returns-in-Some-Deliver-clause-among : goal.returns-in-Some-Deliver-clause-among
 returns-in-Some-Deliver-clause-among g c = λ may asked all. c.deliver_input-status.ensures.among may all
+
+pub returns-in-Some-Remove-clause-ends : goal.returns-in-Some-Remove-clause-ends
+returns-in-Some-Remove-clause-ends g c = (
+  c.carry_out-status.result.0,
+  c.code-in-Some-Remove.ensures,
+  ran-removed (spelled c.args.words.now) c.in-Some-Remove.number _ _ _ (rw c.in-Some-Remove.field-0-is at c.in-Some-Remove.ensures)
+      (job-moved (CommandActs (removing c.in-Some-Remove.number)) c.carry_out-status.result.0 _ _ _ _ _ _ _ _ _ _ _ _ _ _ _ _ refl c.carry_out-status.ensures.ends),
+)
+
+pub returns-in-None-clause-remove : goal.returns-in-None-clause-remove
+returns-in-None-clause-remove g c = λ s number asked all. absurd (c.in-None.ensures (Remove number) asked)
+
+pub returns-in-Some-Remove-clause-remove : goal.returns-in-Some-Remove-clause-remove
+returns-in-Some-Remove-clause-remove g c = λ s number asked all.
+    let coming = g.C.Clock.coming c.args.clock.now in
+    let same = same_number (spelled c.args.words.now) c.in-Some-Remove.number number (rw c.in-Some-Remove.field-0-is at c.in-Some-Remove.ensures) asked in
+    subst (λ (n : ℕ). RunLeaves g.D.Disk.content g.D.Disk.moment g.D.Disk.left_since c.args.disk c.carry_out-status.result.1 s coming (removing n)) same (c.carry_out-status.ensures.any_moment s all)
+
+pub returns-in-None-clause-remove_among : goal.returns-in-None-clause-remove_among
+returns-in-None-clause-remove_among g c = λ may number asked all. absurd (c.in-None.ensures (Remove number) asked)
+
+pub returns-in-Some-Remove-clause-remove_among : goal.returns-in-Some-Remove-clause-remove_among
+returns-in-Some-Remove-clause-remove_among g c = λ may number asked all.
+    let coming = g.C.Clock.coming c.args.clock.now in
+    let same = same_number (spelled c.args.words.now) c.in-Some-Remove.number number (rw c.in-Some-Remove.field-0-is at c.in-Some-Remove.ensures) asked in
+    subst (λ (n : ℕ). RunLeavesAmong g.D.Disk.content g.D.Disk.moment g.D.Disk.left_since c.args.disk c.carry_out-status.result.1 may coming (removing n)) same (c.carry_out-status.ensures.among may all)

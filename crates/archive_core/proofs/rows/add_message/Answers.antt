@@ -1,4 +1,4 @@
-use Rattle.std.proofs.Common.{◌≡◌, ◌∙◌, ℕ, List, Ok, sym, ap, subst}
+use Rattle.std.proofs.Common.{◌∙◌, ℕ, List, Ok, sym, ap, subst}
 use Rattle.git_objects.specs.Objects.{blob_id_of}
 use Rattle.arch_model.specs.Rows.{row_of}
 use Rattle.arch_model.specs.Walking.{GivesLine, GivesTextAt}

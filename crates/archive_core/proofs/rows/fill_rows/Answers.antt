@@ -1,4 +1,4 @@
-use Rattle.std.proofs.Common.{◌≡◌, ◌∙◌, ◌<◌, length, sym, ap, subst, arith, rules, []}
+use Rattle.std.proofs.Common.{◌∙◌, ◌<◌, length, sym, ap, subst, arith, rules, []}
 use Rattle.arch_model.specs.Archives.{live}
 use Rattle.arch_model.specs.Listings.{rows_of}
 use Rattle.arch_model.proofs.Shelving.{why-earlier}

@@ -1,4 +1,4 @@
-use Rattle.std.proofs.Common.{get_or, refl, arith}
+use Rattle.std.proofs.Common.{arith}
 use Rattle.overview_index.proofs.Pages.{numbers-more, numbers-end}
 use Rattle.overview_index.proofs.overview.numbers_of.Goals as goal
 

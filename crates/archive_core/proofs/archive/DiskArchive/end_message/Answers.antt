@@ -1,16 +1,12 @@
-use Rattle.std.proofs.Common.{◌≡◌, ◌+◌, ◌<◌, ◌∙◌, sym, ap, subst, false, true, List, length, Some, refl}
+use Rattle.std.proofs.Common.{◌≡◌, ◌+◌, ◌<◌, ◌∙◌, sym, ap, subst, length, refl}
 use Rattle.std.proofs.lemmas.Option.{slice_get_within}
 use Rattle.disk_model.specs.Disk.{LeavesOnly}
-use Rattle.arch_model.specs.Archives.{Archive, with_deletion}
-use Rattle.arch_model.specs.Delivery.{Done, removed, new_epoch}
+use Rattle.arch_model.specs.Archives.{Archive}
+use Rattle.arch_model.specs.Delivery.{Done}
 use Rattle.arch_model.specs.declared.answer.Answer.TheVariants as answer
-use Rattle.git_objects.specs.Objects.{blob_id_of}
 use Rattle.arch_base.specs.declared.ids.Id20.{Id20}
-use Rattle.epoch_store.specs.declared.entries.StoredEntry.{StoredEntry}
 use Rattle.epoch_store.specs.Stores.{View, IsStoreWith, RecoversEitherWith}
-use Rattle.archive_core.specs.Kept.{IndexesStored}
 use Rattle.archive_core.specs.Placing.{message_places, ends_place, PlacesRise}
-use Rattle.archive_core.specs.declared.placing.MessagePlace.{MessagePlace}
 use Rattle.archive_core.proofs.Indexes.{indexes-ended}
 use Rattle.archive_core.proofs.Removing.{named-at, removed-is, places-ended, written-back}
 use Rattle.archive_core.proofs.RisingPlaces.{rise-ended}

@@ -1,5 +1,4 @@
-use Rattle.std.proofs.Common.{◌≡◌, ◌∙◌, ap, Option, Some, slice_get}
-use Rattle.arch_model.specs.declared.line.EntryLine.{EntryLine}
+use Rattle.std.proofs.Common.{◌≡◌, ◌∙◌, ap, Some, slice_get}
 use Rattle.epoch_store.specs.Reads.{line_if}
 use Rattle.epoch_store.specs.Stores.{View}
 use Rattle.archive_core.proofs.ByBlob.{blob-line}

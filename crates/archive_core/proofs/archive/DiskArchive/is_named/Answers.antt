@@ -1,6 +1,5 @@
-use Rattle.std.proofs.Common.{◌≡◌, ◌∙◌, ap, List}
+use Rattle.std.proofs.Common.{◌≡◌, ◌∙◌, ap}
 use Rattle.epoch_store.specs.Stores.{View}
-use Rattle.epoch_store.specs.declared.entries.StoredEntry.{StoredEntry}
 use Rattle.archive_core.proofs.Removing.{named-yes, named-no}
 use Rattle.archive_core.proofs.archive.DiskArchive.is_named.Goals as goal
 

@@ -2,12 +2,12 @@ use Rattle.std.proofs.Common.{◌≡◌, ◌∙◌, ◌+◌, ◌<◌, ◌++◌, 
 use Rattle.disk_model.specs.Moments.{started}
 use Rattle.arch_model.specs.Archives.{with_entry}
 use Rattle.arch_model.specs.Delivery.{new_epoch}
-use Rattle.epoch_store.specs.Stores.{View, IsStoreWith, RecoversEitherWith, GoesOn}
-use Rattle.archive_core.specs.Kept.{IndexesStored, PutsText, IsNewTo}
+use Rattle.epoch_store.specs.Stores.{View, IsStoreWith, RecoversEitherWith}
+use Rattle.archive_core.specs.Kept.{PutsText}
 use Rattle.archive_core.specs.Placing.{message_places, PlacesRise}
 use Rattle.archive_core.specs.declared.placing.MessagePlace.{MessagePlace}
 use Rattle.archive_core.proofs.Places.{place_of}
-use Rattle.archive_core.proofs.Indexes.{indexes-again, indexes-added}
+use Rattle.archive_core.proofs.Indexes.{indexes-added}
 use Rattle.archive_core.proofs.Removing.{places-added}
 use Rattle.archive_core.proofs.Standing.{stands, pushed}
 use Rattle.archive_core.proofs.archive.DiskArchive.keep.Goals as goal

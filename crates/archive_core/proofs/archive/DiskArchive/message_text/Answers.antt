@@ -1,4 +1,4 @@
-use Rattle.std.proofs.Common.{◌≡◌, [], ◌∙◌, sym, subst, ap, List, ℕ, Ok, Err}
+use Rattle.std.proofs.Common.{sym, subst, List, ℕ, Ok}
 use Rattle.epoch_store.specs.Reads.{GivesTextOf}
 use Rattle.epoch_store.specs.Stores.{View, IsStoreWith}
 use Rattle.archive_core.proofs.ByNumber.{inside-message}

@@ -1,7 +1,6 @@
 use Rattle.std.proofs.Common.{◌≡◌, ◌∙◌, true, false, sym, ap, subst, refl, length, List, ℕ, Ok}
-use Rattle.arch_model.specs.Delivery.{delivered, delivered_kept}
 use Rattle.arch_judge.specs.Judging.{unless_same}
-use Rattle.arch_judge.specs.declared.judging.Verdict.TheVariants.{Take, Compare, Refuse}
+use Rattle.arch_judge.specs.declared.judging.Verdict.TheVariants.{Refuse}
 use Rattle.epoch_store.specs.Stores.{View}
 use Rattle.archive_core.specs.Kept.{IndexesStored}
 use Rattle.archive_core.specs.Commands.{ReadsMessage}

@@ -1,10 +1,10 @@
 use Rattle.std.proofs.Common.{◌≡◌, ◌∙◌, ◌||◌, ℕ, List, false, not, is_ok, ap, sym, subst}
 use Rattle.arch_model.specs.Keeping.{text_known}
 use Rattle.epoch_store.specs.Stores.{IsStoreWith}
-use Rattle.archive_core.specs.Engines.{Owning, needs_opening}
+use Rattle.archive_core.specs.Engines.{Owning, needs_opening, reading-same}
 use Rattle.arch_model.specs.Archives.{Archive}
 use Rattle.arch_model.specs.Delivery.{applied}
-use Rattle.archive_core.proofs.Engines.{starved-at, still-left, left-from, done-from, taken-from, answer-cause-from, steady-from}
+use Rattle.archive_core.proofs.Engines.{starved-at, still-left, left-from, done-from, taken-from, answer-cause-from, steady-from, refused-from, unmoved-from}
 use Rattle.archive_core.proofs.KeepingUp.{kept-up, followed-ready, needs-stale, on-ok, stays-ready}
 use Rattle.archive_core.proofs.Standing.{store_keeps}
 use Rattle.archive_core.proofs.engine.Engine.take.Goals as goal
@@ -72,3 +72,20 @@ pub returns-clause-unread : goal.returns-clause-unread
 returns-clause-unread g c =
     subst (λ (o : Owning g.row.D.Denot). (a : Archive) (cache : List ℕ) → IsStoreWith o.view cache a (g.D.Disk.content o.disk) → text_known a c.args.command.now ≡ false → g.D.Disk.reads c.command_keeping-answer.new.disk ≡ g.D.Disk.reads o.disk)
     c.self.view_is c.command_keeping-answer.ensures.unread
+
+pub returns-then-not-has_next_root-clause-untouched : goal.returns-then-not-has_next_root-clause-untouched
+returns-then-not-has_next_root-clause-untouched g c = reading-same g.D.Disk.content g.D.Disk.moment g.D.Disk.left_since g.met.D.Disk.counts_now g.met.D.Disk.only_now c.args.self.now
+
+pub returns-clause-untouched : goal.returns-clause-untouched
+returns-clause-untouched g c = refused-from g.D.Disk.content g.D.Disk.moment g.D.Disk.left_since g.met.D.Disk.counts_now g.met.D.Disk.only_now g.met.D.Disk.reads_fit
+    (record { disk = c.self.inside.disk; view = c.self.inside.archive; rows = c.self.inside.overview; stale = c.self.inside.stale }) c.args.self.now c.self.view_is
+    (record { disk = c.command_keeping-answer.new.disk; view = c.command_keeping-answer.new.self; rows = c.follow-followed.new.overview; stale = c.is_left_stale-self-inside.result })
+    (is_ok c.follow-followed.result) c.args.command.now c.as_slice-kept.result.now c.args.moment c.command_keeping-answer.result c.requires.ready c.is_left_stale-self-inside.ensures c.follow-followed.ensures.refused c.command_keeping-answer.ensures.taken.same
+    (λ went. on-ok c.follow-followed.result _ c.follow-followed.ensures.rows went) c.command_keeping-answer.ensures.taken.untouched
+
+pub returns-clause-unmoved : goal.returns-clause-unmoved
+returns-clause-unmoved g c = unmoved-from g.D.Disk.content g.D.Disk.moment g.D.Disk.left_since g.met.D.Disk.counts_now g.met.D.Disk.only_now g.met.D.Disk.reads_fit
+    (record { disk = c.self.inside.disk; view = c.self.inside.archive; rows = c.self.inside.overview; stale = c.self.inside.stale }) c.args.self.now c.self.view_is
+    (record { disk = c.command_keeping-answer.new.disk; view = c.command_keeping-answer.new.self; rows = c.follow-followed.new.overview; stale = c.is_left_stale-self-inside.result })
+    (is_ok c.follow-followed.result) c.args.command.now c.as_slice-kept.result.now c.args.moment c.command_keeping-answer.result c.requires.ready c.is_left_stale-self-inside.ensures c.follow-followed.ensures.refused c.command_keeping-answer.ensures.taken.same
+    (λ went. on-ok c.follow-followed.result _ c.follow-followed.ensures.rows went) c.command_keeping-answer.ensures.taken.unmoved

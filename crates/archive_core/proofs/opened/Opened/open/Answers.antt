@@ -1,4 +1,3 @@
-use Rattle.std.proofs.Common.{Ok, Err}
 use Rattle.archive_core.proofs.OpeningRows.{opened-read, unopened-read, kindly-read, cause-of}
 use Rattle.archive_core.proofs.Openings.{opened_reads}
 use Rattle.archive_core.proofs.Standing.{still_own}

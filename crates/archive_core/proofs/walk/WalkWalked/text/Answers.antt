@@ -1,5 +1,4 @@
-use Rattle.std.proofs.Common.{◌≡◌, ◌<◌, length, sym, subst, refl, arith}
-use Rattle.disk_model.specs.Disk.{Content}
+use Rattle.std.proofs.Common.{◌<◌, length, sym, subst, refl}
 use Rattle.archive_core.specs.Engines.{unchanged-is}
 use Rattle.archive_core.specs.Walks.{IsSound}
 use Rattle.archive_core.proofs.Engines.{read-cause}

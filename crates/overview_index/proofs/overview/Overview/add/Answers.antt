@@ -1,5 +1,5 @@
 use Rattle.std.proofs.Common.{◌≡◌, None, ap, ◌∙◌}
-use Rattle.overview_index.specs.Listings.{row_in, number_of, with_row, without}
+use Rattle.overview_index.specs.Listings.{row_in, number_of, without}
 use Rattle.overview_index.proofs.Indexing.{views-add, views-same, new_spot, new_number}
 use Rattle.overview_index.proofs.RowLists.{without-with}
 use Rattle.overview_index.proofs.overview.Overview.add.Goals as goal

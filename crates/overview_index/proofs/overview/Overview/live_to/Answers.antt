@@ -1,5 +1,4 @@
 use Rattle.std.proofs.Common.{sym}
-use Rattle.overview_index.specs.Listings.{row_in}
 use Rattle.overview_index.proofs.Ranges.{greatest-is}
 use Rattle.overview_index.proofs.overview.Overview.live_to.Goals as goal
 

@@ -1,25 +1,23 @@
 use Rattle.std.proofs.Common.{[], inl}
-use Rattle.arch_model.specs.Archives.{Archive}
-use Rattle.arch_model.specs.Delivery.{delivered}
 use Rattle.arch_model.specs.Standing.{one_of}
-use Rattle.archive_core.proofs.Answered.{delivery-lives}
-use Rattle.archive_cli.proofs.OnDisk.{unopened-delivers, unopened-stands, delivered-stands, delivered-leaves, delivered-answers, delivered-among, answered-cause, refused-cause}
-use Rattle.archive_cli.proofs.disk_commands.deliver.Goals as goal
+use Rattle.archive_cli.specs.DiskCommands.{taking}
+use Rattle.archive_cli.proofs.OnDisk.{unopened-takes, unopened-stands, taken-stands, taken-leaves, taken-answers, taken-among, answered-cause, refused-cause}
+use Rattle.archive_cli.proofs.disk_commands.take.Goals as goal
 
 pub returns-in-Ok-clause-any_moment : goal.returns-in-Ok-clause-any_moment
 returns-in-Ok-clause-any_moment g c = rw c.into_disk.ensures
-    (delivered-leaves g.D.Disk.content g.D.Disk.moment g.D.Disk.left_since g.met.D.Disk.counts_now g.met.D.Disk.reads_fit c.args.disk c.in-Ok.engine c.in-Ok.ensures.opened.done c.in-Ok.ensures.opened.first c.take-answer.new.self (λ (a : Archive). delivered a c.args.bytes.now c.args.moment) c.take-answer.result
+    (taken-leaves g.D.Disk.content g.D.Disk.moment g.D.Disk.left_since g.met.D.Disk.counts_now g.met.D.Disk.reads_fit c.args.disk c.in-Ok.engine c.in-Ok.ensures.opened.done c.in-Ok.ensures.opened.first c.take-answer.new.self (taking c.args.command.now c.args.moment) c.take-answer.result
     c.take-answer.ensures.done c.take-answer.ensures.any_moment)
 
 pub returns-in-Ok-clause-stands : goal.returns-in-Ok-clause-stands
 returns-in-Ok-clause-stands g c = rw c.into_disk.ensures
-    (delivered-stands g.D.Disk.content g.D.Disk.moment g.D.Disk.left_since g.met.D.Disk.counts_now g.met.D.Disk.reads_fit c.args.disk c.in-Ok.engine c.in-Ok.ensures.opened.done c.in-Ok.ensures.opened.first c.take-answer.new.self (λ (a : Archive). delivered a c.args.bytes.now c.args.moment) c.take-answer.result
+    (taken-stands g.D.Disk.content g.D.Disk.moment g.D.Disk.left_since g.met.D.Disk.counts_now g.met.D.Disk.reads_fit c.args.disk c.in-Ok.engine c.in-Ok.ensures.opened.done c.in-Ok.ensures.opened.first c.take-answer.new.self (taking c.args.command.now c.args.moment) c.take-answer.result
     c.take-answer.ensures.done c.take-answer.ensures.any_moment)
 
 pub returns-in-Ok-clause-done : goal.returns-in-Ok-clause-done
 returns-in-Ok-clause-done g c = rw c.into_disk.ensures
-    (delivered-answers g.D.Disk.content g.D.Disk.moment g.D.Disk.left_since g.met.D.Disk.counts_now g.met.D.Disk.reads_fit c.args.disk c.in-Ok.engine c.in-Ok.ensures.opened.done c.in-Ok.ensures.opened.first c.take-answer.new.self (λ (a : Archive). delivered a c.args.bytes.now c.args.moment) c.take-answer.result
-    c.take-answer.ensures.done c.take-answer.ensures.any_moment (λ a n is. delivery-lives a c.args.bytes.now c.args.moment n is))
+    (taken-answers g.D.Disk.content g.D.Disk.moment g.D.Disk.left_since g.met.D.Disk.counts_now g.met.D.Disk.reads_fit c.args.disk c.in-Ok.engine c.in-Ok.ensures.opened.done c.in-Ok.ensures.opened.first c.take-answer.new.self (taking c.args.command.now c.args.moment) c.take-answer.result
+    c.take-answer.ensures.done c.take-answer.ensures.any_moment)
 
 pub returns-in-Ok-clause-cause : goal.returns-in-Ok-clause-cause
 returns-in-Ok-clause-cause g c = rw c.into_disk.ensures
@@ -33,7 +31,7 @@ returns-in-Err-clause-any_moment g c = λ s all. inl (c.in-Err.ensures.opened.an
 
 pub returns-in-Ok-clause-among : goal.returns-in-Ok-clause-among
 returns-in-Ok-clause-among g c = rw c.into_disk.ensures
-    (λ may all. delivered-among g.D.Disk.content g.D.Disk.moment g.D.Disk.left_since g.met.D.Disk.counts_now g.met.D.Disk.reads_fit c.args.disk c.in-Ok.engine c.in-Ok.ensures.opened.done c.in-Ok.ensures.opened.first c.take-answer.new.self (λ (a : Archive). delivered a c.args.bytes.now c.args.moment) c.take-answer.result
+    (λ may all. taken-among g.D.Disk.content g.D.Disk.moment g.D.Disk.left_since g.met.D.Disk.counts_now g.met.D.Disk.reads_fit c.args.disk c.in-Ok.engine c.in-Ok.ensures.opened.done c.in-Ok.ensures.opened.first c.take-answer.new.self (taking c.args.command.now c.args.moment) c.take-answer.result
     c.take-answer.ensures.done c.take-answer.ensures.any_moment may all c.in-Ok.ensures.opened.answer)
 
 pub returns-in-Err-clause-among : goal.returns-in-Err-clause-among
@@ -44,4 +42,4 @@ returns-in-Err-clause-stands g c = λ s all. unopened-stands g.D.Disk.content g.
 
 pub returns-in-Err-clause-done : goal.returns-in-Err-clause-done
 returns-in-Err-clause-done g c = λ a reads.
-    unopened-delivers a c.args.bytes.now c.args.moment c.in-Err.field-0.why (g.D.Disk.content c.args.disk) (g.D.Disk.content c.in-Err.field-0.disk) reads (c.in-Err.ensures.opened.well a [] reads) c.in-Err.ensures.refused
+    unopened-takes a (taking c.args.command.now c.args.moment a) c.in-Err.field-0.why (g.D.Disk.content c.args.disk) (g.D.Disk.content c.in-Err.field-0.disk) reads (c.in-Err.ensures.opened.well a [] reads) c.in-Err.ensures.refused
