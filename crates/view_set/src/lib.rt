@@ -10,5 +10,5 @@ mod views;
 
 pub use laws::threads_are_the_archives;
 pub use rebuild::{Unread, rebuild};
-pub use rows::add_row;
+pub use rows::{add_if_stored, add_row};
 pub use views::Views;

@@ -1,20 +1,16 @@
 //! The views of what is walked through.
-ghost use Rattle.std.specs.Prelude.{◌≡◌, ◌+◌, ◌<◌, ℕ, [], Some, take, length, slice_get, IfOk, IfErr, OnOk, OnErr};
-ghost use Rattle.git_objects.specs.Objects.{blob_id_of};
+ghost use Rattle.std.specs.Prelude.{◌≡◌, ◌+◌, ◌<◌, ℕ, [], Some, take, length, slice_get, IfOk, IfErr, OnOk};
 ghost use Rattle.arch_model.specs.Archives.{Archive, live};
 ghost use Rattle.arch_model.specs.Listings.{rows_of};
-ghost use Rattle.arch_model.specs.Rows.{row_of as row_fact};
 ghost use Rattle.arch_model.specs.Shelves.{line_at, ReadCause, IsUndamaged};
 ghost use Rattle.arch_model.specs.Walking.{WalksOn};
-ghost use Rattle.overview_index.specs.Listings.{with_row};
 ghost use Rattle.view_set.specs.Walks.{AddsRowAt, WalkWhy, WalksUndamaged, StopsWithin};
 
-use crate::rows::add_row;
+use crate::rows::add_if_stored;
 use crate::views::Views;
 use arch_base::{Bytes, NoMemory};
 use arch_model::{EntryLine, TextRefusal, Walked};
 use git_objects::EntryKind;
-use mail_reader::is_stored;
 use std::alloc::Global;
 
 /// An entry whose text wasn't read, or for whose row or threads memory ran out.
@@ -126,29 +122,9 @@ fn add_message<W: Walked>(
     if let Err(why) = walked.text(index, &mut text) {
         return Err(why);
     }
-    match add_read(alloc, views, line, text.as_slice()) {
+    let bytes = text.as_slice();
+    match add_if_stored(alloc, views, line.number, &line.blob, bytes, line.secs) {
         Ok(()) => Ok(()),
         Err(NoMemory) => Err(TextRefusal::NoMemory),
     }
-}
-
-/// Adds the row of a message whose text was read.
-///
-/// `NoMemory` if an allocation fails, or if the text is no storage text, which the text of an
-/// archive's message is. It leaves the rows unchanged.
-fn add_read(
-    alloc: Global,
-    views: &mut Views,
-    line: &EntryLine,
-    text: &[u8],
-) -> Result<(), NoMemory>
-    requires blob { line.now.blob ≡ blob_id_of text.now }
-    ensures ok { OnOk result (views.new
-        ≡ with_row views.old (row_fact line.now.number text.now line.now.secs)) }
-    ensures err { OnErr result (views.new ≡ views.old) }
-{
-    if !is_stored(text) {
-        return Err(NoMemory);
-    }
-    add_row(alloc, views, line.number, &line.blob, text, line.secs)
 }

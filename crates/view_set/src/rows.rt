@@ -7,6 +7,7 @@ ghost use Rattle.overview_index.specs.Listings.{with_row};
 
 use crate::views::Views;
 use arch_base::{NoMemory, ObjectId};
+use mail_reader::is_stored;
 use mail_rows::row_of;
 use std::alloc::Global;
 
@@ -32,4 +33,26 @@ pub fn add_row(
         return Err(NoMemory);
     }
     views.add(row)
+}
+
+/// Adds the row of a message, as `add_row` does, if its text is a storage text, which the text of an
+/// archive's message is.
+///
+/// `NoMemory` if it is none, and wherever `add_row` gives it. It leaves the rows unchanged.
+pub fn add_if_stored(
+    alloc: Global,
+    views: &mut Views,
+    number: u32,
+    blob: &ObjectId,
+    text: &[u8],
+    moment: u64,
+) -> Result<(), NoMemory>
+    requires { blob.now ≡ blob_id_of text.now }
+    ensures ok { OnOk result (views.new ≡ with_row views.old (row_fact number text.now moment)) }
+    ensures err { OnErr result (views.new ≡ views.old) }
+{
+    if !is_stored(text) {
+        return Err(NoMemory);
+    }
+    add_row(alloc, views, number, blob, text, moment)
 }

@@ -6,13 +6,13 @@ use Rattle.overview_index.specs.Listings.{with_row}
 use Rattle.view_set.proofs.rebuild.add_message.Goals as goal
 
 -- The text that was read has the line's blob id.
-pub add_read-requires : goal.add_read-requires
-add_read-requires g c =
+pub add_if_stored-requires : goal.add_if_stored-requires
+add_if_stored-requires g c =
     let given = subst (λ (l : List ℕ). GivesLine c.args.line.now l c.text.new.into (Ok tt)) c.new-text.ensures (c.in_default.ensures.line c.args.line.now c.requires.line) in
-    record { blob = sym given.1 ∙ ap blob_id_of (sym (c.as_slice.ensures ∙ given.2)) }
+    sym given.1 ∙ ap blob_id_of (sym (c.as_slice-bytes.ensures ∙ given.2))
 
 -- It is the entry's, where an archive is held.
 pub returns-in-Ok-clause-row : goal.returns-in-Ok-clause-row
 returns-in-Ok-clause-row g c = λ a held.
     let given = subst (λ (l : List ℕ). GivesTextAt a.entries c.args.index l c.text.new.into (Ok tt)) c.new-text.ensures (c.in_default.ensures.archive a held) in
-    (given.0, given.1, c.in-Ok.ensures.ok ∙ ap (λ (t : List ℕ). with_row c.args.views.now (row_of c.args.line.now.number t c.args.line.now.secs)) (c.as_slice.ensures ∙ given.2))
+    (given.0, given.1, c.in-Ok.ensures.ok ∙ ap (λ (t : List ℕ). with_row c.args.views.now (row_of c.args.line.now.number t c.args.line.now.secs)) (c.as_slice-bytes.ensures ∙ given.2))
