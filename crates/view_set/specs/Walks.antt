@@ -6,7 +6,7 @@ use Rattle.arch_model.specs.Rows.{row_of}
 use Rattle.arch_model.specs.Shelves.{ReadingWhy, IsUndamaged}
 use Rattle.arch_model.specs.Walking.{HasTextAt}
 use Rattle.overview_index.specs.Listings.{with_row}
-use Rattle.view_set.specs.declared.rebuild.Unread.{Unread}
+use Rattle.view_set.specs.declared.rebuilding.Unread.{Unread}
 
 -- Why a text of what is walked through wasn't read, or that memory ran out.
 abbrev pub WalkWhy : {T : Type 0} → ℕ → ℕ → Result T Unread → Type 0

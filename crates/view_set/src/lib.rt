@@ -4,11 +4,11 @@
 mod counted;
 mod keys;
 mod laws;
-mod rebuild;
+mod rebuilding;
 mod rows;
 mod views;
 
 pub use laws::threads_are_the_archives;
-pub use rebuild::{Unread, rebuild};
+pub use rebuilding::{Unread, rebuild};
 pub use rows::{add_if_stored, add_row};
 pub use views::Views;

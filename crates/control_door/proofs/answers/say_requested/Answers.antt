@@ -19,7 +19,7 @@ returns-in-Removal-clause-acts g c = rw (c.in-Removal.is, c.after-in-Removal.ens
 
 pub returns-in-Thread-clause-acts : goal.returns-in-Thread-clause-acts
 returns-in-Thread-clause-acts g c = rw (c.in-Thread.is, c.after-in-Thread.ensures)
-    (answers-held g.K.Shelf.holds g.K.Shelf.ready g.K.Keep.leaves g.met.K.Keep.holds_left c.args.moment (Threads c.in-Thread.number) c.args.keep.now _ _ _ (c.say_thread.ensures.acts c.args.moment))
+    (answers-read g.K.Shelf.holds g.K.Shelf.ready g.K.Keep.leaves g.met.K.Keep.holds_left c.args.moment (Threads c.in-Thread.number) c.args.keep.now c.args.keep.now _ _ _ (g.met.K.Keep.alike_kept _ _ (g.met.K.Shelf.alike_same c.args.keep.now)) (c.say_thread.ensures.acts c.args.moment))
 
 pub returns-in-Epochs-clause-acts : goal.returns-in-Epochs-clause-acts
 returns-in-Epochs-clause-acts g c = rw (c.in-Epochs.is, c.after-in-Epochs.ensures)

@@ -3,7 +3,7 @@ use Rattle.arch_model.specs.Archives.{live}
 use Rattle.arch_model.specs.Listings.{rows_of}
 use Rattle.arch_model.proofs.Shelving.{why-earlier}
 use Rattle.view_set.proofs.Walking.{walks-same, walks-joined, take-zero, take-all, line-within}
-use Rattle.view_set.proofs.rebuild.fill.Goals as goal
+use Rattle.view_set.proofs.rebuilding.fill.Goals as goal
 
 pub loop-line-init : goal.loop-line-init
 loop-line-init g c = record {

@@ -3,7 +3,7 @@ use Rattle.git_objects.specs.Objects.{blob_id_of}
 use Rattle.arch_model.specs.Rows.{row_of}
 use Rattle.arch_model.specs.Walking.{GivesLine, GivesTextAt}
 use Rattle.overview_index.specs.Listings.{with_row}
-use Rattle.view_set.proofs.rebuild.add_message.Goals as goal
+use Rattle.view_set.proofs.rebuilding.add_message.Goals as goal
 
 -- The text that was read has the line's blob id.
 pub add_if_stored-requires : goal.add_if_stored-requires

@@ -1,6 +1,6 @@
 use Rattle.view_set.proofs.Results.{on-weaker}
 use Rattle.view_set.proofs.Walking.{rows-message, rows-deletion, walks-same}
-use Rattle.view_set.proofs.rebuild.take_line.Goals as goal
+use Rattle.view_set.proofs.rebuilding.take_line.Goals as goal
 
 pub returns-in-Message-clause-rows : goal.returns-in-Message-clause-rows
 returns-in-Message-clause-rows g c = λ a held old_is.
