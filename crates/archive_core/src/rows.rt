@@ -29,7 +29,10 @@ pub(crate) fn follow(
     match answer {
         Answer::Ok { number, id } => match command {
             Command::Deliver(_) => add_row(alloc, views, *number, id, text, moment),
-            Command::Remove(number) => views.take(*number),
+            Command::Remove(number) => {
+                views.take(*number)?;
+                Ok(())
+            }
         },
         _refused => Ok(()),
     }

@@ -1,5 +1,5 @@
 -- What the calls of a keeper mean at the control door.
-use Rattle.std.proofs.Common.{◌≡◌, ◌≤◌, ℕ, Bool, true, false, List, [], ◌++◌, drop, Option, Some, None, is_some, is_ok, Result, refl, sym, subst, arith, if◌then◌else◌}
+use Rattle.std.proofs.Common.{◌≡◌, ◌≤◌, ℕ, Bool, true, false, List, [], ◌++◌, drop, Option, Some, None, is_some, is_ok, OnOk, Result, Ok, Err, refl, sym, subst, arith, if◌then◌else◌}
 use Rattle.std.specs.List.{Contains}
 use Rattle.line_door.specs.Acts.{Outside, Plain, Memory, Disk, Acts, held_if}
 use Rattle.line_door.specs.Making.{closes}
@@ -59,6 +59,10 @@ none-found (Some text) h = absurd (cc h)
 pub some-found : (text : Option (List ℕ)) → is_some text ≡ true → (t : List ℕ) × (text ≡ Some t)
 some-found None h = absurd (cc h)
 some-found (Some text) h = (text, refl)
+
+pub on-weaker : {T E : Type 0} (r : Result T E) (P Q : Type 0) → (P → Q) → OnOk r P → OnOk r Q
+on-weaker (Ok x) P Q less holds = less holds
+on-weaker (Err e) P Q less holds = tt
 
 -- Out of memory for a tree.
 pub acts-unthreaded : (moment : ℕ) (s : Standing) (number : ℕ) (rest : List ℕ) (i j : Outside) (sent : Result Unit SinkFault) → j.disk ≡ i.disk → Says memory_word i.out i.lost j.out j.lost sent

@@ -10,7 +10,7 @@ laid-down : (twigs : List Twig) (levels depth : ℕ) (ns : List Node) (lines : L
 laid-down twigs zero depth [] lines nothing few = refl
 laid-down twigs (suc levels) depth [] lines nothing few = refl
 laid-down twigs zero depth (n ∷ ns) lines (node own rest is below after) few =
-    absurd (let long = ap length is in omega (arith, long, few))
+    absurd (let long : length lines ≡ suc (length (own ++ rest)) = ap length is in omega (arith, long, few))
 laid-down twigs (suc levels) depth (n ∷ ns) lines (node own rest is below after) few =
     let long : length lines ≡ suc (length (own ++ rest)) = ap length is in
     let parts : length (own ++ rest) ≡ length own + length rest = length-append own rest in

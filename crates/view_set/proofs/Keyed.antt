@@ -1,5 +1,5 @@
 -- Rows with their keys, and what a change of the rows makes of them.
-use Rattle.std.specs.Prelude.{◌≡◌, ℕ, Bool, true, false, List, [], ◌∷◌, ◌++◌, Result, Ok, Err, OnOk, is_ok, Option, None, refl}
+use Rattle.std.specs.Prelude.{◌≡◌, ℕ, Bool, true, false, List, [], ◌∷◌, ◌++◌, Result, Ok, Err, OnOk, OnErr, is_ok, Option, None, refl}
 use Rattle.std.specs.declared.cmp.Ordering.{Ordering}
 use Rattle.std.specs.declared.cmp.Ordering.TheVariants.{Less, Equal, Greater}
 use Rattle.std.specs.Ordering.{nat_cmp, match_ordering}
@@ -75,6 +75,15 @@ taken-back rows row n number_is none = ap (without (with_row rows row)) number_i
 pub becomes-by : {T E : Type 0} (result : Result T E) (old new : Threads) (rows : List Keyed) → old.whole ≡ true → new.whole ≡ is_ok result → OnOk result (new.rows ≡ rows) → Becomes old new rows
 becomes-by (Ok x) old new rows was is rows_are = λ whole. (was, rows_are)
 becomes-by (Err e) old new rows was is rows_are = λ whole. absurd (false≢true (sym is ∙ whole))
+
+-- Without memory it broke them.
+pub broken-by : {T E : Type 0} (result : Result T E) (whole : Bool) → whole ≡ is_ok result → OnErr result (whole ≡ false)
+broken-by (Ok x) whole is = tt
+broken-by (Err e) whole is = is
+
+-- Threads that weren't whole are left.
+pub becomes-not : (threads : Threads) (rows : List Keyed) → threads.whole ≡ false → Becomes threads threads rows
+becomes-not threads rows broken = λ whole. absurd (false≢true (sym broken ∙ whole))
 
 -- The thread of a number in an index of the rows.
 pub thread-is : (rows : List (ℕ × Row)) (threads : List Keyed) (n : ℕ) (ns : List ℕ) → threads ≡ keyed rows → ns ≡ members_of threads n → ns ≡ thread_in rows n

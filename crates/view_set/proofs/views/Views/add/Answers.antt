@@ -1,7 +1,13 @@
 use Rattle.std.proofs.Common.{◌≡◌, ◌∙◌, None, ap, refl}
-use Rattle.overview_index.specs.Listings.{row_in, without}
+use Rattle.overview_index.specs.Listings.{row_in, number_of, without}
 use Rattle.view_set.proofs.Keyed.{new-number, threaded-added, threaded-not, taken-back}
 use Rattle.view_set.proofs.views.Views.add.Goals as goal
+
+pub add-requires-clause-number : goal.add-requires-clause-number
+add-requires-clause-number c = ap (λ rs. row_in rs c.args.row.number) c.self.view_is ∙ c.requires.number
+
+pub add-requires-clause-id : goal.add-requires-clause-id
+add-requires-clause-id c = ap (λ rs. number_of rs c.args.row.id) c.self.view_is ∙ c.requires.id
 
 pub add_thread-requires : goal.add_thread-requires
 add_thread-requires c =
