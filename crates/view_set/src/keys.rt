@@ -12,7 +12,8 @@ pub(crate) fn keys_of(alloc: Global, row: &Row) -> Result<Texts, NoMemory>
 {
     let mut keys = Texts::new(alloc);
     keys.push(row.id.copy()?)?;
-    for id in row.refs.as_slice() {
+    let refs = row.refs.as_slice();
+    for id in refs {
         keys.push(id.copy()?)?;
     }
     Ok(keys)
