@@ -165,9 +165,7 @@ impl<D: Disk> Engine<D> {
         ensures { (a : Archive) → Holds D.content self.now a → result ≡ length (live a.entries) }
     {
         // There are no more messages than numbers.
-        self.views
-            .live_count(0, u32::MAX)
-            .min(u64::from(u32::MAX)) as u32
+        self.views.live_count(0, u32::MAX).min(u64::from(u32::MAX)) as u32
     }
 
     /// Carries out a command on an archive that needn't be reopened.
@@ -221,14 +219,7 @@ impl<D: Disk> Engine<D> {
             .archive
             .command_keeping(&mut self.disk, command, moment, &mut text);
         let kept = text.as_slice();
-        let followed = follow(
-            self.alloc,
-            &mut self.views,
-            command,
-            &answer,
-            kept,
-            moment,
-        );
+        let followed = follow(self.alloc, &mut self.views, command, &answer, kept, moment);
         self.stale = is_left_stale(&answer, &followed);
         answer
     }

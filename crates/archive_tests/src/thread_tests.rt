@@ -11,7 +11,9 @@ use store_tests::in_memory;
 
 /// Two mails alone, and a third that answers both and one that isn't there.
 const ALONE: &[u8] = b"Message-ID: <a@x>\n\none\n";
+
 const OTHER: &[u8] = b"Message-ID: <b@x>\n\ntwo\n";
+
 const LINK: &[u8] = b"Message-ID: <c@x>\nReferences: <g@x> <a@x> <b@x>\n\nthree\n";
 
 /// Returns whether the thread of a number has these numbers.
@@ -22,7 +24,11 @@ fn thread_is<K: Keep>(keep: &mut K, n: u32, wanted: &[u64]) -> Result<bool, Fail
 }
 
 /// Carries out a command, and returns whether it left the keeper ready.
-fn stays_ready<K: Keep>(keep: &mut K, command: &Command<'_>, moment: u64) -> Result<bool, OpenRefusal> {
+fn stays_ready<K: Keep>(
+    keep: &mut K,
+    command: &Command<'_>,
+    moment: u64,
+) -> Result<bool, OpenRefusal> {
     let _ = answer(keep, command, moment)?;
     Ok(!keep.is_stale())
 }

@@ -14,6 +14,11 @@ use Rattle.thread_tree.specs.Trees.{names_id}
 use Rattle.thread_tree.specs.declared.twigs.Twig.{Twig}
 use Rattle.shelf_trees.specs.Twigs.{with_twig, with_row, row_at, twigs_after, thread_twigs}
 
+-- No number yet.
+pub twigs-begin : (es : List Entry) (twigs : List Twig) (ns : List ℕ) → twigs ≡ [] → twigs_after es twigs (drop 0 ns) ≡ twigs_after es [] ns
+twigs-begin es twigs [] none = none
+twigs-begin es twigs (n ∷ ns) none = ap (λ (ts : List Twig). twigs_after es ts (n ∷ ns)) none
+
 -- One number more.
 pub twigs-more : (es : List Entry) (old new all : List Twig) (ns : List ℕ) (i d : ℕ) → i < length ns → new ≡ with_row old (row_at es (get_or ns i d)) → twigs_after es old (drop i ns) ≡ all → twigs_after es new (drop (i + 1) ns) ≡ all
 twigs-more es old new all ns i d below is so_far =

@@ -1,5 +1,6 @@
 //! The tree of the thread of a message, from a shelf.
 #![tactic(auto)]
+
 ghost use Rattle.std.specs.Prelude.{◌≡◌, true, OnOk, IfOk, option_copied};
 ghost use Rattle.arch_model.specs.Archives.{Archive, live};
 ghost use Rattle.shelf_trees.specs.Twigs.{twig_of, with_twig, with_row, row_at, thread_twigs};

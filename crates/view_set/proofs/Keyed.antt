@@ -22,7 +22,7 @@ keyed-insert [] n row = refl
 keyed-insert (e ∷ rows) n row = step (nat_cmp n e.0) (keyed-insert rows n row) where
   step : (o : Ordering) → keyed (insert_entry nat_cmp rows n row) ≡ insert_entry nat_cmp (keyed rows) n (keys_of row)
       → keyed (match_ordering o ((n, row) ∷ e ∷ rows) ((e.0, row) ∷ rows) (e ∷ insert_entry nat_cmp rows n row))
-        ≡ match_ordering o ((n, keys_of row) ∷ (e.0, keys_of e.1) ∷ keyed rows) ((e.0, keys_of row) ∷ keyed rows) ((e.0, keys_of e.1) ∷ insert_entry nat_cmp (keyed rows) n (keys_of row))
+      ≡ match_ordering o ((n, keys_of row) ∷ (e.0, keys_of e.1) ∷ keyed rows) ((e.0, keys_of row) ∷ keyed rows) ((e.0, keys_of e.1) ∷ insert_entry nat_cmp (keyed rows) n (keys_of row))
   step Less ih = refl
   step Equal ih = refl
   step Greater ih = ap (λ (rs : List Keyed). (e.0, keys_of e.1) ∷ rs) ih

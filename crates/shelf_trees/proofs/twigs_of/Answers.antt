@@ -1,12 +1,11 @@
-use Rattle.std.proofs.Common.{◌≡◌, ◌∙◌, [], ℕ, List, drop, ap, refl, arith}
+use Rattle.std.proofs.Common.{◌∙◌, [], arith}
 use Rattle.arch_model.specs.Archives.{live}
-use Rattle.thread_tree.specs.declared.twigs.Twig.{Twig}
 use Rattle.shelf_trees.specs.Twigs.{twigs_after}
-use Rattle.shelf_trees.proofs.Twigging.{twigs-more, twigs-all}
+use Rattle.shelf_trees.proofs.Twigging.{twigs-begin, twigs-more, twigs-all}
 use Rattle.shelf_trees.proofs.twigs_of.Goals as goal
 
 pub loop-number-init : goal.loop-number-init
-loop-number-init g c = λ a held. ap (λ (ts : List Twig). twigs_after (live a.entries) ts c.as_slice-numbers.result.now) c.new-twigs.ensures
+loop-number-init g c = λ a held. twigs-begin (live a.entries) c.new-twigs.result c.as_slice-numbers.result.now c.new-twigs.ensures
 
 pub loop-number-preserved : goal.loop-number-preserved
 loop-number-preserved g c = λ a held.
