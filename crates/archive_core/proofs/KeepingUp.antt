@@ -1,7 +1,7 @@
 -- The rows of live messages after a command.
-use Rattle.std.specs.Prelude.{◌≡◌, ◌||◌, ◌<◌, ◌+◌, ℕ, Bool, true, false, not, nat_lt, List, [], ◌∷◌, Option, Some, None, Result, Ok, Err, OnOk, is_ok, is_some, option_copied, if◌then◌else◌, refl}
+use Rattle.std.specs.Prelude.{◌≡◌, ◌||◌, ◌<◌, ◌+◌, ℕ, Bool, true, false, not, nat_lt, List, [], ◌∷◌, Option, Some, None, Result, Ok, Err, OnOk, is_ok, if◌then◌else◌, refl}
 use Rattle.std.specs.List.{AllByRecursion}
-use Rattle.std.proofs.Common.{Bor, ◌∙◌, sym, ap}
+use Rattle.std.proofs.Common.{◌∙◌, sym, ap}
 use Rattle.arch_base.specs.declared.ids.Id20.{Id20}
 use Rattle.disk_model.specs.Disk.{Content}
 use Rattle.git_objects.specs.Objects.{blob_id_of}
@@ -31,11 +31,6 @@ use Rattle.overview_index.proofs.Messages.{HasId, AllBelow, Ascends, rows-added,
 use Rattle.archive_core.specs.Commands.{DoneBy, OnRefusal, KeepsText, is_delivery, IfDelivery, OnDone}
 use Rattle.archive_core.specs.Engines.{needs_opening, RowsKeepUp}
 use Rattle.archive_core.specs.Walks.{RowsDone, RowsAfter}
-
--- What wasn't found isn't there.
-pub none-copied : {X : Type 0} (found : Option (Bor X)) (row : Option X) (t : Bool) → t ≡ is_some found → t ≡ false → option_copied found ≡ row → row ≡ None
-none-copied None row t test none is = sym is
-none-copied (Some x) row t test none is = absurd (let wrong : true ≡ false = sym test ∙ none in cc)
 
 -- A command that isn't accepted keeps the archive.
 abbrev pub KeepsUnlessOk : Archive → Done → Type 0
@@ -115,7 +110,7 @@ live-ids a valid = live-all HasId a.entries (all_weaker IsEntry HasId a.entries 
 pub live-below : (a : Archive) → IsArchive a → AllBelow a.next (live a.entries)
 live-below a valid = live-all (λ (e : Entry). e.number < a.next) a.entries valid.below
 
-pub ascends-of : (number : ℕ) (es : List Entry) → Ascend number es → Ascends number es
+ascends-of : (number : ℕ) (es : List Entry) → Ascend number es → Ascends number es
 ascends-of number [] rise = tt
 ascends-of number (e ∷ es) rise = (rise.0, ascends-of (e.number + 1) es rise.1)
 
@@ -146,10 +141,6 @@ done-rows a (Remove number) moment n id text old new valid is kept old_is new_is
 pub on-ok : {T E : Type 0} (r : Result T E) (P : Type 0) → OnOk r P → is_ok r ≡ true → P
 on-ok (Ok x) P holds ok = holds
 on-ok (Err e) P holds ok = absurd (cc)
-
-pub on-weaker : {T E : Type 0} (r : Result T E) (P Q : Type 0) → (P → Q) → OnOk r P → OnOk r Q
-on-weaker (Ok x) P Q less holds = less holds
-on-weaker (Err e) P Q less holds = tt
 
 -- An engine that is ready after a command brought its rows up.
 pub followed-ready : (needs ok : Bool) → not (needs || not ok) ≡ true → ok ≡ true

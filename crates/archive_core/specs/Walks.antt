@@ -1,14 +1,13 @@
--- The entries of a store and their texts, one after another, and the rows of the live ones.
-use Rattle.std.specs.Prelude.{◌≡◌, ◌<◌, ℕ, List, [], ◌∷◌, Option, Some, None, Result, Ok, Err}
+-- The entries of a store and their texts, one after another, and the rows of the live ones after a
+-- command.
+use Rattle.std.specs.Prelude.{◌≡◌, ℕ, List, [], ◌∷◌, Option, Some, None}
 use Rattle.std.proofs.Common.{◌∙◌, sym, subst}
 use Rattle.disk_model.specs.Disk.{Files, Content, Image, Told, Unchanged}
 use Rattle.disk_model.specs.Moments.{started, joined}
 use Rattle.mail_forms.specs.declared.row.Row.{Row}
-use Rattle.arch_model.specs.Archives.{Entry, Archive}
-use Rattle.arch_model.specs.Shelves.{ReadingWhy, IsUndamaged}
+use Rattle.arch_model.specs.Archives.{Archive}
 use Rattle.arch_model.specs.Rows.{row_of}
 use Rattle.arch_model.specs.Validity.{IsArchive}
-use Rattle.arch_model.specs.Walking.{HasTextAt}
 use Rattle.arch_model.specs.declared.answer.Answer.{Answer}
 use Rattle.arch_model.specs.declared.answer.Answer.TheVariants as answer
 use Rattle.arch_model.specs.declared.command.Command.{Command}
@@ -25,7 +24,6 @@ use Rattle.epoch_store.specs.declared.entries.StoredEntry.{StoredEntry}
 use Rattle.overview_index.specs.Listings.{with_row, without}
 use Rattle.archive_core.specs.Commands.{OnlyLooks}
 use Rattle.archive_core.specs.Engines.{unchanged-is, told-same}
-use Rattle.archive_core.specs.declared.rows.Unread.{Unread}
 
 -- The entries that are kept, without their texts.
 abbrev pub lines_kept : List StoredEntry → List EntryLine
@@ -36,26 +34,6 @@ lines_kept (s ∷ ss) = line_of s ∷ lines_kept ss
 abbrev pub IsSound : View → Option Content → Type 0
 IsSound v None = ⊥
 IsSound v (Some k) = HasTexts v k
-
--- Why a text of what is walked through wasn't read, or that memory ran out for a row.
-abbrev pub WalkWhy : {T : Type 0} → ℕ → ℕ → Result T Unread → Type 0
-WalkWhy before now (Ok rows) = now ≡ before
-WalkWhy before now (Err unread) = ReadingWhy before now unread.why
-
--- No text was damaged.
-abbrev pub WalksUndamaged : {T : Type 0} → Result T Unread → Type 0
-WalksUndamaged (Ok rows) = Unit {0}
-WalksUndamaged (Err unread) = IsUndamaged unread.why
-
--- The entry whose text wasn't read is there.
-abbrev pub StopsWithin : {T : Type 0} → ℕ → Result T Unread → Type 0
-StopsWithin count (Ok rows) = Unit {0}
-StopsWithin count (Err unread) = unread.index < count
-
--- The row of the text of the entry at an index was added, with a number and a moment.
-abbrev pub AddsRowAt : List Entry → ℕ → ℕ → ℕ → List (ℕ × Row) → List (ℕ × Row) → Type 0
-AddsRowAt entries index number moment old new =
-    (text : List ℕ) × HasTextAt entries index text × (new ≡ with_row old (row_of number text moment))
 
 -- Why an archive wasn't opened whose entry, if it is there, has a text that wasn't read.
 abbrev pub unread_opening : View → Option StoredEntry → TextRefusal → OpenRefusal

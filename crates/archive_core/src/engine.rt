@@ -27,23 +27,23 @@ use arch_base::{Bytes, Config, NoMemory, Numbers, ObjectId};
 use arch_model::{Answer, Command, EntryLine, Keep, OpenRefusal, Row, Shelf, TextRefusal};
 use disk_model::Disk;
 use epoch_store::law_of_recovery;
-use overview_index::Overview;
 use std::alloc::Global;
 use std::marker::Model;
+use view_set::Views;
 
-/// An archive that owns its disk, and keeps the rows of its live messages; implements `Shelf` and
-/// `Keep`.
+/// An archive that owns its disk, and keeps the rows and threads of its live messages; implements
+/// `Shelf` and `Keep`.
 ///
 /// The archive is stale after a command whose answer is `DiskFault`: it isn't known whether the
 /// command was done, and nothing else is answered until the archive is reopened. It is stale after
 /// the answer `Damaged` too, which a command on an archive's own disk never gives, and after an `Ok`
-/// for whose row there was no memory, where nothing is in doubt.
+/// for whose row or threads there was no memory, where nothing is in doubt.
 #[derive(Drop)]
 pub struct Engine<D: Disk> {
     alloc: Global,
     disk: D,
     archive: DiskArchive,
-    overview: Overview,
+    views: Views,
     stale: bool,
 }
 
@@ -52,7 +52,7 @@ impl<D: Disk> Model for Engine<D> {
 
     ghost Value = { Owning D };
 
-    ghost view = { λ e. record { disk = e.disk; view = e.archive; rows = e.overview; stale = e.stale } };
+    ghost view = { λ e. record { disk = e.disk; view = e.archive; rows = e.views; stale = e.stale } };
 
     ghost invariant = { λ e. SizesUnless e.stale e.archive (D.content e.disk) };
 }
@@ -82,7 +82,7 @@ impl<D: Disk> Engine<D> {
                 alloc,
                 disk,
                 archive,
-                overview: Overview::new(alloc),
+                views: Views::new(alloc),
                 stale: false,
             }),
             Err(why) => Err(NotMade { disk, why }),
@@ -112,11 +112,11 @@ impl<D: Disk> Engine<D> {
     {
         let mut disk = disk;
         match Opened::open(alloc, &mut disk) {
-            Ok(Opened { archive, overview }) => Ok(Engine {
+            Ok(Opened { archive, views }) => Ok(Engine {
                 alloc,
                 disk,
                 archive,
-                overview,
+                views,
                 stale: false,
             }),
             Err(why) => Err(NotOpened { disk, why }),
@@ -131,7 +131,7 @@ impl<D: Disk> Engine<D> {
             alloc: _,
             disk,
             archive: _,
-            overview: _,
+            views: _,
             stale: _,
         } = self;
         disk
@@ -165,16 +165,14 @@ impl<D: Disk> Engine<D> {
         ensures { (a : Archive) → Holds D.content self.now a → result ≡ length (live a.entries) }
     {
         // There are no more messages than numbers.
-        self.overview
-            .live_count(0, u32::MAX)
-            .min(u64::from(u32::MAX)) as u32
+        self.views.live_count(0, u32::MAX).min(u64::from(u32::MAX)) as u32
     }
 
     /// Carries out a command on an archive that needn't be reopened.
     ///
     /// The archive has to be reopened after the answers `DiskFault` and `Damaged`, and after an `Ok`
-    /// for whose row there was no memory: then nothing is in doubt. It needn't be after any other
-    /// answer. `Damaged` never comes while an archive is held.
+    /// for whose row or threads there was no memory: then nothing is in doubt. It needn't be after any
+    /// other answer. `Damaged` never comes while an archive is held.
     pub fn take(&mut self, command: &Command<'_>, moment: u64) -> Answer
         requires ready { self.old.stale ≡ false }
         requires moment { moment ≤ last_moment }
@@ -221,14 +219,7 @@ impl<D: Disk> Engine<D> {
             .archive
             .command_keeping(&mut self.disk, command, moment, &mut text);
         let kept = text.as_slice();
-        let followed = follow(
-            self.alloc,
-            &mut self.overview,
-            command,
-            &answer,
-            kept,
-            moment,
-        );
+        let followed = follow(self.alloc, &mut self.views, command, &answer, kept, moment);
         self.stale = is_left_stale(&answer, &followed);
         answer
     }
@@ -254,27 +245,31 @@ impl<D: Disk> Shelf for Engine<D> {
     }
 
     fn row(&self, n: u32) -> Option<&Row> {
-        self.overview.get(n)
+        self.views.get(n)
     }
 
     fn by_id(&self, id: &[u8]) -> Option<u32> {
-        self.overview.by_id(id)
+        self.views.by_id(id)
     }
 
     fn live_from(&self, n: u32) -> Option<u32> {
-        self.overview.live_from(n)
+        self.views.live_from(n)
     }
 
     fn live_to(&self, n: u32) -> Option<u32> {
-        self.overview.live_to(n)
+        self.views.live_to(n)
     }
 
     fn live_count(&self, low: u32, high: u32) -> u64 {
-        self.overview.live_count(low, high)
+        self.views.live_count(low, high)
     }
 
     fn order_page(&self, skip: u64, count: u64) -> Result<Numbers, NoMemory> {
-        self.overview.page(skip, count)
+        self.views.page(skip, count)
+    }
+
+    fn thread_of(&self, n: u32) -> Result<Numbers, NoMemory> {
+        self.views.thread_of(n)
     }
 
     fn entry(&self, index: u64) -> Option<EntryLine> {
@@ -341,9 +336,9 @@ impl<D: Disk> Keep for Engine<D> {
             return Ok(());
         }
         match Opened::open(self.alloc, &mut self.disk) {
-            Ok(Opened { archive, overview }) => {
+            Ok(Opened { archive, views }) => {
                 self.archive = archive;
-                self.overview = overview;
+                self.views = views;
                 self.stale = false;
                 Ok(())
             }

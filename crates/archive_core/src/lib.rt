@@ -1,5 +1,5 @@
 //! An archive on a disk that takes commands: its store, an index of its messages by their ids, and
-//! the rows of its live messages.
+//! the rows and threads of its live messages.
 #![tactic(auto)]
 
 mod archive;

@@ -1,4 +1,4 @@
-//! An archive that was opened on a disk, with the rows of its live messages.
+//! An archive that was opened on a disk, with the rows and threads of its live messages.
 ghost use Rattle.std.specs.Prelude.{◌≡◌, ℕ, List, Err, IfOk, slice_get};
 ghost use Rattle.arch_base.specs.Counts.{RoseIf};
 ghost use Rattle.arch_model.specs.Archives.{Archive, live};
@@ -13,23 +13,22 @@ ghost use Rattle.archive_core.specs.Openings.{RefusesKindly};
 ghost use Rattle.archive_core.specs.Walks.{IsSound, unread_opening};
 
 use crate::archive::DiskArchive;
-use crate::rows::{Unread, walked_rows};
 use crate::walk::Walk;
 use arch_model::{OpenRefusal, TextRefusal};
 use disk_model::Disk;
 use epoch_store::law_of_stores;
-use overview_index::Overview;
 use std::alloc::Global;
+use view_set::{Unread, Views, rebuild};
 
-/// An archive that was opened on a disk, and the rows of its live messages.
+/// An archive that was opened on a disk, and the rows and threads of its live messages.
 #[derive(Drop)]
 pub(crate) struct Opened {
     pub(crate) archive: DiskArchive,
-    pub(crate) overview: Overview,
+    pub(crate) views: Views,
 }
 
 impl Opened {
-    /// Opens the archive on a disk, and reads the texts of its messages for their rows.
+    /// Opens the archive on a disk, and reads the texts of its messages for their rows and threads.
     ///
     /// The promises and the refusals are those of `DiskArchive::open`. `Damaged` may also have the
     /// offset of an entry whose text had another id when it was read again, which never happens on a
@@ -39,7 +38,7 @@ impl Opened {
             (view_opened result) }
         ensures refused { RefusesKindly result (D.content disk.old) (D.content disk.new) }
         ensures rows { (a : Archive) (cache : List ℕ) → ReadsWith cache a (D.content disk.old)
-            → IfOk result (λ opened. opened.overview ≡ rows_of (live a.entries)) }
+            → IfOk result (λ opened. opened.views ≡ rows_of (live a.entries)) }
     {
         law_of_stores();
         let archive = match DiskArchive::open(alloc, disk) {
@@ -47,22 +46,22 @@ impl Opened {
             Err(refusal) => return Err(refusal),
         };
         match archive.rows(alloc, disk) {
-            Ok(overview) => Ok(Opened { archive, overview }),
+            Ok(views) => Ok(Opened { archive, views }),
             Err(refusal) => Err(refusal),
         }
     }
 }
 
 impl DiskArchive {
-    /// Returns the rows of the live messages. Reads the text of each message once.
+    /// Returns the rows and threads of the live messages. Reads the text of each message once.
     ///
     /// `DiskFault` comes only if the disk's count of faults rose, and `NoMemory` only if memory runs
     /// out. `Damaged` comes if a text has another id than its entry, with the entry's file and offset,
     /// which never happens where the texts of all entries are in their places.
-    pub(crate) fn rows<D: Disk>(&self, alloc: Global, disk: &mut D) -> Result<Overview, OpenRefusal>
+    pub(crate) fn rows<D: Disk>(&self, alloc: Global, disk: &mut D) -> Result<Views, OpenRefusal>
         ensures rows { (a : Archive) (cache : List ℕ)
             → IsStoreWith self.now cache a (D.content disk.old)
-            → IfOk result (λ rows. rows ≡ rows_of (live a.entries)) }
+            → IfOk result (λ views. views ≡ rows_of (live a.entries)) }
         ensures well { (a : Archive) (cache : List ℕ)
             → IsStoreWith self.now cache a (D.content disk.old) → OpensWell result }
         ensures sound { IsSound self.now (D.content disk.old) → OpensWell result }
@@ -74,8 +73,8 @@ impl DiskArchive {
             store: &self.store,
             disk: &mut *disk,
         };
-        match walked_rows(alloc, &mut walk) {
-            Ok(overview) => Ok(overview),
+        match rebuild(alloc, &mut walk) {
+            Ok(views) => Ok(views),
             Err(unread) => Err(self.unopened(&unread)),
         }
     }

@@ -20,3 +20,5 @@ mod model_tests;
 mod reading_tests;
 #[cfg(test)]
 mod removal_tests;
+#[cfg(test)]
+mod thread_tests;

@@ -5,9 +5,9 @@ use Rattle.std.proofs.lemmas.Bool.Decides.{nat_tests}
 use Rattle.line_door.specs.Lines as line
 use Rattle.line_door.proofs.Fronts.{front-goes_on, front-stays_long, front-shorter}
 use Rattle.control_door.specs.declared.order.Order.{Order}
-use Rattle.control_door.specs.declared.order.Order.TheVariants.{Deliver, TooMuch, Show, Remove, Epochs, Quit, Bad}
+use Rattle.control_door.specs.declared.order.Order.TheVariants.{Deliver, TooMuch, Show, Remove, Thread, Epochs, Quit, Bad}
 use Rattle.control_door.specs.Orders.{order_of}
-use Rattle.control_door.specs.Requests.{Request, Delivers, Shows, Removes, Lists, Quits, Mistakes, Exceeds, Ahead, Asked, Unfinished, asked_by, asked_at, ahead, is_asked, line_limit}
+use Rattle.control_door.specs.Requests.{Request, Delivers, Shows, Removes, Threads, Lists, Quits, Mistakes, Exceeds, Ahead, Asked, Unfinished, asked_by, asked_at, ahead, is_asked, line_limit}
 
 -- A message that is whole.
 pub asked_by-whole : (size : ℕ) (rest : List ℕ) → size ≤ length rest → asked_by (Deliver size) rest ≡ Asked (Delivers (take size rest)) (drop size rest)
@@ -35,6 +35,7 @@ asked_by-goes q (Deliver size) rest = deliver_goes q size rest (nat_le size (len
 asked_by-goes q TooMuch rest = Same Exceeds rest
 asked_by-goes q (Show number) rest = Same (Shows number) rest
 asked_by-goes q (Remove number) rest = Same (Removes number) rest
+asked_by-goes q (Thread number) rest = Same (Threads number) rest
 asked_by-goes q Epochs rest = Same Lists rest
 asked_by-goes q Quit rest = Same Quits rest
 asked_by-goes q Bad rest = Same Mistakes rest
@@ -62,6 +63,7 @@ asked_by-shorter n (Deliver size) rest request after short is = shorter_by size 
 asked_by-shorter n TooMuch rest request after short is = let e : rest ≡ after = cc in omega (arith, ap length e)
 asked_by-shorter n (Show number) rest request after short is = let e : rest ≡ after = cc in omega (arith, ap length e)
 asked_by-shorter n (Remove number) rest request after short is = let e : rest ≡ after = cc in omega (arith, ap length e)
+asked_by-shorter n (Thread number) rest request after short is = let e : rest ≡ after = cc in omega (arith, ap length e)
 asked_by-shorter n Epochs rest request after short is = let e : rest ≡ after = cc in omega (arith, ap length e)
 asked_by-shorter n Quit rest request after short is = let e : rest ≡ after = cc in omega (arith, ap length e)
 asked_by-shorter n Bad rest request after short is = let e : rest ≡ after = cc in omega (arith, ap length e)

@@ -1,5 +1,5 @@
 -- What the calls of a keeper mean at the control door.
-use Rattle.std.proofs.Common.{◌≡◌, ◌≤◌, ℕ, Bool, true, false, List, [], ◌++◌, drop, Option, Some, None, is_some, is_ok, Result, refl, sym, subst, arith, if◌then◌else◌}
+use Rattle.std.proofs.Common.{◌≡◌, ◌≤◌, ℕ, Bool, true, false, List, [], ◌++◌, drop, Option, Some, None, is_some, is_ok, OnOk, Result, Ok, Err, refl, sym, subst, arith, if◌then◌else◌}
 use Rattle.std.specs.List.{Contains}
 use Rattle.line_door.specs.Acts.{Outside, Plain, Memory, Disk, Acts, held_if}
 use Rattle.line_door.specs.Making.{closes}
@@ -20,8 +20,8 @@ use Rattle.arch_model.proofs.Keepers.{settled-is, moves-same, moves-read, fits-h
 use Rattle.keep_course.proofs.Commands.{commanded}
 use Rattle.answer_lines.specs.Lines.{whole_line, memory_word, disk_word, unread_words}
 use Rattle.control_door.specs.Requests as requests
-use Rattle.control_door.specs.Requests.{Request, Shows, Lists, Quits, Mistakes, Exceeds, Asked, ahead}
-use Rattle.control_door.specs.Door.{waiting, said_to, goes_on, carries_out, doubts, answered, refused_memory, refused_disk, epochs_words, shown, bad_word}
+use Rattle.control_door.specs.Requests.{Request, Shows, Threads, Lists, Quits, Mistakes, Exceeds, Asked, ahead}
+use Rattle.control_door.specs.Door.{waiting, said_to, goes_on, carries_out, doubts, answered, refused_memory, refused_disk, epochs_words, shown, threaded, bad_word}
 use Rattle.control_door.specs.Sessions.{request_for, IsTurn, Answers, Opens, Turns}
 use Rattle.control_door.specs.declared.session.Turn.{Turn}
 use Rattle.control_door.specs.declared.session.Turn.TheVariants.{Opened, Went, Closed}
@@ -44,6 +44,31 @@ acts-hidden moment s number rest i j sent none kept words =
     none_of : (text : Option (List ℕ)) → is_some text ≡ false → text ≡ None
     none_of None h = refl
     none_of (Some text) h = absurd (cc h)
+
+-- The tree of a thread is said, or that the number has no text.
+pub acts-threaded : (moment : ℕ) (s : Standing) (number : ℕ) (found : Option (List ℕ)) (rest : List ℕ) (i j : Outside) (sent : Result Unit SinkFault) → text_of (live s.archive.entries) number ≡ found → j.disk ≡ i.disk → Says (threaded (live s.archive.entries) number found) i.out i.lost j.out j.lost sent
+    → Acts (said_to moment s (Threads number) rest) i (held_if (is_ok sent) (waiting rest false)) s j
+acts-threaded moment s number found rest i j sent is kept words =
+    acts-by_held (said_to moment s (Threads number) rest) Plain (goes_on rest (threaded (live s.archive.entries) number found) s) i j (waiting rest false) s sent (rw is refl) refl kept (omega (arith, kept)) words refl
+
+-- No text, or some.
+pub none-found : (text : Option (List ℕ)) → is_some text ≡ false → text ≡ None
+none-found None h = refl
+none-found (Some text) h = absurd (cc h)
+
+pub some-found : (text : Option (List ℕ)) → is_some text ≡ true → (t : List ℕ) × (text ≡ Some t)
+some-found None h = absurd (cc h)
+some-found (Some text) h = (text, refl)
+
+pub on-weaker : {T E : Type 0} (r : Result T E) (P Q : Type 0) → (P → Q) → OnOk r P → OnOk r Q
+on-weaker (Ok x) P Q less holds = less holds
+on-weaker (Err e) P Q less holds = tt
+
+-- Out of memory for a tree.
+pub acts-unthreaded : (moment : ℕ) (s : Standing) (number : ℕ) (rest : List ℕ) (i j : Outside) (sent : Result Unit SinkFault) → j.disk ≡ i.disk → Says memory_word i.out i.lost j.out j.lost sent
+    → Acts (said_to moment s (Threads number) rest) i (held_if (is_ok sent) (waiting rest false)) s j
+acts-unthreaded moment s number rest i j sent same words =
+    acts-by_held (said_to moment s (Threads number) rest) Memory (goes_on rest memory_word s) i j (waiting rest false) s sent refl refl same (omega (arith, same)) words refl
 
 -- The epochs are listed.
 pub acts-listed : (moment : ℕ) (s : Standing) (rest : List ℕ) (i j : Outside) (sent : Result Unit SinkFault) → j.disk ≡ i.disk → Says (epochs_words s.archive.entries) i.out i.lost j.out j.lost sent

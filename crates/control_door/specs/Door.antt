@@ -11,7 +11,10 @@ use Rattle.arch_model.specs.Delivery.{Done, delivered, removed, answer_line}
 use Rattle.arch_model.specs.Standing.{Standing, standing}
 use Rattle.answer_lines.specs.Lines.{whole_line, memory_word, disk_word, unopened_words}
 use Rattle.keep_course.specs.Answering.{said_reopening}
-use Rattle.control_door.specs.Requests.{Request, Delivers, Shows, Removes, Lists, Quits, Mistakes, Exceeds, Ahead, Asked, Unfinished, ahead, is_request}
+use Rattle.shelf_trees.specs.Twigs.{thread_twigs}
+use Rattle.thread_tree.specs.Laid.{tree_lines}
+use Rattle.control_door.specs.Threads.{tree_words}
+use Rattle.control_door.specs.Requests.{Request, Delivers, Shows, Removes, Threads, Lists, Quits, Mistakes, Exceeds, Ahead, Asked, Unfinished, ahead, is_request}
 
 -- The word for a line that is not an order, or that is too long.
 abbrev pub bad_word : List ℕ
@@ -21,6 +24,11 @@ bad_word = whole_line (codes "13 bad line")
 abbrev pub shown : ℕ → Option (List ℕ) → List ℕ
 shown number None = whole_line (codes "7 not live " ++ decimal number)
 shown number (Some text) = whole_line (codes "text " ++ decimal (length text)) ++ text
+
+-- The tree of the thread of a number, by its text: or a line that the number has none.
+abbrev pub threaded : List Entry → ℕ → Option (List ℕ) → List ℕ
+threaded es number None = shown number None
+threaded es number (Some text) = tree_words es (tree_lines (thread_twigs es number))
 
 -- An epoch: a line with its number and the length of its bytes, and then the bytes and a line feed.
 abbrev pub epoch_words : ℕ → List ℕ → List ℕ
@@ -75,17 +83,20 @@ answered moment s (Delivers message) rest = carries_out (delivered s.archive mes
 answered moment s (Shows number) rest =
     goes_on rest (shown number (text_of (live s.archive.entries) number)) s
 answered moment s (Removes number) rest = carries_out (removed s.archive number moment) rest
+answered moment s (Threads number) rest = goes_on rest
+    (threaded (live s.archive.entries) number (text_of (live s.archive.entries) number)) s
 answered moment s Lists rest = goes_on rest (epochs_words s.archive.entries) s
 answered moment s Quits rest = closes s []
 answered moment s Mistakes rest = goes_on rest bad_word s
 answered moment s Exceeds rest = closes s bad_word
 
 -- The answer to a request that runs out of memory. A command leaves the archive unchanged, and a
--- text or a list of epochs is said whole or not at all. Other requests need no memory.
+-- text, a tree or a list of epochs is said whole or not at all. Other requests need no memory.
 abbrev pub refused_memory : ℕ → Standing → Request → List ℕ → Says
 refused_memory moment s (Delivers message) rest = goes_on rest memory_word s
 refused_memory moment s (Shows number) rest = goes_on rest memory_word s
 refused_memory moment s (Removes number) rest = goes_on rest memory_word s
+refused_memory moment s (Threads number) rest = goes_on rest memory_word s
 refused_memory moment s Lists rest = goes_on rest memory_word s
 refused_memory moment s Quits rest = answered moment s Quits rest
 refused_memory moment s Mistakes rest = answered moment s Mistakes rest
@@ -98,6 +109,7 @@ abbrev pub refused_disk : ℕ → Standing → Request → List ℕ → Says
 refused_disk moment s (Delivers message) rest = doubts s (delivered s.archive message moment) rest
 refused_disk moment s (Shows number) rest = goes_on rest disk_word s
 refused_disk moment s (Removes number) rest = doubts s (removed s.archive number moment) rest
+refused_disk moment s (Threads number) rest = answered moment s (Threads number) rest
 refused_disk moment s Lists rest = goes_on rest disk_word s
 refused_disk moment s Quits rest = answered moment s Quits rest
 refused_disk moment s Mistakes rest = answered moment s Mistakes rest

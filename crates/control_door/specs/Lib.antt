@@ -1,5 +1,6 @@
 pub mod Orders
 pub mod Requests
+pub mod Threads
 pub mod Door
 pub mod Refusals
 pub mod Sessions

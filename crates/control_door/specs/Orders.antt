@@ -3,7 +3,7 @@ use Rattle.std.specs.Prelude.{ℕ, Bool, ◌&&◌, nat_le, List, length, take, d
 use Rattle.std.specs.Str.{str_eq_ignore_ascii_case}
 use Rattle.arch_base.specs.Decimals.{decimal_of}
 use Rattle.control_door.specs.declared.order.Order.{Order}
-use Rattle.control_door.specs.declared.order.Order.TheVariants.{Deliver, TooMuch, Show, Remove, Epochs, Quit, Bad}
+use Rattle.control_door.specs.declared.order.Order.TheVariants.{Deliver, TooMuch, Show, Remove, Thread, Epochs, Quit, Bad}
 
 -- The line starts with this word, in any case.
 abbrev pub begins_with : List ℕ → List ℕ → Bool
@@ -29,14 +29,21 @@ abbrev pub remove_order : Option ℕ → Order
 remove_order None = Bad
 remove_order (Some number) = Remove number
 
--- The order of a line without its line end: `deliver SIZE`, `show N`, `remove N`, `epochs`, `quit`,
--- or unknown.
+-- `thread N`.
+abbrev pub thread_order : Option ℕ → Order
+thread_order None = Bad
+thread_order (Some number) = Thread number
+
+-- The order of a line without its line end: `deliver SIZE`, `show N`, `remove N`, `thread N`, `epochs`,
+-- `quit`, or unknown.
 abbrev pub order_of : List ℕ → Order
 order_of line =
     if begins_with (codes "deliver ") line then deliver_order (decimal_of (drop 8 line))
     else if begins_with (codes "show ") line then show_order (number_in (decimal_of (drop 5 line)))
     else if begins_with (codes "remove ") line
     then remove_order (number_in (decimal_of (drop 7 line)))
+    else if begins_with (codes "thread ") line
+    then thread_order (number_in (decimal_of (drop 7 line)))
     else if str_eq_ignore_ascii_case line (codes "epochs") then Epochs
     else if str_eq_ignore_ascii_case line (codes "quit") then Quit
     else Bad

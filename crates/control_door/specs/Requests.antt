@@ -3,15 +3,16 @@ use Rattle.std.specs.Prelude.{ℕ, Bool, true, false, nat_le, List, [], length, 
 use Rattle.line_door.specs.Lines as line
 use Rattle.control_door.specs.Orders.{order_of}
 use Rattle.control_door.specs.declared.order.Order.{Order}
-use Rattle.control_door.specs.declared.order.Order.TheVariants.{Deliver, TooMuch, Show, Remove, Epochs, Quit, Bad}
+use Rattle.control_door.specs.declared.order.Order.TheVariants.{Deliver, TooMuch, Show, Remove, Thread, Epochs, Quit, Bad}
 
--- A whole request: a message to deliver, a number to show or to remove, the list of epochs, the end,
--- a line that is not an order, or a line that is too long or announces too much, after which the
--- door closes.
+-- A whole request: a message to deliver, a number to show or to remove, a number whose thread to show,
+-- the list of epochs, the end, a line that is not an order, or a line that is too long or announces
+-- too much, after which the door closes.
 pub data Request : Type 0 where
   Delivers : List ℕ → Request
   Shows : ℕ → Request
   Removes : ℕ → Request
+  Threads : ℕ → Request
   Lists : Request
   Quits : Request
   Mistakes : Request
@@ -30,6 +31,7 @@ asked_by (Deliver size) rest = if nat_le size (length rest)
 asked_by TooMuch rest = Asked Exceeds rest
 asked_by (Show number) rest = Asked (Shows number) rest
 asked_by (Remove number) rest = Asked (Removes number) rest
+asked_by (Thread number) rest = Asked (Threads number) rest
 asked_by Epochs rest = Asked Lists rest
 asked_by Quit rest = Asked Quits rest
 asked_by Bad rest = Asked Mistakes rest

@@ -11,7 +11,7 @@ use Rattle.arch_model.specs.Standing.{Standing, standing}
 use Rattle.arch_model.specs.declared.command.Command.{Command}
 use Rattle.arch_model.specs.declared.command.Command.TheVariants.{Deliver, Remove}
 use Rattle.control_door.specs.Orders.{order_of}
-use Rattle.control_door.specs.Requests.{Request, Delivers, Shows, Removes, Lists, Quits, Mistakes, Exceeds, Asked, ahead, line_limit, is_request}
+use Rattle.control_door.specs.Requests.{Request, Delivers, Shows, Removes, Threads, Lists, Quits, Mistakes, Exceeds, Asked, ahead, line_limit, is_request}
 use Rattle.control_door.specs.Door.{waiting, said, said_to, said_opening, has_request}
 use Rattle.control_door.specs.declared.order.Order.TheVariants as order
 use Rattle.control_door.specs.declared.front.Payload.{Payload}
@@ -49,6 +49,7 @@ request_of held (requested.Message message) = Delivers message.now
 request_of held (requested.Joined start last) = Delivers (drop start (held ++ last.now))
 request_of held (requested.Text number) = Shows number
 request_of held (requested.Removal number) = Removes number
+request_of held (requested.Thread number) = Threads number
 request_of held requested.Epochs = Lists
 request_of held requested.Quit = Quits
 request_of held requested.Mistake = Mistakes
@@ -60,6 +61,7 @@ StartsWithin held (requested.Message message) = Unit {0}
 StartsWithin held (requested.Joined start last) = start ≤ length held
 StartsWithin held (requested.Text number) = Unit {0}
 StartsWithin held (requested.Removal number) = Unit {0}
+StartsWithin held (requested.Thread number) = Unit {0}
 StartsWithin held requested.Epochs = Unit {0}
 StartsWithin held requested.Quit = Unit {0}
 StartsWithin held requested.Mistake = Unit {0}

@@ -7,14 +7,15 @@ ghost use Rattle.arch_model.specs.Next.{continues};
 ghost use Rattle.arch_model.specs.Shelves.{Stays};
 ghost use Rattle.arch_model.specs.Standing.{standing};
 ghost use Rattle.control_door.specs.Door.{waiting, said_to};
-ghost use Rattle.control_door.specs.Requests.{Delivers, Shows, Lists};
+ghost use Rattle.control_door.specs.Requests.{Delivers, Shows, Threads, Lists};
 ghost use Rattle.control_door.specs.Sessions.{request_of, request_for, StartsWithin, Answers, Opens};
 
 use crate::epochs::epochs_of;
 use crate::front::Requested;
 use crate::replies::{say_bad, say_not_live, say_text};
+use crate::thread::thread_words;
 use answer_lines::{say_answer, say_memory, say_unopened, say_unread};
-use arch_base::Bytes;
+use arch_base::{Bytes, NoMemory};
 use arch_model::{Command, Keep, Next, Shelf, is_live};
 use edge_io::{Sink, SinkFault, say};
 use std::alloc::Global;
@@ -73,6 +74,7 @@ pub(crate) fn say_requested<K: Keep, O: Sink>(
         Requested::Removal(number) => {
             Next::after(say_commanded(&Command::Remove(number), moment, keep, out))
         }
+        Requested::Thread(number) => Next::after(say_thread(alloc, number, keep, out)),
         Requested::Epochs => Next::after(say_epochs(alloc, keep, out)),
         Requested::Quit => Next::Close,
         Requested::Mistake => Next::after(say_bad(out)),
@@ -156,6 +158,32 @@ fn say_message<S: Shelf, O: Sink>(
     match shelf.text(number, &mut text) {
         Ok(()) => say_text(text.as_slice(), out),
         Err(refusal) => say_unread(refusal, out),
+    }
+}
+
+/// Writes the tree of the thread of a number, or that it isn't live.
+///
+/// Out of memory, writes `12 no memory` and nothing of the tree. Reads nothing.
+fn say_thread<S: Shelf, O: Sink>(
+    alloc: Global,
+    number: u32,
+    shelf: &S,
+    out: &mut O,
+) -> Result<(), SinkFault>
+    requires { S.ready shelf.now ≡ true }
+    ensures acts { (moment : ℕ) (a : Archive) (rest : List ℕ) → S.holds shelf.now a
+        → Acts (said_to moment (standing a None) (Threads number) rest)
+        (outside (O.taken out.old) (S.faults shelf.now) (O.faults out.old))
+        (held_if (is_ok result) (waiting rest false)) (standing a None)
+        (outside (O.taken out.new) (S.faults shelf.now) (O.faults out.new)) }
+    ensures sink { O.alike out.old out.new }
+{
+    if !is_live(number, shelf) {
+        return say_not_live(number, out);
+    }
+    match thread_words(alloc, number, shelf) {
+        Ok(words) => say(words.as_slice(), out),
+        Err(NoMemory) => say_memory(out),
     }
 }
 

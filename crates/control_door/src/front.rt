@@ -18,6 +18,8 @@ pub(crate) enum Requested<'a> {
     Text(u32),
     /// Removes the message with this number.
     Removal(u32),
+    /// Shows the thread of this number.
+    Thread(u32),
     /// Lists the epochs.
     Epochs,
     /// Ends the connection.

@@ -1,4 +1,5 @@
-//! The control door: a connection that delivers, shows and removes messages and lists epochs.
+//! The control door: a connection that delivers, shows and removes messages, shows threads and lists
+//! epochs.
 #![tactic(auto)]
 
 mod answers;
@@ -8,6 +9,7 @@ mod laws;
 mod order;
 mod replies;
 mod session;
+mod thread;
 
 pub use laws::cut_laws;
 pub use order::{Order, read_order};

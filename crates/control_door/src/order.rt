@@ -1,6 +1,6 @@
 //! Reads the lines of the control door.
 ghost use Rattle.std.specs.Prelude.{◌≡◌, ◌≤◌, true, length};
-ghost use Rattle.control_door.specs.Orders.{order_of, begins_with as begins, deliver_order as deliver_order_of, number_in as number_of, show_order as show_order_of, remove_order as remove_order_of};
+ghost use Rattle.control_door.specs.Orders.{order_of, begins_with as begins, deliver_order as deliver_order_of, number_in as number_of, show_order as show_order_of, remove_order as remove_order_of, thread_order as thread_order_of};
 
 use arch_base::read_decimal;
 
@@ -15,6 +15,8 @@ pub enum Order {
     Show(u32),
     /// Removes the message with this number: 1 to 2,147,483,647.
     Remove(u32),
+    /// Shows the thread of this number: 1 to 2,147,483,647.
+    Thread(u32),
     /// Lists the epochs.
     Epochs,
     /// Ends the connection.
@@ -31,8 +33,8 @@ const NUMBER_LIMIT: u64 = 2_147_483_647;
 
 /// Reads the order of a line, which has no line end.
 ///
-/// The orders are `deliver SIZE`, `show N`, `remove N`, `epochs` and `quit`. Words are read in any
-/// case. A single space comes before SIZE and N, which are decimals without leading zeros.
+/// The orders are `deliver SIZE`, `show N`, `remove N`, `thread N`, `epochs` and `quit`. Words are read
+/// in any case. A single space comes before SIZE and N, which are decimals without leading zeros.
 pub fn read_order(line: &[u8]) -> Order
     ensures { result ≡ order_of line.now }
 {
@@ -42,6 +44,8 @@ pub fn read_order(line: &[u8]) -> Order
         show_order(number_in(read_decimal(&line[5..])))
     } else if begins_with(b"remove ", line) {
         remove_order(number_in(read_decimal(&line[7..])))
+    } else if begins_with(b"thread ", line) {
+        thread_order(number_in(read_decimal(&line[7..])))
     } else if line.eq_ignore_ascii_case(b"epochs") {
         Order::Epochs
     } else if line.eq_ignore_ascii_case(b"quit") {
@@ -108,5 +112,15 @@ fn remove_order(number: Option<u32>) -> Order
     match number {
         None => Order::Bad,
         Some(number) => Order::Remove(number),
+    }
+}
+
+/// Returns the order of `thread` with this number, or `Bad` without one.
+fn thread_order(number: Option<u32>) -> Order
+    ensures { result ≡ thread_order_of number }
+{
+    match number {
+        None => Order::Bad,
+        Some(number) => Order::Thread(number),
     }
 }

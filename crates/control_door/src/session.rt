@@ -92,8 +92,8 @@ impl Session {
     /// A crash since the call began leaves an archive that stood between two of these acts, or one
     /// that was in doubt there.
     ///
-    /// A command, a text or a list of epochs that runs out of memory writes `12 no memory`, and the
-    /// archive is unchanged. If the disk fails at one, it writes `10 disk fault`, and the keeper's
+    /// A command, a text, a thread or a list of epochs that runs out of memory writes `12 no memory`,
+    /// and the archive is unchanged. If the disk fails at one, it writes `10 disk fault`, and the keeper's
     /// count of faults rose. It stays at each act that doesn't write so. The session continues in
     /// both cases. After a fault, only reopening the archive shows whether a command was carried
     /// out.
@@ -227,6 +227,7 @@ impl Session {
             Order::TooMuch => Front::Whole(Requested::Excess, len + 1),
             Order::Show(number) => Front::Whole(Requested::Text(number), len + 1),
             Order::Remove(number) => Front::Whole(Requested::Removal(number), len + 1),
+            Order::Thread(number) => Front::Whole(Requested::Thread(number), len + 1),
             Order::Epochs => Front::Whole(Requested::Epochs, len + 1),
             Order::Quit => Front::Whole(Requested::Quit, len + 1),
             Order::Bad => Front::Whole(Requested::Mistake, len + 1),

@@ -152,7 +152,7 @@ const LINES: [Stream; 32] = [
     },
     Stream {
         bytes: b"reindex\nthread 1\n",
-        answers: b"13 bad line\n13 bad line\n",
+        answers: b"13 bad line\n7 not live 1\n",
         next: Next::Go,
     },
     Stream {
@@ -325,6 +325,31 @@ const REMOVALS: [Stream; 9] = [
     },
 ];
 
+/// Threads: lines that ask for one; three messages with a ghost, of which the third is then removed; a
+/// loop of two; brothers under a ghost that a later message fills.
+const THREADS: [Stream; 4] = [
+    Stream {
+        bytes: b"thread 0\nthread\nThread 7\nthread  1\nthread 2147483648\nthread 2147483647\n",
+        answers: b"13 bad line\n13 bad line\n7 not live 7\n13 bad line\n13 bad line\n7 not live 2147483647\n",
+        next: Next::Go,
+    },
+    Stream {
+        bytes: b"deliver 56\nMessage-ID: <a@x>\nDate: Mon, 01 Jan 2024 00:00:01 +0000\ndeliver 56\nMessage-ID: <b@x>\nDate: Mon, 01 Jan 2024 00:00:02 +0000\ndeliver 86\nMessage-ID: <c@x>\nDate: Mon, 01 Jan 2024 00:00:03 +0000\nReferences: <g@x> <a@x> <b@x>\nthread 1\nremove 3\nthread 1\nthread 3\n",
+        answers: b"1 ok 1 b4e0c83b1b8b4dee5d86b92b5661509c4a45047e\n1 ok 2 08b7b3f59647b9ebfeac5eb015a149dc99ef25aa\n1 ok 3 dafc0e9639a4ee7c8b86b2fd4b10c88d2ed45a74\nthread 4\n0 1 <a@x>\n0 2 <b@x>\n1 3 <c@x>\n0 - <g@x>\n1 ok 3 dafc0e9639a4ee7c8b86b2fd4b10c88d2ed45a74\nthread 1\n0 1 <a@x>\n7 not live 3\n",
+        next: Next::Go,
+    },
+    Stream {
+        bytes: b"deliver 74\nMessage-ID: <a@x>\nDate: Mon, 01 Jan 2024 00:00:01 +0000\nReferences: <b@x>\ndeliver 74\nMessage-ID: <b@x>\nDate: Mon, 01 Jan 2024 00:00:02 +0000\nReferences: <a@x>\ndeliver 74\nMessage-ID: <c@x>\nDate: Mon, 01 Jan 2024 00:00:03 +0000\nReferences: <b@x>\nthread 3\n",
+        answers: b"1 ok 1 c21f0958db42c39d388243f9c9c0c8704a349c36\n1 ok 2 3c3fbe96b5960f62b4543b51f9b18d8c900c82e5\n1 ok 3 0ec5a126666861ae44ad9b2c9cdd7a84ee0875f7\nthread 3\n0 1 <a@x>\n0 2 <b@x>\n1 3 <c@x>\n",
+        next: Next::Go,
+    },
+    Stream {
+        bytes: b"deliver 56\nMessage-ID: <a@x>\nDate: Mon, 01 Jan 2024 00:00:01 +0000\ndeliver 74\nMessage-ID: <b@x>\nDate: Mon, 01 Jan 2024 00:00:02 +0000\nReferences: <q@x>\ndeliver 74\nMessage-ID: <c@x>\nDate: Mon, 01 Jan 2024 00:00:03 +0000\nReferences: <q@x>\nthread 2\ndeliver 56\nMessage-ID: <q@x>\nDate: Mon, 01 Jan 2024 00:00:04 +0000\nthread 2\nthread 1\n",
+        answers: b"1 ok 1 b4e0c83b1b8b4dee5d86b92b5661509c4a45047e\n1 ok 2 9aa56c2f6de2d84feb2011d3e780fb80a4c74eba\n1 ok 3 cb76c6e18d2986dd48f1e300042451e7c8f0a19f\nthread 3\n0 - <q@x>\n1 2 <b@x>\n1 3 <c@x>\n1 ok 4 3a28f555a46765e50a5db419215ed12bb8be4ae6\nthread 3\n0 4 <q@x>\n1 2 <b@x>\n1 3 <c@x>\nthread 1\n0 1 <a@x>\n",
+        next: Next::Go,
+    },
+];
+
 /// Returns whether a stream cut in two at an offset is answered as its row says.
 fn is_answered_cut(alloc: Global, stream: &Stream, at: usize) -> bool {
     match Connection::cut_at(alloc, stream.bytes, at) {
@@ -377,6 +402,13 @@ fn removals_are_answered_however_cut(rt: HostRuntime) {
     }
 }
 
+#[test]
+fn threads_are_answered_however_cut(rt: HostRuntime) {
+    for stream in &THREADS {
+        assert!(rt; is_answered(rt.alloc(), stream), "{:?}", stream.bytes);
+    }
+}
+
 /// Returns whether a mirror refuses commands and answers other lines.
 fn mirror_is_answered(alloc: Global) -> bool {
     let Some(mut connection) = Connection::to_mirror(alloc) else {
@@ -395,7 +427,7 @@ fn a_mirror_takes_no_command(rt: HostRuntime) {
 }
 
 /// Lines without their line end, and their orders.
-const ORDERS: [(&[u8], Order); 14] = [
+const ORDERS: [(&[u8], Order); 17] = [
     (b"deliver 0", Order::Deliver(0)),
     (b"dELIVER 9000000", Order::Deliver(9_000_000)),
     (b"deliver 9000001", Order::TooMuch),
@@ -407,6 +439,9 @@ const ORDERS: [(&[u8], Order); 14] = [
     (b"REMOVE 2147483647", Order::Remove(2_147_483_647)),
     (b"remove 2147483648", Order::Bad),
     (b"remove", Order::Bad),
+    (b"thread 1", Order::Thread(1)),
+    (b"tHREAD 2147483647", Order::Thread(2_147_483_647)),
+    (b"thread 0", Order::Bad),
     (b"Epochs", Order::Epochs),
     (b"Quit", Order::Quit),
     (b"quit\r", Order::Bad),

@@ -128,6 +128,10 @@ impl Shelf for FailingKeep {
         self.archive.order_page(skip, count)
     }
 
+    fn thread_of(&self, n: u32) -> Result<Numbers, NoMemory> {
+        self.archive.thread_of(n)
+    }
+
     fn entry(&self, index: u64) -> Option<EntryLine> {
         self.archive.entry(index)
     }

@@ -1,9 +1,9 @@
 -- The rows of the archive in memory after one more entry.
-use Rattle.std.specs.Prelude.{◌≡◌, ◌==◌, ◌+◌, ◌<◌, ℕ, Bool, true, false, List, [], ◌∷◌, ◌++◌, length, Option, Some, None, is_some, option_copied, refl, if◌then◌else◌}
+use Rattle.std.specs.Prelude.{◌≡◌, ◌==◌, ◌+◌, ◌<◌, ℕ, Bool, true, false, List, [], ◌∷◌, ◌++◌, length, Option, Some, None, refl, if◌then◌else◌}
 use Rattle.std.specs.List.{AllByRecursion}
 use Rattle.std.specs.BTreeMap.{insert_entry}
 use Rattle.std.specs.Ordering.{nat_cmp}
-use Rattle.std.proofs.Common.{Bor, ◌∙◌, sym, ap, subst, arith}
+use Rattle.std.proofs.Common.{◌∙◌, sym, ap, subst, arith}
 use Rattle.std.proofs.lemmas.Bool.{eqb-true}
 use Rattle.arch_base.specs.declared.config.Config.{Config}
 use Rattle.arch_base.specs.declared.ids.Id20.{Id20}
@@ -27,11 +27,6 @@ use Rattle.mem_archive.specs.declared.kept.End.{End}
 use Rattle.mem_archive.specs.declared.kept.Kept.{Kept}
 use Rattle.mem_archive.specs.declared.kept.Place.{Place}
 use Rattle.mem_archive.proofs.Lines.{entries_of-push}
-
--- No row was found.
-pub none-copied : {X : Type 0} (found : Option (Bor X)) (row : Option X) (t : Bool) → t ≡ is_some found → t ≡ false → option_copied found ≡ row → row ≡ None
-none-copied None row t test none is = sym is
-none-copied (Some x) row t test none is = absurd (let wrong : true ≡ false = sym test ∙ none in cc)
 
 -- A number above those of all messages has no row.
 other_front : (m n : ℕ) → m < n → (m == n) ≡ false

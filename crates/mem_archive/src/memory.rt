@@ -10,10 +10,9 @@ ghost use Rattle.arch_judge.specs.Judging.{Judges};
 ghost use Rattle.arch_model.specs.Epochs.{epoch_bytes};
 ghost use Rattle.mem_archive.specs.Memory.{GivesEpoch, Grows, MayKeep};
 ghost use Rattle.arch_model.specs.Listings.{row_in, number_of_id, listing};
-ghost use Rattle.arch_model.specs.Rows.{row_of as row_fact};
-ghost use Rattle.overview_index.specs.Listings.{with_row};
 ghost use Rattle.arch_model.specs.Shelves.{IsGreatestLive, live_between, line_at, blob_text};
 ghost use Rattle.arch_model.specs.Standing.{IsLeastLive, IsUntouched};
+ghost use Rattle.arch_model.specs.Threading.{thread_in};
 ghost use Rattle.arch_model.specs.declared.answer.Answer.{Answer};
 
 use crate::kept::{End, Kept, Place, push_after};
@@ -22,11 +21,10 @@ use arch_base::{Bytes, Config, NoMemory, Numbers, ObjectId};
 use arch_judge::{Index, Owner, Verdict, compared, judge};
 use arch_model::{Answer, Command, EntryLine, Row};
 use git_objects::{EntryKind, blob_id};
-use mail_reader::{content_id, is_stored, own_id};
-use mail_rows::row_of;
-use overview_index::Overview;
+use mail_reader::{content_id, own_id};
 use std::alloc::Global;
 use std::marker::Model;
+use view_set::{Views, add_if_stored};
 
 /// An archive in memory. A contract sees it as the archive that it holds.
 #[derive(Drop)]
@@ -36,7 +34,7 @@ pub struct MemArchive {
     kept: Vec<Kept>,
     places: Vec<Place>,
     index: Index,
-    overview: Overview,
+    views: Views,
     end: End,
 }
 
@@ -51,7 +49,7 @@ impl Model for MemArchive {
     ghost view = { λ m. archive_of m.config m.kept.items m.places.items };
 
     ghost invariant = { λ m. IsKept m.config m.kept.items m.places.items m.index m.end
-        × (m.overview ≡ rows_of (live (entries_of m.kept.items))) };
+        × (m.views ≡ rows_of (live (entries_of m.kept.items))) };
 }
 
 impl MemArchive {
@@ -67,7 +65,7 @@ impl MemArchive {
             kept: Vec::new(alloc),
             places: Vec::new(alloc),
             index: Index::new(alloc),
-            overview: Overview::new(alloc),
+            views: Views::new(alloc),
             end: End {
                 epoch: 0,
                 room,
@@ -119,7 +117,7 @@ impl MemArchive {
     pub(crate) fn row_at(&self, number: u32) -> Option<&Row>
         ensures { option_copied result ≡ row_in (live self.now.entries) number }
     {
-        self.overview.get(number)
+        self.views.get(number)
     }
 
     /// Returns the number of the live message with an own id, or `None` if there is none.
@@ -137,7 +135,15 @@ impl MemArchive {
         ensures { IfOk result (λ page.
             page ≡ take count (drop skip (listing (live self.now.entries)))) }
     {
-        self.overview.page(skip, count)
+        self.views.page(skip, count)
+    }
+
+    /// Returns the numbers in the thread of a live message, rising, or none if the number is not
+    /// live.
+    pub(crate) fn thread(&self, number: u32) -> Result<Numbers, NoMemory>
+        ensures { IfOk result (λ numbers. numbers ≡ thread_in (live self.now.entries) number) }
+    {
+        self.views.thread_of(number)
     }
 
     /// Returns the entry at an index, from 0, without its text, or `None` if there are not so many.
@@ -339,7 +345,8 @@ impl MemArchive {
             commit,
         })?;
         self.index.remove(id.as_slice());
-        self.overview.take(number);
+        // The row is taken, even if memory runs out for the threads.
+        let _ = self.views.take(number);
         hide(&mut self.places, number as usize - 1);
         self.end = end;
         Ok(())
@@ -382,16 +389,16 @@ impl MemArchive {
         self.places.reserve(1)?;
         self.kept.reserve(1)?;
         let number = owner.number;
-        add_row(
+        add_if_stored(
             self.alloc,
-            &mut self.overview,
+            &mut self.views,
             number,
             &blob,
             text.as_slice(),
             moment,
         )?;
         if let Err(NoMemory) = self.index.insert(id, blob, owner) {
-            self.overview.take(number);
+            let _ = self.views.take(number);
             return Err(NoMemory);
         }
         self.kept.push(Kept {
@@ -417,31 +424,4 @@ fn own_id_bytes(alloc: Global, text: &[u8]) -> Result<Vec<u8>, NoMemory>
         None => Ok(Vec::new(alloc)),
         Some(id) => Ok(Vec::from_slice(alloc, id)?),
     }
-}
-
-/// Adds the row of a message.
-///
-/// `NoMemory` if an allocation fails. It would also be if the text were no storage text, or if a row
-/// had the number or the own id, which never happens. It leaves the rows unchanged.
-fn add_row(
-    alloc: Global,
-    overview: &mut Overview,
-    number: u32,
-    blob: &ObjectId,
-    text: &[u8],
-    moment: u64,
-) -> Result<(), NoMemory>
-    requires blob { blob.now ≡ blob_id_of text.now }
-    ensures ok { OnOk result (overview.new
-        ≡ with_row overview.old (row_fact number text.now moment)) }
-    ensures err { OnErr result (overview.new ≡ overview.old) }
-{
-    if !is_stored(text) {
-        return Err(NoMemory);
-    }
-    let row = row_of(alloc, number, blob, text, moment)?;
-    if overview.get(number).is_some() || overview.by_id(row.id.as_slice()).is_some() {
-        return Err(NoMemory);
-    }
-    overview.add(row)
 }

@@ -51,6 +51,10 @@ impl Shelf for MemArchive {
         self.page(skip, count)
     }
 
+    fn thread_of(&self, n: u32) -> Result<Numbers, NoMemory> {
+        self.thread(n)
+    }
+
     fn entry(&self, index: u64) -> Option<EntryLine> {
         self.line(index)
     }

@@ -29,7 +29,7 @@ module _ (twigs : List Twig) (facts : Facts) (list : List (ℕ × ℕ × Vec ℕ
   tree-forest = subst (λ n. IsForest (under_at lists) (filter (flag_at flags) (count_up n)) (length lists)) (sym marks.size) (forest ups flags lists unders past-lists)
 
   -- All lists are as long as the nodes.
-  lists-size : length lists ≡ length ns
+  pub lists-size : length lists ≡ length ns
   lists-size = unders.size ∙ tops.size
 
   flags-size : length flags ≡ length ns

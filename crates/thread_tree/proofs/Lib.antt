@@ -11,3 +11,4 @@ pub mod Aboves
 pub mod Preorder
 pub mod Grown
 pub mod Stepped
+pub mod Laying

@@ -54,5 +54,12 @@ walk-room under roots bound out old rest depth i is popped =
     room : (n m k l b : ℕ) → m ≡ n → k ≡ suc l → m + k ≤ b → n < b
     room n m k l b same more le = omega arith
 
+-- A walk is no longer than there are indices.
+pub walk-short : (under : ℕ → List ℕ) (roots : List ℕ) (bound : ℕ) (out stack : List (ℕ × ℕ)) → IsOnWalk under roots bound out stack → length out ≤ bound
+walk-short under roots bound out stack is =
+    let met : length (indices out) + length (indices (backward stack)) ≤ bound = meets-count under roots bound (indices out) (indices (backward stack)) is.meets in
+    let same : length (indices out) ≡ length out = length-map out (λ (x : ℕ × ℕ). x.1) in
+    omega (arith, met, same)
+
 pub walk-ends : (under : ℕ → List ℕ) (roots : List ℕ) (bound : ℕ) (out stack : List (ℕ × ℕ)) → IsOnWalk under roots bound out stack → stack ≡ [] → Walks under 0 roots out
 walk-ends under roots bound out stack is empty = walked-ends under roots out (backward stack) is.walked (ap backward empty)

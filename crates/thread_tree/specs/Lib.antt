@@ -1,3 +1,4 @@
 pub mod Trees
 pub mod Facts
 pub mod Nodes
+pub mod Laid

@@ -1,5 +1,5 @@
 //! The lists under each node, and a walk over them without recursion.
-ghost use Rattle.std.specs.Prelude.{◌≡◌, ◌++◌, length, IfOk, OnOk};
+ghost use Rattle.std.specs.Prelude.{◌≡◌, ◌≤◌, ◌++◌, length, IfOk, OnOk};
 ghost use Rattle.thread_tree.specs.Nodes.{AreEmpty, AreUnder, IsForest, IsPlaced, Walks, stacked, under_at};
 
 use arch_base::NoMemory;
@@ -85,7 +85,8 @@ pub(crate) fn preorder(
     roots: &[usize],
 ) -> Result<Vec<(u64, usize)>, NoMemory>
     requires { IsForest (under_at under.now) roots.now (length under.now) }
-    ensures { IfOk result (λ lines. Walks (under_at under.now) 0 roots.now lines.items) }
+    ensures walks { IfOk result (λ lines. Walks (under_at under.now) 0 roots.now lines.items) }
+    ensures few { IfOk result (λ lines. length lines.items ≤ length under.now) }
 {
     let mut lines = Vec::new(alloc);
     let mut stack = Vec::new(alloc);

@@ -47,6 +47,7 @@ impl Twigs {
     ghost use Rattle.thread_model.specs.Members.{Among};
     ghost use Rattle.thread_tree.specs.declared.twigs.Twig.{Twig};
     ghost use Rattle.thread_tree.specs.Trees.{Prints, roots};
+    ghost use Rattle.thread_tree.specs.Laid.{tree_lines};
 
     /// Returns no messages. Allocates nothing.
     pub fn new(alloc: Global) -> Self
@@ -92,9 +93,10 @@ impl Twigs {
     }
 
     /// Returns the lines of the tree: each node before those under it, brothers by date, number and
-    /// id.
+    /// id. `Prints` says so, and `tree_lines` is the one list of which it holds.
     pub fn tree(&self) -> Result<Lines, NoMemory>
-        ensures { IfOk result (λ lines. Prints self.now 0 (roots self.now) lines) }
+        ensures prints { IfOk result (λ lines. Prints self.now 0 (roots self.now) lines) }
+        ensures laid { IfOk result (λ lines. lines ≡ tree_lines self.now) }
     {
         let twigs = self.twigs.as_slice();
         let facts = Facts::of(self.alloc, twigs)?;

@@ -1,6 +1,6 @@
 use Rattle.std.proofs.Common.{false, None, refl}
 use Rattle.arch_model.specs.Standing.{standing}
-use Rattle.control_door.specs.Requests.{Shows, Lists, Quits, Mistakes, Exceeds}
+use Rattle.control_door.specs.Requests.{Shows, Threads, Lists, Quits, Mistakes, Exceeds}
 use Rattle.control_door.proofs.Answering.{answers-read, answers-held, acts-quitting, acts-mistaken, acts-exceeding}
 use Rattle.control_door.proofs.answers.say_requested.Goals as goal
 
@@ -16,6 +16,10 @@ returns-in-Text-clause-acts g c = rw (c.in-Text.is, c.after-in-Text.ensures)
 
 pub returns-in-Removal-clause-acts : goal.returns-in-Removal-clause-acts
 returns-in-Removal-clause-acts g c = rw (c.in-Removal.is, c.after-in-Removal.ensures) c.say_commanded-in-Removal.ensures.acts
+
+pub returns-in-Thread-clause-acts : goal.returns-in-Thread-clause-acts
+returns-in-Thread-clause-acts g c = rw (c.in-Thread.is, c.after-in-Thread.ensures)
+    (answers-read g.K.Shelf.holds g.K.Shelf.ready g.K.Keep.leaves g.met.K.Keep.holds_left c.args.moment (Threads c.in-Thread.number) c.args.keep.now c.args.keep.now _ _ _ (g.met.K.Keep.alike_kept _ _ (g.met.K.Shelf.alike_same c.args.keep.now)) (c.say_thread.ensures.acts c.args.moment))
 
 pub returns-in-Epochs-clause-acts : goal.returns-in-Epochs-clause-acts
 returns-in-Epochs-clause-acts g c = rw (c.in-Epochs.is, c.after-in-Epochs.ensures)

@@ -2,7 +2,7 @@ use Rattle.std.proofs.Common.{◌≡◌, length, ◌+◌, ◌<◌, ◌≤◌}
 use Rattle.thread_tree.specs.Nodes.{under_at}
 use Rattle.std.proofs.Common.{arith, ◌<◌, sym, ap, ◌∙◌}
 use Rattle.std.proofs.lemmas.List.{length_push}
-use Rattle.thread_tree.proofs.Preorder.{walk-begins, walk-ends, walk-more, walk-room}
+use Rattle.thread_tree.proofs.Preorder.{walk-begins, walk-ends, walk-more, walk-room, walk-short}
 use Rattle.thread_tree.proofs.Stepped.{none-by-length}
 use Rattle.thread_tree.proofs.forest.preorder.Goals as goal
 
@@ -36,9 +36,12 @@ loop-depth-preserved c =
     c.requires c.loop-depth.invariant c.in-Some.ensures.items c.in_ok-push.ensures.items c.list_under.ensures c.in_ok-push_all-2.ensures
 
 -- src/forest.rt:82:1
-pub returns : goal.returns
-returns c =
+pub returns-clause-walks : goal.returns-clause-walks
+returns-clause-walks c =
     let gone : c.loop-depth.stack.len ≡ 0 = c.in_default.ensures.cases.0 in
     let counted : c.loop-depth.stack.len ≡ length c.loop-depth.stack.items = c.loop-depth.stack.ok.0 in
     walk-ends (under_at c.args.under.now) c.args.roots.now (length c.args.under.now) c.loop-depth.lines.items c.loop-depth.stack.items c.loop-depth.invariant
     (none-by-length c.loop-depth.stack.items (sym counted ∙ gone))
+
+pub returns-clause-few : goal.returns-clause-few
+returns-clause-few c = walk-short (under_at c.args.under.now) c.args.roots.now (length c.args.under.now) c.loop-depth.lines.items c.loop-depth.stack.items c.loop-depth.invariant

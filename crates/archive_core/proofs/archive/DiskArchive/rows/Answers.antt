@@ -12,12 +12,12 @@ pub returns-in-Err-clause-sound : goal.returns-in-Err-clause-sound
 returns-in-Err-clause-sound g c = λ sound. unread-well c.args.self.now _ c.in-Err.unread.why c.unopened.result c.unopened.ensures (c.in-Err.ensures.sound (rw (c.self.view_is) sound))
 
 pub returns-in-Err-clause-cause : goal.returns-in-Err-clause-cause
-returns-in-Err-clause-cause g c = caused g.D.Disk.faults _ c.args.disk.now c.walked_rows.new.walked.disk.now _ (let same = c.in-Err.ensures.walk.same.0 in search rules)
-    (unread-cause c.args.self.now _ (g.D.Disk.faults c.args.disk.now) (g.D.Disk.faults c.walked_rows.new.walked.disk.now) c.in-Err.unread.why c.unopened.result c.unopened.ensures c.in-Err.ensures.walk.later c.in-Err.ensures.cause)
+returns-in-Err-clause-cause g c = caused g.D.Disk.faults _ c.args.disk.now c.rebuild.new.walked.disk.now _ (let same = c.in-Err.ensures.walk.same.0 in search rules)
+    (unread-cause c.args.self.now _ (g.D.Disk.faults c.args.disk.now) (g.D.Disk.faults c.rebuild.new.walked.disk.now) c.in-Err.unread.why c.unopened.result c.unopened.ensures c.in-Err.ensures.walk.later c.in-Err.ensures.cause)
 
 -- The disk is the one that was lent, and was only read.
 pub returns-in-Ok-clause-looks : goal.returns-in-Ok-clause-looks
-returns-in-Ok-clause-looks g c = looked g.D.Disk.content g.D.Disk.moment g.D.Disk.left_since c.args.disk.now c.walked_rows.new.walked.disk.now _ (let same = c.in-Ok.ensures.walk.same.0 in search rules) c.in-Ok.ensures.walk.same.2
+returns-in-Ok-clause-looks g c = looked g.D.Disk.content g.D.Disk.moment g.D.Disk.left_since c.args.disk.now c.rebuild.new.walked.disk.now _ (let same = c.in-Ok.ensures.walk.same.0 in search rules) c.in-Ok.ensures.walk.same.2
 
 pub returns-in-Err-clause-looks : goal.returns-in-Err-clause-looks
-returns-in-Err-clause-looks g c = looked g.D.Disk.content g.D.Disk.moment g.D.Disk.left_since c.args.disk.now c.walked_rows.new.walked.disk.now _ (let same = c.in-Err.ensures.walk.same.0 in search rules) c.in-Err.ensures.walk.same.2
+returns-in-Err-clause-looks g c = looked g.D.Disk.content g.D.Disk.moment g.D.Disk.left_since c.args.disk.now c.rebuild.new.walked.disk.now _ (let same = c.in-Err.ensures.walk.same.0 in search rules) c.in-Err.ensures.walk.same.2

@@ -9,7 +9,7 @@ use Rattle.archive_core.proofs.engine.Engine.message_count.Goals as goal
 pub returns : goal.returns
 returns g c = λ a store.
     let rows_are = rows-inside g.D.Disk.content g.D.Disk.moment g.D.Disk.left_since g.met.D.Disk.counts_now g.met.D.Disk.only_now g.met.D.Disk.reads_fit
-    (record { disk = c.self.inside.disk; view = c.self.inside.archive; rows = c.self.inside.overview; stale = c.self.inside.stale }) c.args.self.now c.self.view_is a store in
+    (record { disk = c.self.inside.disk; view = c.self.inside.archive; rows = c.self.inside.views; stale = c.self.inside.stale }) c.args.self.now c.self.view_is a store in
     let between = c.live_count.ensures ∙ ap (λ rs. live_between rs 0 4294967295) rows_are ∙ between-live (live a.entries) 0 4294967295 in
     c.min.ensures ∙ ap (λ (n : ℕ). min n c.from.result) between ∙ ap (min _) c.from.ensures ∙ counted a (kept-inside g.D.Disk.content g.D.Disk.moment g.D.Disk.left_since g.met.D.Disk.counts_now g.met.D.Disk.only_now g.met.D.Disk.reads_fit
-    (record { disk = c.self.inside.disk; view = c.self.inside.archive; rows = c.self.inside.overview; stale = c.self.inside.stale }) c.args.self.now c.self.view_is a store).valid
+    (record { disk = c.self.inside.disk; view = c.self.inside.archive; rows = c.self.inside.views; stale = c.self.inside.stale }) c.args.self.now c.self.view_is a store).valid

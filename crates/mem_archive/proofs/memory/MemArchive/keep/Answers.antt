@@ -13,9 +13,9 @@ unwrap-commit-requires c = ap (λ (e : End). is_some e.parent) c.in_ok-end.ensur
 
 pub invariant_of-self-in-Err : goal.invariant_of-self-in-Err
 invariant_of-self-in-Err c =
-    row-left c.self.inside.config c.self.inside.kept.items c.self.inside.places.items c.self.inside.index c.self.inside.end c.args.self.now c.self.view_is c.self.invariant.0 c.self.inside.overview c.self.invariant.1 c.owner_of-owner.result.number
-    (ap (λ (o : Owner). o.number) c.owner_of-owner.ensures) c.as_slice-4.result.now c.args.moment c.add_row.new.overview c.in_ok-add_row.ensures.ok
-    c.reserve-2.new.self.items c.in_ok-reserve-2.ensures.items c.reserve.new.self.items c.in_ok-reserve.ensures.items c.insert.new.self c.in-Err.ensures.err c.take.new.self c.take.ensures.rows
+    row-left c.self.inside.config c.self.inside.kept.items c.self.inside.places.items c.self.inside.index c.self.inside.end c.args.self.now c.self.view_is c.self.invariant.0 c.self.inside.views c.self.invariant.1 c.owner_of-owner.result.number
+    (ap (λ (o : Owner). o.number) c.owner_of-owner.ensures) c.as_slice-4.result.now c.args.moment c.add_if_stored.new.views c.in_ok-add_if_stored.ensures.ok
+    c.reserve-2.new.self.items c.in_ok-reserve-2.ensures.items c.reserve.new.self.items c.in_ok-reserve.ensures.items c.insert.new.self c.in-Err.ensures.err c.take.new.self c.take.ensures
 
 pub invariant_of-self-2 : goal.invariant_of-self-2
 invariant_of-self-2 c =
@@ -26,8 +26,8 @@ invariant_of-self-2 c =
           c.owner_of-owner.result c.len-entry.result c.owner_of-owner.result.number c.args.self.now c.self.view_is c.self.invariant.0 c.requires.room c.requires.free c.requires.blob c.requires.alone c.in_ok-end.ensures c.unwrap-commit.ensures c.as_slice.ensures c.in_ok-id.ensures c.as_slice-2.ensures
           c.owner_of-owner.ensures c.as_slice-3.ensures count refl c.in_default.ensures.ok c.push.new.self.items held c.push-2.new.self.items
           (c.in_ok-push-2.ensures.items ∙ ap (λ (ps : List Place). ps ++ record { entry = c.len-entry.result; live = true } ∷ []) c.in_ok-reserve.ensures.items)).0,
-      row-kept c.self.inside.config c.self.inside.kept.items c.self.inside.places.items c.self.inside.index c.self.inside.end c.args.self.now c.self.view_is c.self.invariant.0 c.self.inside.overview c.self.invariant.1 c.owner_of-owner.result.number
-          (ap (λ (o : Owner). o.number) c.owner_of-owner.ensures) c.as_slice-4.result.now c.args.moment c.add_row.new.overview c.in_ok-add_row.ensures.ok
+      row-kept c.self.inside.config c.self.inside.kept.items c.self.inside.places.items c.self.inside.index c.self.inside.end c.args.self.now c.self.view_is c.self.invariant.0 c.self.inside.views c.self.invariant.1 c.owner_of-owner.result.number
+          (ap (λ (o : Owner). o.number) c.owner_of-owner.ensures) c.as_slice-4.result.now c.args.moment c.add_if_stored.new.views c.in_ok-add_if_stored.ensures.ok
           c.in_ok-end.end.epoch c.args.text c.unwrap-commit.result c.as_slice-4.ensures c.push.new.self.items held,
     )
 

@@ -9,5 +9,5 @@ use Rattle.mem_archive.proofs.memory.MemArchive.page.Goals as goal
 pub returns : goal.returns
 returns c =
     let es = live c.args.self.now.entries in
-    IfOk-weaker c.page.result (λ page. page ≡ take c.args.count (drop c.args.skip (listing c.self.inside.overview))) (λ page. page ≡ take c.args.count (drop c.args.skip (listed es)))
+    IfOk-weaker c.page.result (λ page. page ≡ take c.args.count (drop c.args.skip (listing c.self.inside.views))) (λ page. page ≡ take c.args.count (drop c.args.skip (listed es)))
     (λ page e. e ∙ ap (λ l. take c.args.count (drop c.args.skip l)) (ap listing (c.self.invariant.1 ∙ ap (λ (a : Archive). rows_of (live a.entries)) c.self.view_is) ∙ listing-is es)) c.page.ensures

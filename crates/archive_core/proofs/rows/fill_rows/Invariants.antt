@@ -1,9 +1,0 @@
-use Rattle.std.proofs.Common.{◌-◌, length}
-use Rattle.archive_core.proofs.Walking.{Filled}
-use Rattle.archive_core.proofs.rows.fill_rows.Given as goal
-
-abbrev pub invariant-loop-line : goal.invariant-loop-line
-invariant-loop-line g l = Filled g.W.Walked.holds g.W.Walked.sound g.W.Walked.lines g.W.Walked.alike g.W.Walked.faults l.fn.walked l.walked l.index l.overview
-
-abbrev pub decreases-loop-line : goal.decreases-loop-line
-decreases-loop-line g l = length (g.W.Walked.lines l.walked) - l.index

@@ -1,0 +1,86 @@
+//! The threads of archives in memory and on disks, as messages come and go, and after a reopening.
+use crate::engine_tests::opened;
+use crate::removal_tests::{answer, on_disk};
+use arch_model::{Command, Keep, OpenRefusal, Shelf};
+use archive_core::Engine;
+use disk_model::MemDisk;
+use epoch_tests::{LATER, MOMENT};
+use std::alloc::Global;
+use std::test::Fail;
+use store_tests::in_memory;
+
+/// Two mails alone, and a third that answers both and one that isn't there.
+const ALONE: &[u8] = b"Message-ID: <a@x>\n\none\n";
+
+const OTHER: &[u8] = b"Message-ID: <b@x>\n\ntwo\n";
+
+const LINK: &[u8] = b"Message-ID: <c@x>\nReferences: <g@x> <a@x> <b@x>\n\nthree\n";
+
+/// Returns whether the thread of a number has these numbers.
+fn thread_is<K: Keep>(keep: &mut K, n: u32, wanted: &[u64]) -> Result<bool, Fail> {
+    keep.fresh()?;
+    let found = keep.thread_of(n)?;
+    Ok(found.as_slice() == wanted)
+}
+
+/// Carries out a command, and returns whether it left the keeper ready.
+fn stays_ready<K: Keep>(
+    keep: &mut K,
+    command: &Command<'_>,
+    moment: u64,
+) -> Result<bool, OpenRefusal> {
+    let _ = answer(keep, command, moment)?;
+    Ok(!keep.is_stale())
+}
+
+/// Delivers the three mails, and returns whether they are in one thread then, and were in two before.
+fn joins<K: Keep>(keep: &mut K) -> Result<bool, Fail> {
+    let first = stays_ready(keep, &Command::Deliver(ALONE), MOMENT)?;
+    let second = stays_ready(keep, &Command::Deliver(OTHER), MOMENT)?;
+    let apart = thread_is(keep, 1, &[1])? && thread_is(keep, 2, &[2])?;
+    let third = stays_ready(keep, &Command::Deliver(LINK), MOMENT)?;
+    let joined = thread_is(keep, 1, &[1, 2, 3])? && thread_is(keep, 3, &[1, 2, 3])?;
+    let none = thread_is(keep, 4, &[])? && thread_is(keep, 0, &[])?;
+    Ok(first && second && apart && third && joined && none)
+}
+
+/// Removes the third mail, and returns whether the others are in two threads again.
+fn parts<K: Keep>(keep: &mut K) -> Result<bool, Fail> {
+    let ready = stays_ready(keep, &Command::Remove(3), LATER)?;
+    let apart = thread_is(keep, 1, &[1])? && thread_is(keep, 2, &[2])?;
+    let gone = thread_is(keep, 3, &[])?;
+    Ok(ready && apart && gone)
+}
+
+#[test]
+fn threads_join_and_part(rt: HostRuntime) -> Result<(), Fail> {
+    let alloc = rt.alloc();
+    let mut memory = in_memory(alloc, 2000, 10, false).ok_or("settings")?;
+    assert!(rt; joins(&mut memory)? && parts(&mut memory)?);
+    let mut engine = on_disk(alloc, 2000, false)?;
+    assert!(rt; joins(&mut engine)? && parts(&mut engine)?);
+    Ok(())
+}
+
+/// Makes an archive of the three mails, the first of which was removed, and reopens it.
+fn reopened(alloc: Global) -> Result<Engine<MemDisk>, Fail> {
+    let mut engine = on_disk(alloc, 400, false)?;
+    let _ = joins(&mut engine)?;
+    let _ = stays_ready(&mut engine, &Command::Remove(1), LATER)?;
+    Ok(opened(alloc, engine.into_disk())?)
+}
+
+#[test]
+fn threads_are_the_same_after_a_reopening(rt: HostRuntime) -> Result<(), Fail> {
+    let mut engine = reopened(rt.alloc())?;
+    assert!(rt; thread_is(&mut engine, 1, &[])?);
+    assert!(rt; thread_is(&mut engine, 2, &[2, 3])?);
+    assert!(rt; parts_after(&mut engine)?);
+    Ok(())
+}
+
+/// Removes the third mail of those that are left, and returns whether the second is alone.
+fn parts_after<K: Keep>(keep: &mut K) -> Result<bool, Fail> {
+    let ready = stays_ready(keep, &Command::Remove(3), LATER)?;
+    Ok(ready && thread_is(keep, 2, &[2])? && thread_is(keep, 3, &[])?)
+}

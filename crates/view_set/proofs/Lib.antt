@@ -1,0 +1,4 @@
+pub mod Keyed
+pub mod Messages
+pub mod Walking
+pub mod Results

@@ -1,0 +1,18 @@
+use Rattle.std.proofs.Common.{◌∙◌, ℕ, List, Ok, sym, ap, subst}
+use Rattle.git_objects.specs.Objects.{blob_id_of}
+use Rattle.arch_model.specs.Rows.{row_of}
+use Rattle.arch_model.specs.Walking.{GivesLine, GivesTextAt}
+use Rattle.overview_index.specs.Listings.{with_row}
+use Rattle.view_set.proofs.rebuilding.add_message.Goals as goal
+
+-- The text that was read has the line's blob id.
+pub add_if_stored-requires : goal.add_if_stored-requires
+add_if_stored-requires g c =
+    let given = subst (λ (l : List ℕ). GivesLine c.args.line.now l c.text.new.into (Ok tt)) c.new-text.ensures (c.in_default.ensures.line c.args.line.now c.requires.line) in
+    sym given.1 ∙ ap blob_id_of (sym (c.as_slice-bytes.ensures ∙ given.2))
+
+-- It is the entry's, where an archive is held.
+pub returns-in-Ok-clause-row : goal.returns-in-Ok-clause-row
+returns-in-Ok-clause-row g c = λ a held.
+    let given = subst (λ (l : List ℕ). GivesTextAt a.entries c.args.index l c.text.new.into (Ok tt)) c.new-text.ensures (c.in_default.ensures.archive a held) in
+    (given.0, given.1, c.in-Ok.ensures.ok ∙ ap (λ (t : List ℕ). with_row c.args.views.now (row_of c.args.line.now.number t c.args.line.now.secs)) (c.as_slice-bytes.ensures ∙ given.2))

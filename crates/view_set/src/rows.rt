@@ -1,0 +1,58 @@
+//! The rows of texts.
+ghost use Rattle.std.specs.Prelude.{◌≡◌, OnOk, OnErr};
+ghost use Rattle.git_objects.specs.Objects.{blob_id_of};
+ghost use Rattle.mail_reader.specs.StorageTexts.{IsStorageText};
+ghost use Rattle.arch_model.specs.Rows.{row_of as row_fact};
+ghost use Rattle.overview_index.specs.Listings.{with_row};
+
+use crate::views::Views;
+use arch_base::{NoMemory, ObjectId};
+use mail_reader::is_stored;
+use mail_rows::row_of;
+use std::alloc::Global;
+
+/// Adds the row of a message, by its number, its blob id, its text and the moment of its arrival.
+///
+/// `NoMemory` if an allocation fails, or if a row has the number or the own id, which no two live
+/// messages of an archive have. It leaves the rows unchanged.
+pub fn add_row(
+    alloc: Global,
+    views: &mut Views,
+    number: u32,
+    blob: &ObjectId,
+    text: &[u8],
+    moment: u64,
+) -> Result<(), NoMemory>
+    requires text { IsStorageText text.now }
+    requires blob { blob.now ≡ blob_id_of text.now }
+    ensures ok { OnOk result (views.new ≡ with_row views.old (row_fact number text.now moment)) }
+    ensures err { OnErr result (views.new ≡ views.old) }
+{
+    let row = row_of(alloc, number, blob, text, moment)?;
+    if views.get(number).is_some() || views.by_id(row.id.as_slice()).is_some() {
+        return Err(NoMemory);
+    }
+    views.add(row)
+}
+
+/// Adds the row of a message, as `add_row` does, if its text is a storage text, which the text of an
+/// archive's message is.
+///
+/// `NoMemory` if it is none, and wherever `add_row` gives it. It leaves the rows unchanged.
+pub fn add_if_stored(
+    alloc: Global,
+    views: &mut Views,
+    number: u32,
+    blob: &ObjectId,
+    text: &[u8],
+    moment: u64,
+) -> Result<(), NoMemory>
+    requires { blob.now ≡ blob_id_of text.now }
+    ensures ok { OnOk result (views.new ≡ with_row views.old (row_fact number text.now moment)) }
+    ensures err { OnErr result (views.new ≡ views.old) }
+{
+    if !is_stored(text) {
+        return Err(NoMemory);
+    }
+    add_row(alloc, views, number, blob, text, moment)
+}

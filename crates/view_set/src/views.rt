@@ -1,0 +1,146 @@
+//! The rows of live messages and the threads that they make.
+ghost use Rattle.std.specs.Prelude.{◌≡◌, [], take, drop, None, IfOk, OnOk, OnErr, option_copied};
+ghost use Rattle.overview_index.specs.Listings.{row_in, number_of, with_row, without, listing, live_between, IsLeastFrom, IsGreatestTo};
+ghost use Rattle.thread_model.specs.Members.{Rises};
+ghost use Rattle.view_set.specs.Threads.{thread_in};
+
+use crate::counted::{add_thread, take_thread};
+use crate::keys::keys_of;
+use arch_base::{NoMemory, Numbers};
+use mail_forms::Row;
+use overview_index::Overview;
+use std::alloc::Global;
+use std::marker::Model;
+use thread_index::ThreadIndex;
+
+/// The rows of live messages, and the threads that they make.
+///
+/// Contracts see the rows by their numbers. A row that is added or taken changes the threads that it
+/// touches alone, in the steps that `ThreadIndex` promises. If memory runs out for that, the threads
+/// are given up until `clear`, and `thread_of` gives `NoMemory`; all else is answered still.
+#[derive(Drop)]
+pub struct Views {
+    alloc: Global,
+    overview: Overview,
+    threads: ThreadIndex,
+}
+
+impl Model for Views {
+    ghost use Rattle.std.specs.Prelude.{List, ℕ};
+    ghost use Rattle.mail_forms.specs.declared.row.Row.{Row};
+    ghost use Rattle.view_set.specs.Threads.{AreThreaded};
+
+    ghost Value = { List (ℕ × Row) };
+
+    ghost view = { λ v. v.overview };
+
+    ghost invariant = { λ v. AreThreaded v.overview v.threads };
+}
+
+impl Views {
+    /// Returns views of no rows. Allocates nothing.
+    pub fn new(alloc: Global) -> Views
+        ensures { result ≡ [] }
+    {
+        Views {
+            alloc,
+            overview: Overview::new(alloc),
+            threads: ThreadIndex::new(alloc),
+        }
+    }
+
+    /// Adds a row, whose number and id no row has.
+    ///
+    /// `NoMemory` drops the row, and leaves the rows as they were.
+    pub fn add(&mut self, row: Row) -> Result<(), NoMemory>
+        requires number { row_in self.old row.number ≡ None }
+        requires id { number_of self.old row.id ≡ None }
+        ensures ok { OnOk result (self.new ≡ with_row self.old row) }
+        ensures err { OnErr result (self.new ≡ self.old) }
+    {
+        let number = row.number;
+        let keys = keys_of(self.alloc, &row)?;
+        self.overview.add(row)?;
+        if let Err(refused) = add_thread(&mut self.threads, number, &keys) {
+            self.overview.take(number);
+            return Err(refused);
+        }
+        Ok(())
+    }
+
+    /// Takes the row of a number, if there is one.
+    ///
+    /// `NoMemory` if it ran out for the threads. The row is taken then, too.
+    pub fn take(&mut self, n: u32) -> Result<(), NoMemory>
+        ensures { self.new ≡ without self.old n }
+    {
+        self.overview.take(n);
+        take_thread(&mut self.threads, n)
+    }
+
+    /// Removes all rows.
+    pub fn clear(&mut self)
+        ensures { self.new ≡ [] }
+    {
+        self.overview = Overview::new(self.alloc);
+        self.threads.clear();
+    }
+
+    /// Returns the row of a number.
+    pub fn get(&self, n: u32) -> Option<&Row>
+        ensures { option_copied result ≡ row_in self.now n }
+    {
+        self.overview.get(n)
+    }
+
+    /// Returns the number of the row with an id.
+    pub fn by_id(&self, id: &[u8]) -> Option<u32>
+        ensures { result ≡ number_of self.now id.now }
+    {
+        self.overview.by_id(id)
+    }
+
+    /// Returns the least number of a row that is at least this one.
+    pub fn live_from(&self, n: u32) -> Option<u32>
+        ensures { IsLeastFrom self.now n result }
+    {
+        self.overview.live_from(n)
+    }
+
+    /// Returns the greatest number of a row that is at most this one.
+    pub fn live_to(&self, n: u32) -> Option<u32>
+        ensures { IsGreatestTo self.now n result }
+    {
+        self.overview.live_to(n)
+    }
+
+    /// Returns how many rows have a number from `low` to `high`, both included.
+    pub fn live_count(&self, low: u32, high: u32) -> u64
+        ensures { result ≡ live_between self.now low high }
+    {
+        self.overview.live_count(low, high)
+    }
+
+    /// Returns the numbers of rows, newest first: by the seconds of their dates, and then by number,
+    /// both falling. These are so many after so many that are skipped, or as many as there are.
+    ///
+    /// `NoMemory` if an allocation fails.
+    pub fn page(&self, skip: u64, count: u64) -> Result<Numbers, NoMemory>
+        ensures { IfOk result (λ page. page ≡ take count (drop skip (listing self.now))) }
+    {
+        self.overview.page(skip, count)
+    }
+
+    /// Returns the numbers of the rows in the thread of a number, rising, or none if it has no row.
+    ///
+    /// `NoMemory` if an allocation fails, or if one failed before when the threads were changed.
+    pub fn thread_of(&self, n: u32) -> Result<Numbers, NoMemory>
+        ensures members { IfOk result (λ numbers. numbers ≡ thread_in self.now n) }
+        ensures rising { IfOk result (λ numbers. Rises numbers) }
+    {
+        if !self.threads.is_whole() {
+            return Err(NoMemory);
+        }
+        self.threads.members(n)
+    }
+}
