@@ -6,3 +6,4 @@ pub mod Numerals
 pub mod Placing
 pub mod Lines
 pub mod Unambiguous
+pub mod Hosting

@@ -10,3 +10,5 @@ pub mod MemClocks
 pub mod Scripts
 pub mod Spans
 pub mod Parsing
+pub mod Frames
+pub mod Hosts

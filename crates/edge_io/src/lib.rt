@@ -1,10 +1,12 @@
-//! The outside of the archive: sources of bytes, sinks of bytes and clocks, each with a count of
-//! faults, their versions in memory, words written to a sink, and scripts of the events that a
-//! server runs on.
+//! The outside of the archive: sources of bytes, sinks of bytes, clocks, and hosts of connections,
+//! each with a count of faults, their versions in memory, words written to a sink, and scripts of
+//! the events that a server runs on.
 #![tactic(auto)]
 
 mod clock;
+mod conn_sink;
 mod events;
+mod host;
 mod mem_clock;
 mod mem_sink;
 mod mem_source;
@@ -15,7 +17,9 @@ mod sink;
 mod source;
 
 pub use clock::{Clock, ClockFault};
+pub use conn_sink::ConnSink;
 pub use events::{Door, Event, What};
+pub use host::{Host, HostFault};
 pub use mem_clock::MemClock;
 pub use mem_sink::MemSink;
 pub use mem_source::MemSource;
