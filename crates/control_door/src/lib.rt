@@ -11,4 +11,5 @@ mod session;
 
 pub use laws::cut_laws;
 pub use order::{Order, read_order};
+pub use replies::say_busy;
 pub use session::Session;
