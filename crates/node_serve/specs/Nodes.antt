@@ -1,7 +1,7 @@
 -- What a node's values mean, and what its calls do.
-use Rattle.std.specs.Prelude.{◌≡◌, ℕ, Bool, true, false, List, [], ◌∷◌, ◌++◌, Option, Some, None, Result}
+use Rattle.std.specs.Prelude.{◌≡◌, ◌+◌, ℕ, Bool, true, false, List, [], ◌∷◌, ◌++◌, Option, Some, None, Result}
 use Rattle.std.specs.Ordering.{nat_cmp}
-use Rattle.std.specs.BTreeMap.{BTreeMap, get}
+use Rattle.std.specs.BTreeMap.{BTreeMap, get, btree_map_len}
 use Rattle.arch_base.specs.Counts.{Rose}
 use Rattle.edge_io.specs.Frames.{Outputs, outputs}
 use Rattle.edge_io.specs.Hosts.{Told, then_given, NoneLeft, OthersKept, one_more}
@@ -25,9 +25,8 @@ use Rattle.node_serve.specs.declared.serving.ServeEnd.{ServeEnd}
 use Rattle.node_serve.specs.declared.serving.Taken.{Taken}
 use Rattle.node_serve.specs.declared.serving.Taken.TheVariants.{Went, Stops, Nothing, Fault}
 
--- A keeper, and the open sessions over it, of which there are `count`.
-pub record Serving (K : Type 0) : Type 0 where
-  pub keep : K
+-- The session of each connection that has one, and how many these are.
+pub record Places : Type 0 where
   pub session : ℕ → Option Session
   pub count : ℕ
 
@@ -35,14 +34,22 @@ pub record Serving (K : Type 0) : Type 0 where
 abbrev pub session_of : BTreeMap ℕ Session → ℕ → Option Session
 session_of m c = get nat_cmp m c
 
--- No connection has a session.
-abbrev pub no_session : ℕ → Option Session
-no_session c = None
+-- The sessions in a map.
+abbrev pub places_of : BTreeMap ℕ Session → Places
+places_of m = record { session = session_of m; count = btree_map_len m }
 
--- The world of a node and what is outside of it, where its keeper stands so.
-abbrev pub world_of : {K : Type 0} → Standing → Serving K → Outer → World
-world_of s node o =
-    record { standing = s; session = node.session; count = node.count; out = o }
+-- A keeper, and the open sessions over it.
+pub record Serving (K : Type 0) : Type 0 where
+  pub keep : K
+  pub places : Places
+
+-- The node of these two parts.
+abbrev pub serving : {K : Type 0} → K → Places → Serving K
+serving keep places = record { keep = keep; places = places }
+
+-- The world of open sessions and what is outside of them, where the keeper stands so.
+abbrev pub world_of : Standing → Places → Outer → World
+world_of s p o = record { standing = s; session = p.session; count = p.count; out = o }
 
 -- A connection was refused: words of a door were written to it, and it was closed.
 pub record Refused (c : ℕ) (words : List ℕ) (i j : Outer) : Type 0 where
@@ -53,16 +60,28 @@ pub record Refused (c : ℕ) (words : List ℕ) (i j : Outer) : Type 0 where
   pub closed : j.closings c ≡ one_more (i.closings c)
   pub disk : j.disk ≡ i.disk
 
--- A session of a door was made at a connection, or refused. The keeper stays.
-abbrev pub Makes : {K : Type 0} → Door → ℕ → Serving K → Outer → Serving K → Outer → Type 0
-Makes door c old i new j = (new.keep ≡ old.keep) × ((s : Standing)
-    → ActAt c (said_making door (others_open c (world_of s old i)) s)
-    (world_of s old i) (world_of s new j))
+-- A session of a door was made at a connection, or refused.
+abbrev pub Makes : Door → ℕ → Places → Outer → Places → Outer → Type 0
+Makes door c p i q j = (s : Standing)
+    → ActAt c (said_making door (others_open c (world_of s p i)) s) (world_of s p i) (world_of s q j)
 
--- The session of a connection ended without a word. The keeper stays.
-abbrev pub Ends : {K : Type 0} → ℕ → Serving K → Outer → Serving K → Outer → Type 0
-Ends c old i new j = (new.keep ≡ old.keep) × ((s : Standing)
-    → EndedAt c (world_of s old i) (world_of s new j))
+-- The session of a connection ended without a word, if it had one.
+abbrev pub Ends : ℕ → Places → Places → Type 0
+Ends c p q = (s : Standing) (o : Outer) → EndedAt c (world_of s p o) (world_of s q o)
+
+-- A connection without a session got one, whichever it is.
+pub record IsPlaced (c : ℕ) (p q : Places) : Type 0 where
+  pub none : p.session c ≡ None
+  pub first : Session
+  pub some : q.session c ≡ Some first
+  pub others : OthersKept c p.session q.session
+  pub count : q.count ≡ p.count + 1
+
+-- The session of a connection is another one.
+pub record IsPut (c : ℕ) (open : Session) (p q : Places) : Type 0 where
+  pub here : q.session c ≡ Some open
+  pub others : OthersKept c p.session q.session
+  pub count : q.count ≡ p.count
 
 -- What connections had taken and how often each was closed, each time that a host was asked for the
 -- next event and answered: before each of these turns, and at the end if it answered that none is
@@ -105,7 +124,7 @@ module _ {K : Type 0} (holds : K → Archive → Type 0) (ready : K → Bool)
     pub after : Standing
     pub fits : Fits holds ready leaves new.keep after
     pub passed : List Standing
-    pub turned : Turned arrival (world_of s old i) passed (world_of after new j)
+    pub turned : Turned arrival (world_of s old.places i) passed (world_of after new.places j)
     pub passes : Passes leaves old.keep new.keep (s ∷ passed)
     pub crash : leaves old.keep new.keep (archives_of (s ∷ passed))
 
@@ -120,7 +139,7 @@ module _ {K : Type 0} (holds : K → Archive → Type 0) (ready : K → Bool)
     pub after : Standing
     pub fits : Fits holds ready leaves new.keep after
     pub turns : List Turn
-    pub served : Served arrivals (world_of s old i) turns (world_of after new j)
+    pub served : Served arrivals (world_of s old.places i) turns (world_of after new.places j)
     pub passes : Passes leaves old.keep new.keep (s ∷ passed_in turns)
     pub crash : leaves old.keep new.keep (archives_of (s ∷ passed_in turns))
 
@@ -131,7 +150,7 @@ module _ {K : Type 0} (holds : K → Archive → Type 0) (ready : K → Bool)
       (j : Outer) : Type 0 where
     pub runs : RunsTo arrivals s old i new j
     pub records : (past : List Outputs) → recorded past → recorded'
-        (past ++ outputs_asked none (world_of s old i) runs.turns (world_of runs.after new j))
+        (past ++ outputs_asked none (world_of s old.places i) runs.turns (world_of runs.after new.places j))
 
   -- A node served the events that a host gave, in order.
   pub record ServesTo (end : ServeEnd) (turns : ℕ) (old : Serving K) (i : Outer) (new : Serving K)

@@ -4,6 +4,7 @@
 
 mod laws;
 mod node;
+mod places;
 mod serving;
 mod session;
 mod welcome;

@@ -42,8 +42,9 @@ fn say_starved<O: Sink>(door: Door, out: &mut O) -> Result<(), SinkFault>
     }
 }
 
-/// Refuses a connection because as many sessions are open as there may be, and closes it.
-pub(crate) fn refuse_busy<H: Host>(door: Door, conn: u32, host: &mut H)
+/// Refuses a connection because as many sessions are open as there may be, and closes it. One at a
+/// door that isn't built is closed without a word.
+pub(crate) fn refuse<H: Host>(door: Door, conn: u32, host: &mut H)
     ensures refused { (disk : ℕ) → Refused conn (busy_words door)
         (outer (H.taken host.old) (H.closings host.old) disk (H.lost host.old))
         (outer (H.taken host.new) (H.closings host.new) disk (H.lost host.new)) }
