@@ -24,7 +24,7 @@ unclosed conn = if nat_lt conn 65536 then Some 0 else None
 -- No connection took anything, and none was closed.
 pub record IsUnused (outputs : Outputs) : Type 0 where
   pub untaken : (conn : ℕ) → outputs.taken conn ≡ Some []
-  pub open : (conn : ℕ) → outputs.closings conn ≡ unclosed conn
+  pub all_open : (conn : ℕ) → outputs.closings conn ≡ unclosed conn
 
 -- The state of a host: its events, the outputs, the ordinals of the calls that fail, and the counts
 -- of calls of `next` and `send`, of failed calls of each, and of calls that ran out of memory.
