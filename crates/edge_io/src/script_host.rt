@@ -91,8 +91,8 @@ impl ScriptHost {
         frames
     }
 
-    /// Appends the frames of the current event, and begins the next one. If memory runs out, the
-    /// frames may lack a part of it.
+    /// Appends the frames of the current event, and begins the next one. If memory runs out, none of
+    /// them is appended.
     fn end_event(&mut self)
         ensures events { self.new.events ≡ self.old.events }
         ensures outputs { self.new.outputs ≡ self.old.outputs }
@@ -102,7 +102,9 @@ impl ScriptHost {
         ensures frames { self.new.starved ≡ 0
             → self.new.frames ≡ self.old.frames ++ event_frame self.old.begun self.old.outputs }
     {
+        let before = self.frames.as_slice().len();
         if self.push_all_written().is_err() || self.push_all_closings().is_err() {
+            self.frames.truncate(before);
             self.starved = self.starved.saturating_add(1);
         }
         self.mark_all();
