@@ -7,3 +7,4 @@ pub mod Placing
 pub mod Lines
 pub mod Unambiguous
 pub mod Hosting
+pub mod Givings

@@ -35,18 +35,22 @@ abbrev pub closed_between : Outputs → Outputs → ℕ → Bool
 closed_between before after conn =
     nat_lt (count_or_0 (before.closings conn)) (count_or_0 (after.closings conn))
 
+-- A text and a line feed.
+abbrev pub with_feed : List ℕ → List ℕ
+with_feed text = text ++ 10 ∷ []
+
 -- A line with a connection's number and the length of what it took.
 abbrev pub head : ℕ → ℕ → List ℕ
-head conn len = decimal conn ++ 32 ∷ (decimal len ++ 10 ∷ [])
+head conn len = with_feed (decimal conn ++ 32 ∷ decimal len)
 
 -- The bytes that a connection took at an event, after their head; nothing if there are none.
 abbrev pub written : ℕ → List ℕ → List ℕ
 written conn [] = []
-written conn (b ∷ bs) = head conn (length (b ∷ bs)) ++ ((b ∷ bs) ++ 10 ∷ [])
+written conn (b ∷ bs) = head conn (length (b ∷ bs)) ++ with_feed (b ∷ bs)
 
 -- The line of a connection that the server closed, or nothing.
 abbrev pub closing : ℕ → Bool → List ℕ
-closing conn true = decimal conn ++ codes " closed\n"
+closing conn true = with_feed (decimal conn ++ codes " closed")
 closing conn false = []
 
 -- The texts of so many connections in a row.

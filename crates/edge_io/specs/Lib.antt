@@ -12,3 +12,6 @@ pub mod Spans
 pub mod Parsing
 pub mod Frames
 pub mod Hosts
+pub mod Passing
+pub mod MemHosts
+pub mod ScriptHosts

@@ -190,6 +190,7 @@ fn read_connection(text: &[u8]) -> Option<u32>
 }
 
 /// Reads the name of a door that the server has, or returns `None` for any other word.
+#[tactic(auto, using(crate::proofs::Lines::no_door))]
 fn read_door(word: &[u8]) -> Option<Door>
     ensures { Spells IsDoor door_word word.now result }
 {

@@ -1,0 +1,69 @@
+//! The frames in which a replay prints what the events of a script wrote.
+ghost use Rattle.std.specs.Prelude.{◌≡◌, ◌++◌, length, true, OnOk, IfOk};
+ghost use Rattle.edge_io.specs.Frames.{written, closing, head as head_of};
+
+use arch_base::{Bytes, NoMemory};
+use itoa::Buffer;
+use std::alloc::Global;
+
+/// Appends the bytes that a connection took, after a line with its number and their length.
+///
+/// `NoMemory` may leave a part of them appended.
+pub(crate) fn push_written(
+    alloc: Global,
+    frames: &mut Bytes,
+    conn: u32,
+    bytes: &[u8],
+) -> Result<(), NoMemory>
+    ensures { OnOk result (frames.new ≡ frames.old ++ written conn bytes.now) }
+{
+    if bytes.is_empty() {
+        return Ok(());
+    }
+    let head = head(alloc, conn, bytes.len())?;
+    frames.push_slice(head.as_slice())?;
+    frames.push_slice(bytes)?;
+    frames.push(b'\n')
+}
+
+/// Returns the line before the bytes that a connection took.
+fn head(alloc: Global, conn: u32, len: usize) -> Result<Bytes, NoMemory>
+    ensures { IfOk result (λ line. line ≡ head_of conn len) }
+{
+    let mut buffer = Buffer::new();
+    let mut line = Bytes::new(alloc);
+    line.push_slice(buffer.format(conn).as_bytes())?;
+    line.push(b' ')?;
+    line.push_slice(buffer.format(len).as_bytes())?;
+    line.push(b'\n')?;
+    Ok(line)
+}
+
+/// Appends the line of a connection that was closed.
+///
+/// `NoMemory` leaves the frames unchanged.
+pub(crate) fn push_closing(
+    alloc: Global,
+    frames: &mut Bytes,
+    conn: u32,
+    closed: bool,
+) -> Result<(), NoMemory>
+    ensures { OnOk result (frames.new ≡ frames.old ++ closing conn closed) }
+{
+    if !closed {
+        return Ok(());
+    }
+    let line = closed_line(alloc, conn)?;
+    frames.push_slice(line.as_slice())
+}
+
+/// Returns the line of a connection that was closed.
+fn closed_line(alloc: Global, conn: u32) -> Result<Bytes, NoMemory>
+    ensures { IfOk result (λ line. line ≡ closing conn true) }
+{
+    let mut buffer = Buffer::new();
+    let mut line = Bytes::new(alloc);
+    line.push_slice(buffer.format(conn).as_bytes())?;
+    line.push_slice(b" closed\n")?;
+    Ok(line)
+}

@@ -1,0 +1,71 @@
+//! What the connections had taken when an event began.
+ghost use Rattle.std.specs.Prelude.{◌≡◌, ◌≤◌, ◌<◌, ℕ, length, get_or, IfOk};
+ghost use Rattle.edge_io.specs.ScriptHosts.{IsOutside, mark_at};
+
+use crate::outlets::CONNECTIONS;
+use arch_base::NoMemory;
+use std::alloc::Global;
+
+/// How many bytes a connection had taken, and how often it was closed.
+#[derive(Clone, Copy, Debug, Drop)]
+pub struct Mark {
+    pub len: usize,
+    pub closings: u64,
+}
+
+/// The connections from `first` on to before `after`, of which some took bytes or were closed.
+#[derive(Clone, Copy, Debug, Drop)]
+pub struct Touched {
+    pub first: u32,
+    pub after: u32,
+}
+
+impl Touched {
+    /// Returns the value for no connection.
+    pub(crate) fn none() -> Touched
+        ensures { result.after ≡ 0 }
+    {
+        Touched { first: 0, after: 0 }
+    }
+
+    /// Adds a connection, if it is below 65,536.
+    pub(crate) fn add(&mut self, conn: u32)
+        requires { self.old.after ≤ 65536 }
+        ensures bounded { self.new.after ≤ 65536 }
+        ensures inside { IsOutside self.new conn → 65536 ≤ conn }
+        ensures others { (other : ℕ) → IsOutside self.new other → IsOutside self.old other }
+    {
+        if conn >= CONNECTIONS as u32 {
+            return;
+        }
+        if self.first >= self.after {
+            self.first = conn;
+            self.after = conn + 1;
+        } else {
+            self.first = self.first.min(conn);
+            self.after = self.after.max(conn + 1);
+        }
+    }
+}
+
+/// Returns the marks of connections that took nothing.
+pub(crate) fn new_marks(alloc: Global) -> Result<Vec<Mark>, NoMemory>
+    ensures len { IfOk result (λ made. length made.items ≡ 65536) }
+    ensures zero { IfOk result (λ made. (conn : ℕ)
+        → mark_at made.items conn ≡ record { len = 0; closings = 0 }) }
+{
+    zero_marks(alloc, CONNECTIONS)
+}
+
+/// Returns so many marks of connections that took nothing.
+fn zero_marks(alloc: Global, count: usize) -> Result<Vec<Mark>, NoMemory>
+    ensures len { IfOk result (λ made. length made.items ≡ count) }
+    ensures zero { IfOk result (λ made. (conn : ℕ)
+        → mark_at made.items conn ≡ record { len = 0; closings = 0 }) }
+{
+    let mark = Mark {
+        len: 0,
+        closings: 0,
+    };
+    Ok(vec![in alloc; mark; count]?)
+}
