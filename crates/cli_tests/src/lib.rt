@@ -3,6 +3,8 @@
 #![tactic(auto)]
 
 #[cfg(test)]
+mod absent;
+#[cfg(test)]
 mod disk_tests;
 #[cfg(test)]
 mod replay_tests;

@@ -1,6 +1,6 @@
 -- Events in order.
 use Rattle.std.proofs.Common.{◌≡◌, ◌⊎◌, ◌≤◌, ◌+◌, ℕ, nat_lt, Bool, true, false, List, [], ◌∷◌, ◌++◌, length, Option, Some, None, refl, sym, ap, subst, ◌∙◌, arith, append_assoc, length-append, inl, inr, if◌then◌else◌}
-use Rattle.edge_io.specs.Hosts.{Told, then_given}
+use Rattle.edge_io.specs.Hosts.{Told, then_given, before_left}
 use Rattle.edge_io.specs.Frames.{Outputs, outputs}
 use Rattle.edge_io.specs.Scripts.{Arrival}
 use Rattle.arch_base.specs.Counts.{Rose}
@@ -18,7 +18,7 @@ use Rattle.arch_model.proofs.Keepers.{all-split}
 use Rattle.keep_course.specs.Courses.{afters, archives_of}
 use Rattle.keep_course.proofs.Courses.{all-own}
 use Rattle.node_serve.specs.Doors.{Held, session_limit, busy_words, memory_words, greets, said_making}
-use Rattle.node_serve.specs.Ends.{NoStop, EndsWithStop, EndsBy, is_stop, given_after}
+use Rattle.node_serve.specs.Ends.{NoStop, EndsWithStop, EndsBy, is_stop, given_after, before_all}
 use Rattle.node_serve.specs.Nodes.{Serving, world_of, TurnsTo, Turns, TookOne, TookNone, RunsTo, RunsOver, ServesTo, outputs_asked}
 use Rattle.node_serve.specs.Turns.{Turn, FedAt, CameTo, TurnedBy, Turned, Served, passed_in, outputs_of, outputs_before}
 use Rattle.node_serve.specs.World.{Outer, World}
@@ -38,6 +38,11 @@ served-more (x ∷ es) w (t ∷ ts) m e passed v run turned = (run.0, served-mor
 pub given-more : (given : Told) (es : List Arrival) (e : Arrival) → given_after given (es ++ e ∷ []) ≡ then_given (given_after given es) e
 given-more given [] e = refl
 given-more given (x ∷ es) e = given-more (then_given given x) es e
+
+-- What was left.
+pub left-more : (es : List Arrival) (e : Arrival) (left : Told) → before_all (es ++ e ∷ []) left ≡ before_all es (before_left e left)
+left-more [] e left = refl
+left-more (x ∷ es) e left = ap (before_left x) (left-more es e left)
 
 -- And no stop among them.
 pub none-more : (es : List Arrival) (e : Arrival) → NoStop es → is_stop e.0.what ≡ false → NoStop (es ++ e ∷ [])
@@ -148,26 +153,28 @@ module _ {K : Type 0} (holds : K → Archive → Type 0) (ready : K → Bool) (l
       }
 
   -- So many events were taken, and none of them was a stop.
-  pub record SoFar (n : ℕ) (old : Serving K) (i : Outer) (new : Serving K) (j : Outer) (given given' : Told) (recorded recorded' : List Outputs → Type 0) : Type 0 where
+  pub record SoFar (n : ℕ) (old : Serving K) (i : Outer) (new : Serving K) (j : Outer) (given given' left left' : Told) (recorded recorded' : List Outputs → Type 0) : Type 0 where
     pub arrivals : List Arrival
     pub given_is : given' ≡ given_after given arrivals
+    pub left_is : left ≡ before_all arrivals left'
     pub count : length arrivals ≡ n
     pub none : NoStop arrivals
     pub runs : (s : Standing) → Fits holds ready leaves old.keep s → RunsOver holds ready leaves recorded recorded' false arrivals s old i new j
 
-  pub sofar-none : (node : Serving K) (i : Outer) (given : Told) (recorded : List Outputs → Type 0) → SoFar 0 node i node i given given recorded recorded
-  sofar-none node i given recorded = record {
+  pub sofar-none : (node : Serving K) (i : Outer) (given left : Told) (recorded : List Outputs → Type 0) → SoFar 0 node i node i given given left left recorded recorded
+  sofar-none node i given left recorded = record {
     arrivals = [];
     given_is = refl;
+    left_is = refl;
     count = refl;
     none = tt;
     runs = λ s fits. record { runs = runs-none s node i fits; records = λ past noted. subst (λ (os : List Outputs). recorded os) (sym (append-none past)) noted };
   }
 
   -- One event more: what it does, and what the host noted before it.
-  over-more : (es : List Arrival) (s : Standing) (old mid new : Serving K) (i j k : Outer) (given' given'' : Told) (recorded recorded' recorded'' : List Outputs → Type 0) (stops : Bool) → Fits holds ready leaves old.keep s → RunsOver holds ready leaves recorded recorded' false es s old i mid j
-      → (took : TookOne holds ready leaves mid j new k given' given'' recorded' recorded'' stops) → RunsOver holds ready leaves recorded recorded'' false (es ++ took.arrival ∷ []) s old i new k
-  over-more es s old mid new i j k given' given'' recorded recorded' recorded'' stops fits over took =
+  over-more : (es : List Arrival) (s : Standing) (old mid new : Serving K) (i j k : Outer) (given' given'' left' left'' : Told) (recorded recorded' recorded'' : List Outputs → Type 0) (stops : Bool) → Fits holds ready leaves old.keep s → RunsOver holds ready leaves recorded recorded' false es s old i mid j
+      → (took : TookOne holds ready leaves mid j new k given' given'' left' left'' recorded' recorded'' stops) → RunsOver holds ready leaves recorded recorded'' false (es ++ took.arrival ∷ []) s old i new k
+  over-more es s old mid new i j k given' given'' left' left'' recorded recorded' recorded'' stops fits over took =
       let turn = took.turns over.runs.after over.runs.fits in
       let runs = runs-more es took.arrival s old mid new i j k fits over.runs turn in
       record {
@@ -179,33 +186,36 @@ module _ {K : Type 0} (holds : K → Archive → Type 0) (ready : K → Bool) (l
             subst (λ (os : List Outputs). recorded'' os) (append_assoc past before (outputs j.taken j.closings ∷ []) ∙ ap (λ (os : List Outputs). past ++ os) (sym more)) joined;
       }
 
-  pub sofar-more : (n : ℕ) (old mid new : Serving K) (i j k : Outer) (given given' given'' : Told) (recorded recorded' recorded'' : List Outputs → Type 0) → SoFar n old i mid j given given' recorded recorded' → TookOne holds ready leaves mid j new k given' given'' recorded' recorded'' false
-      → SoFar (n + 1) old i new k given given'' recorded recorded''
-  sofar-more n old mid new i j k given given' given'' recorded recorded' recorded'' far took = record {
+  pub sofar-more : (n : ℕ) (old mid new : Serving K) (i j k : Outer) (given given' given'' left left' left'' : Told) (recorded recorded' recorded'' : List Outputs → Type 0) → SoFar n old i mid j given given' left left' recorded recorded' → TookOne holds ready leaves mid j new k given' given'' left' left'' recorded' recorded'' false
+      → SoFar (n + 1) old i new k given given'' left left'' recorded recorded''
+  sofar-more n old mid new i j k given given' given'' left left' left'' recorded recorded' recorded'' far took = record {
     arrivals = far.arrivals ++ took.arrival ∷ [];
     given_is = took.given_is ∙ ap (λ (g : Told). then_given g took.arrival) far.given_is ∙ sym (given-more given far.arrivals took.arrival);
+    left_is = far.left_is ∙ ap (before_all far.arrivals) took.left_is ∙ sym (left-more far.arrivals took.arrival left'');
     count = let len = length-append far.arrivals (took.arrival ∷ []) in omega (arith, len, far.count);
     none = none-more far.arrivals took.arrival far.none took.stop_is;
-    runs = λ s fits. over-more far.arrivals s old mid new i j k given' given'' recorded recorded' recorded'' false fits (far.runs s fits) took;
+    runs = λ s fits. over-more far.arrivals s old mid new i j k given' given'' left' left'' recorded recorded' recorded'' false fits (far.runs s fits) took;
   }
 
   -- The ends.
 
-  pub ends-stopped : (n turns : ℕ) (old mid new : Serving K) (i j k : Outer) (given given' given'' left : Told) (faults faults' : ℕ) (recorded recorded' recorded'' : List Outputs → Type 0) → SoFar n old i mid j given given' recorded recorded' → TookOne holds ready leaves mid j new k given' given'' recorded' recorded'' true
-      → ServesTo holds ready leaves end.Stopped turns old i new k given given'' left faults faults' recorded recorded''
-  ends-stopped n turns old mid new i j k given given' given'' left faults faults' recorded recorded' recorded'' far took = record {
+  pub ends-stopped : (n turns : ℕ) (old mid new : Serving K) (i j k : Outer) (given given' given'' left left' left'' : Told) (faults faults' : ℕ) (recorded recorded' recorded'' : List Outputs → Type 0) → SoFar n old i mid j given given' left left' recorded recorded' → TookOne holds ready leaves mid j new k given' given'' left' left'' recorded' recorded'' true
+      → ServesTo holds ready leaves end.Stopped turns old i new k given given'' left left'' faults faults' recorded recorded''
+  ends-stopped n turns old mid new i j k given given' given'' left left' left'' faults faults' recorded recorded' recorded'' far took = record {
     arrivals = far.arrivals ++ took.arrival ∷ [];
     given_is = took.given_is ∙ ap (λ (g : Told). then_given g took.arrival) far.given_is ∙ sym (given-more given far.arrivals took.arrival);
+    left_is = far.left_is ∙ ap (before_all far.arrivals) took.left_is ∙ sym (left-more far.arrivals took.arrival left'');
     none = false;
     ends = record { before = far.arrivals; last = took.arrival; none = far.none; stops = took.stop_is; are = refl };
-    runs = λ s fits. over-more far.arrivals s old mid new i j k given' given'' recorded recorded' recorded'' true fits (far.runs s fits) took;
+    runs = λ s fits. over-more far.arrivals s old mid new i j k given' given'' left' left'' recorded recorded' recorded'' true fits (far.runs s fits) took;
   }
 
-  pub ends-none : (n turns : ℕ) (old mid new : Serving K) (i j k : Outer) (given given' given'' left : Told) (faults faults' : ℕ) (recorded recorded' recorded'' : List Outputs → Type 0) → SoFar n old i mid j given given' recorded recorded' → TookNone mid j new k given' given'' → NoneLeft left
-      → ((past : List Outputs) → recorded' past → recorded'' (past ++ outputs j.taken j.closings ∷ [])) → ServesTo holds ready leaves end.Stopped turns old i new k given given'' left faults faults' recorded recorded''
-  ends-none n turns old mid new i j k given given' given'' left faults faults' recorded recorded' recorded'' far took none noted = record {
+  pub ends-none : (n turns : ℕ) (old mid new : Serving K) (i j k : Outer) (given given' given'' left left' left'' : Told) (faults faults' : ℕ) (recorded recorded' recorded'' : List Outputs → Type 0) → SoFar n old i mid j given given' left left' recorded recorded' → TookNone mid j new k given' given'' left' left'' → NoneLeft left''
+      → ((past : List Outputs) → recorded' past → recorded'' (past ++ outputs j.taken j.closings ∷ [])) → ServesTo holds ready leaves end.Stopped turns old i new k given given'' left left'' faults faults' recorded recorded''
+  ends-none n turns old mid new i j k given given' given'' left left' left'' faults faults' recorded recorded' recorded'' far took none noted = record {
     arrivals = far.arrivals;
     given_is = took.given_kept ∙ far.given_is;
+    left_is = far.left_is ∙ ap (before_all far.arrivals) (sym took.left_kept);
     none = true;
     ends = (far.none, none);
     runs = λ s fits.
@@ -217,11 +227,12 @@ module _ {K : Type 0} (holds : K → Archive → Type 0) (ready : K → Bool) (l
   }
 
   -- The host failed, or enough was taken.
-  pub ends-early : (how : ServeEnd) (n turns : ℕ) (old mid new : Serving K) (i j k : Outer) (given given' given'' left : Told) (faults faults' : ℕ) (recorded recorded' recorded'' : List Outputs → Type 0) → (far : SoFar n old i mid j given given' recorded recorded') → TookNone mid j new k given' given''
-      → ((past : List Outputs) → recorded' past → recorded'' past) → EndsBy how false far.arrivals turns left faults faults' → ServesTo holds ready leaves how turns old i new k given given'' left faults faults' recorded recorded''
-  ends-early how n turns old mid new i j k given given' given'' left faults faults' recorded recorded' recorded'' far took noted ends = record {
+  pub ends-early : (how : ServeEnd) (n turns : ℕ) (old mid new : Serving K) (i j k : Outer) (given given' given'' left left' left'' : Told) (faults faults' : ℕ) (recorded recorded' recorded'' : List Outputs → Type 0) → (far : SoFar n old i mid j given given' left left' recorded recorded') → TookNone mid j new k given' given''
+      → ((past : List Outputs) → recorded' past → recorded'' past) → EndsBy how false far.arrivals turns left'' faults faults' → ServesTo holds ready leaves how turns old i new k given given'' left left'' faults faults' recorded recorded''
+  ends-early how n turns old mid new i j k given given' given'' left left' left'' faults faults' recorded recorded' recorded'' far took noted ends = record {
     arrivals = far.arrivals;
     given_is = took.given_kept ∙ far.given_is;
+    left_is = far.left_is ∙ ap (before_all far.arrivals) (sym took.left_kept);
     none = false;
     ends = ends;
     runs = λ s fits.

@@ -1,7 +1,7 @@
 -- How serving ends, by the events that were taken.
 use Rattle.std.specs.Prelude.{◌≡◌, ℕ, Bool, true, false, List, [], ◌∷◌, ◌++◌, length}
 use Rattle.arch_base.specs.Counts.{Rose}
-use Rattle.edge_io.specs.Hosts.{Told, then_given, NoneLeft}
+use Rattle.edge_io.specs.Hosts.{Told, then_given, before_left, NoneLeft}
 use Rattle.edge_io.specs.Scripts.{Arrival}
 use Rattle.edge_io.specs.declared.events.What.{What}
 use Rattle.edge_io.specs.declared.events.What.TheVariants as what
@@ -33,6 +33,11 @@ pub record EndsWithStop (es : List Arrival) : Type 0 where
 abbrev pub given_after : Told → List Arrival → Told
 given_after given [] = given
 given_after given (e ∷ es) = given_after (then_given given e) es
+
+-- These events in order, followed by those that are left. None stays None.
+abbrev pub before_all : List Arrival → Told → Told
+before_all [] left = left
+before_all (e ∷ es) left = before_left e (before_all es left)
 
 -- How serving ended, by whether the host answered that none is left: at a stop, or with none left;
 -- after as many events as were allowed; because the host failed; or, before the first event, because

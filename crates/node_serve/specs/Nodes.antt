@@ -4,7 +4,7 @@ use Rattle.std.specs.Ordering.{nat_cmp}
 use Rattle.std.specs.BTreeMap.{BTreeMap, get, btree_map_len}
 use Rattle.arch_base.specs.Counts.{Rose}
 use Rattle.edge_io.specs.Frames.{Outputs, outputs}
-use Rattle.edge_io.specs.Hosts.{Told, then_given, NoneLeft, OthersKept, one_more}
+use Rattle.edge_io.specs.Hosts.{Told, then_given, before_left, NoneLeft, OthersKept, one_more}
 use Rattle.edge_io.specs.Phrases.{Says}
 use Rattle.edge_io.specs.Scripts.{Arrival}
 use Rattle.edge_io.specs.declared.events.Door.{Door}
@@ -17,7 +17,7 @@ use Rattle.arch_model.specs.Archives.{Archive}
 use Rattle.arch_model.specs.Keeping.{Passes, Fits}
 use Rattle.arch_model.specs.Standing.{Standing}
 use Rattle.node_serve.specs.Doors.{Held, Came, rest_if, said, is_asked, with_piece, said_making}
-use Rattle.node_serve.specs.Ends.{EndsBy, given_after, is_stop}
+use Rattle.node_serve.specs.Ends.{EndsBy, given_after, before_all, is_stop}
 use Rattle.node_serve.specs.Turns.{Turn, Turned, Served, passed_in, outputs_of, outputs_before}
 use Rattle.node_serve.specs.World.{Outer, World, ActAt, EndedAt, others_open}
 use Rattle.node_serve.specs.declared.session.Session.{Session}
@@ -154,10 +154,11 @@ module _ {K : Type 0} (holds : K → Archive → Type 0) (ready : K → Bool)
 
   -- A node served the events that a host gave, in order.
   pub record ServesTo (end : ServeEnd) (turns : ℕ) (old : Serving K) (i : Outer) (new : Serving K)
-      (j : Outer) (given given' left' : Told) (faults faults' : ℕ)
+      (j : Outer) (given given' left left' : Told) (faults faults' : ℕ)
       (recorded recorded' : List Outputs → Type 0) : Type 0 where
     pub arrivals : List Arrival
     pub given_is : given' ≡ given_after given arrivals
+    pub left_is : left ≡ before_all arrivals left'
     pub none : Bool
     pub ends : EndsBy end none arrivals turns left' faults faults'
     pub runs : (s : Standing) → Fits holds ready leaves old.keep s
@@ -165,10 +166,11 @@ module _ {K : Type 0} (holds : K → Archive → Type 0) (ready : K → Bool)
 
   -- An event was taken from the host, and to its end.
   pub record TookOne (old : Serving K) (i : Outer) (new : Serving K) (j : Outer)
-      (given given' : Told) (recorded recorded' : List Outputs → Type 0) (stops : Bool)
+      (given given' left left' : Told) (recorded recorded' : List Outputs → Type 0) (stops : Bool)
       : Type 0 where
     pub arrival : Arrival
     pub given_is : given' ≡ then_given given arrival
+    pub left_is : left ≡ before_left arrival left'
     pub stop_is : is_stop arrival.0.what ≡ stops
     pub turns : Turns arrival old i new j
     pub records : (past : List Outputs) → recorded past
@@ -176,22 +178,23 @@ module _ {K : Type 0} (holds : K → Archive → Type 0) (ready : K → Bool)
 
   -- Nothing happened at the host or the node.
   pub record TookNone (old : Serving K) (i : Outer) (new : Serving K) (j : Outer)
-      (given given' : Told) : Type 0 where
+      (given given' left left' : Told) : Type 0 where
     pub node_kept : new ≡ old
     pub out_kept : j ≡ i
     pub given_kept : given' ≡ given
+    pub left_kept : left' ≡ left
 
   -- An event was taken, which is a stop or is none; or none is left; or the host failed.
-  abbrev pub TakesOne : Taken → Serving K → Outer → Serving K → Outer → Told → Told → Told → ℕ → ℕ
+  abbrev pub TakesOne : Taken → Serving K → Outer → Serving K → Outer → Told → Told → Told → Told → ℕ → ℕ
       → (List Outputs → Type 0) → (List Outputs → Type 0) → Type 0
-  TakesOne Went old i new j given given' left' faults faults' recorded recorded' =
-      TookOne old i new j given given' recorded recorded' false
-  TakesOne Stops old i new j given given' left' faults faults' recorded recorded' =
-      TookOne old i new j given given' recorded recorded' true
-  TakesOne Nothing old i new j given given' left' faults faults' recorded recorded' =
-      TookNone old i new j given given' × NoneLeft left'
+  TakesOne Went old i new j given given' left left' faults faults' recorded recorded' =
+      TookOne old i new j given given' left left' recorded recorded' false
+  TakesOne Stops old i new j given given' left left' faults faults' recorded recorded' =
+      TookOne old i new j given given' left left' recorded recorded' true
+  TakesOne Nothing old i new j given given' left left' faults faults' recorded recorded' =
+      TookNone old i new j given given' left left' × NoneLeft left'
       × ((past : List Outputs) → recorded past
       → recorded' (past ++ outputs i.taken i.closings ∷ []))
-  TakesOne Fault old i new j given given' left' faults faults' recorded recorded' =
-      TookNone old i new j given given' × Rose faults faults'
+  TakesOne Fault old i new j given given' left left' faults faults' recorded recorded' =
+      TookNone old i new j given given' left left' × Rose faults faults'
       × ((past : List Outputs) → recorded past → recorded' past)

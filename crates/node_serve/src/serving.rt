@@ -54,7 +54,7 @@ pub fn serve<K: Keep, H: Host>(
         (outer (H.taken host.old) (H.closings host.old) (K.faults node.old.keep) (H.lost host.old))
         node.new
         (outer (H.taken host.new) (H.closings host.new) (K.faults node.new.keep) (H.lost host.new))
-        (H.given host.old) (H.given host.new) (H.left host.new) (H.faults host.old)
+        (H.given host.old) (H.given host.new) (H.left host.old) (H.left host.new) (H.faults host.old)
         (H.faults host.new) (H.recorded host.old) (H.recorded host.new) }
     ensures later { H.faults host.old ≤ H.faults host.new }
 {
@@ -86,7 +86,7 @@ fn take_one<K: Keep, H: Host>(node: &mut Node<K>, host: &mut H, buffer: &mut [u8
         (outer (H.taken host.old) (H.closings host.old) (K.faults node.old.keep) (H.lost host.old))
         node.new
         (outer (H.taken host.new) (H.closings host.new) (K.faults node.new.keep) (H.lost host.new))
-        (H.given host.old) (H.given host.new) (H.left host.new) (H.faults host.old)
+        (H.given host.old) (H.given host.new) (H.left host.old) (H.left host.new) (H.faults host.old)
         (H.faults host.new) (H.recorded host.old) (H.recorded host.new) }
     ensures later { H.faults host.old ≤ H.faults host.new }
     ensures length { length buffer.new ≡ length buffer.old }
