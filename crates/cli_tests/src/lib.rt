@@ -10,3 +10,5 @@ mod disk_tests;
 mod replay_tests;
 #[cfg(test)]
 mod run_tests;
+#[cfg(test)]
+mod serve_tests;

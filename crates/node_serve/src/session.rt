@@ -94,11 +94,7 @@ fn reopen<K: Keep, O: Sink>(session: &Session, moment: u64, keep: &mut K, out: &
 }
 
 /// Writes a door's word for an archive that was not reopened.
-fn say_shut<O: Sink>(
-    session: &Session,
-    refusal: OpenRefusal,
-    out: &mut O,
-) -> Result<(), SinkFault>
+fn say_shut<O: Sink>(session: &Session, refusal: OpenRefusal, out: &mut O) -> Result<(), SinkFault>
     ensures said { Says (unopened_words session.now refusal) (O.taken out.old) (O.faults out.old)
         (O.taken out.new) (O.faults out.new) result }
     ensures sink { O.alike out.old out.new }

@@ -94,11 +94,7 @@ fn write_starved<H: Host>(door: Door, conn: u32, host: &mut H) -> Result<(), Sin
 }
 
 /// Opens a session of a reader, which greets its connection.
-pub(crate) fn greet_reader<H: Host>(
-    alloc: Global,
-    conn: u32,
-    host: &mut H,
-) -> (NntpSession, Next)
+pub(crate) fn greet_reader<H: Host>(alloc: Global, conn: u32, host: &mut H) -> (NntpSession, Next)
     ensures greeted { (a : Archive) (disk : ℕ) → Acts (greeting a)
         (outside (H.taken host.old conn) disk (H.lost host.old))
         (held_if (continues result.1) result.0) a

@@ -1,10 +1,10 @@
 //! The words of the command line, as the system hands them over.
+use crate::explain;
 use arch_base::NoMemory;
 use archive_cli::{Job, print_no_memory, read_words, run};
 use disk_model::Disk;
 use edge_io::{Clock, Sink, Source};
 use real_edges::SocketHost;
-use crate::explain;
 use std::alloc::Global;
 use std::env::Args;
 use std::io::{self, ErrorKind};
