@@ -6,10 +6,10 @@ use Rattle.edge_io.specs.Hosts.{Told}
 use Rattle.edge_io.specs.Scripts.{Arrival}
 use Rattle.keep_course.specs.Courses.{archives_of}
 use Rattle.arch_model.specs.Archives.{Archive}
-use Rattle.arch_model.specs.Standing.{Standing, IsFound}
+use Rattle.arch_model.specs.Standing.{Standing, one_of, IsFound}
 use Rattle.arch_model.specs.declared.opening.OpenRefusal.{OpenRefusal}
 use Rattle.arch_model.specs.declared.opening.OpenRefusal.TheVariants as opening
-use Rattle.epoch_store.specs.Opens.{ReadsAs, RecoversOf}
+use Rattle.epoch_store.specs.Opens.{ReadsAs, RecoversOf, RecoversOfWith, AllRecoverWith}
 use Rattle.answer_lines.specs.Lines.{whole_line, memory_word}
 use Rattle.node_serve.specs.Ends.{EndsBy, given_after, before_all}
 use Rattle.node_serve.specs.Turns.{Turn, Served, passed_in}
@@ -93,9 +93,10 @@ module _ {D : Type 0} (content : D → Option Content) (moment : D → ℕ)
     pub last : World
     pub last_out : last.out ≡ j.out
     pub served : Served arrivals first turns last
-    pub stands : StandsAs last.standing (content new)
-    pub crash : (more : List Standing) × (more ≡ passed_in turns)
-        × LeavesOnly moment left_since old new (RecoversOf (archives_of (s ∷ more)))
+    pub cache : List ℕ
+    pub stands : AllRecoverWith cache (one_of last.standing) (content new)
+    pub crash : LeavesOnly moment left_since old new
+        (RecoversOfWith cache (archives_of (s ∷ passed_in turns)))
 
   -- What a run of `serve` did: it took these events, and ended by them; and whatever the disk stood
   -- for, they were served, if it was opened.
@@ -106,5 +107,5 @@ module _ {D : Type 0} (content : D → Option Content) (moment : D → ℕ)
     pub served : (how : ServeEnd) → run ≡ Ended how → (s : Standing) → StandsAs s (content old)
         → ServedOn s old new arrivals i j
     pub shut : (why : OpenRefusal) → run ≡ Shut why → (s : Standing) → StandsAs s (content old)
-        → LeavesOnly moment left_since old new (RecoversOf (archives_of (s ∷ [])))
+        → LeavesOnly moment left_since old new (RecoversOf (one_of s))
     pub fault : run ≡ Shut opening.DiskFault → Rose i.out.disk j.out.disk
