@@ -1,12 +1,12 @@
 -- The frames of an event, from the connections that were touched.
-use Rattle.std.proofs.Common.{◌≡◌, ◌≤◌, ◌<◌, ◌+◌, ◌-◌, zero, suc, ℕ, Bool, true, false, nat_lt, if◌then◌else◌, List, [], ◌∷◌, ◌++◌, Some, None, length, take, drop, replicate, refl, sym, ◌∙◌, ap, arith, append_assoc, append-nil}
+use Rattle.std.proofs.Common.{◌≡◌, ◌≤◌, ◌<◌, ◌+◌, ◌-◌, ◌⊎◌, inl, inr, zero, suc, ℕ, Bool, true, false, nat_lt, if◌then◌else◌, List, [], ◌∷◌, ◌++◌, Some, None, length, take, drop, replicate, refl, sym, ◌∙◌, ap, subst, arith, append_assoc, append-nil}
 use Rattle.std.proofs.lemmas.Bool.Decides.{nat_tests}
 use Rattle.std.proofs.lemmas.Grind.{common_steps}
 use Rattle.std.proofs.lemmas.List.{length-replicate, get_or-replicate}
 use Rattle.std.proofs.lemmas.Option.{slice_get-get_or, slice_get_past}
 use Rattle.std.specs.List.{slice_get}
-use Rattle.edge_io.specs.Frames.{Outputs, bytes_or_none, count_or_0, written, closing, each_from, each_connection, event_frame, written_between, closing_between, frames_from, frames_of, last_from, last_of, nothing}
-use Rattle.edge_io.specs.ScriptHosts.{mark_at, marked, IsAtMark, IsOutside, AreMarked, AgreeOn}
+use Rattle.edge_io.specs.Frames.{Outputs, outputs, bytes_or_none, count_or_0, written, closing, each_from, each_connection, event_frame, written_between, closing_between, frames_from, frames_of, last_from, last_of, nothing}
+use Rattle.edge_io.specs.ScriptHosts.{mark_at, marked, IsAtMark, AreMarked, AgreeOn, Scripting, Recorded}
 use Rattle.edge_io.specs.declared.marks.Mark.{Mark}
 use Rattle.edge_io.specs.declared.marks.Touched.{Touched}
 
@@ -81,6 +81,16 @@ each-touched text first after most high none = by (nat_lt after first) refl
         each-none text 0 most (λ conn p q. none conn (omega (arith, q)) (grind (arith, less))) ∙ ap (λ n. each_from text first n) (sym empty)
     by false is = each-within text first after most (grind (arith, nat_tests)) high none
 
+-- The same of all connections of a script.
+each_connection-touched : (text : ℕ → List ℕ) (first after : ℕ) → after ≤ 65536 → ((conn : ℕ) → conn < 65536 → (conn < first) ⊎ (after ≤ conn) → text conn ≡ [])
+    → each_connection text ≡ each_from text first (after - first)
+unfolding each_connection
+each_connection-touched text first after high none = each-touched text first after 65536 high none
+
+each_connection-same : (a b : ℕ → List ℕ) → ((conn : ℕ) → conn < 65536 → a conn ≡ b conn) → each_connection a ≡ each_connection b
+unfolding each_connection
+each_connection-same a b same = each-same a b 0 65536 (λ conn high. same conn (omega (arith, high)))
+
 -- Marks.
 
 take-all : (xs : List ℕ) (n : ℕ) → length xs ≤ n → take n xs ≡ xs
@@ -116,9 +126,9 @@ pub touched-frame : (now : Outputs) (marks : List Mark) (touched : Touched) → 
 touched-frame now marks touched is =
     let before = marked now marks in
     let first : each_connection (written_between before now) ≡ each_from (written_between before now) touched.first (touched.after - touched.first) =
-        unfolding each_connection in each-touched (written_between before now) touched.first touched.after 65536 is.bounded (λ conn small out. written-none now marks conn (is.others_at conn small out)) in
+        each_connection-touched (written_between before now) touched.first touched.after is.bounded (λ conn small out. written-none now marks conn (is.others_at conn small out)) in
     let second : each_connection (closing_between before now) ≡ each_from (closing_between before now) touched.first (touched.after - touched.first) =
-        unfolding each_connection in each-touched (closing_between before now) touched.first touched.after 65536 is.bounded (λ conn small out. closing-none now marks conn (is.others_at conn small out)) in
+        each_connection-touched (closing_between before now) touched.first touched.after is.bounded (λ conn small out. closing-none now marks conn (is.others_at conn small out)) in
     ap (λ l. l ++ each_connection (closing_between before now)) first
     ∙ ap (λ l. each_from (written_between before now) touched.first (touched.after - touched.first) ++ l) second
 
@@ -128,11 +138,11 @@ touched-frame now marks touched is =
 pub same-frame : (a b after : Outputs) → ((conn : ℕ) → conn < 65536 → AgreeOn a b conn) → event_frame a after ≡ event_frame b after
 same-frame a b after agree =
     let first : each_connection (written_between a after) ≡ each_connection (written_between b after) =
-        unfolding each_connection in each-same (written_between a after) (written_between b after) 0 65536
-        (λ conn small. ap (λ (l : List ℕ). written conn (drop (length l) (bytes_or_none (after.taken conn)))) (agree conn (omega (arith, small))).taken_agree) in
+        each_connection-same (written_between a after) (written_between b after)
+        (λ conn small. ap (λ (l : List ℕ). written conn (drop (length l) (bytes_or_none (after.taken conn)))) (agree conn small).taken_agree) in
     let second : each_connection (closing_between a after) ≡ each_connection (closing_between b after) =
-        unfolding each_connection in each-same (closing_between a after) (closing_between b after) 0 65536
-        (λ conn small. ap (λ n. closing conn (nat_lt n (count_or_0 (after.closings conn)))) (agree conn (omega (arith, small))).closings_agree) in
+        each_connection-same (closing_between a after) (closing_between b after)
+        (λ conn small. ap (λ n. closing conn (nat_lt n (count_or_0 (after.closings conn)))) (agree conn small).closings_agree) in
     ap (λ l. l ++ each_connection (closing_between a after)) first ∙ ap (λ l. each_connection (written_between b after) ++ l) second
 
 -- One more event.
@@ -150,3 +160,31 @@ frames-pushed past now = frames-more nothing past now
 
 pub last-pushed : (past : List Outputs) (now : Outputs) → last_of (past ++ now ∷ []) ≡ now
 last-pushed past now = last-more nothing past now
+
+-- Outputs that agree with equal ones.
+ap-agree : (a b c : Outputs) (conn : ℕ) → b ≡ c → AgreeOn a b conn → AgreeOn a c conn
+ap-agree a b c conn same is = subst (λ (o : Outputs). AgreeOn a o conn) same is
+
+-- The record of a host after one more event: the frames of that event were appended, unless memory
+-- ran out.
+pub recorded-more : (old new : Scripting) (past : List Outputs) → Recorded old past → old.starved ≤ new.starved → ((conn : ℕ) → conn < 65536 → AgreeOn new.begun old.outputs conn)
+    → (new.starved ≡ 0 → new.frames ≡ old.frames ++ event_frame old.begun old.outputs) → Recorded new (past ++ outputs old.outputs.taken old.outputs.closings ∷ [])
+recorded-more old new past is later begun frames =
+    let now = outputs old.outputs.taken old.outputs.closings in
+    record {
+      begun_is = λ conn small. ap-agree new.begun now (last_of (past ++ now ∷ [])) conn (sym (last-pushed past now)) (begun conn small);
+      frames_are = λ none.
+          frames none
+          ∙ ap (λ l. l ++ event_frame old.begun old.outputs) (is.frames_are (omega (arith, later, none)))
+          ∙ ap (λ l. frames_of past ++ l) (same-frame old.begun (last_of past) old.outputs is.begun_is)
+          ∙ sym (frames-pushed past now);
+    }
+
+-- One more connection of a row, whose text was appended.
+pub one-connection : (text : ℕ → List ℕ) (old frames new : List ℕ) (first conn : ℕ) → first ≤ conn → frames ≡ old ++ each_from text first (conn - first) → new ≡ frames ++ text conn
+    → new ≡ old ++ each_from text first (conn + 1 - first)
+one-connection text old frames new first conn low is more =
+    let count : conn + 1 - first ≡ suc (conn - first) = omega (arith, low) in
+    let here : first + (conn - first) ≡ conn = omega (arith, low) in
+    more ∙ ap (λ l. l ++ text conn) is ∙ append_assoc old (each_from text first (conn - first)) (text conn)
+    ∙ ap (λ l. old ++ l) (ap (λ k. each_from text first (conn - first) ++ text k) (sym here) ∙ sym (each-more text first (conn - first)) ∙ ap (λ n. each_from text first n) (sym count))
