@@ -126,9 +126,9 @@ pub touched-frame : (now : Outputs) (marks : List Mark) (touched : Touched) → 
 touched-frame now marks touched is =
     let before = marked now marks in
     let first : each_connection (written_between before now) ≡ each_from (written_between before now) touched.first (touched.after - touched.first) =
-        each_connection-touched (written_between before now) touched.first touched.after is.bounded (λ conn small out. written-none now marks conn (is.others_at conn small out)) in
+    each_connection-touched (written_between before now) touched.first touched.after is.bounded (λ conn small out. written-none now marks conn (is.others_at conn small out)) in
     let second : each_connection (closing_between before now) ≡ each_from (closing_between before now) touched.first (touched.after - touched.first) =
-        each_connection-touched (closing_between before now) touched.first touched.after is.bounded (λ conn small out. closing-none now marks conn (is.others_at conn small out)) in
+    each_connection-touched (closing_between before now) touched.first touched.after is.bounded (λ conn small out. closing-none now marks conn (is.others_at conn small out)) in
     ap (λ l. l ++ each_connection (closing_between before now)) first
     ∙ ap (λ l. each_from (written_between before now) touched.first (touched.after - touched.first) ++ l) second
 
@@ -138,11 +138,11 @@ touched-frame now marks touched is =
 pub same-frame : (a b after : Outputs) → ((conn : ℕ) → conn < 65536 → AgreeOn a b conn) → event_frame a after ≡ event_frame b after
 same-frame a b after agree =
     let first : each_connection (written_between a after) ≡ each_connection (written_between b after) =
-        each_connection-same (written_between a after) (written_between b after)
-        (λ conn small. ap (λ (l : List ℕ). written conn (drop (length l) (bytes_or_none (after.taken conn)))) (agree conn small).taken_agree) in
+    each_connection-same (written_between a after) (written_between b after)
+    (λ conn small. ap (λ (l : List ℕ). written conn (drop (length l) (bytes_or_none (after.taken conn)))) (agree conn small).taken_agree) in
     let second : each_connection (closing_between a after) ≡ each_connection (closing_between b after) =
-        each_connection-same (closing_between a after) (closing_between b after)
-        (λ conn small. ap (λ n. closing conn (nat_lt n (count_or_0 (after.closings conn)))) (agree conn small).closings_agree) in
+    each_connection-same (closing_between a after) (closing_between b after)
+    (λ conn small. ap (λ n. closing conn (nat_lt n (count_or_0 (after.closings conn)))) (agree conn small).closings_agree) in
     ap (λ l. l ++ each_connection (closing_between a after)) first ∙ ap (λ l. each_connection (written_between b after) ++ l) second
 
 -- One more event.
