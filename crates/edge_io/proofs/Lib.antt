@@ -8,3 +8,4 @@ pub mod Lines
 pub mod Unambiguous
 pub mod Hosting
 pub mod Givings
+pub mod Framing

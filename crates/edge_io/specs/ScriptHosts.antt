@@ -17,10 +17,10 @@ marked now marks =
     outputs (λ conn. Some (take (mark_at marks conn).len (bytes_or_none (now.taken conn))))
     (λ conn. Some (mark_at marks conn).closings)
 
--- The connection took no more bytes than its mark says, and was closed no more often.
+-- The connection took no more bytes than its mark says, and was closed as often.
 pub record IsAtMark (now : Outputs) (marks : List Mark) (conn : ℕ) : Type 0 where
   pub taken_at : length (bytes_or_none (now.taken conn)) ≤ (mark_at marks conn).len
-  pub closings_at : count_or_0 (now.closings conn) ≤ (mark_at marks conn).closings
+  pub closings_at : count_or_0 (now.closings conn) ≡ (mark_at marks conn).closings
 
 -- The connection is none of those from the first to the last that were touched.
 abbrev pub IsOutside : Touched → ℕ → Type 0

@@ -1,10 +1,77 @@
 //! The frames in which a replay prints what the events of a script wrote.
-ghost use Rattle.std.specs.Prelude.{◌≡◌, ◌++◌, length, true, OnOk, IfOk};
-ghost use Rattle.edge_io.specs.Frames.{written, closing, head as head_of};
+ghost use Rattle.std.specs.Prelude.{◌≡◌, ◌≤◌, ◌<◌, ◌-◌, ◌++◌, length, true, OnOk, IfOk};
+ghost use Rattle.edge_io.specs.Frames.{written, closing, head as head_of, each_from, written_between, closing_between};
+ghost use Rattle.edge_io.specs.ScriptHosts.{marked};
 
+use crate::marks::{Mark, Touched};
+use crate::outlets::Outlets;
 use arch_base::{Bytes, NoMemory};
 use itoa::Buffer;
 use std::alloc::Global;
+
+/// Appends what each of some connections took since its mark.
+///
+/// `NoMemory` may leave a part of it appended.
+pub(crate) fn push_all_written(
+    alloc: Global,
+    frames: &mut Bytes,
+    outlets: &Outlets,
+    marks: &[Mark],
+    touched: Touched,
+) -> Result<(), NoMemory>
+    requires all { length marks.now ≡ 65536 }
+    requires bounded { touched.after ≤ 65536 }
+    ensures { OnOk result (frames.new ≡ frames.old
+        ++ each_from (written_between (marked outlets.now marks.now) outlets.now) touched.first
+        (touched.after - touched.first)) }
+{
+    for conn in touched.first..touched.after {
+        push_taken(alloc, frames, outlets, marks, conn)?;
+    }
+    Ok(())
+}
+
+/// Appends what a connection took since its mark.
+///
+/// `NoMemory` may leave a part of it appended.
+fn push_taken(
+    alloc: Global,
+    frames: &mut Bytes,
+    outlets: &Outlets,
+    marks: &[Mark],
+    conn: u32,
+) -> Result<(), NoMemory>
+    requires { conn < length marks.now }
+    ensures { OnOk result (frames.new ≡ frames.old
+        ++ written_between (marked outlets.now marks.now) outlets.now conn) }
+{
+    let taken = outlets.taken(conn);
+    let start = marks[conn as usize].len.min(taken.len());
+    push_written(alloc, frames, conn, &taken[start..])
+}
+
+/// Appends the lines of those of some connections that were closed since their marks.
+///
+/// `NoMemory` may leave a part of them appended.
+pub(crate) fn push_all_closings(
+    alloc: Global,
+    frames: &mut Bytes,
+    outlets: &Outlets,
+    marks: &[Mark],
+    touched: Touched,
+) -> Result<(), NoMemory>
+    requires all { length marks.now ≡ 65536 }
+    requires bounded { touched.after ≤ 65536 }
+    ensures { OnOk result (frames.new ≡ frames.old
+        ++ each_from (closing_between (marked outlets.now marks.now) outlets.now) touched.first
+        (touched.after - touched.first)) }
+{
+    for conn in touched.first..touched.after {
+        let closed = marks[conn as usize].closings < outlets.closings(conn);
+        push_closing(alloc, frames, conn, closed)?;
+    }
+    Ok(())
+}
 
 /// Appends the bytes that a connection took, after a line with its number and their length.
 ///

@@ -1,8 +1,9 @@
 //! What the connections had taken when an event began.
-ghost use Rattle.std.specs.Prelude.{◌≡◌, ◌≤◌, ◌<◌, ℕ, length, get_or, IfOk};
-ghost use Rattle.edge_io.specs.ScriptHosts.{IsOutside, mark_at};
+ghost use Rattle.std.specs.Prelude.{◌≡◌, ◌≤◌, ◌<◌, ℕ, length, IfOk};
+ghost use Rattle.edge_io.specs.Frames.{bytes_or_none, count_or_0};
+ghost use Rattle.edge_io.specs.ScriptHosts.{AreMarked, IsAtMark, IsOutside, mark_at};
 
-use crate::outlets::CONNECTIONS;
+use crate::outlets::{CONNECTIONS, Outlets};
 use arch_base::NoMemory;
 use std::alloc::Global;
 
@@ -68,4 +69,26 @@ fn zero_marks(alloc: Global, count: usize) -> Result<Vec<Mark>, NoMemory>
         closings: 0,
     };
     Ok(vec![in alloc; mark; count]?)
+}
+
+/// Marks what each of some connections has taken, so that all are at their marks.
+pub(crate) fn mark_all(marks: &mut Vec<Mark>, outlets: &Outlets, touched: Touched)
+    requires { AreMarked outlets.now marks.old.items touched }
+    ensures len { length marks.new.items ≡ 65536 }
+    ensures each { (conn : ℕ) → conn < 65536 → IsAtMark outlets.now marks.new.items conn }
+{
+    for conn in touched.first..touched.after {
+        marks[conn as usize] = mark_of(outlets, conn);
+    }
+}
+
+/// Returns the mark of what a connection has taken.
+fn mark_of(outlets: &Outlets, conn: u32) -> Mark
+    ensures len { result.len ≡ length (bytes_or_none (outlets.now.taken conn)) }
+    ensures closings { result.closings ≡ count_or_0 (outlets.now.closings conn) }
+{
+    Mark {
+        len: outlets.taken(conn).len(),
+        closings: outlets.closings(conn),
+    }
 }

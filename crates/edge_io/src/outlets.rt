@@ -92,6 +92,7 @@ impl Outlets {
 }
 
 /// Returns `len` zeros.
+#[tactic(auto, using(crate::proofs::Framing::zeros_made))]
 fn zeros(alloc: Global, len: usize) -> Result<Vec<u64>, NoMemory>
     ensures { IfOk result (λ made. (i : ℕ)
         → slice_get made.items i ≡ (if nat_lt i len then Some 0 else None)) }

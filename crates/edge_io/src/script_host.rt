@@ -10,8 +10,8 @@ ghost use Rattle.edge_io.specs.ScriptHosts.{Scripting, Recorded, IsNewScriptHost
 ghost use Rattle.edge_io.specs.Scripts.{IsArrival};
 
 use crate::arrivals::Arrivals;
-use crate::frames::{push_closing, push_written};
-use crate::marks::{Mark, Touched, new_marks};
+use crate::frames::{push_all_closings, push_all_written};
+use crate::marks::{Mark, Touched, mark_all, new_marks};
 use crate::outlets::Outlets;
 use crate::{Event, Host, HostFault, Script};
 use arch_base::{Bytes, NoMemory};
@@ -103,43 +103,29 @@ impl ScriptHost {
             → self.new.frames ≡ self.old.frames ++ event_frame self.old.begun self.old.outputs }
     {
         let before = self.frames.as_slice().len();
-        if self.push_all_written().is_err() || self.push_all_closings().is_err() {
+        if self.push_frame().is_err() {
             self.frames.truncate(before);
             self.starved = self.starved.saturating_add(1);
         }
-        self.mark_all();
-    }
-
-    /// Appends what each connection took since the event began.
-    fn push_all_written(&mut self) -> Result<(), NoMemory> {
-        for conn in self.touched.first..self.touched.after {
-            let taken = self.outlets.taken(conn);
-            let mark = self.marks[conn as usize];
-            let start = mark.len.min(taken.len());
-            push_written(self.alloc, &mut self.frames, conn, &taken[start..])?;
-        }
-        Ok(())
-    }
-
-    /// Appends the lines of the connections that were closed since the event began.
-    fn push_all_closings(&mut self) -> Result<(), NoMemory> {
-        for conn in self.touched.first..self.touched.after {
-            let mark = self.marks[conn as usize];
-            let closed = mark.closings < self.outlets.closings(conn);
-            push_closing(self.alloc, &mut self.frames, conn, closed)?;
-        }
-        Ok(())
-    }
-
-    /// Marks what each connection has taken, as an event begins.
-    fn mark_all(&mut self) {
-        for conn in self.touched.first..self.touched.after {
-            self.marks[conn as usize] = Mark {
-                len: self.outlets.taken(conn).len(),
-                closings: self.outlets.closings(conn),
-            };
-        }
+        mark_all(&mut self.marks, &self.outlets, self.touched);
         self.touched = Touched::none();
+    }
+
+    /// Appends the frames of the current event.
+    ///
+    /// `NoMemory` may leave a part of them appended.
+    fn push_frame(&mut self) -> Result<(), NoMemory>
+        ensures events { self.new.events ≡ self.old.events }
+        ensures outputs { self.new.outputs ≡ self.old.outputs }
+        ensures begun { self.new.begun ≡ self.old.begun }
+        ensures lost { self.new.lost ≡ self.old.lost }
+        ensures starved { self.new.starved ≡ self.old.starved }
+        ensures frames { OnOk result
+            (self.new.frames ≡ self.old.frames ++ event_frame self.old.begun self.old.outputs) }
+    {
+        let (outlets, marks) = (&self.outlets, self.marks.as_slice());
+        push_all_written(self.alloc, &mut self.frames, outlets, marks, self.touched)?;
+        push_all_closings(self.alloc, &mut self.frames, outlets, marks, self.touched)
     }
 }
 
