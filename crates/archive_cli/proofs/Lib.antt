@@ -4,3 +4,4 @@ pub mod Leaving
 pub mod OnDisk
 pub mod Rows
 pub mod PlayedEvents
+pub mod ServedDisk

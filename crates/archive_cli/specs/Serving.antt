@@ -77,6 +77,12 @@ RunBy (Ended how) arrivals turns i j =
 -- A disk, by its content and by what each crash since a moment may have left.
 module _ {D : Type 0} (content : D → Option Content) (moment : D → ℕ)
     (left_since : D → ℕ → Files → Type 0) where
+  -- A crash since the first state leaves files that stand for one of these archives, with a cache of
+  -- these bytes.
+  pub record CrashLeaves (old new : D) (cache : List ℕ) (may : List (Option Archive)) : Type 0 where
+    pub later : moment old ≤ moment new
+    pub each : (image : Files) → left_since new (moment old) image → RecoversOfWith cache may image
+
   -- The archive that the disk read as was found, and the events were taken to their end, one after
   -- another, each with its replies over the archive of that moment. A crash since the run began
   -- leaves an archive of the standing before it, or one that stood after one of the acts, or one that
@@ -93,10 +99,8 @@ module _ {D : Type 0} (content : D → Option Content) (moment : D → ℕ)
     pub last : World
     pub last_out : last.out ≡ j.out
     pub served : Served arrivals first turns last
-    pub cache : List ℕ
-    pub stands : AllRecoverWith cache (one_of last.standing) (content new)
-    pub crash : LeavesOnly moment left_since old new
-        (RecoversOfWith cache (archives_of (s ∷ passed_in turns)))
+    pub stands : (cache : List ℕ) × AllRecoverWith cache (one_of last.standing) (content new)
+    pub crash : (cache : List ℕ) × CrashLeaves old new cache (archives_of (s ∷ passed_in turns))
 
   -- What a run of `serve` did: it took these events, and ended by them; and whatever the disk stood
   -- for, they were served, if it was opened.

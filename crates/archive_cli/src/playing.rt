@@ -1,5 +1,5 @@
 //! Plays the events of a script over a keeper.
-ghost use Rattle.std.specs.Prelude.{◌≡◌, ◌≤◌, ◌++◌, ℕ, List, All, length, codes};
+ghost use Rattle.std.specs.Prelude.{◌≡◌, ◌≤◌, ◌++◌, ℕ, List, All, true, length, codes};
 ghost use Rattle.arch_base.specs.declared.config.Config.{Config};
 ghost use Rattle.arch_model.specs.Archives.{empty_archive};
 ghost use Rattle.answer_lines.specs.Lines.{whole_line};
@@ -89,10 +89,19 @@ fn play_over<K: CountedKeep + Drop, O: Sink>(
     let starved = host.starved();
     let failed = node.into_keep().failed();
     let frames = host.into_frames();
-    if end == ServeEnd::Stopped && starved == 0 && failed == 0 {
-        print(frames.as_slice(), Status::Done, out)
-    } else {
-        Status::Memory.if_taken(say_cut(frames.as_slice(), out))
+    if is_whole(end, starved, failed) {
+        return print(frames.as_slice(), Status::Done, out);
+    }
+    Status::Memory.if_taken(say_cut(frames.as_slice(), out))
+}
+
+/// Returns whether all events were played, and no memory ran out at the host or the disk.
+fn is_whole(end: ServeEnd, starved: u64, failed: u64) -> bool
+    ensures { result ≡ true → (end ≡ ServeEnd.Stopped) × (starved ≡ 0) × (failed ≡ 0) }
+{
+    match end {
+        ServeEnd::Stopped => starved == 0 && failed == 0,
+        _ => false,
     }
 }
 

@@ -110,3 +110,9 @@ pub returns-in-Some-Serve-clause-ends : goal.returns-in-Some-Serve-clause-ends
 returns-in-Some-Serve-clause-ends g c =
     let served = c.serve_disk-status.ensures.serves in
     (c.serve_disk-status.result.0, c.code-in-Some-Serve.ensures, ran-served (spelled c.args.words.now) c.in-Some-Serve.turns c.in-Some-Serve.port served.0 c.serve_disk-status.result.0 _ _ (rw c.in-Some-Serve.field-0-is at c.in-Some-Serve.ensures) served.1.fault refl refl served.2)
+
+pub returns-in-Some-Serve-clause-serve : goal.returns-in-Some-Serve-clause-serve
+returns-in-Some-Serve-clause-serve g c = λ turns port asked.
+    let same = same-serve (spelled c.args.words.now) turns port c.in-Some-Serve.turns c.in-Some-Serve.port asked (rw c.in-Some-Serve.field-0-is at c.in-Some-Serve.ensures) in
+    let served = c.serve_disk-status.ensures.serves in
+    (served.0, status-or c.serve_disk-status.result.0 (run_status served.0) _ _ _ _ _ served.2 c.code-in-Some-Serve.ensures, rw same served.1)
