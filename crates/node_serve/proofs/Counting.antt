@@ -54,9 +54,11 @@ turned-counts n e w passed v below turned is = by e.0.what below turned
   where
     still : ((d : ℕ) → v.session d ≡ w.session d) → v.count ≡ w.count → v.count ≡ open_below n v.session
     still same count = count ∙ is ∙ sym (below-same n w.session v.session (λ d less. same d))
-    fed : (c : ℕ) (open : Option Session) → c < n → CameTo open e.0.moment c e.1 w passed v → v.count ≡ open_below n v.session
+
+    fed : (c : ℕ) (start : Option Session) → c < n → CameTo start e.0.moment c e.1 w passed v → v.count ≡ open_below n v.session
     fed c None less came = still came.0.sessions came.0.count
-    fed c (Some open) less came = step n c w v less came.around.sessions came.around.count is
+    fed c (Some start) less came = step n c w v less came.around.sessions came.around.count is
+
     by : (x : What) → IsBelow n x → TurnedBy x e.0.moment e.1 w passed v → v.count ≡ open_below n v.session
     by (what.Opened c at) less t = step n c w v less t.0.around.sessions t.0.around.count is
     by (what.Bytes c len) less t = fed c (w.session c) less t

@@ -76,24 +76,24 @@ module _ {K : Type 0} (holds : K → Archive → Type 0) (ready : K → Bool) (l
       })
 
   -- A reopening, and then the piece.
-  pub fed-opened : (open : Session) (piece : List ℕ) (s t : Standing) (old mid new : K) (i j k : Outside) (goes_on : Bool) (left : Session) → Acts (said moment s (Came open piece)) i (Some (with_piece open piece)) t j → Passes leaves old mid (s ∷ t ∷ [])
-      → FedFrom holds ready leaves moment (with_piece open piece) t mid j goes_on left new k → FedFrom holds ready leaves moment (Came open piece) s old i goes_on left new k
-  fed-opened open piece s t old mid new i j k goes_on left acts passes fed = record {
+  pub fed-opened : (start : Session) (piece : List ℕ) (s t : Standing) (old mid new : K) (i j k : Outside) (goes_on : Bool) (left : Session) → Acts (said moment s (Came start piece)) i (Some (with_piece start piece)) t j → Passes leaves old mid (s ∷ t ∷ [])
+      → FedFrom holds ready leaves moment (with_piece start piece) t mid j goes_on left new k → FedFrom holds ready leaves moment (Came start piece) s old i goes_on left new k
+  fed-opened start piece s t old mid new i j k goes_on left acts passes fed = record {
     after = fed.after;
     fits = fed.fits;
     held = fed.held;
     rest_is = fed.rest_is;
-    course = course-after leaves (said moment) is_asked old mid new (talk (Some (Came open piece)) s i) (talk (Some (with_piece open piece)) t j) (talk fed.held fed.after k)
-        (coming-more leaves (said moment) is_asked old old mid (talk (Some (Came open piece)) s i) (Came open piece) s i (Some (with_piece open piece)) t j (coming-same leaves (said moment) is_asked old (talk (Some (Came open piece)) s i)) refl acts passes) fed.course;
+    course = course-after leaves (said moment) is_asked old mid new (talk (Some (Came start piece)) s i) (talk (Some (with_piece start piece)) t j) (talk fed.held fed.after k)
+        (coming-more leaves (said moment) is_asked old old mid (talk (Some (Came start piece)) s i) (Came start piece) s i (Some (with_piece start piece)) t j (coming-same leaves (said moment) is_asked old (talk (Some (Came start piece)) s i)) refl acts passes) fed.course;
   }
 
   -- A reopening that was refused.
-  pub fed-shut : (open : Session) (piece : List ℕ) (s t : Standing) (old new : K) (i j : Outside) (left : Session) → Acts (said moment s (Came open piece)) i None t j → Moves holds ready leaves old s new t
-      → FedFrom holds ready leaves moment (Came open piece) s old i false left new j
-  fed-shut open piece s t old new i j left acts moves = record {
+  pub fed-shut : (start : Session) (piece : List ℕ) (s t : Standing) (old new : K) (i j : Outside) (left : Session) → Acts (said moment s (Came start piece)) i None t j → Moves holds ready leaves old s new t
+      → FedFrom holds ready leaves moment (Came start piece) s old i false left new j
+  fed-shut start piece s t old new i j left acts moves = record {
     after = t;
     fits = moves.fits;
     held = None;
     rest_is = refl;
-    course = coming-last leaves (said moment) is_asked old old new (talk (Some (Came open piece)) s i) (Came open piece) s i None t j (coming-same leaves (said moment) is_asked old (talk (Some (Came open piece)) s i)) acts (inl refl) moves.passes;
+    course = coming-last leaves (said moment) is_asked old old new (talk (Some (Came start piece)) s i) (Came start piece) s i None t j (coming-same leaves (said moment) is_asked old (talk (Some (Came start piece)) s i)) acts (inl refl) moves.passes;
   }

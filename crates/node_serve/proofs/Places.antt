@@ -39,20 +39,20 @@ ends-removed m n c r is updates len = λ s o. record {
 }
 
 -- An insertion finds a place.
-pub placed-inserted : (m n : BTreeMap ℕ Session) (c : ℕ) (r : Option Session) (open : Session) → session_of m c ≡ None → r ≡ session_of m c → UpdatesBy nat_cmp (nat_cmp c) m n (Some open) → btree_map_len n ≡ btree_map_len m + (if is_some r then 0 else 1) → IsPlaced c (places_of m) (places_of n)
-placed-inserted m n c r open none is updates len = record {
+pub placed-inserted : (m n : BTreeMap ℕ Session) (c : ℕ) (r : Option Session) (start : Session) → session_of m c ≡ None → r ≡ session_of m c → UpdatesBy nat_cmp (nat_cmp c) m n (Some start) → btree_map_len n ≡ btree_map_len m + (if is_some r then 0 else 1) → IsPlaced c (places_of m) (places_of n)
+placed-inserted m n c r start none is updates len = record {
   none = none;
-  first = open;
+  first = start;
   some = updates.1;
-  others = others-kept m n c (Some open) updates;
+  others = others-kept m n c (Some start) updates;
   count = len ∙ ap (λ (x : Option Session). btree_map_len m + (if is_some x then 0 else 1)) (is ∙ none);
 }
 
 -- A write to a place puts a session there.
-pub put-written : (m n : BTreeMap ℕ Session) (c : ℕ) (v open : Session) → Some v ≡ get_by (nat_cmp c) m → WritesThrough nat_cmp (nat_cmp c) m open n → IsPut c open (places_of m) (places_of n)
-put-written m n c v open found through =
+pub put-written : (m n : BTreeMap ℕ Session) (c : ℕ) (v start : Session) → Some v ≡ get_by (nat_cmp c) m → WritesThrough nat_cmp (nat_cmp c) m start n → IsPut c start (places_of m) (places_of n)
+put-written m n c v start found through =
     let updates = through.3 (subst (λ (x : Option Session). IsSome x) found refl) in
-    record { here = updates.1; others = others-kept m n c (Some open) updates; count = through.2 }
+    record { here = updates.1; others = others-kept m n c (Some start) updates; count = through.2 }
 
 -- Maps with the same entries have the same sessions.
 pub same-places : (m n : BTreeMap ℕ Session) → IsUnchanged m n → places_of n ≡ places_of m

@@ -74,6 +74,7 @@ acts-after words x i held a j same acts = by acts.way acts.sent
     stops Memory s = s.after_is ∙ same Plain
     stops Disk s = s.after_is ∙ same Plain
     stops Newer never = absurd never
+
     by : (way : Way) → Sent words way i held a j → a ≡ x
     by way (inl s) = s.after_is ∙ same way
     by way (inr (inl s)) = s.after_is ∙ same way
@@ -104,9 +105,11 @@ turned-has may e w passed v turned now later = by e.0.what turned
   where
     same : v.standing ≡ w.standing → Has may v.standing
     same is = subst (λ (s : Standing). Has may s) (sym is) now
-    fed : (c : ℕ) (open : Option Session) → CameTo open e.0.moment c e.1 w passed v → Has may v.standing
+
+    fed : (c : ℕ) (start : Option Session) → CameTo start e.0.moment c e.1 w passed v → Has may v.standing
     fed c None came = same came.0.standing
-    fed c (Some open) came = afters-last may came.acts (talk came.held v.standing _) (subst (λ (ss : List Standing). HasAll may ss) came.passed_is later)
+    fed c (Some start) came = afters-last may came.acts (talk came.held v.standing _) (subst (λ (ss : List Standing). HasAll may ss) came.passed_is later)
+
     by : (x : What) → TurnedBy x e.0.moment e.1 w passed v → Has may v.standing
     by (what.Opened c at) t = same (acts-after _ w.standing _ _ v.standing _ (λ way. making-after at _ w.standing way) t.0.acts)
     by (what.Bytes c len) t = fed c (w.session c) t
@@ -141,8 +144,8 @@ module _ {K : Type 0} (holds : K → Archive → Type 0) (ready : K → Bool) (l
       let last : Turn = record { passed = turn.passed; after = world_of turn.after new.places k } in
       let ts = run.turns ++ last ∷ [] in
       let passes : Passes leaves old.keep new.keep (s ∷ passed_in ts) = λ start may has since.
-          let parts = all-split may (passed_in run.turns) turn.passed (subst (λ (ss : List Standing). HasAll may ss) (passed-more run.turns last) has.1) in
-          turn.passes start may (served-has may es (world_of s old.places i) run.turns (world_of run.after mid.places j) run.served has.0 parts.0, parts.1) (run.passes start may (has.0, parts.0) since) in
+      let parts = all-split may (passed_in run.turns) turn.passed (subst (λ (ss : List Standing). HasAll may ss) (passed-more run.turns last) has.1) in
+      turn.passes start may (served-has may es (world_of s old.places i) run.turns (world_of run.after mid.places j) run.served has.0 parts.0, parts.1) (run.passes start may (has.0, parts.0) since) in
       record {
         after = turn.after;
         fits = turn.fits;

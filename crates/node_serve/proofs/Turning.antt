@@ -78,9 +78,9 @@ makes-unbuilt at c p i j unbuilt none few refused = refusing at (busy_words at) 
     acts-closing (said_making at p.count s) Plain (closes s (busy_words at)) (outside_at c i) (outside_at c j) s refused.sent (made-few at p.count s few ∙ unbuilt s) refl refused.disk (omega (arith, refused.disk)) refused.said refl)
 
 -- All around a connection that got a session.
-around-placed : (c : ℕ) (open : Session) (s : Standing) (p q : Places) (i j : Outer) → p.session c ≡ None → q.session c ≡ Some open → OthersKept c p.session q.session → q.count ≡ p.count + 1 → OthersKept c i.taken j.taken → ((d : ℕ) → j.closings d ≡ i.closings d)
+around-placed : (c : ℕ) (start : Session) (s : Standing) (p q : Places) (i j : Outer) → p.session c ≡ None → q.session c ≡ Some start → OthersKept c p.session q.session → q.count ≡ p.count + 1 → OthersKept c i.taken j.taken → ((d : ℕ) → j.closings d ≡ i.closings d)
     → Around c (world_of s p i) (world_of s q j)
-around-placed c open s p q i j none some others count taken closings =
+around-placed c start s p q i j none some others count taken closings =
     let zero : one_if (p.session c) ≡ 0 = ap (λ (x : Option Session). one_if x) none in
     let one : one_if (q.session c) ≡ 1 = ap (λ (x : Option Session). one_if x) some in
     record {
@@ -105,11 +105,13 @@ acts-any {H} {A} words other x i held a j same whole plain kept acts = record { 
   where
     short : SaidShort (words Plain) i held a j → ⊥
     short s = false≢true (sym whole ∙ ap (λ (y : Said H A). y.streamed) (sym (same Plain)) ∙ s.streamed)
+
     stops : (way : Way) → StopsShort words way i held a j → ⊥
     stops Plain never = never
     stops Memory s = short s
     stops Disk s = short s
     stops Newer never = never
+
     by : (way : Way) → Sent words way i held a j → Sent other Plain i held a j
     by way (inl s) = inl (subst (λ (y : Said H A). SaidWhole y i held a j) (same way ∙ sym plain) s)
     by way (inr (inl s)) = inr (inl (subst (λ (y : Said H A). SaidLost y i held a j) (same way ∙ sym plain) s))
@@ -192,12 +194,12 @@ module _ {K : Type 0} (holds : K → Archive → Type 0) (ready : K → Bool) (l
   same-world s p i = record { standing = refl; sessions = λ c. refl; count = refl; out = refl }
 
   -- A session took a piece.
-  pub turns-fed : (moment c len : ℕ) (piece : List ℕ) (open : Session) (s : Standing) (old new : K) (p q : Places) (i j : Outer) (goes_on : Bool) (left : Session) → p.session c ≡ Some open → q.session c ≡ held_if goes_on left
-      → FedFrom holds ready leaves moment (Came open piece) s old (outside_at c i) goes_on left new (outside_at c j) → ((t : Standing) → Around c (world_of s p i) (world_of t q j)) → Fits holds ready leaves old s
+  pub turns-fed : (moment c len : ℕ) (piece : List ℕ) (start : Session) (s : Standing) (old new : K) (p q : Places) (i j : Outer) (goes_on : Bool) (left : Session) → p.session c ≡ Some start → q.session c ≡ held_if goes_on left
+      → FedFrom holds ready leaves moment (Came start piece) s old (outside_at c i) goes_on left new (outside_at c j) → ((t : Standing) → Around c (world_of s p i) (world_of t q j)) → Fits holds ready leaves old s
       → TurnsTo holds ready leaves (record { moment = moment; what = what.Bytes c len }, piece) s (serving old p) i (serving new q) j
-  turns-fed moment c len piece open s old new p q i j goes_on left here kept fed around fits =
+  turns-fed moment c len piece start s old new p q i j goes_on left here kept fed around fits =
       let passed = afters (fed.course.acts ++ talk fed.held fed.after (outside_at c j) ∷ []) in
-      let at : FedAt moment c open piece (world_of s p i) passed (world_of fed.after q j) = record {
+      let at : FedAt moment c start piece (world_of s p i) passed (world_of fed.after q j) = record {
         held = fed.held;
         acts = fed.course.acts;
         before = fed.course.before;
@@ -217,8 +219,8 @@ module _ {K : Type 0} (holds : K → Archive → Type 0) (ready : K → Bool) (l
       }
 
 -- All around a session that goes on.
-pub around-went : (c : ℕ) (open left : Session) (s t : Standing) (p q : Places) (i j : Outer) → p.session c ≡ Some open → IsPut c left p q → OthersKept c i.taken j.taken → ((d : ℕ) → j.closings d ≡ i.closings d) → Around c (world_of s p i) (world_of t q j)
-around-went c open left s t p q i j here put taken closings =
+pub around-went : (c : ℕ) (start left : Session) (s t : Standing) (p q : Places) (i j : Outer) → p.session c ≡ Some start → IsPut c left p q → OthersKept c i.taken j.taken → ((d : ℕ) → j.closings d ≡ i.closings d) → Around c (world_of s p i) (world_of t q j)
+around-went c start left s t p q i j here put taken closings =
     let one : one_if (p.session c) ≡ 1 = ap (λ (x : Option Session). one_if x) here in
     let still : one_if (q.session c) ≡ 1 = ap (λ (x : Option Session). one_if x) put.here in
     record {
@@ -230,9 +232,9 @@ around-went c open left s t p q i j here put taken closings =
     }
 
 -- All around one that ended.
-pub around-shut : (c : ℕ) (open left : Session) (s t : Standing) (p q r : Places) (i j k : Outer) → p.session c ≡ Some open → IsPut c left p q → Ends c q r → OthersKept c i.taken j.taken → ((d : ℕ) → j.closings d ≡ i.closings d) → ((d : ℕ) → k.taken d ≡ j.taken d) → OthersKept c j.closings k.closings
+pub around-shut : (c : ℕ) (start left : Session) (s t : Standing) (p q r : Places) (i j k : Outer) → p.session c ≡ Some start → IsPut c left p q → Ends c q r → OthersKept c i.taken j.taken → ((d : ℕ) → j.closings d ≡ i.closings d) → ((d : ℕ) → k.taken d ≡ j.taken d) → OthersKept c j.closings k.closings
     → k.closings c ≡ one_more (j.closings c) → Around c (world_of s p i) (world_of t r k)
-around-shut c open left s t p q r i j k here put ends taken closings same others closed =
+around-shut c start left s t p q r i j k here put ends taken closings same others closed =
     let ended = ends s i in
     let one : one_if (p.session c) ≡ 1 = ap (λ (x : Option Session). one_if x) here in
     let still : one_if (q.session c) ≡ 1 = ap (λ (x : Option Session). one_if x) put.here in

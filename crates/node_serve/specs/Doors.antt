@@ -33,7 +33,7 @@ with_piece (session.News reader) piece = AtNews (news.with_piece piece reader)
 
 -- The session between two pieces.
 abbrev pub rest_of : Held → Session
-rest_of (Came open piece) = open
+rest_of (Came start piece) = start
 rest_of (AtControl w) = session.Control w.bytes
 rest_of (AtNews reader) = session.News reader
 
@@ -51,8 +51,8 @@ unopened_words (session.News reader) why = unopened_line why
 -- or the one in doubt; or it is refused, and the door's word for that is said, and the connection is
 -- closed. Each request is then answered as its door does.
 abbrev pub said : ℕ → Standing → Held → Way → Said Held Standing
-said moment s (Came open piece) way =
-    said_reopening (unopened_words open) s (with_piece open piece) way
+said moment s (Came start piece) way =
+    said_reopening (unopened_words start) s (with_piece start piece) way
 said moment s (AtControl w) way =
     said_over (λ (t : Standing). t) AtControl (control.said moment s w way)
 said moment s (AtNews reader) way =
@@ -61,7 +61,7 @@ said moment s (AtNews reader) way =
 -- Something is to be done before a rest is kept: the archive is to be reopened, or a whole request is
 -- at the front.
 abbrev pub is_asked : Held → Bool
-is_asked (Came open piece) = true
+is_asked (Came start piece) = true
 is_asked (AtControl w) = control.has_request w
 is_asked (AtNews reader) = news.has_request reader
 

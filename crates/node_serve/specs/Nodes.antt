@@ -78,8 +78,8 @@ pub record IsPlaced (c : ℕ) (p q : Places) : Type 0 where
   pub count : q.count ≡ p.count + 1
 
 -- The session of a connection is another one.
-pub record IsPut (c : ℕ) (open : Session) (p q : Places) : Type 0 where
-  pub here : q.session c ≡ Some open
+pub record IsPut (c : ℕ) (start : Session) (p q : Places) : Type 0 where
+  pub here : q.session c ≡ Some start
   pub others : OthersKept c p.session q.session
   pub count : q.count ≡ p.count
 
@@ -97,9 +97,9 @@ module _ {K : Type 0} (holds : K → Archive → Type 0) (ready : K → Bool)
   -- Whatever the keeper fits, it is reopened before a piece, or that is refused and the session's
   -- door says so.
   abbrev pub Opens : ℕ → Session → K → Outside → Bool → K → Outside → Type 0
-  Opens moment open old i goes_on new j = answering.Opens holds ready leaves
-      (λ (s : Standing) (piece : List ℕ) (way : Way). said moment s (Came open piece) way)
-      (λ (piece : List ℕ). with_piece open piece) old i goes_on new j
+  Opens moment start old i goes_on new j = answering.Opens holds ready leaves
+      (λ (s : Standing) (piece : List ℕ) (way : Way). said moment s (Came start piece) way)
+      (λ (piece : List ℕ). with_piece start piece) old i goes_on new j
 
   -- Whatever the keeper fits, a session takes a piece by a course, and the keeper fits what that
   -- leaves.
@@ -114,8 +114,8 @@ module _ {K : Type 0} (holds : K → Archive → Type 0) (ready : K → Bool)
 
   -- The same of a session before a piece, whose archive has yet to be reopened.
   abbrev pub Feeds : ℕ → Session → List ℕ → K → Outside → Bool → Session → K → Outside → Type 0
-  Feeds moment open piece old i goes_on left new j = (s : Standing) → Fits holds ready leaves old s
-      → FedFrom moment (Came open piece) s old i goes_on left new j
+  Feeds moment start piece old i goes_on left new j = (s : Standing) → Fits holds ready leaves old s
+      → FedFrom moment (Came start piece) s old i goes_on left new j
 
   -- A node took an event to its end. A crash since it began leaves an archive that stood before it
   -- or after one of its acts, or one that was in doubt there.

@@ -15,13 +15,13 @@ use Rattle.node_serve.specs.World.{World, ActAt, Same, EndedAt, Around, outside_
 -- A piece came to the session of a connection. The archive was reopened, the whole requests were
 -- answered in order, and the rest was kept, unless an act closed the connection. Nothing else of the
 -- world changed. `passed` is how the archive stood after each act.
-pub record FedAt (moment c : ℕ) (open : Session) (piece : List ℕ) (w : World)
+pub record FedAt (moment c : ℕ) (start : Session) (piece : List ℕ) (w : World)
     (passed : List Standing) (v : World) : Type 0 where
   pub held : Option Held
   pub acts : List (Talk Held Standing)
   pub before : Talk Held Standing
   pub each : Requests (said moment) is_asked
-      (talk (Some (Came open piece)) w.standing (outside_at c w.out)) acts before
+      (talk (Some (Came start piece)) w.standing (outside_at c w.out)) acts before
   pub last : Last (said moment) is_asked before (talk held v.standing (outside_at c v.out))
   pub rest_is : v.session c ≡ rest_if held
   pub around : Around c w v
@@ -30,7 +30,7 @@ pub record FedAt (moment c : ℕ) (open : Session) (piece : List ℕ) (w : World
 -- A piece came to a connection. Without a session it is passed over.
 abbrev pub CameTo : Option Session → ℕ → ℕ → List ℕ → World → List Standing → World → Type 0
 CameTo None moment c piece w passed v = Same w v × (passed ≡ [])
-CameTo (Some open) moment c piece w passed v = FedAt moment c open piece w passed v
+CameTo (Some start) moment c piece w passed v = FedAt moment c start piece w passed v
 
 -- What happened at a moment. A connection that opens ends an open session of its own without a word;
 -- then its session is made, which greets, or is refused.

@@ -42,7 +42,7 @@ others_open c w = w.count - one_if (w.session c)
 -- The closings of a connection, after one more if no session is left of it.
 abbrev pub closed_if : Option Session → Option ℕ → Option ℕ
 closed_if None n = one_more n
-closed_if (Some open) n = n
+closed_if (Some start) n = n
 
 -- All that an act on a connection may change, but what it says there: the sessions and the outside of
 -- other connections stay, the connection is closed if no session is left of it, and the count of open

@@ -6,7 +6,7 @@ ghost use Rattle.edge_io.specs.Hosts.{SameEvents};
 ghost use Rattle.node_serve.specs.Nodes.{Turns};
 ghost use Rattle.node_serve.specs.World.{outer};
 
-use crate::places::{Sessions, end, feed, open};
+use crate::places::{Sessions, admit, end, feed};
 use arch_model::Keep;
 use edge_io::{Event, Host, What};
 use std::alloc::Global;
@@ -76,7 +76,7 @@ impl<K: Keep> Node<K> {
         ensures events { SameEvents H.left H.given H.recorded H.faults host.old host.new }
     {
         match event.what {
-            What::Opened { conn, door } => open(self.alloc, conn, door, &mut self.sessions, host),
+            What::Opened { conn, door } => admit(self.alloc, conn, door, &mut self.sessions, host),
             What::Bytes { conn, .. } => feed(
                 conn,
                 event.moment,

@@ -29,7 +29,7 @@ pub(crate) fn end(conn: u32, sessions: &mut Sessions)
 }
 
 /// Ends the session of a connection, and makes a new one of a door, or refuses it.
-pub(crate) fn open<H: Host>(
+pub(crate) fn admit<H: Host>(
     alloc: Global,
     conn: u32,
     door: Door,

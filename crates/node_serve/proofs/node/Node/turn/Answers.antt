@@ -5,7 +5,7 @@ use Rattle.node_serve.proofs.node.Node.turn.Goals as goal
 
 pub returns-in-Opened-clause-turned : goal.returns-in-Opened-clause-turned
 returns-in-Opened-clause-turned g c = rw ← c.self.view_is (λ s fits.
-    turns-still g.K.Shelf.holds g.K.Shelf.ready g.K.Keep.leaves (c.args.event.now, c.args.piece.now) s c.self.inside.keep (places_of c.self.inside.sessions) (places_of c.open.new.sessions) _ _ fits (rw c.in-Opened.is (c.open.ensures.made (g.K.Shelf.faults c.self.inside.keep) s, refl)))
+    turns-still g.K.Shelf.holds g.K.Shelf.ready g.K.Keep.leaves (c.args.event.now, c.args.piece.now) s c.self.inside.keep (places_of c.self.inside.sessions) (places_of c.admit.new.sessions) _ _ fits (rw c.in-Opened.is (c.admit.ensures.made (g.K.Shelf.faults c.self.inside.keep) s, refl)))
 
 pub returns-in-Bytes-clause-turned : goal.returns-in-Bytes-clause-turned
 returns-in-Bytes-clause-turned g c = rw (← c.self.view_is, c.in-Bytes.is) (c.feed.ensures.turned _)

@@ -3,7 +3,7 @@ use Rattle.edge_io.specs.declared.events.Door.TheVariants as door
 use Rattle.node_serve.specs.Nodes.{places_of}
 use Rattle.node_serve.specs.World.{outer}
 use Rattle.node_serve.proofs.Turning.{makes-busy, makes-unbuilt, makes-after}
-use Rattle.node_serve.proofs.places.open.Goals as goal
+use Rattle.node_serve.proofs.places.admit.Goals as goal
 
 pub returns-then-clause-made : goal.returns-then-clause-made
 returns-then-clause-made g c = λ disk.
