@@ -1,5 +1,5 @@
 -- How what is due is printed.
-use Rattle.std.proofs.Common.{◌≡◌, ◌≢◌, ◌≤◌, ◌<◌, inl, inr, ℕ, List, [], ◌++◌, length, take, codes, decimal, Option, Some, None, Result, Ok, Err, is_ok, refl, sym, ◌∙◌, ap, subst, append_assoc, arith, length-append, if◌then◌else◌}
+use Rattle.std.proofs.Common.{◌≡◌, ◌≢◌, ◌≤◌, ◌<◌, ◌⊎◌, inl, inr, ℕ, List, [], ◌++◌, length, take, codes, decimal, Option, Some, None, Result, Ok, Err, is_ok, refl, sym, ◌∙◌, ap, subst, append_assoc, arith, length-append, if◌then◌else◌}
 use Rattle.arch_base.specs.declared.config.Config.{Config}
 use Rattle.edge_io.specs.Left.{before, IsUsedUp}
 use Rattle.edge_io.specs.Scripts.{Arrival, IsScript, IsBad}
@@ -12,6 +12,7 @@ use Rattle.arch_model.specs.Archives.{Archive}
 use Rattle.arch_model.specs.declared.answer.Answer.TheVariants as answer
 use Rattle.archive_core.proofs.Answered.{delivery-lives}
 use Rattle.archive_cli.specs.DiskCommands.{IsDone, TakesTo, delivering, removing}
+use Rattle.archive_cli.specs.Statuses.{code_of}
 use Rattle.archive_cli.specs.Words.{IsJob, AsksFor}
 use Rattle.archive_cli.specs.Turns.{Transcript}
 use Rattle.archive_cli.specs.Serving.{ServeRun, Shut, run_line, run_status}
@@ -223,3 +224,11 @@ pub front-short : (left : Option (List ℕ)) (bytes : List ℕ) (most : ℕ) →
 front-short left bytes most front short =
     let size : length bytes ≡ length (take most front.0) = ap (λ (b : List ℕ). length b) front.2 in
     subst (IsInput left) (sym (front.2 ∙ take_all most front.0 (omega (arith, size, length-take most front.0, short)))) front.1
+
+-- The number of a status that is due, or that of an output that failed.
+pub status-or : (status due : Status) (n : ℕ) (text : List ℕ) (out : Option (List ℕ)) (lost : ℕ) (out' : Option (List ℕ)) (lost' : ℕ) → n ≡ code_of status → Printed (Exactly text due) status out lost out' lost' → (n ≡ code_of due) ⊎ (n ≡ 6)
+status-or status due n text out lost out' lost' is p = by p.sent p.status_is
+  where
+    by : (sent : Result Unit SinkFault) → status ≡ (if is_ok sent then p.due_status else exit.Edges) → (n ≡ code_of due) ⊎ (n ≡ 6)
+    by (Ok done) same = inl (is ∙ ap code_of (same ∙ p.is_due.status_is))
+    by (Err fault) same = inr (is ∙ ap code_of same)

@@ -1,5 +1,5 @@
 //! The words of a command line.
-ghost use Rattle.std.specs.Prelude.{◌≡◌, ◌∷◌, [], codes, decimal};
+ghost use Rattle.std.specs.Prelude.{◌≡◌, ◌≢◌, ◌∷◌, [], codes, decimal};
 ghost use Rattle.edge_io.specs.Parsing.{Spells};
 ghost use Rattle.archive_cli.specs.Words.{IsJob, IsSetting, IsServeOption, IsUpTo, setting_word, serve_word, spelled};
 ghost use Rattle.archive_cli.specs.Options.{IsCollected, IsConfigured, IsWith, config_by};
@@ -197,6 +197,7 @@ fn read_serve_option(word: &str) -> Option<ServeOption>
 
 /// Returns what one word asks for.
 fn read_one(word: &str) -> Option<Job>
+    requires { word.now ≢ codes "serve" }
     ensures { IsJob (word.now ∷ []) result }
 {
     match word {
@@ -211,6 +212,7 @@ fn read_one(word: &str) -> Option<Job>
 /// Returns what two words and those after them ask for.
 #[tactic(auto, using(crate::proofs::Grammar::not_made, crate::proofs::Grammar::other_word, crate::proofs::Grammar::replayed, crate::proofs::Grammar::not_replayed, crate::proofs::Grammar::removal_named))]
 fn read_named(word: &str, name: &str, options: &[&str]) -> Option<Job>
+    requires { word.now ≢ codes "serve" }
     ensures { IsJob (word.now ∷ name.now ∷ spelled options.now) result }
 {
     if word == "remove" {

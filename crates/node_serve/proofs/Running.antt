@@ -21,7 +21,7 @@ use Rattle.node_serve.specs.Doors.{Held, session_limit, busy_words, memory_words
 use Rattle.node_serve.specs.Ends.{NoStop, EndsWithStop, EndsBy, is_stop, given_after, before_all}
 use Rattle.node_serve.specs.Nodes.{Serving, world_of, TurnsTo, Turns, TookOne, TookNone, RunsTo, RunsOver, ServesTo, outputs_asked}
 use Rattle.node_serve.specs.Turns.{Turn, FedAt, CameTo, TurnedBy, Turned, Served, passed_in, outputs_of, outputs_before}
-use Rattle.node_serve.specs.World.{Outer, World}
+use Rattle.node_serve.specs.World.{Outer, World, outer}
 use Rattle.node_serve.specs.declared.serving.ServeEnd.{ServeEnd}
 use Rattle.node_serve.specs.declared.serving.ServeEnd.TheVariants as end
 use Rattle.node_serve.specs.declared.session.Session.{Session}
@@ -63,6 +63,14 @@ append-none {X} (x ∷ xs) = ap (λ (ys : List X). x ∷ ys) (append-none xs)
 passed-more : (ts : List Turn) (t : Turn) → passed_in (ts ++ t ∷ []) ≡ passed_in ts ++ t.passed
 passed-more [] t = append-none t.passed
 passed-more (u ∷ ts) t = ap (λ (ss : List Standing). u.passed ++ ss) (passed-more ts t) ∙ sym (append_assoc u.passed (passed_in ts) t.passed)
+
+-- Nothing was taken.
+pub took-nothing : {K : Type 0} (node : Serving K) (i : Outer) (given left : Told) → TookNone node i node i given given left left
+took-nothing node i given left = record { node_kept = refl; out_kept = refl; given_kept = refl; left_kept = refl }
+
+-- The outside stays where what is told of it does.
+pub outer-same : (taken taken' : ℕ → Option (List ℕ)) (closings closings' : ℕ → Option ℕ) (disk lost lost' : ℕ) → ((c : ℕ) → taken' c ≡ taken c) → ((c : ℕ) → closings' c ≡ closings c) → lost' ≡ lost → outer taken' closings' disk lost' ≡ outer taken closings disk lost
+outer-same taken taken' closings closings' disk lost lost' t c l = λ i. record { taken = λ (n : ℕ). t n i; closings = λ (n : ℕ). c n i; disk = disk; lost = l i }
 
 -- How the archive stands after an event, if those before it and after each of its acts are told.
 

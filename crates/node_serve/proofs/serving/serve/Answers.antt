@@ -1,7 +1,7 @@
 use Rattle.std.proofs.Common.{refl, arith}
 use Rattle.node_serve.specs.declared.serving.ServeEnd.TheVariants as end
 use Rattle.node_serve.specs.World.{outer}
-use Rattle.node_serve.proofs.Running.{sofar-none, sofar-more, ends-stopped, ends-none, ends-early}
+use Rattle.node_serve.proofs.Running.{sofar-none, sofar-more, ends-stopped, ends-none, ends-early, took-nothing}
 use Rattle.node_serve.proofs.serving.serve.Goals as goal
 
 pub loop-turn-init : goal.loop-turn-init
@@ -31,3 +31,14 @@ returns-in-Fault-clause-served g c =
     let taken = c.in-Fault.ensures.taken in
     let far = c.loop-turn.invariant.far in
     ends-early g.K.Shelf.holds g.K.Shelf.ready g.K.Keep.leaves end.HostFault c.loop-turn._turn c.args.turns _ _ _ _ _ _ _ _ _ _ _ _ _ _ _ _ _ far taken.0 taken.2 (far.none, (let rose = taken.1 in omega (arith, rose, c.loop-turn.invariant.later)))
+
+pub returns-clause-served : goal.returns-clause-served
+returns-clause-served g c =
+    let far = c.loop-turn.invariant.far in
+    let count = far.count in
+    ends-early g.K.Shelf.holds g.K.Shelf.ready g.K.Keep.leaves (end.Spent c.args.turns) c.args.turns c.args.turns _ _ _ _ _ _ _ _ _ _ _ _ _ _ _ _ _ far (took-nothing _ _ _ _) (λ past noted. noted) (refl, omega (arith, count), far.none)
+
+pub returns-in_else-clause-served : goal.returns-in_else-clause-served
+returns-in_else-clause-served g c =
+    let far = sofar-none g.K.Shelf.holds g.K.Shelf.ready g.K.Keep.leaves c.args.node.now _ _ _ _ in
+    ends-early g.K.Shelf.holds g.K.Shelf.ready g.K.Keep.leaves end.NoMemory 0 c.args.turns _ _ _ _ _ _ _ _ _ _ _ _ _ _ _ _ _ far (took-nothing _ _ _ _) (λ past noted. noted) refl
