@@ -87,7 +87,8 @@ fn play_over<K: CountedKeep + Drop, O: Sink>(
     let mut node = Node::new(alloc, keep);
     let end = serve(alloc, &mut node, &mut host, ALL_EVENTS);
     let starved = host.starved();
-    let failed = node.into_keep().failed();
+    let keep = node.into_keep();
+    let failed = keep.failed();
     let frames = host.into_frames();
     if is_whole(end, starved, failed) {
         return print(frames.as_slice(), Status::Done, out);

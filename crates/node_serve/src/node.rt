@@ -50,7 +50,12 @@ impl<K: Keep> Node<K> {
     pub fn into_keep(self) -> K
         ensures { result ≡ self.keep }
     {
-        self.keep
+        let Node {
+            alloc: _,
+            keep,
+            sessions: _,
+        } = self;
+        keep
     }
 
     /// Takes an event to its end. `piece` has the bytes of a `Bytes` event, and is empty for any
