@@ -7,6 +7,7 @@ use Rattle.std.proofs.lemmas.Option.{slice_get-get_or, slice_get_past}
 use Rattle.std.specs.List.{slice_get}
 use Rattle.edge_io.specs.Frames.{Outputs, outputs, bytes_or_none, count_or_0, written, closing, each_from, each_connection, event_frame, written_between, closing_between, frames_from, frames_of, last_from, last_of, nothing}
 use Rattle.edge_io.specs.Hosts.{OthersKept}
+use Rattle.edge_io.specs.MemHosts.{IsUnused}
 use Rattle.edge_io.specs.ScriptHosts.{mark_at, marked, IsAtMark, IsOutside, AreMarked, AgreeOn, Scripting, Recorded}
 use Rattle.edge_io.specs.declared.marks.Mark.{Mark}
 use Rattle.edge_io.specs.declared.marks.Touched.{Touched}
@@ -243,4 +244,39 @@ recorded-kept old new past begun later frames is = record {
     closings_agree = (begun conn small).closings_agree ∙ (is.begun_is conn small).closings_agree;
   };
   frames_are = λ none. frames ∙ is.frames_are (omega (arith, later, none));
+}
+
+-- A new host.
+
+abbrev pub zero-mark : Mark
+zero-mark = record { len = 0; closings = 0 }
+
+none-counted : (b : Bool) → count_or_0 (if b then Some 0 else None) ≡ 0
+none-counted true = refl
+none-counted false = refl
+
+-- Before the first event each connection is at its mark, which says that it took nothing.
+pub new-marked : (now : Outputs) (marks : List Mark) (touched : Touched) → IsUnused now → length marks ≡ 65536 → ((conn : ℕ) → mark_at marks conn ≡ zero-mark) → touched.after ≡ 0
+    → AreMarked now marks touched
+new-marked now marks touched unused all zeros none = record {
+  all_marked = all;
+  bounded = omega (arith, none);
+  within = λ conn small. let len : (mark_at marks conn).len ≡ 0 = ap (λ (m : Mark). m.len) (zeros conn) in omega (arith, len);
+  others_at = λ conn small out. record {
+    taken_at = let bytes : length (bytes_or_none (now.taken conn)) ≡ 0 = ap (λ o. length (bytes_or_none o)) (unused.untaken conn) in omega (arith, bytes);
+    closings_at = ap count_or_0 (unused.all_open conn) ∙ none-counted (nat_lt conn 65536) ∙ sym (ap (λ (m : Mark). m.closings) (zeros conn));
+  };
+}
+
+take-none : (n : ℕ) → take {A = ℕ} n [] ≡ []
+take-none n = take-all [] n (omega arith)
+
+-- Its record is empty.
+pub new-recorded : (host : Scripting) (now : Outputs) (marks : List Mark) → IsUnused now → ((conn : ℕ) → mark_at marks conn ≡ zero-mark) → host.begun ≡ marked now marks → host.frames ≡ [] → Recorded host []
+new-recorded host now marks unused zeros begun none = record {
+  begun_is = λ conn small. subst (λ (o : Outputs). AgreeOn o nothing conn) (sym begun) (record {
+    taken_agree = ap (λ o. take (mark_at marks conn).len (bytes_or_none o)) (unused.untaken conn) ∙ take-none (mark_at marks conn).len;
+    closings_agree = ap (λ (m : Mark). m.closings) (zeros conn);
+  });
+  frames_are = λ starved. none;
 }
