@@ -1,12 +1,14 @@
 -- The frames of an event, from the connections that were touched.
-use Rattle.std.proofs.Common.{◌≡◌, ◌≤◌, ◌<◌, ◌+◌, ◌-◌, ◌⊎◌, inl, inr, zero, suc, ℕ, Bool, true, false, nat_lt, if◌then◌else◌, List, [], ◌∷◌, ◌++◌, Some, None, length, take, drop, replicate, refl, sym, ◌∙◌, ap, subst, arith, append_assoc, append-nil}
+use Rattle.std.proofs.Common.{◌≡◌, ◌≤◌, ◌<◌, ◌+◌, ◌-◌, ◌⊎◌, inl, inr, zero, suc, ℕ, Bool, true, false, nat_lt, if◌then◌else◌, List, [], ◌∷◌, ◌++◌, Option, Some, None, ◌≢◌, length, take, drop, replicate, refl, sym, ◌∙◌, ap, subst, arith, append_assoc, append-nil}
 use Rattle.std.proofs.lemmas.Bool.Decides.{nat_tests}
 use Rattle.std.proofs.lemmas.Grind.{common_steps}
 use Rattle.std.proofs.lemmas.List.{length-replicate, get_or-replicate}
 use Rattle.std.proofs.lemmas.Option.{slice_get-get_or, slice_get_past}
 use Rattle.std.specs.List.{slice_get}
 use Rattle.edge_io.specs.Frames.{Outputs, outputs, bytes_or_none, count_or_0, written, closing, each_from, each_connection, event_frame, written_between, closing_between, frames_from, frames_of, last_from, last_of, nothing}
-use Rattle.edge_io.specs.ScriptHosts.{mark_at, marked, IsAtMark, AreMarked, AgreeOn, Scripting, Recorded}
+use Rattle.edge_io.specs.Hosts.{OthersKept}
+use Rattle.edge_io.specs.MemHosts.{IsUnused}
+use Rattle.edge_io.specs.ScriptHosts.{mark_at, marked, IsAtMark, IsOutside, AreMarked, AgreeOn, Scripting, Recorded}
 use Rattle.edge_io.specs.declared.marks.Mark.{Mark}
 use Rattle.edge_io.specs.declared.marks.Touched.{Touched}
 
@@ -188,3 +190,93 @@ one-connection text old frames new first conn low is more =
     let here : first + (conn - first) ≡ conn = omega (arith, low) in
     more ∙ ap (λ l. l ++ text conn) is ∙ append_assoc old (each_from text first (conn - first)) (text conn)
     ∙ ap (λ l. old ++ l) (ap (λ k. each_from text first (conn - first) ++ text k) (sym here) ∙ sym (each-more text first (conn - first)) ∙ ap (λ n. each_from text first n) (sym count))
+
+-- What a call on one connection leaves.
+
+-- A connection whose outputs are the same is at its mark still.
+at-mark-still : (old new : Outputs) (marks : List Mark) (conn : ℕ) → new.taken conn ≡ old.taken conn → new.closings conn ≡ old.closings conn → IsAtMark old marks conn → IsAtMark new marks conn
+at-mark-still old new marks conn taken closings is = record {
+  taken_at = subst (λ (o : Option (List ℕ)). length (bytes_or_none o) ≤ (mark_at marks conn).len) (sym taken) is.taken_at;
+  closings_at = ap count_or_0 closings ∙ is.closings_at;
+}
+
+-- The connection took more bytes, or as many.
+abbrev pub Grows : Outputs → Outputs → ℕ → Type 0
+Grows old new conn = (more : List ℕ) × (bytes_or_none (new.taken conn) ≡ bytes_or_none (old.taken conn) ++ more)
+
+longer : (xs more : List ℕ) → length xs ≤ length (xs ++ more)
+longer [] more = omega arith
+longer (x ∷ xs) more = omega (arith, longer xs more)
+
+-- Where one connection was touched, and took more or was closed, the marks are right still.
+pub touched-more : (old new : Outputs) (marks : List Mark) (t u : Touched) (conn : ℕ) → AreMarked old marks t → u.after ≤ 65536 → (IsOutside u conn → 65536 ≤ conn)
+    → ((other : ℕ) → IsOutside u other → IsOutside t other) → ((other : ℕ) → Grows old new other) → OthersKept conn old.taken new.taken → OthersKept conn old.closings new.closings
+    → AreMarked new marks u
+touched-more old new marks t u conn is bounded inside wider grows taken closings = record {
+  all_marked = is.all_marked;
+  bounded = bounded;
+  within = λ c small.
+      let g = grows c in
+      omega (arith, is.within c small, ap length g.1, longer (bytes_or_none (old.taken c)) g.0);
+  others_at = λ c small out.
+      let apart : c ≢ conn = λ same. omega (arith, small, same, inside (subst (IsOutside u) same out)) in
+      at-mark-still old new marks c (taken c apart) (closings c apart) (is.others_at c small (wider c out));
+}
+
+take-longer : (n : ℕ) (xs more : List ℕ) → n ≤ length xs → take n (xs ++ more) ≡ take n xs
+take-longer n xs more low = grind (arith, common_steps)
+
+-- What was marked of a connection that took more is the same.
+pub begun-kept : (old new : Outputs) (marks : List Mark) (conn : ℕ) → Grows old new conn → (mark_at marks conn).len ≤ length (bytes_or_none (old.taken conn))
+    → AgreeOn (marked new marks) (marked old marks) conn
+begun-kept old new marks conn grows low = record {
+  taken_agree =
+      ap (λ (l : List ℕ). take (mark_at marks conn).len l) grows.1 ∙ take-longer (mark_at marks conn).len (bytes_or_none (old.taken conn)) grows.0 low;
+  closings_agree = refl;
+}
+
+-- A record stands where the marked outputs and the frames do.
+pub recorded-kept : (old new : Scripting) (past : List Outputs) → ((conn : ℕ) → conn < 65536 → AgreeOn new.begun old.begun conn) → old.starved ≤ new.starved → new.frames ≡ old.frames
+    → Recorded old past → Recorded new past
+recorded-kept old new past begun later frames is = record {
+  begun_is = λ conn small. record {
+    taken_agree = (begun conn small).taken_agree ∙ (is.begun_is conn small).taken_agree;
+    closings_agree = (begun conn small).closings_agree ∙ (is.begun_is conn small).closings_agree;
+  };
+  frames_are = λ none. frames ∙ is.frames_are (omega (arith, later, none));
+}
+
+-- A new host.
+
+abbrev pub zero-mark : Mark
+zero-mark = record { len = 0; closings = 0 }
+
+none-counted : (b : Bool) → count_or_0 (if b then Some 0 else None) ≡ 0
+none-counted true = refl
+none-counted false = refl
+
+-- Before the first event each connection is at its mark, which says that it took nothing.
+pub new-marked : (now : Outputs) (marks : List Mark) (touched : Touched) → IsUnused now → length marks ≡ 65536 → ((conn : ℕ) → mark_at marks conn ≡ zero-mark) → touched.after ≡ 0
+    → AreMarked now marks touched
+new-marked now marks touched unused all zeros none = record {
+  all_marked = all;
+  bounded = omega (arith, none);
+  within = λ conn small. let len : (mark_at marks conn).len ≡ 0 = ap (λ (m : Mark). m.len) (zeros conn) in omega (arith, len);
+  others_at = λ conn small out. record {
+    taken_at = let bytes : length (bytes_or_none (now.taken conn)) ≡ 0 = ap (λ o. length (bytes_or_none o)) (unused.untaken conn) in omega (arith, bytes);
+    closings_at = ap count_or_0 (unused.all_open conn) ∙ none-counted (nat_lt conn 65536) ∙ sym (ap (λ (m : Mark). m.closings) (zeros conn));
+  };
+}
+
+take-none : (n : ℕ) → take {A = ℕ} n [] ≡ []
+take-none n = take-all [] n (omega arith)
+
+-- Its record is empty.
+pub new-recorded : (host : Scripting) (now : Outputs) (marks : List Mark) → IsUnused now → ((conn : ℕ) → mark_at marks conn ≡ zero-mark) → host.begun ≡ marked now marks → host.frames ≡ [] → Recorded host []
+new-recorded host now marks unused zeros begun none = record {
+  begun_is = λ conn small. subst (λ (o : Outputs). AgreeOn o nothing conn) (sym begun) (record {
+    taken_agree = ap (λ o. take (mark_at marks conn).len (bytes_or_none o)) (unused.untaken conn) ∙ take-none (mark_at marks conn).len;
+    closings_agree = ap (λ (m : Mark). m.closings) (zeros conn);
+  });
+  frames_are = λ starved. none;
+}

@@ -30,6 +30,8 @@ IsOutside touched conn = (conn < touched.first) ⊎ (touched.after ≤ conn)
 pub record AreMarked (now : Outputs) (marks : List Mark) (touched : Touched) : Type 0 where
   pub all_marked : length marks ≡ 65536
   pub bounded : touched.after ≤ 65536
+  pub within : (conn : ℕ) → conn < 65536
+      → (mark_at marks conn).len ≤ length (bytes_or_none (now.taken conn))
   pub others_at : (conn : ℕ) → conn < 65536 → IsOutside touched conn → IsAtMark now marks conn
 
 -- The state of a host: its events, the outputs now and when the last event was given, the frames,

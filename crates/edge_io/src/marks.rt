@@ -76,6 +76,8 @@ pub(crate) fn mark_all(marks: &mut Vec<Mark>, outlets: &Outlets, touched: Touche
     requires { AreMarked outlets.now marks.old.items touched }
     ensures len { length marks.new.items ≡ 65536 }
     ensures each { (conn : ℕ) → conn < 65536 → IsAtMark outlets.now marks.new.items conn }
+    ensures within { (conn : ℕ) → conn < 65536 → (mark_at marks.new.items conn).len
+        ≤ length (bytes_or_none (outlets.now.taken conn)) }
 {
     for conn in touched.first..touched.after {
         marks[conn as usize] = mark_of(outlets, conn);

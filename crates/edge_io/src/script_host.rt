@@ -123,9 +123,21 @@ impl ScriptHost {
         ensures frames { OnOk result
             (self.new.frames ≡ self.old.frames ++ event_frame self.old.begun self.old.outputs) }
     {
-        let (outlets, marks) = (&self.outlets, self.marks.as_slice());
-        push_all_written(self.alloc, &mut self.frames, outlets, marks, self.touched)?;
-        push_all_closings(self.alloc, &mut self.frames, outlets, marks, self.touched)
+        let marks = self.marks.as_slice();
+        push_all_written(
+            self.alloc,
+            &mut self.frames,
+            &self.outlets,
+            marks,
+            self.touched,
+        )?;
+        push_all_closings(
+            self.alloc,
+            &mut self.frames,
+            &self.outlets,
+            marks,
+            self.touched,
+        )
     }
 }
 

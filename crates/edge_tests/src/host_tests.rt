@@ -173,7 +173,7 @@ fn a_host_in_memory_keeps_what_connections_take(rt: HostRuntime) -> Result<(), F
 fn fails_in_order(host: &mut MemHost, into: &mut [u8]) -> bool
     requires { 1048576 ≤ length into.old }
 {
-    let [first, second, ..] = &GIVEN;
+    let (first, second) = (&GIVEN[0], &GIVEN[1]);
     let given = gives(host, into, first);
     let failed = host.next(into) == Err(HostFault);
     let lost = host.send(1, b"a") == Err(HostFault) && host.taken(1).is_empty();
@@ -190,21 +190,18 @@ fn listed_calls_fail(rt: HostRuntime) -> Result<(), Fail> {
     Ok(())
 }
 
-/// Returns whether writes to a connection's sink reach it, and a listed one is a fault.
-fn takes_through_sink(host: &mut MemHost) -> bool {
-    let mut sink = ConnSink {
-        host: &mut *host,
-        conn: 9,
-    };
+/// Returns whether a write to a connection's sink is taken, and a listed one is a fault.
+fn writes_to_sink(host: &mut MemHost) -> bool {
+    let mut sink = ConnSink { host, conn: 9 };
     let first = sink.write(b"ab") == Ok(());
-    let failed = sink.write(b"c") == Err(SinkFault);
-    first && failed && host.taken(9) == b"ab".as_slice()
+    first && sink.write(b"c") == Err(SinkFault)
 }
 
 #[test]
 fn a_connection_is_a_sink(rt: HostRuntime) -> Result<(), Fail> {
     let mut host = host_failing(rt.alloc(), &[2])?;
-    assert!(rt; takes_through_sink(&mut host));
+    assert!(rt; writes_to_sink(&mut host));
+    assert!(rt; host.taken(9) == b"ab".as_slice());
     Ok(())
 }
 
@@ -217,7 +214,7 @@ fn sends(host: &mut ScriptHost, conn: u32, bytes: &[u8]) -> bool {
 fn writes_at_events(host: &mut ScriptHost, into: &mut [u8]) -> bool
     requires { 1048576 ≤ length into.old }
 {
-    let [first, second, third, ..] = &GIVEN;
+    let (first, second, third) = (&GIVEN[0], &GIVEN[1], &GIVEN[2]);
     let begun = gives(host, into, first) && sends(host, 7, b"bb") && sends(host, 1, b"a\n");
     host.close(9);
     let more = sends(host, 7, b"c") && sends(host, 8, b"");
