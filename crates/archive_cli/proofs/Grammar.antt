@@ -10,10 +10,12 @@ use Rattle.std.proofs.lemmas.List.{append-nil, map-append}
 use Rattle.std.proofs.lemmas.List.Elements.{All-push, All-head, All-tail}
 use Rattle.arch_base.specs.Configs.{IsConfig}
 use Rattle.arch_base.specs.declared.config.Config.{Config}
-use Rattle.archive_cli.specs.Words.{IsMade, IsInit, IsReplay, IsRemove, IsJob, AsksFor, IsSetting, IsUpTo, EachOnce, setting_word, limit_of, slice_of, max_of, mirror_of, limits, slices, maxes, mirrors, spelled, limit_in, slice_in, max_in, mirror_in}
+use Rattle.archive_cli.specs.Words.{IsMade, IsInit, IsReplay, IsRemove, IsServe, IsServeOption, Gives, serve_word, IsJob, AsksFor, IsSetting, IsUpTo, EachOnce, setting_word, limit_of, slice_of, max_of, mirror_of, limits, slices, maxes, mirrors, spelled, limit_in, slice_in, max_in, mirror_in}
 use Rattle.archive_cli.specs.Options.{Holds, HoldsMore, HoldsTwo, marks}
 use Rattle.archive_cli.specs.declared.words.Job.{Job}
-use Rattle.archive_cli.specs.declared.words.Job.TheVariants.{Help, Version, Replay, Init, Deliver, Remove, Check}
+use Rattle.archive_cli.specs.declared.words.Job.TheVariants.{Help, Version, Replay, Init, Deliver, Remove, Check, Serve}
+use Rattle.archive_cli.specs.declared.words.ServeOption.{ServeOption}
+use Rattle.archive_cli.specs.declared.words.ServeOption.TheVariants as serving
 use Rattle.archive_cli.specs.declared.words.Setting.{Setting}
 use Rattle.archive_cli.specs.declared.words.Setting.TheVariants.{Limit, Slice, Max, Mirror}
 use Rattle.archive_cli.specs.declared.words.Settings.{Settings}
@@ -199,6 +201,7 @@ module _ (word : List ℕ) (more : List (List ℕ)) where
   remove_only (Remove number) r = (number, refl, r)
   remove_only (Init config) i = absurd (remove-init (first-word (codes "remove") (codes "init") [] [] (word ∷ more) i.after i.is))
   remove_only (Replay config) r = absurd (remove-replay (first-word (codes "remove") (codes "replay") [] [] (word ∷ more) r.after r.is))
+  remove_only (Serve turns port) s = absurd (apart 114 115 (codes "emove") (codes "erve") (omega arith) (first-word (codes "remove") (codes "serve") [] [] (word ∷ more) (map serve_word s.options) s.is))
 
   -- More words after the number ask for no job.
   pub removal_long : more ≢ [] → (job : Job) → AsksFor (codes "remove" ∷ word ∷ more) job → ⊥
@@ -242,25 +245,27 @@ module _ (word name : List ℕ) (options : List (List ℕ)) where
   after_word : (command : List ℕ) (after : List (List ℕ)) (settings : List Setting) (config : Config) → word ∷ name ∷ options ≡ command ∷ after → IsMade after settings config → IsMade (name ∷ options) settings config
   after_word command after settings config is m = subst (λ ws. IsMade ws settings config) (cc is) m
 
-  -- Words that make no archive, and whose first isn't `remove`, ask for no job.
-  pub not_made : word ≢ codes "remove" → ((settings : List Setting) (config : Config) → IsMade (name ∷ options) settings config → ⊥) → (job : Job) → AsksFor (word ∷ name ∷ options) job → ⊥
-  not_made o h Help e = cc e
-  not_made o h Version e = cc e
-  not_made o h Deliver e = cc e
-  not_made o h Check e = cc e
-  not_made o h (Remove number) r = o (cc r.is)
-  not_made o h (Init config) i = h i.settings config (after_word (codes "init") i.after i.settings config i.is i.made)
-  not_made o h (Replay config) r = h r.settings config (after_word (codes "replay") r.after r.settings config r.is r.made)
+  -- Words that make no archive, and whose first is neither `remove` nor `serve`, ask for no job.
+  pub not_made : word ≢ codes "remove" → word ≢ codes "serve" → ((settings : List Setting) (config : Config) → IsMade (name ∷ options) settings config → ⊥) → (job : Job) → AsksFor (word ∷ name ∷ options) job → ⊥
+  not_made o v h Help e = cc e
+  not_made o v h Version e = cc e
+  not_made o v h Deliver e = cc e
+  not_made o v h Check e = cc e
+  not_made o v h (Remove number) r = o (cc r.is)
+  not_made o v h (Init config) i = h i.settings config (after_word (codes "init") i.after i.settings config i.is i.made)
+  not_made o v h (Replay config) r = h r.settings config (after_word (codes "replay") r.after r.settings config r.is r.made)
+  not_made o v h (Serve turns port) s = v (cc s.is)
 
   -- Words whose first is another ask for no job.
-  pub other_word : word ≢ codes "remove" → word ≢ codes "init" → word ≢ codes "replay" → (job : Job) → AsksFor (word ∷ name ∷ options) job → ⊥
-  other_word o p q Help e = cc e
-  other_word o p q Version e = cc e
-  other_word o p q Deliver e = cc e
-  other_word o p q Check e = cc e
-  other_word o p q (Remove number) r = o (cc r.is)
-  other_word o p q (Init config) i = p (cc i.is)
-  other_word o p q (Replay config) r = q (cc r.is)
+  pub other_word : word ≢ codes "remove" → word ≢ codes "init" → word ≢ codes "replay" → word ≢ codes "serve" → (job : Job) → AsksFor (word ∷ name ∷ options) job → ⊥
+  other_word o p q v Help e = cc e
+  other_word o p q v Version e = cc e
+  other_word o p q v Deliver e = cc e
+  other_word o p q v Check e = cc e
+  other_word o p q v (Remove number) r = o (cc r.is)
+  other_word o p q v (Init config) i = p (cc i.is)
+  other_word o p q v (Replay config) r = q (cc r.is)
+  other_word o p q v (Serve turns port) s = v (cc s.is)
 
   module _ (config : Config) (is : word ≡ codes "replay") (made : (settings : List Setting) × IsMade (name ∷ options) settings config) where
     -- `replay` and an archive that is no mirror.
@@ -281,6 +286,7 @@ module _ (word name : List ℕ) (options : List (List ℕ)) where
     not_replayed e Check f = cc f
     not_replayed e (Remove number) r = remove-replay (sym (first-word word (codes "remove") [] [] (name ∷ options) (decimal number ∷ []) r.is) ∙ is)
     not_replayed e (Init other) i = apart 105 114 (codes "nit") (codes "eplay") (omega arith) (cc (i.is, is))
+    not_replayed e (Serve turns port) s = apart 115 114 (codes "erve") (codes "eplay") (omega arith) (cc (s.is, is))
     not_replayed e (Replay other) r =
         let found : IsMade (name ∷ options) r.settings other = after_word (codes "replay") r.after r.settings other r.is r.made in
         let same : made.0 ≡ r.settings = same_made (name ∷ options) made.0 r.settings config other made.1 found in
@@ -336,3 +342,44 @@ init-config words config i = made-config i.after i.settings config i.made
 
 pub replay-config : (words : List (List ℕ)) (config : Config) → IsReplay words config → IsConfig config
 replay-config words config r = made-config r.after r.settings config r.made
+
+-- A word spells at most one option of `serve`.
+same-option : (a b : ServeOption) → IsServeOption a → IsServeOption b → serve_word a ≡ serve_word b → a ≡ b
+same-option (serving.Turns m) (serving.Turns n) p q e = ap serving.Turns (decimal_injective m n (omega (arith, p.1)) (omega (arith, q.1)) (ap (drop 6) e))
+same-option (serving.Turns m) (serving.Port n) p q e = absurd (apart 116 112 (codes "urns=" ++ decimal m) (codes "ort=" ++ decimal n) (omega arith) e)
+same-option (serving.Port m) (serving.Turns n) p q e = absurd (apart 112 116 (codes "ort=" ++ decimal m) (codes "urns=" ++ decimal n) (omega arith) e)
+same-option (serving.Port m) (serving.Port n) p q e = ap serving.Port (decimal_injective m n (omega (arith, p.1)) (omega (arith, q.1)) (ap (drop 5) e))
+
+grown-option : (f g : ServeOption) (gs rest : List ServeOption) → f ≡ g → gs ≡ rest → g ∷ gs ≡ f ∷ rest
+grown-option f g gs rest same after = cc
+
+-- Words spell at most one list of options of `serve`.
+pub same-options : (options others : List ServeOption) → All IsServeOption options → All IsServeOption others → map serve_word options ≡ map serve_word others → options ≡ others
+same-options [] [] a b e = refl
+same-options [] (h ∷ hs) a b e = absurd (cc e)
+same-options (g ∷ gs) [] a b e = absurd (cc e)
+same-options (g ∷ gs) (h ∷ hs) a b e =
+    let spelling : serve_word g ≡ serve_word h = cc e in
+    let after : map serve_word gs ≡ map serve_word hs = cc e in
+    grown-option h g gs hs (sym (same-option g h (All-head IsServeOption g gs a) (All-head IsServeOption h hs b) spelling)) (same-options gs hs (All-tail IsServeOption g gs a) (All-tail IsServeOption h hs b) after)
+
+-- Options give one count of events and one port.
+gives-one : (options : List ServeOption) (t p u q : ℕ) → Gives options t p → Gives options u q → (t ≡ u) × (p ≡ q)
+gives-one [] t p u q a b = (a.0 ∙ sym b.0, a.1 ∙ sym b.1)
+gives-one (serving.Turns n ∷ []) t p u q a b = (a.0 ∙ sym b.0, a.1 ∙ sym b.1)
+gives-one (serving.Port n ∷ []) t p u q a b = (a.0 ∙ sym b.0, a.1 ∙ sym b.1)
+gives-one (serving.Turns n ∷ serving.Port m ∷ []) t p u q a b = (a.0 ∙ sym b.0, a.1 ∙ sym b.1)
+gives-one (serving.Port n ∷ serving.Turns m ∷ []) t p u q a b = (a.0 ∙ sym b.0, a.1 ∙ sym b.1)
+gives-one (serving.Turns n ∷ serving.Turns m ∷ []) t p u q a b = absurd a
+gives-one (serving.Port n ∷ serving.Port m ∷ []) t p u q a b = absurd a
+gives-one (serving.Turns n ∷ serving.Turns m ∷ z ∷ more) t p u q a b = absurd a
+gives-one (serving.Turns n ∷ serving.Port m ∷ z ∷ more) t p u q a b = absurd a
+gives-one (serving.Port n ∷ serving.Turns m ∷ z ∷ more) t p u q a b = absurd a
+gives-one (serving.Port n ∷ serving.Port m ∷ z ∷ more) t p u q a b = absurd a
+
+-- Words ask for at most one serving.
+pub same-serve : (words : List (List ℕ)) (t p u q : ℕ) → IsServe words t p → IsServe words u q → (t ≡ u) × (p ≡ q)
+same-serve words t p u q a b =
+    let spelling : map serve_word a.options ≡ map serve_word b.options = cc (a.is, b.is) in
+    let same = same-options a.options b.options a.ranges b.ranges spelling in
+    gives-one b.options t p u q (subst (λ (xs : List ServeOption). Gives xs t p) same a.gives) b.gives

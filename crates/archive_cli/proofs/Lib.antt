@@ -1,8 +1,7 @@
 pub mod Grammar
-pub mod Playing
 pub mod Printed
-pub mod Transcripts
-pub mod PlainTranscripts
 pub mod Leaving
 pub mod OnDisk
 pub mod Rows
+pub mod PlayedEvents
+pub mod ServedDisk

@@ -1,5 +1,5 @@
 -- How what is due is printed.
-use Rattle.std.proofs.Common.{◌≡◌, ◌≢◌, ◌≤◌, ◌<◌, inl, inr, ℕ, List, [], ◌++◌, length, take, codes, decimal, Option, Some, None, Result, Ok, Err, is_ok, refl, sym, ◌∙◌, ap, subst, append_assoc, arith, length-append, if◌then◌else◌}
+use Rattle.std.proofs.Common.{◌≡◌, ◌≢◌, ◌≤◌, ◌<◌, ◌⊎◌, inl, inr, ℕ, List, [], ◌++◌, length, take, codes, decimal, Option, Some, None, Result, Ok, Err, is_ok, refl, sym, ◌∙◌, ap, subst, append_assoc, arith, length-append, if◌then◌else◌}
 use Rattle.arch_base.specs.declared.config.Config.{Config}
 use Rattle.edge_io.specs.Left.{before, IsUsedUp}
 use Rattle.edge_io.specs.Scripts.{Arrival, IsScript, IsBad}
@@ -12,22 +12,25 @@ use Rattle.arch_model.specs.Archives.{Archive}
 use Rattle.arch_model.specs.declared.answer.Answer.TheVariants as answer
 use Rattle.archive_core.proofs.Answered.{delivery-lives}
 use Rattle.archive_cli.specs.DiskCommands.{IsDone, TakesTo, delivering, removing}
+use Rattle.archive_cli.specs.Statuses.{code_of}
 use Rattle.archive_cli.specs.Words.{IsJob, AsksFor}
-use Rattle.archive_cli.specs.Turns.{World, Transcript, before_stop}
-use Rattle.archive_cli.specs.Plays.{PlaysSome}
+use Rattle.archive_cli.specs.Turns.{Transcript}
+use Rattle.archive_cli.specs.Serving.{ServeRun, Shut, run_line, run_status}
+use Rattle.arch_model.specs.declared.opening.OpenRefusal.TheVariants as opening
+use Rattle.arch_base.specs.Counts.{Rose}
 use Rattle.disk_model.specs.Disk.{Content}
 use Rattle.edge_io.specs.Coming.{Moments, IsFirst}
 use Rattle.archive_cli.specs.Outcomes.{outcome_line, status_of}
 use Rattle.archive_cli.specs.declared.outcome.Outcome.{Outcome}
 use Rattle.archive_cli.specs.declared.outcome.Outcome.TheVariants.{Answered}
-use Rattle.archive_cli.specs.Program.{Edges, all_edges, NoneFailed, Acts, EndsBy, InitActs, CommandActs, DeliverActs, CheckActs, IsInput, IsDue, Ends, Ran, start, input_limit, message_of, TookAtMost}
+use Rattle.archive_cli.specs.Program.{Edges, all_edges, NoneFailed, Acts, EndsBy, InitActs, CommandActs, DeliverActs, CheckActs, IsInput, IsDue, Ends, Ran, input_limit, message_of, TookAtMost}
 use Rattle.archive_cli.specs.Printing.{Printed, Exactly, IsReplayDue, Replayed, IsPieceRead, JobDone, InputDone, IsUnread}
 use Rattle.archive_cli.specs.declared.status.Status.{Status}
 use Rattle.archive_cli.specs.declared.status.Status.TheVariants as exit
 use Rattle.archive_cli.specs.declared.reading.InputRefusal.{InputRefusal}
 use Rattle.archive_cli.specs.declared.reading.InputRefusal.TheVariants.{Fault, TooLong, NoMemory}
 use Rattle.archive_cli.specs.declared.words.Job.{Job}
-use Rattle.archive_cli.specs.declared.words.Job.TheVariants.{Replay, Init, Deliver, Remove, Check}
+use Rattle.archive_cli.specs.declared.words.Job.TheVariants.{Replay, Init, Deliver, Remove, Check, Serve}
 
 module _ (out : Option (List ℕ)) (lost : ℕ) (out' : Option (List ℕ)) (lost' : ℕ) where
   -- What is due by one rule is due by another.
@@ -44,16 +47,16 @@ due-bad config text event short bad s words e = inl (inr (inl (record { short = 
 
 -- A script that runs out of memory at once.
 pub due-none : (config : Config) (text : List ℕ) (s : Status) (words : List ℕ) → Exactly (whole_line (codes "12 no memory")) exit.Memory s words → IsReplayDue config text s words
-due-none config text s words e = inr (record { status_is = e.status_is; frames = []; played = inl refl; printed_is = e.words_is })
+due-none config text s words e = inr (record { status_is = e.status_is; frames = []; printed_is = e.words_is })
 
 -- A script whose events were played.
-pub due-played : (config : Config) (text frames : List ℕ) (arrivals : List Arrival) (after : World) → length text ≤ input_limit → IsScript arrivals text → Transcript (before_stop arrivals) (start config) frames after → (s : Status) (words : List ℕ) → Exactly frames exit.Done s words → IsReplayDue config text s words
-due-played config text frames arrivals after short script played s words e =
-    inl (inr (inr (record { short = short; arrivals = arrivals; script = script; after = after; status_is = e.status_is; transcript = subst (λ w. Transcript (before_stop arrivals) (start config) w after) (sym e.words_is) played })))
+pub due-played : (config : Config) (text frames : List ℕ) (arrivals : List Arrival) → length text ≤ input_limit → IsScript arrivals text → Transcript config arrivals frames → (s : Status) (words : List ℕ) → Exactly frames exit.Done s words → IsReplayDue config text s words
+due-played config text frames arrivals short script played s words e =
+    inl (inr (inr (record { short = short; arrivals = arrivals; script = script; status_is = e.status_is; transcript = subst (λ w. Transcript config arrivals w) (sym e.words_is) played })))
 
--- A script some of whose events were played.
-pub due-part : (config : Config) (text frames : List ℕ) (arrivals : List Arrival) → length text ≤ input_limit → IsScript arrivals text → PlaysSome (before_stop arrivals) (start config) frames → (s : Status) (words : List ℕ) → Exactly (frames ++ whole_line (codes "12 no memory")) exit.Memory s words → IsReplayDue config text s words
-due-part config text frames arrivals short script played s words e = inr (record { status_is = e.status_is; frames = frames; played = inr (record { short = short; arrivals = arrivals; script = script; played = played }); printed_is = e.words_is })
+-- A script that ran out of memory.
+pub due-cut : (config : Config) (text frames : List ℕ) → (s : Status) (words : List ℕ) → Exactly (frames ++ whole_line (codes "12 no memory")) exit.Memory s words → IsReplayDue config text s words
+due-cut config text frames s words e = inr (record { status_is = e.status_is; frames = frames; printed_is = e.words_is })
 
 -- An input that is too long.
 pub due-long : (config : Config) (input : List ℕ) → input_limit < length input → (s : Status) (words : List ℕ) → Exactly (whole_line (codes "script too long")) exit.Script s words → IsReplayDue config input s words
@@ -136,6 +139,14 @@ ran-checked words status i j o asked acts p =
     ran-printed words given.0 status i j (Exactly (whole_line (outcome_line o)) (status_of o)) given.1
     (λ s printed e. inl (record { job = Some Check; asked = asked; ends = record { outcome = o; acts = acts; status_is = e.status_is; printed_is = e.words_is } })) p
 
+-- Serving is a run.
+pub ran-served : (words : List (List ℕ)) (turns port : ℕ) (run : ServeRun) (status : Status) (i j : Edges) → AsksFor words (Serve turns port) → (run ≡ Shut opening.DiskFault → Rose i.broken j.broken) → j.unread ≡ i.unread → j.missed ≡ i.missed
+    → Printed (Exactly (run_line run) (run_status run)) status i.taken i.lost j.taken j.lost → Ran words status i j
+ran-served words turns port run status i j asked fault input clock p =
+    let given = some-input i.left in
+    ran-printed words given.0 status i j (Exactly (run_line run) (run_status run)) given.1
+    (λ s printed e. inl (record { job = Some (Serve turns port); asked = asked; ends = record { run = run; status_is = e.status_is; printed_is = e.words_is; fault = fault; input_kept = input; clock_kept = clock } })) p
+
 -- What was printed of an outcome is due by it.
 pub outcome-due : (did : ℕ → Option Content → Option Content → Outcome → Type 0) (status : Status) (i j : Edges) (o : Outcome) → Acts did i j o → Printed (Exactly (whole_line (outcome_line o)) (status_of o)) status i.taken i.lost j.taken j.lost → Printed (EndsBy did i j) status i.taken i.lost j.taken j.lost
 outcome-due did status i j o acts p =
@@ -213,3 +224,11 @@ pub front-short : (left : Option (List ℕ)) (bytes : List ℕ) (most : ℕ) →
 front-short left bytes most front short =
     let size : length bytes ≡ length (take most front.0) = ap (λ (b : List ℕ). length b) front.2 in
     subst (IsInput left) (sym (front.2 ∙ take_all most front.0 (omega (arith, size, length-take most front.0, short)))) front.1
+
+-- The number of a status that is due, or that of an output that failed.
+pub status-or : (status due : Status) (n : ℕ) (text : List ℕ) (out : Option (List ℕ)) (lost : ℕ) (out' : Option (List ℕ)) (lost' : ℕ) → n ≡ code_of status → Printed (Exactly text due) status out lost out' lost' → (n ≡ code_of due) ⊎ (n ≡ 6)
+status-or status due n text out lost out' lost' is p = by p.sent p.status_is
+  where
+    by : (sent : Result Unit SinkFault) → status ≡ (if is_ok sent then p.due_status else exit.Edges) → (n ≡ code_of due) ⊎ (n ≡ 6)
+    by (Ok done) same = inl (is ∙ ap code_of (same ∙ p.is_due.status_is))
+    by (Err fault) same = inr (is ∙ ap code_of same)

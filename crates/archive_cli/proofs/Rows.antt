@@ -1,6 +1,6 @@
 -- Runs on one disk, in order.
 use Rattle.std.specs.Prelude.{◌≡◌, ◌≢◌, ◌⊎◌, ℕ, true, List, [], ◌∷◌, codes, decimal, get_or, Option, Some, None, refl}
-use Rattle.std.proofs.Common.{◌∙◌, sym, ap, subst, inl, inr, arith}
+use Rattle.std.proofs.Common.{◌∙◌, map, sym, ap, subst, inl, inr, arith}
 use Rattle.std.proofs.lemmas.Bool.{false≢true}
 use Rattle.arch_base.specs.declared.config.Config.{Config}
 use Rattle.disk_model.specs.Disk.{Files, Content, Image, WhereTold}
@@ -24,13 +24,13 @@ use Rattle.archive_cli.specs.declared.outcome.Outcome.TheVariants.{Made, Exists,
 use Rattle.archive_cli.specs.declared.status.Status.{Status}
 use Rattle.archive_cli.specs.declared.status.Status.TheVariants as exit
 use Rattle.archive_cli.specs.declared.words.Job.{Job}
-use Rattle.archive_cli.specs.declared.words.Job.TheVariants.{Help, Version, Replay, Init, Deliver, Remove, Check}
+use Rattle.archive_cli.specs.declared.words.Job.TheVariants.{Help, Version, Replay, Init, Deliver, Remove, Check, Serve}
 use Rattle.archive_cli.specs.DiskCommands.{Makes, StandsAs, StaysUnopened, TakesOn, delivering, removing}
 use Rattle.archive_cli.specs.Laws.{WithMessage, WithRemoval, Goes, RunsInARow}
 use Rattle.archive_cli.specs.Outcomes.{status_of}
 use Rattle.archive_cli.specs.Program.{Edges, EndsBy, InitActs, CommandActs, DeliverActs, IsDue, Ends, Ran, IsInput, AsksForInit, AsksForCommand, message_of, made_at}
 use Rattle.archive_cli.specs.Statuses.{code_of}
-use Rattle.archive_cli.specs.Words.{AsksFor, IsJob}
+use Rattle.archive_cli.specs.Words.{AsksFor, IsJob, serve_word}
 use Rattle.archive_cli.proofs.Grammar.{only_removes}
 
 -- Words that start with different bytes differ.
@@ -46,6 +46,7 @@ only-delivers words Check asked also = absurd (other-words 100 99 (codes "eliver
 only-delivers words (Remove number) asked also = absurd (other-words 100 114 (codes "eliver") (codes "emove") [] (decimal number ∷ []) (omega arith) (sym asked ∙ also.is))
 only-delivers words (Replay config) asked also = absurd (other-words 100 114 (codes "eliver") (codes "eplay") [] also.after (omega arith) (sym asked ∙ also.is))
 only-delivers words (Init config) asked also = absurd (other-words 100 105 (codes "eliver") (codes "nit") [] also.after (omega arith) (sym asked ∙ also.is))
+only-delivers words (Serve turns port) asked also = absurd (other-words 100 115 (codes "eliver") (codes "erve") [] (map serve_word also.options) (omega arith) (sym asked ∙ also.is))
 
 -- The job is a command on an archive.
 abbrev IsCommand : Job → Type 0
@@ -56,6 +57,7 @@ IsCommand Version = ⊥
 IsCommand Check = ⊥
 IsCommand (Replay config) = ⊥
 IsCommand (Init config) = ⊥
+IsCommand (Serve turns port) = ⊥
 
 -- Words that ask for a command ask for nothing else.
 only-commands : (words : List (List ℕ)) (job : Job) → AsksForCommand words → AsksFor words job → IsCommand job
@@ -71,6 +73,7 @@ only-makes words Check asked also = absurd (other-words 105 99 (codes "nit") (co
 only-makes words (Replay config) asked also = absurd (other-words 105 114 (codes "nit") (codes "eplay") asked.1.after also.after (omega arith) (sym asked.1.is ∙ also.is))
 only-makes words Deliver asked also = absurd (other-words 105 100 (codes "nit") (codes "eliver") asked.1.after [] (omega arith) (sym asked.1.is ∙ also))
 only-makes words (Remove number) asked also = absurd (other-words 105 114 (codes "nit") (codes "emove") asked.1.after (decimal number ∷ []) (omega arith) (sym asked.1.is ∙ also.is))
+only-makes words (Serve turns port) asked also = absurd (other-words 105 115 (codes "nit") (codes "erve") asked.1.after (map serve_word also.options) (omega arith) (sym asked.1.is ∙ also.is))
 
 -- The archive is the same, or what the command of the words makes of it.
 abbrev FromBy : List (List ℕ) → Edges → Archive → Archive → Type 0
@@ -173,6 +176,7 @@ module _ (words : List (List ℕ)) (i : Edges) where
       leads-does input told status printed (Some Version) asks ends = absurd (only-commands words Version asked asks)
       leads-does input told status printed (Some Check) asks ends = absurd (only-commands words Check asked asks)
       leads-does input told status printed (Some (Replay config)) asks ends = absurd (only-commands words (Replay config) asked asks)
+      leads-does input told status printed (Some (Serve turns port)) asks ends = absurd (only-commands words (Serve turns port) asked asks)
       leads-does input told status printed (Some (Init config)) asks ends = absurd (only-commands words (Init config) asked asks)
 
       leads-due : (input : List ℕ) → IsInput i.left input → (status : Status) (printed : List ℕ) → IsDue words input i j status printed → Leads s j
@@ -243,6 +247,7 @@ done-code exit.Archive is = absurd (omega (arith, is))
 done-code exit.Disk is = absurd (omega (arith, is))
 done-code exit.Edges is = absurd (omega (arith, is))
 done-code exit.Memory is = absurd (omega (arith, is))
+done-code exit.Spent is = absurd (omega (arith, is))
 done-code exit.Script is = absurd (omega (arith, is))
 
 -- Numbers keep their texts on the way.

@@ -1,22 +1,14 @@
--- The laws of transcripts, and of runs in order.
+-- The law of runs in order.
 use Rattle.std.specs.Prelude.{◌≡◌, ◌⊎◌, ℕ, List, Some}
 use Rattle.arch_base.specs.declared.config.Config.{Config}
 use Rattle.disk_model.specs.Disk.{Files, Content, Image}
 use Rattle.edge_io.specs.Coming.{IsFirst}
-use Rattle.edge_io.specs.Scripts.{Arrival}
 use Rattle.arch_model.specs.Archives.{Archive, empty_archive, live, text_of}
 use Rattle.arch_model.specs.Delivery.{delivered, removed}
 use Rattle.epoch_store.specs.Recovery.{Recovers}
 use Rattle.archive_cli.specs.declared.words.Job.TheVariants.{Init, Deliver, Remove}
 use Rattle.archive_cli.specs.Words.{AsksFor}
 use Rattle.archive_cli.specs.Program.{Edges, RanTo, IsInput, AsksForInit, AsksForCommand, message_of, made_at}
-use Rattle.archive_cli.specs.Turns.{World, Transcript, plain_transcript}
-
--- What the plain function prints of events is a transcript of them: the one in which no allocation
--- fails.
-abbrev pub PlainIsTranscript : Type 0
-PlainIsTranscript = (arrivals : List Arrival) (w : World)
-    → Transcript arrivals w (plain_transcript arrivals w).0 (plain_transcript arrivals w).1
 
 -- The words ask for a delivery, and the archive is one with the message on the input of these edges,
 -- at their first moment to come.

@@ -1,8 +1,7 @@
 pub mod Words
 pub mod Options
-pub mod Frames
 pub mod Turns
-pub mod Plays
+pub mod Serving
 pub mod Program
 pub mod Printing
 pub mod Laws

@@ -11,6 +11,7 @@ use Rattle.arch_model.specs.Archives.{Archive, empty_archive}
 use Rattle.arch_model.specs.Delivery.{Done}
 use Rattle.arch_model.specs.Standing.{Standing, standing, one_of}
 use Rattle.arch_model.specs.declared.answer.Answer.TheVariants as answer
+use Rattle.arch_model.specs.declared.opening.OpenRefusal.TheVariants as opening
 use Rattle.epoch_store.specs.Files.{as_read}
 use Rattle.epoch_store.specs.First.{MakingLeaves}
 use Rattle.epoch_store.specs.Opens.{ReadsAs, RecoversOf}
@@ -19,19 +20,15 @@ use Rattle.archive_cli.specs.DiskCommands.{Makes, TakesTo, ChecksTo, IsOpenedAs,
 use Rattle.archive_cli.specs.Outcomes.{outcome_line, status_of}
 use Rattle.archive_cli.specs.Statuses.{code_of}
 use Rattle.archive_cli.specs.Words.{IsJob, AsksFor}
-use Rattle.archive_cli.specs.Turns.{World, Transcript, before_stop}
-use Rattle.archive_cli.specs.Plays.{PlaysSome}
+use Rattle.archive_cli.specs.Serving.{ServeRun, Shut, run_status, run_line}
+use Rattle.archive_cli.specs.Turns.{Transcript}
 use Rattle.archive_cli.specs.declared.words.Job.{Job}
-use Rattle.archive_cli.specs.declared.words.Job.TheVariants.{Help, Version, Replay, Init, Deliver, Remove, Check}
+use Rattle.archive_cli.specs.declared.words.Job.TheVariants.{Help, Version, Replay, Init, Deliver, Remove, Check, Serve}
 use Rattle.archive_cli.specs.declared.outcome.Outcome.{Outcome}
 use Rattle.archive_cli.specs.declared.outcome.Outcome.TheVariants.{Answered}
 use Rattle.archive_cli.specs.declared.status.Status.{Status}
 use Rattle.archive_cli.specs.declared.status.Status.TheVariants as exit
 use Rattle.archive_cli.specs.declared.texts.TheConstants.{HELP, VERSION}
-
--- A script starts with an empty archive and without a session.
-abbrev pub start : Config → World
-start config = record { session = None; standing = standing (empty_archive config) None }
 
 -- The greatest length of a script, in bytes.
 abbrev pub input_limit : ℕ
@@ -61,9 +58,8 @@ pub record IsPlayed (config : Config) (input : List ℕ) (status : Status) (prin
   pub short : length input ≤ input_limit
   pub arrivals : List Arrival
   pub script : IsScript arrivals input
-  pub after : World
   pub status_is : status ≡ exit.Done
-  pub transcript : Transcript (before_stop arrivals) (start config) printed after
+  pub transcript : Transcript config arrivals printed
 
 -- How a script on an input ends, over an empty archive with these settings.
 abbrev pub Replays : Config → List ℕ → Status → List ℕ → Type 0
@@ -184,6 +180,17 @@ pub record EndsBy (did : ℕ → Option Content → Option Content → Outcome �
   pub status_is : status ≡ status_of outcome
   pub printed_is : printed ≡ whole_line (outcome_line outcome)
 
+-- What `serve` ends with: its status and what is printed are those of how it ended. The clock and the
+-- input aren't asked, and the disk's count of faults rose if the archive wasn't opened because it
+-- failed.
+pub record ServeEnds (i j : Edges) (status : Status) (printed : List ℕ) : Type 0 where
+  pub run : ServeRun
+  pub status_is : status ≡ run_status run
+  pub printed_is : printed ≡ run_line run
+  pub fault : run ≡ Shut opening.DiskFault → Rose i.broken j.broken
+  pub input_kept : j.unread ≡ i.unread
+  pub clock_kept : j.missed ≡ i.missed
+
 -- What a job on an input ends with.
 abbrev pub Ends : Option Job → List ℕ → Edges → Edges → Status → List ℕ → Type 0
 Ends None input i j status printed = (status ≡ exit.NotRead)
@@ -197,6 +204,7 @@ Ends (Some Deliver) input i j status printed =
 Ends (Some (Remove number)) input i j status printed =
     EndsBy (CommandActs (removing number)) i j status printed
 Ends (Some Check) input i j status printed = EndsBy CheckActs i j status printed
+Ends (Some (Serve turns port)) input i j status printed = ServeEnds i j status printed
 
 -- What a run of words on an input ends with, by the rules.
 pub record Does (words : List (List ℕ)) (input : List ℕ) (i j : Edges) (status : Status)
@@ -205,20 +213,12 @@ pub record Does (words : List (List ℕ)) (input : List ℕ) (i j : Edges) (stat
   pub asked : IsJob words job
   pub ends : Ends job input i j status printed
 
--- A script ran out of memory after some of its events.
-pub record PlaysPart (config : Config) (input : List ℕ) (frames : List ℕ) : Type 0 where
-  pub short : length input ≤ input_limit
-  pub arrivals : List Arrival
-  pub script : IsScript arrivals input
-  pub played : PlaysSome (before_stop arrivals) (start config) frames
-
--- Out of memory, a script stops after some of its events, or before it is read. What these events
--- wrote is printed, and then a line that tells of it.
+-- Out of memory, a script isn't read; or it is, and its events were played: whatever frames of them
+-- were collected are printed, and then a line that tells of it.
 pub record StopsShort (config : Config) (input : List ℕ) (status : Status) (printed : List ℕ)
     : Type 0 where
   pub status_is : status ≡ exit.Memory
   pub frames : List ℕ
-  pub played : (frames ≡ []) ⊎ PlaysPart config input frames
   pub printed_is : printed ≡ frames ++ whole_line (codes "12 no memory")
 
 -- The words ask for a replay, which ran out of memory. No device failed.
@@ -369,4 +369,4 @@ RunLeavesAmong content moment left_since old new may coming wanted =
 abbrev pub LeavesDisk : List (List ℕ) → Type 0
 LeavesDisk words = ((config : Config) → AsksFor words (Init config) → ⊥)
     × (AsksFor words Deliver → ⊥) × ((number : ℕ) → AsksFor words (Remove number) → ⊥)
-    × (AsksFor words Check → ⊥)
+    × (AsksFor words Check → ⊥) × ((turns port : ℕ) → AsksFor words (Serve turns port) → ⊥)

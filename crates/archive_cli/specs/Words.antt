@@ -5,7 +5,9 @@ use Rattle.std.specs.Borrow.{Bor}
 use Rattle.arch_base.specs.Names.{IsName}
 use Rattle.arch_base.specs.declared.config.Config.{Config}
 use Rattle.archive_cli.specs.declared.words.Job.{Job}
-use Rattle.archive_cli.specs.declared.words.Job.TheVariants.{Help, Version, Replay, Init, Deliver, Remove, Check}
+use Rattle.archive_cli.specs.declared.words.Job.TheVariants.{Help, Version, Replay, Init, Deliver, Remove, Check, Serve}
+use Rattle.archive_cli.specs.declared.words.ServeOption.{ServeOption}
+use Rattle.archive_cli.specs.declared.words.ServeOption.TheVariants as serving
 use Rattle.archive_cli.specs.declared.words.Setting.{Setting}
 use Rattle.archive_cli.specs.declared.words.Setting.TheVariants.{Limit, Slice, Max, Mirror}
 
@@ -139,6 +141,43 @@ pub record IsRemove (words : List (List ℕ)) (number : ℕ) : Type 0 where
   pub is : words ≡ codes "remove" ∷ decimal number ∷ []
   pub range : IsUpTo 2147483647 number
 
+-- The word of an option of `serve`: its kind, `=`, and its number in decimal.
+abbrev pub serve_word : ServeOption → List ℕ
+serve_word (serving.Turns n) = codes "turns=" ++ decimal n
+serve_word (serving.Port n) = codes "port=" ++ decimal n
+
+-- The greatest count of events, 2^63, which is the default.
+abbrev pub most_turns : ℕ
+most_turns = 9223372036854775808
+
+-- The port of the control door, if none is given.
+abbrev pub first_port : ℕ
+first_port = 7100
+
+-- The range of an option of `serve`.
+abbrev pub IsServeOption : ServeOption → Type 0
+IsServeOption (serving.Turns n) = IsUpTo most_turns n
+IsServeOption (serving.Port n) = IsUpTo 65500 n
+
+-- The options of `serve`, each at most once and in any order, give this count of events and this
+-- port.
+abbrev pub Gives : List ServeOption → ℕ → ℕ → Type 0
+Gives [] turns port = (turns ≡ most_turns) × (port ≡ first_port)
+Gives (serving.Turns n ∷ []) turns port = (turns ≡ n) × (port ≡ first_port)
+Gives (serving.Port m ∷ []) turns port = (turns ≡ most_turns) × (port ≡ m)
+Gives (serving.Turns n ∷ serving.Port m ∷ []) turns port = (turns ≡ n) × (port ≡ m)
+Gives (serving.Port m ∷ serving.Turns n ∷ []) turns port = (turns ≡ n) × (port ≡ m)
+Gives (serving.Turns n ∷ serving.Turns m ∷ []) turns port = ⊥
+Gives (serving.Port n ∷ serving.Port m ∷ []) turns port = ⊥
+Gives (a ∷ b ∷ c ∷ more) turns port = ⊥
+
+-- The word `serve`, and then options.
+pub record IsServe (words : List (List ℕ)) (turns port : ℕ) : Type 0 where
+  pub options : List ServeOption
+  pub is : words ≡ codes "serve" ∷ map serve_word options
+  pub ranges : All IsServeOption options
+  pub gives : Gives options turns port
+
 -- The words ask for this job.
 abbrev pub AsksFor : List (List ℕ) → Job → Type 0
 AsksFor words Help = words ≡ codes "--help" ∷ []
@@ -148,6 +187,7 @@ AsksFor words (Init config) = IsInit words config
 AsksFor words Deliver = words ≡ codes "deliver" ∷ []
 AsksFor words (Remove number) = IsRemove words number
 AsksFor words Check = words ≡ codes "check" ∷ []
+AsksFor words (Serve turns port) = IsServe words turns port
 
 -- The job that words ask for, or none if they aren't in the grammar.
 abbrev pub IsJob : List (List ℕ) → Option Job → Type 0

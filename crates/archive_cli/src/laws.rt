@@ -1,13 +1,7 @@
-//! The laws of scripts, for all events, and of runs in order, for all words, inputs and faults.
-ghost use Rattle.archive_cli.specs.Laws.{PlainIsTranscript, RunsInARow};
+//! The law of runs in order, for all words, inputs and faults.
+ghost use Rattle.archive_cli.specs.Laws.{RunsInARow};
 
 use arch_model::numbers_keep_their_texts;
-
-/// Shows that what the plain function prints of events is a transcript of them: the one in which no
-/// allocation fails.
-pub fn plain_is_transcript()
-    ensures { PlainIsTranscript }
-{}
 
 /// Shows what a crash leaves after `init` and two commands on one disk, each `deliver` or `remove`, by
 /// the clause `ends` of `run` alone.

@@ -1,11 +1,11 @@
-//! All that the program does, over the disk, input, output and clock that it is given.
-ghost use Rattle.std.specs.Prelude.{◌≡◌, ◌≤◌, ◌+◌, ◌++◌, ℕ, List, All, Option, None, false, length, codes, decimal};
+//! All that the program does, over the disk, host, input, output and clock that it is given.
+ghost use Rattle.std.specs.Prelude.{◌≡◌, ◌≤◌, ◌+◌, ◌++◌, ◌⊎◌, ℕ, List, All, Option, None, length, codes, decimal};
 ghost use Rattle.disk_model.specs.Disk.{LeavesOnly};
-ghost use Rattle.arch_model.specs.Archives.{Archive, empty_archive};
+ghost use Rattle.arch_model.specs.Archives.{Archive};
 ghost use Rattle.epoch_store.specs.Opens.{AllRecoverOf, RecoversOf};
 ghost use Rattle.answer_lines.specs.Lines.{whole_line};
 ghost use Rattle.archive_cli.specs.Words.{spelled, AsksFor};
-ghost use Rattle.archive_cli.specs.declared.words.Job.TheVariants.{Deliver, Remove, Check};
+ghost use Rattle.archive_cli.specs.declared.words.Job.TheVariants.{Deliver, Remove, Check, Serve};
 ghost use Rattle.arch_base.specs.declared.config.Config.{Config};
 ghost use Rattle.arch_model.specs.Standing.{Standing};
 ghost use Rattle.archive_cli.specs.DiskCommands.{StandsAs, delivering, removing, taking};
@@ -13,32 +13,36 @@ ghost use Rattle.archive_cli.specs.Outcomes.{outcome_line, status_of};
 ghost use Rattle.archive_cli.specs.Program.{RanTo, TakesInput, TookAtMost, LeavesDisk, AsksForInit, CommandActs, InitActs, IsInput, WordsLeave, InitLeaves, RunLeaves, RunLeavesAmong, all_edges, edges, input_limit, message_limit, message_of, made_at};
 ghost use Rattle.archive_cli.specs.Printing.{Printed, Exactly, IsReplayDue, Replayed, JobDone, InputDone};
 ghost use Rattle.arch_base.specs.Configs.{IsConfig};
-ghost use Rattle.edge_io.specs.Phrases.{Says};
+ghost use Rattle.archive_cli.specs.Serving.{ServeRun, ServesDisk, hosted, run_status};
+ghost use Rattle.archive_cli.specs.Statuses.{code_of};
+ghost use Rattle.node_serve.specs.World.{outer};
 ghost use Rattle.edge_io.specs.Scripts.{IsArrival, IsScript};
 
 use crate::disk_commands::{check, make, take};
 use crate::outcome::Outcome;
-use crate::player::{CountedKeep, Player};
+use crate::playing::play_script;
 use crate::reading::{InputRefusal, read_input, read_message};
+use crate::serving::serve_disk;
 use crate::status::Status;
 use crate::texts::{HELP, VERSION};
 use crate::words::{Job, read_words};
 use answer_lines::{say_memory, say_number};
-use arch_base::{Bytes, Config, NoMemory, Numbers};
+use arch_base::{Config, Numbers};
 use arch_model::Command;
 use archive_core::Engine;
 use disk_model::{Disk, MemDisk};
-use edge_io::{Clock, ClockFault, Script, ScriptRefusal, Sink, SinkFault, Source, say, script};
+use edge_io::{Clock, ClockFault, Host, Script, ScriptRefusal, Sink, Source, say, script};
 use std::alloc::Global;
 
 /// Does what the words ask for, and returns the number of the status to end with, and the disk.
 ///
 /// `Status` says when each status comes. What is printed is that of the definition, or a prefix of
 /// it if the output failed.
-pub fn run<D: Disk, S: Source, O: Sink, C: Clock>(
+pub fn run<D: Disk, H: Host, S: Source, O: Sink, C: Clock>(
     alloc: Global,
     words: &[&str],
     disk: D,
+    host: &mut H,
     input: &mut S,
     out: &mut O,
     clock: &mut C,
@@ -80,6 +84,19 @@ pub fn run<D: Disk, S: Source, O: Sink, C: Clock>(
     ensures check { (may : List (Option Archive)) → AsksFor (spelled words.now) Check
         → AllRecoverOf may (D.content disk)
         → LeavesOnly D.moment D.left_since disk result.1 (RecoversOf may) }
+    // What serving did: the events that it took, the replies to each over the archive of that moment,
+    // the disk then, and what a crash leaves. Its status is that of how it ended, or 6 if the output
+    // failed.
+    ensures serve { (turns port : ℕ) → AsksFor (spelled words.now) (Serve turns port)
+        → (run : ServeRun) × ((result.0 ≡ code_of (run_status run)) ⊎ (result.0 ≡ 6))
+        × ServesDisk D.content D.moment D.left_since turns run disk result.1
+        (hosted (H.given host.old) (H.left host.old) (H.faults host.old)
+        (outer (H.taken host.old) (H.closings host.old) (D.faults disk) (H.lost host.old)))
+        (hosted (H.given host.new) (H.left host.new) (H.faults host.new)
+        (outer (H.taken host.new) (H.closings host.new) (D.faults result.1) (H.lost host.new))) }
+    // Only serving asks the host.
+    ensures host { ((turns port : ℕ) → AsksFor (spelled words.now) (Serve turns port) → ⊥)
+        → host.new ≡ host.old }
     ensures later { (D.faults disk ≤ D.faults result.1) × (C.faults clock.old ≤ C.faults clock.new) }
 {
     match read_words(words) {
@@ -105,6 +122,10 @@ pub fn run<D: Disk, S: Source, O: Sink, C: Clock>(
         Some(Job::Check) => {
             let (outcome, disk) = check(alloc, disk);
             (print_outcome(&outcome, out).code(), disk)
+        }
+        Some(Job::Serve { turns, port: _ }) => {
+            let (status, disk) = serve_disk(alloc, turns, disk, host, out);
+            (status.code(), disk)
         }
     }
 }
@@ -216,7 +237,7 @@ fn carry_out<D: Disk, O: Sink, C: Clock>(
 }
 
 /// Prints how a command over the disk ended, and returns its status.
-fn print_outcome<O: Sink>(outcome: &Outcome, out: &mut O) -> Status
+pub(crate) fn print_outcome<O: Sink>(outcome: &Outcome, out: &mut O) -> Status
     ensures printed { Printed (Exactly (whole_line (outcome_line outcome.now))
         (status_of outcome.now)) result (O.taken out.old) (O.faults out.old) (O.taken out.new)
         (O.faults out.new) }
@@ -254,16 +275,16 @@ fn replay_text<O: Sink>(alloc: Global, config: Config, text: &[u8], out: &mut O)
     match script(alloc, text) {
         Err(ScriptRefusal::Bad { event }) => print_bad(event, out),
         Err(ScriptRefusal::NoMemory) => print_no_memory(out),
-        Ok(events) => replay_script(alloc, config, &events, out),
+        Ok(events) => replay_script(alloc, config, events, out),
     }
 }
 
 /// Plays a script over an empty archive with these settings, on a disk in memory, and prints what
 /// its events write.
-fn replay_script<O: Sink>(alloc: Global, config: Config, events: &Script, out: &mut O) -> Status
+fn replay_script<O: Sink>(alloc: Global, config: Config, events: Script, out: &mut O) -> Status
     requires valid { IsConfig config }
-    requires script { All IsArrival events.now }
-    ensures printed { (text : List ℕ) → IsScript events.now text → length text ≤ input_limit →
+    requires script { All IsArrival events }
+    ensures printed { (text : List ℕ) → IsScript events text → length text ≤ input_limit →
         Printed (IsReplayDue config text) result (O.taken out.old) (O.faults out.old)
         (O.taken out.new) (O.faults out.new) }
     ensures sink { O.alike out.old out.new }
@@ -273,41 +294,6 @@ fn replay_script<O: Sink>(alloc: Global, config: Config, events: &Script, out: &
         Ok(engine) => play_script(alloc, engine, events, out),
         Err(_refused) => print_no_memory(out),
     }
-}
-
-/// Plays a script over a keeper, and prints what its events write.
-pub fn play_script<K: CountedKeep + Drop, O: Sink>(
-    alloc: Global,
-    keep: K,
-    events: &Script,
-    out: &mut O,
-) -> Status
-    requires script { All IsArrival events.now }
-    ensures printed { (config : Config) → K.holds keep (empty_archive config)
-        → (text : List ℕ) → IsScript events.now text → length text ≤ input_limit
-        → Printed (IsReplayDue config text) result (O.taken out.old) (O.faults out.old)
-        (O.taken out.new) (O.faults out.new) }
-    ensures sink { O.alike out.old out.new }
-{
-    if keep.failed() > 0 {
-        return print_no_memory(out);
-    }
-    let mut player = Player::new(alloc, keep);
-    let mut frames = Bytes::new(alloc);
-    match player.play(events, &mut frames) {
-        Ok(()) => print(frames.as_slice(), Status::Done, out),
-        Err(NoMemory) => Status::Memory.if_taken(say_cut(frames.as_slice(), out)),
-    }
-}
-
-/// Writes the frames of a script, and that memory ran out after them.
-fn say_cut<O: Sink>(frames: &[u8], out: &mut O) -> Result<(), SinkFault>
-    ensures said { Says (frames.now ++ whole_line (codes "12 no memory")) (O.taken out.old)
-        (O.faults out.old) (O.taken out.new) (O.faults out.new) result }
-    ensures sink { O.alike out.old out.new }
-{
-    say(frames, out)?;
-    say_memory(out)
 }
 
 /// Prints the line of a script that is bad at an event.
@@ -330,7 +316,7 @@ pub fn print_no_memory<O: Sink>(out: &mut O) -> Status
 }
 
 /// Prints bytes, and returns the status if all were taken, otherwise `Edges`.
-fn print<O: Sink>(bytes: &[u8], status: Status, out: &mut O) -> Status
+pub(crate) fn print<O: Sink>(bytes: &[u8], status: Status, out: &mut O) -> Status
     ensures printed { Printed (Exactly bytes.now status) result (O.taken out.old) (O.faults out.old)
         (O.taken out.new) (O.faults out.new) }
     ensures sink { O.alike out.old out.new }

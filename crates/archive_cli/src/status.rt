@@ -17,10 +17,12 @@ pub enum Status {
     Archive,
     /// The disk failed.
     Disk,
-    /// The input, the clock or the output failed.
+    /// The input, the clock, the output or the sockets failed.
     Edges,
     /// An allocation failed.
     Memory,
+    /// As many events were served as were allowed.
+    Spent,
     /// The input is too long or not a script.
     Script,
 }
@@ -38,6 +40,7 @@ impl Status {
             Status::Disk => 4,
             Status::Edges => 6,
             Status::Memory => 7,
+            Status::Spent => 8,
             Status::Script => 9,
         }
     }

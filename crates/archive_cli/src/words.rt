@@ -1,7 +1,7 @@
 //! The words of a command line.
-ghost use Rattle.std.specs.Prelude.{◌≡◌, ◌∷◌, [], codes, decimal};
+ghost use Rattle.std.specs.Prelude.{◌≡◌, ◌≢◌, ◌∷◌, [], codes, decimal};
 ghost use Rattle.edge_io.specs.Parsing.{Spells};
-ghost use Rattle.archive_cli.specs.Words.{IsJob, IsSetting, IsUpTo, setting_word, spelled};
+ghost use Rattle.archive_cli.specs.Words.{IsJob, IsSetting, IsServeOption, IsUpTo, setting_word, serve_word, spelled};
 ghost use Rattle.archive_cli.specs.Options.{IsCollected, IsConfigured, IsWith, config_by};
 
 use arch_base::{Config, Name, read_decimal};
@@ -11,6 +11,15 @@ const MAX_LIMIT: u64 = 1_099_511_627_776;
 
 /// The greatest count of numbers in a mailbox.
 const MAX_SLICE: u64 = 1_000_000;
+
+/// The greatest count of events, which is the default.
+const MAX_TURNS: u64 = 1 << 63;
+
+/// The greatest port of the control door.
+const MAX_PORT: u64 = 65_500;
+
+/// The port of the control door, if none is given.
+const FIRST_PORT: u16 = 7100;
 
 /// The greatest number that a message can have.
 const MAX_NUMBER: u64 = 2_147_483_647;
@@ -34,6 +43,17 @@ pub enum Job {
     Remove { number: u32 },
     /// `check`: reads the whole archive.
     Check,
+    /// `serve` with options: serves the archive, at most so many events, from this port on.
+    Serve { turns: u64, port: u16 },
+}
+
+/// An option of `serve`.
+#[derive(Clone, Copy, Drop)]
+pub enum ServeOption {
+    /// `turns=N`: the count of events after which serving ends.
+    Turns(u64),
+    /// `port=N`: the port of the control door. Those of the other doors follow it.
+    Port(u16),
 }
 
 /// A setting of an archive, as an option gives it.
@@ -108,7 +128,7 @@ impl Settings {
 
 /// Returns what these words ask for, or `None` if they aren't in the grammar.
 ///
-/// The grammar is `--help`, `--version`, `deliver`, `check`, `remove` with a number from 1 to
+/// The grammar is `--help`, `--version`, `deliver`, `check`, `serve`, `remove` with a number from 1 to
 /// 2,147,483,647, or `init` or `replay` with the name of an archive and options. Each option comes at
 /// most once, in any order:
 ///
@@ -117,19 +137,67 @@ impl Settings {
 /// * `max=N`: 1 to 2,147,483,647, which is the default;
 /// * `mirror`: after `init` only.
 ///
+/// `serve` has two options, each at most once, in any order:
+///
+/// * `turns=N`: 1 to 9,223,372,036,854,775,808, which is the default;
+/// * `port=N`: 1 to 65,500, by default 7100.
+///
 /// Numbers are decimals without leading zeros. Allocates nothing.
 pub fn read_words(words: &[&str]) -> Option<Job>
     ensures { IsJob (spelled words.now) result }
 {
     match words {
+        [word, options @ ..] if *word == "serve" => read_serve(options),
         [word] => read_one(word),
         [word, name, options @ ..] => read_named(word, name, options),
         _ => None,
     }
 }
 
+/// Returns the serving that options ask for, or `None` if a word is none of them, or two are of one
+/// kind.
+fn read_serve(options: &[&str]) -> Option<Job>
+    ensures { IsJob (codes "serve" ∷ spelled options.now) result }
+{
+    match options {
+        [] => Some(served(MAX_TURNS, FIRST_PORT)),
+        [option] => match read_serve_option(option)? {
+            ServeOption::Turns(turns) => Some(served(turns, FIRST_PORT)),
+            ServeOption::Port(port) => Some(served(MAX_TURNS, port)),
+        },
+        [option, other] => match (read_serve_option(option)?, read_serve_option(other)?) {
+            (ServeOption::Turns(turns), ServeOption::Port(port)) => Some(served(turns, port)),
+            (ServeOption::Port(port), ServeOption::Turns(turns)) => Some(served(turns, port)),
+            _ => None,
+        },
+        _ => None,
+    }
+}
+
+/// Returns the job of serving at most so many events from a port on.
+fn served(turns: u64, port: u16) -> Job
+    ensures { result ≡ Job.Serve turns port }
+{
+    Job::Serve { turns, port }
+}
+
+/// Returns the option of `serve` that a word spells, or `None` if it spells none.
+fn read_serve_option(word: &str) -> Option<ServeOption>
+    ensures { Spells IsServeOption serve_word word.now result }
+{
+    let word = word.as_bytes();
+    if let Some(digits) = word.strip_prefix(b"turns=") {
+        let turns = read_up_to(MAX_TURNS, digits)?;
+        return Some(ServeOption::Turns(turns));
+    }
+    let digits = word.strip_prefix(b"port=")?;
+    let port = read_up_to(MAX_PORT, digits)?;
+    Some(ServeOption::Port(port as u16))
+}
+
 /// Returns what one word asks for.
 fn read_one(word: &str) -> Option<Job>
+    requires { word.now ≢ codes "serve" }
     ensures { IsJob (word.now ∷ []) result }
 {
     match word {
@@ -144,6 +212,7 @@ fn read_one(word: &str) -> Option<Job>
 /// Returns what two words and those after them ask for.
 #[tactic(auto, using(crate::proofs::Grammar::not_made, crate::proofs::Grammar::other_word, crate::proofs::Grammar::replayed, crate::proofs::Grammar::not_replayed, crate::proofs::Grammar::removal_named))]
 fn read_named(word: &str, name: &str, options: &[&str]) -> Option<Job>
+    requires { word.now ≢ codes "serve" }
     ensures { IsJob (word.now ∷ name.now ∷ spelled options.now) result }
 {
     if word == "remove" {

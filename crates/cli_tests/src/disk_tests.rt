@@ -1,5 +1,6 @@
 //! Runs of the program over a disk in memory: an archive is made, messages are delivered and removed,
 //! and it is checked.
+use crate::absent::Absent;
 use crate::run_tests::{Due, bytes, numbers};
 use arch_base::{NoMemory, Numbers};
 use archive_cli::run;
@@ -74,7 +75,15 @@ fn ran_on<D: Disk + Drop>(
 ) -> Option<(u8, D, MemSink)> {
     let mut source = MemSource::new(alloc, bytes(alloc, input)?, Numbers::new(alloc));
     let mut sink = MemSink::new(alloc, Numbers::new(alloc));
-    let (status, disk) = run(alloc, words, disk, &mut source, &mut sink, &mut Still);
+    let (status, disk) = run(
+        alloc,
+        words,
+        disk,
+        &mut Absent,
+        &mut source,
+        &mut sink,
+        &mut Still,
+    );
     Some((status, disk, sink))
 }
 
@@ -483,7 +492,15 @@ fn failing<C: Clock>(
     sink: &mut MemSink,
 ) -> Option<MemDisk> {
     let mut source = MemSource::new(alloc, bytes(alloc, MAIL)?, Numbers::new(alloc));
-    let (status, disk) = run(alloc, &["deliver"], disk, &mut source, sink, clock);
+    let (status, disk) = run(
+        alloc,
+        &["deliver"],
+        disk,
+        &mut Absent,
+        &mut source,
+        sink,
+        clock,
+    );
     if status == 6 && sink.taken().is_empty() {
         Some(disk)
     } else {

@@ -3,8 +3,12 @@
 #![tactic(auto)]
 
 #[cfg(test)]
+mod absent;
+#[cfg(test)]
 mod disk_tests;
 #[cfg(test)]
 mod replay_tests;
 #[cfg(test)]
 mod run_tests;
+#[cfg(test)]
+mod serve_tests;

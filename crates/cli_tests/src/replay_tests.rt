@@ -37,7 +37,7 @@ fn plain(alloc: Global, config: Config, input: &[u8]) -> Option<(u8, MemSink)>
         return None;
     };
     let mut sink = MemSink::new(alloc, Numbers::new(alloc));
-    let status = play_script(alloc, MemArchive::new(alloc, config), &events, &mut sink);
+    let status = play_script(alloc, MemArchive::new(alloc, config), events, &mut sink);
     Some((status.code(), sink))
 }
 
@@ -86,8 +86,11 @@ const THREE_PIECES: &[u8] =
 const THREE_FRAMES: &[u8] =
     b"1 48\n1 ok 1 df7a16e6b23ee491f39d84e89298f10b0d4ae4e0\n\n1 48\n1 ok 2 932aef3c2f53dcc65475837ae327c57b7d4d2fc6\n\n1 54\ntext 19\nMessage-ID: <a@x>\n\ntext 19\nMessage-ID: <b@x>\n\n\n";
 
-/// The line after the frames where the script was cut.
+/// The line after the frames of a script that ran out of memory.
 const NO_MEMORY: &[u8] = b"12 no memory\n";
+
+/// The reply to a request at which the disk failed.
+const DISK_FAULT: &[u8] = b"10 disk fault\n";
 
 /// How that script ends over a disk of which one call fails.
 #[derive(Clone, Copy)]
@@ -96,38 +99,31 @@ enum End {
     NotMade,
     /// It printed all frames.
     Whole,
-    /// It printed this many frames, and the line.
-    Cut(u8),
+    /// It was played to its end, one reply told of the fault, and the line came last.
+    Told,
     /// None of these.
     Other,
 }
 
-/// Returns whether what is printed are the frames up to a length, and that line.
-fn is_cut_at(length: usize, printed: &[u8]) -> bool
-    requires { length ≤ 168 }
-{
-    printed.len() == length + NO_MEMORY.len()
-        && printed.starts_with(&THREE_FRAMES[..length])
-        && printed.ends_with(NO_MEMORY)
-}
-
-/// Returns how many frames were printed where the script was cut.
-fn cut_of(printed: &[u8]) -> End {
-    for (frames, length) in [(0, 0), (1, 54), (2, 108)] {
-        if is_cut_at(length, printed) {
-            return End::Cut(frames);
+/// Returns whether words stand in what is printed.
+fn has(printed: &[u8], words: &[u8]) -> bool {
+    for index in 0..printed.len() {
+        if printed[index..].starts_with(words) {
+            return true;
         }
     }
-    End::Other
+    false
 }
 
 /// Returns how that script ends by its status and what it printed.
 fn end_of(status: u8, printed: &[u8]) -> End {
-    match status {
-        0 if printed == THREE_FRAMES => End::Whole,
-        7 => cut_of(printed),
-        _ => End::Other,
+    if status == 0 && printed == THREE_FRAMES {
+        return End::Whole;
     }
+    if status == 7 && has(printed, DISK_FAULT) && printed.ends_with(NO_MEMORY) {
+        return End::Told;
+    }
+    End::Other
 }
 
 /// Returns the status of that script over a keeper of an archive, and the output.
@@ -136,7 +132,7 @@ fn played(alloc: Global, engine: Engine<MemDisk>) -> Option<(u8, MemSink)> {
         return None;
     };
     let mut sink = MemSink::new(alloc, Numbers::new(alloc));
-    let status = play_script(alloc, engine, &events, &mut sink);
+    let status = play_script(alloc, engine, events, &mut sink);
     Some((status.code(), sink))
 }
 
@@ -159,20 +155,16 @@ fn end_over_failing(alloc: Global, ordinal: u64) -> End {
 }
 
 #[test]
-fn a_call_that_fails_ends_the_script_before_its_event(rt: HostRuntime) {
-    let mut first = false;
-    let mut second = false;
-    let mut third = false;
+fn a_script_is_played_on_over_a_disk_that_fails(rt: HostRuntime) {
+    let mut told = false;
     let mut whole = false;
     for ordinal in 1..120 {
         match end_over_failing(rt.alloc(), ordinal) {
             End::NotMade => {}
             End::Whole => whole = true,
-            End::Cut(0) => first = true,
-            End::Cut(1) => second = true,
-            End::Cut(_two) => third = true,
+            End::Told => told = true,
             End::Other => assert!(rt; false),
         }
     }
-    assert!(rt; first && second && third && whole);
+    assert!(rt; told && whole);
 }

@@ -1,4 +1,5 @@
 //! Runs of the program over an input and an output in memory.
+use crate::absent::Absent;
 use crate::disk_tests::Still;
 use arch_base::{Bytes, Config, Numbers};
 use archive_cli::{Job, read_words, run};
@@ -39,7 +40,15 @@ pub(crate) fn ran(
     let mut source = MemSource::new(alloc, bytes(alloc, input)?, numbers(alloc, unread)?);
     let mut sink = MemSink::new(alloc, numbers(alloc, unwritten)?);
     let disk = MemDisk::new(alloc, Numbers::new(alloc));
-    let (status, _disk) = run(alloc, words, disk, &mut source, &mut sink, &mut Still);
+    let (status, _disk) = run(
+        alloc,
+        words,
+        disk,
+        &mut Absent,
+        &mut source,
+        &mut sink,
+        &mut Still,
+    );
     Some((status, sink))
 }
 
@@ -494,7 +503,15 @@ fn ran_endless(alloc: Global) -> (u8, MemSink) {
     let mut sink = MemSink::new(alloc, Numbers::new(alloc));
     let disk = MemDisk::new(alloc, Numbers::new(alloc));
     let words = &["replay", "list"];
-    let (status, _disk) = run(alloc, words, disk, &mut Endless, &mut sink, &mut Still);
+    let (status, _disk) = run(
+        alloc,
+        words,
+        disk,
+        &mut Absent,
+        &mut Endless,
+        &mut sink,
+        &mut Still,
+    );
     (status, sink)
 }
 

@@ -20,6 +20,10 @@ use Rattle.control_door.specs.Requests.{Request, Delivers, Shows, Removes, Threa
 abbrev pub bad_word : List ℕ
 bad_word = whole_line (codes "13 bad line")
 
+-- The word for a server that is full.
+abbrev pub busy_word : List ℕ
+busy_word = whole_line (codes "14 busy")
+
 -- A line with the length of the text, and then the text; or a line that the number has none.
 abbrev pub shown : ℕ → Option (List ℕ) → List ℕ
 shown number None = whole_line (codes "7 not live " ++ decimal number)

@@ -13,4 +13,5 @@ mod thread;
 
 pub use laws::cut_laws;
 pub use order::{Order, read_order};
+pub use replies::say_busy;
 pub use session::Session;

@@ -1,7 +1,7 @@
 //! Writes the replies that only the control door has.
 ghost use Rattle.std.specs.Prelude.{Some, None};
 ghost use Rattle.edge_io.specs.Phrases.{Says};
-ghost use Rattle.control_door.specs.Door.{bad_word, shown};
+ghost use Rattle.control_door.specs.Door.{bad_word, busy_word, shown};
 
 use answer_lines::say_number;
 use edge_io::{Sink, SinkFault, say, say_line};
@@ -13,6 +13,15 @@ pub(crate) fn say_bad<O: Sink>(out: &mut O) -> Result<(), SinkFault>
     ensures sink { O.alike out.old out.new }
 {
     say_line(b"13 bad line", out)
+}
+
+/// Writes that as many sessions are open as there may be. The connection has none.
+pub fn say_busy<O: Sink>(out: &mut O) -> Result<(), SinkFault>
+    ensures said { Says busy_word (O.taken out.old) (O.faults out.old) (O.taken out.new)
+        (O.faults out.new) result }
+    ensures sink { O.alike out.old out.new }
+{
+    say_line(b"14 busy", out)
 }
 
 /// Writes that a number has no text.

@@ -58,13 +58,16 @@ fn is_bad_piece(alloc: Global, line: &str, len: usize) -> Result<bool, AllocErro
 }
 
 /// Scripts and their numbers of events.
-const WHOLE: [(&str, u64); 9] = [
+const WHOLE: [(&str, u64); 12] = [
     ("", 0),
     ("0 q\n", 1),
     ("253402300799 s\n", 1),
     ("5 q\n4 q\n", 2),
     ("5 o 1 control\n", 1),
     ("5 e 1\n", 1),
+    ("5 o 65535 nntp\n", 1),
+    ("5 o 0 control\n5 o 7 nntp\n", 2),
+    ("5 e 65535\n", 1),
     ("5 b 1 1\n\n\n", 1),
     ("5 b 1 5\n5 q\n\n\n", 1),
     ("5 s\n5 q\n", 2),
@@ -81,7 +84,7 @@ fn whole_scripts_are_read(rt: HostRuntime) -> Result<(), Fail> {
 }
 
 /// Texts that are no scripts, and the first bad event of each, from 1.
-const BAD: [(&str, u64); 23] = [
+const BAD: [(&str, u64); 24] = [
     ("5 x 1\n", 1),
     ("5 q", 1),
     ("\n", 1),
@@ -90,17 +93,18 @@ const BAD: [(&str, u64); 23] = [
     ("5 b 1 3\nab\n", 1),
     ("5 b 1 0\n\n", 1),
     ("5 b 1 01\na\n", 1),
-    ("5 b 2 1\na\n", 1),
+    ("5 b 65536 1\na\n", 1),
     ("253402300800 q\n", 1),
     ("05 q\n", 1),
     ("5  q\n", 1),
     ("5 q\r\n", 1),
     ("5 q \n", 1),
     ("5 Q\n", 1),
-    ("5 o 2 control\n", 1),
+    ("5 o 65536 control\n", 1),
     ("5 o 1 Control\n", 1),
     ("5 o 1 http\n", 1),
-    ("5 e 2\n", 1),
+    ("5 o 1 imap\n", 1),
+    ("5 e 65536\n", 1),
     ("5 q\nx", 2),
     ("5 q\n\n", 2),
     ("5 s\n5 x\n", 2),

@@ -2,7 +2,7 @@
 use Rattle.std.proofs.Common.{◌≡◌, ◌≢◌, ℕ, false, ◌==◌, List, [], ◌∷◌, ◌++◌, refl, sym, ◌∙◌, ap, arith, codes, get_or, drop}
 use Rattle.std.proofs.lemmas.Bool.Decides.{nat_tests}
 use Rattle.std.specs.Fmt.{decimal}
-use Rattle.edge_io.specs.Events.{IsWhat, IsLine, door_word, words_of, line_of}
+use Rattle.edge_io.specs.Events.{IsDoor, IsWhat, IsLine, door_word, words_of, line_of}
 use Rattle.edge_io.specs.Parsing.{Lacks, IsOpening, opening_words, IsSending, sending_words}
 use Rattle.edge_io.specs.declared.events.Event.{Event}
 use Rattle.edge_io.specs.declared.events.What.{What}
@@ -54,3 +54,10 @@ words-lack Stop h = (refl, tt)
 pub line-lacks : (event : Event) → IsLine event → Lacks 10 (line_of event)
 line-lacks event h =
     Lacks-append 10 (decimal event.moment) (32 ∷ words_of event.what) (decimal-lacks 10 event.moment (omega arith) (omega (arith, h.moment))) (refl, words-lack event.what h.what)
+
+-- A text that is neither word names no door that the server has.
+pub no_door : (word : List ℕ) → word ≢ door_word Control → word ≢ door_word Nntp → (door : Door) → IsDoor door → word ≢ door_word door
+no_door word a b Control is = a
+no_door word a b Http is = absurd is
+no_door word a b Nntp is = b
+no_door word a b Imap is = absurd is

@@ -4,9 +4,11 @@ use Rattle.std.proofs.lemmas.Fmt.{decimal_injective}
 use Rattle.std.proofs.lemmas.List.{flat_map_more}
 use Rattle.std.proofs.lemmas.List.Elements.{All-head, All-tail}
 use Rattle.std.specs.Fmt.{decimal}
-use Rattle.edge_io.specs.Events.{IsWhat, IsLine, IsEvent, piece_len, words_of, line_of, after_line, spelled}
+use Rattle.edge_io.specs.Events.{IsDoor, IsWhat, IsLine, IsEvent, piece_len, door_word, words_of, line_of, after_line, spelled}
 use Rattle.edge_io.specs.Scripts.{Arrival, IsArrival, HasNoFirst, spelled_all, ReadInOneWay}
 use Rattle.edge_io.specs.Parsing.{Lacks}
+use Rattle.edge_io.specs.declared.events.Door.{Door}
+use Rattle.edge_io.specs.declared.events.Door.TheVariants.{Control, Http, Nntp, Imap}
 use Rattle.edge_io.specs.declared.events.Event.{Event}
 use Rattle.edge_io.specs.declared.events.What.{What}
 use Rattle.edge_io.specs.declared.events.What.TheVariants.{Opened, Bytes, Ended, Quiet, Stop}
@@ -15,16 +17,36 @@ use Rattle.edge_io.proofs.Numerals.{decimal-lacks}
 use Rattle.edge_io.proofs.Lines.{line-lacks, rest-same}
 use Rattle.edge_io.proofs.Fronts.{nil_from_length}
 
+-- A word is the name of at most one door that the server has.
+doors-once : (a b : Door) → IsDoor a → IsDoor b → door_word a ≡ door_word b → a ≡ b
+doors-once Control Control p q e = refl
+doors-once Control Nntp p q e = let first : 99 ≡ 110 = ap (λ l. get_or l 0 0) e in absurd (omega (arith, first))
+doors-once Nntp Control p q e = let first : 110 ≡ 99 = ap (λ l. get_or l 0 0) e in absurd (omega (arith, first))
+doors-once Nntp Nntp p q e = refl
+doors-once Http b p q e = absurd p
+doors-once Imap b p q e = absurd p
+doors-once Control Http p q e = absurd q
+doors-once Control Imap p q e = absurd q
+doors-once Nntp Http p q e = absurd q
+doors-once Nntp Imap p q e = absurd q
+
 -- The words tell what happened.
 words-once : (a b : What) → IsWhat a → IsWhat b → words_of a ≡ words_of b → a ≡ b
-words-once (Opened conn door) (Opened conn' door') p q e = let same : conn ≡ conn' = p.0 ∙ sym q.0 in let also : door ≡ door' = p.1 ∙ sym q.1 in cc
+words-once (Opened conn door) (Opened conn' door') p q e =
+    let rest = divided-once 32 (decimal conn) (decimal conn') (door_word door) (door_word door') (decimal-lacks 32 conn (omega arith) (omega (arith, p.0))) (decimal-lacks 32 conn' (omega arith) (omega (arith, q.0)))
+    (rest-same 111 32 (decimal conn ++ 32 ∷ door_word door) (decimal conn' ++ 32 ∷ door_word door') e) in
+    let same : conn ≡ conn' = decimal_injective conn conn' (omega (arith, p.0)) (omega (arith, q.0)) rest.0 in
+    let also : door ≡ door' = doors-once door door' p.1 q.1 rest.1 in
+    cc
 words-once (Bytes conn len) (Bytes conn' len') p q e =
-    let same : conn ≡ conn' = p.0 ∙ sym q.0 in
     let rest = divided-once 32 (decimal conn) (decimal conn') (decimal len) (decimal len') (decimal-lacks 32 conn (omega arith) (omega (arith, p.0))) (decimal-lacks 32 conn' (omega arith) (omega (arith, q.0)))
     (rest-same 98 32 (decimal conn ++ 32 ∷ decimal len) (decimal conn' ++ 32 ∷ decimal len') e) in
+    let same : conn ≡ conn' = decimal_injective conn conn' (omega (arith, p.0)) (omega (arith, q.0)) rest.0 in
     let also : len ≡ len' = decimal_injective len len' (omega (arith, p.1.1)) (omega (arith, q.1.1)) rest.1 in
     cc
-words-once (Ended conn) (Ended conn') p q e = let same : conn ≡ conn' = p ∙ sym q in cc
+words-once (Ended conn) (Ended conn') p q e =
+    let same : conn ≡ conn' = decimal_injective conn conn' (omega (arith, p)) (omega (arith, q)) (rest-same 101 32 (decimal conn) (decimal conn') e) in
+    cc
 words-once Quiet Quiet p q e = refl
 words-once Stop Stop p q e = refl
 words-once a b p q e = let first : get_or (words_of a) 0 0 ≡ get_or (words_of b) 0 0 = ap (λ l. get_or l 0 0) e in absurd (omega arith)

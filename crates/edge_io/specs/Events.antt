@@ -1,5 +1,5 @@
 -- Events of a server, and their form in a script.
-use Rattle.std.specs.Prelude.{◌≡◌, ◌≤◌, ℕ, List, [], ◌∷◌, ◌++◌, codes, length}
+use Rattle.std.specs.Prelude.{◌≡◌, ◌≤◌, ◌<◌, ℕ, List, [], ◌∷◌, ◌++◌, codes, length}
 use Rattle.std.specs.Fmt.{decimal}
 use Rattle.arch_base.specs.Moments.{IsMoment}
 use Rattle.edge_io.specs.declared.events.Event.{Event}
@@ -8,13 +8,16 @@ use Rattle.edge_io.specs.declared.events.What.TheVariants.{Opened, Bytes, Ended,
 use Rattle.edge_io.specs.declared.events.Door.{Door}
 use Rattle.edge_io.specs.declared.events.Door.TheVariants.{Control, Http, Nntp, Imap}
 
--- The connections of a script: number 1 alone.
+-- The connections of a script.
 abbrev pub IsConnection : ℕ → Type 0
-IsConnection conn = conn ≡ 1
+IsConnection conn = conn < 65536
 
--- The doors of a script: the control door alone.
+-- The doors of a script: those that the server has.
 abbrev pub IsDoor : Door → Type 0
-IsDoor door = door ≡ Control
+IsDoor Control = Unit {0}
+IsDoor Http = ⊥
+IsDoor Nntp = Unit {0}
+IsDoor Imap = ⊥
 
 -- The length of a piece in bytes.
 abbrev pub IsPieceLen : ℕ → Type 0

@@ -10,3 +10,8 @@ pub mod MemClocks
 pub mod Scripts
 pub mod Spans
 pub mod Parsing
+pub mod Frames
+pub mod Hosts
+pub mod Passing
+pub mod MemHosts
+pub mod ScriptHosts

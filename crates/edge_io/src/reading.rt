@@ -19,6 +19,9 @@ use std::alloc::Global;
 /// The greatest length of a piece, in bytes.
 const MAX_PIECE_LEN: u64 = 1048576;
 
+/// The number of connections that a script may have: those from 0 to 65,535.
+const CONNECTIONS: u64 = 65536;
+
 /// Reads a script.
 ///
 /// `Bad` gives the number, from 1, of the first event that is malformed or incomplete. `NoMemory`
@@ -174,24 +177,30 @@ fn read_moment(text: &[u8]) -> Option<u64>
     }
 }
 
-/// Reads a connection, or returns `None` if the text spells none. A script has connection 1 only.
+/// Reads a connection below 65,536, or returns `None` if the text spells none.
 fn read_connection(text: &[u8]) -> Option<u32>
     ensures { Spells IsConnection decimal text.now result }
 {
     let conn = read_decimal(text)?;
-    if conn == 1 { Some(conn as u32) } else { None }
+    if conn < CONNECTIONS {
+        Some(conn as u32)
+    } else {
+        None
+    }
 }
 
-/// Reads the name of a door, or returns `None` for any other word. A script has the door `control`
-/// only.
+/// Reads the name of a door that the server has, or returns `None` for any other word.
+#[tactic(auto, using(crate::proofs::Lines::no_door))]
 fn read_door(word: &[u8]) -> Option<Door>
     ensures { Spells IsDoor door_word word.now result }
 {
     if word == b"control".as_slice() {
-        Some(Door::Control)
-    } else {
-        None
+        return Some(Door::Control);
     }
+    if word == b"nntp".as_slice() {
+        return Some(Door::Nntp);
+    }
+    None
 }
 
 /// Reads the length of a piece, or returns `None` if the text spells none in 1 to 1,048,576.

@@ -1,7 +1,10 @@
 -- The replies that are one line of fixed words, and the words for what was not read (RFC 3977,
 -- section 3.2).
-use Rattle.std.specs.Prelude.{ℕ, List, ◌∷◌, ◌++◌, codes}
+use Rattle.std.specs.Prelude.{ℕ, List, ◌∷◌, ◌++◌, codes, decimal}
 use Rattle.hex.specs.Hex.{encode_lower}
+use Rattle.arch_model.specs.Delivery.{file_words}
+use Rattle.arch_model.specs.declared.opening.OpenRefusal.{OpenRefusal}
+use Rattle.arch_model.specs.declared.opening.OpenRefusal.TheVariants as opening
 use Rattle.arch_model.specs.declared.text_refusal.TextRefusal.{TextRefusal}
 use Rattle.arch_model.specs.declared.text_refusal.TextRefusal.TheVariants as reading
 use Rattle.wire_replies.specs.Blocks.{crlf_line}
@@ -42,3 +45,15 @@ unread_line reading.DiskFault = disk_line
 unread_line (reading.Damaged named found) = codes "403 damaged " ++ (encode_lower named.0
     ++ (32 ∷ crlf_line (encode_lower found.0)))
 unread_line reading.NoMemory = memory_line
+
+-- The line for a server that is full.
+abbrev pub busy_line : List ℕ
+busy_line = crlf_line (codes "400 busy")
+
+-- Why the archive was not opened. If there is none, its root is damaged.
+abbrev pub unopened_line : OpenRefusal → List ℕ
+unopened_line opening.NoArchive = crlf_line (codes "403 damaged root 0")
+unopened_line (opening.Damaged file at) =
+    codes "403 damaged " ++ (file_words file ++ (32 ∷ crlf_line (decimal at)))
+unopened_line opening.DiskFault = disk_line
+unopened_line opening.NoMemory = memory_line

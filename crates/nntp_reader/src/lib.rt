@@ -15,6 +15,7 @@ mod moments;
 mod notice;
 mod order;
 mod ranges;
+mod refusals;
 mod session;
 mod unread;
 mod verb;
@@ -22,4 +23,5 @@ mod words;
 
 pub use group::Group;
 pub use laws::cut_laws;
+pub use refusals::{say_busy, say_no_memory, say_unopened};
 pub use session::NntpSession;

@@ -1,17 +1,23 @@
 //! The words of the command line, as the system hands them over.
+use crate::explain;
 use arch_base::NoMemory;
-use archive_cli::{print_no_memory, run};
+use archive_cli::{Job, print_no_memory, read_words, run};
 use disk_model::Disk;
 use edge_io::{Clock, Sink, Source};
+use real_edges::SocketHost;
 use std::alloc::Global;
 use std::env::Args;
 use std::io::{self, ErrorKind};
+
+/// The port of the control door, if none is named.
+const FIRST_PORT: u16 = 7100;
 
 /// Runs the program with the arguments after its name, and returns the number of the status to end
 /// with and the disk.
 ///
 /// Arguments that aren't all UTF-8 are no words of the grammar.
 pub(crate) fn run_arguments<D: Disk, S: Source, O: Sink, C: Clock>(
+    rt: &HostRuntime,
     alloc: Global,
     arguments: io::Result<Args>,
     disk: D,
@@ -20,13 +26,14 @@ pub(crate) fn run_arguments<D: Disk, S: Source, O: Sink, C: Clock>(
     clock: &mut C,
 ) -> (u8, D) {
     match collected(alloc, arguments) {
-        Ok(owned) => run_owned(alloc, owned.as_slice(), disk, input, out, clock),
+        Ok(owned) => run_owned(rt, alloc, owned.as_slice(), disk, input, out, clock),
         Err(NoMemory) => (print_no_memory(out).code(), disk),
     }
 }
 
 /// Runs the program with the words after the first, which is its name.
 fn run_owned<D: Disk, S: Source, O: Sink, C: Clock>(
+    rt: &HostRuntime,
     alloc: Global,
     owned: &[String],
     disk: D,
@@ -35,8 +42,37 @@ fn run_owned<D: Disk, S: Source, O: Sink, C: Clock>(
     clock: &mut C,
 ) -> (u8, D) {
     match words_of(alloc, owned) {
-        Ok(words) => run(alloc, words.as_slice(), disk, input, out, clock),
+        Ok(words) => run_words(rt, alloc, words.as_slice(), disk, input, out, clock),
         Err(NoMemory) => (print_no_memory(out).code(), disk),
+    }
+}
+
+/// Runs the program with these words, over sockets from the port on that they name.
+fn run_words<D: Disk, S: Source, O: Sink, C: Clock>(
+    rt: &HostRuntime,
+    alloc: Global,
+    words: &[&str],
+    disk: D,
+    input: &mut S,
+    out: &mut O,
+    clock: &mut C,
+) -> (u8, D) {
+    match SocketHost::listen(rt, alloc, port_of(words)) {
+        Ok(host) => {
+            let mut host = host;
+            let (code, disk) = run(alloc, words, disk, &mut host, input, out, clock);
+            let _ = explain(rt, "sockets: ", host.cause(alloc));
+            (code, disk)
+        }
+        Err(NoMemory) => (print_no_memory(out).code(), disk),
+    }
+}
+
+/// Returns the port that words name, or the default one.
+fn port_of(words: &[&str]) -> u16 {
+    match read_words(words) {
+        Some(Job::Serve { port, .. }) => port,
+        _ => FIRST_PORT,
     }
 }
 

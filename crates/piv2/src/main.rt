@@ -13,11 +13,11 @@ use std::{env, io};
 /// The folder that keeps the archive, in the current one.
 const FOLDER: &str = "piv2-store";
 
-/// Does what the words of the command line ask for, over the folder, the standard input and output,
-/// and the system's clock, and ends with its status.
+/// Does what the words of the command line ask for, over the folder, sockets, the standard input and
+/// output, and the system's clock, and ends with its status.
 ///
-/// If the disk failed, a line on standard error says what failed first on it. If input, clock or
-/// output failed, it says which of them, and nothing of the disk.
+/// If the disk failed, a line on standard error says what failed first on it. If sockets, input,
+/// clock or output failed, it says which of them, and nothing of the disk.
 fn main(rt: HostRuntime) -> ExitCode {
     let alloc = rt.alloc();
     let Ok(mut output) = StdSink::new(&rt, alloc) else {
@@ -33,7 +33,15 @@ fn main(rt: HostRuntime) -> ExitCode {
         return ExitCode::from(print_no_memory(&mut output).code());
     };
     let arguments = env::args(&rt);
-    let (code, disk) = run_arguments(alloc, arguments, disk, &mut input, &mut output, &mut clock);
+    let (code, disk) = run_arguments(
+        &rt,
+        alloc,
+        arguments,
+        disk,
+        &mut input,
+        &mut output,
+        &mut clock,
+    );
     let _ = if code == Status::Disk.code() {
         explain(&rt, "", disk.cause())
     } else if code == Status::Edges.code() {
@@ -47,7 +55,7 @@ fn main(rt: HostRuntime) -> ExitCode {
 }
 
 /// Prints on standard error why an edge failed, if it did.
-fn explain(
+pub(crate) fn explain(
     rt: &HostRuntime,
     edge: &str,
     cause: Result<Option<String>, NoMemory>,

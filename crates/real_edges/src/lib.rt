@@ -1,8 +1,9 @@
-//! The edge to the system: a disk over a folder, the standard input and output, and the system's
-//! clock. Contracts don't know what these hold. Their faults are counted.
+//! The edge to the system: a disk over a folder, the standard input and output, the system's clock,
+//! and sockets. Contracts don't know what these hold. Their faults are counted.
 #![tactic(auto)]
 
 mod cause;
+mod client;
 mod faults;
 mod folder;
 mod folder_disk;
@@ -11,12 +12,16 @@ mod held_folder;
 mod mark;
 mod names;
 mod open_file;
+mod sending;
+mod socket_host;
+mod sockets;
 mod std_sink;
 mod std_source;
 mod system_clock;
 
 pub use folder_disk::FolderDisk;
 pub use names::{name_of, path_in};
+pub use socket_host::SocketHost;
 pub use std_sink::StdSink;
 pub use std_source::StdSource;
 pub use system_clock::SystemClock;

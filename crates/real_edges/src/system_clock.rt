@@ -62,7 +62,7 @@ impl<C: Clock> edge_io::Clock for SystemClock<C> {
 }
 
 /// Returns the moment of a time, or an error if the time couldn't be read or is no moment.
-fn moment_of(time: io::Result<SystemTime>) -> io::Result<u64>
+pub(crate) fn moment_of(time: io::Result<SystemTime>) -> io::Result<u64>
     ensures { IfOk result IsMoment }
 {
     let Ok(since) = time?.duration_since(UNIX_EPOCH) else {

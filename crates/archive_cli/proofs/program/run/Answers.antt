@@ -3,12 +3,13 @@ use Rattle.disk_model.specs.Moments.{weaker}
 use Rattle.answer_lines.specs.Lines.{whole_line}
 use Rattle.archive_cli.specs.DiskCommands.{removing}
 use Rattle.archive_cli.specs.Program.{CommandActs, InitActs, InitLeaves, RunLeaves, RunLeavesAmong, WordsLeave}
+use Rattle.archive_cli.specs.Serving.{run_line, run_status}
 use Rattle.archive_cli.specs.Words.{spelled}
 use Rattle.archive_cli.specs.declared.words.Job.TheVariants.{Help, Version, Init, Deliver, Remove}
 use Rattle.archive_cli.specs.declared.status.Status.TheVariants as exit
 use Rattle.archive_cli.specs.declared.texts.TheConstants.{HELP, VERSION}
-use Rattle.archive_cli.proofs.Grammar.{replay-config, init-config, same_number}
-use Rattle.archive_cli.proofs.Printed.{ran-exactly, ran-replayed, ran-made, ran-delivered, ran-removed, ran-checked, job-moved, some-moment}
+use Rattle.archive_cli.proofs.Grammar.{replay-config, init-config, same_number, same-serve}
+use Rattle.archive_cli.proofs.Printed.{ran-exactly, ran-replayed, ran-made, ran-delivered, ran-removed, ran-checked, ran-served, status-or, job-moved, some-moment}
 use Rattle.archive_cli.proofs.program.run.Goals as goal
 
 pub returns-in-None-clause-ends : goal.returns-in-None-clause-ends
@@ -105,3 +106,17 @@ returns-in-Some-Remove-clause-remove_among g c = λ may number asked all.
     let coming = g.C.Clock.coming c.args.clock.now in
     let same = same_number (spelled c.args.words.now) c.in-Some-Remove.number number (rw c.in-Some-Remove.field-0-is at c.in-Some-Remove.ensures) asked in
     subst (λ (n : ℕ). RunLeavesAmong g.D.Disk.content g.D.Disk.moment g.D.Disk.left_since c.args.disk c.carry_out-status.result.1 may coming (removing n)) same (c.carry_out-status.ensures.among may all)
+
+pub returns-in-Some-Serve-clause-ends : goal.returns-in-Some-Serve-clause-ends
+returns-in-Some-Serve-clause-ends g c =
+    let served = c.serve_disk-status.ensures.serves in
+    (c.serve_disk-status.result.0, c.code-in-Some-Serve.ensures, ran-served (spelled c.args.words.now) c.in-Some-Serve.turns c.in-Some-Serve.port served.0 c.serve_disk-status.result.0 _ _ (rw c.in-Some-Serve.field-0-is at c.in-Some-Serve.ensures) served.1.fault refl refl served.2)
+
+pub returns-in-Some-Serve-clause-serve : goal.returns-in-Some-Serve-clause-serve
+returns-in-Some-Serve-clause-serve g c = λ turns port asked.
+    let same = same-serve (spelled c.args.words.now) turns port c.in-Some-Serve.turns c.in-Some-Serve.port asked (rw c.in-Some-Serve.field-0-is at c.in-Some-Serve.ensures) in
+    let served = c.serve_disk-status.ensures.serves in
+    (served.0, status-or c.serve_disk-status.result.0 (run_status served.0) _ (run_line served.0) _ _ _ _ c.code-in-Some-Serve.ensures served.2, rw same.0 served.1)
+
+pub returns-in-Some-Serve-clause-host : goal.returns-in-Some-Serve-clause-host
+returns-in-Some-Serve-clause-host g c = λ none. absurd (none c.in-Some-Serve.turns c.in-Some-Serve.port (rw c.in-Some-Serve.field-0-is at c.in-Some-Serve.ensures))

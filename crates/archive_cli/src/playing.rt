@@ -1,0 +1,117 @@
+//! Plays the events of a script over a keeper.
+ghost use Rattle.std.specs.Prelude.{◌≡◌, ◌≤◌, ◌++◌, ℕ, List, All, true, length, codes};
+ghost use Rattle.arch_base.specs.declared.config.Config.{Config};
+ghost use Rattle.arch_model.specs.Archives.{empty_archive};
+ghost use Rattle.answer_lines.specs.Lines.{whole_line};
+ghost use Rattle.edge_io.specs.Phrases.{Says};
+ghost use Rattle.edge_io.specs.Scripts.{Arrival, IsArrival, IsScript};
+ghost use Rattle.edge_io.specs.ScriptHosts.{IsNewScriptHost};
+ghost use Rattle.archive_cli.specs.Printing.{Printed, IsReplayDue};
+ghost use Rattle.archive_cli.specs.Program.{input_limit};
+
+use crate::program::{print, print_no_memory};
+use crate::status::Status;
+use answer_lines::say_memory;
+use arch_base::NoMemory;
+use arch_model::Keep;
+use archive_core::Engine;
+use disk_model::MemDisk;
+use edge_io::{Script, ScriptHost, Sink, SinkFault, say};
+use mem_archive::MemArchive;
+use node_serve::{Node, ServeEnd, serve};
+use std::alloc::Global;
+
+/// The greatest count of events that are played. No script has as many.
+const ALL_EVENTS: u64 = 1 << 63;
+
+/// A keeper that tells its disk's count of faults.
+pub trait CountedKeep: Keep {
+    /// Returns the disk's count of faults.
+    fn failed(&self) -> u64
+        ensures { result ≡ Self.faults self.now };
+}
+
+impl CountedKeep for Engine<MemDisk> {
+    fn failed(&self) -> u64 {
+        self.disk().failed()
+    }
+}
+
+impl CountedKeep for MemArchive {
+    fn failed(&self) -> u64 {
+        0
+    }
+}
+
+/// Plays a script over a keeper, and prints what its events write.
+///
+/// If an allocation fails, the events are played on, and a line after the frames tells of it.
+pub fn play_script<K: CountedKeep + Drop, O: Sink>(
+    alloc: Global,
+    keep: K,
+    events: Script,
+    out: &mut O,
+) -> Status
+    requires script { All IsArrival events }
+    ensures printed { (config : Config) → K.holds keep (empty_archive config)
+        → (text : List ℕ) → IsScript events text → length text ≤ input_limit
+        → Printed (IsReplayDue config text) result (O.taken out.old) (O.faults out.old)
+        (O.taken out.new) (O.faults out.new) }
+    ensures sink { O.alike out.old out.new }
+{
+    if keep.failed() > 0 {
+        return print_no_memory(out);
+    }
+    match ScriptHost::new(alloc, events) {
+        Ok(host) => play_over(alloc, keep, host, out),
+        Err(NoMemory) => print_no_memory(out),
+    }
+}
+
+/// Plays the events of a new host over a keeper, and prints their frames.
+fn play_over<K: CountedKeep + Drop, O: Sink>(
+    alloc: Global,
+    keep: K,
+    host: ScriptHost,
+    out: &mut O,
+) -> Status
+    requires unfailed { K.faults keep ≡ 0 }
+    ensures printed { (arrivals : List Arrival) → IsNewScriptHost arrivals host
+        → (config : Config) → K.holds keep (empty_archive config)
+        → (text : List ℕ) → IsScript arrivals text → length text ≤ input_limit
+        → Printed (IsReplayDue config text) result (O.taken out.old) (O.faults out.old)
+        (O.taken out.new) (O.faults out.new) }
+    ensures sink { O.alike out.old out.new }
+{
+    let mut host = host;
+    let mut node = Node::new(alloc, keep);
+    let end = serve(alloc, &mut node, &mut host, ALL_EVENTS);
+    let starved = host.starved();
+    let keep = node.into_keep();
+    let failed = keep.failed();
+    let frames = host.into_frames();
+    if is_whole(end, starved, failed) {
+        return print(frames.as_slice(), Status::Done, out);
+    }
+    Status::Memory.if_taken(say_cut(frames.as_slice(), out))
+}
+
+/// Returns whether all events were played, and no memory ran out at the host or the disk.
+fn is_whole(end: ServeEnd, starved: u64, failed: u64) -> bool
+    ensures { result ≡ true → (end ≡ ServeEnd.Stopped) × (starved ≡ 0) × (failed ≡ 0) }
+{
+    match end {
+        ServeEnd::Stopped => starved == 0 && failed == 0,
+        _ => false,
+    }
+}
+
+/// Writes the frames of a script, and that memory ran out.
+fn say_cut<O: Sink>(frames: &[u8], out: &mut O) -> Result<(), SinkFault>
+    ensures said { Says (frames.now ++ whole_line (codes "12 no memory")) (O.taken out.old)
+        (O.faults out.old) (O.taken out.new) (O.faults out.new) result }
+    ensures sink { O.alike out.old out.new }
+{
+    say(frames, out)?;
+    say_memory(out)
+}

@@ -1,0 +1,127 @@
+//! Runs of `serve` over disks and hosts in memory.
+use crate::absent::Absent;
+use crate::disk_tests::Still;
+use crate::run_tests::{bytes, numbers};
+use arch_base::Numbers;
+use archive_cli::run;
+use disk_model::MemDisk;
+use edge_io::{MemHost, MemSink, MemSource, script};
+use std::alloc::Global;
+
+/// Returns the status of words without an input over a disk and a host without events, and the disk.
+fn ran_alone(alloc: Global, words: &[&str], disk: MemDisk) -> Option<(u8, MemDisk)> {
+    let mut source = MemSource::new(alloc, bytes(alloc, b"")?, Numbers::new(alloc));
+    let mut sink = MemSink::new(alloc, Numbers::new(alloc));
+    let mut clock = Still;
+    Some(run(
+        alloc,
+        words,
+        disk,
+        &mut Absent,
+        &mut source,
+        &mut sink,
+        &mut clock,
+    ))
+}
+
+/// Returns a disk with an archive without messages.
+fn made(alloc: Global) -> Option<MemDisk> {
+    let empty = MemDisk::new(alloc, Numbers::new(alloc));
+    match ran_alone(alloc, &["init", "list"], empty)? {
+        (0, disk) => Some(disk),
+        _ => None,
+    }
+}
+
+/// Returns a host of a script that fails the listed calls.
+fn host(alloc: Global, text: &[u8], listed: &[u64]) -> Option<MemHost> {
+    MemHost::new(alloc, script(alloc, text).ok()?, numbers(alloc, listed)?).ok()
+}
+
+/// Returns the status of serving a script's events, if nothing is printed.
+fn status(alloc: Global, words: &[&str], disk: MemDisk, text: &[u8], listed: &[u64]) -> Option<u8> {
+    let mut host = host(alloc, text, listed)?;
+    let mut source = MemSource::new(alloc, bytes(alloc, b"")?, Numbers::new(alloc));
+    let mut sink = MemSink::new(alloc, Numbers::new(alloc));
+    let mut clock = Still;
+    let (status, _disk) = run(
+        alloc,
+        words,
+        disk,
+        &mut host,
+        &mut source,
+        &mut sink,
+        &mut clock,
+    );
+    if sink.taken().is_empty() {
+        Some(status)
+    } else {
+        None
+    }
+}
+
+/// Returns whether words end with a status over an archive, and print nothing.
+fn ends(alloc: Global, words: &[&str], text: &[u8], listed: &[u64], wanted: u8) -> bool {
+    match made(alloc) {
+        None => false,
+        Some(disk) => status(alloc, words, disk, text, listed) == Some(wanted),
+    }
+}
+
+/// Four events at which nothing happens.
+const QUIET: &[u8] = b"1 q\n2 q\n3 q\n4 q\n";
+
+#[test]
+fn serving_ends_by_its_events(rt: HostRuntime) {
+    assert!(rt; ends(rt.alloc(), &["serve", "turns=3"], QUIET, &[], 8));
+    assert!(rt;
+        ends(
+            rt.alloc(),
+            &["serve", "port=8100", "turns=4"],
+            QUIET,
+            &[],
+            8
+        )
+    );
+    assert!(rt; ends(rt.alloc(), &["serve"], QUIET, &[], 0));
+    assert!(rt; ends(rt.alloc(), &["serve", "turns=2"], b"1 q\n2 s\n", &[], 0));
+    assert!(rt; ends(rt.alloc(), &["serve"], QUIET, &[2], 6));
+}
+
+/// Returns whether serving a disk without an archive ends with the status for that.
+fn is_shut(alloc: Global) -> bool {
+    match ran_alone(alloc, &["serve"], MemDisk::new(alloc, Numbers::new(alloc))) {
+        None => false,
+        Some((status, _disk)) => status == 3,
+    }
+}
+
+#[test]
+fn a_disk_without_an_archive_is_not_served(rt: HostRuntime) {
+    assert!(rt; is_shut(rt.alloc()));
+}
+
+/// Word lists that `serve` refuses.
+const REFUSED: [&[&str]; 6] = [
+    &["serve", "turns=0"],
+    &["serve", "port=65501"],
+    &["serve", "turns=1", "turns=2"],
+    &["serve", "port=1", "turns=2", "port=1"],
+    &["serve", "turns"],
+    &["serve", "turns=9223372036854775809"],
+];
+
+/// Returns whether words aren't in the grammar.
+fn is_refused(alloc: Global, words: &[&str]) -> bool {
+    match ran_alone(alloc, words, MemDisk::new(alloc, Numbers::new(alloc))) {
+        None => false,
+        Some((status, _disk)) => status == 2,
+    }
+}
+
+#[test]
+fn other_options_are_refused(rt: HostRuntime) {
+    for words in &REFUSED {
+        assert!(rt; is_refused(rt.alloc(), words));
+    }
+}

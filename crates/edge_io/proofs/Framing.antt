@@ -1,0 +1,282 @@
+-- The frames of an event, from the connections that were touched.
+use Rattle.std.proofs.Common.{◌≡◌, ◌≤◌, ◌<◌, ◌+◌, ◌-◌, ◌⊎◌, inl, inr, zero, suc, ℕ, Bool, true, false, nat_lt, if◌then◌else◌, List, [], ◌∷◌, ◌++◌, Option, Some, None, ◌≢◌, length, take, drop, replicate, refl, sym, ◌∙◌, ap, subst, arith, append_assoc, append-nil}
+use Rattle.std.proofs.lemmas.Bool.Decides.{nat_tests}
+use Rattle.std.proofs.lemmas.Grind.{common_steps}
+use Rattle.std.proofs.lemmas.List.{length-replicate, get_or-replicate}
+use Rattle.std.proofs.lemmas.Option.{slice_get-get_or, slice_get_past}
+use Rattle.std.specs.List.{slice_get}
+use Rattle.edge_io.specs.Frames.{Outputs, outputs, bytes_or_none, count_or_0, written, closing, each_from, each_connection, event_frame, written_between, closing_between, frames_from, frames_of, last_from, last_of, nothing}
+use Rattle.edge_io.specs.Hosts.{OthersKept}
+use Rattle.edge_io.specs.MemHosts.{IsUnused}
+use Rattle.edge_io.specs.ScriptHosts.{mark_at, marked, IsAtMark, IsOutside, AreMarked, AgreeOn, Scripting, Recorded}
+use Rattle.edge_io.specs.declared.marks.Mark.{Mark}
+use Rattle.edge_io.specs.declared.marks.Touched.{Touched}
+
+-- A list of zeros, index by index.
+zeros-at : (n i : ℕ) (b : Bool) → nat_lt i n ≡ b → slice_get (replicate n 0) i ≡ (if b then Some 0 else None)
+zeros-at n i true is =
+    let less : i < n = grind (arith, nat_tests) in
+    let size : length (replicate n 0) ≡ n = length-replicate {A = ℕ} n 0 in
+    slice_get-get_or (replicate n 0) i 0 (omega (arith, size, less)) ∙ ap Some (get_or-replicate n i 0 0 less)
+zeros-at n i false is =
+    let past : n ≤ i = grind (arith, nat_tests) in
+    let size : length (replicate n 0) ≡ n = length-replicate {A = ℕ} n 0 in
+    slice_get_past (replicate n 0) i (omega (arith, size, past))
+
+pub zeros_made : (n : ℕ) (made : List ℕ) → made ≡ replicate n 0 → (i : ℕ) → slice_get made i ≡ (if nat_lt i n then Some 0 else None)
+zeros_made n made is i = ap (λ (l : List ℕ). slice_get l i) is ∙ zeros-at n i (nat_lt i n) refl
+
+-- Texts of connections in a row.
+
+-- One more connection.
+pub each-more : (text : ℕ → List ℕ) (first count : ℕ) → each_from text first (suc count) ≡ each_from text first count ++ text (first + count)
+each-more text first zero = append-nil (text first) ∙ ap text (omega arith)
+each-more text first (suc count) =
+    let tail = each-more text (suc first) count in
+    let last : suc first + count ≡ first + suc count = omega arith in
+    ap (λ l. text first ++ l) (tail ∙ ap (λ n. each_from text (suc first) count ++ text n) last) ∙ sym (append_assoc (text first) (each_from text (suc first) count) (text (first + suc count)))
+
+-- Two rows of connections, one after the other.
+each-split : (text : ℕ → List ℕ) (first m n : ℕ) → each_from text first (m + n) ≡ each_from text first m ++ each_from text (first + m) n
+each-split text first zero n = ap (λ k. each_from text k n) (let same : first ≡ first + 0 = omega arith in same)
+each-split text first (suc m) n =
+    let here : suc first + m ≡ first + suc m = omega arith in
+    ap (λ l. text first ++ l) (each-split text (suc first) m n ∙ ap (λ k. each_from text (suc first) m ++ each_from text k n) here)
+    ∙ sym (append_assoc (text first) (each_from text (suc first) m) (each_from text (first + suc m) n))
+
+-- Connections without a text.
+each-none : (text : ℕ → List ℕ) (first count : ℕ) → ((conn : ℕ) → first ≤ conn → conn < first + count → text conn ≡ []) → each_from text first count ≡ []
+each-none text first zero none = refl
+each-none text first (suc count) none =
+    ap (λ l. l ++ each_from text (suc first) count) (none first (omega arith) (omega arith))
+    ∙ each-none text (suc first) count (λ conn low high. none conn (omega (arith, low)) (omega (arith, high)))
+
+-- Texts that are the same.
+each-same : (a b : ℕ → List ℕ) (first count : ℕ) → ((conn : ℕ) → conn < first + count → a conn ≡ b conn) → each_from a first count ≡ each_from b first count
+each-same a b first zero same = refl
+each-same a b first (suc count) same =
+    ap (λ l. l ++ each_from a (suc first) count) (same first (omega arith))
+    ∙ ap (λ l. b first ++ l) (each-same a b (suc first) count (λ conn high. same conn (omega (arith, high))))
+
+-- All connections up to a bound, of which those outside a range have no text.
+each-within : (text : ℕ → List ℕ) (first after most : ℕ) → first ≤ after → after ≤ most → ((conn : ℕ) → conn < most → (conn < first) ⊎ (after ≤ conn) → text conn ≡ [])
+    → each_from text 0 most ≡ each_from text first (after - first)
+each-within text first after most low high none =
+    let whole : most ≡ first + ((after - first) + (most - after)) = omega arith in
+    let end : first + (after - first) ≡ after = omega arith in
+    ap (λ n. each_from text 0 n) whole
+    ∙ each-split text 0 first ((after - first) + (most - after))
+    ∙ ap (λ l. l ++ each_from text first ((after - first) + (most - after))) (each-none text 0 first (λ conn p q. none conn (omega (arith, q)) (inl (omega (arith, q)))))
+    ∙ each-split text first (after - first) (most - after)
+    ∙ ap (λ l. each_from text first (after - first) ++ l) (each-none text (first + (after - first)) (most - after) (λ conn p q. none conn (omega (arith, q, end)) (inr (omega (arith, p, end)))))
+    ∙ append-nil (each_from text first (after - first))
+
+-- The same where the range may be empty, as its end may come before its start.
+pub each-touched : (text : ℕ → List ℕ) (first after most : ℕ) → after ≤ most → ((conn : ℕ) → conn < most → (conn < first) ⊎ (after ≤ conn) → text conn ≡ [])
+    → each_from text 0 most ≡ each_from text first (after - first)
+each-touched text first after most high none = by (nat_lt after first) refl
+  where
+    by : (b : Bool) → nat_lt after first ≡ b → each_from text 0 most ≡ each_from text first (after - first)
+    by true is =
+        let less : after < first = grind (arith, nat_tests) in
+        let empty : after - first ≡ 0 = omega (arith, less) in
+        each-none text 0 most (λ conn p q. none conn (omega (arith, q)) (grind (arith, less))) ∙ ap (λ n. each_from text first n) (sym empty)
+    by false is = each-within text first after most (grind (arith, nat_tests)) high none
+
+-- The same of all connections of a script.
+each_connection-touched : (text : ℕ → List ℕ) (first after : ℕ) → after ≤ 65536 → ((conn : ℕ) → conn < 65536 → (conn < first) ⊎ (after ≤ conn) → text conn ≡ [])
+    → each_connection text ≡ each_from text first (after - first)
+unfolding each_connection
+each_connection-touched text first after high none = each-touched text first after 65536 high none
+
+each_connection-same : (a b : ℕ → List ℕ) → ((conn : ℕ) → conn < 65536 → a conn ≡ b conn) → each_connection a ≡ each_connection b
+unfolding each_connection
+each_connection-same a b same = each-same a b 0 65536 (λ conn high. same conn (omega (arith, high)))
+
+-- Marks.
+
+take-all : (xs : List ℕ) (n : ℕ) → length xs ≤ n → take n xs ≡ xs
+take-all xs n long = grind (arith, common_steps)
+
+drop-all : (xs : List ℕ) (n : ℕ) → length xs ≤ n → drop n xs ≡ []
+drop-all xs n long = grind (arith, common_steps)
+
+-- What was marked of a connection at its mark is what it has taken.
+pub agrees : (now : Outputs) (marks : List Mark) (conn : ℕ) → IsAtMark now marks conn → AgreeOn (marked now marks) now conn
+agrees now marks conn is = record {
+  taken_agree = take-all (bytes_or_none (now.taken conn)) (mark_at marks conn).len is.taken_at;
+  closings_agree = sym is.closings_at;
+}
+
+-- A connection at its mark has no frame.
+written-none : (now : Outputs) (marks : List Mark) (conn : ℕ) → IsAtMark now marks conn → written_between (marked now marks) now conn ≡ []
+written-none now marks conn is =
+    let bytes = bytes_or_none (now.taken conn) in
+    let same : take (mark_at marks conn).len bytes ≡ bytes = (agrees now marks conn is).taken_agree in
+    ap (λ (l : List ℕ). written conn (drop (length l) bytes)) same ∙ ap (written conn) (drop-all bytes (length bytes) (omega arith))
+
+not-below : (a b : ℕ) → a ≡ b → nat_lt b a ≡ false
+not-below a b e = grind (arith, nat_tests)
+
+closing-none : (now : Outputs) (marks : List Mark) (conn : ℕ) → IsAtMark now marks conn → closing_between (marked now marks) now conn ≡ []
+closing-none now marks conn is = ap (closing conn) (not-below (count_or_0 (now.closings conn)) (mark_at marks conn).closings is.closings_at)
+
+-- The frames of an event are those of the connections that were touched.
+pub touched-frame : (now : Outputs) (marks : List Mark) (touched : Touched) → AreMarked now marks touched
+    → event_frame (marked now marks) now ≡ each_from (written_between (marked now marks) now) touched.first (touched.after - touched.first)
+    ++ each_from (closing_between (marked now marks) now) touched.first (touched.after - touched.first)
+touched-frame now marks touched is =
+    let before = marked now marks in
+    let first : each_connection (written_between before now) ≡ each_from (written_between before now) touched.first (touched.after - touched.first) =
+    each_connection-touched (written_between before now) touched.first touched.after is.bounded (λ conn small out. written-none now marks conn (is.others_at conn small out)) in
+    let second : each_connection (closing_between before now) ≡ each_from (closing_between before now) touched.first (touched.after - touched.first) =
+    each_connection-touched (closing_between before now) touched.first touched.after is.bounded (λ conn small out. closing-none now marks conn (is.others_at conn small out)) in
+    ap (λ l. l ++ each_connection (closing_between before now)) first
+    ∙ ap (λ l. each_from (written_between before now) touched.first (touched.after - touched.first) ++ l) second
+
+-- Frames of events in a row.
+
+-- The frames from outputs that agree on all connections of a script.
+pub same-frame : (a b after : Outputs) → ((conn : ℕ) → conn < 65536 → AgreeOn a b conn) → event_frame a after ≡ event_frame b after
+same-frame a b after agree =
+    let first : each_connection (written_between a after) ≡ each_connection (written_between b after) =
+    each_connection-same (written_between a after) (written_between b after)
+    (λ conn small. ap (λ (l : List ℕ). written conn (drop (length l) (bytes_or_none (after.taken conn)))) (agree conn small).taken_agree) in
+    let second : each_connection (closing_between a after) ≡ each_connection (closing_between b after) =
+    each_connection-same (closing_between a after) (closing_between b after)
+    (λ conn small. ap (λ n. closing conn (nat_lt n (count_or_0 (after.closings conn)))) (agree conn small).closings_agree) in
+    ap (λ l. l ++ each_connection (closing_between a after)) first ∙ ap (λ l. each_connection (written_between b after) ++ l) second
+
+-- One more event.
+frames-more : (before : Outputs) (past : List Outputs) (now : Outputs) → frames_from before (past ++ now ∷ []) ≡ frames_from before past ++ event_frame (last_from before past) now
+frames-more before [] now = append-nil (event_frame before now)
+frames-more before (after ∷ later) now =
+    ap (λ l. event_frame before after ++ l) (frames-more after later now) ∙ sym (append_assoc (event_frame before after) (frames_from after later) (event_frame (last_from after later) now))
+
+last-more : (before : Outputs) (past : List Outputs) (now : Outputs) → last_from before (past ++ now ∷ []) ≡ now
+last-more before [] now = refl
+last-more before (after ∷ later) now = last-more after later now
+
+pub frames-pushed : (past : List Outputs) (now : Outputs) → frames_of (past ++ now ∷ []) ≡ frames_of past ++ event_frame (last_of past) now
+frames-pushed past now = frames-more nothing past now
+
+pub last-pushed : (past : List Outputs) (now : Outputs) → last_of (past ++ now ∷ []) ≡ now
+last-pushed past now = last-more nothing past now
+
+-- Outputs that agree with equal ones.
+ap-agree : (a b c : Outputs) (conn : ℕ) → b ≡ c → AgreeOn a b conn → AgreeOn a c conn
+ap-agree a b c conn same is = subst (λ (o : Outputs). AgreeOn a o conn) same is
+
+-- The record of a host after one more event: the frames of that event were appended, unless memory
+-- ran out.
+pub recorded-more : (old new : Scripting) (past : List Outputs) → Recorded old past → old.starved ≤ new.starved → ((conn : ℕ) → conn < 65536 → AgreeOn new.begun old.outputs conn)
+    → (new.starved ≡ 0 → new.frames ≡ old.frames ++ event_frame old.begun old.outputs) → Recorded new (past ++ outputs old.outputs.taken old.outputs.closings ∷ [])
+recorded-more old new past is later begun frames =
+    let now = outputs old.outputs.taken old.outputs.closings in
+    record {
+      begun_is = λ conn small. ap-agree new.begun now (last_of (past ++ now ∷ [])) conn (sym (last-pushed past now)) (begun conn small);
+      frames_are = λ none.
+          frames none
+          ∙ ap (λ l. l ++ event_frame old.begun old.outputs) (is.frames_are (omega (arith, later, none)))
+          ∙ ap (λ l. frames_of past ++ l) (same-frame old.begun (last_of past) old.outputs is.begun_is)
+          ∙ sym (frames-pushed past now);
+    }
+
+-- One more connection of a row, whose text was appended.
+pub one-connection : (text : ℕ → List ℕ) (old frames new : List ℕ) (first conn : ℕ) → first ≤ conn → frames ≡ old ++ each_from text first (conn - first) → new ≡ frames ++ text conn
+    → new ≡ old ++ each_from text first (conn + 1 - first)
+one-connection text old frames new first conn low is more =
+    let count : conn + 1 - first ≡ suc (conn - first) = omega (arith, low) in
+    let here : first + (conn - first) ≡ conn = omega (arith, low) in
+    more ∙ ap (λ l. l ++ text conn) is ∙ append_assoc old (each_from text first (conn - first)) (text conn)
+    ∙ ap (λ l. old ++ l) (ap (λ k. each_from text first (conn - first) ++ text k) (sym here) ∙ sym (each-more text first (conn - first)) ∙ ap (λ n. each_from text first n) (sym count))
+
+-- What a call on one connection leaves.
+
+-- A connection whose outputs are the same is at its mark still.
+at-mark-still : (old new : Outputs) (marks : List Mark) (conn : ℕ) → new.taken conn ≡ old.taken conn → new.closings conn ≡ old.closings conn → IsAtMark old marks conn → IsAtMark new marks conn
+at-mark-still old new marks conn taken closings is = record {
+  taken_at = subst (λ (o : Option (List ℕ)). length (bytes_or_none o) ≤ (mark_at marks conn).len) (sym taken) is.taken_at;
+  closings_at = ap count_or_0 closings ∙ is.closings_at;
+}
+
+-- The connection took more bytes, or as many.
+abbrev pub Grows : Outputs → Outputs → ℕ → Type 0
+Grows old new conn = (more : List ℕ) × (bytes_or_none (new.taken conn) ≡ bytes_or_none (old.taken conn) ++ more)
+
+longer : (xs more : List ℕ) → length xs ≤ length (xs ++ more)
+longer [] more = omega arith
+longer (x ∷ xs) more = omega (arith, longer xs more)
+
+-- Where one connection was touched, and took more or was closed, the marks are right still.
+pub touched-more : (old new : Outputs) (marks : List Mark) (t u : Touched) (conn : ℕ) → AreMarked old marks t → u.after ≤ 65536 → (IsOutside u conn → 65536 ≤ conn)
+    → ((other : ℕ) → IsOutside u other → IsOutside t other) → ((other : ℕ) → Grows old new other) → OthersKept conn old.taken new.taken → OthersKept conn old.closings new.closings
+    → AreMarked new marks u
+touched-more old new marks t u conn is bounded inside wider grows taken closings = record {
+  all_marked = is.all_marked;
+  bounded = bounded;
+  within = λ c small.
+      let g = grows c in
+      omega (arith, is.within c small, ap length g.1, longer (bytes_or_none (old.taken c)) g.0);
+  others_at = λ c small out.
+      let apart : c ≢ conn = λ same. omega (arith, small, same, inside (subst (IsOutside u) same out)) in
+      at-mark-still old new marks c (taken c apart) (closings c apart) (is.others_at c small (wider c out));
+}
+
+take-longer : (n : ℕ) (xs more : List ℕ) → n ≤ length xs → take n (xs ++ more) ≡ take n xs
+take-longer n xs more low = grind (arith, common_steps)
+
+-- What was marked of a connection that took more is the same.
+pub begun-kept : (old new : Outputs) (marks : List Mark) (conn : ℕ) → Grows old new conn → (mark_at marks conn).len ≤ length (bytes_or_none (old.taken conn))
+    → AgreeOn (marked new marks) (marked old marks) conn
+begun-kept old new marks conn grows low = record {
+  taken_agree =
+      ap (λ (l : List ℕ). take (mark_at marks conn).len l) grows.1 ∙ take-longer (mark_at marks conn).len (bytes_or_none (old.taken conn)) grows.0 low;
+  closings_agree = refl;
+}
+
+-- A record stands where the marked outputs and the frames do.
+pub recorded-kept : (old new : Scripting) (past : List Outputs) → ((conn : ℕ) → conn < 65536 → AgreeOn new.begun old.begun conn) → old.starved ≤ new.starved → new.frames ≡ old.frames
+    → Recorded old past → Recorded new past
+recorded-kept old new past begun later frames is = record {
+  begun_is = λ conn small. record {
+    taken_agree = (begun conn small).taken_agree ∙ (is.begun_is conn small).taken_agree;
+    closings_agree = (begun conn small).closings_agree ∙ (is.begun_is conn small).closings_agree;
+  };
+  frames_are = λ none. frames ∙ is.frames_are (omega (arith, later, none));
+}
+
+-- A new host.
+
+abbrev pub zero-mark : Mark
+zero-mark = record { len = 0; closings = 0 }
+
+none-counted : (b : Bool) → count_or_0 (if b then Some 0 else None) ≡ 0
+none-counted true = refl
+none-counted false = refl
+
+-- Before the first event each connection is at its mark, which says that it took nothing.
+pub new-marked : (now : Outputs) (marks : List Mark) (touched : Touched) → IsUnused now → length marks ≡ 65536 → ((conn : ℕ) → mark_at marks conn ≡ zero-mark) → touched.after ≡ 0
+    → AreMarked now marks touched
+new-marked now marks touched unused all zeros none = record {
+  all_marked = all;
+  bounded = omega (arith, none);
+  within = λ conn small. let len : (mark_at marks conn).len ≡ 0 = ap (λ (m : Mark). m.len) (zeros conn) in omega (arith, len);
+  others_at = λ conn small out. record {
+    taken_at = let bytes : length (bytes_or_none (now.taken conn)) ≡ 0 = ap (λ o. length (bytes_or_none o)) (unused.untaken conn) in omega (arith, bytes);
+    closings_at = ap count_or_0 (unused.all_open conn) ∙ none-counted (nat_lt conn 65536) ∙ sym (ap (λ (m : Mark). m.closings) (zeros conn));
+  };
+}
+
+take-none : (n : ℕ) → take {A = ℕ} n [] ≡ []
+take-none n = take-all [] n (omega arith)
+
+-- Its record is empty.
+pub new-recorded : (host : Scripting) (now : Outputs) (marks : List Mark) → IsUnused now → ((conn : ℕ) → mark_at marks conn ≡ zero-mark) → host.begun ≡ marked now marks → host.frames ≡ [] → Recorded host []
+new-recorded host now marks unused zeros begun none = record {
+  begun_is = λ conn small. subst (λ (o : Outputs). AgreeOn o nothing conn) (sym begun) (record {
+    taken_agree = ap (λ o. take (mark_at marks conn).len (bytes_or_none o)) (unused.untaken conn) ∙ take-none (mark_at marks conn).len;
+    closings_agree = ap (λ (m : Mark). m.closings) (zeros conn);
+  });
+  frames_are = λ starved. none;
+}

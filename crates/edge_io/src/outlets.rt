@@ -1,0 +1,129 @@
+//! What the connections of a host in memory take.
+ghost use Rattle.std.specs.Prelude.{◌≡◌, ◌<◌, ℕ, Some, Option, OnOk, OnErr, IfOk, if◌then◌else◌, nat_lt, None, slice_get};
+ghost use Rattle.edge_io.specs.Taken.{plus};
+ghost use Rattle.edge_io.specs.Frames.{count_or_0};
+ghost use Rattle.edge_io.specs.Hosts.{OthersKept, one_more};
+ghost use Rattle.edge_io.specs.MemHosts.{IsUnused, taken_of};
+
+use arch_base::NoMemory;
+use std::alloc::Global;
+use std::collections::BTreeMap;
+use std::marker::Model;
+
+/// The number of connections whose closings are counted: those from 0 to 65,535.
+pub(crate) const CONNECTIONS: usize = 65536;
+
+/// What each connection took, and how often each was closed.
+#[derive(Drop)]
+pub(crate) struct Outlets {
+    alloc: Global,
+    taken: BTreeMap<u32, Vec<u8>>,
+    closings: Vec<u64>,
+}
+
+// A contract sees the bytes and the closings of each connection.
+impl Model for Outlets {
+    ghost use Rattle.std.specs.Prelude.{slice_get};
+    ghost use Rattle.edge_io.specs.Frames.{Outputs, outputs};
+    ghost use Rattle.edge_io.specs.MemHosts.{taken_of};
+
+    ghost Value = { Outputs };
+
+    ghost view = { λ s. outputs (taken_of s.taken) (slice_get s.closings.items) };
+}
+
+impl Outlets {
+    /// Returns the outlets of which no connection took anything, and none was closed.
+    pub(crate) fn new(alloc: Global) -> Result<Outlets, NoMemory>
+        ensures { IfOk result (λ made. IsUnused made) }
+    {
+        let closings = zeros(alloc, CONNECTIONS)?;
+        Ok(Outlets {
+            alloc,
+            taken: BTreeMap::new(alloc),
+            closings,
+        })
+    }
+
+    /// Appends bytes to those that a connection took.
+    ///
+    /// `NoMemory` leaves them unchanged.
+    pub(crate) fn push(&mut self, conn: u32, bytes: &[u8]) -> Result<(), NoMemory>
+        ensures ok { OnOk result (self.new.taken conn ≡ plus (self.old.taken conn) bytes.now) }
+        ensures err { OnErr result (self.new.taken conn ≡ self.old.taken conn) }
+        ensures others { OthersKept conn self.old.taken self.new.taken }
+        ensures closings { (other : ℕ) → self.new.closings other ≡ self.old.closings other }
+    {
+        push_to(&mut self.taken, self.alloc, conn, bytes)
+    }
+
+    /// Counts a closing of a connection. Allocates nothing.
+    pub(crate) fn close(&mut self, conn: u32)
+        ensures closed { self.new.closings conn ≡ one_more (self.old.closings conn) }
+        ensures others { OthersKept conn self.old.closings self.new.closings }
+        ensures taken { (other : ℕ) → self.new.taken other ≡ self.old.taken other }
+    {
+        let place = conn as usize;
+        if place < self.closings.len() {
+            let count = self.closings[place];
+            self.closings[place] = count.saturating_add(1);
+        }
+    }
+
+    /// Returns the bytes that a connection took.
+    pub(crate) fn taken(&self, conn: u32) -> &[u8]
+        ensures { Some result.now ≡ self.now.taken conn }
+    {
+        match self.taken.get(&conn) {
+            Some(bytes) => bytes.as_slice(),
+            None => &[],
+        }
+    }
+
+    /// Returns how often a connection was closed, or 0 if that isn't counted.
+    pub(crate) fn closings(&self, conn: u32) -> u64
+        ensures { result ≡ count_or_0 (self.now.closings conn) }
+    {
+        match self.closings.get(conn as usize) {
+            Some(count) => *count,
+            None => 0,
+        }
+    }
+}
+
+/// Returns `len` zeros.
+#[tactic(auto, using(crate::proofs::Framing::zeros_made))]
+fn zeros(alloc: Global, len: usize) -> Result<Vec<u64>, NoMemory>
+    ensures { IfOk result (λ made. (i : ℕ)
+        → slice_get made.items i ≡ (if nat_lt i len then Some 0 else None)) }
+{
+    Ok(vec![in alloc; 0u64; len]?)
+}
+
+/// Appends bytes to those that a map has for a connection.
+///
+/// `NoMemory` leaves them unchanged.
+fn push_to(
+    taken: &mut BTreeMap<u32, Vec<u8>>,
+    alloc: Global,
+    conn: u32,
+    bytes: &[u8],
+) -> Result<(), NoMemory>
+    ensures ok { OnOk result (taken_of taken.new conn ≡ plus (taken_of taken.old conn) bytes.now) }
+    ensures err { OnErr result (taken_of taken.new conn ≡ taken_of taken.old conn) }
+    ensures others { OthersKept conn (taken_of taken.old) (taken_of taken.new) }
+{
+    if let Some(held) = taken.get_mut(&conn) {
+        return match held.extend_from_slice(bytes) {
+            Ok(()) => Ok(()),
+            Err(_) => Err(NoMemory),
+        };
+    }
+    let Ok(first) = Vec::from_slice(alloc, bytes) else {
+        return Err(NoMemory);
+    };
+    match taken.insert(conn, first) {
+        Ok(_) => Ok(()),
+        Err(_) => Err(NoMemory),
+    }
+}

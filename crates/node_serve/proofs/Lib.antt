@@ -1,0 +1,5 @@
+pub mod Feeding
+pub mod Places
+pub mod Turning
+pub mod Running
+pub mod Counting

@@ -1,0 +1,255 @@
+-- Events in order.
+use Rattle.std.proofs.Common.{◌≡◌, ◌⊎◌, ◌≤◌, ◌+◌, ℕ, nat_lt, Bool, true, false, List, [], ◌∷◌, ◌++◌, length, Option, Some, None, refl, sym, ap, subst, ◌∙◌, arith, append_assoc, length-append, inl, inr, if◌then◌else◌}
+use Rattle.edge_io.specs.Hosts.{Told, then_given, before_left}
+use Rattle.edge_io.specs.Frames.{Outputs, outputs}
+use Rattle.edge_io.specs.Scripts.{Arrival}
+use Rattle.arch_base.specs.Counts.{Rose}
+use Rattle.edge_io.specs.Hosts.{NoneLeft}
+use Rattle.edge_io.specs.declared.events.Door.{Door}
+use Rattle.edge_io.specs.declared.events.Door.TheVariants as door
+use Rattle.edge_io.specs.declared.events.What.{What}
+use Rattle.edge_io.specs.declared.events.What.TheVariants as what
+use Rattle.line_door.specs.Acts.{Outside, Said, Way, Plain, Memory, Disk, Newer, StopsShort, Sent, Acts}
+use Rattle.line_door.specs.Course.{Talk, talk}
+use Rattle.arch_model.specs.Archives.{Archive}
+use Rattle.arch_model.specs.Standing.{Standing}
+use Rattle.arch_model.specs.Keeping.{Has, HasAll, Passes, Fits}
+use Rattle.arch_model.proofs.Keepers.{all-split}
+use Rattle.keep_course.specs.Courses.{afters, archives_of}
+use Rattle.keep_course.proofs.Courses.{all-own}
+use Rattle.node_serve.specs.Doors.{Held, session_limit, busy_words, memory_words, greets, said_making}
+use Rattle.node_serve.specs.Ends.{NoStop, EndsWithStop, EndsBy, is_stop, given_after, before_all}
+use Rattle.node_serve.specs.Nodes.{Serving, world_of, TurnsTo, Turns, TookOne, TookNone, RunsTo, RunsOver, ServesTo, outputs_asked}
+use Rattle.node_serve.specs.Turns.{Turn, FedAt, CameTo, TurnedBy, Turned, Served, passed_in, outputs_of, outputs_before}
+use Rattle.node_serve.specs.World.{Outer, World, outer}
+use Rattle.node_serve.specs.declared.serving.ServeEnd.{ServeEnd}
+use Rattle.node_serve.specs.declared.serving.ServeEnd.TheVariants as end
+use Rattle.node_serve.specs.declared.session.Session.{Session}
+use Rattle.node_serve.proofs.Turning.{crash-left}
+
+-- One event more.
+pub served-more : (es : List Arrival) (w : World) (ts : List Turn) (m : World) (e : Arrival) (passed : List Standing) (v : World) → Served es w ts m → Turned e m passed v → Served (es ++ e ∷ []) w (ts ++ record { passed = passed; after = v } ∷ []) v
+served-more [] w [] m e passed v run turned = (subst (λ (x : World). Turned e x passed v) run turned, refl)
+served-more [] w (t ∷ ts) m e passed v never turned = absurd never
+served-more (x ∷ es) w [] m e passed v never turned = absurd never
+served-more (x ∷ es) w (t ∷ ts) m e passed v run turned = (run.0, served-more es t.after ts m e passed v run.1 turned)
+
+-- What was given.
+pub given-more : (given : Told) (es : List Arrival) (e : Arrival) → given_after given (es ++ e ∷ []) ≡ then_given (given_after given es) e
+given-more given [] e = refl
+given-more given (x ∷ es) e = given-more (then_given given x) es e
+
+-- What was left.
+pub left-more : (es : List Arrival) (e : Arrival) (left : Told) → before_all (es ++ e ∷ []) left ≡ before_all es (before_left e left)
+left-more [] e left = refl
+left-more (x ∷ es) e left = ap (before_left x) (left-more es e left)
+
+-- And no stop among them.
+pub none-more : (es : List Arrival) (e : Arrival) → NoStop es → is_stop e.0.what ≡ false → NoStop (es ++ e ∷ [])
+none-more [] e none last = (last, tt)
+none-more (x ∷ es) e none last = (none.0, none-more es e none.1 last)
+
+-- The outputs before each.
+pub outputs-more : (es : List Arrival) (w : World) (ts : List Turn) (m : World) (t : Turn) → Served es w ts m → outputs_before w (ts ++ t ∷ []) ≡ outputs_before w ts ++ outputs_of m ∷ []
+outputs-more [] w [] m t run = ap (λ (x : World). outputs_of x ∷ []) (sym run)
+outputs-more [] w (u ∷ ts) m t never = absurd never
+outputs-more (e ∷ es) w [] m t never = absurd never
+outputs-more (e ∷ es) w (u ∷ ts) m t run = ap (λ (os : List Outputs). outputs_of w ∷ os) (outputs-more es u.after ts m t run.1)
+
+append-none : {X : Type 0} (xs : List X) → xs ++ [] ≡ xs
+append-none [] = refl
+append-none {X} (x ∷ xs) = ap (λ (ys : List X). x ∷ ys) (append-none xs)
+
+passed-more : (ts : List Turn) (t : Turn) → passed_in (ts ++ t ∷ []) ≡ passed_in ts ++ t.passed
+passed-more [] t = append-none t.passed
+passed-more (u ∷ ts) t = ap (λ (ss : List Standing). u.passed ++ ss) (passed-more ts t) ∙ sym (append_assoc u.passed (passed_in ts) t.passed)
+
+-- Nothing was taken.
+pub took-nothing : {K : Type 0} (node : Serving K) (i : Outer) (given left : Told) → TookNone node i node i given given left left
+took-nothing node i given left = record { node_kept = refl; out_kept = refl; given_kept = refl; left_kept = refl }
+
+-- The outside stays where what is told of it does.
+pub outer-same : (taken taken' : ℕ → Option (List ℕ)) (closings closings' : ℕ → Option ℕ) (disk lost lost' : ℕ) → ((c : ℕ) → taken' c ≡ taken c) → ((c : ℕ) → closings' c ≡ closings c) → lost' ≡ lost → outer taken' closings' disk lost' ≡ outer taken closings disk lost
+outer-same taken taken' closings closings' disk lost lost' t c l = λ i. record { taken = λ (n : ℕ). t n i; closings = λ (n : ℕ). c n i; disk = disk; lost = l i }
+
+-- How the archive stands after an event, if those before it and after each of its acts are told.
+
+acts-after : {H A : Type 0} (words : Way → Said H A) (x : A) (i : Outside) (held : Option H) (a : A) (j : Outside) → ((way : Way) → (words way).after ≡ x) → Acts words i held a j → a ≡ x
+acts-after words x i held a j same acts = by acts.way acts.sent
+  where
+    stops : (way : Way) → StopsShort words way i held a j → a ≡ x
+    stops Plain never = absurd never
+    stops Memory s = s.after_is ∙ same Plain
+    stops Disk s = s.after_is ∙ same Plain
+    stops Newer never = absurd never
+
+    by : (way : Way) → Sent words way i held a j → a ≡ x
+    by way (inl s) = s.after_is ∙ same way
+    by way (inr (inl s)) = s.after_is ∙ same way
+    by way (inr (inr s)) = stops way s
+
+pick-after : {H A : Type 0} (t : Bool) (x y : Said H A) (a : A) → x.after ≡ a → y.after ≡ a → (if t then x else y).after ≡ a
+pick-after true x y a p q = p
+pick-after false x y a p q = q
+
+greets-after : (at : Door) (s : Standing) → (greets at s).after ≡ s
+greets-after door.Control s = refl
+greets-after door.Http s = refl
+greets-after door.Nntp s = refl
+greets-after door.Imap s = refl
+
+making-after : (at : Door) (n : ℕ) (s : Standing) (way : Way) → (said_making at n s way).after ≡ s
+making-after at n s Plain = pick-after (nat_lt n session_limit) (greets at s) _ s (greets-after at s) refl
+making-after at n s Memory = pick-after (nat_lt n session_limit) _ _ s refl refl
+making-after at n s Disk = pick-after (nat_lt n session_limit) (greets at s) _ s (greets-after at s) refl
+making-after at n s Newer = pick-after (nat_lt n session_limit) (greets at s) _ s (greets-after at s) refl
+
+afters-last : (may : List (Option Archive)) (acts : List (Talk Held Standing)) (t : Talk Held Standing) → HasAll may (afters (acts ++ t ∷ [])) → Has may t.after
+afters-last may [] t has = has.0
+afters-last may (a ∷ acts) t has = afters-last may acts t has.1
+
+turned-has : (may : List (Option Archive)) (e : Arrival) (w : World) (passed : List Standing) (v : World) → Turned e w passed v → Has may w.standing → HasAll may passed → Has may v.standing
+turned-has may e w passed v turned now later = by e.0.what turned
+  where
+    same : v.standing ≡ w.standing → Has may v.standing
+    same is = subst (λ (s : Standing). Has may s) (sym is) now
+
+    fed : (c : ℕ) (start : Option Session) → CameTo start e.0.moment c e.1 w passed v → Has may v.standing
+    fed c None came = same came.0.standing
+    fed c (Some start) came = afters-last may came.acts (talk came.held v.standing _) (subst (λ (ss : List Standing). HasAll may ss) came.passed_is later)
+
+    by : (x : What) → TurnedBy x e.0.moment e.1 w passed v → Has may v.standing
+    by (what.Opened c at) t = same (acts-after _ w.standing _ _ v.standing _ (λ way. making-after at _ w.standing way) t.0.acts)
+    by (what.Bytes c len) t = fed c (w.session c) t
+    by (what.Ended c) t = same t.0.standing
+    by what.Quiet t = same t.0.standing
+    by what.Stop t = same t.0.standing
+
+served-has : (may : List (Option Archive)) (es : List Arrival) (w : World) (ts : List Turn) (v : World) → Served es w ts v → Has may w.standing → HasAll may (passed_in ts) → Has may v.standing
+served-has may [] w [] v run now later = subst (λ (x : World). Has may x.standing) (sym run) now
+served-has may [] w (t ∷ ts) v never now later = absurd never
+served-has may (e ∷ es) w [] v never now later = absurd never
+served-has may (e ∷ es) w (t ∷ ts) v run now later =
+    let parts = all-split may t.passed (passed_in ts) later in
+    served-has may es t.after ts v run.1 (turned-has may e w t.passed t.after run.0 now parts.0) parts.1
+
+module _ {K : Type 0} (holds : K → Archive → Type 0) (ready : K → Bool) (leaves : K → K → List (Option Archive) → Type 0) where
+  -- Before the first event.
+  pub runs-none : (s : Standing) (node : Serving K) (i : Outer) → Fits holds ready leaves node.keep s → RunsTo holds ready leaves [] s node i node i
+  runs-none s node i fits = record {
+    after = s;
+    fits = fits;
+    turns = [];
+    served = refl;
+    passes = λ start may has since. since;
+    crash = crash-left holds ready leaves node.keep node.keep s [] fits (λ start may has since. since);
+  }
+
+  -- One event more.
+  pub runs-more : (es : List Arrival) (e : Arrival) (s : Standing) (old mid new : Serving K) (i j k : Outer) → Fits holds ready leaves old.keep s → (run : RunsTo holds ready leaves es s old i mid j) → TurnsTo holds ready leaves e run.after mid j new k
+      → RunsTo holds ready leaves (es ++ e ∷ []) s old i new k
+  runs-more es e s old mid new i j k fits run turn =
+      let last : Turn = record { passed = turn.passed; after = world_of turn.after new.places k } in
+      let ts = run.turns ++ last ∷ [] in
+      let passes : Passes leaves old.keep new.keep (s ∷ passed_in ts) = λ start may has since.
+      let parts = all-split may (passed_in run.turns) turn.passed (subst (λ (ss : List Standing). HasAll may ss) (passed-more run.turns last) has.1) in
+      turn.passes start may (served-has may es (world_of s old.places i) run.turns (world_of run.after mid.places j) run.served has.0 parts.0, parts.1) (run.passes start may (has.0, parts.0) since) in
+      record {
+        after = turn.after;
+        fits = turn.fits;
+        turns = ts;
+        served = served-more es (world_of s old.places i) run.turns (world_of run.after mid.places j) e turn.passed (world_of turn.after new.places k) run.served turn.turned;
+        passes = passes;
+        crash = crash-left holds ready leaves old.keep new.keep s (passed_in ts) fits passes;
+      }
+
+  -- So many events were taken, and none of them was a stop.
+  pub record SoFar (n : ℕ) (old : Serving K) (i : Outer) (new : Serving K) (j : Outer) (given given' left left' : Told) (recorded recorded' : List Outputs → Type 0) : Type 0 where
+    pub arrivals : List Arrival
+    pub given_is : given' ≡ given_after given arrivals
+    pub left_is : left ≡ before_all arrivals left'
+    pub count : length arrivals ≡ n
+    pub none : NoStop arrivals
+    pub runs : (s : Standing) → Fits holds ready leaves old.keep s → RunsOver holds ready leaves recorded recorded' false arrivals s old i new j
+
+  pub sofar-none : (node : Serving K) (i : Outer) (given left : Told) (recorded : List Outputs → Type 0) → SoFar 0 node i node i given given left left recorded recorded
+  sofar-none node i given left recorded = record {
+    arrivals = [];
+    given_is = refl;
+    left_is = refl;
+    count = refl;
+    none = tt;
+    runs = λ s fits. record { runs = runs-none s node i fits; records = λ past noted. subst (λ (os : List Outputs). recorded os) (sym (append-none past)) noted };
+  }
+
+  -- One event more: what it does, and what the host noted before it.
+  over-more : (es : List Arrival) (s : Standing) (old mid new : Serving K) (i j k : Outer) (given' given'' left' left'' : Told) (recorded recorded' recorded'' : List Outputs → Type 0) (stops : Bool) → Fits holds ready leaves old.keep s → RunsOver holds ready leaves recorded recorded' false es s old i mid j
+      → (took : TookOne holds ready leaves mid j new k given' given'' left' left'' recorded' recorded'' stops) → RunsOver holds ready leaves recorded recorded'' false (es ++ took.arrival ∷ []) s old i new k
+  over-more es s old mid new i j k given' given'' left' left'' recorded recorded' recorded'' stops fits over took =
+      let turn = took.turns over.runs.after over.runs.fits in
+      let runs = runs-more es took.arrival s old mid new i j k fits over.runs turn in
+      record {
+        runs = runs;
+        records = λ past noted.
+            let before = outputs_before (world_of s old.places i) over.runs.turns in
+            let more = outputs-more es (world_of s old.places i) over.runs.turns (world_of over.runs.after mid.places j) (record { passed = turn.passed; after = world_of turn.after new.places k }) over.runs.served in
+            let joined = took.records (past ++ before) (over.records past noted) in
+            subst (λ (os : List Outputs). recorded'' os) (append_assoc past before (outputs j.taken j.closings ∷ []) ∙ ap (λ (os : List Outputs). past ++ os) (sym more)) joined;
+      }
+
+  pub sofar-more : (n : ℕ) (old mid new : Serving K) (i j k : Outer) (given given' given'' left left' left'' : Told) (recorded recorded' recorded'' : List Outputs → Type 0) → SoFar n old i mid j given given' left left' recorded recorded' → TookOne holds ready leaves mid j new k given' given'' left' left'' recorded' recorded'' false
+      → SoFar (n + 1) old i new k given given'' left left'' recorded recorded''
+  sofar-more n old mid new i j k given given' given'' left left' left'' recorded recorded' recorded'' far took = record {
+    arrivals = far.arrivals ++ took.arrival ∷ [];
+    given_is = took.given_is ∙ ap (λ (g : Told). then_given g took.arrival) far.given_is ∙ sym (given-more given far.arrivals took.arrival);
+    left_is = far.left_is ∙ ap (before_all far.arrivals) took.left_is ∙ sym (left-more far.arrivals took.arrival left'');
+    count = let len = length-append far.arrivals (took.arrival ∷ []) in omega (arith, len, far.count);
+    none = none-more far.arrivals took.arrival far.none took.stop_is;
+    runs = λ s fits. over-more far.arrivals s old mid new i j k given' given'' left' left'' recorded recorded' recorded'' false fits (far.runs s fits) took;
+  }
+
+  -- The ends.
+
+  pub ends-stopped : (n turns : ℕ) (old mid new : Serving K) (i j k : Outer) (given given' given'' left left' left'' : Told) (faults faults' : ℕ) (recorded recorded' recorded'' : List Outputs → Type 0) → SoFar n old i mid j given given' left left' recorded recorded' → TookOne holds ready leaves mid j new k given' given'' left' left'' recorded' recorded'' true
+      → ServesTo holds ready leaves end.Stopped turns old i new k given given'' left left'' faults faults' recorded recorded''
+  ends-stopped n turns old mid new i j k given given' given'' left left' left'' faults faults' recorded recorded' recorded'' far took = record {
+    arrivals = far.arrivals ++ took.arrival ∷ [];
+    given_is = took.given_is ∙ ap (λ (g : Told). then_given g took.arrival) far.given_is ∙ sym (given-more given far.arrivals took.arrival);
+    left_is = far.left_is ∙ ap (before_all far.arrivals) took.left_is ∙ sym (left-more far.arrivals took.arrival left'');
+    none = false;
+    ends = record { before = far.arrivals; last = took.arrival; none = far.none; stops = took.stop_is; are = refl };
+    runs = λ s fits. over-more far.arrivals s old mid new i j k given' given'' left' left'' recorded recorded' recorded'' true fits (far.runs s fits) took;
+  }
+
+  pub ends-none : (n turns : ℕ) (old mid new : Serving K) (i j k : Outer) (given given' given'' left left' left'' : Told) (faults faults' : ℕ) (recorded recorded' recorded'' : List Outputs → Type 0) → SoFar n old i mid j given given' left left' recorded recorded' → TookNone mid j new k given' given'' left' left'' → NoneLeft left''
+      → ((past : List Outputs) → recorded' past → recorded'' (past ++ outputs j.taken j.closings ∷ [])) → ServesTo holds ready leaves end.Stopped turns old i new k given given'' left left'' faults faults' recorded recorded''
+  ends-none n turns old mid new i j k given given' given'' left left' left'' faults faults' recorded recorded' recorded'' far took none noted = record {
+    arrivals = far.arrivals;
+    given_is = took.given_kept ∙ far.given_is;
+    left_is = far.left_is ∙ ap (before_all far.arrivals) (sym took.left_kept);
+    none = true;
+    ends = (far.none, none);
+    runs = λ s fits.
+        let over = far.runs s fits in
+        subst (λ (node : Serving K). RunsOver holds ready leaves recorded recorded'' true far.arrivals s old i node k) (sym took.node_kept) (subst (λ (o : Outer). RunsOver holds ready leaves recorded recorded'' true far.arrivals s old i mid o) (sym took.out_kept) (record {
+          runs = over.runs;
+          records = λ past is. let before = outputs_before (world_of s old.places i) over.runs.turns in subst (λ (os : List Outputs). recorded'' os) (append_assoc past before (outputs j.taken j.closings ∷ [])) (noted (past ++ before) (over.records past is));
+        }));
+  }
+
+  -- The host failed, or enough was taken.
+  pub ends-early : (how : ServeEnd) (n turns : ℕ) (old mid new : Serving K) (i j k : Outer) (given given' given'' left left' left'' : Told) (faults faults' : ℕ) (recorded recorded' recorded'' : List Outputs → Type 0) → (far : SoFar n old i mid j given given' left left' recorded recorded') → TookNone mid j new k given' given''
+      → ((past : List Outputs) → recorded' past → recorded'' past) → EndsBy how false far.arrivals turns left'' faults faults' → ServesTo holds ready leaves how turns old i new k given given'' left left'' faults faults' recorded recorded''
+  ends-early how n turns old mid new i j k given given' given'' left left' left'' faults faults' recorded recorded' recorded'' far took noted ends = record {
+    arrivals = far.arrivals;
+    given_is = took.given_kept ∙ far.given_is;
+    left_is = far.left_is ∙ ap (before_all far.arrivals) (sym took.left_kept);
+    none = false;
+    ends = ends;
+    runs = λ s fits.
+        let over = far.runs s fits in
+        subst (λ (node : Serving K). RunsOver holds ready leaves recorded recorded'' false far.arrivals s old i node k) (sym took.node_kept) (subst (λ (o : Outer). RunsOver holds ready leaves recorded recorded'' false far.arrivals s old i mid o) (sym took.out_kept) (record {
+          runs = over.runs;
+          records = λ past is. noted _ (over.records past is);
+        }));
+  }

@@ -1,0 +1,248 @@
+-- What one event makes of a world.
+use Rattle.std.proofs.Common.{◌≡◌, ◌≤◌, ◌<◌, ◌+◌, ◌-◌, ℕ, Bool, true, false, nat_lt, List, [], ◌∷◌, ◌++◌, Option, Some, None, is_some, Result, refl, sym, ap, subst, ◌∙◌, arith, inl, inr, if◌then◌else◌}
+use Rattle.std.proofs.lemmas.Bool.{false≢true}
+use Rattle.std.proofs.lemmas.Bool.Decides.{nat_tests}
+use Rattle.edge_io.specs.Hosts.{OthersKept, one_more}
+use Rattle.edge_io.specs.Phrases.{Says}
+use Rattle.edge_io.specs.Scripts.{Arrival}
+use Rattle.edge_io.specs.declared.events.Door.{Door}
+use Rattle.edge_io.specs.declared.events.Door.TheVariants as door
+use Rattle.edge_io.specs.declared.events.What.TheVariants as what
+use Rattle.line_door.specs.Acts.{Outside, Said, Way, Plain, Memory, Disk, Newer, SaidWhole, SaidLost, SaidShort, StopsShort, Sent, Acts, held_if, outside}
+use Rattle.line_door.specs.Course.{Talk, talk}
+use Rattle.line_door.specs.Making.{says, closes}
+use Rattle.line_door.specs.Over.{held_over, said_over}
+use Rattle.line_door.proofs.Acting.{acts-closing, acts-silent}
+use Rattle.line_door.proofs.Lifting.{acts-over}
+use Rattle.arch_model.specs.Archives.{Archive}
+use Rattle.arch_model.specs.Standing.{Standing, standing}
+use Rattle.arch_model.specs.Keeping.{Passes, Fits}
+use Rattle.keep_course.specs.Courses.{afters, archives_of}
+use Rattle.keep_course.proofs.Courses.{all-own}
+use Rattle.nntp_reader.specs.Door.{Reader, new_reader, greeting}
+use Rattle.nntp_reader.specs.Notices.{notice_line}
+use Rattle.nntp_reader.specs.declared.notice.Notice.TheVariants as notice
+use Rattle.node_serve.specs.Doors.{Held, Came, rest_if, said, is_asked, session_limit, busy_words, memory_words, greets, made, unmade, said_making}
+use Rattle.node_serve.specs.Nodes.{Places, Serving, serving, world_of, Refused, Makes, Ends, IsPlaced, IsPut, FedFrom, TurnsTo}
+use Rattle.node_serve.specs.Turns.{FedAt, CameTo, TurnedBy, Turned}
+use Rattle.node_serve.specs.World.{Outer, World, ActAt, Around, Same, EndedAt, others_open, outside_at, one_if, closed_if}
+use Rattle.node_serve.specs.declared.session.Session.{Session}
+use Rattle.node_serve.specs.declared.session.Session.TheVariants as session
+
+-- How many others are open, where a connection has no session.
+others-none : (c : ℕ) (s : Standing) (p : Places) (o : Outer) → p.session c ≡ None → others_open c (world_of s p o) ≡ p.count
+others-none c s p o none = let zero : one_if (p.session c) ≡ 0 = ap (λ (x : Option Session). one_if x) none in omega (arith, zero)
+
+-- The making of a session, by how many others are open.
+
+made-few : (at : Door) (n : ℕ) (s : Standing) → n < session_limit → made at n s ≡ greets at s
+made-few at n s few = let test : nat_lt n session_limit ≡ true = grind (arith, nat_tests, few) in ap (λ (t : Bool). if t then greets at s else closes s (busy_words at)) test
+
+made-busy : (at : Door) (n : ℕ) (s : Standing) → session_limit ≤ n → made at n s ≡ closes s (busy_words at)
+made-busy at n s full = let test : nat_lt n session_limit ≡ false = grind (arith, nat_tests, full) in ap (λ (t : Bool). if t then greets at s else closes s (busy_words at)) test
+
+unmade-few : (at : Door) (n : ℕ) (s : Standing) → n < session_limit → unmade at n s ≡ closes s (memory_words at)
+unmade-few at n s few = let test : nat_lt n session_limit ≡ true = grind (arith, nat_tests, few) in ap (λ (t : Bool). if t then closes s (memory_words at) else closes s (busy_words at)) test
+
+-- All around a connection that was refused.
+around-refused : (c : ℕ) (words : List ℕ) (s : Standing) (p : Places) (i j : Outer) → p.session c ≡ None → Refused c words i j → Around c (world_of s p i) (world_of s p j)
+around-refused c words s p i j none refused = record {
+  sessions = λ d other. refl;
+  taken = refused.taken;
+  closings = refused.closings;
+  closed = refused.closed ∙ sym (ap (λ (x : Option Session). closed_if x (i.closings c)) none);
+  count = refl;
+}
+
+-- The acts of a refusal are those of the making.
+refusing : (at : Door) (words : List ℕ) (c : ℕ) (p : Places) (i j : Outer) → p.session c ≡ None → Refused c words i j → ((s : Standing) → Acts (said_making at p.count s) (outside_at c i) None s (outside_at c j)) → Makes at c p i p j
+refusing at words c p i j none refused acts = λ s. record {
+  acts = subst (λ (n : ℕ). Acts (said_making at n s) (outside_at c i) (p.session c) s (outside_at c j)) (sym (others-none c s p i none))
+      (subst (λ (x : Option Session). Acts (said_making at p.count s) (outside_at c i) x s (outside_at c j)) (sym none) (acts s));
+  around = around-refused c words s p i j none refused;
+}
+
+-- A server that is full refuses.
+pub makes-busy : (at : Door) (c : ℕ) (p : Places) (i j : Outer) → p.session c ≡ None → session_limit ≤ p.count → Refused c (busy_words at) i j → Makes at c p i p j
+makes-busy at c p i j none full refused = refusing at (busy_words at) c p i j none refused (λ s.
+    acts-closing (said_making at p.count s) Plain (closes s (busy_words at)) (outside_at c i) (outside_at c j) s refused.sent (made-busy at p.count s full) refl refused.disk (omega (arith, refused.disk)) refused.said refl)
+
+-- So does one without memory.
+pub makes-starved : (at : Door) (c : ℕ) (p : Places) (i j : Outer) → p.session c ≡ None → p.count < session_limit → Refused c (memory_words at) i j → Makes at c p i p j
+makes-starved at c p i j none few refused = refusing at (memory_words at) c p i j none refused (λ s.
+    acts-closing (said_making at p.count s) Memory (closes s (memory_words at)) (outside_at c i) (outside_at c j) s refused.sent (unmade-few at p.count s few) refl refused.disk (omega (arith, refused.disk)) refused.said refl)
+
+-- And a door that isn't built.
+pub makes-unbuilt : (at : Door) (c : ℕ) (p : Places) (i j : Outer) → ((s : Standing) → greets at s ≡ closes s (busy_words at)) → p.session c ≡ None → p.count < session_limit → Refused c (busy_words at) i j → Makes at c p i p j
+makes-unbuilt at c p i j unbuilt none few refused = refusing at (busy_words at) c p i j none refused (λ s.
+    acts-closing (said_making at p.count s) Plain (closes s (busy_words at)) (outside_at c i) (outside_at c j) s refused.sent (made-few at p.count s few ∙ unbuilt s) refl refused.disk (omega (arith, refused.disk)) refused.said refl)
+
+-- All around a connection that got a session.
+around-placed : (c : ℕ) (start : Session) (s : Standing) (p q : Places) (i j : Outer) → p.session c ≡ None → q.session c ≡ Some start → OthersKept c p.session q.session → q.count ≡ p.count + 1 → OthersKept c i.taken j.taken → ((d : ℕ) → j.closings d ≡ i.closings d)
+    → Around c (world_of s p i) (world_of s q j)
+around-placed c start s p q i j none some others count taken closings =
+    let zero : one_if (p.session c) ≡ 0 = ap (λ (x : Option Session). one_if x) none in
+    let one : one_if (q.session c) ≡ 1 = ap (λ (x : Option Session). one_if x) some in
+    record {
+      sessions = others;
+      taken = taken;
+      closings = λ d other. closings d;
+      closed = closings c ∙ sym (ap (λ (x : Option Session). closed_if x (i.closings c)) some);
+      count = omega (arith, count, zero, one);
+    }
+
+-- The control door makes its session without a word.
+pub makes-control : (c : ℕ) (p q : Places) (i : Outer) → IsPlaced c p q → q.session c ≡ Some (session.Control []) → p.count < session_limit → Makes door.Control c p i q i
+makes-control c p q i placed some few = λ s. record {
+  acts = subst (λ (n : ℕ). Acts (said_making door.Control n s) (outside_at c i) (q.session c) s (outside_at c i)) (sym (others-none c s p i placed.none))
+      (acts-silent (said_making door.Control p.count s) (greets door.Control s) (outside_at c i) (outside_at c i) (q.session c) s (made-few door.Control p.count s few) refl refl refl refl some refl);
+  around = around-placed c (session.Control []) s p q i i placed.none some placed.others placed.count (λ d other. refl) (λ d. refl);
+}
+
+-- An act that says the same in each way is one by the rules, where the disk's count stayed.
+acts-any : {H A : Type 0} (words other : Way → Said H A) (x : Said H A) (i : Outside) (held : Option H) (a : A) (j : Outside) → ((way : Way) → words way ≡ x) → x.streamed ≡ false → other Plain ≡ x → j.disk ≡ i.disk → Acts words i held a j → Acts other i held a j
+acts-any {H} {A} words other x i held a j same whole plain kept acts = record { way = Plain; cause = kept; disk_later = acts.disk_later; lost_later = acts.lost_later; sent = by acts.way acts.sent }
+  where
+    short : SaidShort (words Plain) i held a j → ⊥
+    short s = false≢true (sym whole ∙ ap (λ (y : Said H A). y.streamed) (sym (same Plain)) ∙ s.streamed)
+
+    stops : (way : Way) → StopsShort words way i held a j → ⊥
+    stops Plain never = never
+    stops Memory s = short s
+    stops Disk s = short s
+    stops Newer never = never
+
+    by : (way : Way) → Sent words way i held a j → Sent other Plain i held a j
+    by way (inl s) = inl (subst (λ (y : Said H A). SaidWhole y i held a j) (same way ∙ sym plain) s)
+    by way (inr (inl s)) = inr (inl (subst (λ (y : Said H A). SaidLost y i held a j) (same way ∙ sym plain) s))
+    by way (inr (inr s)) = absurd (stops way s)
+
+-- The greeting of a reader is the making of its session.
+greeting-made : (n : ℕ) (s : Standing) (i j : Outside) (held : Option Reader) → n < session_limit → j.disk ≡ i.disk → Acts (greeting s.archive) i held s.archive j → Acts (said_making door.Nntp n s) i (held_over session.News held) s j
+greeting-made n s i j held few kept acts =
+    let lifted = acts-over (λ (x : Archive). s) session.News (greeting s.archive) (λ (way : Way). said_over (λ (x : Archive). s) session.News (greeting s.archive way)) i held s.archive j (λ way. refl) acts in
+    acts-any (λ (way : Way). said_over (λ (x : Archive). s) session.News (greeting s.archive way)) (said_making door.Nntp n s) (says s (session.News new_reader) (notice_line notice.Welcome)) i (held_over session.News held) s j (λ way. refl) refl (made-few door.Nntp n s few) kept lifted
+
+-- A reader's session was made, and its greeting was sent.
+pub makes-news : (c : ℕ) (p q r : Places) (i j : Outer) (reader : Reader) → IsPlaced c p q → IsPut c (session.News reader) q r → p.count < session_limit → j.disk ≡ i.disk
+    → ((a : Archive) → Acts (greeting a) (outside_at c i) (Some reader) a (outside_at c j)) → OthersKept c i.taken j.taken → ((d : ℕ) → j.closings d ≡ i.closings d) → Makes door.Nntp c p i r j
+makes-news c p q r i j reader placed put few kept acts taken closings = λ s. record {
+  acts = subst (λ (n : ℕ). Acts (said_making door.Nntp n s) (outside_at c i) (r.session c) s (outside_at c j)) (sym (others-none c s p i placed.none))
+      (subst (λ (x : Option Session). Acts (said_making door.Nntp p.count s) (outside_at c i) x s (outside_at c j)) (sym put.here) (greeting-made p.count s (outside_at c i) (outside_at c j) (Some reader) few kept (acts s.archive)));
+  around = around-placed c (session.News reader) s p r i j placed.none put.here (λ d other. put.others d other ∙ placed.others d other) (put.count ∙ placed.count) taken closings;
+}
+
+-- Its greeting was lost, and it ended.
+pub makes-lost : (c : ℕ) (p q r : Places) (i j k : Outer) → IsPlaced c p q → Ends c q r → p.count < session_limit → j.disk ≡ i.disk → k.disk ≡ j.disk → k.lost ≡ j.lost → ((d : ℕ) → k.taken d ≡ j.taken d)
+    → ((a : Archive) → Acts (greeting a) (outside_at c i) None a (outside_at c j)) → OthersKept c i.taken j.taken → ((d : ℕ) → j.closings d ≡ i.closings d) → OthersKept c j.closings k.closings → k.closings c ≡ one_more (j.closings c) → Makes door.Nntp c p i r k
+makes-lost c p q r i j k placed ends few kept disk lost same acts taken closings others closed = λ s.
+    let ended = ends s i in
+    let zero : one_if (p.session c) ≡ 0 = ap (λ (x : Option Session). one_if x) placed.none in
+    let one : one_if (q.session c) ≡ 1 = ap (λ (x : Option Session). one_if x) placed.some in
+    let none : one_if (r.session c) ≡ 0 = ap (λ (x : Option Session). one_if x) ended.gone in
+    let out : outside_at c j ≡ outside_at c k = λ e. record { out = sym (same c) e; disk = sym disk e; lost = sym lost e } in
+    let said = greeting-made p.count s (outside_at c i) (outside_at c j) None few kept (acts s.archive) in
+    let here = subst (λ (o : Outside). Acts (said_making door.Nntp p.count s) (outside_at c i) None s o) out said in
+    record {
+      acts = subst (λ (n : ℕ). Acts (said_making door.Nntp n s) (outside_at c i) (r.session c) s (outside_at c k)) (sym (others-none c s p i placed.none))
+          (subst (λ (x : Option Session). Acts (said_making door.Nntp p.count s) (outside_at c i) x s (outside_at c k)) (sym ended.gone) here);
+      around = record {
+        sessions = λ d other. ended.sessions d other ∙ placed.others d other;
+        taken = λ d other. same d ∙ taken d other;
+        closings = λ d other. others d other ∙ closings d;
+        closed = closed ∙ ap one_more (closings c) ∙ sym (ap (λ (x : Option Session). closed_if x (i.closings c)) ended.gone);
+        count = omega (arith, ended.count, placed.count, zero, one, none);
+      };
+    }
+
+-- An open session of the connection ended first.
+pub makes-after : (at : Door) (c : ℕ) (p q r : Places) (i j : Outer) → Ends c p q → Makes at c q i r j → Makes at c p i r j
+makes-after at c p q r i j ends makes = λ s.
+    let ended = ends s i in
+    let act = makes s in
+    let zero : one_if (q.session c) ≡ 0 = ap (λ (x : Option Session). one_if x) ended.gone in
+    let others : others_open c (world_of s q i) ≡ others_open c (world_of s p i) = omega (arith, ended.count, zero) in
+    record {
+      acts = subst (λ (n : ℕ). Acts (said_making at n s) (outside_at c i) (r.session c) s (outside_at c j)) others act.acts;
+      around = record {
+        sessions = λ d other. act.around.sessions d other ∙ ended.sessions d other;
+        taken = act.around.taken;
+        closings = act.around.closings;
+        closed = act.around.closed;
+        count = omega (arith, ended.count, act.around.count, zero);
+      };
+    }
+
+-- Turns.
+module _ {K : Type 0} (holds : K → Archive → Type 0) (ready : K → Bool) (leaves : K → K → List (Option Archive) → Type 0) where
+  pub crash-left : (old new : K) (s : Standing) (passed : List Standing) → Fits holds ready leaves old s → Passes leaves old new (s ∷ passed) → leaves old new (archives_of (s ∷ passed))
+  crash-left old new s passed fits passes = let own = all-own (s ∷ passed) in passes old (archives_of (s ∷ passed)) own (fits.left (archives_of (s ∷ passed)) own.0)
+
+  -- A turn that leaves the keeper.
+  pub turns-still : (arrival : Arrival) (s : Standing) (k : K) (p q : Places) (i j : Outer) → Fits holds ready leaves k s → Turned arrival (world_of s p i) [] (world_of s q j) → TurnsTo holds ready leaves arrival s (serving k p) i (serving k q) j
+  turns-still arrival s k p q i j fits turned = record {
+    after = s;
+    fits = fits;
+    passed = [];
+    turned = turned;
+    passes = λ start may has since. since;
+    crash = crash-left k k s [] fits (λ start may has since. since);
+  }
+
+  -- Nothing happened.
+  pub same-world : (s : Standing) (p : Places) (i : Outer) → Same (world_of s p i) (world_of s p i)
+  same-world s p i = record { standing = refl; sessions = λ c. refl; count = refl; out = refl }
+
+  -- A session took a piece.
+  pub turns-fed : (moment c len : ℕ) (piece : List ℕ) (start : Session) (s : Standing) (old new : K) (p q : Places) (i j : Outer) (goes_on : Bool) (left : Session) → p.session c ≡ Some start → q.session c ≡ held_if goes_on left
+      → FedFrom holds ready leaves moment (Came start piece) s old (outside_at c i) goes_on left new (outside_at c j) → ((t : Standing) → Around c (world_of s p i) (world_of t q j)) → Fits holds ready leaves old s
+      → TurnsTo holds ready leaves (record { moment = moment; what = what.Bytes c len }, piece) s (serving old p) i (serving new q) j
+  turns-fed moment c len piece start s old new p q i j goes_on left here kept fed around fits =
+      let passed = afters (fed.course.acts ++ talk fed.held fed.after (outside_at c j) ∷ []) in
+      let at : FedAt moment c start piece (world_of s p i) passed (world_of fed.after q j) = record {
+        held = fed.held;
+        acts = fed.course.acts;
+        before = fed.course.before;
+        each = fed.course.each;
+        last = fed.course.last;
+        rest_is = kept ∙ fed.rest_is;
+        around = around fed.after;
+        passed_is = refl;
+      } in
+      record {
+        after = fed.after;
+        fits = fed.fits;
+        passed = passed;
+        turned = subst (λ (x : Option Session). CameTo x moment c piece (world_of s p i) passed (world_of fed.after q j)) (sym here) at;
+        passes = fed.course.left;
+        crash = crash-left old new s passed fits fed.course.left;
+      }
+
+-- All around a session that goes on.
+pub around-went : (c : ℕ) (start left : Session) (s t : Standing) (p q : Places) (i j : Outer) → p.session c ≡ Some start → IsPut c left p q → OthersKept c i.taken j.taken → ((d : ℕ) → j.closings d ≡ i.closings d) → Around c (world_of s p i) (world_of t q j)
+around-went c start left s t p q i j here put taken closings =
+    let one : one_if (p.session c) ≡ 1 = ap (λ (x : Option Session). one_if x) here in
+    let still : one_if (q.session c) ≡ 1 = ap (λ (x : Option Session). one_if x) put.here in
+    record {
+      sessions = put.others;
+      taken = taken;
+      closings = λ d other. closings d;
+      closed = closings c ∙ sym (ap (λ (x : Option Session). closed_if x (i.closings c)) put.here);
+      count = omega (arith, put.count, one, still);
+    }
+
+-- All around one that ended.
+pub around-shut : (c : ℕ) (start left : Session) (s t : Standing) (p q r : Places) (i j k : Outer) → p.session c ≡ Some start → IsPut c left p q → Ends c q r → OthersKept c i.taken j.taken → ((d : ℕ) → j.closings d ≡ i.closings d) → ((d : ℕ) → k.taken d ≡ j.taken d) → OthersKept c j.closings k.closings
+    → k.closings c ≡ one_more (j.closings c) → Around c (world_of s p i) (world_of t r k)
+around-shut c start left s t p q r i j k here put ends taken closings same others closed =
+    let ended = ends s i in
+    let one : one_if (p.session c) ≡ 1 = ap (λ (x : Option Session). one_if x) here in
+    let still : one_if (q.session c) ≡ 1 = ap (λ (x : Option Session). one_if x) put.here in
+    let none : one_if (r.session c) ≡ 0 = ap (λ (x : Option Session). one_if x) ended.gone in
+    record {
+      sessions = λ d other. ended.sessions d other ∙ put.others d other;
+      taken = λ d other. same d ∙ taken d other;
+      closings = λ d other. others d other ∙ closings d;
+      closed = closed ∙ ap one_more (closings c) ∙ sym (ap (λ (x : Option Session). closed_if x (i.closings c)) ended.gone);
+      count = omega (arith, ended.count, put.count, one, still, none);
+    }

@@ -1,0 +1,15 @@
+use Rattle.std.proofs.Common.{◌≡◌, ◌≤◌, length}
+use Rattle.node_serve.specs.World.{outer}
+use Rattle.node_serve.proofs.Running.{SoFar}
+use Rattle.node_serve.proofs.serving.serve.Given as goal
+
+abbrev pub invariant-loop-turn : goal.invariant-loop-turn
+invariant-loop-turn g l = record {
+  far :
+      SoFar g.K.Shelf.holds g.K.Shelf.ready g.K.Keep.leaves l._turn l.fn.node
+      (outer (g.H.Host.taken l.fn.host) (g.H.Host.closings l.fn.host) (g.K.Shelf.faults l.fn.node.keep) (g.H.Host.lost l.fn.host)) l.node
+      (outer (g.H.Host.taken l.host) (g.H.Host.closings l.host) (g.K.Shelf.faults l.node.keep) (g.H.Host.lost l.host))
+      (g.H.Host.given l.fn.host) (g.H.Host.given l.host) (g.H.Host.left l.fn.host) (g.H.Host.left l.host) (g.H.Host.recorded l.fn.host) (g.H.Host.recorded l.host);
+  later : g.H.Host.faults l.fn.host ≤ g.H.Host.faults l.host;
+  room : 1048576 ≤ length l.buffer.items;
+}

@@ -1,0 +1,105 @@
+-- All doors as one: the sessions of a server, and what each act of one says.
+use Rattle.std.specs.Prelude.{ℕ, Bool, true, nat_lt, List, [], ◌++◌, Option, Some, None, if◌then◌else◌}
+use Rattle.edge_io.specs.declared.events.Door.{Door}
+use Rattle.edge_io.specs.declared.events.Door.TheVariants as door
+use Rattle.line_door.specs.Acts.{Said, Way}
+use Rattle.line_door.specs.Making.{says, closes, in_ways}
+use Rattle.line_door.specs.Over.{said_over}
+use Rattle.arch_model.specs.Archives.{Archive}
+use Rattle.arch_model.specs.Standing.{Standing, standing}
+use Rattle.arch_model.specs.declared.opening.OpenRefusal.{OpenRefusal}
+use Rattle.answer_lines.specs.Lines as lines
+use Rattle.keep_course.specs.Answering.{said_reopening}
+use Rattle.control_door.specs.Door as control
+use Rattle.control_door.specs.Door.{Waiting, waiting}
+use Rattle.nntp_reader.specs.Door as news
+use Rattle.nntp_reader.specs.Door.{Reader, new_reader}
+use Rattle.nntp_reader.specs.Notices.{notice_line, memory_line, busy_line, unopened_line}
+use Rattle.nntp_reader.specs.declared.notice.Notice.TheVariants as notice
+use Rattle.node_serve.specs.declared.session.Session.{Session}
+use Rattle.node_serve.specs.declared.session.Session.TheVariants as session
+
+-- A session at work on a piece. The archive has yet to be reopened before the piece, or the door's
+-- acts are under way.
+pub data Held : Type 0 where
+  Came : Session → List ℕ → Held
+  AtControl : Waiting → Held
+  AtNews : Reader → Held
+
+-- The session with a piece after its bytes, once the archive was reopened.
+abbrev pub with_piece : Session → List ℕ → Held
+with_piece (session.Control bytes) piece = AtControl (waiting (bytes ++ piece) true)
+with_piece (session.News reader) piece = AtNews (news.with_piece piece reader)
+
+-- The session between two pieces.
+abbrev pub rest_of : Held → Session
+rest_of (Came start piece) = start
+rest_of (AtControl w) = session.Control w.bytes
+rest_of (AtNews reader) = session.News reader
+
+-- The session between two pieces, if it is open.
+abbrev pub rest_if : Option Held → Option Session
+rest_if None = None
+rest_if (Some h) = Some (rest_of h)
+
+-- The line of a session's door for an archive that was not opened.
+abbrev pub unopened_words : Session → OpenRefusal → List ℕ
+unopened_words (session.Control bytes) why = lines.unopened_words why
+unopened_words (session.News reader) why = unopened_line why
+
+-- What a session says at a moment. Before a piece the archive is reopened, which finds the older one
+-- or the one in doubt; or it is refused, and the door's word for that is said, and the connection is
+-- closed. Each request is then answered as its door does.
+abbrev pub said : ℕ → Standing → Held → Way → Said Held Standing
+said moment s (Came start piece) way =
+    said_reopening (unopened_words start) s (with_piece start piece) way
+said moment s (AtControl w) way =
+    said_over (λ (t : Standing). t) AtControl (control.said moment s w way)
+said moment s (AtNews reader) way =
+    said_over (λ (a : Archive). standing a None) AtNews (news.said moment s.archive reader way)
+
+-- Something is to be done before a rest is kept: the archive is to be reopened, or a whole request is
+-- at the front.
+abbrev pub is_asked : Held → Bool
+is_asked (Came start piece) = true
+is_asked (AtControl w) = control.has_request w
+is_asked (AtNews reader) = news.has_request reader
+
+-- The greatest number of open sessions.
+abbrev pub session_limit : ℕ
+session_limit = 256
+
+-- A door's word for a server that is full. A door that isn't built has none.
+abbrev pub busy_words : Door → List ℕ
+busy_words door.Control = control.busy_word
+busy_words door.Http = []
+busy_words door.Nntp = busy_line
+busy_words door.Imap = []
+
+-- A door's word for a session for which memory ran out.
+abbrev pub memory_words : Door → List ℕ
+memory_words door.Control = lines.memory_word
+memory_words door.Http = []
+memory_words door.Nntp = memory_line
+memory_words door.Imap = []
+
+-- A new session of a door, and its greeting. The control door has none. A connection at a door that
+-- isn't built is closed without a word.
+abbrev pub greets : Door → Standing → Said Session Standing
+greets door.Control s = says s (session.Control []) []
+greets door.Http s = closes s []
+greets door.Nntp s = says s (session.News new_reader) (notice_line notice.Welcome)
+greets door.Imap s = closes s []
+
+-- A session is made, or refused because as many others are open as there may be.
+abbrev pub made : Door → ℕ → Standing → Said Session Standing
+made at others s = if nat_lt others session_limit then greets at s else closes s (busy_words at)
+
+-- Out of memory for a session, the door's word for that is said.
+abbrev pub unmade : Door → ℕ → Standing → Said Session Standing
+unmade at others s =
+    if nat_lt others session_limit then closes s (memory_words at) else closes s (busy_words at)
+
+-- What the making of a session says, by how many others are open. It reads no disk.
+abbrev pub said_making : Door → ℕ → Standing → Way → Said Session Standing
+said_making at others s way = in_ways (made at others s) (unmade at others s) (made at others s) way

@@ -1,0 +1,6 @@
+pub mod Doors
+pub mod World
+pub mod Turns
+pub mod Ends
+pub mod Nodes
+pub mod Laws

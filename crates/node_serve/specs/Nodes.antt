@@ -1,0 +1,200 @@
+-- What a node's values mean, and what its calls do.
+use Rattle.std.specs.Prelude.{◌≡◌, ◌+◌, ℕ, Bool, true, false, List, [], ◌∷◌, ◌++◌, Option, Some, None, Result}
+use Rattle.std.specs.Ordering.{nat_cmp}
+use Rattle.std.specs.BTreeMap.{BTreeMap, get, btree_map_len}
+use Rattle.arch_base.specs.Counts.{Rose}
+use Rattle.edge_io.specs.Frames.{Outputs, outputs}
+use Rattle.edge_io.specs.Hosts.{Told, then_given, before_left, NoneLeft, OthersKept, one_more}
+use Rattle.edge_io.specs.Phrases.{Says}
+use Rattle.edge_io.specs.Scripts.{Arrival}
+use Rattle.edge_io.specs.declared.events.Door.{Door}
+use Rattle.edge_io.specs.declared.sink.SinkFault.{SinkFault}
+use Rattle.line_door.specs.Acts.{Outside, Way, held_if}
+use Rattle.line_door.specs.Course.{talk}
+use Rattle.keep_course.specs.Answering as answering
+use Rattle.keep_course.specs.Courses.{Course, archives_of}
+use Rattle.arch_model.specs.Archives.{Archive}
+use Rattle.arch_model.specs.Keeping.{Passes, Fits}
+use Rattle.arch_model.specs.Standing.{Standing}
+use Rattle.node_serve.specs.Doors.{Held, Came, rest_if, said, is_asked, with_piece, said_making}
+use Rattle.node_serve.specs.Ends.{EndsBy, given_after, before_all, is_stop}
+use Rattle.node_serve.specs.Turns.{Turn, Turned, Served, passed_in, outputs_of, outputs_before}
+use Rattle.node_serve.specs.World.{Outer, World, ActAt, EndedAt, others_open}
+use Rattle.node_serve.specs.declared.session.Session.{Session}
+use Rattle.node_serve.specs.declared.serving.ServeEnd.{ServeEnd}
+use Rattle.node_serve.specs.declared.serving.Taken.{Taken}
+use Rattle.node_serve.specs.declared.serving.Taken.TheVariants.{Went, Stops, Nothing, Fault}
+
+-- The session of each connection that has one, and how many these are.
+pub record Places : Type 0 where
+  pub session : ℕ → Option Session
+  pub count : ℕ
+
+-- The session of a connection in a map.
+abbrev pub session_of : BTreeMap ℕ Session → ℕ → Option Session
+session_of m c = get nat_cmp m c
+
+-- The sessions in a map.
+abbrev pub places_of : BTreeMap ℕ Session → Places
+places_of m = record { session = session_of m; count = btree_map_len m }
+
+-- A keeper, and the open sessions over it.
+pub record Serving (K : Type 0) : Type 0 where
+  pub keep : K
+  pub places : Places
+
+-- The node of these two parts.
+abbrev pub serving : {K : Type 0} → K → Places → Serving K
+serving keep places = record { keep = keep; places = places }
+
+-- The world of open sessions and what is outside of them, where the keeper stands so.
+abbrev pub world_of : Standing → Places → Outer → World
+world_of s p o = record { standing = s; session = p.session; count = p.count; out = o }
+
+-- A connection was refused: words of a door were written to it, and it was closed.
+pub record Refused (c : ℕ) (words : List ℕ) (i j : Outer) : Type 0 where
+  pub sent : Result Unit SinkFault
+  pub said : Says words (i.taken c) i.lost (j.taken c) j.lost sent
+  pub taken : OthersKept c i.taken j.taken
+  pub closings : OthersKept c i.closings j.closings
+  pub closed : j.closings c ≡ one_more (i.closings c)
+  pub disk : j.disk ≡ i.disk
+
+-- A session of a door was made at a connection, or refused.
+abbrev pub Makes : Door → ℕ → Places → Outer → Places → Outer → Type 0
+Makes door c p i q j = (s : Standing)
+    → ActAt c (said_making door (others_open c (world_of s p i)) s) (world_of s p i) (world_of s q j)
+
+-- The session of a connection ended without a word, if it had one.
+abbrev pub Ends : ℕ → Places → Places → Type 0
+Ends c p q = (s : Standing) (o : Outer) → EndedAt c (world_of s p o) (world_of s q o)
+
+-- A connection without a session got one, whichever it is.
+pub record IsPlaced (c : ℕ) (p q : Places) : Type 0 where
+  pub none : p.session c ≡ None
+  pub first : Session
+  pub some : q.session c ≡ Some first
+  pub others : OthersKept c p.session q.session
+  pub count : q.count ≡ p.count + 1
+
+-- The session of a connection is another one.
+pub record IsPut (c : ℕ) (start : Session) (p q : Places) : Type 0 where
+  pub here : q.session c ≡ Some start
+  pub others : OthersKept c p.session q.session
+  pub count : q.count ≡ p.count
+
+-- What connections had taken and how often each was closed, each time that a host was asked for the
+-- next event and answered: before each of these turns, and at the end if it answered that none is
+-- left.
+abbrev pub outputs_asked : Bool → World → List Turn → World → List Outputs
+outputs_asked true w ts v = outputs_before w ts ++ outputs_of v ∷ []
+outputs_asked false w ts v = outputs_before w ts
+
+-- A keeper: the archives that it holds, whether it is ready, and what each crash since a state may
+-- have left.
+module _ {K : Type 0} (holds : K → Archive → Type 0) (ready : K → Bool)
+    (leaves : K → K → List (Option Archive) → Type 0) where
+  -- Whatever the keeper fits, it is reopened before a piece, or that is refused and the session's
+  -- door says so.
+  abbrev pub Opens : ℕ → Session → K → Outside → Bool → K → Outside → Type 0
+  Opens moment start old i goes_on new j = answering.Opens holds ready leaves
+      (λ (s : Standing) (piece : List ℕ) (way : Way). said moment s (Came start piece) way)
+      (λ (piece : List ℕ). with_piece start piece) old i goes_on new j
+
+  -- Whatever the keeper fits, a session takes a piece by a course, and the keeper fits what that
+  -- leaves.
+  pub record FedFrom (moment : ℕ) (start : Held) (s : Standing) (old : K) (i : Outside)
+      (goes_on : Bool) (left : Session) (new : K) (j : Outside) : Type 0 where
+    pub after : Standing
+    pub fits : Fits holds ready leaves new after
+    pub held : Option Held
+    pub rest_is : held_if goes_on left ≡ rest_if held
+    pub course : Course leaves (said moment) is_asked old new (talk (Some start) s i)
+        (talk held after j)
+
+  -- The same of a session before a piece, whose archive has yet to be reopened.
+  abbrev pub Feeds : ℕ → Session → List ℕ → K → Outside → Bool → Session → K → Outside → Type 0
+  Feeds moment start piece old i goes_on left new j = (s : Standing) → Fits holds ready leaves old s
+      → FedFrom moment (Came start piece) s old i goes_on left new j
+
+  -- A node took an event to its end. A crash since it began leaves an archive that stood before it
+  -- or after one of its acts, or one that was in doubt there.
+  pub record TurnsTo (arrival : Arrival) (s : Standing) (old : Serving K) (i : Outer)
+      (new : Serving K) (j : Outer) : Type 0 where
+    pub after : Standing
+    pub fits : Fits holds ready leaves new.keep after
+    pub passed : List Standing
+    pub turned : Turned arrival (world_of s old.places i) passed (world_of after new.places j)
+    pub passes : Passes leaves old.keep new.keep (s ∷ passed)
+    pub crash : leaves old.keep new.keep (archives_of (s ∷ passed))
+
+  -- Whatever the node's keeper fits, this is so.
+  abbrev pub Turns : Arrival → Serving K → Outer → Serving K → Outer → Type 0
+  Turns arrival old i new j = (s : Standing) → Fits holds ready leaves old.keep s
+      → TurnsTo arrival s old i new j
+
+  -- A node took these events to their end, one after another.
+  pub record RunsTo (arrivals : List Arrival) (s : Standing) (old : Serving K) (i : Outer)
+      (new : Serving K) (j : Outer) : Type 0 where
+    pub after : Standing
+    pub fits : Fits holds ready leaves new.keep after
+    pub turns : List Turn
+    pub served : Served arrivals (world_of s old.places i) turns (world_of after new.places j)
+    pub passes : Passes leaves old.keep new.keep (s ∷ passed_in turns)
+    pub crash : leaves old.keep new.keep (archives_of (s ∷ passed_in turns))
+
+  -- The same, and the host, whose records these are, was asked before each of them, and at the end
+  -- if it then answered that none is left.
+  pub record RunsOver (recorded recorded' : List Outputs → Type 0) (none : Bool)
+      (arrivals : List Arrival) (s : Standing) (old : Serving K) (i : Outer) (new : Serving K)
+      (j : Outer) : Type 0 where
+    pub runs : RunsTo arrivals s old i new j
+    pub records : (past : List Outputs) → recorded past → recorded'
+        (past ++ outputs_asked none (world_of s old.places i) runs.turns (world_of runs.after new.places j))
+
+  -- A node served the events that a host gave, in order.
+  pub record ServesTo (end : ServeEnd) (turns : ℕ) (old : Serving K) (i : Outer) (new : Serving K)
+      (j : Outer) (given given' left left' : Told) (faults faults' : ℕ)
+      (recorded recorded' : List Outputs → Type 0) : Type 0 where
+    pub arrivals : List Arrival
+    pub given_is : given' ≡ given_after given arrivals
+    pub left_is : left ≡ before_all arrivals left'
+    pub none : Bool
+    pub ends : EndsBy end none arrivals turns left' faults faults'
+    pub runs : (s : Standing) → Fits holds ready leaves old.keep s
+        → RunsOver recorded recorded' none arrivals s old i new j
+
+  -- An event was taken from the host, and to its end.
+  pub record TookOne (old : Serving K) (i : Outer) (new : Serving K) (j : Outer)
+      (given given' left left' : Told) (recorded recorded' : List Outputs → Type 0) (stops : Bool)
+      : Type 0 where
+    pub arrival : Arrival
+    pub given_is : given' ≡ then_given given arrival
+    pub left_is : left ≡ before_left arrival left'
+    pub stop_is : is_stop arrival.0.what ≡ stops
+    pub turns : Turns arrival old i new j
+    pub records : (past : List Outputs) → recorded past
+        → recorded' (past ++ outputs i.taken i.closings ∷ [])
+
+  -- Nothing happened at the host or the node.
+  pub record TookNone (old : Serving K) (i : Outer) (new : Serving K) (j : Outer)
+      (given given' left left' : Told) : Type 0 where
+    pub node_kept : new ≡ old
+    pub out_kept : j ≡ i
+    pub given_kept : given' ≡ given
+    pub left_kept : left' ≡ left
+
+  -- An event was taken, which is a stop or is none; or none is left; or the host failed.
+  abbrev pub TakesOne : Taken → Serving K → Outer → Serving K → Outer → Told → Told → Told → Told → ℕ → ℕ
+      → (List Outputs → Type 0) → (List Outputs → Type 0) → Type 0
+  TakesOne Went old i new j given given' left left' faults faults' recorded recorded' =
+      TookOne old i new j given given' left left' recorded recorded' false
+  TakesOne Stops old i new j given given' left left' faults faults' recorded recorded' =
+      TookOne old i new j given given' left left' recorded recorded' true
+  TakesOne Nothing old i new j given given' left left' faults faults' recorded recorded' =
+      TookNone old i new j given given' left left' × NoneLeft left'
+      × ((past : List Outputs) → recorded past
+      → recorded' (past ++ outputs i.taken i.closings ∷ []))
+  TakesOne Fault old i new j given given' left left' faults faults' recorded recorded' =
+      TookNone old i new j given given' left left' × Rose faults faults'
+      × ((past : List Outputs) → recorded past → recorded' past)

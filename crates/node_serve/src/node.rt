@@ -1,0 +1,98 @@
+//! A node: a keeper, and the sessions of all connections over it.
+ghost use Rattle.std.specs.Prelude.{◌≡◌, ◌≤◌, ℕ, length, None};
+ghost use Rattle.arch_base.specs.Moments.{last_moment};
+ghost use Rattle.edge_io.specs.Events.{piece_len};
+ghost use Rattle.edge_io.specs.Hosts.{SameEvents};
+ghost use Rattle.node_serve.specs.Nodes.{Turns};
+ghost use Rattle.node_serve.specs.World.{outer};
+
+use crate::places::{Sessions, admit, end, feed};
+use arch_model::Keep;
+use edge_io::{Event, Host, What};
+use std::alloc::Global;
+use std::collections::BTreeMap;
+use std::marker::Model;
+
+/// A node: a keeper of an archive, and the sessions of all connections over it.
+///
+/// A contract sees it as its keeper, the session of each connection that has one, and how many these
+/// are.
+#[derive(Drop)]
+pub struct Node<K> {
+    alloc: Global,
+    keep: K,
+    sessions: Sessions,
+}
+
+impl<K> Model for Node<K> {
+    ghost use Rattle.node_serve.specs.Nodes.{Serving, serving, places_of};
+
+    ghost Value = { Serving K };
+
+    ghost view = { λ n. serving n.keep (places_of n.sessions) };
+}
+
+impl<K: Keep> Node<K> {
+    /// Returns a node without sessions.
+    pub fn new(alloc: Global, keep: K) -> Node<K>
+        ensures keep { result.keep ≡ keep }
+        ensures none { (c : ℕ) → result.places.session c ≡ None }
+        ensures count { result.places.count ≡ 0 }
+    {
+        Node {
+            alloc,
+            keep,
+            sessions: BTreeMap::new(alloc),
+        }
+    }
+
+    /// Returns the keeper. All sessions end without a word.
+    pub fn into_keep(self) -> K
+        ensures { result ≡ self.keep }
+    {
+        let Node {
+            alloc: _,
+            keep,
+            sessions: _,
+        } = self;
+        keep
+    }
+
+    /// Takes an event to its end. `piece` has the bytes of a `Bytes` event, and is empty for any
+    /// other.
+    ///
+    /// * A connection that opens ends its open session without a word, if it has one. Then its door
+    ///   greets, or refuses it with its word if 256 others are open, or if memory runs out.
+    /// * Bytes are answered by the session of their connection, once the archive was reopened. Without
+    ///   a session they are passed over.
+    /// * A connection that ends ends its session.
+    ///
+    /// A failed send ends the session of that connection alone, and closes the connection. A crash
+    /// since the call began leaves an archive that stood before it or after one of its acts, or one
+    /// that was in doubt there.
+    pub fn turn<H: Host>(&mut self, event: &Event, piece: &[u8], host: &mut H)
+        requires moment { event.now.moment ≤ last_moment }
+        requires whole { length piece.now ≡ piece_len event.now.what }
+        ensures turned { Turns K.holds K.ready K.leaves (event.now, piece.now) self.old
+            (outer (H.taken host.old) (H.closings host.old) (K.faults self.old.keep)
+            (H.lost host.old)) self.new
+            (outer (H.taken host.new) (H.closings host.new) (K.faults self.new.keep)
+            (H.lost host.new)) }
+        ensures events { SameEvents H.left H.given H.recorded H.faults host.old host.new }
+    {
+        match event.what {
+            What::Opened { conn, door } => admit(self.alloc, conn, door, &mut self.sessions, host),
+            What::Bytes { conn, .. } => feed(
+                conn,
+                event.moment,
+                piece,
+                &mut self.keep,
+                &mut self.sessions,
+                host,
+            ),
+            What::Ended { conn } => end(conn, &mut self.sessions),
+            What::Quiet => {}
+            What::Stop => {}
+        }
+    }
+}

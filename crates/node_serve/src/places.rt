@@ -1,0 +1,152 @@
+//! The sessions of connections: how each is made, answers its pieces, and ends.
+ghost use Rattle.std.specs.Prelude.{◌≡◌, ◌≤◌, ◌<◌, ℕ, None};
+ghost use Rattle.arch_base.specs.Moments.{last_moment};
+ghost use Rattle.edge_io.specs.Hosts.{SameEvents};
+ghost use Rattle.edge_io.specs.declared.events.What.TheVariants.{Bytes};
+ghost use Rattle.node_serve.specs.Doors.{session_limit};
+ghost use Rattle.node_serve.specs.Nodes.{Places, Makes, Ends, IsPlaced, IsPut, Turns, places_of, serving};
+ghost use Rattle.node_serve.specs.World.{outer};
+
+use crate::session::{Session, feed_one};
+use crate::welcome::{greet_reader, refuse, refuse_starved};
+use arch_model::{Keep, Next};
+use control_door::Session as ControlSession;
+use edge_io::{Door, Host};
+use std::alloc::Global;
+use std::collections::BTreeMap;
+
+/// The greatest number of open sessions.
+const SESSION_LIMIT: usize = 256;
+
+/// The session of each connection that has one.
+pub(crate) type Sessions = BTreeMap<u32, Session>;
+
+/// Ends the session of a connection without a word, if it has one.
+pub(crate) fn end(conn: u32, sessions: &mut Sessions)
+    ensures { Ends conn (places_of sessions.old) (places_of sessions.new) }
+{
+    let _ = sessions.remove(&conn);
+}
+
+/// Ends the session of a connection, and makes a new one of a door, or refuses it.
+pub(crate) fn admit<H: Host>(
+    alloc: Global,
+    conn: u32,
+    door: Door,
+    sessions: &mut Sessions,
+    host: &mut H,
+)
+    ensures made { (disk : ℕ) → Makes door conn (places_of sessions.old)
+        (outer (H.taken host.old) (H.closings host.old) disk (H.lost host.old))
+        (places_of sessions.new)
+        (outer (H.taken host.new) (H.closings host.new) disk (H.lost host.new)) }
+    ensures events { SameEvents H.left H.given H.recorded H.faults host.old host.new }
+{
+    end(conn, sessions);
+    if sessions.len() >= SESSION_LIMIT {
+        refuse(door, conn, host);
+        return;
+    }
+    match door {
+        Door::Control => open_control(alloc, conn, sessions, host),
+        Door::Nntp => open_news(alloc, conn, sessions, host),
+        Door::Http => refuse(Door::Http, conn, host),
+        Door::Imap => refuse(Door::Imap, conn, host),
+    }
+}
+
+/// Makes a session of the control door at a connection without one, or refuses it if memory runs
+/// out.
+fn open_control<H: Host>(alloc: Global, conn: u32, sessions: &mut Sessions, host: &mut H)
+    requires none { (places_of sessions.old).session conn ≡ None }
+    requires few { (places_of sessions.old).count < session_limit }
+    ensures made { (disk : ℕ) → Makes Door.Control conn (places_of sessions.old)
+        (outer (H.taken host.old) (H.closings host.old) disk (H.lost host.old))
+        (places_of sessions.new)
+        (outer (H.taken host.new) (H.closings host.new) disk (H.lost host.new)) }
+    ensures events { SameEvents H.left H.given H.recorded H.faults host.old host.new }
+{
+    match sessions.insert(conn, Session::Control(ControlSession::open(alloc))) {
+        Ok(_) => {}
+        Err(_) => refuse_starved(Door::Control, conn, host),
+    }
+}
+
+/// Makes a session of a reader at a connection without one, which greets, or refuses it if memory
+/// runs out.
+///
+/// Its place is found first, by a session that takes no memory. So none greets that has no place.
+fn open_news<H: Host>(alloc: Global, conn: u32, sessions: &mut Sessions, host: &mut H)
+    requires none { (places_of sessions.old).session conn ≡ None }
+    requires few { (places_of sessions.old).count < session_limit }
+    ensures made { (disk : ℕ) → Makes Door.Nntp conn (places_of sessions.old)
+        (outer (H.taken host.old) (H.closings host.old) disk (H.lost host.old))
+        (places_of sessions.new)
+        (outer (H.taken host.new) (H.closings host.new) disk (H.lost host.new)) }
+    ensures events { SameEvents H.left H.given H.recorded H.faults host.old host.new }
+{
+    match sessions.insert(conn, Session::Control(ControlSession::open(alloc))) {
+        Ok(_) => greet(alloc, conn, sessions, host),
+        Err(_) => refuse_starved(Door::Nntp, conn, host),
+    }
+}
+
+/// Opens a session of a reader in the place of the one that a connection has, and greets. If the
+/// greeting is lost, the connection is closed and has no session.
+fn greet<H: Host>(alloc: Global, conn: u32, sessions: &mut Sessions, host: &mut H)
+    ensures made { (disk : ℕ) (p : Places) → IsPlaced conn p (places_of sessions.old)
+        → p.count < session_limit → Makes Door.Nntp conn p
+        (outer (H.taken host.old) (H.closings host.old) disk (H.lost host.old))
+        (places_of sessions.new)
+        (outer (H.taken host.new) (H.closings host.new) disk (H.lost host.new)) }
+    ensures events { SameEvents H.left H.given H.recorded H.faults host.old host.new }
+{
+    let (session, next) = greet_reader(alloc, conn, host);
+    match next {
+        Next::Go => put(conn, Session::News(session), sessions),
+        Next::Close => {
+            host.close(conn);
+            end(conn, sessions);
+        }
+    }
+}
+
+/// Puts a session in the place of the one that a connection has.
+fn put(conn: u32, session: Session, sessions: &mut Sessions)
+    ensures { (p : Places) → IsPlaced conn p (places_of sessions.old)
+        → IsPut conn session (places_of sessions.old) (places_of sessions.new) }
+{
+    if let Some(place) = sessions.get_mut(&conn) {
+        *place = session;
+    }
+}
+
+/// Answers a piece of a connection that has a session, and closes the connection if none is left.
+pub(crate) fn feed<K: Keep, H: Host>(
+    conn: u32,
+    moment: u64,
+    piece: &[u8],
+    keep: &mut K,
+    sessions: &mut Sessions,
+    host: &mut H,
+)
+    requires moment { moment ≤ last_moment }
+    ensures turned { (len : ℕ) → Turns K.holds K.ready K.leaves
+        (record { moment = moment; what = Bytes conn len }, piece.now)
+        (serving keep.old (places_of sessions.old))
+        (outer (H.taken host.old) (H.closings host.old) (K.faults keep.old) (H.lost host.old))
+        (serving keep.new (places_of sessions.new))
+        (outer (H.taken host.new) (H.closings host.new) (K.faults keep.new) (H.lost host.new)) }
+    ensures events { SameEvents H.left H.given H.recorded H.faults host.old host.new }
+{
+    match sessions.get_mut(&conn) {
+        None => {}
+        Some(session) => match feed_one(session, piece, moment, keep, conn, host) {
+            Next::Go => {}
+            Next::Close => {
+                host.close(conn);
+                end(conn, sessions);
+            }
+        },
+    }
+}

@@ -1,0 +1,130 @@
+//! A session of one connection, and the answer to a piece.
+ghost use Rattle.std.specs.Prelude.{◌≡◌, ◌≤◌, ℕ, List, true, Result};
+ghost use Rattle.arch_base.specs.Moments.{last_moment};
+ghost use Rattle.arch_model.specs.Keeping.{Fits};
+ghost use Rattle.arch_model.specs.Next.{continues};
+ghost use Rattle.arch_model.specs.Standing.{Standing};
+ghost use Rattle.edge_io.specs.Hosts.{SameElsewhere};
+ghost use Rattle.edge_io.specs.Phrases.{Says};
+ghost use Rattle.line_door.specs.Acts.{outside};
+ghost use Rattle.node_serve.specs.Doors.{unopened_words, with_piece};
+ghost use Rattle.node_serve.specs.Nodes.{Opens, Feeds, FedFrom};
+
+use answer_lines::say_unopened;
+use arch_model::{Keep, Next, OpenRefusal};
+use control_door::Session as ControlSession;
+use edge_io::{ConnSink, Host, Sink, SinkFault};
+use nntp_reader::NntpSession;
+
+/// A session of a connection, by its door.
+#[derive(Drop)]
+pub enum Session {
+    /// At the control door.
+    Control(ControlSession),
+    /// At the door of readers of news.
+    News(NntpSession),
+}
+
+/// Answers a piece that came to a session of a connection. Returns whether the session continues.
+///
+/// The archive is reopened first. If that is refused, the door's word for it is written and the
+/// session is closed. A failed send closes the session, too.
+pub(crate) fn feed_one<K: Keep, H: Host>(
+    session: &mut Session,
+    piece: &[u8],
+    moment: u64,
+    keep: &mut K,
+    conn: u32,
+    host: &mut H,
+) -> Next
+    requires moment { moment ≤ last_moment }
+    ensures fed { Feeds K.holds K.ready K.leaves moment session.old piece.now keep.old
+        (outside (H.taken host.old conn) (K.faults keep.old) (H.lost host.old))
+        (continues result) session.new keep.new
+        (outside (H.taken host.new conn) (K.faults keep.new) (H.lost host.new)) }
+    ensures host { SameElsewhere H.left H.given H.recorded H.faults H.taken H.closings conn host.old
+        host.new }
+{
+    let mut sink = ConnSink {
+        host: &mut *host,
+        conn,
+    };
+    take(session, piece, moment, keep, &mut sink)
+}
+
+/// Reopens the archive, and then feeds a piece. Returns whether the session continues.
+fn take<K: Keep, O: Sink>(
+    session: &mut Session,
+    piece: &[u8],
+    moment: u64,
+    keep: &mut K,
+    out: &mut O,
+) -> Next
+    requires moment { moment ≤ last_moment }
+    ensures fed { Feeds K.holds K.ready K.leaves moment session.old piece.now keep.old
+        (outside (O.taken out.old) (K.faults keep.old) (O.faults out.old))
+        (continues result) session.new keep.new
+        (outside (O.taken out.new) (K.faults keep.new) (O.faults out.new)) }
+    ensures sink { O.alike out.old out.new }
+{
+    match reopen(session, moment, keep, out) {
+        Next::Go => feed(session, piece, moment, keep, out),
+        Next::Close => Next::Close,
+    }
+}
+
+/// Reopens the archive before a piece. Returns whether it is open.
+///
+/// Does nothing if no command is in doubt. If reopening is refused, writes the door's word for it.
+fn reopen<K: Keep, O: Sink>(session: &Session, moment: u64, keep: &mut K, out: &mut O) -> Next
+    ensures acts { Opens K.holds K.ready K.leaves moment session.now keep.old
+        (outside (O.taken out.old) (K.faults keep.old) (O.faults out.old))
+        (continues result) keep.new
+        (outside (O.taken out.new) (K.faults keep.new) (O.faults out.new)) }
+    ensures ready { continues result ≡ true → K.ready keep.new ≡ true }
+    ensures sink { O.alike out.old out.new }
+{
+    match keep.fresh() {
+        Ok(()) => Next::Go,
+        Err(refusal) => {
+            let _ = say_shut(session, refusal, out);
+            Next::Close
+        }
+    }
+}
+
+/// Writes a door's word for an archive that was not reopened.
+fn say_shut<O: Sink>(session: &Session, refusal: OpenRefusal, out: &mut O) -> Result<(), SinkFault>
+    ensures said { Says (unopened_words session.now refusal) (O.taken out.old) (O.faults out.old)
+        (O.taken out.new) (O.faults out.new) result }
+    ensures sink { O.alike out.old out.new }
+{
+    match session {
+        Session::Control(_) => say_unopened(refusal, out),
+        Session::News(_) => nntp_reader::say_unopened(refusal, out),
+    }
+}
+
+/// Answers the whole requests of a piece in order, and keeps the rest. Returns whether the session
+/// continues.
+fn feed<K: Keep, O: Sink>(
+    session: &mut Session,
+    piece: &[u8],
+    moment: u64,
+    keep: &mut K,
+    out: &mut O,
+) -> Next
+    requires ready { K.ready keep.old ≡ true }
+    requires moment { moment ≤ last_moment }
+    ensures fed { (s : Standing) → Fits K.holds K.ready K.leaves keep.old s
+        → FedFrom K.holds K.ready K.leaves moment (with_piece session.old piece.now) s keep.old
+        (outside (O.taken out.old) (K.faults keep.old) (O.faults out.old))
+        (continues result) session.new keep.new
+        (outside (O.taken out.new) (K.faults keep.new) (O.faults out.new)) }
+    ensures sink { O.alike out.old out.new }
+{
+    match session {
+        Session::Control(control) => control.feed(piece, moment, keep, out),
+        Session::News(reader) => reader.feed(piece, moment, keep, out),
+    }
+}

@@ -1,0 +1,111 @@
+//! What a connection gets before it has a session.
+ghost use Rattle.std.specs.Prelude.{◌≡◌, ℕ};
+ghost use Rattle.arch_model.specs.Archives.{Archive};
+ghost use Rattle.arch_model.specs.Next.{continues};
+ghost use Rattle.edge_io.specs.Hosts.{SameEvents, SameElsewhere};
+ghost use Rattle.edge_io.specs.Phrases.{Says};
+ghost use Rattle.line_door.specs.Acts.{Acts, held_if, outside};
+ghost use Rattle.nntp_reader.specs.Door.{greeting, new_reader};
+ghost use Rattle.node_serve.specs.Doors.{busy_words, memory_words};
+ghost use Rattle.node_serve.specs.Nodes.{Refused};
+ghost use Rattle.node_serve.specs.World.{outer};
+
+use answer_lines::say_memory;
+use arch_model::Next;
+use edge_io::{ConnSink, Door, Host, Sink, SinkFault, say};
+use nntp_reader::NntpSession;
+use std::alloc::Global;
+
+/// Writes a door's word for a server that is full. A door that isn't built has none.
+fn say_busy<O: Sink>(door: Door, out: &mut O) -> Result<(), SinkFault>
+    ensures said { Says (busy_words door) (O.taken out.old) (O.faults out.old) (O.taken out.new)
+        (O.faults out.new) result }
+    ensures sink { O.alike out.old out.new }
+{
+    match door {
+        Door::Control => control_door::say_busy(out),
+        Door::Nntp => nntp_reader::say_busy(out),
+        Door::Http | Door::Imap => say(b"", out),
+    }
+}
+
+/// Writes a door's word for a session for which memory ran out. A door that isn't built has none.
+fn say_starved<O: Sink>(door: Door, out: &mut O) -> Result<(), SinkFault>
+    ensures said { Says (memory_words door) (O.taken out.old) (O.faults out.old) (O.taken out.new)
+        (O.faults out.new) result }
+    ensures sink { O.alike out.old out.new }
+{
+    match door {
+        Door::Control => say_memory(out),
+        Door::Nntp => nntp_reader::say_no_memory(out),
+        Door::Http | Door::Imap => say(b"", out),
+    }
+}
+
+/// Refuses a connection because as many sessions are open as there may be, and closes it. One at a
+/// door that isn't built is closed without a word.
+pub(crate) fn refuse<H: Host>(door: Door, conn: u32, host: &mut H)
+    ensures refused { (disk : ℕ) → Refused conn (busy_words door)
+        (outer (H.taken host.old) (H.closings host.old) disk (H.lost host.old))
+        (outer (H.taken host.new) (H.closings host.new) disk (H.lost host.new)) }
+    ensures events { SameEvents H.left H.given H.recorded H.faults host.old host.new }
+{
+    let _ = write_busy(door, conn, host);
+    host.close(conn);
+}
+
+/// Refuses a connection because memory ran out for its session, and closes it.
+pub(crate) fn refuse_starved<H: Host>(door: Door, conn: u32, host: &mut H)
+    ensures refused { (disk : ℕ) → Refused conn (memory_words door)
+        (outer (H.taken host.old) (H.closings host.old) disk (H.lost host.old))
+        (outer (H.taken host.new) (H.closings host.new) disk (H.lost host.new)) }
+    ensures events { SameEvents H.left H.given H.recorded H.faults host.old host.new }
+{
+    let _ = write_starved(door, conn, host);
+    host.close(conn);
+}
+
+/// Writes a door's word for a server that is full to a connection.
+fn write_busy<H: Host>(door: Door, conn: u32, host: &mut H) -> Result<(), SinkFault>
+    ensures said { Says (busy_words door) (H.taken host.old conn) (H.lost host.old)
+        (H.taken host.new conn) (H.lost host.new) result }
+    ensures host { SameElsewhere H.left H.given H.recorded H.faults H.taken H.closings conn host.old
+        host.new }
+{
+    let mut sink = ConnSink {
+        host: &mut *host,
+        conn,
+    };
+    say_busy(door, &mut sink)
+}
+
+/// Writes a door's word for a session for which memory ran out to a connection.
+fn write_starved<H: Host>(door: Door, conn: u32, host: &mut H) -> Result<(), SinkFault>
+    ensures said { Says (memory_words door) (H.taken host.old conn) (H.lost host.old)
+        (H.taken host.new conn) (H.lost host.new) result }
+    ensures host { SameElsewhere H.left H.given H.recorded H.faults H.taken H.closings conn host.old
+        host.new }
+{
+    let mut sink = ConnSink {
+        host: &mut *host,
+        conn,
+    };
+    say_starved(door, &mut sink)
+}
+
+/// Opens a session of a reader, which greets its connection.
+pub(crate) fn greet_reader<H: Host>(alloc: Global, conn: u32, host: &mut H) -> (NntpSession, Next)
+    ensures greeted { (a : Archive) (disk : ℕ) → Acts (greeting a)
+        (outside (H.taken host.old conn) disk (H.lost host.old))
+        (held_if (continues result.1) result.0) a
+        (outside (H.taken host.new conn) disk (H.lost host.new)) }
+    ensures session { result.0 ≡ new_reader }
+    ensures host { SameElsewhere H.left H.given H.recorded H.faults H.taken H.closings conn host.old
+        host.new }
+{
+    let mut sink = ConnSink {
+        host: &mut *host,
+        conn,
+    };
+    NntpSession::open(alloc, &mut sink)
+}

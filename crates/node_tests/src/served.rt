@@ -1,0 +1,102 @@
+//! Nodes that serve the events of scripts.
+ghost use Rattle.std.specs.Prelude.{◌≤◌, IfSome};
+ghost use Rattle.arch_base.specs.Configs.{IsConfig};
+
+use arch_base::{Bytes, Config, Name, Numbers};
+use arch_model::Keep;
+use edge_io::{MemHost, script};
+use mem_archive::MemArchive;
+use node_serve::{Node, ServeEnd, count_law, serve};
+use std::alloc::Global;
+
+/// A script's text in which the first connection delivers a message to the archive.
+pub(crate) const DELIVERED: &[u8] =
+    b"1706781700 o 1 control\n1706781700 b 1 115\ndeliver 103\nFrom: Ann <ann@example.org>\nDate: Thu, 1 Feb 2024 10:00:00 +0000\nSubject: first\nMessage-ID: <a@x>\n\none\n\n";
+
+/// What that connection gets.
+pub(crate) const ACCEPTED: &[u8] = b"1 ok 1 1d023c572ccd6f3cc82ae855343346b043adaba5\n";
+
+/// More events than any of these scripts has.
+pub(crate) const MANY: u64 = 1000;
+
+/// Returns the settings of an archive of the name `list`.
+pub(crate) fn settings() -> Option<Config>
+    ensures { IfSome result (λ made. IsConfig made) }
+{
+    let name = Name::read(b"list")?;
+    Some(Config {
+        name,
+        limit: 1_073_741_824,
+        slice: 50_000,
+        max: 2_147_483_647,
+        mirror: false,
+        born: 1,
+    })
+}
+
+/// Returns an archive in memory without messages.
+pub(crate) fn plain(alloc: Global) -> Option<MemArchive> {
+    Some(MemArchive::new(alloc, settings()?))
+}
+
+/// Returns texts in order as one.
+pub(crate) fn joined(alloc: Global, texts: &[&[u8]]) -> Option<Bytes> {
+    let mut bytes = Bytes::new(alloc);
+    for text in texts {
+        bytes.push_slice(text).ok()?;
+    }
+    Some(bytes)
+}
+
+/// Returns a host of a script that fails the listed calls.
+pub(crate) fn host(alloc: Global, text: &[u8], listed: &[u64]) -> Option<MemHost> {
+    let mut faults = Numbers::new(alloc);
+    for ordinal in listed {
+        faults.push(*ordinal).ok()?;
+    }
+    MemHost::new(alloc, script(alloc, text).ok()?, faults).ok()
+}
+
+/// Serves a script over a keeper, and returns how that ended, and the host.
+pub(crate) fn served<K: Keep + Drop>(
+    alloc: Global,
+    keep: K,
+    text: &[u8],
+    listed: &[u64],
+) -> Option<(ServeEnd, MemHost)> {
+    let mut host = host(alloc, text, listed)?;
+    let mut node = Node::new(alloc, keep);
+    let end = serve(alloc, &mut node, &mut host, MANY);
+    Some((end, host))
+}
+
+/// Serves a script over an archive in memory without messages.
+pub(crate) fn served_plain(
+    alloc: Global,
+    text: &[u8],
+    listed: &[u64],
+) -> Option<(ServeEnd, MemHost)> {
+    served(alloc, plain(alloc)?, text, listed)
+}
+
+/// Returns how serving a script ended that may take so many events.
+fn end_after(alloc: Global, text: &[u8], turns: u64) -> Option<ServeEnd> {
+    let mut host = host(alloc, text, &[])?;
+    let mut node = Node::new(alloc, plain(alloc)?);
+    Some(serve(alloc, &mut node, &mut host, turns))
+}
+
+#[test]
+fn serving_ends_when_its_events_are_spent(rt: HostRuntime) {
+    let quiet = b"1 q\n2 q\n3 q\n4 q\n";
+    assert!(rt; end_after(rt.alloc(), quiet, 3) == Some(ServeEnd::Spent(3)));
+    assert!(rt; end_after(rt.alloc(), quiet, 4) == Some(ServeEnd::Spent(4)));
+    assert!(rt; end_after(rt.alloc(), quiet, 5) == Some(ServeEnd::Stopped));
+    assert!(rt; end_after(rt.alloc(), b"1 q\n2 s\n3 q\n", 2) == Some(ServeEnd::Stopped));
+}
+
+#[test]
+fn the_law_of_the_count_is_called(rt: HostRuntime) {
+    count_law();
+    assert!(rt; true);
+}

@@ -1,0 +1,130 @@
+//! A host over sockets.
+ghost use Rattle.std.specs.Prelude.{◌≡◌, ◌≤◌, None, IfOk, length};
+ghost use Rattle.arch_base.specs.Moments.{IsMoment};
+ghost use Rattle.real_edges.specs.Sockets.{MayHappen};
+
+use crate::faults::Faults;
+use crate::sockets::Sockets;
+use crate::system_clock::moment_of;
+use arch_base::NoMemory;
+use edge_io::{Event, Host, HostFault};
+use std::alloc::Global;
+use std::io::{self, ErrorKind};
+use std::marker::Model;
+use std::time::SystemTime;
+
+/// A host over sockets on the loopback interface. It doesn't tell what it gives or what its
+/// connections take.
+///
+/// It listens at the ports of the doors that the server has: control at its port, and NNTP at the
+/// next but one. It waits in the system until something happens, and gives `Quiet` if nothing did
+/// for about 100 ms. The end of a standard input that is a pipe gives `Stop`. Up to 512 clients are
+/// there at once, and others wait.
+///
+/// A client that doesn't take 65,536 bytes within 10 s makes its `send` fail. All others wait
+/// meanwhile.
+#[derive(Drop)]
+pub struct SocketHost {
+    rt: HostRuntime,
+    alloc: Global,
+    port: u16,
+    sockets: Option<Sockets>,
+    faults: Faults<io::Error>,
+    lost: u64,
+}
+
+// Contracts see the numbers of failed calls.
+impl Model for SocketHost {
+    ghost use Rattle.real_edges.specs.Sockets.{HostCounts};
+
+    ghost Value = { HostCounts };
+
+    ghost view = { λ s. record { faults = s.faults; lost = s.lost } };
+}
+
+impl SocketHost {
+    /// Returns a host at a port. It listens from its first `next` on, and no call has failed yet.
+    pub fn listen(rt: &HostRuntime, alloc: Global, port: u16) -> Result<SocketHost, NoMemory>
+        ensures { IfOk result (λ host. host ≡ record { faults = 0; lost = 0 }) }
+    {
+        Ok(SocketHost {
+            rt: *rt,
+            alloc,
+            port,
+            sockets: None,
+            faults: Faults::new(),
+            lost: 0,
+        })
+    }
+
+    /// Returns the system's words for the first failed call of `next`, or `None` if none has failed.
+    pub fn cause(&self, alloc: Global) -> Result<Option<String>, NoMemory> {
+        self.faults.words(alloc)
+    }
+}
+
+impl Host for SocketHost {
+    ghost left = { λ s. None };
+
+    ghost given = { λ s. None };
+
+    ghost taken = { λ s conn. None };
+
+    ghost closings = { λ s conn. None };
+
+    ghost recorded = { λ s past. Unit {0} };
+
+    ghost faults = { λ s. s.faults };
+
+    ghost lost = { λ s. s.lost };
+
+    fn next(&mut self, into: &mut [u8]) -> Result<Option<Event>, HostFault> {
+        match event_of(&self.rt, self.alloc, self.port, &mut self.sockets, into) {
+            Ok(event) => Ok(Some(event)),
+            Err(refused) => {
+                self.faults.add(refused);
+                Err(HostFault)
+            }
+        }
+    }
+
+    fn send(&mut self, conn: u32, bytes: &[u8]) -> Result<(), HostFault> {
+        let sent = match &mut self.sockets {
+            Some(open) => open.send(&self.rt, conn, bytes).is_ok(),
+            None => false,
+        };
+        if sent {
+            return Ok(());
+        }
+        self.lost = self.lost.saturating_add(1);
+        Err(HostFault)
+    }
+
+    fn close(&mut self, conn: u32) {
+        if let Some(open) = &mut self.sockets {
+            open.close(conn);
+        }
+    }
+}
+
+/// Returns what happened next at sockets, and when. Makes the listeners if they aren't there.
+fn event_of(
+    rt: &HostRuntime,
+    alloc: Global,
+    port: u16,
+    sockets: &mut Option<Sockets>,
+    into: &mut [u8],
+) -> io::Result<Event>
+    ensures moment { IfOk result (λ event. IsMoment event.moment) }
+    ensures what { IfOk result (λ event. MayHappen into.new event.what) }
+{
+    if sockets.is_none() {
+        *sockets = Some(Sockets::open(rt, alloc, port)?);
+    }
+    let Some(open) = sockets else {
+        return Err(ErrorKind::NotConnected.into());
+    };
+    let what = open.next(into)?;
+    let moment = moment_of(SystemTime::now(rt))?;
+    Ok(Event { moment, what })
+}
