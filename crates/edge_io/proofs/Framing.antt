@@ -1,14 +1,15 @@
 -- The frames of an event, from the connections that were touched.
-use Rattle.std.proofs.Common.{◌≡◌, ◌≤◌, ◌<◌, ◌+◌, ◌-◌, ◌⊎◌, inl, inr, zero, suc, ℕ, Bool, true, false, nat_lt, if◌then◌else◌, List, [], ◌∷◌, ◌++◌, Option, Some, None, ◌≢◌, length, take, drop, replicate, refl, sym, ◌∙◌, ap, subst, arith, append_assoc, append-nil}
+use Rattle.std.proofs.Math.Seq.{take-length}
+use Rattle.std.proofs.Common.{◌≡◌, ◌≤◌, ◌<◌, ◌+◌, ◌-◌, ◌⊎◌, inl, inr, zero, suc, ℕ, Bool, true, false, nat_lt, if◌then◌else◌, List, [], ◌∷◌, ◌++◌, Option, Some, None, ◌≢◌, length, take, drop, replicate, refl, sym, ◌∙◌, ap, subst, arith, append_assoc, append-nil, length-append, take-append-le}
 use Rattle.std.proofs.lemmas.Bool.Decides.{nat_tests}
 use Rattle.std.proofs.lemmas.Grind.{common_steps}
 use Rattle.std.proofs.lemmas.List.{length-replicate, get_or-replicate}
 use Rattle.std.proofs.lemmas.Option.{slice_get-get_or, slice_get_past}
 use Rattle.std.specs.List.{slice_get}
-use Rattle.edge_io.specs.Frames.{Outputs, outputs, bytes_or_none, count_or_0, written, closing, each_from, each_connection, event_frame, written_between, closing_between, frames_from, frames_of, last_from, last_of, nothing}
+use Rattle.edge_io.specs.Frames.{Outputs, outputs, bytes_or_none, count_or_0, written, closing, each_from, each_connection, event_frame, written_between, closing_between, frames_from, frames_of, last_from, last_of, nothing, FirstFrames}
 use Rattle.edge_io.specs.Hosts.{OthersKept}
-use Rattle.edge_io.specs.MemHosts.{IsUnused}
-use Rattle.edge_io.specs.ScriptHosts.{mark_at, marked, IsAtMark, IsOutside, AreMarked, AgreeOn, Scripting, Recorded}
+use Rattle.edge_io.specs.MemHosts.{outputs_in, IsUnused}
+use Rattle.edge_io.specs.ScriptHosts.{mark_at, marked, IsAtMark, IsOutside, AreMarked, AgreeOn, Scripting, begun_of, Collected, Recorded}
 use Rattle.edge_io.specs.declared.marks.Mark.{Mark}
 use Rattle.edge_io.specs.declared.marks.Touched.{Touched}
 
@@ -167,20 +168,52 @@ last-pushed past now = last-more nothing past now
 ap-agree : (a b c : Outputs) (conn : ℕ) → b ≡ c → AgreeOn a b conn → AgreeOn a c conn
 ap-agree a b c conn same is = subst (λ (o : Outputs). AgreeOn a o conn) same is
 
+-- The first frames of events are so where one more event follows.
+first-more : (past : List Outputs) (now : Outputs) (frames : List ℕ) → FirstFrames past frames → FirstFrames (past ++ now ∷ []) frames
+first-more past now frames is =
+    let same : take is.count (past ++ now ∷ []) ≡ take is.count past = take-append-le is.count past (now ∷ []) is.within in
+    record {
+      count = is.count;
+      within = omega (arith, is.within, length-append past (now ∷ []));
+      frames_are = is.frames_are ∙ ap frames_of (sym same);
+      none_lost = ap (λ (os : List Outputs). (last_of os).lost) same ∙ is.none_lost;
+    }
+
+-- All frames of events are the first ones.
+first-all : (past : List Outputs) (frames : List ℕ) → frames ≡ frames_of past → (last_of past).lost ≡ 0 → FirstFrames past frames
+first-all past frames is none = record {
+  count = length past;
+  within = omega arith;
+  frames_are = is ∙ ap frames_of (sym (take-length past));
+  none_lost = ap (λ (os : List Outputs). (last_of os).lost) (take-length past) ∙ none;
+}
+
 -- The record of a host after one more event: the frames of that event were appended, unless memory
 -- ran out.
-pub recorded-more : (old new : Scripting) (past : List Outputs) → Recorded old past → old.starved ≤ new.starved → ((conn : ℕ) → conn < 65536 → AgreeOn new.begun old.outputs conn)
-    → (new.starved ≡ 0 → new.frames ≡ old.frames ++ event_frame old.begun old.outputs) → Recorded new (past ++ outputs old.outputs.taken old.outputs.closings ∷ [])
-recorded-more old new past is later begun frames =
-    let now = outputs old.outputs.taken old.outputs.closings in
-    record {
-      begun_is = λ conn small. ap-agree new.begun now (last_of (past ++ now ∷ [])) conn (sym (last-pushed past now)) (begun conn small);
-      frames_are = λ none.
-          frames none
-          ∙ ap (λ l. l ++ event_frame old.begun old.outputs) (is.frames_are (omega (arith, later, none)))
-          ∙ ap (λ l. frames_of past ++ l) (same-frame old.begun (last_of past) old.outputs is.begun_is)
-          ∙ sym (frames-pushed past now);
-    }
+pub recorded-more : (old new : Scripting) (past : List Outputs) → Recorded old past → ((conn : ℕ) → conn < 65536 → AgreeOn (begun_of new) (outputs_in old.outgoing) conn) → Collected old new
+    → Recorded new (past ++ outputs_in old.outgoing ∷ [])
+recorded-more old new past is begun collected = record {
+  begun_is = λ conn small. ap-agree (begun_of new) now (last_of more) conn (sym (last-pushed past now)) (begun conn small);
+  frames_are = all;
+  first_frames = by new.starved refl;
+}
+  where
+    now : Outputs
+    now = outputs_in old.outgoing
+
+    more : List Outputs
+    more = past ++ now ∷ []
+
+    all : new.starved ≡ 0 → new.frames ≡ frames_of more
+    all none =
+        collected.appended none
+        ∙ ap (λ l. l ++ event_frame (begun_of old) now) (is.frames_are (omega (arith, collected.later, none)))
+        ∙ ap (λ l. frames_of past ++ l) (same-frame (begun_of old) (last_of past) now is.begun_is)
+        ∙ sym (frames-pushed past now)
+
+    by : (n : ℕ) → new.starved ≡ n → FirstFrames more new.frames
+    by zero e = first-all more new.frames (all e) (ap (λ (o : Outputs). o.lost) (last-pushed past now) ∙ collected.none_lost e)
+    by (suc n) e = subst (FirstFrames more) (sym (collected.unchanged (omega (arith, e)))) (first-more past now old.frames is.first_frames)
 
 -- One more connection of a row, whose text was appended.
 pub one-connection : (text : ℕ → List ℕ) (old frames new : List ℕ) (first conn : ℕ) → first ≤ conn → frames ≡ old ++ each_from text first (conn - first) → new ≡ frames ++ text conn
@@ -236,7 +269,7 @@ begun-kept old new marks conn grows low = record {
 }
 
 -- A record stands where the marked outputs and the frames do.
-pub recorded-kept : (old new : Scripting) (past : List Outputs) → ((conn : ℕ) → conn < 65536 → AgreeOn new.begun old.begun conn) → old.starved ≤ new.starved → new.frames ≡ old.frames
+pub recorded-kept : (old new : Scripting) (past : List Outputs) → ((conn : ℕ) → conn < 65536 → AgreeOn (begun_of new) (begun_of old) conn) → old.starved ≤ new.starved → new.frames ≡ old.frames
     → Recorded old past → Recorded new past
 recorded-kept old new past begun later frames is = record {
   begun_is = λ conn small. record {
@@ -244,6 +277,7 @@ recorded-kept old new past begun later frames is = record {
     closings_agree = (begun conn small).closings_agree ∙ (is.begun_is conn small).closings_agree;
   };
   frames_are = λ none. frames ∙ is.frames_are (omega (arith, later, none));
+  first_frames = subst (FirstFrames past) (sym frames) is.first_frames;
 }
 
 -- A new host.
@@ -272,11 +306,12 @@ take-none : (n : ℕ) → take {A = ℕ} n [] ≡ []
 take-none n = take-all [] n (omega arith)
 
 -- Its record is empty.
-pub new-recorded : (host : Scripting) (now : Outputs) (marks : List Mark) → IsUnused now → ((conn : ℕ) → mark_at marks conn ≡ zero-mark) → host.begun ≡ marked now marks → host.frames ≡ [] → Recorded host []
-new-recorded host now marks unused zeros begun none = record {
-  begun_is = λ conn small. subst (λ (o : Outputs). AgreeOn o nothing conn) (sym begun) (record {
-    taken_agree = ap (λ o. take (mark_at marks conn).len (bytes_or_none o)) (unused.untaken conn) ∙ take-none (mark_at marks conn).len;
+pub new-recorded : (host : Scripting) → IsUnused (outputs_in host.outgoing) → ((conn : ℕ) → mark_at host.marks conn ≡ zero-mark) → host.frames ≡ [] → Recorded host []
+new-recorded host unused zeros none = record {
+  begun_is = λ conn small. record {
+    taken_agree = ap (λ o. take (mark_at host.marks conn).len (bytes_or_none o)) (unused.untaken conn) ∙ take-none (mark_at host.marks conn).len;
     closings_agree = ap (λ (m : Mark). m.closings) (zeros conn);
-  });
+  };
   frames_are = λ starved. none;
+  first_frames = record { count = 0; within = omega arith; frames_are = none; none_lost = refl };
 }

@@ -6,6 +6,5 @@ pub mod Numerals
 pub mod Placing
 pub mod Lines
 pub mod Unambiguous
-pub mod Hosting
 pub mod Givings
 pub mod Framing

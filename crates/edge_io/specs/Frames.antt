@@ -1,19 +1,21 @@
 -- The frames in which a replay prints what the events of a script wrote.
-use Rattle.std.specs.Prelude.{ℕ, zero, suc, Bool, true, false, nat_lt, List, [], ◌∷◌, ◌++◌, length, drop, codes, Option, Some, None}
+use Rattle.std.specs.Prelude.{◌≡◌, ◌≤◌, ℕ, zero, suc, Bool, true, false, nat_lt, List, [], ◌∷◌, ◌++◌, length, take, drop, codes, Option, Some, None}
 use Rattle.std.specs.Fmt.{decimal}
 
--- What the connections of a host have taken, and how often each was closed.
+-- What the connections of a host have taken, how often each was closed, and how many calls of `send`
+-- were lost.
 pub record Outputs : Type 0 where
   pub taken : ℕ → Option (List ℕ)
   pub closings : ℕ → Option ℕ
+  pub lost : ℕ
 
--- The outputs of these two parts.
-abbrev pub outputs : (ℕ → Option (List ℕ)) → (ℕ → Option ℕ) → Outputs
-outputs taken closings = record { taken = taken; closings = closings }
+-- The outputs of these parts.
+abbrev pub outputs : (ℕ → Option (List ℕ)) → (ℕ → Option ℕ) → ℕ → Outputs
+outputs taken closings lost = record { taken = taken; closings = closings; lost = lost }
 
--- No connection has taken anything, and none was closed.
+-- No connection has taken anything, none was closed, and no call was lost.
 abbrev pub nothing : Outputs
-nothing = record { taken = λ conn. Some []; closings = λ conn. Some 0 }
+nothing = outputs (λ conn. Some []) (λ conn. Some 0) 0
 
 -- The bytes, or none if they are not told.
 abbrev pub bytes_or_none : Option (List ℕ) → List ℕ
@@ -93,3 +95,11 @@ last_from before (after ∷ later) = last_from after later
 
 abbrev pub last_of : List Outputs → Outputs
 last_of past = last_from nothing past
+
+-- The frames are those up to one of the calls of `next`, or none. Until that call none of `send` was
+-- lost.
+pub record FirstFrames (past : List Outputs) (frames : List ℕ) : Type 0 where
+  pub count : ℕ
+  pub within : count ≤ length past
+  pub frames_are : frames ≡ frames_of (take count past)
+  pub none_lost : (last_of (take count past)).lost ≡ 0

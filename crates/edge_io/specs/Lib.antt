@@ -12,6 +12,7 @@ pub mod Spans
 pub mod Parsing
 pub mod Frames
 pub mod Hosts
+pub mod Hosting
 pub mod Passing
 pub mod MemHosts
 pub mod ScriptHosts

@@ -2,7 +2,7 @@
 ghost use Rattle.std.specs.Prelude.{◌≡◌, refl};
 ghost use Rattle.std.proofs.Common.{◌∙◌};
 ghost use Rattle.edge_io.specs.Hosts.{SameElsewhere};
-ghost use Rattle.edge_io.proofs.Hosting.{SameElsewhere-same, SameElsewhere-joined};
+ghost use Rattle.edge_io.specs.Hosting.{SameElsewhere-same, SameElsewhere-joined};
 
 use crate::{Host, Sink, SinkFault};
 

@@ -1,6 +1,7 @@
 //! The frames in which a replay prints what the events of a script wrote.
 ghost use Rattle.std.specs.Prelude.{◌≡◌, ◌≤◌, ◌<◌, ◌-◌, ◌++◌, length, true, OnOk, IfOk};
 ghost use Rattle.edge_io.specs.Frames.{written, closing, head as head_of, each_from, written_between, closing_between};
+ghost use Rattle.edge_io.specs.MemHosts.{outputs_in};
 ghost use Rattle.edge_io.specs.ScriptHosts.{marked};
 
 use crate::marks::{Mark, Touched};
@@ -22,7 +23,7 @@ pub(crate) fn push_all_written(
     requires all { length marks.now ≡ 65536 }
     requires bounded { touched.after ≤ 65536 }
     ensures { OnOk result (frames.new ≡ frames.old
-        ++ each_from (written_between (marked outlets.now marks.now) outlets.now) touched.first
+        ++ each_from (written_between (marked (outputs_in outlets.now) marks.now) (outputs_in outlets.now)) touched.first
         (touched.after - touched.first)) }
 {
     for conn in touched.first..touched.after {
@@ -43,7 +44,7 @@ fn push_taken(
 ) -> Result<(), NoMemory>
     requires { conn < length marks.now }
     ensures { OnOk result (frames.new ≡ frames.old
-        ++ written_between (marked outlets.now marks.now) outlets.now conn) }
+        ++ written_between (marked (outputs_in outlets.now) marks.now) (outputs_in outlets.now) conn) }
 {
     let taken = outlets.taken(conn);
     let start = marks[conn as usize].len.min(taken.len());
@@ -63,7 +64,7 @@ pub(crate) fn push_all_closings(
     requires all { length marks.now ≡ 65536 }
     requires bounded { touched.after ≤ 65536 }
     ensures { OnOk result (frames.new ≡ frames.old
-        ++ each_from (closing_between (marked outlets.now marks.now) outlets.now) touched.first
+        ++ each_from (closing_between (marked (outputs_in outlets.now) marks.now) (outputs_in outlets.now)) touched.first
         (touched.after - touched.first)) }
 {
     for conn in touched.first..touched.after {

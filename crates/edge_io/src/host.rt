@@ -28,8 +28,9 @@ pub trait Host {
     /// below 65,536 only.
     ghost closings: { Self → ℕ → Option ℕ };
 
-    /// What all connections had taken, and how often each was closed, at each call of `next` that
-    /// didn't fail. A host that keeps no such record meets this with any outputs.
+    /// What all connections had taken, how often each was closed, and the count of lost calls, at
+    /// each call of `next` that didn't fail. A host that keeps no such record meets this with any
+    /// outputs.
     ghost recorded: { Self → List Outputs → Type 0 };
 
     /// The count of calls of `next` that failed.
@@ -48,7 +49,7 @@ pub trait Host {
             (given self.old) (given self.new)) }
         ensures noted { (past : List Outputs) → recorded self.old past
             → OnOk result (recorded self.new
-            (past ++ outputs (taken self.old) (closings self.old) ∷ [])) }
+            (past ++ outputs (taken self.old) (closings self.old) (lost self.old) ∷ [])) }
         ensures failed_left { OnErr result (left self.new ≡ left self.old) }
         ensures failed_given { OnErr result (given self.new ≡ given self.old) }
         ensures failed_noted { (past : List Outputs) → recorded self.old past

@@ -1,6 +1,7 @@
 //! What the connections had taken when an event began.
 ghost use Rattle.std.specs.Prelude.{◌≡◌, ◌≤◌, ◌<◌, ℕ, length, IfOk};
 ghost use Rattle.edge_io.specs.Frames.{bytes_or_none, count_or_0};
+ghost use Rattle.edge_io.specs.MemHosts.{outputs_in};
 ghost use Rattle.edge_io.specs.ScriptHosts.{AreMarked, IsAtMark, IsOutside, mark_at};
 
 use crate::outlets::{CONNECTIONS, Outlets};
@@ -73,11 +74,11 @@ fn zero_marks(alloc: Global, count: usize) -> Result<Vec<Mark>, NoMemory>
 
 /// Marks what each of some connections has taken, so that all are at their marks.
 pub(crate) fn mark_all(marks: &mut Vec<Mark>, outlets: &Outlets, touched: Touched)
-    requires { AreMarked outlets.now marks.old.items touched }
+    requires { AreMarked (outputs_in outlets.now) marks.old.items touched }
     ensures len { length marks.new.items ≡ 65536 }
-    ensures each { (conn : ℕ) → conn < 65536 → IsAtMark outlets.now marks.new.items conn }
+    ensures each { (conn : ℕ) → conn < 65536 → IsAtMark (outputs_in outlets.now) marks.new.items conn }
     ensures within { (conn : ℕ) → conn < 65536 → (mark_at marks.new.items conn).len
-        ≤ length (bytes_or_none (outlets.now.taken conn)) }
+        ≤ length (bytes_or_none ((outputs_in outlets.now).taken conn)) }
 {
     for conn in touched.first..touched.after {
         marks[conn as usize] = mark_of(outlets, conn);
@@ -86,8 +87,8 @@ pub(crate) fn mark_all(marks: &mut Vec<Mark>, outlets: &Outlets, touched: Touche
 
 /// Returns the mark of what a connection has taken.
 fn mark_of(outlets: &Outlets, conn: u32) -> Mark
-    ensures len { result.len ≡ length (bytes_or_none (outlets.now.taken conn)) }
-    ensures closings { result.closings ≡ count_or_0 (outlets.now.closings conn) }
+    ensures len { result.len ≡ length (bytes_or_none ((outputs_in outlets.now).taken conn)) }
+    ensures closings { result.closings ≡ count_or_0 ((outputs_in outlets.now).closings conn) }
 {
     Mark {
         len: outlets.taken(conn).len(),

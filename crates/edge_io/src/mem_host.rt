@@ -1,12 +1,12 @@
 //! A host in memory.
-ghost use Rattle.std.specs.Prelude.{◌≡◌, ◌≤◌, ◌++◌, ◌∷◌, [], ℕ, Some, List, All, length, IfOk, OnErr};
+ghost use Rattle.std.specs.Prelude.{◌≡◌, ◌≤◌, ◌++◌, ◌∷◌, [], ℕ, Some, List, All, length, IfOk, OnOk, OnErr};
 ghost use Rattle.arch_base.specs.Counts.{HasCause};
 ghost use Rattle.edge_io.specs.Taken.{Took};
 ghost use Rattle.edge_io.specs.Passing.{given_of, left_of};
 ghost use Rattle.edge_io.specs.Hosts.{Gave, SameEvents, OthersKept};
 ghost use Rattle.edge_io.specs.Frames.{Outputs};
 ghost use Rattle.edge_io.specs.Listed.{raised, is_listed};
-ghost use Rattle.edge_io.specs.MemHosts.{Hosting, IsNewHost, Counted, NextFails, SendFails, is_closed};
+ghost use Rattle.edge_io.specs.MemHosts.{Hosting, outputs_in, IsNewHost, Counted, NextFails, SendFails, is_closed};
 ghost use Rattle.edge_io.specs.Scripts.{IsArrival};
 
 use crate::arrivals::Arrivals;
@@ -28,12 +28,11 @@ pub struct MemHost {
     listed: Numbers,
     calls: u64,
     faults: u64,
-    lost: u64,
     starved: u64,
 }
 
-// A contract sees the events, the outputs, the listed ordinals, and the counts of calls, faults,
-// lost calls and failed allocations.
+// A contract sees the events, the outputs, the listed ordinals, and the counts of calls, faults and
+// failed allocations.
 impl Model for MemHost {
     ghost use Rattle.edge_io.specs.MemHosts.{Hosting};
 
@@ -41,11 +40,10 @@ impl Model for MemHost {
 
     ghost view = { λ s. record {
       events = s.arrivals;
-      outputs = s.outlets;
+      outgoing = s.outlets;
       listed = s.listed;
       calls = s.calls;
       faults = s.faults;
-      lost = s.lost;
       starved = s.starved;
     } };
 }
@@ -66,14 +64,13 @@ impl MemHost {
             listed: faults,
             calls: 0,
             faults: 0,
-            lost: 0,
             starved: 0,
         })
     }
 
     /// Returns the bytes that a connection took. Allocates nothing.
     pub fn taken(&self, conn: u32) -> &[u8]
-        ensures { Some result.now ≡ self.now.outputs.taken conn }
+        ensures { Some result.now ≡ (outputs_in self.now.outgoing).taken conn }
     {
         self.outlets.taken(conn)
     }
@@ -81,7 +78,7 @@ impl MemHost {
     /// Returns whether a connection was closed, or `false` from connection 65,536 on. Allocates
     /// nothing.
     pub fn is_closed(&self, conn: u32) -> bool
-        ensures { result ≡ is_closed (self.now.outputs.closings conn) }
+        ensures { result ≡ is_closed ((outputs_in self.now.outgoing).closings conn) }
     {
         self.outlets.closings(conn) > 0
     }
@@ -109,15 +106,15 @@ impl Host for MemHost {
 
     ghost given = { λ s. Some (given_of s.events) };
 
-    ghost taken = { λ s. s.outputs.taken };
+    ghost taken = { λ s. (outputs_in s.outgoing).taken };
 
-    ghost closings = { λ s. s.outputs.closings };
+    ghost closings = { λ s. (outputs_in s.outgoing).closings };
 
     ghost recorded = { λ s past. Unit {0} };
 
     ghost faults = { λ s. s.faults };
 
-    ghost lost = { λ s. s.lost };
+    ghost lost = { λ s. (outputs_in s.outgoing).lost };
 
     fn next(&mut self, into: &mut [u8]) -> Result<Option<Event>, HostFault>
         requires { 1048576 ≤ length into.old }
@@ -130,11 +127,11 @@ impl Host for MemHost {
         ensures failed_given { OnErr result
             (Some (given_of self.new.events) ≡ Some (given_of self.old.events)) }
         ensures failed_noted { (past : List Outputs) → Unit {0} → OnErr result (Unit {0}) }
-        ensures taken { (conn : ℕ) → self.new.outputs.taken conn ≡ self.old.outputs.taken conn }
+        ensures taken { (conn : ℕ) → (outputs_in self.new.outgoing).taken conn ≡ (outputs_in self.old.outgoing).taken conn }
         ensures closings { (conn : ℕ)
-            → self.new.outputs.closings conn ≡ self.old.outputs.closings conn }
+            → (outputs_in self.new.outgoing).closings conn ≡ (outputs_in self.old.outgoing).closings conn }
         ensures cause { HasCause self.old.faults self.new.faults result }
-        ensures lost { self.new.lost ≡ self.old.lost }
+        ensures lost { (outputs_in self.new.outgoing).lost ≡ (outputs_in self.old.outgoing).lost }
         ensures fails { NextFails result self.old self.new }
         ensures counted { Counted self.old self.new }
     {
@@ -146,26 +143,26 @@ impl Host for MemHost {
     }
 
     fn send(&mut self, conn: u32, bytes: &[u8]) -> Result<(), HostFault>
-        ensures took { Took result bytes.now (self.old.outputs.taken conn)
-            (self.new.outputs.taken conn) }
-        ensures others { OthersKept conn self.old.outputs.taken self.new.outputs.taken }
+        ensures took { Took result bytes.now ((outputs_in self.old.outgoing).taken conn)
+            ((outputs_in self.new.outgoing).taken conn) }
+        ensures others { OthersKept conn (outputs_in self.old.outgoing).taken (outputs_in self.new.outgoing).taken }
         ensures closings { (other : ℕ)
-            → self.new.outputs.closings other ≡ self.old.outputs.closings other }
+            → (outputs_in self.new.outgoing).closings other ≡ (outputs_in self.old.outgoing).closings other }
         ensures events { SameEvents (λ (s : Hosting). Some (left_of s.events))
             (λ (s : Hosting). Some (given_of s.events)) (λ (s : Hosting) past. Unit {0})
             (λ (s : Hosting). s.faults) self.old self.new }
-        ensures cause { HasCause self.old.lost self.new.lost result }
+        ensures cause { HasCause (outputs_in self.old.outgoing).lost (outputs_in self.new.outgoing).lost result }
         ensures fails { SendFails result self.old self.new }
         ensures counted { Counted self.old self.new }
     {
         if self.fails() {
-            self.lost = self.lost.saturating_add(1);
+            self.outlets.lose();
             return Err(HostFault);
         }
         match self.outlets.push(conn, bytes) {
             Ok(()) => Ok(()),
             Err(NoMemory) => {
-                self.lost = self.lost.saturating_add(1);
+                self.outlets.lose();
                 self.starved = self.starved.saturating_add(1);
                 Err(HostFault)
             }

@@ -3,7 +3,8 @@ ghost use Rattle.std.specs.Prelude.{◌≡◌, ◌<◌, ℕ, Some, Option, OnOk,
 ghost use Rattle.edge_io.specs.Taken.{plus};
 ghost use Rattle.edge_io.specs.Frames.{count_or_0};
 ghost use Rattle.edge_io.specs.Hosts.{OthersKept, one_more};
-ghost use Rattle.edge_io.specs.MemHosts.{IsUnused, taken_of};
+ghost use Rattle.edge_io.specs.Listed.{raised};
+ghost use Rattle.edge_io.specs.MemHosts.{IsUnused, outputs_in, taken_of};
 
 use arch_base::NoMemory;
 use std::alloc::Global;
@@ -13,55 +14,75 @@ use std::marker::Model;
 /// The number of connections whose closings are counted: those from 0 to 65,535.
 pub(crate) const CONNECTIONS: usize = 65536;
 
-/// What each connection took, and how often each was closed.
+/// What each connection took, how often each was closed, and the count of lost calls.
 #[derive(Drop)]
 pub(crate) struct Outlets {
     alloc: Global,
     taken: BTreeMap<u32, Vec<u8>>,
     closings: Vec<u64>,
+    lost: u64,
 }
 
-// A contract sees the bytes and the closings of each connection.
+// A contract sees the bytes and the closings of each connection, and the count of lost calls.
 impl Model for Outlets {
-    ghost use Rattle.std.specs.Prelude.{slice_get};
-    ghost use Rattle.edge_io.specs.Frames.{Outputs, outputs};
-    ghost use Rattle.edge_io.specs.MemHosts.{taken_of};
+    ghost use Rattle.edge_io.specs.MemHosts.{Outgoing};
 
-    ghost Value = { Outputs };
+    ghost Value = { Outgoing };
 
-    ghost view = { λ s. outputs (taken_of s.taken) (slice_get s.closings.items) };
+    ghost view = { λ s. record {
+      bytes = s.taken.entries;
+      closed = s.closings.items;
+      lost = s.lost;
+    } };
 }
 
 impl Outlets {
     /// Returns the outlets of which no connection took anything, and none was closed.
     pub(crate) fn new(alloc: Global) -> Result<Outlets, NoMemory>
-        ensures { IfOk result (λ made. IsUnused made) }
+        ensures { IfOk result (λ made. IsUnused (outputs_in made)) }
     {
         let closings = zeros(alloc, CONNECTIONS)?;
         Ok(Outlets {
             alloc,
             taken: BTreeMap::new(alloc),
             closings,
+            lost: 0,
         })
     }
 
     /// Appends bytes to those that a connection took.
     ///
-    /// `NoMemory` leaves them unchanged.
+    /// `NoMemory` leaves them unchanged, and is no lost call yet.
     pub(crate) fn push(&mut self, conn: u32, bytes: &[u8]) -> Result<(), NoMemory>
-        ensures ok { OnOk result (self.new.taken conn ≡ plus (self.old.taken conn) bytes.now) }
-        ensures err { OnErr result (self.new.taken conn ≡ self.old.taken conn) }
-        ensures others { OthersKept conn self.old.taken self.new.taken }
-        ensures closings { (other : ℕ) → self.new.closings other ≡ self.old.closings other }
+        ensures ok { OnOk result ((outputs_in self.new).taken conn ≡ plus ((outputs_in self.old).taken conn) bytes.now) }
+        ensures err { OnErr result ((outputs_in self.new).taken conn ≡ (outputs_in self.old).taken conn) }
+        ensures others { OthersKept conn (outputs_in self.old).taken (outputs_in self.new).taken }
+        ensures closings { (other : ℕ) → (outputs_in self.new).closings other ≡ (outputs_in self.old).closings other }
+        ensures lost { self.new.lost ≡ self.old.lost }
     {
         push_to(&mut self.taken, self.alloc, conn, bytes)
     }
 
+    /// Counts a lost call.
+    pub(crate) fn lose(&mut self)
+        ensures { self.new ≡ record self.old { lost = raised self.old.lost } }
+    {
+        self.lost = self.lost.saturating_add(1);
+    }
+
+    /// Returns the count of lost calls.
+    pub(crate) fn lost(&self) -> u64
+        ensures { result ≡ self.now.lost }
+    {
+        self.lost
+    }
+
     /// Counts a closing of a connection. Allocates nothing.
     pub(crate) fn close(&mut self, conn: u32)
-        ensures closed { self.new.closings conn ≡ one_more (self.old.closings conn) }
-        ensures others { OthersKept conn self.old.closings self.new.closings }
-        ensures taken { (other : ℕ) → self.new.taken other ≡ self.old.taken other }
+        ensures closed { (outputs_in self.new).closings conn ≡ one_more ((outputs_in self.old).closings conn) }
+        ensures others { OthersKept conn (outputs_in self.old).closings (outputs_in self.new).closings }
+        ensures taken { (other : ℕ) → (outputs_in self.new).taken other ≡ (outputs_in self.old).taken other }
+        ensures lost { self.new.lost ≡ self.old.lost }
     {
         let place = conn as usize;
         if place < self.closings.len() {
@@ -72,7 +93,7 @@ impl Outlets {
 
     /// Returns the bytes that a connection took.
     pub(crate) fn taken(&self, conn: u32) -> &[u8]
-        ensures { Some result.now ≡ self.now.taken conn }
+        ensures { Some result.now ≡ (outputs_in self.now).taken conn }
     {
         match self.taken.get(&conn) {
             Some(bytes) => bytes.as_slice(),
@@ -82,7 +103,7 @@ impl Outlets {
 
     /// Returns how often a connection was closed, or 0 if that isn't counted.
     pub(crate) fn closings(&self, conn: u32) -> u64
-        ensures { result ≡ count_or_0 (self.now.closings conn) }
+        ensures { result ≡ count_or_0 ((outputs_in self.now).closings conn) }
     {
         match self.closings.get(conn as usize) {
             Some(count) => *count,
@@ -109,9 +130,9 @@ fn push_to(
     conn: u32,
     bytes: &[u8],
 ) -> Result<(), NoMemory>
-    ensures ok { OnOk result (taken_of taken.new conn ≡ plus (taken_of taken.old conn) bytes.now) }
-    ensures err { OnErr result (taken_of taken.new conn ≡ taken_of taken.old conn) }
-    ensures others { OthersKept conn (taken_of taken.old) (taken_of taken.new) }
+    ensures ok { OnOk result (taken_of taken.new.entries conn ≡ plus (taken_of taken.old.entries conn) bytes.now) }
+    ensures err { OnErr result (taken_of taken.new.entries conn ≡ taken_of taken.old.entries conn) }
+    ensures others { OthersKept conn (taken_of taken.old.entries) (taken_of taken.new.entries) }
 {
     if let Some(held) = taken.get_mut(&conn) {
         return match held.extend_from_slice(bytes) {

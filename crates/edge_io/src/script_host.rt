@@ -2,11 +2,12 @@
 ghost use Rattle.std.specs.Prelude.{◌≡◌, ◌≤◌, ◌<◌, ◌++◌, ◌∷◌, [], ℕ, Some, List, All, length, IfOk, OnOk, OnErr, IsOk};
 ghost use Rattle.arch_base.specs.Counts.{HasCause};
 ghost use Rattle.edge_io.specs.Taken.{Took};
-ghost use Rattle.edge_io.specs.Frames.{Outputs, outputs, event_frame, frames_of};
+ghost use Rattle.edge_io.specs.Frames.{Outputs, event_frame, frames_of, FirstFrames};
 ghost use Rattle.edge_io.specs.Listed.{raised};
+ghost use Rattle.edge_io.specs.MemHosts.{outputs_in};
 ghost use Rattle.edge_io.specs.Passing.{given_of, left_of};
 ghost use Rattle.edge_io.specs.Hosts.{Gave, SameEvents, OthersKept};
-ghost use Rattle.edge_io.specs.ScriptHosts.{Scripting, Recorded, IsNewScriptHost, AgreeOn};
+ghost use Rattle.edge_io.specs.ScriptHosts.{Scripting, Recorded, IsNewScriptHost, AgreeOn, Collected, begun_of};
 ghost use Rattle.edge_io.specs.Scripts.{IsArrival};
 
 use crate::arrivals::Arrivals;
@@ -27,28 +28,27 @@ pub struct ScriptHost {
     marks: Vec<Mark>,
     touched: Touched,
     frames: Bytes,
-    lost: u64,
     starved: u64,
 }
 
 // A contract sees the events, the outputs now and when the last event was given, the frames, and
-// the counts of lost calls and of calls that ran out of memory.
+// the count of calls that ran out of memory.
 impl Model for ScriptHost {
     ghost use Rattle.std.specs.Prelude.{◌≤◌};
-    ghost use Rattle.edge_io.specs.ScriptHosts.{Scripting, AreMarked, marked};
+    ghost use Rattle.edge_io.specs.MemHosts.{outputs_in};
+    ghost use Rattle.edge_io.specs.ScriptHosts.{Scripting, AreMarked};
 
     ghost Value = { Scripting };
 
     ghost view = { λ s. record {
       events = s.arrivals;
-      outputs = s.outlets;
-      begun = marked s.outlets s.marks.items;
+      outgoing = s.outlets;
+      marks = s.marks.items;
       frames = s.frames;
-      lost = s.lost;
       starved = s.starved;
     } };
 
-    ghost invariant = { λ s. AreMarked s.outlets s.marks.items s.touched × (s.lost ≤ s.starved) };
+    ghost invariant = { λ s. AreMarked (outputs_in s.outlets) s.marks.items s.touched × (s.outlets.lost ≤ s.starved) };
 }
 
 impl ScriptHost {
@@ -66,7 +66,6 @@ impl ScriptHost {
             marks,
             touched: Touched::none(),
             frames: Bytes::new(alloc),
-            lost: 0,
             starved: 0,
         })
     }
@@ -74,7 +73,7 @@ impl ScriptHost {
     /// Returns the count of calls that ran out of memory. Every lost call is one of them.
     pub fn starved(&self) -> u64
         ensures value { result ≡ self.now.starved }
-        ensures lost { self.now.lost ≤ result }
+        ensures lost { (outputs_in self.now.outgoing).lost ≤ result }
     {
         self.starved
     }
@@ -82,62 +81,75 @@ impl ScriptHost {
     /// Returns the frames of all events before the last one that `next` gave, or of all events if
     /// the last call of `next` returned `None`.
     ///
-    /// They are whole if no call ran out of memory. Allocates nothing.
+    /// If a call ran out of memory, these are the frames of the first few events, and end before
+    /// the event in which that happened. Allocates nothing.
     pub fn into_frames(self) -> Bytes
-        ensures { (past : List Outputs) → Recorded self past → self.starved ≡ 0
+        ensures whole { (past : List Outputs) → Recorded self past → self.starved ≡ 0
             → result ≡ frames_of past }
+        ensures first { (past : List Outputs) → Recorded self past → FirstFrames past result }
     {
         let ScriptHost { frames, .. } = self;
         frames
     }
 
-    /// Appends the frames of the current event, and begins the next one. If memory runs out, none of
-    /// them is appended.
+    /// Appends the frames of the current event, and begins the next one. None of them is appended if
+    /// memory runs out, or did before.
     fn end_event(&mut self)
         ensures events { self.new.events ≡ self.old.events }
-        ensures outputs { self.new.outputs ≡ self.old.outputs }
-        ensures lost { self.new.lost ≡ self.old.lost }
-        ensures begun { (conn : ℕ) → conn < 65536 → AgreeOn self.new.begun self.old.outputs conn }
-        ensures later { self.old.starved ≤ self.new.starved }
-        ensures frames { self.new.starved ≡ 0
-            → self.new.frames ≡ self.old.frames ++ event_frame self.old.begun self.old.outputs }
+        ensures outgoing { self.new.outgoing ≡ self.old.outgoing }
+        ensures begun { (conn : ℕ) → conn < 65536 → AgreeOn (begun_of self.new) (outputs_in self.old.outgoing) conn }
+        ensures collected { Collected self.old self.new }
     {
-        let before = self.frames.as_slice().len();
-        if self.push_frame().is_err() {
-            self.frames.truncate(before);
-            self.starved = self.starved.saturating_add(1);
-        }
+        self.collect();
         mark_all(&mut self.marks, &self.outlets, self.touched);
         self.touched = Touched::none();
     }
 
+    /// Appends the frames of the current event, or none of them if memory runs out, or did before.
+    fn collect(&mut self)
+        ensures events { self.new.events ≡ self.old.events }
+        ensures outgoing { self.new.outgoing ≡ self.old.outgoing }
+        ensures marks { self.new.marks ≡ self.old.marks }
+        ensures collected { Collected self.old self.new }
+    {
+        if self.starved == 0 && self.push_frame().is_err() {
+            self.starved = 1;
+        }
+    }
+
     /// Appends the frames of the current event.
     ///
-    /// `NoMemory` may leave a part of them appended.
+    /// `NoMemory` leaves the frames unchanged.
     fn push_frame(&mut self) -> Result<(), NoMemory>
-        ensures events { self.new.events ≡ self.old.events }
-        ensures outputs { self.new.outputs ≡ self.old.outputs }
-        ensures begun { self.new.begun ≡ self.old.begun }
-        ensures lost { self.new.lost ≡ self.old.lost }
-        ensures starved { self.new.starved ≡ self.old.starved }
-        ensures frames { OnOk result
-            (self.new.frames ≡ self.old.frames ++ event_frame self.old.begun self.old.outputs) }
+        ensures ok { OnOk result (self.new ≡ record self.old {
+          frames = self.old.frames ++ event_frame (begun_of self.old) (outputs_in self.old.outgoing);
+        }) }
+        ensures err { OnErr result (self.new ≡ self.old) }
     {
-        let marks = self.marks.as_slice();
+        let frame = self.frame()?;
+        self.frames.push_slice(frame.as_slice())
+    }
+
+    /// Returns the frames of the current event.
+    fn frame(&self) -> Result<Bytes, NoMemory>
+        ensures { IfOk result (λ frame. frame ≡ event_frame (begun_of self.now) (outputs_in self.now.outgoing)) }
+    {
+        let mut frame = Bytes::new(self.alloc);
         push_all_written(
             self.alloc,
-            &mut self.frames,
+            &mut frame,
             &self.outlets,
-            marks,
+            self.marks.as_slice(),
             self.touched,
         )?;
         push_all_closings(
             self.alloc,
-            &mut self.frames,
+            &mut frame,
             &self.outlets,
-            marks,
+            self.marks.as_slice(),
             self.touched,
-        )
+        )?;
+        Ok(frame)
     }
 }
 
@@ -146,15 +158,15 @@ impl Host for ScriptHost {
 
     ghost given = { λ s. Some (given_of s.events) };
 
-    ghost taken = { λ s. s.outputs.taken };
+    ghost taken = { λ s. (outputs_in s.outgoing).taken };
 
-    ghost closings = { λ s. s.outputs.closings };
+    ghost closings = { λ s. (outputs_in s.outgoing).closings };
 
     ghost recorded = { Recorded };
 
     ghost faults = { λ s. 0 };
 
-    ghost lost = { λ s. s.lost };
+    ghost lost = { λ s. (outputs_in s.outgoing).lost };
 
     fn next(&mut self, into: &mut [u8]) -> Result<Option<Event>, HostFault>
         requires { 1048576 ≤ length into.old }
@@ -162,19 +174,18 @@ impl Host for ScriptHost {
             (Some (left_of self.new.events)) (Some (given_of self.old.events))
             (Some (given_of self.new.events))) }
         ensures noted { (past : List Outputs) → Recorded self.old past
-            → OnOk result (Recorded self.new
-            (past ++ outputs self.old.outputs.taken self.old.outputs.closings ∷ [])) }
+            → OnOk result (Recorded self.new (past ++ outputs_in self.old.outgoing ∷ [])) }
         ensures failed_left { OnErr result
             (Some (left_of self.new.events) ≡ Some (left_of self.old.events)) }
         ensures failed_given { OnErr result
             (Some (given_of self.new.events) ≡ Some (given_of self.old.events)) }
         ensures failed_noted { (past : List Outputs) → Recorded self.old past
             → OnErr result (Recorded self.new past) }
-        ensures taken { (conn : ℕ) → self.new.outputs.taken conn ≡ self.old.outputs.taken conn }
+        ensures taken { (conn : ℕ) → (outputs_in self.new.outgoing).taken conn ≡ (outputs_in self.old.outgoing).taken conn }
         ensures closings { (conn : ℕ)
-            → self.new.outputs.closings conn ≡ self.old.outputs.closings conn }
+            → (outputs_in self.new.outgoing).closings conn ≡ (outputs_in self.old.outgoing).closings conn }
         ensures cause { HasCause 0 0 result }
-        ensures lost { self.new.lost ≡ self.old.lost }
+        ensures lost { (outputs_in self.new.outgoing).lost ≡ (outputs_in self.old.outgoing).lost }
         ensures never_fails { IsOk result }
     {
         self.end_event();
@@ -182,22 +193,22 @@ impl Host for ScriptHost {
     }
 
     fn send(&mut self, conn: u32, bytes: &[u8]) -> Result<(), HostFault>
-        ensures took { Took result bytes.now (self.old.outputs.taken conn)
-            (self.new.outputs.taken conn) }
-        ensures others { OthersKept conn self.old.outputs.taken self.new.outputs.taken }
+        ensures took { Took result bytes.now ((outputs_in self.old.outgoing).taken conn)
+            ((outputs_in self.new.outgoing).taken conn) }
+        ensures others { OthersKept conn (outputs_in self.old.outgoing).taken (outputs_in self.new.outgoing).taken }
         ensures closings { (other : ℕ)
-            → self.new.outputs.closings other ≡ self.old.outputs.closings other }
+            → (outputs_in self.new.outgoing).closings other ≡ (outputs_in self.old.outgoing).closings other }
         ensures events { SameEvents (λ (s : Scripting). Some (left_of s.events))
             (λ (s : Scripting). Some (given_of s.events)) Recorded (λ (s : Scripting). 0) self.old
             self.new }
-        ensures cause { HasCause self.old.lost self.new.lost result }
+        ensures cause { HasCause (outputs_in self.old.outgoing).lost (outputs_in self.new.outgoing).lost result }
         ensures starved { OnErr result (self.new.starved ≡ raised self.old.starved) }
     {
         self.touched.add(conn);
         match self.outlets.push(conn, bytes) {
             Ok(()) => Ok(()),
             Err(NoMemory) => {
-                self.lost = self.lost.saturating_add(1);
+                self.outlets.lose();
                 self.starved = self.starved.saturating_add(1);
                 Err(HostFault)
             }
