@@ -1,28 +1,30 @@
 -- The frames of an event, from the connections that were touched.
 use Rattle.std.proofs.Math.Seq.{take-length}
-use Rattle.std.proofs.Common.{◌≡◌, ◌≤◌, ◌<◌, ◌+◌, ◌-◌, ◌⊎◌, inl, inr, zero, suc, ℕ, Bool, true, false, nat_lt, if◌then◌else◌, List, [], ◌∷◌, ◌++◌, Option, Some, None, ◌≢◌, length, take, drop, replicate, refl, sym, ◌∙◌, ap, subst, arith, append_assoc, append-nil, length-append, take-append-le}
+use Rattle.std.proofs.Common.{◌≡◌, ◌≤◌, ◌<◌, ◌+◌, ◌-◌, ◌⊎◌, inl, inr, zero, suc, ℕ, Bool, true, false, ◌==◌, nat_lt, if◌then◌else◌, List, [], ◌∷◌, ◌++◌, Option, Some, None, ◌≢◌, length, take, drop, min, replicate, refl, sym, ◌∙◌, ap, subst, arith, append_assoc, append-nil, length-append}
 use Rattle.std.proofs.lemmas.Bool.Decides.{nat_tests}
 use Rattle.std.proofs.lemmas.Grind.{common_steps}
-use Rattle.std.proofs.lemmas.List.{length-replicate, get_or-replicate}
+use Rattle.std.proofs.lemmas.List.{length-replicate, get_or-replicate, take-append-le}
 use Rattle.std.proofs.lemmas.Option.{slice_get-get_or, slice_get_past}
 use Rattle.std.specs.List.{slice_get}
 use Rattle.edge_io.specs.Frames.{Outputs, outputs, bytes_or_none, count_or_0, written, closing, each_from, each_connection, event_frame, written_between, closing_between, frames_from, frames_of, last_from, last_of, nothing, FirstFrames}
-use Rattle.edge_io.specs.Hosts.{OthersKept}
+use Rattle.edge_io.specs.Hosts.{SameEvents, OthersKept}
+use Rattle.edge_io.specs.Passing.{Passing, given_of, left_of}
+use Rattle.edge_io.specs.Taken.{plus}
 use Rattle.edge_io.specs.MemHosts.{outputs_in, IsUnused}
 use Rattle.edge_io.specs.ScriptHosts.{mark_at, marked, IsAtMark, IsOutside, AreMarked, AgreeOn, Scripting, begun_of, Collected, Recorded}
 use Rattle.edge_io.specs.declared.marks.Mark.{Mark}
 use Rattle.edge_io.specs.declared.marks.Touched.{Touched}
 
 -- A list of zeros, index by index.
-zeros-at : (n i : ℕ) (b : Bool) → nat_lt i n ≡ b → slice_get (replicate n 0) i ≡ (if b then Some 0 else None)
+zeros-at : (n i : ℕ) (b : Bool) → nat_lt i n ≡ b → slice_get {X = ℕ} (replicate n 0) i ≡ (if b then Some 0 else None)
 zeros-at n i true is =
     let less : i < n = grind (arith, nat_tests) in
-    let size : length (replicate n 0) ≡ n = length-replicate {A = ℕ} n 0 in
-    slice_get-get_or (replicate n 0) i 0 (omega (arith, size, less)) ∙ ap Some (get_or-replicate n i 0 0 less)
+    let size : length {A = ℕ} (replicate n 0) ≡ n = length-replicate {A = ℕ} n 0 in
+    slice_get-get_or {X = ℕ} (replicate n 0) i 0 (omega (arith, size, less)) ∙ ap Some (get_or-replicate n i 0 0 less)
 zeros-at n i false is =
     let past : n ≤ i = grind (arith, nat_tests) in
-    let size : length (replicate n 0) ≡ n = length-replicate {A = ℕ} n 0 in
-    slice_get_past (replicate n 0) i (omega (arith, size, past))
+    let size : length {A = ℕ} (replicate n 0) ≡ n = length-replicate {A = ℕ} n 0 in
+    slice_get_past {X = ℕ} (replicate n 0) i (omega (arith, size, past))
 
 pub zeros_made : (n : ℕ) (made : List ℕ) → made ≡ replicate n 0 → (i : ℕ) → slice_get made i ≡ (if nat_lt i n then Some 0 else None)
 zeros_made n made is i = ap (λ (l : List ℕ). slice_get l i) is ∙ zeros-at n i (nat_lt i n) refl
@@ -39,10 +41,15 @@ each-more text first (suc count) =
 
 -- Two rows of connections, one after the other.
 each-split : (text : ℕ → List ℕ) (first m n : ℕ) → each_from text first (m + n) ≡ each_from text first m ++ each_from text (first + m) n
-each-split text first zero n = ap (λ k. each_from text k n) (let same : first ≡ first + 0 = omega arith in same)
+each-split text first zero n =
+    let same : first ≡ first + 0 = omega arith in
+    let rest : 0 + n ≡ n = omega arith in
+    ap (λ k. each_from text first k) rest ∙ ap (λ k. each_from text k n) same
 each-split text first (suc m) n =
     let here : suc first + m ≡ first + suc m = omega arith in
-    ap (λ l. text first ++ l) (each-split text (suc first) m n ∙ ap (λ k. each_from text (suc first) m ++ each_from text k n) here)
+    let whole : suc m + n ≡ suc (m + n) = omega arith in
+    ap (λ k. each_from text first k) whole
+    ∙ ap (λ l. text first ++ l) (each-split text (suc first) m n ∙ ap (λ k. each_from text (suc first) m ++ each_from text k n) here)
     ∙ sym (append_assoc (text first) (each_from text (suc first) m) (each_from text (first + suc m) n))
 
 -- Connections without a text.
@@ -67,6 +74,7 @@ each-within text first after most low high none =
     let end : first + (after - first) ≡ after = omega arith in
     ap (λ n. each_from text 0 n) whole
     ∙ each-split text 0 first ((after - first) + (most - after))
+    ∙ ap (λ k. each_from text 0 first ++ each_from text k ((after - first) + (most - after))) (let here : 0 + first ≡ first = omega arith in here)
     ∙ ap (λ l. l ++ each_from text first ((after - first) + (most - after))) (each-none text 0 first (λ conn p q. none conn (omega (arith, q)) (inl (omega (arith, q)))))
     ∙ each-split text first (after - first) (most - after)
     ∙ ap (λ l. each_from text first (after - first) ++ l) (each-none text (first + (after - first)) (most - after) (λ conn p q. none conn (omega (arith, q, end)) (inr (omega (arith, p, end)))))
@@ -95,6 +103,9 @@ unfolding each_connection
 each_connection-same a b same = each-same a b 0 65536 (λ conn high. same conn (omega (arith, high)))
 
 -- Marks.
+
+abbrev pub zero-mark : Mark
+zero-mark = record { len = 0; closings = 0 }
 
 take-all : (xs : List ℕ) (n : ℕ) → length xs ≤ n → take n xs ≡ xs
 take-all xs n long = grind (arith, common_steps)
@@ -134,6 +145,18 @@ touched-frame now marks touched is =
     each_connection-touched (closing_between before now) touched.first touched.after is.bounded (λ conn small out. closing-none now marks conn (is.others_at conn small out)) in
     ap (λ l. l ++ each_connection (closing_between before now)) first
     ∙ ap (λ l. each_from (written_between before now) touched.first (touched.after - touched.first) ++ l) second
+
+-- The same of two rows that were appended, one after the other, to nothing.
+pub both-rows : (now : Outputs) (marks a b : List Mark) (t : Touched) (none first both : List ℕ) → AreMarked now marks t → a ≡ marks → b ≡ marks → none ≡ []
+    → first ≡ none ++ each_from (written_between (marked now a) now) t.first (t.after - t.first) → both ≡ first ++ each_from (closing_between (marked now b) now) t.first (t.after - t.first)
+    → both ≡ event_frame (marked now marks) now
+both-rows now marks a b t none first both is a-is b-is none-is first-is both-is =
+    both-is
+    ∙ ap (λ (m : List Mark). first ++ each_from (closing_between (marked now m) now) t.first (t.after - t.first)) b-is
+    ∙ ap (λ l. l ++ each_from (closing_between (marked now marks) now) t.first (t.after - t.first))
+    (first-is ∙ ap (λ l. l ++ each_from (written_between (marked now a) now) t.first (t.after - t.first)) none-is
+    ∙ ap (λ (m : List Mark). each_from (written_between (marked now m) now) t.first (t.after - t.first)) a-is)
+    ∙ sym (touched-frame now marks t is)
 
 -- Frames of events in a row.
 
@@ -215,14 +238,24 @@ recorded-more old new past is begun collected = record {
     by zero e = first-all more new.frames (all e) (ap (λ (o : Outputs). o.lost) (last-pushed past now) ∙ collected.none_lost e)
     by (suc n) e = subst (FirstFrames more) (sym (collected.unchanged (omega (arith, e)))) (first-more past now old.frames is.first_frames)
 
--- One more connection of a row, whose text was appended.
-pub one-connection : (text : ℕ → List ℕ) (old frames new : List ℕ) (first conn : ℕ) → first ≤ conn → frames ≡ old ++ each_from text first (conn - first) → new ≡ frames ++ text conn
-    → new ≡ old ++ each_from text first (conn + 1 - first)
-one-connection text old frames new first conn low is more =
-    let count : conn + 1 - first ≡ suc (conn - first) = omega (arith, low) in
-    let here : first + (conn - first) ≡ conn = omega (arith, low) in
-    more ∙ ap (λ l. l ++ text conn) is ∙ append_assoc old (each_from text first (conn - first)) (text conn)
-    ∙ ap (λ l. old ++ l) (ap (λ k. each_from text first (conn - first) ++ text k) (sym here) ∙ sym (each-more text first (conn - first)) ∙ ap (λ n. each_from text first n) (sym count))
+-- A row of connections, appended one by one.
+
+-- Before the first one.
+pub row-begun : (text : ℕ → List ℕ) (old : List ℕ) (first after : ℕ) → old ≡ old ++ each_from text first (min first after - first)
+row-begun text old first after = let none : min first after - first ≡ 0 = omega arith in sym (append-nil old) ∙ ap (λ n. old ++ each_from text first n) (sym none)
+
+-- After one more, whose text was appended.
+pub row-more : (text : ℕ → List ℕ) (old frames new : List ℕ) (first after conn : ℕ) → first ≤ conn → conn < after → frames ≡ old ++ each_from text first (min conn after - first) → new ≡ frames ++ text conn
+    → new ≡ old ++ each_from text first (min (conn + 1) after - first)
+row-more text old frames new first after conn low high is more =
+    let count : min (conn + 1) after - first ≡ suc (min conn after - first) = omega (arith, low, high) in
+    let here : first + (min conn after - first) ≡ conn = omega (arith, low, high) in
+    more ∙ ap (λ l. l ++ text conn) is ∙ append_assoc old (each_from text first (min conn after - first)) (text conn)
+    ∙ ap (λ l. old ++ l) (ap (λ k. each_from text first (min conn after - first) ++ text k) (sym here) ∙ sym (each-more text first (min conn after - first)) ∙ ap (λ n. each_from text first n) (sym count))
+
+-- After the last one.
+pub row-ended : (text : ℕ → List ℕ) (old frames : List ℕ) (first after conn : ℕ) → frames ≡ old ++ each_from text first (min conn after - first) → after ≤ conn → frames ≡ old ++ each_from text first (after - first)
+row-ended text old frames first after conn is past = let same : min conn after - first ≡ after - first = omega (arith, past) in is ∙ ap (λ n. old ++ each_from text first n) same
 
 -- What a call on one connection leaves.
 
@@ -236,6 +269,28 @@ at-mark-still old new marks conn taken closings is = record {
 -- The connection took more bytes, or as many.
 abbrev pub Grows : Outputs → Outputs → ℕ → Type 0
 Grows old new conn = (more : List ℕ) × (bytes_or_none (new.taken conn) ≡ bytes_or_none (old.taken conn) ++ more)
+
+-- The outputs of a connection that took bytes, or nothing more.
+plus-grows : (old new : Option (List ℕ)) (bytes : List ℕ) → new ≡ plus old bytes → (more : List ℕ) × (bytes_or_none new ≡ bytes_or_none old ++ more)
+plus-grows None new bytes e = ([], ap bytes_or_none e)
+plus-grows (Some taken) new bytes e = (bytes, ap bytes_or_none e)
+
+pub same-grows : (old new : Outputs) (conn : ℕ) → new.taken conn ≡ old.taken conn → Grows old new conn
+same-grows old new conn same = ([], ap bytes_or_none same ∙ sym (append-nil (bytes_or_none (old.taken conn))))
+
+-- Where one connection took more bytes, or as many, so did all.
+grows-all : (old new : Outputs) (conn : ℕ) → Grows old new conn → OthersKept conn old.taken new.taken → (other : ℕ) → Grows old new other
+grows-all old new conn here others other = by (other == conn) refl
+  where
+    by : (b : Bool) → (other == conn) ≡ b → Grows old new other
+    by true e = let same : other ≡ conn = grind (arith, nat_tests) in subst (Grows old new) (sym same) here
+    by false e = same-grows old new other (others other (λ same. grind (arith, nat_tests)))
+
+pub took-grows : (old new : Outputs) (conn : ℕ) (bytes : List ℕ) → new.taken conn ≡ plus (old.taken conn) bytes → OthersKept conn old.taken new.taken → (other : ℕ) → Grows old new other
+took-grows old new conn bytes here others = grows-all old new conn (plus-grows (old.taken conn) (new.taken conn) bytes here) others
+
+pub kept-grows : (old new : Outputs) (conn : ℕ) → new.taken conn ≡ old.taken conn → OthersKept conn old.taken new.taken → (other : ℕ) → Grows old new other
+kept-grows old new conn here others = grows-all old new conn (same-grows old new conn here) others
 
 longer : (xs more : List ℕ) → length xs ≤ length (xs ++ more)
 longer [] more = omega arith
@@ -280,10 +335,26 @@ recorded-kept old new past begun later frames is = record {
   first_frames = subst (FirstFrames past) (sym frames) is.first_frames;
 }
 
--- A new host.
+-- A host whose events alone are others has the same record.
+pub recorded-with : (host : Scripting) (events : Passing) (past : List Outputs) → Recorded host past → Recorded (record host { events = events }) past
+recorded-with host events past is = record { begun_is = is.begun_is; frames_are = is.frames_are; first_frames = is.first_frames }
 
-abbrev pub zero-mark : Mark
-zero-mark = record { len = 0; closings = 0 }
+-- A call on one connection leaves the events and the record.
+pub events-kept : (start old new : Scripting) (touched : Touched) → old ≡ start → AreMarked (outputs_in old.outgoing) old.marks touched → new.events ≡ old.events → new.marks ≡ old.marks → new.frames ≡ old.frames
+    → new.starved ≡ old.starved → ((other : ℕ) → Grows (outputs_in old.outgoing) (outputs_in new.outgoing) other)
+    → SameEvents (λ (s : Scripting). Some (left_of s.events)) (λ (s : Scripting). Some (given_of s.events)) Recorded (λ (s : Scripting). 0) start new
+events-kept start old new touched from is events marks frames starved grows =
+    subst (λ (s : Scripting). SameEvents (λ (s : Scripting). Some (left_of s.events)) (λ (s : Scripting). Some (given_of s.events)) Recorded (λ (s : Scripting). 0) s new) from (record {
+      left_same = ap (λ (p : Passing). Some (left_of p)) events;
+      given_same = ap (λ (p : Passing). Some (given_of p)) events;
+      recorded_same = λ past noted. recorded-kept old new past
+          (λ conn small. subst (λ (m : List Mark). AgreeOn (marked (outputs_in new.outgoing) m) (begun_of old) conn) (sym marks)
+          (begun-kept (outputs_in old.outgoing) (outputs_in new.outgoing) old.marks conn (grows conn) (is.within conn small)))
+          (omega (arith, starved)) frames noted;
+      faults_same = refl;
+    })
+
+-- A new host.
 
 none-counted : (b : Bool) → count_or_0 (if b then Some 0 else None) ≡ 0
 none-counted true = refl

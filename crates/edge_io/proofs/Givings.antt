@@ -1,5 +1,6 @@
 -- The events of a script, given one by one.
 use Rattle.std.proofs.Common.{◌≡◌, ◌≤◌, ◌+◌, zero, suc, ℕ, List, [], ◌∷◌, ◌++◌, Some, None, length, take, drop, All, refl, sym, ◌∙◌, ap, subst, arith}
+use Rattle.std.proofs.lemmas.List.{drop_all}
 use Rattle.std.proofs.lemmas.Option.{none-some, same_Some}
 use Rattle.std.proofs.lemmas.List.Elements.{All-head, All-tail}
 use Rattle.edge_io.specs.Events.{IsEvent, IsWhat, piece_len}
@@ -43,12 +44,14 @@ found-head x xs event same =
     }
 
 found-tail : (x : Arrival) (xs : List Arrival) (at : ℕ) (event : Event) → Found xs at event → Found (x ∷ xs) (suc at) event
-found-tail x xs at event found = record {
-  inside = omega (arith, found.inside);
-  from = found.from;
-  up_to = ap (λ (l : List Arrival). x ∷ l) found.up_to;
-  is = λ all. found.is (All-tail IsArrival x xs all);
-}
+found-tail x xs at event found =
+    let next : suc at + 1 ≡ suc (at + 1) = omega arith in
+    record {
+      inside = omega (arith, found.inside);
+      from = found.from ∙ ap (λ n. (event, piece_at xs at) ∷ drop n (x ∷ xs)) (sym next);
+      up_to = ap (λ n. take n (x ∷ xs)) next ∙ ap (λ (l : List Arrival). x ∷ l) found.up_to;
+      is = λ all. found.is (All-tail IsArrival x xs all);
+    }
 
 pub found : (arrivals : List Arrival) (at : ℕ) (event : Event) → event_at arrivals at ≡ Some event → Found arrivals at event
 found [] at event e = absurd (none-some event e)
@@ -57,7 +60,7 @@ found (x ∷ xs) (suc at) event e = found-tail x xs at event (found xs at event 
 
 -- No event is left from an index on where none is.
 pub none-from : (arrivals : List Arrival) (at : ℕ) → event_at arrivals at ≡ None → drop at arrivals ≡ []
-none-from [] at e = refl
+none-from [] at e = drop_all at [] (omega arith)
 none-from (x ∷ xs) zero e = absurd (none-some x.0 (sym e))
 none-from (x ∷ xs) (suc at) e = none-from xs at e
 

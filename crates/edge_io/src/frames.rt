@@ -68,10 +68,27 @@ pub(crate) fn push_all_closings(
         (touched.after - touched.first)) }
 {
     for conn in touched.first..touched.after {
-        let closed = marks[conn as usize].closings < outlets.closings(conn);
-        push_closing(alloc, frames, conn, closed)?;
+        push_closed(alloc, frames, outlets, marks, conn)?;
     }
     Ok(())
+}
+
+/// Appends the line of a connection that was closed since its mark.
+///
+/// `NoMemory` leaves the frames unchanged.
+fn push_closed(
+    alloc: Global,
+    frames: &mut Bytes,
+    outlets: &Outlets,
+    marks: &[Mark],
+    conn: u32,
+) -> Result<(), NoMemory>
+    requires { conn < length marks.now }
+    ensures { OnOk result (frames.new ≡ frames.old ++ closing_between
+        (marked (outputs_in outlets.now) marks.now) (outputs_in outlets.now) conn) }
+{
+    let closed = marks[conn as usize].closings < outlets.closings(conn);
+    push_closing(alloc, frames, conn, closed)
 }
 
 /// Appends the bytes that a connection took, after a line with its number and their length.

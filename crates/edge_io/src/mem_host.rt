@@ -159,10 +159,9 @@ impl Host for MemHost {
             self.outlets.lose();
             return Err(HostFault);
         }
-        match self.outlets.push(conn, bytes) {
+        match self.outlets.send(conn, bytes) {
             Ok(()) => Ok(()),
             Err(NoMemory) => {
-                self.outlets.lose();
                 self.starved = self.starved.saturating_add(1);
                 Err(HostFault)
             }

@@ -1,5 +1,6 @@
 //! What the connections of a host in memory take.
-ghost use Rattle.std.specs.Prelude.{◌≡◌, ◌<◌, ℕ, Some, Option, OnOk, OnErr, IfOk, if◌then◌else◌, nat_lt, None, slice_get};
+ghost use Rattle.std.specs.Prelude.{◌≡◌, ◌≤◌, ◌<◌, ℕ, Some, Option, OnOk, OnErr, IfOk, if◌then◌else◌, nat_lt, None, slice_get};
+ghost use Rattle.arch_base.specs.Counts.{HasCause};
 ghost use Rattle.edge_io.specs.Taken.{plus};
 ghost use Rattle.edge_io.specs.Frames.{count_or_0};
 ghost use Rattle.edge_io.specs.Hosts.{OthersKept, one_more};
@@ -52,29 +53,35 @@ impl Outlets {
 
     /// Appends bytes to those that a connection took.
     ///
-    /// `NoMemory` leaves them unchanged, and is no lost call yet.
-    pub(crate) fn push(&mut self, conn: u32, bytes: &[u8]) -> Result<(), NoMemory>
-        ensures ok { OnOk result ((outputs_in self.new).taken conn ≡ plus ((outputs_in self.old).taken conn) bytes.now) }
-        ensures err { OnErr result ((outputs_in self.new).taken conn ≡ (outputs_in self.old).taken conn) }
+    /// `NoMemory` leaves them unchanged, and the call is counted as lost.
+    pub(crate) fn send(&mut self, conn: u32, bytes: &[u8]) -> Result<(), NoMemory>
+        ensures ok { OnOk result ((outputs_in self.new).taken conn ≡ plus
+            ((outputs_in self.old).taken conn) bytes.now) }
+        ensures err { OnErr result ((outputs_in self.new).taken conn
+            ≡ (outputs_in self.old).taken conn) }
         ensures others { OthersKept conn (outputs_in self.old).taken (outputs_in self.new).taken }
-        ensures closings { (other : ℕ) → (outputs_in self.new).closings other ≡ (outputs_in self.old).closings other }
-        ensures lost { self.new.lost ≡ self.old.lost }
+        ensures closings { (other : ℕ) → (outputs_in self.new).closings other
+            ≡ (outputs_in self.old).closings other }
+        ensures cause { HasCause self.old.lost self.new.lost result }
+        ensures rose { OnErr result (self.new.lost ≡ raised self.old.lost) }
     {
-        push_to(&mut self.taken, self.alloc, conn, bytes)
+        match push_to(&mut self.taken, self.alloc, conn, bytes) {
+            Ok(()) => Ok(()),
+            Err(NoMemory) => {
+                self.lost = self.lost.saturating_add(1);
+                Err(NoMemory)
+            }
+        }
     }
 
     /// Counts a lost call.
     pub(crate) fn lose(&mut self)
-        ensures { self.new ≡ record self.old { lost = raised self.old.lost } }
+        ensures later { self.old.lost ≤ self.new.lost }
+        ensures rose { self.new.lost ≡ raised self.old.lost }
+        ensures bytes { self.new.bytes ≡ self.old.bytes }
+        ensures closed { self.new.closed ≡ self.old.closed }
     {
         self.lost = self.lost.saturating_add(1);
-    }
-
-    /// Returns the count of lost calls.
-    pub(crate) fn lost(&self) -> u64
-        ensures { result ≡ self.now.lost }
-    {
-        self.lost
     }
 
     /// Counts a closing of a connection. Allocates nothing.
@@ -113,7 +120,6 @@ impl Outlets {
 }
 
 /// Returns `len` zeros.
-#[tactic(auto, using(crate::proofs::Framing::zeros_made))]
 fn zeros(alloc: Global, len: usize) -> Result<Vec<u64>, NoMemory>
     ensures { IfOk result (λ made. (i : ℕ)
         → slice_get made.items i ≡ (if nat_lt i len then Some 0 else None)) }

@@ -205,10 +205,9 @@ impl Host for ScriptHost {
         ensures starved { OnErr result (self.new.starved ≡ raised self.old.starved) }
     {
         self.touched.add(conn);
-        match self.outlets.push(conn, bytes) {
+        match self.outlets.send(conn, bytes) {
             Ok(()) => Ok(()),
             Err(NoMemory) => {
-                self.outlets.lose();
                 self.starved = self.starved.saturating_add(1);
                 Err(HostFault)
             }

@@ -7,7 +7,6 @@ pub returns : goal.returns
 returns c = record {
   events_are = search rules;
   unused = c.in_ok-outlets.ensures;
-  nothing_yet = new-recorded _ c.in_ok-outlets.outlets c.in_ok-marks.marks.items c.in_ok-outlets.ensures c.in_ok-marks.ensures.zero refl refl;
-  no_lost = refl;
+  nothing_yet = new-recorded _ c.in_ok-outlets.ensures c.in_ok-marks.ensures.zero c.new-3.ensures;
   not_starved = refl;
 }
