@@ -63,7 +63,8 @@ pub record Recorded (host : Scripting) (past : List Outputs) : Type 0 where
 -- memory, and the frames are as before.
 pub record Collected (old new : Scripting) : Type 0 where
   pub later : old.starved ≤ new.starved
-  pub appended : new.starved ≡ 0 → new.frames ≡ old.frames ++ event_frame (begun_of old) (outputs_in old.outgoing)
+  pub appended : new.starved ≡ 0
+      → new.frames ≡ old.frames ++ event_frame (begun_of old) (outputs_in old.outgoing)
   pub none_lost : new.starved ≡ 0 → old.outgoing.lost ≡ 0
   pub unchanged : 1 ≤ new.starved → new.frames ≡ old.frames
 

@@ -23,8 +23,9 @@ pub(crate) fn push_all_written(
     requires all { length marks.now ≡ 65536 }
     requires bounded { touched.after ≤ 65536 }
     ensures { OnOk result (frames.new ≡ frames.old
-        ++ each_from (written_between (marked (outputs_in outlets.now) marks.now) (outputs_in outlets.now)) touched.first
-        (touched.after - touched.first)) }
+        ++ each_from
+        (written_between (marked (outputs_in outlets.now) marks.now) (outputs_in outlets.now))
+        touched.first (touched.after - touched.first)) }
 {
     for conn in touched.first..touched.after {
         push_taken(alloc, frames, outlets, marks, conn)?;
@@ -64,8 +65,9 @@ pub(crate) fn push_all_closings(
     requires all { length marks.now ≡ 65536 }
     requires bounded { touched.after ≤ 65536 }
     ensures { OnOk result (frames.new ≡ frames.old
-        ++ each_from (closing_between (marked (outputs_in outlets.now) marks.now) (outputs_in outlets.now)) touched.first
-        (touched.after - touched.first)) }
+        ++ each_from
+        (closing_between (marked (outputs_in outlets.now) marks.now) (outputs_in outlets.now))
+        touched.first (touched.after - touched.first)) }
 {
     for conn in touched.first..touched.after {
         push_closed(alloc, frames, outlets, marks, conn)?;

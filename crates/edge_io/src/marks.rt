@@ -76,7 +76,8 @@ fn zero_marks(alloc: Global, count: usize) -> Result<Vec<Mark>, NoMemory>
 pub(crate) fn mark_all(marks: &mut Vec<Mark>, outlets: &Outlets, touched: Touched)
     requires { AreMarked (outputs_in outlets.now) marks.old.items touched }
     ensures len { length marks.new.items ≡ 65536 }
-    ensures each { (conn : ℕ) → conn < 65536 → IsAtMark (outputs_in outlets.now) marks.new.items conn }
+    ensures each { (conn : ℕ) → conn < 65536
+        → IsAtMark (outputs_in outlets.now) marks.new.items conn }
     ensures within { (conn : ℕ) → conn < 65536 → (mark_at marks.new.items conn).len
         ≤ length (bytes_or_none ((outputs_in outlets.now).taken conn)) }
 {

@@ -114,7 +114,7 @@ impl Host for MemHost {
 
     ghost faults = { λ s. s.faults };
 
-    ghost lost = { λ s. (outputs_in s.outgoing).lost };
+    ghost lost = { λ s. s.outgoing.lost };
 
     fn next(&mut self, into: &mut [u8]) -> Result<Option<Event>, HostFault>
         requires { 1048576 ≤ length into.old }
@@ -127,11 +127,12 @@ impl Host for MemHost {
         ensures failed_given { OnErr result
             (Some (given_of self.new.events) ≡ Some (given_of self.old.events)) }
         ensures failed_noted { (past : List Outputs) → Unit {0} → OnErr result (Unit {0}) }
-        ensures taken { (conn : ℕ) → (outputs_in self.new.outgoing).taken conn ≡ (outputs_in self.old.outgoing).taken conn }
-        ensures closings { (conn : ℕ)
-            → (outputs_in self.new.outgoing).closings conn ≡ (outputs_in self.old.outgoing).closings conn }
+        ensures taken { (conn : ℕ) → (outputs_in self.new.outgoing).taken conn
+            ≡ (outputs_in self.old.outgoing).taken conn }
+        ensures closings { (conn : ℕ) → (outputs_in self.new.outgoing).closings conn
+            ≡ (outputs_in self.old.outgoing).closings conn }
         ensures cause { HasCause self.old.faults self.new.faults result }
-        ensures lost { (outputs_in self.new.outgoing).lost ≡ (outputs_in self.old.outgoing).lost }
+        ensures lost { self.new.outgoing.lost ≡ self.old.outgoing.lost }
         ensures fails { NextFails result self.old self.new }
         ensures counted { Counted self.old self.new }
     {
@@ -145,13 +146,14 @@ impl Host for MemHost {
     fn send(&mut self, conn: u32, bytes: &[u8]) -> Result<(), HostFault>
         ensures took { Took result bytes.now ((outputs_in self.old.outgoing).taken conn)
             ((outputs_in self.new.outgoing).taken conn) }
-        ensures others { OthersKept conn (outputs_in self.old.outgoing).taken (outputs_in self.new.outgoing).taken }
-        ensures closings { (other : ℕ)
-            → (outputs_in self.new.outgoing).closings other ≡ (outputs_in self.old.outgoing).closings other }
+        ensures others { OthersKept conn (outputs_in self.old.outgoing).taken
+            (outputs_in self.new.outgoing).taken }
+        ensures closings { (other : ℕ) → (outputs_in self.new.outgoing).closings other
+            ≡ (outputs_in self.old.outgoing).closings other }
         ensures events { SameEvents (λ (s : Hosting). Some (left_of s.events))
             (λ (s : Hosting). Some (given_of s.events)) (λ (s : Hosting) past. Unit {0})
             (λ (s : Hosting). s.faults) self.old self.new }
-        ensures cause { HasCause (outputs_in self.old.outgoing).lost (outputs_in self.new.outgoing).lost result }
+        ensures cause { HasCause self.old.outgoing.lost self.new.outgoing.lost result }
         ensures fails { SendFails result self.old self.new }
         ensures counted { Counted self.old self.new }
     {

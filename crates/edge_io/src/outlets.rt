@@ -86,9 +86,12 @@ impl Outlets {
 
     /// Counts a closing of a connection. Allocates nothing.
     pub(crate) fn close(&mut self, conn: u32)
-        ensures closed { (outputs_in self.new).closings conn ≡ one_more ((outputs_in self.old).closings conn) }
-        ensures others { OthersKept conn (outputs_in self.old).closings (outputs_in self.new).closings }
-        ensures taken { (other : ℕ) → (outputs_in self.new).taken other ≡ (outputs_in self.old).taken other }
+        ensures closed { (outputs_in self.new).closings conn
+            ≡ one_more ((outputs_in self.old).closings conn) }
+        ensures others { OthersKept conn (outputs_in self.old).closings
+            (outputs_in self.new).closings }
+        ensures taken { (other : ℕ) → (outputs_in self.new).taken other
+            ≡ (outputs_in self.old).taken other }
         ensures lost { self.new.lost ≡ self.old.lost }
     {
         let place = conn as usize;
@@ -136,7 +139,8 @@ fn push_to(
     conn: u32,
     bytes: &[u8],
 ) -> Result<(), NoMemory>
-    ensures ok { OnOk result (taken_of taken.new.entries conn ≡ plus (taken_of taken.old.entries conn) bytes.now) }
+    ensures ok { OnOk result (taken_of taken.new.entries conn
+        ≡ plus (taken_of taken.old.entries conn) bytes.now) }
     ensures err { OnErr result (taken_of taken.new.entries conn ≡ taken_of taken.old.entries conn) }
     ensures others { OthersKept conn (taken_of taken.old.entries) (taken_of taken.new.entries) }
 {

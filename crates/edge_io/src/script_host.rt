@@ -48,7 +48,8 @@ impl Model for ScriptHost {
       starved = s.starved;
     } };
 
-    ghost invariant = { λ s. AreMarked (outputs_in s.outlets) s.marks.items s.touched × (s.outlets.lost ≤ s.starved) };
+    ghost invariant = { λ s. AreMarked (outputs_in s.outlets) s.marks.items s.touched
+        × (s.outlets.lost ≤ s.starved) };
 }
 
 impl ScriptHost {
@@ -73,7 +74,7 @@ impl ScriptHost {
     /// Returns the count of calls that ran out of memory. Every lost call is one of them.
     pub fn starved(&self) -> u64
         ensures value { result ≡ self.now.starved }
-        ensures lost { (outputs_in self.now.outgoing).lost ≤ result }
+        ensures lost { self.now.outgoing.lost ≤ result }
     {
         self.starved
     }
@@ -97,7 +98,8 @@ impl ScriptHost {
     fn end_event(&mut self)
         ensures events { self.new.events ≡ self.old.events }
         ensures outgoing { self.new.outgoing ≡ self.old.outgoing }
-        ensures begun { (conn : ℕ) → conn < 65536 → AgreeOn (begun_of self.new) (outputs_in self.old.outgoing) conn }
+        ensures begun { (conn : ℕ) → conn < 65536
+            → AgreeOn (begun_of self.new) (outputs_in self.old.outgoing) conn }
         ensures collected { Collected self.old self.new }
     {
         self.collect();
@@ -132,7 +134,8 @@ impl ScriptHost {
 
     /// Returns the frames of the current event.
     fn frame(&self) -> Result<Bytes, NoMemory>
-        ensures { IfOk result (λ frame. frame ≡ event_frame (begun_of self.now) (outputs_in self.now.outgoing)) }
+        ensures { IfOk result (λ frame.
+            frame ≡ event_frame (begun_of self.now) (outputs_in self.now.outgoing)) }
     {
         let mut frame = Bytes::new(self.alloc);
         push_all_written(
@@ -166,7 +169,7 @@ impl Host for ScriptHost {
 
     ghost faults = { λ s. 0 };
 
-    ghost lost = { λ s. (outputs_in s.outgoing).lost };
+    ghost lost = { λ s. s.outgoing.lost };
 
     fn next(&mut self, into: &mut [u8]) -> Result<Option<Event>, HostFault>
         requires { 1048576 ≤ length into.old }
@@ -181,11 +184,12 @@ impl Host for ScriptHost {
             (Some (given_of self.new.events) ≡ Some (given_of self.old.events)) }
         ensures failed_noted { (past : List Outputs) → Recorded self.old past
             → OnErr result (Recorded self.new past) }
-        ensures taken { (conn : ℕ) → (outputs_in self.new.outgoing).taken conn ≡ (outputs_in self.old.outgoing).taken conn }
-        ensures closings { (conn : ℕ)
-            → (outputs_in self.new.outgoing).closings conn ≡ (outputs_in self.old.outgoing).closings conn }
+        ensures taken { (conn : ℕ) → (outputs_in self.new.outgoing).taken conn
+            ≡ (outputs_in self.old.outgoing).taken conn }
+        ensures closings { (conn : ℕ) → (outputs_in self.new.outgoing).closings conn
+            ≡ (outputs_in self.old.outgoing).closings conn }
         ensures cause { HasCause 0 0 result }
-        ensures lost { (outputs_in self.new.outgoing).lost ≡ (outputs_in self.old.outgoing).lost }
+        ensures lost { self.new.outgoing.lost ≡ self.old.outgoing.lost }
         ensures never_fails { IsOk result }
     {
         self.end_event();
@@ -195,13 +199,14 @@ impl Host for ScriptHost {
     fn send(&mut self, conn: u32, bytes: &[u8]) -> Result<(), HostFault>
         ensures took { Took result bytes.now ((outputs_in self.old.outgoing).taken conn)
             ((outputs_in self.new.outgoing).taken conn) }
-        ensures others { OthersKept conn (outputs_in self.old.outgoing).taken (outputs_in self.new.outgoing).taken }
-        ensures closings { (other : ℕ)
-            → (outputs_in self.new.outgoing).closings other ≡ (outputs_in self.old.outgoing).closings other }
+        ensures others { OthersKept conn (outputs_in self.old.outgoing).taken
+            (outputs_in self.new.outgoing).taken }
+        ensures closings { (other : ℕ) → (outputs_in self.new.outgoing).closings other
+            ≡ (outputs_in self.old.outgoing).closings other }
         ensures events { SameEvents (λ (s : Scripting). Some (left_of s.events))
             (λ (s : Scripting). Some (given_of s.events)) Recorded (λ (s : Scripting). 0) self.old
             self.new }
-        ensures cause { HasCause (outputs_in self.old.outgoing).lost (outputs_in self.new.outgoing).lost result }
+        ensures cause { HasCause self.old.outgoing.lost self.new.outgoing.lost result }
         ensures starved { OnErr result (self.new.starved ≡ raised self.old.starved) }
     {
         self.touched.add(conn);
