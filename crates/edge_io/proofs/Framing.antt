@@ -6,7 +6,7 @@ use Rattle.std.proofs.lemmas.Grind.{common_steps}
 use Rattle.std.proofs.lemmas.List.{length-replicate, get_or-replicate, take-append-le}
 use Rattle.std.proofs.lemmas.Option.{slice_get-get_or, slice_get_past}
 use Rattle.std.specs.List.{slice_get}
-use Rattle.edge_io.specs.Frames.{Outputs, outputs, bytes_or_none, count_or_0, written, closing, each_from, each_connection, event_frame, written_between, closing_between, frames_from, frames_of, last_from, last_of, nothing, FirstFrames}
+use Rattle.edge_io.specs.Frames.{Outputs, bytes_or_none, count_or_0, written, closing, each_from, each_connection, event_frame, written_between, closing_between, frames_from, frames_of, last_from, last_of, nothing, FirstFrames}
 use Rattle.edge_io.specs.Hosts.{SameEvents, OthersKept}
 use Rattle.edge_io.specs.Passing.{Passing, given_of, left_of}
 use Rattle.edge_io.specs.Taken.{plus}

@@ -1,4 +1,4 @@
-use Rattle.std.proofs.Common.{◌≡◌, ◌∙◌, ◌+◌, ◌++◌, Some, List, length, take, drop, ap, sym, subst, refl}
+use Rattle.std.proofs.Common.{◌∙◌, ◌+◌, ◌++◌, Some, length, take, drop, ap, sym, subst, refl}
 use Rattle.edge_io.specs.Hosts.{GaveOne}
 use Rattle.edge_io.specs.Scripts.{piece_at}
 use Rattle.edge_io.specs.Passing.{Passing, given_of, left_of}

@@ -1,4 +1,4 @@
-use Rattle.std.proofs.Common.{◌∙◌, ap, length, arith}
+use Rattle.std.proofs.Common.{ap, length, arith}
 use Rattle.edge_io.proofs.Givings.{piece-short}
 use Rattle.edge_io.proofs.arrivals.Arrivals.piece.Goals as goal
 
