@@ -354,29 +354,10 @@ events-kept start old new touched from is events marks frames starved grows =
       faults_same = refl;
     })
 
--- A new host.
-
-none-counted : (b : Bool) → count_or_0 (if b then Some 0 else None) ≡ 0
-none-counted true = refl
-none-counted false = refl
-
--- Before the first event each connection is at its mark, which says that it took nothing.
-pub new-marked : (now : Outputs) (marks : List Mark) (touched : Touched) → IsUnused now → length marks ≡ 65536 → ((conn : ℕ) → mark_at marks conn ≡ zero-mark) → touched.after ≡ 0
-    → AreMarked now marks touched
-new-marked now marks touched unused all zeros none = record {
-  all_marked = all;
-  bounded = omega (arith, none);
-  within = λ conn small. let len : (mark_at marks conn).len ≡ 0 = ap (λ (m : Mark). m.len) (zeros conn) in omega (arith, len);
-  others_at = λ conn small out. record {
-    taken_at = let bytes : length (bytes_or_none (now.taken conn)) ≡ 0 = ap (λ o. length (bytes_or_none o)) (unused.untaken conn) in omega (arith, bytes);
-    closings_at = ap count_or_0 (unused.all_open conn) ∙ none-counted (nat_lt conn 65536) ∙ sym (ap (λ (m : Mark). m.closings) (zeros conn));
-  };
-}
-
 take-none : (n : ℕ) → take {A = ℕ} n [] ≡ []
 take-none n = take-all [] n (omega arith)
 
--- Its record is empty.
+-- The record of a new host is empty.
 pub new-recorded : (host : Scripting) → IsUnused (outputs_in host.outgoing) → ((conn : ℕ) → mark_at host.marks conn ≡ zero-mark) → host.frames ≡ [] → Recorded host []
 new-recorded host unused zeros none = record {
   begun_is = λ conn small. record {

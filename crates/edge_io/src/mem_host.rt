@@ -52,7 +52,7 @@ impl MemHost {
     /// Returns a host of a script's events.
     ///
     /// The calls of `next` and `send` whose ordinals, from 1 and over both, are among `faults`
-    /// fail. A listed `send` takes nothing.
+    /// fail. A failed `send` takes nothing.
     pub fn new(alloc: Global, script: Script, faults: Numbers) -> Result<MemHost, NoMemory>
         requires { All IsArrival script }
         ensures { IfOk result (λ host. IsNewHost script faults host) }
@@ -154,6 +154,8 @@ impl Host for MemHost {
             (λ (s : Hosting). Some (given_of s.events)) (λ (s : Hosting) past. Unit {0})
             (λ (s : Hosting). s.faults) self.old self.new }
         ensures cause { HasCause self.old.outgoing.lost self.new.outgoing.lost result }
+        ensures untaken { OnErr result ((outputs_in self.new.outgoing).taken conn
+            ≡ (outputs_in self.old.outgoing).taken conn) }
         ensures fails { SendFails result self.old self.new }
         ensures counted { Counted self.old self.new }
     {

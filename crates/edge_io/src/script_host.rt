@@ -207,6 +207,8 @@ impl Host for ScriptHost {
             (λ (s : Scripting). Some (given_of s.events)) Recorded (λ (s : Scripting). 0) self.old
             self.new }
         ensures cause { HasCause self.old.outgoing.lost self.new.outgoing.lost result }
+        ensures untaken { OnErr result ((outputs_in self.new.outgoing).taken conn
+            ≡ (outputs_in self.old.outgoing).taken conn) }
         ensures starved { OnErr result (self.new.starved ≡ raised self.old.starved) }
     {
         self.touched.add(conn);
