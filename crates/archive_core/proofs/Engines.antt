@@ -9,13 +9,14 @@ use Rattle.disk_model.specs.Disk.{Files, Content, Image, Told, Unchanged, ReadsF
 use Rattle.disk_model.specs.Moments.{started}
 use Rattle.arch_model.specs.Archives.{Archive, live}
 use Rattle.arch_model.specs.Listings.{rows_of}
-use Rattle.arch_model.specs.Delivery.{Done}
+use Rattle.arch_model.specs.Delivery.{Done, applied}
 use Rattle.arch_model.specs.Keeping.{Passes, Fits, Moves, Settles, StaysShut, Comes, Ending, Accepts, Refuses, Starves, Fails, Breaks, ReadyBy, StaysReady, AnswerCause, OpeningWhy, ending, opening_answer}
 use Rattle.arch_model.specs.Shelves.{Stays, ReadCause, ReadsOnce}
 use Rattle.arch_model.specs.Standing.{Standing, standing, with_doubt, one_of, IsFound}
 use Rattle.arch_model.specs.declared.answer.Answer.{Answer}
 use Rattle.arch_model.specs.declared.answer.Answer.TheVariants as answer
 use Rattle.arch_model.specs.declared.command.Command.{Command}
+use Rattle.arch_model.specs.declared.command.Command.TheVariants.{Deliver, Remove}
 use Rattle.arch_model.specs.declared.opening.OpenRefusal.{OpenRefusal}
 use Rattle.arch_model.specs.declared.opening.OpenRefusal.TheVariants as refusal
 use Rattle.arch_model.specs.declared.text_refusal.TextRefusal.{TextRefusal}
@@ -28,11 +29,17 @@ use Rattle.epoch_store.specs.Opens.{RecoversOfWith, AllRecoverWith, ReadsWith, I
 use Rattle.epoch_store.specs.Reads.{AnswersQuietly}
 use Rattle.epoch_store.specs.Recovery.{RecoversWith, RecoversSomeWith}
 use Rattle.epoch_store.specs.Stores.{View, Keeps, IsStoreWith, RecoversEitherWith}
-use Rattle.archive_core.specs.Commands.{DoneBy, OnRefusal, UnlessFault, IfUnread, OnlyLooks}
+use Rattle.archive_core.specs.Commands.{DoneBy, OnDone, OnRefusal, UnlessFault, IfUnread, IfRemoval, OnlyLooks, is_delivery}
 use Rattle.archive_core.specs.Engines.{Owning, needs_opening, Holds, RowsKeepUp, IfRefused, is_ready, Leaves, ReadsOn, reading-same, store-left, now-left, reading-kept}
 use Rattle.archive_core.specs.Numbers.{GivesBlobKept, TellsOther}
 use Rattle.archive_core.specs.Walks.{RowsAfter}
+use Rattle.archive_core.proofs.KeepingUp.{done-rows}
 use Rattle.archive_core.proofs.Standing.{store_keeps}
+
+-- What holds holds of a removal.
+pub of-removal : (delivers : Bool) (P : Type 0) → P → IfRemoval delivers P
+of-removal true P holds = tt
+of-removal false P holds = holds
 
 -- One of the archives that may be there is the archive, or the one in doubt.
 is_either : (x : Archive) (d : Option Archive) (may : Option Archive) (i : ℕ) → i < length (with_doubt x d) → get_or (with_doubt x d) i may ≡ may → (b : Archive) × (may ≡ Some b) × ((b ≡ x) ⊎ (d ≡ Some b))
@@ -289,6 +296,27 @@ module _ {D : Type 0} (content : D → Option Content) (moment : D → ℕ) (lef
     taken-at (answer.NoText number) stale never rows untouched = absurd never
     taken-at (answer.Damaged file at) stale never rows untouched = absurd never
 
+  -- A removal that was done leaves the archive after it held.
+  removed_by : (e new : Owning D) (a : Archive) (n arrived : ℕ) (text : List ℕ) (reply : Answer) → (held : Holds content e a) → DoneBy new.view held.0 a (applied a (Remove n) arrived) reply (content new.disk) → RowsAfter (Remove n) reply text arrived e.rows new.rows
+      → OnDone reply (Holds content new (applied a (Remove n) arrived).archive)
+  removed_by e new a n arrived text (answer.Ok number id) held done rows = (held.0, done.store, done-rows a (Remove n) arrived number id text e.rows new.rows (store_keeps e.view held.0 a (content e.disk) held.1).valid done.answer_is tt held.2 rows)
+  removed_by e new a n arrived text answer.NoMemory held done rows = tt
+  removed_by e new a n arrived text (answer.Duplicate number) held done rows = tt
+  removed_by e new a n arrived text answer.NoFields held done rows = tt
+  removed_by e new a n arrived text (answer.TooLarge len) held done rows = tt
+  removed_by e new a n arrived text (answer.Full max) held done rows = tt
+  removed_by e new a n arrived text (answer.Collision number) held done rows = tt
+  removed_by e new a n arrived text (answer.NotLive number) held done rows = tt
+  removed_by e new a n arrived text (answer.NoText number) held done rows = tt
+  removed_by e new a n arrived text answer.IsMirror held done rows = tt
+  removed_by e new a n arrived text answer.DiskFault held done rows = tt
+  removed_by e new a n arrived text (answer.Damaged file at) held done rows = tt
+
+  pub removed-at : (e new : Owning D) (command : Command) (arrived : ℕ) (text : List ℕ) (reply : Answer) → ((a : Archive) (cache : List ℕ) → IsStoreWith e.view cache a (content e.disk) → DoneBy new.view cache a (applied a command arrived) reply (content new.disk))
+      → IfRemoval (is_delivery command) (RowsAfter command reply text arrived e.rows new.rows) → IfRemoval (is_delivery command) ((a : Archive) → Holds content e a → OnDone reply (Holds content new (applied a command arrived).archive))
+  removed-at e new (Deliver bytes) arrived text reply done rows = tt
+  removed-at e new (Remove n) arrived text reply done rows = λ a held. removed_by e new a n arrived text reply held (done a held.0 held.1) rows
+
   -- A refusal leaves all but the disk as it was, and the disk was only read.
   module _ (e new : Owning D) (ok : Bool) (command : Command) (text : List ℕ) (arrived : ℕ) where
     only-reads : new.view ≡ e.view → new.rows ≡ e.rows → new.stale ≡ e.stale → OnlyLooks content moment left_since e.disk new.disk → ReadsOn content moment left_since e new
@@ -391,6 +419,10 @@ module _ {D : Type 0} (content : D → Option Content) (moment : D → ℕ) (lef
     pub left-from : (disk : D) (wanted : Archive → Archive) → ((a : Archive) (cache : List ℕ) → IsStoreWith inside.view cache a (content inside.disk) → LeavesOnly moment left_since inside.disk disk (RecoversEitherWith cache a (wanted a)))
         → (a : Archive) (cache : List ℕ) → IsStoreWith old.view cache a (content old.disk) → LeavesOnly moment left_since old.disk disk (RecoversEitherWith cache a (wanted a))
     left-from disk wanted run = subst (λ (o : Owning D). (a : Archive) (cache : List ℕ) → IsStoreWith o.view cache a (content o.disk) → LeavesOnly moment left_since o.disk disk (RecoversEitherWith cache a (wanted a))) is run
+
+    pub removed-from : (new : Owning D) (command : Command) (arrived : ℕ) (text : List ℕ) (reply : Answer) → ((a : Archive) (cache : List ℕ) → IsStoreWith inside.view cache a (content inside.disk) → DoneBy new.view cache a (applied a command arrived) reply (content new.disk))
+        → IfRemoval (is_delivery command) (RowsAfter command reply text arrived inside.rows new.rows) → IfRemoval (is_delivery command) ((a : Archive) → Holds content old a → OnDone reply (Holds content new (applied a command arrived).archive))
+    removed-from new command arrived text reply done rows = subst (λ (o : Owning D). IfRemoval (is_delivery command) ((a : Archive) → Holds content o a → OnDone reply (Holds content new (applied a command arrived).archive))) is (removed-at inside new command arrived text reply done rows)
 
     pub done-from : (view : View) (disk : D) (wanted : Archive → Done) (reply : Answer) → ((a : Archive) (cache : List ℕ) → IsStoreWith inside.view cache a (content inside.disk) → DoneBy view cache a (wanted a) reply (content disk))
         → (a : Archive) (cache : List ℕ) → IsStoreWith old.view cache a (content old.disk) → DoneBy view cache a (wanted a) reply (content disk)

@@ -1,6 +1,5 @@
--- The index of what a store keeps: that of an archive's entries, with one more entry, and with a text
--- that was taken back.
-use Rattle.std.specs.Prelude.{◌≡◌, ◌≢◌, ◌+◌, ◌<◌, ℕ, zero, suc, true, false, List, [], ◌∷◌, ◌++◌, length, take, get_or, Option, Some, None, IsSome, unwrap_or, option_map, refl}
+-- The index of what a store keeps: that of an archive's entries, and with one more entry.
+use Rattle.std.specs.Prelude.{◌≡◌, ◌≢◌, ◌+◌, ◌<◌, ℕ, zero, suc, true, false, List, [], ◌∷◌, ◌++◌, length, take, get_or, Option, Some, None, IsSome, unwrap_or, refl}
 use Rattle.std.specs.List.{AllByRecursion}
 use Rattle.std.specs.Global.{Vec}
 use Rattle.std.specs.Map.{lookup}
@@ -14,17 +13,17 @@ use Rattle.git_objects.specs.declared.entry_kind.EntryKind.{EntryKind}
 use Rattle.git_objects.specs.declared.entry_kind.EntryKind.TheVariants.{Message, Deletion}
 use Rattle.mail_reader.specs.Ids.{own_id}
 use Rattle.mail_reader.specs.Content.{content_id_of}
-use Rattle.arch_model.specs.Archives.{Entry, Archive, message, deletion, live, text_of, owner}
+use Rattle.arch_model.specs.Archives.{Entry, Archive, message, deletion, live, text_of}
 use Rattle.arch_model.specs.Validity.{IsEntry, IsArchive, number_after, Rise, AtEachPlace, EndsLive, IdsDiffer, LiveDiffer}
 use Rattle.arch_model.proofs.LiveEntries.{live-message, ids-now}
-use Rattle.arch_judge.specs.Indexes.{IsIndex, Puts, Loses, owner_of, owner_in, number_in}
+use Rattle.arch_judge.specs.Indexes.{IsIndex, Puts, Loses, owner_of, owner_in}
 use Rattle.arch_judge.specs.declared.index.Index.{Index}
 use Rattle.arch_judge.specs.declared.index.Owner.{Owner}
-use Rattle.arch_judge.proofs.Indexes.{IsIndex-push, IsIndex-same, unowned}
+use Rattle.arch_judge.proofs.Indexes.{IsIndex-push, unowned}
 use Rattle.arch_judge.proofs.Endings.{IsIndex-ends, owner-none}
 use Rattle.epoch_store.specs.declared.entries.StoredEntry.{StoredEntry}
 use Rattle.epoch_store.specs.Stores.{View, AddsEntry, EndsEntry, Keeps, stored_at, stored_after}
-use Rattle.archive_core.specs.Kept.{AreInOrder, AreOf, IndexesStored, TakesBy, Takes, PutsText, TakesBackText, LosesText, IsNewTo, owner_kept}
+use Rattle.archive_core.specs.Kept.{AreInOrder, AreOf, IndexesStored, TakesBy, Takes, PutsText, LosesText, IsNewTo, owner_kept}
 use Rattle.archive_core.proofs.Stored.{stored-push}
 
 -- The entries of a valid archive are in order.
@@ -187,19 +186,6 @@ indexes-ended old new before after number text indexed loses ends =
     let s = ends.entry in
     subst (λ (es : List StoredEntry). IndexesStored es after) (sym ends.entries)
     (indexes-more old.entries s before after indexed (subst (λ (k : EntryKind). TakesBy k before after s) (sym ends.kind) (loses s.seen.id ends.id)))
-
--- A new text that is put in and taken back leaves an index of what was kept.
-no_owner : (o : Option Entry) → o ≡ None → option_map owner_of o ≡ None
-no_owner o none = ap (option_map owner_of) none
-
-pub indexes-again : (kept : List StoredEntry) (before put after : Index) (text : List ℕ) (blob : Id20) (number : ℕ) (older : Option ℕ) → IndexesStored kept before → IsNewTo kept text → PutsText before put text blob number → number_in before.blobs blob.0 ≡ older
-    → TakesBackText put after text blob number older → IndexesStored kept after
-indexes-again kept before put after text blob number older indexed new puts known back entries are =
-    let free = new entries are in
-    let id = free.0 in
-    let is_index = indexed entries are in
-    let none : owner_in before.owners id ≡ None = is_index.owners id ∙ no_owner (owner (live entries) id) free.2 in
-    IsIndex-same entries before after is_index (back before id free.1 (puts id free.1) none known)
 
 -- The id of a text that is new to what is kept is free in the index, and the other way round.
 pub new-to : (kept : List StoredEntry) (index : Index) (text : List ℕ) → IndexesStored kept index → IsSome (own_id text) → ((id : List ℕ) → own_id text ≡ Some id → owner_in index.owners id ≡ None) → IsNewTo kept text

@@ -260,6 +260,11 @@ abbrev pub IfDelivery : Bool → Type 0 → Type 0
 IfDelivery true P = P
 IfDelivery false P = Unit {0}
 
+-- What holds of a removal.
+abbrev pub IfRemoval : Bool → Type 0 → Type 0
+IfRemoval true P = Unit {0}
+IfRemoval false P = P
+
 -- The text of a delivery that was accepted is a storage text, and the answer has its blob id.
 abbrev pub TellsText : Answer → List ℕ → Type 0
 TellsText (answer.Ok number id) text = IsStorageText text × (id ≡ blob_id_of text)

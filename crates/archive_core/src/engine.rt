@@ -13,7 +13,7 @@ ghost use Rattle.arch_model.specs.declared.answer.Answer.{Answer};
 ghost use Rattle.epoch_store.specs.Opens.{ReadsWith};
 ghost use Rattle.epoch_store.specs.Promises.{MakesArchive, OpensArchive};
 ghost use Rattle.epoch_store.specs.Stores.{IsStoreWith, RecoversEitherWith};
-ghost use Rattle.archive_core.specs.Commands.{DoneBy, IfUnread, IsForCommand};
+ghost use Rattle.archive_core.specs.Commands.{DoneBy, OnDone, IfUnread, IfRemoval, IsForCommand, is_delivery};
 ghost use Rattle.archive_core.specs.Engines.{Holds, IfRefused, Leaves, ReadsOn, is_ready, needs_opening as needs_opening_after, reading-same, reading-joined, store-left, now-left, reading-kept};
 ghost use Rattle.archive_core.specs.HandedBack.{disk_made, made_or_why, disk_opened, opened_or_why};
 ghost use Rattle.archive_core.specs.Numbers.{GivesTextKept, GivesBlobKept, Names};
@@ -172,7 +172,8 @@ impl<D: Disk> Engine<D> {
     ///
     /// The archive has to be reopened after the answers `DiskFault` and `Damaged`, and after an `Ok`
     /// for whose row or threads there was no memory: then nothing is in doubt. It needn't be after any
-    /// other answer. `Damaged` never comes while an archive is held.
+    /// other answer. After a removal the rows are right in any case, and memory may have run out for
+    /// the threads alone. `Damaged` never comes while an archive is held.
     pub fn take(&mut self, command: &Command<'_>, moment: u64) -> Answer
         requires ready { self.old.stale ≡ false }
         requires moment { moment ≤ last_moment }
@@ -191,6 +192,11 @@ impl<D: Disk> Engine<D> {
             (standing a None) self.new t
             × Comes true (standing a None) (λ (b : Archive). applied b command.now moment) result t }
         ensures ready { StaysReady true result (is_ready self.new) }
+        // After a removal that was done the archive after it is held, rows included, even if the
+        // engine has to be reopened for its threads.
+        ensures removed { IfRemoval (is_delivery command.now)
+            ((a : Archive) → Holds D.content self.old a
+            → OnDone result (Holds D.content self.new (applied a command.now moment).archive)) }
         // A refusal by the rules, and `NoMemory`, change nothing but what reading changes, and a
         // refusal before which no text is read changes nothing at all.
         ensures untouched { IfRefused result (ReadsOn D.content D.moment D.left_since self.old

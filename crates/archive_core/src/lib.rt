@@ -3,6 +3,7 @@
 #![tactic(auto)]
 
 mod archive;
+mod counted;
 mod engine;
 mod entries;
 mod not_made;
@@ -14,6 +15,7 @@ mod texts;
 mod walk;
 
 pub use archive::DiskArchive;
+pub use counted::CountedArchive;
 pub use engine::Engine;
 pub use not_made::{NotMade, NotOpened};
 pub use walk::Walk;

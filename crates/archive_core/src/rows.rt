@@ -1,6 +1,6 @@
 //! The rows and threads of live messages, as commands change them.
 ghost use Rattle.std.specs.Prelude.{◌≡◌, true, is_ok, OnOk};
-ghost use Rattle.archive_core.specs.Commands.{OnRefusal, TellsText, is_delivery, IfDelivery};
+ghost use Rattle.archive_core.specs.Commands.{OnRefusal, TellsText, is_delivery, IfDelivery, IfRemoval};
 ghost use Rattle.archive_core.specs.Walks.{RowsAfter};
 
 use arch_base::NoMemory;
@@ -12,7 +12,7 @@ use view_set::{Views, add_row};
 /// removal takes the row of its number. Only the threads that the row touches are changed.
 ///
 /// `NoMemory` if memory runs out for a row or for the threads. It comes only after a command that was
-/// accepted.
+/// accepted, and after a removal the rows are brought up all the same.
 pub(crate) fn follow(
     alloc: Global,
     views: &mut Views,
@@ -23,6 +23,8 @@ pub(crate) fn follow(
 ) -> Result<(), NoMemory>
     requires text { IfDelivery (is_delivery command.now) (TellsText answer.now text.now) }
     ensures rows { OnOk result
+        (RowsAfter command.now answer.now text.now moment views.old views.new) }
+    ensures removed { IfRemoval (is_delivery command.now)
         (RowsAfter command.now answer.now text.now moment views.old views.new) }
     ensures refused { OnRefusal answer.now (is_ok result ≡ true) }
 {

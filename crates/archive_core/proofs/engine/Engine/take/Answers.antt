@@ -1,10 +1,11 @@
 use Rattle.std.proofs.Common.{◌≡◌, ◌∙◌, ◌||◌, ℕ, List, false, not, is_ok, ap, sym, subst}
 use Rattle.arch_model.specs.Keeping.{text_known}
+use Rattle.archive_core.specs.Commands.{is_delivery}
 use Rattle.epoch_store.specs.Stores.{IsStoreWith}
 use Rattle.archive_core.specs.Engines.{Owning, needs_opening, reading-same}
 use Rattle.arch_model.specs.Archives.{Archive}
 use Rattle.arch_model.specs.Delivery.{applied}
-use Rattle.archive_core.proofs.Engines.{starved-at, still-left, left-from, done-from, taken-from, answer-cause-from, steady-from, refused-from, unmoved-from}
+use Rattle.archive_core.proofs.Engines.{starved-at, still-left, left-from, done-from, taken-from, answer-cause-from, steady-from, refused-from, unmoved-from, removed-from, of-removal}
 use Rattle.archive_core.proofs.KeepingUp.{kept-up, followed-ready, needs-stale, on-ok, stays-ready}
 use Rattle.archive_core.proofs.Standing.{store_keeps}
 use Rattle.archive_core.proofs.engine.Engine.take.Goals as goal
@@ -89,3 +90,14 @@ returns-clause-unmoved g c = unmoved-from g.D.Disk.content g.D.Disk.moment g.D.D
     (record { disk = c.command_keeping-answer.new.disk; view = c.command_keeping-answer.new.self; rows = c.follow-followed.new.views; stale = c.is_left_stale-self-inside.result })
     (is_ok c.follow-followed.result) c.args.command.now c.as_slice-kept.result.now c.args.moment c.command_keeping-answer.result c.requires.ready c.is_left_stale-self-inside.ensures c.follow-followed.ensures.refused c.command_keeping-answer.ensures.taken.same
     (λ went. on-ok c.follow-followed.result _ c.follow-followed.ensures.rows went) c.command_keeping-answer.ensures.taken.unmoved
+
+pub returns-then-not-has_next_root-clause-removed : goal.returns-then-not-has_next_root-clause-removed
+returns-then-not-has_next_root-clause-removed g c = of-removal (is_delivery c.args.command.now) _ (λ a held. tt)
+
+pub returns-clause-removed : goal.returns-clause-removed
+returns-clause-removed g c =
+    let room = c.has_next_root.ensures.0 c.if-not-has_next_root.false in
+    removed-from g.D.Disk.content g.D.Disk.moment g.D.Disk.left_since g.met.D.Disk.counts_now g.met.D.Disk.only_now g.met.D.Disk.reads_fit
+    (record { disk = c.self.inside.disk; view = c.self.inside.archive; rows = c.self.inside.views; stale = c.self.inside.stale }) c.args.self.now c.self.view_is
+    (record { disk = c.command_keeping-answer.new.disk; view = c.command_keeping-answer.new.self; rows = c.follow-followed.new.views; stale = c.is_left_stale-self-inside.result })
+    c.args.command.now c.args.moment c.as_slice-kept.result.now c.command_keeping-answer.result (λ a cache store. c.command_keeping-answer.ensures.taken.done a cache store room) c.follow-followed.ensures.removed
