@@ -1,6 +1,6 @@
 mod Counting
 pub mod Answered
-mod Standing
+pub mod Standing
 mod Places
 pub mod Stored
 mod Indexes
