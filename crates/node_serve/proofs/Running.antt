@@ -194,7 +194,7 @@ module _ {K : Type 0} (holds : K → Archive → Type 0) (ready : K → Bool) (l
             let before = outputs_before (world_of s old.places i) over.runs.turns in
             let more = outputs-more es (world_of s old.places i) over.runs.turns (world_of over.runs.after mid.places j) (record { passed = turn.passed; after = world_of turn.after new.places k }) over.runs.served in
             let joined = took.records (past ++ before) (over.records past noted) in
-            subst (λ (os : List Outputs). recorded'' os) (append_assoc past before (outputs j.taken j.closings ∷ []) ∙ ap (λ (os : List Outputs). past ++ os) (sym more)) joined;
+            subst (λ (os : List Outputs). recorded'' os) (append_assoc past before (outputs j.taken j.closings j.lost ∷ []) ∙ ap (λ (os : List Outputs). past ++ os) (sym more)) joined;
       }
 
   pub sofar-more : (n : ℕ) (old mid new : Serving K) (i j k : Outer) (given given' given'' left left' left'' : Told) (recorded recorded' recorded'' : List Outputs → Type 0) → SoFar n old i mid j given given' left left' recorded recorded' → TookOne holds ready leaves mid j new k given' given'' left' left'' recorded' recorded'' false
@@ -222,7 +222,7 @@ module _ {K : Type 0} (holds : K → Archive → Type 0) (ready : K → Bool) (l
   }
 
   pub ends-none : (n turns : ℕ) (old mid new : Serving K) (i j k : Outer) (given given' given'' left left' left'' : Told) (faults faults' : ℕ) (recorded recorded' recorded'' : List Outputs → Type 0) → SoFar n old i mid j given given' left left' recorded recorded' → TookNone mid j new k given' given'' left' left'' → NoneLeft left''
-      → ((past : List Outputs) → recorded' past → recorded'' (past ++ outputs j.taken j.closings ∷ [])) → ServesTo holds ready leaves end.Stopped turns old i new k given given'' left left'' faults faults' recorded recorded''
+      → ((past : List Outputs) → recorded' past → recorded'' (past ++ outputs j.taken j.closings j.lost ∷ [])) → ServesTo holds ready leaves end.Stopped turns old i new k given given'' left left'' faults faults' recorded recorded''
   ends-none n turns old mid new i j k given given' given'' left left' left'' faults faults' recorded recorded' recorded'' far took none noted = record {
     arrivals = far.arrivals;
     given_is = took.given_kept ∙ far.given_is;
@@ -233,7 +233,7 @@ module _ {K : Type 0} (holds : K → Archive → Type 0) (ready : K → Bool) (l
         let over = far.runs s fits in
         subst (λ (node : Serving K). RunsOver holds ready leaves recorded recorded'' true far.arrivals s old i node k) (sym took.node_kept) (subst (λ (o : Outer). RunsOver holds ready leaves recorded recorded'' true far.arrivals s old i mid o) (sym took.out_kept) (record {
           runs = over.runs;
-          records = λ past is. let before = outputs_before (world_of s old.places i) over.runs.turns in subst (λ (os : List Outputs). recorded'' os) (append_assoc past before (outputs j.taken j.closings ∷ [])) (noted (past ++ before) (over.records past is));
+          records = λ past is. let before = outputs_before (world_of s old.places i) over.runs.turns in subst (λ (os : List Outputs). recorded'' os) (append_assoc past before (outputs j.taken j.closings j.lost ∷ [])) (noted (past ++ before) (over.records past is));
         }));
   }
 

@@ -1,8 +1,9 @@
--- The count of open sessions, and the word for a server that is full.
+-- The laws of events that are served: the count of open sessions, and what they do by the rules.
 use Rattle.std.specs.Prelude.{◌≡◌, ◌<◌, ℕ, List, [], ◌∷◌, Option, Some, None}
 use Rattle.edge_io.specs.Scripts.{Arrival}
 use Rattle.edge_io.specs.declared.events.What.{What}
 use Rattle.edge_io.specs.declared.events.What.TheVariants as what
+use Rattle.node_serve.specs.Plain.{IsCounted, PlainServed, plain_turns, last_world}
 use Rattle.node_serve.specs.Turns.{Turn, Served}
 use Rattle.node_serve.specs.World.{World, open_below}
 
@@ -25,3 +26,26 @@ abbrev pub CountsOpen : Type 0
 CountsOpen = (n : ℕ) (es : List Arrival) (w : World) (ts : List Turn) (v : World)
     → AreBelow n es → Served es w ts v → w.count ≡ open_below n w.session
     → v.count ≡ open_below n v.session
+
+-- The plain function of events is one of the ways in which they may be served: the one in which each
+-- act goes by the rules and all its words are taken.
+pub record PlainLaws : Type 0 where
+  -- It is such a way,
+  pub made : (es : List Arrival) (w : World) → IsCounted w
+      → PlainServed es w (plain_turns es w) (last_world w (plain_turns es w))
+  -- and no other is.
+  pub only : (es : List Arrival) (w : World) (ts : List Turn) (v : World) → PlainServed es w ts v
+      → (ts ≡ plain_turns es w) × (v ≡ last_world w ts)
+  -- Such a way is one of those that the rules of all acts allow.
+  pub served : (es : List Arrival) (w : World) (ts : List Turn) (v : World) → PlainServed es w ts v
+      → Served es w ts v
+  -- In it the disk doesn't fail, and no send is lost.
+  pub unfailed : (es : List Arrival) (w : World) (ts : List Turn) (v : World)
+      → PlainServed es w ts v → (v.out.disk ≡ w.out.disk) × (v.out.lost ≡ w.out.lost)
+
+-- So the plain function of events serves them, without a failure.
+abbrev pub PlainIsServed : Type 0
+PlainIsServed = (es : List Arrival) (w : World) → IsCounted w
+    → Served es w (plain_turns es w) (last_world w (plain_turns es w))
+    × ((last_world w (plain_turns es w)).out.disk ≡ w.out.disk)
+    × ((last_world w (plain_turns es w)).out.lost ≡ w.out.lost)

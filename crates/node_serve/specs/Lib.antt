@@ -1,6 +1,7 @@
 pub mod Doors
 pub mod World
 pub mod Turns
+pub mod Plain
 pub mod Ends
 pub mod Nodes
 pub mod Laws

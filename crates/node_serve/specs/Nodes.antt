@@ -83,9 +83,9 @@ pub record IsPut (c : ℕ) (start : Session) (p q : Places) : Type 0 where
   pub others : OthersKept c p.session q.session
   pub count : q.count ≡ p.count
 
--- What connections had taken and how often each was closed, each time that a host was asked for the
--- next event and answered: before each of these turns, and at the end if it answered that none is
--- left.
+-- What connections had taken, how often each was closed, and how many sends were lost, each time that
+-- a host was asked for the next event and answered: before each of these turns, and at the end if it
+-- answered that none is left.
 abbrev pub outputs_asked : Bool → World → List Turn → World → List Outputs
 outputs_asked true w ts v = outputs_before w ts ++ outputs_of v ∷ []
 outputs_asked false w ts v = outputs_before w ts
@@ -174,7 +174,7 @@ module _ {K : Type 0} (holds : K → Archive → Type 0) (ready : K → Bool)
     pub stop_is : is_stop arrival.0.what ≡ stops
     pub turns : Turns arrival old i new j
     pub records : (past : List Outputs) → recorded past
-        → recorded' (past ++ outputs i.taken i.closings ∷ [])
+        → recorded' (past ++ outputs i.taken i.closings i.lost ∷ [])
 
   -- Nothing happened at the host or the node.
   pub record TookNone (old : Serving K) (i : Outer) (new : Serving K) (j : Outer)
@@ -194,7 +194,7 @@ module _ {K : Type 0} (holds : K → Archive → Type 0) (ready : K → Bool)
   TakesOne Nothing old i new j given given' left left' faults faults' recorded recorded' =
       TookNone old i new j given given' left left' × NoneLeft left'
       × ((past : List Outputs) → recorded past
-      → recorded' (past ++ outputs i.taken i.closings ∷ []))
+      → recorded' (past ++ outputs i.taken i.closings i.lost ∷ []))
   TakesOne Fault old i new j given given' left left' faults faults' recorded recorded' =
       TookNone old i new j given given' left left' × Rose faults faults'
       × ((past : List Outputs) → recorded past → recorded' past)

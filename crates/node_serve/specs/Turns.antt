@@ -66,9 +66,9 @@ abbrev pub passed_in : List Turn → List Standing
 passed_in [] = []
 passed_in (t ∷ ts) = t.passed ++ passed_in ts
 
--- What connections had taken, and how often each was closed, in a world.
+-- What connections had taken, how often each was closed, and how many sends were lost, in a world.
 abbrev pub outputs_of : World → Outputs
-outputs_of w = outputs w.out.taken w.out.closings
+outputs_of w = outputs w.out.taken w.out.closings w.out.lost
 
 -- The same before each of these turns.
 abbrev pub outputs_before : World → List Turn → List Outputs

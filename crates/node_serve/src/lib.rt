@@ -9,7 +9,7 @@ mod serving;
 mod session;
 mod welcome;
 
-pub use laws::count_law;
+pub use laws::{count_law, plain_law};
 pub use node::Node;
 pub use serving::{ServeEnd, serve};
 pub use session::Session;
