@@ -78,7 +78,7 @@ line_shorter moment a h k (Skipped rest) is ended next =
     omega (arith, ap (λ (r : Reader). length r.bytes) same, less)
 line_shorter moment a h k Unended is ended next = absurd (cc ended)
 
-reader_cuts : (moment : ℕ) → CutDoor (said moment) has_request with_piece left
+pub reader_cuts : (moment : ℕ) → CutDoor (said moment) has_request with_piece left
 reader_cuts moment = record {
   request_stays = λ q h asked. clipped-ended longest_line (h.bytes ++ q) ∙ ended_stays q h.bytes (skipping_front longest_line h.bytes) refl asked;
   said_stays = λ q a h way asked. line_more moment q a h way (skipping_front longest_line h.bytes) refl asked;

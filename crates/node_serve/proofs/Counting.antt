@@ -11,7 +11,7 @@ use Rattle.node_serve.specs.World.{World, one_if, open_below}
 use Rattle.node_serve.specs.declared.session.Session.{Session}
 
 -- Where no session below a number changed, their count stays.
-below-same : (n : ℕ) (f g : ℕ → Option Session) → ((d : ℕ) → d < n → g d ≡ f d) → open_below n g ≡ open_below n f
+pub below-same : (n : ℕ) (f g : ℕ → Option Session) → ((d : ℕ) → d < n → g d ≡ f d) → open_below n g ≡ open_below n f
 below-same zero f g same = refl
 below-same (suc n) f g same =
     let rest = below-same n f g (λ d less. same d (omega (arith, less))) in
@@ -19,7 +19,7 @@ below-same (suc n) f g same =
     omega (arith, rest, here)
 
 -- A number is this one, or another.
-this-or : (c d : ℕ) → (d ≡ c) ⊎ (d ≢ c)
+pub this-or : (c d : ℕ) → (d ≡ c) ⊎ (d ≢ c)
 this-or zero zero = inl refl
 this-or zero (suc d) = inr (λ e. absurd (omega (arith, e)))
 this-or (suc c) zero = inr (λ e. absurd (omega (arith, e)))
@@ -30,7 +30,7 @@ this-or (suc c) (suc d) = by (this-or c d)
     by (inr no_e) = inr (λ e. no_e (omega (arith, e)))
 
 -- One session changed.
-below-one : (n c : ℕ) (f g : ℕ → Option Session) → c < n → OthersKept c f g → open_below n g + one_if (f c) ≡ open_below n f + one_if (g c)
+pub below-one : (n c : ℕ) (f g : ℕ → Option Session) → c < n → OthersKept c f g → open_below n g + one_if (f c) ≡ open_below n f + one_if (g c)
 below-one zero c f g less others = absurd (omega (arith, less))
 below-one (suc n) c f g less others = by (this-or c n)
   where

@@ -3,3 +3,5 @@ pub mod Places
 pub mod Turning
 pub mod Running
 pub mod Counting
+pub mod NodeDoor
+pub mod PlainTurns

@@ -21,7 +21,7 @@ apart-at c d apart = by (nat_lt c d) (c == d) refl
     by false true e = absurd (apart (grind (arith, nat_tests, e)))
 
 -- A change at one key leaves the sessions of others.
-pub others-kept : (m n : BTreeMap ℕ Session) (c : ℕ) (w : Option Session) → UpdatesBy nat_cmp (nat_cmp c) m n w → OthersKept c (session_of m) (session_of n)
+pub others-kept : (m n : BTreeMap ℕ Session) (c : ℕ) (w : Option Session) → UpdatesBy nat_cmp (nat_cmp c) m n w → OthersKept c (session_of m.entries) (session_of n.entries)
 others-kept m n c w updates = λ d other. updates.2 d (apart-at c d other)
 
 count-one : (x : Option Session) → (if is_some x then 1 else 0) ≡ one_if x
@@ -29,7 +29,7 @@ count-one None = refl
 count-one (Some x) = refl
 
 -- A removal ends a session.
-pub ends-removed : (m n : BTreeMap ℕ Session) (c : ℕ) (r : Option Session) → r ≡ get_by (nat_cmp c) m → UpdatesBy nat_cmp (nat_cmp c) m n None → btree_map_len n + (if is_some r then 1 else 0) ≡ btree_map_len m → Ends c (places_of m) (places_of n)
+pub ends-removed : (m n : BTreeMap ℕ Session) (c : ℕ) (r : Option Session) → r ≡ get_by (nat_cmp c) m → UpdatesBy nat_cmp (nat_cmp c) m n None → btree_map_len n + (if is_some r then 1 else 0) ≡ btree_map_len m → Ends c (places_of m.entries) (places_of n.entries)
 ends-removed m n c r is updates len = λ s o. record {
   standing = refl;
   gone = updates.1;
@@ -39,7 +39,7 @@ ends-removed m n c r is updates len = λ s o. record {
 }
 
 -- An insertion finds a place.
-pub placed-inserted : (m n : BTreeMap ℕ Session) (c : ℕ) (r : Option Session) (start : Session) → session_of m c ≡ None → r ≡ session_of m c → UpdatesBy nat_cmp (nat_cmp c) m n (Some start) → btree_map_len n ≡ btree_map_len m + (if is_some r then 0 else 1) → IsPlaced c (places_of m) (places_of n)
+pub placed-inserted : (m n : BTreeMap ℕ Session) (c : ℕ) (r : Option Session) (start : Session) → session_of m.entries c ≡ None → r ≡ session_of m.entries c → UpdatesBy nat_cmp (nat_cmp c) m n (Some start) → btree_map_len n ≡ btree_map_len m + (if is_some r then 0 else 1) → IsPlaced c (places_of m.entries) (places_of n.entries)
 placed-inserted m n c r start none is updates len = record {
   none = none;
   first = start;
@@ -49,11 +49,11 @@ placed-inserted m n c r start none is updates len = record {
 }
 
 -- A write to a place puts a session there.
-pub put-written : (m n : BTreeMap ℕ Session) (c : ℕ) (v start : Session) → Some v ≡ get_by (nat_cmp c) m → WritesThrough nat_cmp (nat_cmp c) m start n → IsPut c start (places_of m) (places_of n)
+pub put-written : (m n : BTreeMap ℕ Session) (c : ℕ) (v start : Session) → Some v ≡ get_by (nat_cmp c) m → WritesThrough nat_cmp (nat_cmp c) m start n → IsPut c start (places_of m.entries) (places_of n.entries)
 put-written m n c v start found through =
     let updates = through.3 (subst (λ (x : Option Session). IsSome x) found refl) in
     record { here = updates.1; others = others-kept m n c (Some start) updates; count = through.2 }
 
 -- Maps with the same entries have the same sessions.
-pub same-places : (m n : BTreeMap ℕ Session) → IsUnchanged m n → places_of n ≡ places_of m
-same-places m n same = λ i. record { session = λ (c : ℕ). lookup (is_at (nat_cmp c)) (same i); count = length (same i) }
+pub same-places : (m n : BTreeMap ℕ Session) → IsUnchanged m n → places_of n.entries ≡ places_of m.entries
+same-places m n same = ap places_of same

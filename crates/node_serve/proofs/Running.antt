@@ -1,5 +1,5 @@
 -- Events in order.
-use Rattle.std.proofs.Common.{◌≡◌, ◌⊎◌, ◌≤◌, ◌+◌, ℕ, nat_lt, Bool, true, false, List, [], ◌∷◌, ◌++◌, length, Option, Some, None, refl, sym, ap, subst, ◌∙◌, arith, append_assoc, length-append, inl, inr, if◌then◌else◌}
+use Rattle.std.proofs.Common.{◌≡◌, ◌⊎◌, ◌≤◌, ◌<◌, ◌+◌, ℕ, nat_lt, Bool, true, false, List, [], ◌∷◌, ◌++◌, length, Option, Some, None, refl, sym, ap, subst, ◌∙◌, arith, append_assoc, length-append, inl, inr, if◌then◌else◌}
 use Rattle.edge_io.specs.Hosts.{Told, then_given, before_left}
 use Rattle.edge_io.specs.Frames.{Outputs, outputs}
 use Rattle.edge_io.specs.Scripts.{Arrival}
@@ -19,7 +19,7 @@ use Rattle.keep_course.specs.Courses.{afters, archives_of}
 use Rattle.keep_course.proofs.Courses.{all-own}
 use Rattle.node_serve.specs.Doors.{Held, session_limit, busy_words, memory_words, greets, said_making}
 use Rattle.node_serve.specs.Ends.{NoStop, EndsWithStop, EndsBy, is_stop, given_after, before_all}
-use Rattle.node_serve.specs.Nodes.{Serving, world_of, TurnsTo, Turns, TookOne, TookNone, RunsTo, RunsOver, ServesTo, outputs_asked}
+use Rattle.node_serve.specs.Nodes.{Serving, places_in, world_of, TurnsTo, Turns, TookOne, TookNone, RunsTo, RunsOver, ServesTo, outputs_asked}
 use Rattle.node_serve.specs.Turns.{Turn, FedAt, CameTo, TurnedBy, Turned, Served, passed_in, outputs_of, outputs_before}
 use Rattle.node_serve.specs.World.{Outer, World, outer}
 use Rattle.node_serve.specs.declared.serving.ServeEnd.{ServeEnd}
@@ -149,16 +149,16 @@ module _ {K : Type 0} (holds : K → Archive → Type 0) (ready : K → Bool) (l
   pub runs-more : (es : List Arrival) (e : Arrival) (s : Standing) (old mid new : Serving K) (i j k : Outer) → Fits holds ready leaves old.keep s → (run : RunsTo holds ready leaves es s old i mid j) → TurnsTo holds ready leaves e run.after mid j new k
       → RunsTo holds ready leaves (es ++ e ∷ []) s old i new k
   runs-more es e s old mid new i j k fits run turn =
-      let last : Turn = record { passed = turn.passed; after = world_of turn.after new.places k } in
+      let last : Turn = record { passed = turn.passed; after = world_of turn.after (places_in new) k } in
       let ts = run.turns ++ last ∷ [] in
       let passes : Passes leaves old.keep new.keep (s ∷ passed_in ts) = λ start may has since.
       let parts = all-split may (passed_in run.turns) turn.passed (subst (λ (ss : List Standing). HasAll may ss) (passed-more run.turns last) has.1) in
-      turn.passes start may (served-has may es (world_of s old.places i) run.turns (world_of run.after mid.places j) run.served has.0 parts.0, parts.1) (run.passes start may (has.0, parts.0) since) in
+      turn.passes start may (served-has may es (world_of s (places_in old) i) run.turns (world_of run.after (places_in mid) j) run.served has.0 parts.0, parts.1) (run.passes start may (has.0, parts.0) since) in
       record {
         after = turn.after;
         fits = turn.fits;
         turns = ts;
-        served = served-more es (world_of s old.places i) run.turns (world_of run.after mid.places j) e turn.passed (world_of turn.after new.places k) run.served turn.turned;
+        served = served-more es (world_of s (places_in old) i) run.turns (world_of run.after (places_in mid) j) e turn.passed (world_of turn.after (places_in new) k) run.served turn.turned;
         passes = passes;
         crash = crash-left holds ready leaves old.keep new.keep s (passed_in ts) fits passes;
       }
@@ -191,8 +191,8 @@ module _ {K : Type 0} (holds : K → Archive → Type 0) (ready : K → Bool) (l
       record {
         runs = runs;
         records = λ past noted.
-            let before = outputs_before (world_of s old.places i) over.runs.turns in
-            let more = outputs-more es (world_of s old.places i) over.runs.turns (world_of over.runs.after mid.places j) (record { passed = turn.passed; after = world_of turn.after new.places k }) over.runs.served in
+            let before = outputs_before (world_of s (places_in old) i) over.runs.turns in
+            let more = outputs-more es (world_of s (places_in old) i) over.runs.turns (world_of over.runs.after (places_in mid) j) (record { passed = turn.passed; after = world_of turn.after (places_in new) k }) over.runs.served in
             let joined = took.records (past ++ before) (over.records past noted) in
             subst (λ (os : List Outputs). recorded'' os) (append_assoc past before (outputs j.taken j.closings j.lost ∷ []) ∙ ap (λ (os : List Outputs). past ++ os) (sym more)) joined;
       }
@@ -210,30 +210,33 @@ module _ {K : Type 0} (holds : K → Archive → Type 0) (ready : K → Bool) (l
 
   -- The ends.
 
-  pub ends-stopped : (n turns : ℕ) (old mid new : Serving K) (i j k : Outer) (given given' given'' left left' left'' : Told) (faults faults' : ℕ) (recorded recorded' recorded'' : List Outputs → Type 0) → SoFar n old i mid j given given' left left' recorded recorded' → TookOne holds ready leaves mid j new k given' given'' left' left'' recorded' recorded'' true
+  pub ends-stopped : (n turns : ℕ) → n < turns → (old mid new : Serving K) (i j k : Outer) (given given' given'' left left' left'' : Told) (faults faults' : ℕ) (recorded recorded' recorded'' : List Outputs → Type 0) → SoFar n old i mid j given given' left left' recorded recorded' → TookOne holds ready leaves mid j new k given' given'' left' left'' recorded' recorded'' true
       → ServesTo holds ready leaves end.Stopped turns old i new k given given'' left left'' faults faults' recorded recorded''
-  ends-stopped n turns old mid new i j k given given' given'' left left' left'' faults faults' recorded recorded' recorded'' far took = record {
+  ends-stopped n turns before old mid new i j k given given' given'' left left' left'' faults faults' recorded recorded' recorded'' far took = record {
     arrivals = far.arrivals ++ took.arrival ∷ [];
     given_is = took.given_is ∙ ap (λ (g : Told). then_given g took.arrival) far.given_is ∙ sym (given-more given far.arrivals took.arrival);
     left_is = far.left_is ∙ ap (before_all far.arrivals) took.left_is ∙ sym (left-more far.arrivals took.arrival left'');
     none = false;
-    ends = record { before = far.arrivals; last = took.arrival; none = far.none; stops = took.stop_is; are = refl };
+    ends = (
+      record { before = far.arrivals; last = took.arrival; none = far.none; stops = took.stop_is; are = refl },
+      (let len = length-append far.arrivals (took.arrival ∷ []) in omega (arith, len, far.count, before)),
+    );
     runs = λ s fits. over-more far.arrivals s old mid new i j k given' given'' left' left'' recorded recorded' recorded'' true fits (far.runs s fits) took;
   }
 
-  pub ends-none : (n turns : ℕ) (old mid new : Serving K) (i j k : Outer) (given given' given'' left left' left'' : Told) (faults faults' : ℕ) (recorded recorded' recorded'' : List Outputs → Type 0) → SoFar n old i mid j given given' left left' recorded recorded' → TookNone mid j new k given' given'' left' left'' → NoneLeft left''
+  pub ends-none : (n turns : ℕ) → n < turns → (old mid new : Serving K) (i j k : Outer) (given given' given'' left left' left'' : Told) (faults faults' : ℕ) (recorded recorded' recorded'' : List Outputs → Type 0) → SoFar n old i mid j given given' left left' recorded recorded' → TookNone mid j new k given' given'' left' left'' → NoneLeft left''
       → ((past : List Outputs) → recorded' past → recorded'' (past ++ outputs j.taken j.closings j.lost ∷ [])) → ServesTo holds ready leaves end.Stopped turns old i new k given given'' left left'' faults faults' recorded recorded''
-  ends-none n turns old mid new i j k given given' given'' left left' left'' faults faults' recorded recorded' recorded'' far took none noted = record {
+  ends-none n turns before old mid new i j k given given' given'' left left' left'' faults faults' recorded recorded' recorded'' far took none noted = record {
     arrivals = far.arrivals;
     given_is = took.given_kept ∙ far.given_is;
     left_is = far.left_is ∙ ap (before_all far.arrivals) (sym took.left_kept);
     none = true;
-    ends = (far.none, none);
+    ends = (far.none, none, (omega (arith, far.count, before)));
     runs = λ s fits.
         let over = far.runs s fits in
         subst (λ (node : Serving K). RunsOver holds ready leaves recorded recorded'' true far.arrivals s old i node k) (sym took.node_kept) (subst (λ (o : Outer). RunsOver holds ready leaves recorded recorded'' true far.arrivals s old i mid o) (sym took.out_kept) (record {
           runs = over.runs;
-          records = λ past is. let before = outputs_before (world_of s old.places i) over.runs.turns in subst (λ (os : List Outputs). recorded'' os) (append_assoc past before (outputs j.taken j.closings j.lost ∷ [])) (noted (past ++ before) (over.records past is));
+          records = λ past is. let before = outputs_before (world_of s (places_in old) i) over.runs.turns in subst (λ (os : List Outputs). recorded'' os) (append_assoc past before (outputs j.taken j.closings j.lost ∷ [])) (noted (past ++ before) (over.records past is));
         }));
   }
 

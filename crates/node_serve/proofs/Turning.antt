@@ -23,7 +23,7 @@ use Rattle.nntp_reader.specs.Door.{Reader, new_reader, greeting}
 use Rattle.nntp_reader.specs.Notices.{notice_line}
 use Rattle.nntp_reader.specs.declared.notice.Notice.TheVariants as notice
 use Rattle.node_serve.specs.Doors.{Held, Came, rest_if, said, is_asked, session_limit, busy_words, memory_words, greets, made, unmade, said_making}
-use Rattle.node_serve.specs.Nodes.{Places, Serving, serving, world_of, Refused, Makes, Ends, IsPlaced, IsPut, FedFrom, TurnsTo}
+use Rattle.node_serve.specs.Nodes.{Places, Serving, serving, session_of, places_of, world_of, Refused, Makes, Ends, IsPlaced, IsPut, FedFrom, TurnsTo}
 use Rattle.node_serve.specs.Turns.{FedAt, CameTo, TurnedBy, Turned}
 use Rattle.node_serve.specs.World.{Outer, World, ActAt, Around, Same, EndedAt, others_open, outside_at, one_if, closed_if}
 use Rattle.node_serve.specs.declared.session.Session.{Session}
@@ -179,7 +179,7 @@ module _ {K : Type 0} (holds : K → Archive → Type 0) (ready : K → Bool) (l
   crash-left old new s passed fits passes = let own = all-own (s ∷ passed) in passes old (archives_of (s ∷ passed)) own (fits.left (archives_of (s ∷ passed)) own.0)
 
   -- A turn that leaves the keeper.
-  pub turns-still : (arrival : Arrival) (s : Standing) (k : K) (p q : Places) (i j : Outer) → Fits holds ready leaves k s → Turned arrival (world_of s p i) [] (world_of s q j) → TurnsTo holds ready leaves arrival s (serving k p) i (serving k q) j
+  pub turns-still : (arrival : Arrival) (s : Standing) (k : K) (p q : List (ℕ × Session)) (i j : Outer) → Fits holds ready leaves k s → Turned arrival (world_of s (places_of p) i) [] (world_of s (places_of q) j) → TurnsTo holds ready leaves arrival s (serving k p) i (serving k q) j
   turns-still arrival s k p q i j fits turned = record {
     after = s;
     fits = fits;
@@ -194,12 +194,12 @@ module _ {K : Type 0} (holds : K → Archive → Type 0) (ready : K → Bool) (l
   same-world s p i = record { standing = refl; sessions = λ c. refl; count = refl; out = refl }
 
   -- A session took a piece.
-  pub turns-fed : (moment c len : ℕ) (piece : List ℕ) (start : Session) (s : Standing) (old new : K) (p q : Places) (i j : Outer) (goes_on : Bool) (left : Session) → p.session c ≡ Some start → q.session c ≡ held_if goes_on left
-      → FedFrom holds ready leaves moment (Came start piece) s old (outside_at c i) goes_on left new (outside_at c j) → ((t : Standing) → Around c (world_of s p i) (world_of t q j)) → Fits holds ready leaves old s
+  pub turns-fed : (moment c len : ℕ) (piece : List ℕ) (start : Session) (s : Standing) (old new : K) (p q : List (ℕ × Session)) (i j : Outer) (goes_on : Bool) (left : Session) → session_of p c ≡ Some start → session_of q c ≡ held_if goes_on left
+      → FedFrom holds ready leaves moment (Came start piece) s old (outside_at c i) goes_on left new (outside_at c j) → ((t : Standing) → Around c (world_of s (places_of p) i) (world_of t (places_of q) j)) → Fits holds ready leaves old s
       → TurnsTo holds ready leaves (record { moment = moment; what = what.Bytes c len }, piece) s (serving old p) i (serving new q) j
   turns-fed moment c len piece start s old new p q i j goes_on left here kept fed around fits =
       let passed = afters (fed.course.acts ++ talk fed.held fed.after (outside_at c j) ∷ []) in
-      let at : FedAt moment c start piece (world_of s p i) passed (world_of fed.after q j) = record {
+      let at : FedAt moment c start piece (world_of s (places_of p) i) passed (world_of fed.after (places_of q) j) = record {
         held = fed.held;
         acts = fed.course.acts;
         before = fed.course.before;
@@ -213,7 +213,7 @@ module _ {K : Type 0} (holds : K → Archive → Type 0) (ready : K → Bool) (l
         after = fed.after;
         fits = fed.fits;
         passed = passed;
-        turned = subst (λ (x : Option Session). CameTo x moment c piece (world_of s p i) passed (world_of fed.after q j)) (sym here) at;
+        turned = subst (λ (x : Option Session). CameTo x moment c piece (world_of s (places_of p) i) passed (world_of fed.after (places_of q) j)) (sym here) at;
         passes = fed.course.left;
         crash = crash-left old new s passed fits fed.course.left;
       }

@@ -56,7 +56,7 @@ said moment s (Came start piece) way =
 said moment s (AtControl w) way =
     said_over (λ (t : Standing). t) AtControl (control.said moment s w way)
 said moment s (AtNews reader) way =
-    said_over (λ (a : Archive). standing a None) AtNews (news.said moment s.archive reader way)
+    said_over (λ (a : Archive). standing a s.doubt) AtNews (news.said moment s.archive reader way)
 
 -- Something is to be done before a rest is kept: the archive is to be reopened, or a whole request is
 -- at the front.

@@ -1,5 +1,5 @@
 -- How serving ends, by the events that were taken.
-use Rattle.std.specs.Prelude.{◌≡◌, ℕ, Bool, true, false, List, [], ◌∷◌, ◌++◌, length}
+use Rattle.std.specs.Prelude.{◌≡◌, ◌≤◌, ◌<◌, ℕ, Bool, true, false, List, [], ◌∷◌, ◌++◌, length}
 use Rattle.arch_base.specs.Counts.{Rose}
 use Rattle.edge_io.specs.Hosts.{Told, then_given, before_left, NoneLeft}
 use Rattle.edge_io.specs.Scripts.{Arrival}
@@ -39,16 +39,18 @@ abbrev pub before_all : List Arrival → Told → Told
 before_all [] left = left
 before_all (e ∷ es) left = before_left e (before_all es left)
 
--- How serving ended, by whether the host answered that none is left: at a stop, or with none left;
--- after as many events as were allowed; because the host failed; or, before the first event, because
--- memory ran out.
+-- How serving ended, by whether the host answered that none is left: at a stop, or with none left
+-- before as many events were taken as were allowed; after that many; because the host failed before
+-- that; or, before the first event, because memory ran out.
 abbrev pub EndsBy : ServeEnd → Bool → List Arrival → ℕ → Told → ℕ → ℕ → Type 0
-EndsBy Stopped false es turns left faults faults' = EndsWithStop es
-EndsBy Stopped true es turns left faults faults' = NoStop es × NoneLeft left
+EndsBy Stopped false es turns left faults faults' = EndsWithStop es × (length es ≤ turns)
+EndsBy Stopped true es turns left faults faults' =
+    NoStop es × NoneLeft left × (length es < turns)
 EndsBy (Spent n) false es turns left faults faults' =
     (n ≡ turns) × (length es ≡ turns) × NoStop es
 EndsBy (Spent n) true es turns left faults faults' = ⊥
-EndsBy HostFault false es turns left faults faults' = NoStop es × Rose faults faults'
+EndsBy HostFault false es turns left faults faults' =
+    NoStop es × Rose faults faults' × (length es < turns)
 EndsBy HostFault true es turns left faults faults' = ⊥
 EndsBy NoMemory false es turns left faults faults' = es ≡ []
 EndsBy NoMemory true es turns left faults faults' = ⊥

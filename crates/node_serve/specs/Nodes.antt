@@ -1,7 +1,8 @@
 -- What a node's values mean, and what its calls do.
-use Rattle.std.specs.Prelude.{◌≡◌, ◌+◌, ℕ, Bool, true, false, List, [], ◌∷◌, ◌++◌, Option, Some, None, Result}
+use Rattle.std.specs.Prelude.{◌≡◌, ◌+◌, ℕ, Bool, true, false, List, [], ◌∷◌, ◌++◌, length, Option, Some, None, Result}
 use Rattle.std.specs.Ordering.{nat_cmp}
-use Rattle.std.specs.BTreeMap.{BTreeMap, get, btree_map_len}
+use Rattle.std.specs.BTreeMap.{is_at}
+use Rattle.std.specs.Map.{lookup}
 use Rattle.arch_base.specs.Counts.{Rose}
 use Rattle.edge_io.specs.Frames.{Outputs, outputs}
 use Rattle.edge_io.specs.Hosts.{Told, then_given, before_left, NoneLeft, OthersKept, one_more}
@@ -30,22 +31,26 @@ pub record Places : Type 0 where
   pub session : ℕ → Option Session
   pub count : ℕ
 
--- The session of a connection in a map.
-abbrev pub session_of : BTreeMap ℕ Session → ℕ → Option Session
-session_of m c = get nat_cmp m c
+-- The session of a connection, from a list of connections with a session each.
+abbrev pub session_of : List (ℕ × Session) → ℕ → Option Session
+session_of sessions c = lookup (is_at (nat_cmp c)) sessions
 
--- The sessions in a map.
-abbrev pub places_of : BTreeMap ℕ Session → Places
-places_of m = record { session = session_of m; count = btree_map_len m }
+-- The sessions of such a list.
+abbrev pub places_of : List (ℕ × Session) → Places
+places_of sessions = record { session = session_of sessions; count = length sessions }
 
--- A keeper, and the open sessions over it.
+-- A keeper, and the open sessions over it, each with its connection.
 pub record Serving (K : Type 0) : Type 0 where
   pub keep : K
-  pub places : Places
+  pub sessions : List (ℕ × Session)
 
 -- The node of these two parts.
-abbrev pub serving : {K : Type 0} → K → Places → Serving K
-serving keep places = record { keep = keep; places = places }
+abbrev pub serving : {K : Type 0} → K → List (ℕ × Session) → Serving K
+serving keep sessions = record { keep = keep; sessions = sessions }
+
+-- The open sessions of a node.
+abbrev pub places_in : {K : Type 0} → Serving K → Places
+places_in node = places_of node.sessions
 
 -- The world of open sessions and what is outside of them, where the keeper stands so.
 abbrev pub world_of : Standing → Places → Outer → World
@@ -124,7 +129,7 @@ module _ {K : Type 0} (holds : K → Archive → Type 0) (ready : K → Bool)
     pub after : Standing
     pub fits : Fits holds ready leaves new.keep after
     pub passed : List Standing
-    pub turned : Turned arrival (world_of s old.places i) passed (world_of after new.places j)
+    pub turned : Turned arrival (world_of s (places_in old) i) passed (world_of after (places_in new) j)
     pub passes : Passes leaves old.keep new.keep (s ∷ passed)
     pub crash : leaves old.keep new.keep (archives_of (s ∷ passed))
 
@@ -139,7 +144,7 @@ module _ {K : Type 0} (holds : K → Archive → Type 0) (ready : K → Bool)
     pub after : Standing
     pub fits : Fits holds ready leaves new.keep after
     pub turns : List Turn
-    pub served : Served arrivals (world_of s old.places i) turns (world_of after new.places j)
+    pub served : Served arrivals (world_of s (places_in old) i) turns (world_of after (places_in new) j)
     pub passes : Passes leaves old.keep new.keep (s ∷ passed_in turns)
     pub crash : leaves old.keep new.keep (archives_of (s ∷ passed_in turns))
 
@@ -150,7 +155,7 @@ module _ {K : Type 0} (holds : K → Archive → Type 0) (ready : K → Bool)
       (j : Outer) : Type 0 where
     pub runs : RunsTo arrivals s old i new j
     pub records : (past : List Outputs) → recorded past → recorded'
-        (past ++ outputs_asked none (world_of s old.places i) runs.turns (world_of runs.after new.places j))
+        (past ++ outputs_asked none (world_of s (places_in old) i) runs.turns (world_of runs.after (places_in new) j))
 
   -- A node served the events that a host gave, in order.
   pub record ServesTo (end : ServeEnd) (turns : ℕ) (old : Serving K) (i : Outer) (new : Serving K)

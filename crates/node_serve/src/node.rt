@@ -3,7 +3,7 @@ ghost use Rattle.std.specs.Prelude.{◌≡◌, ◌≤◌, ℕ, length, None};
 ghost use Rattle.arch_base.specs.Moments.{last_moment};
 ghost use Rattle.edge_io.specs.Events.{piece_len};
 ghost use Rattle.edge_io.specs.Hosts.{SameEvents};
-ghost use Rattle.node_serve.specs.Nodes.{Turns};
+ghost use Rattle.node_serve.specs.Nodes.{Turns, places_in};
 ghost use Rattle.node_serve.specs.World.{outer};
 
 use crate::places::{Sessions, admit, end, feed};
@@ -25,19 +25,19 @@ pub struct Node<K> {
 }
 
 impl<K> Model for Node<K> {
-    ghost use Rattle.node_serve.specs.Nodes.{Serving, serving, places_of};
+    ghost use Rattle.node_serve.specs.Nodes.{Serving, serving};
 
     ghost Value = { Serving K };
 
-    ghost view = { λ n. serving n.keep (places_of n.sessions) };
+    ghost view = { λ n. serving n.keep n.sessions.entries };
 }
 
 impl<K: Keep> Node<K> {
     /// Returns a node without sessions.
     pub fn new(alloc: Global, keep: K) -> Node<K>
         ensures keep { result.keep ≡ keep }
-        ensures none { (c : ℕ) → result.places.session c ≡ None }
-        ensures count { result.places.count ≡ 0 }
+        ensures none { (c : ℕ) → (places_in result).session c ≡ None }
+        ensures count { (places_in result).count ≡ 0 }
     {
         Node {
             alloc,

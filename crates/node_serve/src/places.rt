@@ -23,7 +23,7 @@ pub(crate) type Sessions = BTreeMap<u32, Session>;
 
 /// Ends the session of a connection without a word, if it has one.
 pub(crate) fn end(conn: u32, sessions: &mut Sessions)
-    ensures { Ends conn (places_of sessions.old) (places_of sessions.new) }
+    ensures { Ends conn (places_of sessions.old.entries) (places_of sessions.new.entries) }
 {
     let _ = sessions.remove(&conn);
 }
@@ -36,9 +36,9 @@ pub(crate) fn admit<H: Host>(
     sessions: &mut Sessions,
     host: &mut H,
 )
-    ensures made { (disk : ℕ) → Makes door conn (places_of sessions.old)
+    ensures made { (disk : ℕ) → Makes door conn (places_of sessions.old.entries)
         (outer (H.taken host.old) (H.closings host.old) disk (H.lost host.old))
-        (places_of sessions.new)
+        (places_of sessions.new.entries)
         (outer (H.taken host.new) (H.closings host.new) disk (H.lost host.new)) }
     ensures events { SameEvents H.left H.given H.recorded H.faults host.old host.new }
 {
@@ -58,11 +58,11 @@ pub(crate) fn admit<H: Host>(
 /// Makes a session of the control door at a connection without one, or refuses it if memory runs
 /// out.
 fn open_control<H: Host>(alloc: Global, conn: u32, sessions: &mut Sessions, host: &mut H)
-    requires none { (places_of sessions.old).session conn ≡ None }
-    requires few { (places_of sessions.old).count < session_limit }
-    ensures made { (disk : ℕ) → Makes Door.Control conn (places_of sessions.old)
+    requires none { (places_of sessions.old.entries).session conn ≡ None }
+    requires few { (places_of sessions.old.entries).count < session_limit }
+    ensures made { (disk : ℕ) → Makes Door.Control conn (places_of sessions.old.entries)
         (outer (H.taken host.old) (H.closings host.old) disk (H.lost host.old))
-        (places_of sessions.new)
+        (places_of sessions.new.entries)
         (outer (H.taken host.new) (H.closings host.new) disk (H.lost host.new)) }
     ensures events { SameEvents H.left H.given H.recorded H.faults host.old host.new }
 {
@@ -77,11 +77,11 @@ fn open_control<H: Host>(alloc: Global, conn: u32, sessions: &mut Sessions, host
 ///
 /// Its place is found first, by a session that takes no memory. So none greets that has no place.
 fn open_news<H: Host>(alloc: Global, conn: u32, sessions: &mut Sessions, host: &mut H)
-    requires none { (places_of sessions.old).session conn ≡ None }
-    requires few { (places_of sessions.old).count < session_limit }
-    ensures made { (disk : ℕ) → Makes Door.Nntp conn (places_of sessions.old)
+    requires none { (places_of sessions.old.entries).session conn ≡ None }
+    requires few { (places_of sessions.old.entries).count < session_limit }
+    ensures made { (disk : ℕ) → Makes Door.Nntp conn (places_of sessions.old.entries)
         (outer (H.taken host.old) (H.closings host.old) disk (H.lost host.old))
-        (places_of sessions.new)
+        (places_of sessions.new.entries)
         (outer (H.taken host.new) (H.closings host.new) disk (H.lost host.new)) }
     ensures events { SameEvents H.left H.given H.recorded H.faults host.old host.new }
 {
@@ -94,10 +94,10 @@ fn open_news<H: Host>(alloc: Global, conn: u32, sessions: &mut Sessions, host: &
 /// Opens a session of a reader in the place of the one that a connection has, and greets. If the
 /// greeting is lost, the connection is closed and has no session.
 fn greet<H: Host>(alloc: Global, conn: u32, sessions: &mut Sessions, host: &mut H)
-    ensures made { (disk : ℕ) (p : Places) → IsPlaced conn p (places_of sessions.old)
+    ensures made { (disk : ℕ) (p : Places) → IsPlaced conn p (places_of sessions.old.entries)
         → p.count < session_limit → Makes Door.Nntp conn p
         (outer (H.taken host.old) (H.closings host.old) disk (H.lost host.old))
-        (places_of sessions.new)
+        (places_of sessions.new.entries)
         (outer (H.taken host.new) (H.closings host.new) disk (H.lost host.new)) }
     ensures events { SameEvents H.left H.given H.recorded H.faults host.old host.new }
 {
@@ -113,8 +113,8 @@ fn greet<H: Host>(alloc: Global, conn: u32, sessions: &mut Sessions, host: &mut 
 
 /// Puts a session in the place of the one that a connection has.
 fn put(conn: u32, session: Session, sessions: &mut Sessions)
-    ensures { (p : Places) → IsPlaced conn p (places_of sessions.old)
-        → IsPut conn session (places_of sessions.old) (places_of sessions.new) }
+    ensures { (p : Places) → IsPlaced conn p (places_of sessions.old.entries)
+        → IsPut conn session (places_of sessions.old.entries) (places_of sessions.new.entries) }
 {
     if let Some(place) = sessions.get_mut(&conn) {
         *place = session;
@@ -133,9 +133,9 @@ pub(crate) fn feed<K: Keep, H: Host>(
     requires moment { moment ≤ last_moment }
     ensures turned { (len : ℕ) → Turns K.holds K.ready K.leaves
         (record { moment = moment; what = Bytes conn len }, piece.now)
-        (serving keep.old (places_of sessions.old))
+        (serving keep.old sessions.old.entries)
         (outer (H.taken host.old) (H.closings host.old) (K.faults keep.old) (H.lost host.old))
-        (serving keep.new (places_of sessions.new))
+        (serving keep.new sessions.new.entries)
         (outer (H.taken host.new) (H.closings host.new) (K.faults keep.new) (H.lost host.new)) }
     ensures events { SameEvents H.left H.given H.recorded H.faults host.old host.new }
 {

@@ -7,23 +7,23 @@ use Rattle.node_serve.proofs.places.admit.Goals as goal
 
 pub returns-then-clause-made : goal.returns-then-clause-made
 returns-then-clause-made g c = λ disk.
-    makes-after c.args.door c.args.conn (places_of c.args.sessions.now) (places_of c.end.new.sessions) (places_of c.end.new.sessions) _ _ c.end.ensures
-    (makes-busy c.args.door c.args.conn (places_of c.end.new.sessions) _ _ ((c.end.ensures _ (outer (g.H.Host.taken c.args.host.now) (g.H.Host.closings c.args.host.now) disk (g.H.Host.lost c.args.host.now))).gone) (omega (arith, c.len.ensures.len, c.if-len.true)) (c.refuse.ensures.refused disk))
+    makes-after c.args.door c.args.conn (places_of c.args.sessions.now.entries) (places_of c.end.new.sessions.entries) (places_of c.end.new.sessions.entries) _ _ c.end.ensures
+    (makes-busy c.args.door c.args.conn (places_of c.end.new.sessions.entries) _ _ ((c.end.ensures _ (outer (g.H.Host.taken c.args.host.now) (g.H.Host.closings c.args.host.now) disk (g.H.Host.lost c.args.host.now))).gone) (omega (arith, c.len.ensures.len, c.if-len.true)) (c.refuse.ensures.refused disk))
 
 pub returns-in-Control-clause-made : goal.returns-in-Control-clause-made
 returns-in-Control-clause-made g c = λ disk.
-    rw c.in-Control.is (makes-after door.Control c.args.conn (places_of c.args.sessions.now) (places_of c.end.new.sessions) (places_of c.open_control.new.sessions) _ _ c.end.ensures (c.open_control.ensures.made disk))
+    rw c.in-Control.is (makes-after door.Control c.args.conn (places_of c.args.sessions.now.entries) (places_of c.end.new.sessions.entries) (places_of c.open_control.new.sessions.entries) _ _ c.end.ensures (c.open_control.ensures.made disk))
 
 pub returns-in-Nntp-clause-made : goal.returns-in-Nntp-clause-made
 returns-in-Nntp-clause-made g c = λ disk.
-    rw c.in-Nntp.is (makes-after door.Nntp c.args.conn (places_of c.args.sessions.now) (places_of c.end.new.sessions) (places_of c.open_news.new.sessions) _ _ c.end.ensures (c.open_news.ensures.made disk))
+    rw c.in-Nntp.is (makes-after door.Nntp c.args.conn (places_of c.args.sessions.now.entries) (places_of c.end.new.sessions.entries) (places_of c.open_news.new.sessions.entries) _ _ c.end.ensures (c.open_news.ensures.made disk))
 
 pub returns-in-Http-clause-made : goal.returns-in-Http-clause-made
 returns-in-Http-clause-made g c = λ disk.
-    rw c.in-Http.is (makes-after door.Http c.args.conn (places_of c.args.sessions.now) (places_of c.end.new.sessions) (places_of c.end.new.sessions) _ _ c.end.ensures
-    (makes-unbuilt door.Http c.args.conn (places_of c.end.new.sessions) _ _ (λ s. refl) ((c.end.ensures _ (outer (g.H.Host.taken c.args.host.now) (g.H.Host.closings c.args.host.now) disk (g.H.Host.lost c.args.host.now))).gone) (omega (arith, c.len.ensures.len, c.if-len.false)) (c.refuse-in-Http.ensures.refused disk)))
+    rw c.in-Http.is (makes-after door.Http c.args.conn (places_of c.args.sessions.now.entries) (places_of c.end.new.sessions.entries) (places_of c.end.new.sessions.entries) _ _ c.end.ensures
+    (makes-unbuilt door.Http c.args.conn (places_of c.end.new.sessions.entries) _ _ (λ s. refl) ((c.end.ensures _ (outer (g.H.Host.taken c.args.host.now) (g.H.Host.closings c.args.host.now) disk (g.H.Host.lost c.args.host.now))).gone) (omega (arith, c.len.ensures.len, c.if-len.false)) (c.refuse-in-Http.ensures.refused disk)))
 
 pub returns-in-Imap-clause-made : goal.returns-in-Imap-clause-made
 returns-in-Imap-clause-made g c = λ disk.
-    rw c.in-Imap.is (makes-after door.Imap c.args.conn (places_of c.args.sessions.now) (places_of c.end.new.sessions) (places_of c.end.new.sessions) _ _ c.end.ensures
-    (makes-unbuilt door.Imap c.args.conn (places_of c.end.new.sessions) _ _ (λ s. refl) ((c.end.ensures _ (outer (g.H.Host.taken c.args.host.now) (g.H.Host.closings c.args.host.now) disk (g.H.Host.lost c.args.host.now))).gone) (omega (arith, c.len.ensures.len, c.if-len.false)) (c.refuse-in-Imap.ensures.refused disk)))
+    rw c.in-Imap.is (makes-after door.Imap c.args.conn (places_of c.args.sessions.now.entries) (places_of c.end.new.sessions.entries) (places_of c.end.new.sessions.entries) _ _ c.end.ensures
+    (makes-unbuilt door.Imap c.args.conn (places_of c.end.new.sessions.entries) _ _ (λ s. refl) ((c.end.ensures _ (outer (g.H.Host.taken c.args.host.now) (g.H.Host.closings c.args.host.now) disk (g.H.Host.lost c.args.host.now))).gone) (omega (arith, c.len.ensures.len, c.if-len.false)) (c.refuse-in-Imap.ensures.refused disk)))

@@ -9,8 +9,8 @@ use Rattle.node_serve.proofs.places.open_control.Goals as goal
 pub returns-in-Ok-clause-made : goal.returns-in-Ok-clause-made
 returns-in-Ok-clause-made g c = λ disk.
     let placed = placed-inserted c.args.sessions.now c.insert.new.self c.args.conn _ (session.Control []) c.requires.none c.in-Ok.ensures.old c.in-Ok.ensures.updates c.in-Ok.ensures.len in
-    makes-control c.args.conn (places_of c.args.sessions.now) (places_of c.insert.new.self) _ placed placed.some c.requires.few
+    makes-control c.args.conn (places_of c.args.sessions.now.entries) (places_of c.insert.new.self.entries) _ placed placed.some c.requires.few
 
 pub returns-in-Err-clause-made : goal.returns-in-Err-clause-made
 returns-in-Err-clause-made g c = λ disk.
-    rw (same-places c.args.sessions.now c.insert.new.self c.in-Err.ensures.err) (makes-starved door.Control c.args.conn (places_of c.args.sessions.now) _ _ c.requires.none c.requires.few (c.refuse_starved.ensures.refused disk))
+    rw (same-places c.args.sessions.now c.insert.new.self c.in-Err.ensures.err) (makes-starved door.Control c.args.conn (places_of c.args.sessions.now.entries) _ _ c.requires.none c.requires.few (c.refuse_starved.ensures.refused disk))

@@ -8,9 +8,9 @@ use Rattle.node_serve.proofs.places.open_news.Goals as goal
 
 pub returns-in-Ok-clause-made : goal.returns-in-Ok-clause-made
 returns-in-Ok-clause-made g c = λ disk.
-    c.greet.ensures.made disk (places_of c.args.sessions.now)
+    c.greet.ensures.made disk (places_of c.args.sessions.now.entries)
     (placed-inserted c.args.sessions.now c.insert.new.self c.args.conn _ (session.Control []) c.requires.none c.in-Ok.ensures.old c.in-Ok.ensures.updates c.in-Ok.ensures.len) c.requires.few
 
 pub returns-in-Err-clause-made : goal.returns-in-Err-clause-made
 returns-in-Err-clause-made g c = λ disk.
-    rw (same-places c.args.sessions.now c.insert.new.self c.in-Err.ensures.err) (makes-starved door.Nntp c.args.conn (places_of c.args.sessions.now) _ _ c.requires.none c.requires.few (c.refuse_starved.ensures.refused disk))
+    rw (same-places c.args.sessions.now c.insert.new.self c.in-Err.ensures.err) (makes-starved door.Nntp c.args.conn (places_of c.args.sessions.now.entries) _ _ c.requires.none c.requires.few (c.refuse_starved.ensures.refused disk))
