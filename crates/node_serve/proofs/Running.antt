@@ -19,7 +19,7 @@ use Rattle.keep_course.specs.Courses.{afters, archives_of}
 use Rattle.keep_course.proofs.Courses.{all-own}
 use Rattle.node_serve.specs.Doors.{Held, session_limit, busy_words, memory_words, greets, said_making}
 use Rattle.node_serve.specs.Ends.{NoStop, EndsWithStop, EndsBy, is_stop, given_after, before_all}
-use Rattle.node_serve.specs.Nodes.{Serving, places_in, world_of, TurnsTo, Turns, TookOne, TookNone, RunsTo, RunsOver, ServesTo, outputs_asked}
+use Rattle.node_serve.specs.Nodes.{Serving, places_in, world_of, StepsTo, TurnsTo, Turns, TookOne, TookNone, RunsTo, RunsOver, ServesTo, outputs_asked}
 use Rattle.node_serve.specs.Turns.{Turn, FedAt, CameTo, TurnedBy, Turned, Served, passed_in, outputs_of, outputs_before}
 use Rattle.node_serve.specs.World.{Outer, World, outer}
 use Rattle.node_serve.specs.declared.serving.ServeEnd.{ServeEnd}
@@ -133,6 +133,17 @@ served-has may (e ∷ es) w (t ∷ ts) v run now later =
     let parts = all-split may t.passed (passed_in ts) later in
     served-has may es t.after ts v run.1 (turned-has may e w t.passed t.after run.0 now parts.0) parts.1
 
+-- How the archive stands after these turns.
+abbrev last-standing : Standing → List Turn → Standing
+last-standing s [] = s
+last-standing s (t ∷ ts) = last-standing t.after.standing ts
+
+served-last : (es : List Arrival) (w : World) (ts : List Turn) (v : World) → Served es w ts v → v.standing ≡ last-standing w.standing ts
+served-last [] w [] v run = ap (λ (x : World). x.standing) run
+served-last [] w (t ∷ ts) v never = absurd never
+served-last (e ∷ es) w [] v never = absurd never
+served-last (e ∷ es) w (t ∷ ts) v run = served-last es t.after ts v run.1
+
 module _ {K : Type 0} (holds : K → Archive → Type 0) (ready : K → Bool) (leaves : K → K → List (Option Archive) → Type 0) where
   -- Before the first event.
   pub runs-none : (s : Standing) (node : Serving K) (i : Outer) → Fits holds ready leaves node.keep s → RunsTo holds ready leaves [] s node i node i
@@ -141,9 +152,15 @@ module _ {K : Type 0} (holds : K → Archive → Type 0) (ready : K → Bool) (l
     fits = fits;
     turns = [];
     served = refl;
+    steps = refl;
     passes = λ start may has since. since;
     crash = crash-left holds ready leaves node.keep node.keep s [] fits (λ start may has since. since);
   }
+
+  -- One turn more.
+  steps-more : (ts : List Turn) (t : Turn) (s : Standing) (old mid new : K) → StepsTo holds ready leaves old s ts mid → Fits holds ready leaves new t.after.standing → Passes leaves mid new (last-standing s ts ∷ t.passed) → StepsTo holds ready leaves old s (ts ++ t ∷ []) new
+  steps-more [] t s old mid new steps fits passes = (new, fits, subst (λ (k : K). Passes leaves k new (s ∷ t.passed)) steps passes, refl)
+  steps-more (u ∷ ts) t s old mid new steps fits passes = (steps.0, steps.1, steps.2, steps-more ts t u.after.standing steps.0 mid new steps.3 fits passes)
 
   -- One event more.
   pub runs-more : (es : List Arrival) (e : Arrival) (s : Standing) (old mid new : Serving K) (i j k : Outer) → Fits holds ready leaves old.keep s → (run : RunsTo holds ready leaves es s old i mid j) → TurnsTo holds ready leaves e run.after mid j new k
@@ -159,6 +176,8 @@ module _ {K : Type 0} (holds : K → Archive → Type 0) (ready : K → Bool) (l
         fits = turn.fits;
         turns = ts;
         served = served-more es (world_of s (places_in old) i) run.turns (world_of run.after (places_in mid) j) e turn.passed (world_of turn.after (places_in new) k) run.served turn.turned;
+        steps = steps-more run.turns last s old.keep mid.keep new.keep run.steps turn.fits
+            (subst (λ (x : Standing). Passes leaves mid.keep new.keep (x ∷ turn.passed)) (served-last es (world_of s (places_in old) i) run.turns (world_of run.after (places_in mid) j) run.served) turn.passes);
         passes = passes;
         crash = crash-left holds ready leaves old.keep new.keep s (passed_in ts) fits passes;
       }

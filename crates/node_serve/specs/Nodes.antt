@@ -138,6 +138,14 @@ module _ {K : Type 0} (holds : K → Archive → Type 0) (ready : K → Bool)
   Turns arrival old i new j = (s : Standing) → Fits holds ready leaves old.keep s
       → TurnsTo arrival s old i new j
 
+  -- A keeper went from one state to another by these turns. After each it fits what stands then, and a
+  -- crash within a turn leaves an archive that stood before it or after one of its acts, or one that
+  -- was in doubt there.
+  abbrev pub StepsTo : K → Standing → List Turn → K → Type 0
+  StepsTo old s [] new = new ≡ old
+  StepsTo old s (t ∷ ts) new = (mid : K) × Fits holds ready leaves mid t.after.standing
+      × Passes leaves old mid (s ∷ t.passed) × StepsTo mid t.after.standing ts new
+
   -- A node took these events to their end, one after another.
   pub record RunsTo (arrivals : List Arrival) (s : Standing) (old : Serving K) (i : Outer)
       (new : Serving K) (j : Outer) : Type 0 where
@@ -145,6 +153,7 @@ module _ {K : Type 0} (holds : K → Archive → Type 0) (ready : K → Bool)
     pub fits : Fits holds ready leaves new.keep after
     pub turns : List Turn
     pub served : Served arrivals (world_of s (places_in old) i) turns (world_of after (places_in new) j)
+    pub steps : StepsTo old.keep s turns new.keep
     pub passes : Passes leaves old.keep new.keep (s ∷ passed_in turns)
     pub crash : leaves old.keep new.keep (archives_of (s ∷ passed_in turns))
 
