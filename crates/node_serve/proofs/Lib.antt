@@ -1,5 +1,5 @@
 pub mod Feeding
-pub mod Places
+pub mod PlaceMaps
 pub mod Turning
 pub mod Running
 pub mod Counting

@@ -71,11 +71,12 @@ module _ {H : Type 0} (said_of : Standing → H → Way → Said H Standing) (is
   unfolding passed_by
   passed-by h w v held fed = passed-fed fed.0 (suc (size h)) h w fed.1 v (omega arith) held fed.2 fed.3
 
+-- A plain act is an act by the rules.
+plain-acts : {H A : Type 0} (words : Way → Said H A) (i : Outside) (held : Option H) (a : A) (j : Outside) → PlainActs (words Plain) i held a j → Acts words i held a j
+plain-acts words i held a j acts = record { way = Plain; cause = acts.disk_kept; disk_later = omega (arith, acts.disk_kept); lost_later = omega (arith, acts.whole.lost_kept); sent = inl acts.whole }
+
 -- A plain course is a course.
 module _ {H A : Type 0} (said_of : A → H → Way → Said H A) (is_request : H → Bool) where
-  pub plain-acts : (words : Way → Said H A) (i : Outside) (held : Option H) (a : A) (j : Outside) → PlainActs (words Plain) i held a j → Acts words i held a j
-  plain-acts words i held a j acts = record { way = Plain; cause = acts.disk_kept; disk_later = omega (arith, acts.disk_kept); lost_later = omega (arith, acts.whole.lost_kept); sent = inl acts.whole }
-
   plain-step : (h : H) (w m : Talk H A) → PlainStep said_of is_request h w m → Step said_of is_request h w m
   plain-step h w m step = record { held = step.held; acts = plain-acts (said_of w.after h) w.outside m.held m.after m.outside step.acts }
 
@@ -260,7 +261,7 @@ came-turned (Some start) moment c piece w passed v fed = record {
 }
 
 event-turned : (x : What) (moment : ℕ) (piece : List ℕ) (w : World) (passed : List Standing) (v : World) → PlainTurnedBy x moment piece w passed v → TurnedBy x moment piece w passed v
-event-turned (what.Opened c door) moment piece w passed v t = (record { acts = plain-acts (λ (s : Standing) (h : Session) (way : Way). said_making door (others_open c w) s way) (λ (h : Session). false) (said_making door (others_open c w) w.standing) (outside_at c w.out) (v.session c) v.standing (outside_at c v.out) t.0.acts; around = t.0.around }, t.1)
+event-turned (what.Opened c door) moment piece w passed v t = (record { acts = plain-acts (said_making door (others_open c w) w.standing) (outside_at c w.out) (v.session c) v.standing (outside_at c v.out) t.0.acts; around = t.0.around }, t.1)
 event-turned (what.Bytes c len) moment piece w passed v t = came-turned (w.session c) moment c piece w passed v t
 event-turned (what.Ended c) moment piece w passed v t = t
 event-turned what.Quiet moment piece w passed v t = t
@@ -289,14 +290,14 @@ below-grows n (suc c) f less = by (this-or (suc c) n)
     by (inl e) = let same : open_below n f ≡ open_below (suc c) f = ap (λ (m : ℕ). open_below m f) e in omega (arith, same)
     by (inr apart) = let rest = below-grows n c f (omega (arith, less, apart)) in omega (arith, rest)
 
-counted-one : (c : ℕ) (w v : World) → OthersKept c w.session v.session → v.count + one_if (w.session c) ≡ w.count + one_if (v.session c) → IsCounted w → IsCounted v
-counted-one c w v others count counted n = by (nat-or c n)
-  where
-    nat-or : (c n : ℕ) → (c < n) ⊎ (n ≤ c)
-    nat-or c zero = inr (omega arith)
-    nat-or zero (suc n) = inl (omega arith)
-    nat-or (suc c) (suc n) = elim (nat-or c n) [ inl less ↦ inl (omega (arith, less)) | inr more ↦ inr (omega (arith, more)) ]
+less-or : (c n : ℕ) → (c < n) ⊎ (n ≤ c)
+less-or c zero = inr (omega arith)
+less-or zero (suc n) = inl (omega arith)
+less-or (suc c) (suc n) = elim (less-or c n) [ inl less ↦ inl (omega (arith, less)) | inr more ↦ inr (omega (arith, more)) ]
 
+counted-one : (c : ℕ) (w v : World) → OthersKept c w.session v.session → v.count + one_if (w.session c) ≡ w.count + one_if (v.session c) → IsCounted w → IsCounted v
+counted-one c w v others count counted n = by (less-or c n)
+  where
     by : (c < n) ⊎ (n ≤ c) → open_below n v.session ≤ v.count
     by (inl less) =
         let both = below-one n c w.session v.session less others in

@@ -108,7 +108,7 @@ afters-last : (may : List (Option Archive)) (acts : List (Talk Held Standing)) (
 afters-last may [] t has = has.0
 afters-last may (a ∷ acts) t has = afters-last may acts t has.1
 
-turned-has : (may : List (Option Archive)) (e : Arrival) (w : World) (passed : List Standing) (v : World) → Turned e w passed v → Has may w.standing → HasAll may passed → Has may v.standing
+pub turned-has : (may : List (Option Archive)) (e : Arrival) (w : World) (passed : List Standing) (v : World) → Turned e w passed v → Has may w.standing → HasAll may passed → Has may v.standing
 turned-has may e w passed v turned now later = by e.0.what turned
   where
     same : v.standing ≡ w.standing → Has may v.standing

@@ -1,5 +1,5 @@
 //! Sends that are lost, and disks that fail.
-use crate::served::{ACCEPTED, DELIVERED, joined, served, served_plain, settings};
+use crate::served::{ACCEPTED, DELIVERED, host, joined, served_on, served_plain, settings};
 use arch_base::Numbers;
 use archive_core::Engine;
 use disk_model::MemDisk;
@@ -65,12 +65,13 @@ fn a_lost_send_ends_its_connection_alone(rt: HostRuntime) {
     assert!(rt; each_ends_one(rt.alloc()) == Some(true));
 }
 
-/// A reader who asks for the message by its number, and opens again before.
+/// A reader who asks for the message by its number.
 const ASKED: &[u8] =
-    b"1706781700 o 2 nntp\n1706781700 b 2 20\nGROUP list\r\nSTAT 1\r\n\n1706781701 s\n";
+    b"1706781700 o 2 nntp\n1706781700 b 2 23\nGROUP list\r\nARTICLE 1\r\n\n1706781701 s\n";
 
 /// What the reader gets of the archive with the message, and of the one before.
-const NEW: &[u8] = b"201 piv2 reader\r\n211 1 1 1 list\r\n223 1 <a@x>\r\n";
+const NEW: &[u8] =
+    b"201 piv2 reader\r\n211 1 1 1 list\r\n220 1 <a@x>\r\nFrom: Ann <ann@example.org>\r\nDate: Thu, 1 Feb 2024 10:00:00 +0000\r\nSubject: first\r\nMessage-ID: <a@x>\r\n\r\none\r\n.\r\n";
 
 const OLD: &[u8] = b"201 piv2 reader\r\n211 0 1 0 list\r\n423 no such number\r\n";
 
@@ -96,14 +97,26 @@ fn agree(host: &MemHost) -> bool {
     told && (host.taken(2) == NEW || host.taken(2) == OLD || host.taken(2) == SHUT)
 }
 
+/// Returns whether the reader gets the same of the disk that was left, opened anew, if the reader got
+/// an article or was told of none.
+fn is_left(alloc: Global, disk: MemDisk, served: &MemHost) -> Option<bool> {
+    let engine = Engine::open(alloc, disk).ok()?;
+    let mut later = host(alloc, ASKED, &[])?;
+    let (end, _engine) = served_on(alloc, engine, &mut later);
+    let same = later.taken(2) == served.taken(2) || served.taken(2) == SHUT;
+    Some(same && end == ServeEnd::Stopped)
+}
+
 /// Returns whether replies agree where one call of the disk fails.
 fn agree_after(alloc: Global, ordinal: u64) -> Option<bool> {
     let text = joined(alloc, &[DELIVERED, ASKED])?;
     let Some(engine) = made_over_failing(alloc, ordinal) else {
         return Some(true);
     };
-    let (end, host) = served(alloc, engine, text.as_slice(), &[])?;
-    Some(end == ServeEnd::Stopped && agree(&host))
+    let mut host = host(alloc, text.as_slice(), &[])?;
+    let (end, engine) = served_on(alloc, engine, &mut host);
+    let agreed = end == ServeEnd::Stopped && agree(&host);
+    Some(agreed && is_left(alloc, engine.into_disk(), &host)?)
 }
 
 #[test]

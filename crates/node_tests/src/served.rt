@@ -6,7 +6,7 @@ use arch_base::{Bytes, Config, Name, Numbers};
 use arch_model::Keep;
 use edge_io::{MemHost, script};
 use mem_archive::MemArchive;
-use node_serve::{Node, ServeEnd, count_law, serve};
+use node_serve::{Node, ServeEnd, count_law, plain_law, serve};
 use std::alloc::Global;
 
 /// A script's text in which the first connection delivers a message to the archive.
@@ -65,9 +65,19 @@ pub(crate) fn served<K: Keep + Drop>(
     listed: &[u64],
 ) -> Option<(ServeEnd, MemHost)> {
     let mut host = host(alloc, text, listed)?;
-    let mut node = Node::new(alloc, keep);
-    let end = serve(alloc, &mut node, &mut host, MANY);
+    let (end, _keep) = served_on(alloc, keep, &mut host);
     Some((end, host))
+}
+
+/// Serves the events of a host over a keeper, and returns how that ended, and the keeper.
+pub(crate) fn served_on<K: Keep + Drop>(
+    alloc: Global,
+    keep: K,
+    host: &mut MemHost,
+) -> (ServeEnd, K) {
+    let mut node = Node::new(alloc, keep);
+    let end = serve(alloc, &mut node, host, MANY);
+    (end, node.into_keep())
 }
 
 /// Serves a script over an archive in memory without messages.
@@ -96,7 +106,8 @@ fn serving_ends_when_its_events_are_spent(rt: HostRuntime) {
 }
 
 #[test]
-fn the_law_of_the_count_is_called(rt: HostRuntime) {
+fn the_laws_are_called(rt: HostRuntime) {
     count_law();
+    plain_law();
     assert!(rt; true);
 }

@@ -1,4 +1,4 @@
-use Rattle.node_serve.proofs.Places.{ends-removed}
+use Rattle.node_serve.proofs.PlaceMaps.{ends-removed}
 use Rattle.node_serve.proofs.places.end.Goals as goal
 
 pub returns : goal.returns

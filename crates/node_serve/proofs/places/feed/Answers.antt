@@ -5,7 +5,7 @@ use Rattle.node_serve.specs.Nodes.{places_of, world_of}
 use Rattle.node_serve.specs.Turns.{CameTo}
 use Rattle.node_serve.specs.World.{outer}
 use Rattle.node_serve.specs.declared.session.Session.{Session}
-use Rattle.node_serve.proofs.Places.{put-written}
+use Rattle.node_serve.proofs.PlaceMaps.{put-written}
 use Rattle.node_serve.proofs.Turning.{turns-still, same-world, turns-fed, around-went, around-shut}
 use Rattle.node_serve.proofs.places.feed.Goals as goal
 

@@ -2,7 +2,7 @@ use Rattle.std.proofs.Common.{[], refl}
 use Rattle.node_serve.specs.Nodes.{places_of}
 use Rattle.edge_io.specs.declared.events.Door.TheVariants as door
 use Rattle.node_serve.specs.declared.session.Session.TheVariants as session
-use Rattle.node_serve.proofs.Places.{placed-inserted, same-places}
+use Rattle.node_serve.proofs.PlaceMaps.{placed-inserted, same-places}
 use Rattle.node_serve.proofs.Turning.{makes-control, makes-starved}
 use Rattle.node_serve.proofs.places.open_control.Goals as goal
 

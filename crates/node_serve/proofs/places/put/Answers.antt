@@ -1,4 +1,4 @@
-use Rattle.node_serve.proofs.Places.{put-written}
+use Rattle.node_serve.proofs.PlaceMaps.{put-written}
 use Rattle.node_serve.proofs.places.put.Goals as goal
 
 pub returns-in-Some : goal.returns-in-Some
