@@ -11,7 +11,7 @@ use Rattle.nntp_words.specs.declared.numbers.Range.{Range}
 use Rattle.nntp_reader.specs.Headers.{fields_block}
 use Rattle.nntp_reader.specs.Commands.{Command, command_of}
 use Rattle.nntp_reader.specs.Dates.{year_at}
-use Rattle.nntp_reader.specs.Notices.{notice_line, memory_line, disk_line}
+use Rattle.nntp_reader.specs.Notices.{notice_line, welcome_line, memory_line, disk_line}
 use Rattle.nntp_reader.specs.Replies.{Reply, answered, reads_texts}
 use Rattle.nntp_reader.specs.declared.group.Group.{Group}
 use Rattle.nntp_reader.specs.declared.group.Group.TheVariants as group
@@ -92,4 +92,4 @@ new_reader = reader group.Unselected []
 
 -- The greeting of a new session. It needs no memory and no disk.
 abbrev pub greeting : Archive → Way → Says
-greeting a way = says a new_reader (notice_line notice.Welcome)
+greeting a way = says a new_reader welcome_line

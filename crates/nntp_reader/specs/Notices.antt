@@ -31,6 +31,10 @@ notice_words notice.Syntax = codes "501 syntax"
 abbrev pub notice_line : Notice → List ℕ
 notice_line what = crlf_line (notice_words what)
 
+-- The greeting of a new session.
+abbrev pub welcome_line : List ℕ
+welcome_line = notice_line notice.Welcome
+
 -- The line for out of memory.
 abbrev pub memory_line : List ℕ
 memory_line = crlf_line (codes "403 out of memory")

@@ -74,7 +74,7 @@ outer-same taken taken' closings closings' disk lost lost' t c l = λ i. record 
 
 -- How the archive stands after an event, if those before it and after each of its acts are told.
 
-acts-after : {H A : Type 0} (words : Way → Said H A) (x : A) (i : Outside) (held : Option H) (a : A) (j : Outside) → ((way : Way) → (words way).after ≡ x) → Acts words i held a j → a ≡ x
+pub acts-after : {H A : Type 0} (words : Way → Said H A) (x : A) (i : Outside) (held : Option H) (a : A) (j : Outside) → ((way : Way) → (words way).after ≡ x) → Acts words i held a j → a ≡ x
 acts-after words x i held a j same acts = by acts.way acts.sent
   where
     stops : (way : Way) → StopsShort words way i held a j → a ≡ x
@@ -98,7 +98,7 @@ greets-after door.Http s = refl
 greets-after door.Nntp s = refl
 greets-after door.Imap s = refl
 
-making-after : (at : Door) (n : ℕ) (s : Standing) (way : Way) → (said_making at n s way).after ≡ s
+pub making-after : (at : Door) (n : ℕ) (s : Standing) (way : Way) → (said_making at n s way).after ≡ s
 making-after at n s Plain = pick-after (nat_lt n session_limit) (greets at s) _ s (greets-after at s) refl
 making-after at n s Memory = pick-after (nat_lt n session_limit) _ _ s refl refl
 making-after at n s Disk = pick-after (nat_lt n session_limit) (greets at s) _ s (greets-after at s) refl

@@ -20,8 +20,7 @@ use Rattle.arch_model.specs.Keeping.{Passes, Fits}
 use Rattle.keep_course.specs.Courses.{afters, archives_of}
 use Rattle.keep_course.proofs.Courses.{all-own}
 use Rattle.nntp_reader.specs.Door.{Reader, new_reader, greeting}
-use Rattle.nntp_reader.specs.Notices.{notice_line}
-use Rattle.nntp_reader.specs.declared.notice.Notice.TheVariants as notice
+use Rattle.nntp_reader.specs.Notices.{welcome_line}
 use Rattle.node_serve.specs.Doors.{Held, Came, rest_if, said, is_asked, session_limit, busy_words, memory_words, greets, made, unmade, said_making}
 use Rattle.node_serve.specs.Nodes.{Places, Serving, serving, session_of, places_of, world_of, Refused, Makes, Ends, IsPlaced, IsPut, FedFrom, TurnsTo}
 use Rattle.node_serve.specs.Turns.{FedAt, CameTo, TurnedBy, Turned}
@@ -121,7 +120,7 @@ acts-any {H} {A} words other x i held a j same whole plain kept acts = record { 
 greeting-made : (n : ℕ) (s : Standing) (i j : Outside) (held : Option Reader) → n < session_limit → j.disk ≡ i.disk → Acts (greeting s.archive) i held s.archive j → Acts (said_making door.Nntp n s) i (held_over session.News held) s j
 greeting-made n s i j held few kept acts =
     let lifted = acts-over (λ (x : Archive). s) session.News (greeting s.archive) (λ (way : Way). said_over (λ (x : Archive). s) session.News (greeting s.archive way)) i held s.archive j (λ way. refl) acts in
-    acts-any (λ (way : Way). said_over (λ (x : Archive). s) session.News (greeting s.archive way)) (said_making door.Nntp n s) (says s (session.News new_reader) (notice_line notice.Welcome)) i (held_over session.News held) s j (λ way. refl) refl (made-few door.Nntp n s few) kept lifted
+    acts-any (λ (way : Way). said_over (λ (x : Archive). s) session.News (greeting s.archive way)) (said_making door.Nntp n s) (says s (session.News new_reader) welcome_line) i (held_over session.News held) s j (λ way. refl) refl (made-few door.Nntp n s few) kept lifted
 
 -- A reader's session was made, and its greeting was sent.
 pub makes-news : (c : ℕ) (p q r : Places) (i j : Outer) (reader : Reader) → IsPlaced c p q → IsPut c (session.News reader) q r → p.count < session_limit → j.disk ≡ i.disk

@@ -14,8 +14,7 @@ use Rattle.control_door.specs.Door as control
 use Rattle.control_door.specs.Door.{Waiting, waiting}
 use Rattle.nntp_reader.specs.Door as news
 use Rattle.nntp_reader.specs.Door.{Reader, new_reader}
-use Rattle.nntp_reader.specs.Notices.{notice_line, memory_line, busy_line, unopened_line}
-use Rattle.nntp_reader.specs.declared.notice.Notice.TheVariants as notice
+use Rattle.nntp_reader.specs.Notices.{welcome_line, memory_line, busy_line, unopened_line}
 use Rattle.node_serve.specs.declared.session.Session.{Session}
 use Rattle.node_serve.specs.declared.session.Session.TheVariants as session
 
@@ -88,7 +87,7 @@ memory_words door.Imap = []
 abbrev pub greets : Door → Standing → Said Session Standing
 greets door.Control s = says s (session.Control []) []
 greets door.Http s = closes s []
-greets door.Nntp s = says s (session.News new_reader) (notice_line notice.Welcome)
+greets door.Nntp s = says s (session.News new_reader) welcome_line
 greets door.Imap s = closes s []
 
 -- A session is made, or refused because as many others are open as there may be.
