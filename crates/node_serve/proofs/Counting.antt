@@ -32,16 +32,16 @@ this-or (suc c) (suc d) = by (this-or c d)
 -- One session changed.
 pub below-one : (n c : ℕ) (f g : ℕ → Option Session) → c < n → OthersKept c f g → open_below n g + one_if (f c) ≡ open_below n f + one_if (g c)
 below-one zero c f g less others = absurd (omega (arith, less))
-below-one (suc n) c f g less others = by (this-or c n)
+below-one (suc n) c f g less others = by (λ low. below-one n c f g low others) (this-or c n)
   where
-    by : (n ≡ c) ⊎ (n ≢ c) → open_below (suc n) g + one_if (f c) ≡ open_below (suc n) f + one_if (g c)
-    by (inl e) =
+    by : (c < n → open_below n g + one_if (f c) ≡ open_below n f + one_if (g c)) → (n ≡ c) ⊎ (n ≢ c) → open_below (suc n) g + one_if (f c) ≡ open_below (suc n) f + one_if (g c)
+    by below (inl e) =
         let rest = below-same n f g (λ d low. others d (λ is. (omega (arith, e, low, is)))) in
         let one : one_if (f n) ≡ one_if (f c) = ap (λ (m : ℕ). one_if (f m)) e in
         let two : one_if (g n) ≡ one_if (g c) = ap (λ (m : ℕ). one_if (g m)) e in
         omega (arith, rest, one, two)
-    by (inr apart) =
-        let rest = below-one n c f g (let other : c ≢ n = (λ e. apart (sym e)) in omega (arith, less, other)) others in
+    by below (inr apart) =
+        let rest = below (let other : c ≢ n = (λ e. apart (sym e)) in omega (arith, less, other)) in
         let same : one_if (g n) ≡ one_if (f n) = ap (λ (x : Option Session). one_if x) (others n apart) in
         omega (arith, rest, same)
 

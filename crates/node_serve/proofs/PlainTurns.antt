@@ -284,11 +284,11 @@ event-unfailed what.Stop moment piece w = (refl, refl)
 
 below-grows : (n c : ℕ) (f : ℕ → Option Session) → n ≤ c → open_below n f ≤ open_below c f
 below-grows n zero f less = let none : n ≡ 0 = omega (arith, less) in let same : open_below n f ≡ open_below 0 f = ap (λ (m : ℕ). open_below m f) none in omega (arith, same)
-below-grows n (suc c) f less = by (this-or (suc c) n)
+below-grows n (suc c) f less = by (λ low. below-grows n c f low) (this-or (suc c) n)
   where
-    by : (n ≡ suc c) ⊎ (n ≢ suc c) → open_below n f ≤ open_below (suc c) f
-    by (inl e) = let same : open_below n f ≡ open_below (suc c) f = ap (λ (m : ℕ). open_below m f) e in omega (arith, same)
-    by (inr apart) = let rest = below-grows n c f (omega (arith, less, apart)) in omega (arith, rest)
+    by : (n ≤ c → open_below n f ≤ open_below c f) → (n ≡ suc c) ⊎ (n ≢ suc c) → open_below n f ≤ open_below (suc c) f
+    by grows (inl e) = let same : open_below n f ≡ open_below (suc c) f = ap (λ (m : ℕ). open_below m f) e in omega (arith, same)
+    by grows (inr apart) = let rest = grows (omega (arith, less, apart)) in omega (arith, rest)
 
 less-or : (c n : ℕ) → (c < n) ⊎ (n ≤ c)
 less-or c zero = inr (omega arith)
