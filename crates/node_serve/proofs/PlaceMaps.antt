@@ -30,12 +30,10 @@ count-one (Some x) = refl
 
 -- A removal ends a session.
 pub ends-removed : (m n : BTreeMap ℕ Session) (c : ℕ) (r : Option Session) → r ≡ get_by (nat_cmp c) m → UpdatesBy nat_cmp (nat_cmp c) m n None → btree_map_len n + (if is_some r then 1 else 0) ≡ btree_map_len m → Ends c (places_of m.entries) (places_of n.entries)
-ends-removed m n c r is updates len = λ s o. record {
-  standing = refl;
+ends-removed m n c r is updates len = record {
   gone = updates.1;
   sessions = others-kept m n c None updates;
   count = ap (λ (x : ℕ). btree_map_len n + x) (sym (count-one r ∙ ap (λ (x : Option Session). one_if x) is)) ∙ len;
-  out = refl;
 }
 
 -- An insertion finds a place.
@@ -53,7 +51,3 @@ pub put-written : (m n : BTreeMap ℕ Session) (c : ℕ) (v start : Session) →
 put-written m n c v start found through =
     let updates = through.3 (subst (λ (x : Option Session). IsSome x) found refl) in
     record { here = updates.1; others = others-kept m n c (Some start) updates; count = through.2 }
-
--- Maps with the same entries have the same sessions.
-pub same-places : (m n : BTreeMap ℕ Session) → IsUnchanged m n → places_of n.entries ≡ places_of m.entries
-same-places m n same = ap places_of same

@@ -1,10 +1,12 @@
 -- Events in order.
-use Rattle.std.proofs.Common.{◌≡◌, ◌⊎◌, ◌≤◌, ◌<◌, ◌+◌, ℕ, nat_lt, Bool, true, false, List, [], ◌∷◌, ◌++◌, length, Option, Some, None, refl, sym, ap, subst, ◌∙◌, arith, append_assoc, length-append, inl, inr, if◌then◌else◌}
+use Rattle.std.proofs.Common.{◌≡◌, ◌⊎◌, ◌≤◌, ◌<◌, ◌+◌, ℕ, nat_lt, Bool, true, false, List, [], ◌∷◌, ◌++◌, length, take, Option, Some, None, refl, sym, ap, subst, ◌∙◌, arith, append_assoc, length-append, inl, inr, if◌then◌else◌}
 use Rattle.edge_io.specs.Hosts.{Told, then_given, before_left}
 use Rattle.edge_io.specs.Frames.{Outputs, outputs}
 use Rattle.edge_io.specs.Scripts.{Arrival}
 use Rattle.arch_base.specs.Counts.{Rose}
-use Rattle.edge_io.specs.Hosts.{NoneLeft}
+use Rattle.edge_io.specs.Hosts.{NoneLeft, GaveOne}
+use Rattle.edge_io.specs.Events.{piece_len}
+use Rattle.edge_io.specs.declared.events.Event.{Event}
 use Rattle.edge_io.specs.declared.events.Door.{Door}
 use Rattle.edge_io.specs.declared.events.Door.TheVariants as door
 use Rattle.edge_io.specs.declared.events.What.{What}
@@ -19,9 +21,11 @@ use Rattle.keep_course.specs.Courses.{afters, archives_of}
 use Rattle.keep_course.proofs.Courses.{all-own}
 use Rattle.node_serve.specs.Doors.{Held, session_limit, busy_words, memory_words, greets, said_making}
 use Rattle.node_serve.specs.Ends.{NoStop, EndsWithStop, EndsBy, is_stop, given_after, before_all}
-use Rattle.node_serve.specs.Nodes.{Serving, places_in, world_of, StepsTo, TurnsTo, Turns, TookOne, TookNone, RunsTo, RunsOver, ServesTo, outputs_asked}
+use Rattle.node_serve.specs.Nodes.{Serving, places_in, world_of, StepsTo, TurnsTo, Turns, TookOne, TookNone, TakesOne, RunsTo, RunsOver, ServesTo, outputs_asked}
 use Rattle.node_serve.specs.Turns.{Turn, FedAt, CameTo, TurnedBy, Turned, Served, passed_in, outputs_of, outputs_before}
 use Rattle.node_serve.specs.World.{Outer, World, outer}
+use Rattle.node_serve.specs.declared.serving.Taken.{Taken}
+use Rattle.node_serve.specs.declared.serving.Taken.TheVariants.{Went, Stops}
 use Rattle.node_serve.specs.declared.serving.ServeEnd.{ServeEnd}
 use Rattle.node_serve.specs.declared.serving.ServeEnd.TheVariants as end
 use Rattle.node_serve.specs.declared.session.Session.{Session}
@@ -192,6 +196,7 @@ module _ {K : Type 0} (holds : K → Archive → Type 0) (ready : K → Bool) (l
     pub runs : (s : Standing) → Fits holds ready leaves old.keep s → RunsOver holds ready leaves recorded recorded' false arrivals s old i new j
 
   pub sofar-none : (node : Serving K) (i : Outer) (given left : Told) (recorded : List Outputs → Type 0) → SoFar 0 node i node i given given left left recorded recorded
+  unfolding runs-none
   sofar-none node i given left recorded = record {
     arrivals = [];
     given_is = refl;
@@ -204,6 +209,7 @@ module _ {K : Type 0} (holds : K → Archive → Type 0) (ready : K → Bool) (l
   -- One event more: what it does, and what the host noted before it.
   over-more : (es : List Arrival) (s : Standing) (old mid new : Serving K) (i j k : Outer) (given' given'' left' left'' : Told) (recorded recorded' recorded'' : List Outputs → Type 0) (stops : Bool) → Fits holds ready leaves old.keep s → RunsOver holds ready leaves recorded recorded' false es s old i mid j
       → (took : TookOne holds ready leaves mid j new k given' given'' left' left'' recorded' recorded'' stops) → RunsOver holds ready leaves recorded recorded'' false (es ++ took.arrival ∷ []) s old i new k
+  unfolding runs-more
   over-more es s old mid new i j k given' given'' left' left'' recorded recorded' recorded'' stops fits over took =
       let turn = took.turns over.runs.after over.runs.fits in
       let runs = runs-more es took.arrival s old mid new i j k fits over.runs turn in
@@ -226,6 +232,28 @@ module _ {K : Type 0} (holds : K → Archive → Type 0) (ready : K → Bool) (l
     none = none-more far.arrivals took.arrival far.none took.stop_is;
     runs = λ s fits. over-more far.arrivals s old mid new i j k given' given'' left' left'' recorded recorded' recorded'' false fits (far.runs s fits) took;
   }
+
+  -- One event of the host.
+  pub took-event : (event : Event) (into : List ℕ) (len : ℕ) (old new : Serving K) (i m j : Outer) (given given' given'' left left' left'' : Told) (recorded recorded' recorded'' : List Outputs → Type 0) → len ≡ piece_len event.what → GaveOne event into left left' given given' → m ≡ i
+      → Turns holds ready leaves (event, take len into) old m new j → left'' ≡ left' → given'' ≡ given' → ((past : List Outputs) → recorded past → recorded' (past ++ outputs i.taken i.closings i.lost ∷ [])) → ((past : List Outputs) → recorded' past → recorded'' past)
+      → TookOne holds ready leaves old i new j given given'' left left'' recorded recorded'' (is_stop event.what)
+  took-event event into len old new i m j given given' given'' left left' left'' recorded recorded' recorded'' size gave out turns left_same given_same noted later =
+      let piece = take (piece_len event.what) into in
+      let turned : Turns holds ready leaves (event, piece) old i new j = subst (λ (o : Outer). Turns holds ready leaves (event, piece) old o new j) out (subst (λ (n : ℕ). Turns holds ready leaves (event, take n into) old m new j) size turns) in
+      record {
+        arrival = (event, piece);
+        given_is = given_same ∙ gave.last;
+        left_is = gave.first ∙ ap (before_left (event, piece)) (sym left_same);
+        stop_is = refl;
+        turns = turned;
+        records = λ past is. later (past ++ outputs i.taken i.closings i.lost ∷ []) (noted past is);
+      }
+
+  -- It was a stop, or was none.
+  pub takes-one : (taken : Taken) (stops : Bool) (old new : Serving K) (i j : Outer) (given given' left left' : Told) (faults faults' : ℕ) (recorded recorded' : List Outputs → Type 0) → taken ≡ (if stops then Stops else Went) → TookOne holds ready leaves old i new j given given' left left' recorded recorded' stops
+      → TakesOne holds ready leaves taken old i new j given given' left left' faults faults' recorded recorded'
+  takes-one taken true old new i j given given' left left' faults faults' recorded recorded' is took = subst (λ (t : Taken). TakesOne holds ready leaves t old i new j given given' left left' faults faults' recorded recorded') (sym is) took
+  takes-one taken false old new i j given given' left left' faults faults' recorded recorded' is took = subst (λ (t : Taken). TakesOne holds ready leaves t old i new j given given' left left' faults faults' recorded recorded') (sym is) took
 
   -- The ends.
 

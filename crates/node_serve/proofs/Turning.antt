@@ -4,6 +4,7 @@ use Rattle.std.proofs.lemmas.Bool.{false≢true}
 use Rattle.std.proofs.lemmas.Bool.Decides.{nat_tests}
 use Rattle.edge_io.specs.Hosts.{OthersKept, one_more}
 use Rattle.edge_io.specs.Phrases.{Says}
+use Rattle.edge_io.specs.declared.sink.SinkFault.{SinkFault}
 use Rattle.edge_io.specs.Scripts.{Arrival}
 use Rattle.edge_io.specs.declared.events.Door.{Door}
 use Rattle.edge_io.specs.declared.events.Door.TheVariants as door
@@ -51,6 +52,18 @@ around-refused c words s p i j none refused = record {
   closings = refused.closings;
   closed = refused.closed ∙ sym (ap (λ (x : Option Session). closed_if x (i.closings c)) none);
   count = refl;
+}
+
+-- Words were written, and then the connection was closed.
+pub refused-closed : (c : ℕ) (words : List ℕ) (sent : Result Unit SinkFault) (i j k : Outer) → Says words (i.taken c) i.lost (j.taken c) j.lost sent → OthersKept c i.taken j.taken → ((d : ℕ) → j.closings d ≡ i.closings d) → ((d : ℕ) → k.taken d ≡ j.taken d) → OthersKept c j.closings k.closings
+    → k.closings c ≡ one_more (j.closings c) → k.lost ≡ j.lost → k.disk ≡ i.disk → Refused c words i k
+refused-closed c words sent i j k said taken closings same others closed lost disk = record {
+  sent = sent;
+  said = subst (λ (t : Option (List ℕ)). Says words (i.taken c) i.lost t k.lost sent) (sym (same c)) (subst (λ (n : ℕ). Says words (i.taken c) i.lost (j.taken c) n sent) (sym lost) said);
+  taken = λ d other. same d ∙ taken d other;
+  closings = λ d other. others d other ∙ closings d;
+  closed = closed ∙ ap one_more (closings c);
+  disk = disk;
 }
 
 -- The acts of a refusal are those of the making.
@@ -135,7 +148,7 @@ makes-news c p q r i j reader placed put few kept acts taken closings = λ s. re
 pub makes-lost : (c : ℕ) (p q r : Places) (i j k : Outer) → IsPlaced c p q → Ends c q r → p.count < session_limit → j.disk ≡ i.disk → k.disk ≡ j.disk → k.lost ≡ j.lost → ((d : ℕ) → k.taken d ≡ j.taken d)
     → ((a : Archive) → Acts (greeting a) (outside_at c i) None a (outside_at c j)) → OthersKept c i.taken j.taken → ((d : ℕ) → j.closings d ≡ i.closings d) → OthersKept c j.closings k.closings → k.closings c ≡ one_more (j.closings c) → Makes door.Nntp c p i r k
 makes-lost c p q r i j k placed ends few kept disk lost same acts taken closings others closed = λ s.
-    let ended = ends s i in
+    let ended = ends in
     let zero : one_if (p.session c) ≡ 0 = ap (λ (x : Option Session). one_if x) placed.none in
     let one : one_if (q.session c) ≡ 1 = ap (λ (x : Option Session). one_if x) placed.some in
     let none : one_if (r.session c) ≡ 0 = ap (λ (x : Option Session). one_if x) ended.gone in
@@ -157,7 +170,7 @@ makes-lost c p q r i j k placed ends few kept disk lost same acts taken closings
 -- An open session of the connection ended first.
 pub makes-after : (at : Door) (c : ℕ) (p q r : Places) (i j : Outer) → Ends c p q → Makes at c q i r j → Makes at c p i r j
 makes-after at c p q r i j ends makes = λ s.
-    let ended = ends s i in
+    let ended = ends in
     let act = makes s in
     let zero : one_if (q.session c) ≡ 0 = ap (λ (x : Option Session). one_if x) ended.gone in
     let others : others_open c (world_of s q i) ≡ others_open c (world_of s p i) = omega (arith, ended.count, zero) in
@@ -171,6 +184,14 @@ makes-after at c p q r i j ends makes = λ s.
         count = omega (arith, ended.count, act.around.count, zero);
       };
     }
+
+-- The same of lists of sessions of which one is the other.
+pub makes-unchanged : (at : Door) (c : ℕ) (p : Places) (old new : List (ℕ × Session)) (i j : Outer) → new ≡ old → Makes at c p i (places_of old) j → Makes at c p i (places_of new) j
+makes-unchanged at c p old new i j same makes = subst (λ (sessions : List (ℕ × Session)). Makes at c p i (places_of sessions) j) (sym same) makes
+
+-- An end is one of a world.
+pub ended-world : (c : ℕ) (p q : Places) (s : Standing) (o : Outer) → Ends c p q → EndedAt c (world_of s p o) (world_of s q o)
+ended-world c p q s o ends = record { standing = refl; gone = ends.gone; sessions = ends.sessions; count = ends.count; out = refl }
 
 -- Turns.
 module _ {K : Type 0} (holds : K → Archive → Type 0) (ready : K → Bool) (leaves : K → K → List (Option Archive) → Type 0) where
@@ -234,7 +255,7 @@ around-went c start left s t p q i j here put taken closings =
 pub around-shut : (c : ℕ) (start left : Session) (s t : Standing) (p q r : Places) (i j k : Outer) → p.session c ≡ Some start → IsPut c left p q → Ends c q r → OthersKept c i.taken j.taken → ((d : ℕ) → j.closings d ≡ i.closings d) → ((d : ℕ) → k.taken d ≡ j.taken d) → OthersKept c j.closings k.closings
     → k.closings c ≡ one_more (j.closings c) → Around c (world_of s p i) (world_of t r k)
 around-shut c start left s t p q r i j k here put ends taken closings same others closed =
-    let ended = ends s i in
+    let ended = ends in
     let one : one_if (p.session c) ≡ 1 = ap (λ (x : Option Session). one_if x) here in
     let still : one_if (q.session c) ≡ 1 = ap (λ (x : Option Session). one_if x) put.here in
     let none : one_if (r.session c) ≡ 0 = ap (λ (x : Option Session). one_if x) ended.gone in

@@ -20,7 +20,7 @@ use Rattle.arch_model.specs.Standing.{Standing}
 use Rattle.node_serve.specs.Doors.{Held, Came, rest_if, said, is_asked, with_piece, said_making}
 use Rattle.node_serve.specs.Ends.{EndsBy, given_after, before_all, is_stop}
 use Rattle.node_serve.specs.Turns.{Turn, Turned, Served, passed_in, outputs_of, outputs_before}
-use Rattle.node_serve.specs.World.{Outer, World, ActAt, EndedAt, others_open}
+use Rattle.node_serve.specs.World.{Outer, World, ActAt, others_open, one_if}
 use Rattle.node_serve.specs.declared.session.Session.{Session}
 use Rattle.node_serve.specs.declared.serving.ServeEnd.{ServeEnd}
 use Rattle.node_serve.specs.declared.serving.Taken.{Taken}
@@ -70,9 +70,11 @@ abbrev pub Makes : Door → ℕ → Places → Outer → Places → Outer → Ty
 Makes door c p i q j = (s : Standing)
     → ActAt c (said_making door (others_open c (world_of s p i)) s) (world_of s p i) (world_of s q j)
 
--- The session of a connection ended without a word, if it had one.
-abbrev pub Ends : ℕ → Places → Places → Type 0
-Ends c p q = (s : Standing) (o : Outer) → EndedAt c (world_of s p o) (world_of s q o)
+-- The session of a connection ended, if it had one.
+pub record Ends (c : ℕ) (p q : Places) : Type 0 where
+  pub gone : q.session c ≡ None
+  pub sessions : OthersKept c p.session q.session
+  pub count : q.count + one_if (p.session c) ≡ p.count
 
 -- A connection without a session got one, whichever it is.
 pub record IsPlaced (c : ℕ) (p q : Places) : Type 0 where
@@ -94,6 +96,14 @@ pub record IsPut (c : ℕ) (start : Session) (p q : Places) : Type 0 where
 abbrev pub outputs_asked : Bool → World → List Turn → World → List Outputs
 outputs_asked true w ts v = outputs_before w ts ++ outputs_of v ∷ []
 outputs_asked false w ts v = outputs_before w ts
+
+-- Nothing happened at a host or a node.
+pub record TookNone {K : Type 0} (old : Serving K) (i : Outer) (new : Serving K) (j : Outer)
+    (given given' left left' : Told) : Type 0 where
+  pub node_kept : new ≡ old
+  pub out_kept : j ≡ i
+  pub given_kept : given' ≡ given
+  pub left_kept : left' ≡ left
 
 -- A keeper: the archives that it holds, whether it is ready, and what each crash since a state may
 -- have left.
@@ -189,14 +199,6 @@ module _ {K : Type 0} (holds : K → Archive → Type 0) (ready : K → Bool)
     pub turns : Turns arrival old i new j
     pub records : (past : List Outputs) → recorded past
         → recorded' (past ++ outputs i.taken i.closings i.lost ∷ [])
-
-  -- Nothing happened at the host or the node.
-  pub record TookNone (old : Serving K) (i : Outer) (new : Serving K) (j : Outer)
-      (given given' left left' : Told) : Type 0 where
-    pub node_kept : new ≡ old
-    pub out_kept : j ≡ i
-    pub given_kept : given' ≡ given
-    pub left_kept : left' ≡ left
 
   -- An event was taken, which is a stop or is none; or none is left; or the host failed.
   abbrev pub TakesOne : Taken → Serving K → Outer → Serving K → Outer → Told → Told → Told → Told → ℕ → ℕ

@@ -75,8 +75,8 @@ const NEW: &[u8] =
 
 const OLD: &[u8] = b"201 piv2 reader\r\n211 0 1 0 list\r\n423 no such number\r\n";
 
-/// What the reader gets if the disk fails as the archive is reopened.
-const SHUT: &[u8] = b"201 piv2 reader\r\n403 disk fault\r\n";
+/// What the reader gets if the disk fails as the text is read.
+const UNREAD: &[u8] = b"201 piv2 reader\r\n211 1 1 1 list\r\n403 disk fault\r\n";
 
 /// Makes an archive on a disk of which one call fails.
 fn made_over_failing(alloc: Global, ordinal: u64) -> Option<Engine<MemDisk>> {
@@ -87,36 +87,43 @@ fn made_over_failing(alloc: Global, ordinal: u64) -> Option<Engine<MemDisk>> {
     Engine::make(alloc, disk, &config).ok()
 }
 
-/// Returns whether replies agree: whoever was told that the message is in gets it, and whoever was told
-/// of a fault gets one of the two archives.
-fn agree(host: &MemHost) -> bool {
-    if host.taken(1) == ACCEPTED {
-        return host.taken(2) == NEW || host.taken(2) == SHUT;
-    }
-    let told = host.taken(1) == b"10 disk fault\n".as_slice();
-    told && (host.taken(2) == NEW || host.taken(2) == OLD || host.taken(2) == SHUT)
+/// Serves the delivery and then the reader over an archive, and returns the host and the disk.
+fn served_disk(alloc: Global, engine: Engine<MemDisk>) -> Option<(MemHost, MemDisk)> {
+    let text = joined(alloc, &[DELIVERED, ASKED])?;
+    let mut host = host(alloc, text.as_slice(), &[])?;
+    let (_end, engine) = served_on(alloc, engine, &mut host);
+    Some((host, engine.into_disk()))
 }
 
-/// Returns whether the reader gets the same of the disk that was left, opened anew, if the reader got
-/// an article or was told of none.
+/// Returns whether the message is in: the reader gets it, unless the disk fails as it is read.
+fn is_in(host: &MemHost) -> bool {
+    host.taken(1) == ACCEPTED && (host.taken(2) == NEW || host.taken(2) == UNREAD)
+}
+
+/// Returns whether the delivery was told of a fault, and the reader gets one of the two archives.
+fn is_in_doubt(host: &MemHost) -> bool {
+    let told = host.taken(1) == b"10 disk fault\n".as_slice();
+    told && (host.taken(2) == NEW || host.taken(2) == OLD)
+}
+
+/// Returns whether the reader gets the same of the disk that was left, opened anew.
 fn is_left(alloc: Global, disk: MemDisk, served: &MemHost) -> Option<bool> {
     let engine = Engine::open(alloc, disk).ok()?;
     let mut later = host(alloc, ASKED, &[])?;
-    let (end, _engine) = served_on(alloc, engine, &mut later);
-    let same = later.taken(2) == served.taken(2) || served.taken(2) == SHUT;
-    Some(same && end == ServeEnd::Stopped)
+    let (_end, _engine) = served_on(alloc, engine, &mut later);
+    Some(later.taken(2) == served.taken(2))
 }
 
 /// Returns whether replies agree where one call of the disk fails.
 fn agree_after(alloc: Global, ordinal: u64) -> Option<bool> {
-    let text = joined(alloc, &[DELIVERED, ASKED])?;
     let Some(engine) = made_over_failing(alloc, ordinal) else {
         return Some(true);
     };
-    let mut host = host(alloc, text.as_slice(), &[])?;
-    let (end, engine) = served_on(alloc, engine, &mut host);
-    let agreed = end == ServeEnd::Stopped && agree(&host);
-    Some(agreed && is_left(alloc, engine.into_disk(), &host)?)
+    let (host, disk) = served_disk(alloc, engine)?;
+    if is_in(&host) {
+        return Some(true);
+    }
+    Some(is_in_doubt(&host) && is_left(alloc, disk, &host)?)
 }
 
 #[test]

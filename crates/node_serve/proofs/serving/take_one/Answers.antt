@@ -1,5 +1,7 @@
 use Rattle.std.proofs.Common.{refl}
-use Rattle.node_serve.proofs.Running.{outer-same}
+use Rattle.edge_io.specs.Hosts.{Gave}
+use Rattle.node_serve.specs.Ends.{is_stop}
+use Rattle.node_serve.proofs.Running.{outer-same, took-event, takes-one}
 use Rattle.node_serve.proofs.serving.take_one.Goals as goal
 
 pub returns-in-Err-clause-taken : goal.returns-in-Err-clause-taken
@@ -13,3 +15,9 @@ returns-in-Err-clause-taken g c = (
   c.in-Err.ensures.cause.failed,
   λ past noted. c.in-Err.ensures.failed_noted past noted,
 )
+
+pub returns-in-Ok-Some-clause-taken : goal.returns-in-Ok-Some-clause-taken
+returns-in-Ok-Some-clause-taken g c =
+    takes-one g.K.Shelf.holds g.K.Shelf.ready g.K.Keep.leaves c.after.result (is_stop c.in-Ok-Some.event.what) c.args.node.now c.turn.new.self _ _ _ _ _ _ _ _ _ _ c.after.ensures
+    (took-event g.K.Shelf.holds g.K.Shelf.ready g.K.Keep.leaves c.in-Ok-Some.event c.next.new.into c.piece_len-len.result c.args.node.now c.turn.new.self _ _ _ _ _ _ _ _ _ _ _ _ c.piece_len-len.ensures (rw c.in-Ok-Some.field-0-is at c.in-Ok-Some.ensures.gave)
+    (outer-same _ _ _ _ _ _ _ c.next.ensures.taken c.next.ensures.closings c.next.ensures.lost) c.turn.ensures.turned c.turn.ensures.events.left_same c.turn.ensures.events.given_same (λ past noted. c.in-Ok-Some.ensures.noted past noted) c.turn.ensures.events.recorded_same)

@@ -1,0 +1,10 @@
+use Rattle.std.proofs.Common.{refl}
+use Rattle.node_serve.specs.Doors.{memory_words}
+use Rattle.node_serve.specs.World.{outer}
+use Rattle.node_serve.proofs.Turning.{refused-closed}
+use Rattle.node_serve.proofs.welcome.refuse_starved.Goals as goal
+
+pub returns-clause-refused : goal.returns-clause-refused
+returns-clause-refused g c = λ disk.
+    refused-closed c.args.conn (memory_words c.args.door) c.write_starved.result _ (outer (g.H.Host.taken c.write_starved.new.host) (g.H.Host.closings c.write_starved.new.host) disk (g.H.Host.lost c.write_starved.new.host)) _
+    c.write_starved.ensures.said c.write_starved.ensures.host.others c.write_starved.ensures.host.closings_same c.close.ensures.taken c.close.ensures.others c.close.ensures.closed c.close.ensures.lost refl
