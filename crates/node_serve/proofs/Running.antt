@@ -287,8 +287,13 @@ module _ {K : Type 0} (holds : K → Archive → Type 0) (ready : K → Bool) (l
         }));
   }
 
+  -- No memory for the first event.
+  pub ends-starved : (turns : ℕ) (node : Serving K) (i : Outer) (given left : Told) (faults faults' : ℕ) (recorded : List Outputs → Type 0) → ServesTo holds ready leaves end.NoMemory turns node i node i given given left left faults faults' recorded recorded
+  unfolding sofar-none
+  ends-starved turns node i given left faults faults' recorded = record { arrivals = []; given_is = refl; left_is = refl; none = false; ends = refl; runs = (sofar-none node i given left recorded).runs }
+
   -- The host failed, or enough was taken.
-  pub ends-early : (how : ServeEnd) (n turns : ℕ) (old mid new : Serving K) (i j k : Outer) (given given' given'' left left' left'' : Told) (faults faults' : ℕ) (recorded recorded' recorded'' : List Outputs → Type 0) → (far : SoFar n old i mid j given given' left left' recorded recorded') → TookNone mid j new k given' given''
+  pub ends-early : (how : ServeEnd) (n turns : ℕ) (old mid new : Serving K) (i j k : Outer) (given given' given'' left left' left'' : Told) (faults faults' : ℕ) (recorded recorded' recorded'' : List Outputs → Type 0) → (far : SoFar n old i mid j given given' left left' recorded recorded') → TookNone mid j new k given' given'' left' left''
       → ((past : List Outputs) → recorded' past → recorded'' past) → EndsBy how false far.arrivals turns left'' faults faults' → ServesTo holds ready leaves how turns old i new k given given'' left left'' faults faults' recorded recorded''
   ends-early how n turns old mid new i j k given given' given'' left left' left'' faults faults' recorded recorded' recorded'' far took noted ends = record {
     arrivals = far.arrivals;

@@ -58,11 +58,30 @@ pub fn serve<K: Keep, H: Host>(
         (H.faults host.new) (H.recorded host.old) (H.recorded host.new) }
     ensures later { H.faults host.old ≤ H.faults host.new }
 {
-    let Ok(mut buffer) = new_buffer(alloc) else {
-        return ServeEnd::NoMemory;
-    };
+    match new_buffer(alloc) {
+        Ok(mut buffer) => serve_with(node, host, turns, &mut buffer),
+        Err(_) => ServeEnd::NoMemory,
+    }
+}
+
+/// Serves with a buffer for the piece of an event.
+fn serve_with<K: Keep, H: Host>(
+    node: &mut Node<K>,
+    host: &mut H,
+    turns: u64,
+    buffer: &mut [u8],
+) -> ServeEnd
+    requires { 1048576 ≤ length buffer.old }
+    ensures served { ServesTo K.holds K.ready K.leaves result turns node.old
+        (outer (H.taken host.old) (H.closings host.old) (K.faults node.old.keep) (H.lost host.old))
+        node.new
+        (outer (H.taken host.new) (H.closings host.new) (K.faults node.new.keep) (H.lost host.new))
+        (H.given host.old) (H.given host.new) (H.left host.old) (H.left host.new) (H.faults host.old)
+        (H.faults host.new) (H.recorded host.old) (H.recorded host.new) }
+    ensures later { H.faults host.old ≤ H.faults host.new }
+{
     for _turn in 0..turns {
-        match take_one(node, host, &mut buffer) {
+        match take_one(node, host, buffer) {
             Taken::Went => {}
             Taken::Stops => return ServeEnd::Stopped,
             Taken::Nothing => return ServeEnd::Stopped,
@@ -89,7 +108,6 @@ fn take_one<K: Keep, H: Host>(node: &mut Node<K>, host: &mut H, buffer: &mut [u8
         (H.given host.old) (H.given host.new) (H.left host.old) (H.left host.new) (H.faults host.old)
         (H.faults host.new) (H.recorded host.old) (H.recorded host.new) }
     ensures later { H.faults host.old ≤ H.faults host.new }
-    ensures length { length buffer.new ≡ length buffer.old }
 {
     match host.next(buffer) {
         Err(_) => Taken::Fault,

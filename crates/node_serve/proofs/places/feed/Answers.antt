@@ -30,7 +30,8 @@ returns-in-Close-clause-turned g c = λ len s fits.
     let n = c.get_mut.follows.lender c.feed_one.new.session in
     let put = put-written m n c.args.conn c.in-Some.session.now c.feed_one.new.session c.in-Some.ensures.value (c.get_mut.follows.holds c.feed_one.new.session) in
     let host = c.feed_one.ensures.host in
+    let mid = outer (g.H.Host.taken c.feed_one.new.host) (g.H.Host.closings c.feed_one.new.host) (g.K.Shelf.faults c.feed_one.new.keep) (g.H.Host.lost c.feed_one.new.host) in
     let last = outer (g.H.Host.taken c.close.new.self) (g.H.Host.closings c.close.new.self) (g.K.Shelf.faults c.feed_one.new.keep) (g.H.Host.lost c.close.new.self) in
     turns-fed g.K.Shelf.holds g.K.Shelf.ready g.K.Keep.leaves c.args.moment c.args.conn len c.args.piece.now c.in-Some.session.now s c.args.keep.now c.feed_one.new.keep m.entries c.end.new.sessions.entries _ last false c.feed_one.new.session (sym c.in-Some.ensures.value) c.end.ensures.gone
-    (rw (c.close.ensures.taken c.args.conn, c.close.ensures.lost, c.in-Close.is) (c.feed_one.ensures.fed s fits))
-    (λ t. around-shut c.args.conn c.in-Some.session.now c.feed_one.new.session s t (places_of m.entries) (places_of n.entries) (places_of c.end.new.sessions.entries) _ _ last (sym c.in-Some.ensures.value) put c.end.ensures host.others host.closings_same c.close.ensures.taken c.close.ensures.others c.close.ensures.closed) fits
+    (rw (c.close.ensures.taken c.args.conn, c.close.ensures.lost) (rw c.in-Close.is at (c.feed_one.ensures.fed s fits)))
+    (λ t. around-shut c.args.conn c.in-Some.session.now c.feed_one.new.session s t (places_of m.entries) (places_of n.entries) (places_of c.end.new.sessions.entries) _ mid last (sym c.in-Some.ensures.value) put c.end.ensures host.others host.closings_same c.close.ensures.taken c.close.ensures.others c.close.ensures.closed) fits

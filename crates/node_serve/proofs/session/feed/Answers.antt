@@ -3,9 +3,9 @@ use Rattle.node_serve.proofs.Feeding.{control-fed, news-fed}
 use Rattle.node_serve.proofs.session.feed.Goals as goal
 
 pub returns-in-Control-clause-fed : goal.returns-in-Control-clause-fed
-returns-in-Control-clause-fed g c = λ s fits.
-    control-fed g.K.Shelf.holds g.K.Shelf.ready g.K.Keep.leaves c.args.moment (c.in-Control.control ++ c.args.piece.now) s c.args.keep.now _ _ _ c.feed.new.keep _ c.feed.ensures.fed fits
+returns-in-Control-clause-fed g c = λ s fits. rw c.in-Control.is (
+    control-fed g.K.Shelf.holds g.K.Shelf.ready g.K.Keep.leaves c.args.moment (c.in-Control.control ++ c.args.piece.now) s c.args.keep.now _ _ _ c.feed.new.keep _ c.feed.ensures.fed fits)
 
 pub returns-in-News-clause-fed : goal.returns-in-News-clause-fed
-returns-in-News-clause-fed g c = λ s fits.
-    news-fed g.K.Shelf.holds g.K.Shelf.ready g.K.Keep.leaves c.args.moment g.met.K.Keep.holds_left _ s c.args.keep.now _ _ _ c.feed-in-News.new.shelf _ c.feed-in-News.ensures.fed (g.met.K.Keep.alike_kept _ _ c.feed-in-News.ensures.shelf.same) c.requires.ready fits
+returns-in-News-clause-fed g c = λ s fits. rw c.in-News.is (
+    news-fed g.K.Shelf.holds g.K.Shelf.ready g.K.Keep.leaves c.args.moment g.met.K.Keep.holds_left _ s c.args.keep.now _ _ _ c.feed-in-News.new.shelf _ c.feed-in-News.ensures.fed (g.met.K.Keep.alike_kept _ _ c.feed-in-News.ensures.shelf.same) c.requires.ready fits)

@@ -1,7 +1,7 @@
-use Rattle.std.proofs.Common.{◌≡◌, ◌≤◌, length}
+use Rattle.std.proofs.Common.{◌≤◌}
 use Rattle.node_serve.specs.World.{outer}
 use Rattle.node_serve.proofs.Running.{SoFar}
-use Rattle.node_serve.proofs.serving.serve.Given as goal
+use Rattle.node_serve.proofs.serving.serve_with.Given as goal
 
 abbrev pub invariant-loop-turn : goal.invariant-loop-turn
 invariant-loop-turn g l = record {
@@ -11,5 +11,4 @@ invariant-loop-turn g l = record {
       (outer (g.H.Host.taken l.host) (g.H.Host.closings l.host) (g.K.Shelf.faults l.node.keep) (g.H.Host.lost l.host))
       (g.H.Host.given l.fn.host) (g.H.Host.given l.host) (g.H.Host.left l.fn.host) (g.H.Host.left l.host) (g.H.Host.recorded l.fn.host) (g.H.Host.recorded l.host);
   later : g.H.Host.faults l.fn.host ≤ g.H.Host.faults l.host;
-  room : 1048576 ≤ length l.buffer.items;
 }
