@@ -78,6 +78,7 @@ impl<K: Keep> Node<K> {
             (H.lost host.old)) self.new
             (outer (H.taken host.new) (H.closings host.new) (K.faults self.new.keep)
             (H.lost host.new)) }
+        ensures later { K.faults self.old.keep ≤ K.faults self.new.keep }
         ensures events { SameEvents H.left H.given H.recorded H.faults host.old host.new }
     {
         match event.what {

@@ -137,6 +137,7 @@ pub(crate) fn feed<K: Keep, H: Host>(
         (outer (H.taken host.old) (H.closings host.old) (K.faults keep.old) (H.lost host.old))
         (serving keep.new sessions.new.entries)
         (outer (H.taken host.new) (H.closings host.new) (K.faults keep.new) (H.lost host.new)) }
+    ensures later { K.faults keep.old ≤ K.faults keep.new }
     ensures events { SameEvents H.left H.given H.recorded H.faults host.old host.new }
 {
     match sessions.get_mut(&conn) {

@@ -57,6 +57,7 @@ pub fn serve<K: Keep, H: Host>(
         (H.given host.old) (H.given host.new) (H.left host.old) (H.left host.new) (H.faults host.old)
         (H.faults host.new) (H.recorded host.old) (H.recorded host.new) }
     ensures later { H.faults host.old ≤ H.faults host.new }
+    ensures disk_later { K.faults node.old.keep ≤ K.faults node.new.keep }
 {
     match new_buffer(alloc) {
         Ok(mut buffer) => serve_with(node, host, turns, &mut buffer),
@@ -79,6 +80,7 @@ fn serve_with<K: Keep, H: Host>(
         (H.given host.old) (H.given host.new) (H.left host.old) (H.left host.new) (H.faults host.old)
         (H.faults host.new) (H.recorded host.old) (H.recorded host.new) }
     ensures later { H.faults host.old ≤ H.faults host.new }
+    ensures disk_later { K.faults node.old.keep ≤ K.faults node.new.keep }
 {
     for _turn in 0..turns {
         match take_one(node, host, buffer) {
@@ -108,6 +110,7 @@ fn take_one<K: Keep, H: Host>(node: &mut Node<K>, host: &mut H, buffer: &mut [u8
         (H.given host.old) (H.given host.new) (H.left host.old) (H.left host.new) (H.faults host.old)
         (H.faults host.new) (H.recorded host.old) (H.recorded host.new) }
     ensures later { H.faults host.old ≤ H.faults host.new }
+    ensures disk_later { K.faults node.old.keep ≤ K.faults node.new.keep }
 {
     match host.next(buffer) {
         Err(_) => Taken::Fault,

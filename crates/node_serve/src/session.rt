@@ -42,6 +42,7 @@ pub(crate) fn feed_one<K: Keep, H: Host>(
         (outside (H.taken host.old conn) (K.faults keep.old) (H.lost host.old))
         (continues result) session.new keep.new
         (outside (H.taken host.new conn) (K.faults keep.new) (H.lost host.new)) }
+    ensures later { K.faults keep.old ≤ K.faults keep.new }
     ensures host { SameElsewhere H.left H.given H.recorded H.faults H.taken H.closings conn host.old
         host.new }
 {
@@ -65,6 +66,7 @@ fn take<K: Keep, O: Sink>(
         (outside (O.taken out.old) (K.faults keep.old) (O.faults out.old))
         (continues result) session.new keep.new
         (outside (O.taken out.new) (K.faults keep.new) (O.faults out.new)) }
+    ensures later { K.faults keep.old ≤ K.faults keep.new }
     ensures sink { O.alike out.old out.new }
 {
     match reopen(session, moment, keep, out) {
@@ -82,6 +84,7 @@ fn reopen<K: Keep, O: Sink>(session: &Session, moment: u64, keep: &mut K, out: &
         (continues result) keep.new
         (outside (O.taken out.new) (K.faults keep.new) (O.faults out.new)) }
     ensures ready { continues result ≡ true → K.ready keep.new ≡ true }
+    ensures later { K.faults keep.old ≤ K.faults keep.new }
     ensures sink { O.alike out.old out.new }
 {
     match keep.fresh() {
@@ -121,6 +124,7 @@ fn feed<K: Keep, O: Sink>(
         (outside (O.taken out.old) (K.faults keep.old) (O.faults out.old))
         (continues result) session.new keep.new
         (outside (O.taken out.new) (K.faults keep.new) (O.faults out.new)) }
+    ensures later { K.faults keep.old ≤ K.faults keep.new }
     ensures sink { O.alike out.old out.new }
 {
     match session {

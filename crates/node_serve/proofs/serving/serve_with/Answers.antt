@@ -8,12 +8,14 @@ pub loop-turn-init : goal.loop-turn-init
 loop-turn-init g c = record {
   far = sofar-none g.K.Shelf.holds g.K.Shelf.ready g.K.Keep.leaves c.args.node.now _ _ _ _;
   later = omega arith;
+  disk_later = omega arith;
 }
 
 pub loop-turn-preserved : goal.loop-turn-preserved
 loop-turn-preserved g c = record {
   far = sofar-more g.K.Shelf.holds g.K.Shelf.ready g.K.Keep.leaves c.loop-turn._turn _ _ _ _ _ _ _ _ _ _ _ _ _ _ _ c.loop-turn.invariant.far c.in-Went.ensures.taken;
   later = omega (arith, c.loop-turn.invariant.later, c.take_one.ensures.later);
+  disk_later = omega (arith, c.loop-turn.invariant.disk_later, c.take_one.ensures.disk_later);
 }
 
 pub returns-in-Stops-clause-served : goal.returns-in-Stops-clause-served

@@ -11,4 +11,5 @@ invariant-loop-turn g l = record {
       (outer (g.H.Host.taken l.host) (g.H.Host.closings l.host) (g.K.Shelf.faults l.node.keep) (g.H.Host.lost l.host))
       (g.H.Host.given l.fn.host) (g.H.Host.given l.host) (g.H.Host.left l.fn.host) (g.H.Host.left l.host) (g.H.Host.recorded l.fn.host) (g.H.Host.recorded l.host);
   later : g.H.Host.faults l.fn.host ≤ g.H.Host.faults l.host;
+  disk_later : g.K.Shelf.faults l.fn.node.keep ≤ g.K.Shelf.faults l.node.keep;
 }
