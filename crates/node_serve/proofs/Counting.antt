@@ -6,7 +6,7 @@ use Rattle.edge_io.specs.declared.events.What.{What}
 use Rattle.edge_io.specs.declared.events.What.TheVariants as what
 use Rattle.arch_model.specs.Standing.{Standing}
 use Rattle.node_serve.specs.Laws.{IsBelow, AreBelow}
-use Rattle.node_serve.specs.Turns.{Turn, FedAt, CameTo, TurnedBy, Turned, Served}
+use Rattle.node_serve.specs.Turns.{Turn, CameTo, TurnedBy, Turned, Served}
 use Rattle.node_serve.specs.World.{World, one_if, open_below}
 use Rattle.node_serve.specs.declared.session.Session.{Session}
 

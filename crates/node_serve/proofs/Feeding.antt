@@ -9,14 +9,14 @@ use Rattle.arch_model.specs.Archives.{Archive}
 use Rattle.arch_model.specs.Standing.{Standing, standing}
 use Rattle.arch_model.specs.Keeping.{Passes, Fits, Moves, OnlyRead}
 use Rattle.arch_model.proofs.Keepers.{settled-is, moves-read}
-use Rattle.keep_course.specs.Courses.{afters, LeftBy, Course}
+use Rattle.keep_course.specs.Courses.{afters, Course}
 use Rattle.keep_course.proofs.Courses.{coming-same, coming-more, coming-last, course-after, reading-course}
 use Rattle.control_door.specs.Door as control
 use Rattle.control_door.specs.Door.{Waiting, waiting}
 use Rattle.control_door.specs.Sessions as sessions
 use Rattle.nntp_reader.specs.Door as news
 use Rattle.nntp_reader.specs.Door.{Reader}
-use Rattle.node_serve.specs.Doors.{Held, Came, AtControl, AtNews, with_piece, rest_if, said, is_asked}
+use Rattle.node_serve.specs.Doors.{Came, AtControl, AtNews, with_piece, rest_if, said, is_asked}
 use Rattle.node_serve.specs.Nodes.{FedFrom}
 use Rattle.node_serve.specs.declared.session.Session.{Session}
 use Rattle.node_serve.specs.declared.session.Session.TheVariants as session

@@ -1,9 +1,9 @@
 -- The laws of all doors as one: a piece that comes to a session may be cut anywhere.
-use Rattle.std.proofs.Common.{◌≡◌, ◌⊎◌, ◌<◌, ◌∙◌, inl, inr, ℕ, suc, Bool, true, false, List, [], ◌∷◌, ◌++◌, Option, Some, None, refl, sym, ap, subst, append_assoc, arith}
+use Rattle.std.proofs.Common.{◌≡◌, ◌⊎◌, ◌<◌, ◌∙◌, inl, inr, ℕ, true, false, List, [], ◌++◌, Option, Some, None, refl, sym, ap, subst, append_assoc, arith}
 use Rattle.std.proofs.lemmas.Bool.{false≢true}
 use Rattle.line_door.specs.Acts.{Said, Way, Plain, Memory, Disk, Newer}
 use Rattle.line_door.specs.Cuts.{CutDoor, DoorLaws, said_with, more_of}
-use Rattle.line_door.specs.Making.{says, closes}
+use Rattle.line_door.specs.Making.{says}
 use Rattle.line_door.specs.Over.{held_over, said_over}
 use Rattle.line_door.specs.Plain.{silent}
 use Rattle.line_door.proofs.Cutting.{door_laws}
@@ -78,11 +78,11 @@ rests moment s (AtNews reader) none = ap (λ (x : Said Reader Archive). said_ove
 keeps : (moment : ℕ) (s : Standing) (h : Held) (way : Way) → is_asked h ≡ false → ((said moment s h way).next ≡ None) ⊎ (said moment s h way ≡ silent s h)
 keeps moment s (Came start piece) way none = absurd (false≢true (sym none))
 keeps moment s (AtControl w) way none = elim ((control_cuts moment).rest_kept s w way none) [
-    inl shut ↦ inl (ap (held_over AtControl) shut)
+  | inl shut ↦ inl (ap (held_over AtControl) shut)
   | inr kept ↦ inr (ap (λ (x : Said Waiting Standing). said_over (λ (t : Standing). t) AtControl x) kept)
 ]
 keeps moment s (AtNews reader) way none = elim ((reader_cuts moment).rest_kept s.archive reader way none) [
-    inl shut ↦ inl (ap (held_over AtNews) shut)
+  | inl shut ↦ inl (ap (held_over AtNews) shut)
   | inr kept ↦ inr (ap (λ (x : Said Reader Archive). said_over (λ (a : Archive). standing a s.doubt) AtNews x) kept)
 ]
 

@@ -1,13 +1,12 @@
 -- The sessions in a map, and what a change of one place leaves.
-use Rattle.std.proofs.Common.{◌≡◌, ◌≢◌, ◌+◌, ◌==◌, length, ℕ, Bool, true, false, cond, nat_lt, Option, Some, None, is_some, refl, sym, ap, subst, ◌∙◌, arith, if◌then◌else◌}
+use Rattle.std.proofs.Common.{◌≡◌, ◌≢◌, ◌+◌, ◌==◌, ℕ, Bool, true, false, cond, nat_lt, Option, Some, None, is_some, refl, sym, ap, subst, ◌∙◌, arith, if◌then◌else◌}
 use Rattle.std.specs.Prelude.{IsSome}
 use Rattle.std.specs.Ordering.{nat_cmp, is_eq}
 use Rattle.std.specs.declared.cmp.Ordering.TheVariants.{Less, Equal, Greater}
-use Rattle.std.specs.BTreeMap.{BTreeMap, get_by, btree_map_len, is_at, IsUnchanged, UpdatesBy, WritesThrough}
+use Rattle.std.specs.BTreeMap.{BTreeMap, get_by, btree_map_len, is_at, UpdatesBy, WritesThrough}
 use Rattle.std.proofs.lemmas.Bool.Decides.{nat_tests}
-use Rattle.std.specs.Map.{lookup}
 use Rattle.edge_io.specs.Hosts.{OthersKept}
-use Rattle.node_serve.specs.Nodes.{Places, session_of, places_of, Ends, IsPlaced, IsPut}
+use Rattle.node_serve.specs.Nodes.{session_of, places_of, Ends, IsPlaced, IsPut}
 use Rattle.node_serve.specs.World.{one_if}
 use Rattle.node_serve.specs.declared.session.Session.{Session}
 

@@ -1,5 +1,5 @@
 -- The plain function of events is the only way to serve them whose acts all go by the rules.
-use Rattle.std.proofs.Common.{◌≡◌, ◌≢◌, ◌⊎◌, ◌≤◌, ◌<◌, ◌+◌, ◌-◌, ◌==◌, ℕ, zero, suc, Bool, true, false, List, [], ◌∷◌, ◌++◌, Option, Some, None, refl, sym, ap, subst, ◌∙◌, arith, append_assoc, inl, inr, if◌then◌else◌}
+use Rattle.std.proofs.Common.{◌≡◌, ◌≢◌, ◌⊎◌, ◌≤◌, ◌<◌, ◌+◌, ◌-◌, ◌==◌, ℕ, zero, suc, Bool, true, false, List, [], ◌∷◌, ◌++◌, Option, Some, None, refl, sym, ap, subst, ◌∙◌, arith, inl, inr, if◌then◌else◌}
 use Rattle.std.proofs.lemmas.Bool.{false≢true}
 use Rattle.std.proofs.lemmas.Bool.Decides.{nat_tests}
 use Rattle.edge_io.specs.Hosts.{OthersKept}
@@ -9,14 +9,14 @@ use Rattle.edge_io.specs.declared.events.What.{What}
 use Rattle.edge_io.specs.declared.events.What.TheVariants as what
 use Rattle.line_door.specs.Acts.{Outside, Said, Way, Plain, PlainActs, Acts}
 use Rattle.line_door.specs.Course.{Talk, talk, PlainRequests, PlainLast, PlainFed, PlainStep, Step, Requests, Last}
-use Rattle.line_door.specs.Cuts.{CutDoor, DoorLaws}
+use Rattle.line_door.specs.Cuts.{CutDoor}
 use Rattle.keep_course.specs.Courses.{afters}
 use Rattle.arch_model.specs.Standing.{Standing}
 use Rattle.node_serve.specs.Doors.{Held, Came, rest_if, said, is_asked, said_making}
 use Rattle.node_serve.specs.Laws.{PlainLaws, PlainIsServed}
-use Rattle.node_serve.specs.Plain.{size_of, piece_said, piece_passed, then_passed, passed_if, passed_from, passed_by, set_at, between_pieces, after_said, after_end, turn_to, plain_piece, plain_event, plain_turn, plain_turns, last_world, IsCounted, PlainActAt, PlainFedAt, PlainCameTo, PlainTurnedBy, PlainTurned, PlainServed}
-use Rattle.node_serve.specs.Turns.{Turn, FedAt, CameTo, TurnedBy, Turned, Served}
-use Rattle.node_serve.specs.World.{Outer, World, outer, ActAt, Around, Same, EndedAt, outside_at, others_open, one_if, closed_if, open_below}
+use Rattle.node_serve.specs.Plain.{size_of, piece_said, piece_passed, then_passed, passed_if, passed_from, passed_by, set_at, between_pieces, after_said, after_end, plain_piece, plain_event, plain_turn, plain_turns, last_world, IsCounted, PlainActAt, PlainFedAt, PlainCameTo, PlainTurnedBy, PlainServed}
+use Rattle.node_serve.specs.Turns.{Turn, CameTo, TurnedBy, Served}
+use Rattle.node_serve.specs.World.{World, outer, Around, Same, EndedAt, outside_at, others_open, one_if, closed_if, open_below}
 use Rattle.node_serve.specs.declared.session.Session.{Session}
 use Rattle.node_serve.proofs.Counting.{below-same, below-one, this-or}
 use Rattle.node_serve.proofs.NodeDoor.{node_cuts, node_laws, more_bytes}

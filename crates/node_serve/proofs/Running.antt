@@ -1,9 +1,8 @@
 -- Events in order.
-use Rattle.std.proofs.Common.{◌≡◌, ◌⊎◌, ◌≤◌, ◌<◌, ◌+◌, ℕ, nat_lt, Bool, true, false, List, [], ◌∷◌, ◌++◌, length, take, Option, Some, None, refl, sym, ap, subst, ◌∙◌, arith, append_assoc, length-append, inl, inr, if◌then◌else◌}
+use Rattle.std.proofs.Common.{◌≡◌, ◌<◌, ◌+◌, ℕ, nat_lt, Bool, true, false, List, [], ◌∷◌, ◌++◌, length, take, Option, Some, None, refl, sym, ap, subst, ◌∙◌, arith, append_assoc, length-append, inl, inr, if◌then◌else◌}
 use Rattle.edge_io.specs.Hosts.{Told, then_given, before_left}
 use Rattle.edge_io.specs.Frames.{Outputs, outputs}
 use Rattle.edge_io.specs.Scripts.{Arrival}
-use Rattle.arch_base.specs.Counts.{Rose}
 use Rattle.edge_io.specs.Hosts.{NoneLeft, GaveOne}
 use Rattle.edge_io.specs.Events.{piece_len}
 use Rattle.edge_io.specs.declared.events.Event.{Event}
@@ -17,12 +16,11 @@ use Rattle.arch_model.specs.Archives.{Archive}
 use Rattle.arch_model.specs.Standing.{Standing}
 use Rattle.arch_model.specs.Keeping.{Has, HasAll, Passes, Fits}
 use Rattle.arch_model.proofs.Keepers.{all-split}
-use Rattle.keep_course.specs.Courses.{afters, archives_of}
-use Rattle.keep_course.proofs.Courses.{all-own}
-use Rattle.node_serve.specs.Doors.{Held, session_limit, busy_words, memory_words, greets, said_making}
-use Rattle.node_serve.specs.Ends.{NoStop, EndsWithStop, EndsBy, is_stop, given_after, before_all}
-use Rattle.node_serve.specs.Nodes.{Serving, places_in, world_of, StepsTo, TurnsTo, Turns, TookOne, TookNone, TakesOne, RunsTo, RunsOver, ServesTo, outputs_asked}
-use Rattle.node_serve.specs.Turns.{Turn, FedAt, CameTo, TurnedBy, Turned, Served, passed_in, outputs_of, outputs_before}
+use Rattle.keep_course.specs.Courses.{afters}
+use Rattle.node_serve.specs.Doors.{Held, session_limit, greets, said_making}
+use Rattle.node_serve.specs.Ends.{NoStop, EndsBy, is_stop, given_after, before_all}
+use Rattle.node_serve.specs.Nodes.{Serving, places_in, world_of, StepsTo, TurnsTo, Turns, TookOne, TookNone, TakesOne, RunsTo, RunsOver, ServesTo}
+use Rattle.node_serve.specs.Turns.{Turn, CameTo, TurnedBy, Turned, Served, passed_in, outputs_of, outputs_before}
 use Rattle.node_serve.specs.World.{Outer, World, outer}
 use Rattle.node_serve.specs.declared.serving.Taken.{Taken}
 use Rattle.node_serve.specs.declared.serving.Taken.TheVariants.{Went, Stops}

@@ -1,5 +1,5 @@
 -- What one event makes of a world.
-use Rattle.std.proofs.Common.{◌≡◌, ◌≤◌, ◌<◌, ◌+◌, ◌-◌, ℕ, Bool, true, false, nat_lt, List, [], ◌∷◌, ◌++◌, Option, Some, None, is_some, Result, refl, sym, ap, subst, ◌∙◌, arith, inl, inr, if◌then◌else◌}
+use Rattle.std.proofs.Common.{◌≡◌, ◌≤◌, ◌<◌, ◌+◌, ℕ, Bool, true, false, nat_lt, List, [], ◌∷◌, ◌++◌, Option, Some, None, Result, refl, sym, ap, subst, ◌∙◌, arith, inl, inr, if◌then◌else◌}
 use Rattle.std.proofs.lemmas.Bool.{false≢true}
 use Rattle.std.proofs.lemmas.Bool.Decides.{nat_tests}
 use Rattle.edge_io.specs.Hosts.{OthersKept, one_more}
@@ -9,23 +9,23 @@ use Rattle.edge_io.specs.Scripts.{Arrival}
 use Rattle.edge_io.specs.declared.events.Door.{Door}
 use Rattle.edge_io.specs.declared.events.Door.TheVariants as door
 use Rattle.edge_io.specs.declared.events.What.TheVariants as what
-use Rattle.line_door.specs.Acts.{Outside, Said, Way, Plain, Memory, Disk, Newer, SaidWhole, SaidLost, SaidShort, StopsShort, Sent, Acts, held_if, outside}
-use Rattle.line_door.specs.Course.{Talk, talk}
+use Rattle.line_door.specs.Acts.{Outside, Said, Way, Plain, Memory, Disk, Newer, SaidWhole, SaidLost, SaidShort, StopsShort, Sent, Acts, held_if}
+use Rattle.line_door.specs.Course.{talk}
 use Rattle.line_door.specs.Making.{says, closes}
 use Rattle.line_door.specs.Over.{held_over, said_over}
 use Rattle.line_door.proofs.Acting.{acts-closing, acts-silent}
 use Rattle.line_door.proofs.Lifting.{acts-over}
 use Rattle.arch_model.specs.Archives.{Archive}
-use Rattle.arch_model.specs.Standing.{Standing, standing}
+use Rattle.arch_model.specs.Standing.{Standing}
 use Rattle.arch_model.specs.Keeping.{Passes, Fits}
 use Rattle.keep_course.specs.Courses.{afters, archives_of}
 use Rattle.keep_course.proofs.Courses.{all-own}
 use Rattle.nntp_reader.specs.Door.{Reader, new_reader, greeting}
 use Rattle.nntp_reader.specs.Notices.{welcome_line}
-use Rattle.node_serve.specs.Doors.{Held, Came, rest_if, said, is_asked, session_limit, busy_words, memory_words, greets, made, unmade, said_making}
-use Rattle.node_serve.specs.Nodes.{Places, Serving, serving, session_of, places_of, world_of, Refused, Makes, Ends, IsPlaced, IsPut, FedFrom, TurnsTo}
-use Rattle.node_serve.specs.Turns.{FedAt, CameTo, TurnedBy, Turned}
-use Rattle.node_serve.specs.World.{Outer, World, ActAt, Around, Same, EndedAt, others_open, outside_at, one_if, closed_if}
+use Rattle.node_serve.specs.Doors.{Came, said, session_limit, busy_words, memory_words, greets, made, unmade, said_making}
+use Rattle.node_serve.specs.Nodes.{Places, serving, session_of, places_of, world_of, Refused, Makes, Ends, IsPlaced, IsPut, FedFrom, TurnsTo}
+use Rattle.node_serve.specs.Turns.{FedAt, CameTo, Turned}
+use Rattle.node_serve.specs.World.{Outer, Around, Same, EndedAt, others_open, outside_at, one_if, closed_if}
 use Rattle.node_serve.specs.declared.session.Session.{Session}
 use Rattle.node_serve.specs.declared.session.Session.TheVariants as session
 

@@ -1,5 +1,5 @@
 -- The laws of events that are served: the count of open sessions, and what they do by the rules.
-use Rattle.std.specs.Prelude.{◌≡◌, ◌<◌, ℕ, List, [], ◌∷◌, Option, Some, None}
+use Rattle.std.specs.Prelude.{◌≡◌, ◌<◌, ℕ, List, [], ◌∷◌}
 use Rattle.edge_io.specs.Scripts.{Arrival}
 use Rattle.edge_io.specs.declared.events.What.{What}
 use Rattle.edge_io.specs.declared.events.What.TheVariants as what

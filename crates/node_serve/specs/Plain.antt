@@ -1,6 +1,6 @@
 -- What events do by the rules: no allocation fails, the disk answers, and no send is lost. As a
 -- function of a world, and as a relation whose acts all go in the way `Plain`.
-use Rattle.std.specs.Prelude.{◌≡◌, ◌⊎◌, ◌==◌, ◌+◌, ◌-◌, ◌≤◌, ℕ, zero, suc, Bool, true, false, List, [], ◌∷◌, ◌++◌, Option, Some, None, if◌then◌else◌}
+use Rattle.std.specs.Prelude.{◌≡◌, ◌==◌, ◌+◌, ◌-◌, ◌≤◌, ℕ, zero, suc, Bool, true, false, List, [], ◌∷◌, ◌++◌, Option, Some, None, if◌then◌else◌}
 use Rattle.edge_io.specs.Scripts.{Arrival}
 use Rattle.edge_io.specs.Taken.{plus}
 use Rattle.edge_io.specs.declared.events.What.{What}
@@ -15,7 +15,7 @@ use Rattle.nntp_reader.specs.Door as news
 use Rattle.node_serve.specs.declared.session.Session.{Session}
 use Rattle.node_serve.specs.Doors.{Held, Came, AtControl, AtNews, with_piece, rest_if, said, is_asked, said_making}
 use Rattle.node_serve.specs.Turns.{Turn}
-use Rattle.node_serve.specs.World.{Outer, World, outer, Around, Same, EndedAt, outside_at, others_open, one_if, closed_if, open_below}
+use Rattle.node_serve.specs.World.{World, outer, Around, Same, EndedAt, outside_at, others_open, one_if, closed_if, open_below}
 
 -- The size of a session at work. Each request that leaves it open makes it smaller, and so does the
 -- reopening before a piece.

@@ -1,5 +1,5 @@
 -- The world of a server, and what an act on one connection may do to it.
-use Rattle.std.specs.Prelude.{◌≡◌, ◌+◌, ◌-◌, ◌≤◌, ℕ, zero, suc, List, Option, Some, None}
+use Rattle.std.specs.Prelude.{◌≡◌, ◌+◌, ◌-◌, ℕ, zero, suc, List, Option, Some, None}
 use Rattle.edge_io.specs.Hosts.{OthersKept, one_more}
 use Rattle.line_door.specs.Acts.{Outside, Said, Way, Acts, outside}
 use Rattle.arch_model.specs.Standing.{Standing}

@@ -1,5 +1,4 @@
-use Rattle.std.proofs.Common.{[], true, false, Option, Some, None, refl, sym, ap, subst}
-use Rattle.arch_model.specs.Next.{continues}
+use Rattle.std.proofs.Common.{[], true, false, Option, refl, sym, subst}
 use Rattle.edge_io.specs.declared.events.What.TheVariants as what
 use Rattle.node_serve.specs.Nodes.{places_of, world_of}
 use Rattle.node_serve.specs.Turns.{CameTo}

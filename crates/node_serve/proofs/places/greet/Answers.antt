@@ -1,5 +1,4 @@
-use Rattle.std.proofs.Common.{refl, ap}
-use Rattle.arch_model.specs.Next.{continues}
+use Rattle.std.proofs.Common.{refl}
 use Rattle.node_serve.specs.Nodes.{places_of}
 use Rattle.node_serve.proofs.Turning.{makes-news, makes-lost}
 use Rattle.node_serve.proofs.places.greet.Goals as goal

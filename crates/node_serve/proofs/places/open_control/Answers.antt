@@ -1,4 +1,4 @@
-use Rattle.std.proofs.Common.{ℕ, List, Some, refl, ap, ◌∙◌}
+use Rattle.std.proofs.Common.{ℕ, List, Some, ap, ◌∙◌}
 use Rattle.node_serve.specs.Nodes.{places_of}
 use Rattle.edge_io.specs.declared.events.Door.TheVariants as door
 use Rattle.node_serve.specs.declared.session.Session.TheVariants as session

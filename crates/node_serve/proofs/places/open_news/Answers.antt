@@ -1,4 +1,3 @@
-use Rattle.std.proofs.Common.{refl}
 use Rattle.node_serve.specs.Nodes.{places_of}
 use Rattle.edge_io.specs.declared.events.Door.TheVariants as door
 use Rattle.node_serve.specs.declared.session.Session.TheVariants as session

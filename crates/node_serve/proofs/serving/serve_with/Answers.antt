@@ -1,6 +1,5 @@
 use Rattle.std.proofs.Common.{refl, arith}
 use Rattle.node_serve.specs.declared.serving.ServeEnd.TheVariants as end
-use Rattle.node_serve.specs.World.{outer}
 use Rattle.node_serve.proofs.Running.{sofar-none, sofar-more, ends-stopped, ends-none, ends-early, took-nothing}
 use Rattle.node_serve.proofs.serving.serve_with.Goals as goal
 

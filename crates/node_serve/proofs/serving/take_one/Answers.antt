@@ -1,5 +1,4 @@
 use Rattle.std.proofs.Common.{refl}
-use Rattle.edge_io.specs.Hosts.{Gave}
 use Rattle.node_serve.specs.Ends.{is_stop}
 use Rattle.node_serve.proofs.Running.{outer-same, took-event, takes-one}
 use Rattle.node_serve.proofs.serving.take_one.Goals as goal

@@ -1,4 +1,4 @@
-use Rattle.std.proofs.Common.{◌++◌, refl}
+use Rattle.std.proofs.Common.{◌++◌}
 use Rattle.node_serve.proofs.Feeding.{control-fed, news-fed}
 use Rattle.node_serve.proofs.session.feed.Goals as goal
 

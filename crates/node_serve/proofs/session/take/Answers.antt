@@ -1,4 +1,3 @@
-use Rattle.std.proofs.Common.{refl}
 use Rattle.node_serve.proofs.Feeding.{fed-opened, fed-shut}
 use Rattle.node_serve.proofs.session.take.Goals as goal
 

@@ -1,4 +1,4 @@
-use Rattle.std.proofs.Common.{[], refl, sym, ap, subst}
+use Rattle.std.proofs.Common.{refl}
 use Rattle.node_serve.specs.Nodes.{places_of}
 use Rattle.node_serve.proofs.Turning.{turns-still, same-world, ended-world}
 use Rattle.node_serve.proofs.node.Node.turn.Goals as goal
