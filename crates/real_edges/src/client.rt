@@ -2,9 +2,12 @@
 ghost use Rattle.std.specs.Prelude.{ℕ, List};
 ghost use Rattle.real_edges.specs.Sockets.{IsHeard};
 
+use crate::sending::send_all;
 use mio::net::TcpStream;
+use mio::{Events, Poll};
 use std::io::{self, ErrorKind, Read};
 use std::net::Shutdown;
+use std::time::Clock;
 
 /// The greatest length of a piece, in bytes.
 const MAX_PIECE_LEN: usize = 1_048_576;
@@ -63,12 +66,19 @@ impl Client {
         self.closing.is_some()
     }
 
-    /// Returns the stream, or `None` if the client was closed.
-    pub(crate) fn open_stream(&mut self) -> Option<&mut TcpStream> {
+    /// Sends bytes to the client, which has to take each part of them in time. One that was closed
+    /// takes none.
+    pub(crate) fn send(
+        &mut self,
+        clock: &impl Clock,
+        writing: &mut Poll,
+        writable: &mut Events,
+        bytes: &[u8],
+    ) -> io::Result<()> {
         if self.closing.is_some() {
-            return None;
+            return Err(ErrorKind::NotConnected.into());
         }
-        Some(&mut self.stream)
+        send_all(clock, writing, writable, &mut self.stream, bytes)
     }
 
     /// Notes a report of the system.

@@ -4,7 +4,6 @@ ghost use Rattle.edge_io.specs.Events.{IsDoor};
 ghost use Rattle.real_edges.specs.Sockets.{MayHappen};
 
 use crate::client::{Client, Heard};
-use crate::sending::send_all;
 use edge_io::{Door, What};
 use mio::net::{TcpListener, TcpStream};
 use mio::unix::SourceFd;
@@ -124,10 +123,7 @@ impl Sockets {
         let Some(Some(client)) = self.clients.get_mut(conn as usize) else {
             return Err(ErrorKind::NotConnected.into());
         };
-        let Some(stream) = client.open_stream() else {
-            return Err(ErrorKind::NotConnected.into());
-        };
-        send_all(clock, &mut self.writing, &mut self.writable, stream, bytes)
+        client.send(clock, &mut self.writing, &mut self.writable, bytes)
     }
 
     /// Ends what is sent to a client. What it still sends is read and dropped for a while, so that
