@@ -174,7 +174,8 @@ module _ {K : Type 0} (holds : K → Archive → Type 0) (ready : K → Bool)
       (j : Outer) : Type 0 where
     pub runs : RunsTo arrivals s old i new j
     pub records : (past : List Outputs) → recorded past → recorded'
-        (past ++ outputs_asked none (world_of s (places_in old) i) runs.turns (world_of runs.after (places_in new) j))
+        (past ++ outputs_asked none (world_of s (places_in old) i) runs.turns
+        (world_of runs.after (places_in new) j))
 
   -- A node served the events that a host gave, in order.
   pub record ServesTo (end : ServeEnd) (turns : ℕ) (old : Serving K) (i : Outer) (new : Serving K)
