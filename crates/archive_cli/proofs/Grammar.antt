@@ -1,17 +1,17 @@
 -- The words of `init` and `replay`, and their options; and the words of `remove`.
-use Rattle.std.proofs.Common.{Bool, not, true, false, ◌≡◌, ◌≢◌, ◌≤◌, ◌<◌, ◌+◌, inl, inr, ◌⊎◌, ℕ, List, [], ◌∷◌, ◌++◌, map, length, get_or, drop, All, Option, codes, decimal, refl, sym, ◌∙◌, ap, subst, append_assoc, arith, length-append, drop-cons, add-one}
+use Rattle.std.proofs.Common.{Bool, not, true, false, ◌≡◌, ◌≢◌, ◌≤◌, ◌<◌, ◌+◌, inl, inr, ◌⊎◌, ℕ, List, [], ◌∷◌, ◌++◌, map, length, get_or, drop, All, Option, Some, None, codes, decimal, refl, sym, ◌∙◌, ap, subst, append_assoc, arith, length-append, drop-cons, add-one}
 use Rattle.std.proofs.lemmas.Bool.{not-false}
 use Rattle.std.specs.Borrow.{Bor}
 use Rattle.std.specs.Option.{option_to_list}
 use Rattle.std.specs.List.{flat_map}
 use Rattle.std.proofs.lemmas.Fmt.{decimal_injective}
 use Rattle.std.proofs.lemmas.Grind.{flat_map-append}
-use Rattle.std.proofs.lemmas.List.{append-nil, map-append}
-use Rattle.std.proofs.lemmas.List.Elements.{All-push, All-head, All-tail}
+use Rattle.std.proofs.lemmas.List.{append-nil, length-map, map-append}
+use Rattle.std.proofs.lemmas.List.Elements.{All-nil, All-cons, All-push, All-head, All-tail}
 use Rattle.arch_base.specs.Configs.{IsConfig}
 use Rattle.arch_base.specs.declared.config.Config.{Config}
 use Rattle.archive_cli.specs.Words.{IsMade, IsInit, IsReplay, IsRemove, IsServe, IsServeOption, Gives, serve_word, IsJob, AsksFor, IsSetting, IsUpTo, EachOnce, setting_word, limit_of, slice_of, max_of, mirror_of, limits, slices, maxes, mirrors, spelled, limit_in, slice_in, max_in, mirror_in}
-use Rattle.archive_cli.specs.Options.{Holds, HoldsMore, HoldsTwo, marks}
+use Rattle.archive_cli.specs.Options.{IsServing, Holds, HoldsMore, HoldsTwo, marks}
 use Rattle.archive_cli.specs.declared.words.Job.{Job}
 use Rattle.archive_cli.specs.declared.words.Job.TheVariants.{Help, Version, Replay, Init, Deliver, Remove, Check, Serve}
 use Rattle.archive_cli.specs.declared.words.ServeOption.{ServeOption}
@@ -191,6 +191,9 @@ module _ (v w x y : List ℕ) (xs ys : List (List ℕ)) where
   not-alone : v ∷ x ∷ xs ≡ w ∷ [] → ⊥
   not-alone e = cc e
 
+head-word : (v w : List ℕ) (xs ys : List (List ℕ)) → v ∷ xs ≡ w ∷ ys → v ≡ w
+head-word v w xs ys e = cc e
+
 -- Words that start with `remove` and one more word, and that ask for a job, ask for a removal.
 module _ (word : List ℕ) (more : List (List ℕ)) where
   remove_only : (job : Job) → AsksFor (codes "remove" ∷ word ∷ more) job → (number : ℕ) × (job ≡ Remove number) × IsRemove (codes "remove" ∷ word ∷ more) number
@@ -239,6 +242,10 @@ spelled-none (w ∷ ws) e = absurd (cc e)
 -- What is asked for by `remove` is asked for by a word that is `remove`.
 pub removal_named : (word : List ℕ) (after : List (List ℕ)) (found : Option Job) → word ≡ codes "remove" → IsJob (codes "remove" ∷ after) found → IsJob (word ∷ after) found
 removal_named word after found is asked = subst (λ (w : List ℕ). IsJob (w ∷ after) found) (sym is) asked
+
+-- The same of `serve`.
+pub serve_named : (word : List ℕ) (after : List (List ℕ)) (found : Option Job) → word ≡ codes "serve" → IsJob (codes "serve" ∷ after) found → IsJob (word ∷ after) found
+serve_named word after found is asked = subst (λ (w : List ℕ). IsJob (w ∷ after) found) (sym is) asked
 
 module _ (word name : List ℕ) (options : List (List ℕ)) where
   -- A word, and then the words that make an archive.
@@ -383,3 +390,82 @@ same-serve words t p u q a b =
     let spelling : map serve_word a.options ≡ map serve_word b.options = cc (a.is, b.is) in
     let same = same-options a.options b.options a.ranges b.ranges spelling in
     gives-one b.options t p u q (subst (λ (xs : List ServeOption). Gives xs t p) same a.gives) b.gives
+
+-- Words that start with `serve` and ask for a job ask for a serving.
+serve_only : (after : List (List ℕ)) (job : Job) → AsksFor (codes "serve" ∷ after) job → (turns : ℕ) × (port : ℕ) × (job ≡ Serve turns port) × IsServe (codes "serve" ∷ after) turns port
+serve_only after Help e = absurd (apart 115 45 (codes "erve") (codes "-help") (omega arith) (head-word (codes "serve") (codes "--help") after [] e))
+serve_only after Version e = absurd (apart 115 45 (codes "erve") (codes "-version") (omega arith) (head-word (codes "serve") (codes "--version") after [] e))
+serve_only after Deliver e = absurd (apart 115 100 (codes "erve") (codes "eliver") (omega arith) (head-word (codes "serve") (codes "deliver") after [] e))
+serve_only after Check e = absurd (apart 115 99 (codes "erve") (codes "heck") (omega arith) (head-word (codes "serve") (codes "check") after [] e))
+serve_only after (Remove number) r = absurd (apart 115 114 (codes "erve") (codes "emove") (omega arith) (head-word (codes "serve") (codes "remove") after (decimal number ∷ []) r.is))
+serve_only after (Init config) i = absurd (apart 115 105 (codes "erve") (codes "nit") (omega arith) (head-word (codes "serve") (codes "init") after i.after i.is))
+serve_only after (Replay config) r = absurd (apart 115 114 (codes "erve") (codes "eplay") (omega arith) (head-word (codes "serve") (codes "replay") after r.after r.is))
+serve_only after (Serve turns port) s = (turns, port, refl, s)
+
+-- Words that ask for a serving ask for nothing else.
+pub only_serves : (words : List (List ℕ)) (turns port : ℕ) (job : Job) → IsServe words turns port → AsksFor words job → (t : ℕ) × (p : ℕ) × (job ≡ Serve t p)
+only_serves words turns port job asked also =
+    let s = serve_only (map serve_word asked.options) job (subst (λ (ws : List (List ℕ)). AsksFor ws job) asked.is also) in
+    (s.0, s.1, s.2)
+
+-- The words after `serve` are those of its options.
+option-words : (after : List (List ℕ)) (turns port : ℕ) (s : IsServe (codes "serve" ∷ after) turns port) → after ≡ map serve_word s.options
+option-words after turns port s = cc (s.is)
+
+-- Options that were read give their serving, or none.
+pub serve-read : (words : List (List ℕ)) (options : List ServeOption) (found : Option Job) → All IsServeOption options → words ≡ map serve_word options → IsServing options found → IsJob (codes "serve" ∷ words) found
+serve-read words options (Some job) ranges is given =
+    subst (λ (j : Job). AsksFor (codes "serve" ∷ words) j) (sym given.2)
+    (record { options = options; is = ap (λ (ws : List (List ℕ)). codes "serve" ∷ ws) is; ranges = ranges; gives = given.3 })
+serve-read words options None ranges is given = λ job asked.
+    let s = serve_only words job asked in
+    let same = same-options s.3.options options s.3.ranges ranges (sym (option-words words s.0 s.1 s.3) ∙ is) in
+    given s.0 s.1 (subst (λ (xs : List ServeOption). Gives xs s.0 s.1) same s.3.gives)
+
+-- A first word that spells no option asks for no job.
+first-option : (word : List ℕ) (words : List (List ℕ)) (options : List ServeOption) → All IsServeOption options → word ∷ words ≡ map serve_word options → (x : ServeOption) × IsServeOption x × (word ≡ serve_word x)
+first-option word words [] ranges e = absurd (cc e)
+first-option word words (x ∷ xs) ranges e = (x, All-head IsServeOption x xs ranges, cc e)
+
+pub serve-unread : (word : List ℕ) (words : List (List ℕ)) → ((x : ServeOption) → IsServeOption x → word ≢ serve_word x) → (job : Job) → AsksFor (codes "serve" ∷ word ∷ words) job → ⊥
+serve-unread word words none job asked =
+    let s = serve_only (word ∷ words) job asked in
+    let one = first-option word words s.3.options s.3.ranges (option-words (word ∷ words) s.0 s.1 s.3) in
+    none one.0 one.1 one.2
+
+-- Nor does such a second word.
+second-option : (first word : List ℕ) (words : List (List ℕ)) (options : List ServeOption) → All IsServeOption options → first ∷ word ∷ words ≡ map serve_word options → (x : ServeOption) × IsServeOption x × (word ≡ serve_word x)
+second-option first word words [] ranges e = absurd (cc e)
+second-option first word words (x ∷ xs) ranges e = first-option word words xs (All-tail IsServeOption x xs ranges) (cc e)
+
+pub serve-unread-second : (first word : List ℕ) (words : List (List ℕ)) → ((x : ServeOption) → IsServeOption x → word ≢ serve_word x) → (job : Job) → AsksFor (codes "serve" ∷ first ∷ word ∷ words) job → ⊥
+serve-unread-second first word words none job asked =
+    let s = serve_only (first ∷ word ∷ words) job asked in
+    let one = second-option first word words s.3.options s.3.ranges (option-words (first ∷ word ∷ words) s.0 s.1 s.3) in
+    none one.0 one.1 one.2
+
+-- Nor do more than two options.
+long-gives : (options : List ServeOption) (turns port : ℕ) → 2 < length options → Gives options turns port → ⊥
+long-gives [] turns port long gives = omega arith
+long-gives (a ∷ []) turns port long gives = omega arith
+long-gives (a ∷ b ∷ []) turns port long gives = omega arith
+long-gives (serving.Turns n ∷ serving.Turns m ∷ c ∷ more) turns port long gives = gives
+long-gives (serving.Turns n ∷ serving.Port m ∷ c ∷ more) turns port long gives = gives
+long-gives (serving.Port n ∷ serving.Turns m ∷ c ∷ more) turns port long gives = gives
+long-gives (serving.Port n ∷ serving.Port m ∷ c ∷ more) turns port long gives = gives
+
+pub serve-long : (words : List (List ℕ)) → 2 < length words → (job : Job) → AsksFor (codes "serve" ∷ words) job → ⊥
+serve-long words long job asked =
+    let s = serve_only words job asked in
+    let same : length words ≡ length s.3.options = ap length (option-words words s.0 s.1 s.3) ∙ length-map s.3.options serve_word in
+    long-gives s.3.options s.0 s.1 (omega (arith, same, long)) s.3.gives
+
+-- One option, and two, with their words.
+pub one-option : (x : ServeOption) → IsServeOption x → All IsServeOption (x ∷ [])
+one-option x is = All-cons IsServeOption x [] is (All-nil IsServeOption)
+
+pub both-options : (x y : ServeOption) → IsServeOption x → IsServeOption y → All IsServeOption (x ∷ y ∷ [])
+both-options x y is also = All-cons IsServeOption x (y ∷ []) is (one-option y also)
+
+pub both-words : (word other : List ℕ) (x y : ServeOption) → word ≡ serve_word x → other ≡ serve_word y → word ∷ other ∷ [] ≡ map serve_word (x ∷ y ∷ [])
+both-words word other x y is also = cc

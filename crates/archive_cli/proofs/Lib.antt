@@ -4,4 +4,5 @@ pub mod Leaving
 pub mod OnDisk
 pub mod Rows
 pub mod PlayedEvents
+pub mod ServedNumbers
 pub mod ServedDisk

@@ -180,7 +180,7 @@ open-not-shut root slot files is shut = by_file (files root_name) is.current shu
     by_file (Some bytes) current (inr gates) = by_slot bytes slot current.in_range current.opened gates
 
 -- What was opened is one of the archives that the disk may have stood for.
-read-among : (may : List (Option Archive)) (k : Option Content) → ReadsFit k → AllRecoverOf may k → (v : View) → WhereTold (λ (c : Content). Opens (as_read c) (Ok v)) k → (b : Archive) × Contains may (Some b) × ReadsAs b k
+pub read-among : (may : List (Option Archive)) (k : Option Content) → ReadsFit k → AllRecoverOf may k → (v : View) → WhereTold (λ (c : Content). Opens (as_read c) (Ok v)) k → (b : Archive) × Contains may (Some b) × ReadsAs b k
 read-among may None fit all v answer = absurd all
 read-among may (Some k) fit all v answer = let one = all (as_read k) (λ name. fit k refl name) in by one.0 one.1 one.2
   where

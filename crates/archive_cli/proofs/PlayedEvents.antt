@@ -1,20 +1,28 @@
 -- The events of a script that serving took.
-use Rattle.std.proofs.Common.{◌≡◌, ◌≤◌, ℕ, Bool, true, false, not, ◌&&◌, List, [], ◌∷◌, ◌++◌, Option, Some, None, refl, sym, ap, subst, ◌∙◌}
-use Rattle.edge_io.specs.Hosts.{Told, before_left, NoneLeft}
-use Rattle.edge_io.specs.Scripts.{Arrival}
-use Rattle.node_serve.specs.Ends.{NoStop, EndsWithStop, is_stop, before_all}
+use Rattle.std.proofs.Common.{◌≡◌, ◌≤◌, ◌<◌, ◌⊎◌, inl, inr, ℕ, Bool, true, false, not, ◌&&◌, List, [], ◌∷◌, ◌++◌, length, Option, Some, None, refl, sym, ap, subst, ◌∙◌, arith, length-append, nat_lt, if◌then◌else◌}
+use Rattle.std.proofs.lemmas.Bool.Decides.{nat_tests}
 use Rattle.std.proofs.lemmas.List.{append-nil}
-use Rattle.std.proofs.Common.{◌<◌, inl, inr}
+use Rattle.std.proofs.Math.Seq.{take-nil}
 use Rattle.arch_base.specs.declared.config.Config.{Config}
 use Rattle.arch_model.specs.Archives.{Archive, empty_archive}
 use Rattle.arch_model.specs.Standing.{standing}
-use Rattle.edge_io.specs.Frames.{Outputs, frames_of}
-use Rattle.node_serve.specs.Ends.{EndsBy}
-use Rattle.node_serve.specs.Nodes.{Places, Serving, world_of, outputs_asked, RunsTo}
-use Rattle.node_serve.specs.Turns.{Served}
-use Rattle.node_serve.specs.World.{Outer}
+use Rattle.edge_io.specs.Events.{line_of, after_line, spelled}
+use Rattle.edge_io.specs.Frames.{Outputs, FirstFrames, frames_of}
+use Rattle.edge_io.specs.Hosts.{before_left}
+use Rattle.edge_io.specs.MemHosts.{unclosed}
+use Rattle.edge_io.specs.Scripts.{Arrival, IsScript, spelled_all}
+use Rattle.node_serve.specs.Ends.{EndsBy, NoStop, is_stop, before_all}
+use Rattle.node_serve.specs.Nodes.{Places, outputs_asked, world_of}
+use Rattle.node_serve.specs.Laws.{PlainLaws}
+use Rattle.node_serve.specs.Plain.{PlainServed, plain_turns, last_world}
+use Rattle.node_serve.proofs.PlainTurns.{none-counted}
+use Rattle.node_serve.specs.Turns.{Turn, Served}
+use Rattle.node_serve.specs.World.{Outer, World}
+use Rattle.node_serve.specs.declared.serving.ServeEnd.{ServeEnd}
 use Rattle.node_serve.specs.declared.serving.ServeEnd.TheVariants as end
-use Rattle.archive_cli.specs.Turns.{kept_after, to_stop, has_none, IsStart, IsFresh, Transcript}
+use Rattle.archive_cli.specs.Laws.{PlainIsTranscript}
+use Rattle.archive_cli.specs.Program.{PlaysPart, input_limit}
+use Rattle.archive_cli.specs.Turns.{kept_after, to_stop, has_none, IsFresh, Plays, outputs_played, Transcript, TranscriptFront, fresh_world}
 
 -- Events before some that are left, where those are told.
 pub before-told : (es left : List Arrival) → before_all es (Some left) ≡ Some (es ++ left)
@@ -46,27 +54,89 @@ stop-taken (e ∷ es) last left none stops =
 pub taken-to : (script es left : List Arrival) (none : Bool) (turns faults faults' : ℕ) → Some script ≡ before_all es (Some left) → EndsBy end.Stopped none es turns (Some left) faults faults' → (to_stop script ≡ es) × (has_none script ≡ none)
 taken-to script es left false turns faults faults' is stops =
     let all : script ≡ es ++ left = some-is script (es ++ left) (is ∙ before-told es left) in
-    let taken = stop-taken stops.before stops.last left stops.none stops.stops in
+    let taken = stop-taken stops.0.before stops.0.last left stops.0.none stops.0.stops in
     subst (λ (xs : List Arrival). (to_stop xs ≡ es) × (has_none xs ≡ false)) (sym all)
-    (subst (λ (xs : List Arrival). (to_stop (xs ++ left) ≡ xs) × (has_none (xs ++ left) ≡ false)) (sym stops.are) taken)
+    (subst (λ (xs : List Arrival). (to_stop (xs ++ left) ≡ xs) × (has_none (xs ++ left) ≡ false)) (sym stops.0.are) taken)
 taken-to script es left true turns faults faults' is ends =
     let all : script ≡ es = some-is script (es ++ left) (is ∙ before-told es left) ∙ ap (λ (xs : List Arrival). es ++ xs) ends.1 ∙ append-nil es in
     subst (λ (xs : List Arrival). (to_stop xs ≡ es) × (has_none xs ≡ true)) (sym all) (all-taken es ends.0)
 
--- So their frames are the script's transcript.
-pub transcript-of : {K : Type 0} (holds : K → Archive → Type 0) (ready : K → Bool) (leaves : K → K → List (Option Archive) → Type 0) (config : Config) (script es left : List Arrival) (none : Bool) (turns faults faults' : ℕ) (old new : Serving K) (i j : Outer) (frames : List ℕ)
-    → Some script ≡ before_all es (Some left) → EndsBy end.Stopped none es turns (Some left) faults faults' → (run : RunsTo holds ready leaves es (standing (empty_archive config) None) old i new j)
-    → ((c : ℕ) → old.places.session c ≡ None) → old.places.count ≡ 0 → ((c : ℕ) → c < 65536 → i.taken c ≡ Some []) → ((c : ℕ) → c < 65536 → i.closings c ≡ Some 0) → i.disk ≡ 0 → i.lost ≡ 0 → j.disk ≡ 0 → j.lost ≡ 0
-    → frames ≡ frames_of (outputs_asked none (world_of (standing (empty_archive config) None) old.places i) run.turns (world_of run.after new.places j)) → Transcript config script frames
-transcript-of holds ready leaves config script es left none turns faults faults' old new i j frames is ends run no_session no_count untaken unclosed disk lost disk' lost' printed =
-    let taken = taken-to script es left none turns faults faults' is ends in
+-- A script has no more events than bytes.
+pub few-events : (es : List Arrival) → length es ≤ length (spelled_all es)
+few-events [] = omega arith
+few-events (e ∷ es) =
+    omega (arith, few-events es, length-append (line_of e.0) (10 ∷ after_line e.0.what e.1), length-append (spelled e.0 e.1) (spelled_all es))
+
+-- Those that were taken are no more than the script has.
+pub few-taken : (script es left : List Arrival) → Some script ≡ before_all es (Some left) → length es ≤ length script
+few-taken script es left is =
+    let all : length script ≡ length (es ++ left) = ap length (some-is script (es ++ left) (is ∙ before-told es left)) in
+    omega (arith, all, length-append es left)
+
+-- Where no event was taken, the host was not asked.
+pub none-asked : (first after : World) (turns : List Turn) → Served [] first turns after → outputs_asked false first turns after ≡ []
+none-asked first after [] served = refl
+none-asked first after (t ∷ ts) served = absurd served
+
+-- The world of a new node over an archive that stands, at a new host.
+pub fresh-of : (a : Archive) (p : Places) (o : Outer) → ((c : ℕ) → p.session c ≡ None) → p.count ≡ 0 → ((c : ℕ) → o.taken c ≡ Some []) → ((c : ℕ) → o.closings c ≡ unclosed c) → o.disk ≡ 0 → o.lost ≡ 0 → IsFresh a (world_of (standing a None) p o)
+fresh-of a p o none count untaken open_all disk lost = record {
+  start = record { stands = refl; none = none; count = count };
+  taken = λ c low. untaken c;
+  closings = λ c low. open_all c ∙ (let below : nat_lt c 65536 ≡ true = grind (arith, nat_tests, low) in ap (λ (b : Bool). if b then Some 0 else None) below);
+  disk = disk;
+  lost = lost;
+}
+
+-- The events of a script that were served from a fresh world until a stop or the script's end.
+module _ (config : Config) (script es left : List Arrival) (none : Bool) (turns faults faults' : ℕ) (first after : World) (taken : List Turn) (is : Some script ≡ before_all es (Some left)) (fresh : IsFresh (empty_archive config) first) (served : Served es first taken after) (ends : EndsBy end.Stopped none es turns (Some left) faults faults') where
+  abbrev pub plays-of : Plays config script
+  plays-of = record { first = first; fresh = fresh; turns = taken; after = after; served = subst (λ (xs : List Arrival). Served xs first taken after) (sym (taken-to script es left none turns faults faults' is ends).0) served }
+
+  pub outputs-of : outputs_played plays-of ≡ outputs_asked none first taken after
+  outputs-of = ap (λ (b : Bool). outputs_asked b first taken after) (taken-to script es left none turns faults faults' is ends).1
+
+  -- Their frames are the script's transcript, if nothing failed.
+  pub transcript-of : (frames : List ℕ) → after.out.disk ≡ 0 → after.out.lost ≡ 0 → frames ≡ frames_of (outputs_asked none first taken after) → Transcript config script frames
+  transcript-of frames disk lost printed = record { plays = plays-of; disk = disk; lost = lost; printed_is = printed ∙ ap frames_of (sym outputs-of) }
+
+  -- The frames of the first of them are its front.
+  pub front-of : (frames : List ℕ) → FirstFrames (outputs_asked none first taken after) frames → TranscriptFront config script frames
+  front-of frames part = record { plays = plays-of; first = subst (λ (past : List Outputs). FirstFrames past frames) (sym outputs-of) part }
+
+-- The first of no frames are none.
+pub no-frames : (frames : List ℕ) → FirstFrames [] frames → frames ≡ []
+no-frames frames part = part.frames_are ∙ ap frames_of (take-nil part.count)
+
+-- However serving a script ended, at a host that doesn't fail, nothing is printed, or the front of its
+-- transcript.
+pub part-of : (how : ServeEnd) (config : Config) (text : List ℕ) (script es left : List Arrival) (none : Bool) (turns : ℕ) (first after : World) (taken : List Turn) (frames : List ℕ)
+    → length text ≤ input_limit → IsScript script text → input_limit < turns → Some script ≡ before_all es (Some left) → IsFresh (empty_archive config) first → Served es first taken after → EndsBy how none es turns (Some left) 0 0 → FirstFrames (outputs_asked none first taken after) frames → (frames ≡ []) ⊎ PlaysPart config text frames
+part-of end.Stopped config text script es left none turns first after taken frames short is_script many is fresh served ends part =
+    inr (record { short = short; arrivals = script; script = is_script; front = front-of config script es left none turns 0 0 first after taken is fresh served ends frames part })
+part-of (end.Spent n) config text script es left false turns first after taken frames short is_script many is fresh served ends part =
+    let bytes : length text ≡ length (spelled_all script) = ap length is_script.spells in
+    absurd (omega (arith, short, many, bytes, few-events script, few-taken script es left is, ends.1))
+part-of (end.Spent n) config text script es left true turns first after taken frames short is_script many is fresh served ends part = absurd ends
+part-of end.HostFault config text script es left false turns first after taken frames short is_script many is fresh served ends part = absurd (omega (arith, ends.1))
+part-of end.HostFault config text script es left true turns first after taken frames short is_script many is fresh served ends part = absurd ends
+part-of end.NoMemory config text script es left false turns first after taken frames short is_script many is fresh served ends part =
+    let none_taken : Served [] first taken after = subst (λ (xs : List Arrival). Served xs first taken after) ends served in
+    let none_asked : outputs_asked false first taken after ≡ [] = none-asked first after taken none_taken in
+    inl (no-frames frames (subst (λ (past : List Outputs). FirstFrames past frames) none_asked part))
+part-of end.NoMemory config text script es left true turns first after taken frames short is_script many is fresh served ends part = absurd ends
+
+-- The events by the rules, from the start of a script, are its transcript.
+pub plain-played : PlainLaws → PlainIsTranscript
+plain-played laws config arrivals =
+    let w : World = fresh_world (empty_archive config) in
+    let es : List Arrival = to_stop arrivals in
+    let v : World = last_world w (plain_turns es w) in
+    let made : PlainServed es w (plain_turns es w) v = laws.made es w (none-counted w (λ (c : ℕ). refl)) in
+    let unfailed : (v.out.disk ≡ 0) × (v.out.lost ≡ 0) = laws.unfailed es w (plain_turns es w) v made in
     record {
-      first = world_of (standing (empty_archive config) None) old.places i;
-      fresh = record { start = record { stands = refl; none = no_session; count = no_count }; taken = untaken; closings = unclosed; disk = disk; lost = lost };
-      turns = run.turns;
-      after = world_of run.after new.places j;
-      served = subst (λ (xs : List Arrival). Served xs (world_of (standing (empty_archive config) None) old.places i) run.turns (world_of run.after new.places j)) (sym taken.0) run.served;
-      disk = disk';
-      lost = lost';
-      printed_is = printed ∙ ap (λ (b : Bool). frames_of (outputs_asked b (world_of (standing (empty_archive config) None) old.places i) run.turns (world_of run.after new.places j))) (sym taken.1);
+      plays = record { first = w; fresh = record { start = record { stands = refl; none = λ c. refl; count = refl }; taken = λ c low. refl; closings = λ c low. refl; disk = refl; lost = refl }; turns = plain_turns es w; after = v; served = laws.served es w (plain_turns es w) v made };
+      disk = unfailed.0;
+      lost = unfailed.1;
+      printed_is = refl;
     }

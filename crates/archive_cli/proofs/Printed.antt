@@ -23,7 +23,7 @@ use Rattle.edge_io.specs.Coming.{Moments, IsFirst}
 use Rattle.archive_cli.specs.Outcomes.{outcome_line, status_of}
 use Rattle.archive_cli.specs.declared.outcome.Outcome.{Outcome}
 use Rattle.archive_cli.specs.declared.outcome.Outcome.TheVariants.{Answered}
-use Rattle.archive_cli.specs.Program.{Edges, all_edges, NoneFailed, Acts, EndsBy, InitActs, CommandActs, DeliverActs, CheckActs, IsInput, IsDue, Ends, Ran, input_limit, message_of, TookAtMost}
+use Rattle.archive_cli.specs.Program.{Edges, all_edges, NoneFailed, Acts, EndsBy, InitActs, CommandActs, DeliverActs, CheckActs, PlaysPart, IsInput, IsDue, Ends, Ran, input_limit, message_of, TookAtMost}
 use Rattle.archive_cli.specs.Printing.{Printed, Exactly, IsReplayDue, Replayed, IsPieceRead, JobDone, InputDone, IsUnread}
 use Rattle.archive_cli.specs.declared.status.Status.{Status}
 use Rattle.archive_cli.specs.declared.status.Status.TheVariants as exit
@@ -47,7 +47,7 @@ due-bad config text event short bad s words e = inl (inr (inl (record { short = 
 
 -- A script that runs out of memory at once.
 pub due-none : (config : Config) (text : List ℕ) (s : Status) (words : List ℕ) → Exactly (whole_line (codes "12 no memory")) exit.Memory s words → IsReplayDue config text s words
-due-none config text s words e = inr (record { status_is = e.status_is; frames = []; printed_is = e.words_is })
+due-none config text s words e = inr (record { status_is = e.status_is; frames = []; played = inl refl; printed_is = e.words_is })
 
 -- A script whose events were played.
 pub due-played : (config : Config) (text frames : List ℕ) (arrivals : List Arrival) → length text ≤ input_limit → IsScript arrivals text → Transcript config arrivals frames → (s : Status) (words : List ℕ) → Exactly frames exit.Done s words → IsReplayDue config text s words
@@ -55,8 +55,8 @@ due-played config text frames arrivals short script played s words e =
     inl (inr (inr (record { short = short; arrivals = arrivals; script = script; status_is = e.status_is; transcript = subst (λ w. Transcript config arrivals w) (sym e.words_is) played })))
 
 -- A script that ran out of memory.
-pub due-cut : (config : Config) (text frames : List ℕ) → (s : Status) (words : List ℕ) → Exactly (frames ++ whole_line (codes "12 no memory")) exit.Memory s words → IsReplayDue config text s words
-due-cut config text frames s words e = inr (record { status_is = e.status_is; frames = frames; printed_is = e.words_is })
+pub due-cut : (config : Config) (text frames : List ℕ) → (frames ≡ []) ⊎ PlaysPart config text frames → (s : Status) (words : List ℕ) → Exactly (frames ++ whole_line (codes "12 no memory")) exit.Memory s words → IsReplayDue config text s words
+due-cut config text frames played s words e = inr (record { status_is = e.status_is; frames = frames; played = played; printed_is = e.words_is })
 
 -- An input that is too long.
 pub due-long : (config : Config) (input : List ℕ) → input_limit < length input → (s : Status) (words : List ℕ) → Exactly (whole_line (codes "script too long")) exit.Script s words → IsReplayDue config input s words
@@ -224,11 +224,3 @@ pub front-short : (left : Option (List ℕ)) (bytes : List ℕ) (most : ℕ) →
 front-short left bytes most front short =
     let size : length bytes ≡ length (take most front.0) = ap (λ (b : List ℕ). length b) front.2 in
     subst (IsInput left) (sym (front.2 ∙ take_all most front.0 (omega (arith, size, length-take most front.0, short)))) front.1
-
--- The number of a status that is due, or that of an output that failed.
-pub status-or : (status due : Status) (n : ℕ) (text : List ℕ) (out : Option (List ℕ)) (lost : ℕ) (out' : Option (List ℕ)) (lost' : ℕ) → n ≡ code_of status → Printed (Exactly text due) status out lost out' lost' → (n ≡ code_of due) ⊎ (n ≡ 6)
-status-or status due n text out lost out' lost' is p = by p.sent p.status_is
-  where
-    by : (sent : Result Unit SinkFault) → status ≡ (if is_ok sent then p.due_status else exit.Edges) → (n ≡ code_of due) ⊎ (n ≡ 6)
-    by (Ok done) same = inl (is ∙ ap code_of (same ∙ p.is_due.status_is))
-    by (Err fault) same = inr (is ∙ ap code_of same)

@@ -1,87 +1,158 @@
 -- What serving the archive on a disk did there.
-use Rattle.std.proofs.Common.{◌≡◌, ◌≤◌, ℕ, Bool, true, false, List, [], ◌∷◌, ◌++◌, Option, Some, None, refl, sym, ap, subst, ◌∙◌, arith, inl, inr}
+use Rattle.std.proofs.Common.{◌≡◌, ◌≤◌, ℕ, Bool, List, [], ◌∷◌, ◌++◌, Option, Some, None, Result, Ok, Err, refl, sym, ap, subst, arith}
 use Rattle.std.specs.List.{Contains}
-use Rattle.disk_model.specs.Disk.{Files, Content, Image, LeavesOnly}
+use Rattle.std.proofs.lemmas.List.Elements.{Contains-append_left, Contains-append_right}
+use Rattle.arch_base.specs.Counts.{Rose, RoseIf}
+use Rattle.disk_model.specs.Disk.{Files, Content, Image, WhereTold, ReadsFit, LeavesOnly}
+use Rattle.disk_model.specs.Moments.{weaker}
 use Rattle.edge_io.specs.Scripts.{Arrival}
 use Rattle.arch_model.specs.Archives.{Archive, live}
-use Rattle.arch_model.specs.declared.opening.OpenRefusal.{OpenRefusal}
-use Rattle.arch_model.specs.Keeping.{Has, HasAll, Fits}
+use Rattle.arch_model.specs.Following.{FollowsItself}
+use Rattle.arch_model.specs.Keeping.{HasDoubt, Has, HasAll, Passes, Fits}
+use Rattle.arch_model.specs.Laws.{CommandFollows}
 use Rattle.arch_model.specs.Listings.{rows_of}
-use Rattle.arch_model.specs.Standing.{Standing, standing, one_of, IsFound}
-use Rattle.arch_model.proofs.Keepers.{has-found, has-own, fits-held}
+use Rattle.arch_model.specs.Standing.{Standing, standing, one_of}
+use Rattle.arch_model.specs.declared.opening.OpenRefusal.{OpenRefusal}
+use Rattle.arch_model.specs.declared.opening.OpenRefusal.TheVariants as opening
+use Rattle.arch_model.proofs.Keepers.{has-own, fits-held, all-split}
 use Rattle.archive_core.specs.Engines.{Owning, Holds, Leaves, is_ready}
-use Rattle.archive_core.proofs.Engines.{recovers_either, all_recover}
-use Rattle.epoch_store.specs.Opens.{ReadsAs, ReadsWith, RecoversOf, RecoversOfWith, AllRecoverWith, ReadsFit}
-use Rattle.epoch_store.specs.Stores.{IsStoreWith}
+use Rattle.archive_core.proofs.Engines.{all_recover}
+use Rattle.epoch_store.specs.Files.{as_read}
+use Rattle.epoch_store.specs.Opens.{Opens, ReadsWith, RecoversOf, RecoversOfWith, AllRecoverOf, AllRecoverWith, SyncsFirst}
+use Rattle.epoch_store.specs.Stores.{View, IsStoreWith}
 use Rattle.keep_course.specs.Courses.{archives_of}
 use Rattle.keep_course.proofs.Courses.{all-own}
-use Rattle.node_serve.specs.Nodes.{Serving, world_of, RunsTo}
-use Rattle.node_serve.specs.Ends.{EndsBy}
-use Rattle.node_serve.specs.Turns.{passed_in}
-use Rattle.node_serve.specs.declared.serving.ServeEnd.{ServeEnd}
-use Rattle.node_serve.specs.World.{Outer}
-use Rattle.archive_cli.specs.DiskCommands.{StandsAs}
-use Rattle.archive_cli.specs.Serving.{ServeRun, Shut, Hosted, Ended, RunBy, ServedOn, CrashLeaves}
-use Rattle.archive_cli.proofs.OnDisk.{found-at, image-all}
+use Rattle.node_serve.specs.Nodes.{Serving, StepsTo, RunsTo, places_in, world_of}
+use Rattle.node_serve.specs.Plain.{last_world}
+use Rattle.node_serve.specs.Turns.{Turn, Served, passed_in}
+use Rattle.node_serve.specs.World.{Outer, World}
+use Rattle.node_serve.proofs.Running.{turned-has}
+use Rattle.archive_cli.specs.Serving.{ServeRun, Shut, Ended, Hosted, ServesDisk, ServedOn, StoodFor}
+use Rattle.archive_cli.proofs.OnDisk.{image-all, read-among}
+use Rattle.archive_cli.proofs.ServedNumbers.{served-follows}
 
--- Files that stand for an archive of a standing stand for one of these, if the standing's are among
--- them.
-widened : (s : Standing) (may : List (Option Archive)) (image : Files) → Has may s → RecoversOf (one_of s) image → RecoversOf may image
-widened s may image has recovers = let one = recovers_either s [] image recovers in (Some one.0, has-found may s one.0 has one.1, one.2)
+-- Files that stand for one of some archives stand for one of more.
+widened : (may more : List (Option Archive)) (k : Option Content) → AllRecoverOf may k → AllRecoverOf (may ++ more) k
+widened may more None all = all
+widened may more (Some k) all = λ image left. let one = all image left in (one.0, Contains-append_left may more one.0 one.1, one.2)
 
-all-widened : (s : Standing) (may : List (Option Archive)) (k : Option Content) → Has may s → AllRecoverWith [] (one_of s) k → AllRecoverWith [] may k
-all-widened s may None has all = all
-all-widened s may (Some k) has all = λ image left. widened s may image has (all image left)
+-- Standings whose archives are among some are so among more.
+has-later : (more may : List (Option Archive)) (d : Option Archive) → HasDoubt may d → HasDoubt (more ++ may) d
+has-later more may None has = tt
+has-later more may (Some b) has = Contains-append_right more may (Some b) has
 
--- Why an archive was not opened.
-pub shut-why : (a b : OpenRefusal) → Shut a ≡ Shut b → a ≡ b
-shut-why a b is = ap why is
-  where
-    why : ServeRun → OpenRefusal
-    why (Shut x) = x
-    why (Ended how) = a
+all-later : (more may : List (Option Archive)) (ss : List Standing) → HasAll may ss → HasAll (more ++ may) ss
+all-later more may [] has = tt
+all-later more may (s ∷ ss) has = (record { archive = Contains-append_right more may (Some s.archive) has.0.archive; doubt = has-later more may s.doubt has.0.doubt }, all-later more may ss has.1)
 
--- How serving ended, whether or not the host answered that none is left.
-pub run-by : (how : ServeEnd) (arrivals : List Arrival) (turns : ℕ) (i j : Hosted) (none : Bool) → EndsBy how none arrivals turns j.left i.faults j.faults → RunBy (Ended how) arrivals turns i j
-run-by how arrivals turns i j false ends = inl ends
-run-by how arrivals turns i j true ends = inr ends
+-- The archive was opened.
+pub opened-some : (v : View) (k : Option Content) → WhereTold (λ (c : Content). Opens (as_read c) (Ok v)) k → WhereTold (λ (c : Content). (u : View) × Opens (as_read c) (Ok u)) k
+opened-some v None answer = tt
+opened-some v (Some k) answer = (v, answer)
+
+-- Why it wasn't.
+why-is : (a b : OpenRefusal) → Shut a ≡ Shut b → a ≡ b
+why-is a b is = cc is
+
+-- An opening that was refused.
+abbrev shut_by : OpenRefusal → Result View OpenRefusal
+shut_by why = Err why
+
+pub shut-cause : (before now : ℕ) (why : OpenRefusal) → RoseIf (shut_by why ≡ shut_by opening.DiskFault) before now → RoseIf (why ≡ opening.DiskFault) before now
+shut-cause before now why rose = record { later = rose.later; failed = λ is. rose.failed (ap shut_by is); kept = λ free. rose.kept (λ same. free (cc same)) }
+
+-- The disk's count of faults rose, if that is why.
+pub shut-faults : {D : Type 0} (content : D → Option Content) (moment : D → ℕ) (left_since : D → ℕ → Files → Type 0) (turns : ℕ) (run : ServeRun) (old new : D) (i j : Hosted) → ServesDisk content moment left_since turns run old new i j → run ≡ Shut opening.DiskFault → Rose i.out.disk j.out.disk
+shut-faults content moment left_since turns (Shut why) old new i j shut is = shut.cause.failed (why-is why opening.DiskFault is)
+shut-faults content moment left_since turns (Ended how) old new i j served is = absurd (cc is)
+
+-- Turns by steps.
+module _ {K : Type 0} (holds : K → Archive → Type 0) (ready : K → Bool) (leaves : K → K → List (Option Archive) → Type 0) where
+  -- A crash in them leaves an archive of one of their standings.
+  pub steps-pass : (es : List Arrival) (w : World) (ts : List Turn) (v : World) (k m : K) → Served es w ts v → StepsTo holds ready leaves k w.standing ts m → Passes leaves k m (w.standing ∷ passed_in ts)
+  steps-pass [] w [] v k m run steps = λ start may has since. subst (λ (x : K). leaves start x may) (sym steps) since
+  steps-pass [] w (t ∷ ts) v k m never steps = absurd never
+  steps-pass (e ∷ es) w [] v k m never steps = absurd never
+  steps-pass (e ∷ es) w (t ∷ ts) v k m run steps = λ start may has since.
+      let parts = all-split may t.passed (passed_in ts) has.1 in
+      let now = turned-has may e w t.passed t.after run.0 has.0 parts.0 in
+      steps-pass es t.after ts v steps.0 m run.1 steps.3 start may (now, parts.1) (steps.2 start may (has.0, parts.0) since)
 
 module _ {D : Type 0} (content : D → Option Content) (moment : D → ℕ) (left_since : D → ℕ → Files → Type 0)
     (counts_now : (disk : D) (t : ℕ) (image : Files) → t ≤ moment disk → Image (content disk) image → left_since disk t image)
     (reads_fit : (disk : D) → ReadsFit (content disk))
     (holds_left : (k : Owning D) (a : Archive) (may : List (Option Archive)) → Holds content k a → Contains may (Some a) → Leaves moment left_since k k may) where
+  -- How the disk of an engine stands that fits a standing.
+  fits-stand : (k : Owning D) (s : Standing) → Fits (Holds content) is_ready (Leaves moment left_since) k s → (cache : List ℕ) × AllRecoverWith cache (one_of s) (content k.disk)
+  fits-stand k s fits =
+      let now = fits.left (one_of s) (has-own s) in
+      (now.1, all_recover s now.1 (content k.disk) (λ image is. now.2 image (counts_now k.disk (moment k.disk) image (omega arith) is)))
+
+  -- Before some turns it stood for the archive of that moment, and a crash since then leaves that one
+  -- or a later one.
+  stood-first : (es : List Arrival) (w : World) (ts : List Turn) (v : World) (k m : Owning D) → Served es w ts v → Fits (Holds content) is_ready (Leaves moment left_since) k w.standing → StepsTo (Holds content) is_ready (Leaves moment left_since) k w.standing ts m
+      → StoodFor content moment left_since w.standing ts m.disk
+  stood-first es w ts v k m run fits steps =
+      let may = archives_of (w.standing ∷ passed_in ts) in
+      let own = all-own (w.standing ∷ passed_in ts) in
+      let left = steps-pass (Holds content) is_ready (Leaves moment left_since) es w ts v k m run steps k may own (fits.left may own.0) in
+      record { at = k.disk; stood = fits-stand k w.standing fits; crash = (left.1, record { later = left.0; each = left.2 }) }
+
+  stood-at : (es : List Arrival) (w : World) (ts : List Turn) (v : World) (k m : Owning D) → Served es w ts v → Fits (Holds content) is_ready (Leaves moment left_since) k w.standing → StepsTo (Holds content) is_ready (Leaves moment left_since) k w.standing ts m
+      → (earlier later : List Turn) → ts ≡ earlier ++ later → StoodFor content moment left_since (last_world w earlier).standing later m.disk
+  stood-at es w ts v k m run fits steps [] later is = subst (λ (us : List Turn). StoodFor content moment left_since w.standing us m.disk) is (stood-first es w ts v k m run fits steps)
+  stood-at [] w [] v k m run fits steps (t ∷ earlier) later is = absurd (cc is)
+  stood-at [] w (u ∷ us) v k m never fits steps (t ∷ earlier) later is = absurd never
+  stood-at (e ∷ es) w [] v k m never fits steps (t ∷ earlier) later is = absurd never
+  stood-at (e ∷ es) w (u ∷ us) v k m run fits steps (t ∷ earlier) later is =
+      let same : u ≡ t = cc is in
+      subst (λ (x : Turn). StoodFor content moment left_since (last_world x.after earlier).standing later m.disk) same (stood-at es u.after us v steps.0 m run.1 steps.1 steps.3 earlier later (cc is))
+
   -- An archive was opened, and events were served by a node without sessions.
-  pub served-on : (s : Standing) (old : D) (e : Owning D) (node new : Serving (Owning D)) (arrivals : List Arrival) (i j : Hosted) (o : Outer) → node.keep ≡ e → ((c : ℕ) → node.places.session c ≡ None) → node.places.count ≡ 0 → o ≡ i.out
-      → ((a : Archive) (cache : List ℕ) → ReadsWith cache a (content old) → IsStoreWith e.view cache a (content e.disk)) → ((a : Archive) (cache : List ℕ) → ReadsWith cache a (content old) → e.rows ≡ rows_of (live a.entries))
-      → ((may : List (Option Archive)) (cache : List ℕ) → AllRecoverWith cache may (content old) → LeavesOnly moment left_since old e.disk (RecoversOfWith cache may))
+  pub served-on : FollowsItself → CommandFollows → (may : List (Option Archive)) (old : D) (e : Owning D) (node new : Serving (Owning D)) (arrivals : List Arrival) (i j : Hosted) (o : Outer) → node.keep ≡ e → ((c : ℕ) → (places_in node).session c ≡ None) → (places_in node).count ≡ 0 → o ≡ i.out
+      → WhereTold (λ (k : Content). Opens (as_read k) (Ok e.view)) (content old) → ((a : Archive) (cache : List ℕ) → ReadsWith cache a (content old) → IsStoreWith e.view cache a (content e.disk))
+      → ((a : Archive) (cache : List ℕ) → ReadsWith cache a (content old) → e.rows ≡ rows_of (live a.entries))
+      → ((may : List (Option Archive)) (cache : List ℕ) → AllRecoverWith cache may (content old) → LeavesOnly moment left_since old e.disk (RecoversOfWith cache may)) → SyncsFirst content moment left_since old e.disk
       → ((t : Standing) → Fits (Holds content) is_ready (Leaves moment left_since) node.keep t → RunsTo (Holds content) is_ready (Leaves moment left_since) arrivals t node o new j.out)
-      → StandsAs s (content old) → ServedOn content moment left_since s old new.keep.disk arrivals i j
-  served-on s old e node new arrivals i j o keep none count out done rows opened runs all =
-      let found = found-at content moment left_since counts_now reads_fit s old all in
+      → AllRecoverOf may (content old) → ServedOn content moment left_since may old new.keep.disk arrivals i j
+  served-on itself commands may old e node new arrivals i j o keep none count out answer done rows opened sync runs all =
+      let found = read-among may (content old) (reads_fit old) all e.view answer in
       let a = found.0 in
       let held : Holds content e a = ([], done a [] found.2, rows a [] found.2) in
-      let fits = fits-held (Holds content) is_ready (Leaves moment left_since) holds_left e a held in
-      let run = runs (standing a None) (subst (λ (k : Owning D). Fits (Holds content) is_ready (Leaves moment left_since) k (standing a None)) (sym keep) fits) in
+      let start : Fits (Holds content) is_ready (Leaves moment left_since) node.keep (standing a None) =
+      subst (λ (k : Owning D). Fits (Holds content) is_ready (Leaves moment left_since) k (standing a None)) (sym keep) (fits-held (Holds content) is_ready (Leaves moment left_since) holds_left e a held) in
+      let run = runs (standing a None) start in
+      let first = world_of (standing a None) (places_in node) o in
+      let last = world_of run.after (places_in new) j.out in
       let more = passed_in run.turns in
-      let may = archives_of (s ∷ more) in
-      let own = all-own (s ∷ more) in
+      let wide = may ++ archives_of more in
       let begun : Owning D = record e { disk = old } in
-      let first = opened may [] (all-widened s may (content old) own.0 all) in
-      let since : Leaves moment left_since begun e may = (first.later, [], first.each) in
-      let has : HasAll may (standing a None ∷ more) = (record { archive = has-found may s a own.0 found.1; doubt = tt }, own.1) in
-      let left = run.passes begun may has (subst (λ (k : Owning D). Leaves moment left_since begun k may) (sym keep) since) in
-      let now = run.fits.left (one_of run.after) (has-own run.after) in
+      let all-from = opened wide [] (widened may (archives_of more) (content old) all) in
+      let since : Leaves moment left_since begun e wide = (all-from.later, [], all-from.each) in
+      let has : HasAll wide (standing a None ∷ more) = (record { archive = Contains-append_left may (archives_of more) (Some a) found.1; doubt = tt }, all-later may (archives_of more) more (all-own more)) in
+      let left = run.passes begun wide has (subst (λ (k : Owning D). Leaves moment left_since begun k wide) (sym keep) since) in
+      let narrow = archives_of (standing a None ∷ more) in
+      let halted : Owning D = record e { disk = sync.synced } in
+      let one-from = sync.after a [] found.2 in
+      let after : Leaves moment left_since halted e narrow = (one-from.later, [], λ image is. (Some a, (0, omega arith, refl), one-from.each image is)) in
+      let kept = run.passes halted narrow (all-own (standing a None ∷ more)) (subst (λ (k : Owning D). Leaves moment left_since halted k narrow) (sym keep) after) in
       record {
         found = a;
-        is_found = found.1;
+        is_among = found.1;
         reads = found.2;
-        first = world_of (standing a None) node.places o;
+        first = first;
         starts = record { stands = refl; none = none; count = count };
         first_out = out;
         turns = run.turns;
-        last = world_of run.after new.places j.out;
+        last = last;
         last_out = refl;
         served = run.served;
-        stands = (now.1, all_recover run.after now.1 (content new.keep.disk) (λ image is. now.2 image (counts_now new.keep.disk (moment new.keep.disk) image (omega arith) is)));
+        stands = fits-stand new.keep run.after run.fits;
+        synced = sync.synced;
+        only = sync.only;
+        before = weaker moment left_since old sync.synced (Image (content old)) (RecoversOf may) sync.before (λ image now. image-all may (content old) image all now);
+        after = (kept.1, record { later = kept.0; each = kept.2 });
         crash = (left.1, record { later = left.0; each = left.2 });
+        stood = λ earlier later is. stood-at arrivals first run.turns last node.keep new.keep run.served start run.steps earlier later is;
+        numbers = served-follows itself commands arrivals first run.turns last run.served (λ b is. absurd (cc is));
       }

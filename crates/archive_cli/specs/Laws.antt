@@ -1,14 +1,22 @@
--- The law of runs in order.
+-- The laws of transcripts, and of runs in order.
 use Rattle.std.specs.Prelude.{◌≡◌, ◌⊎◌, ℕ, List, Some}
 use Rattle.arch_base.specs.declared.config.Config.{Config}
 use Rattle.disk_model.specs.Disk.{Files, Content, Image}
 use Rattle.edge_io.specs.Coming.{IsFirst}
+use Rattle.edge_io.specs.Scripts.{Arrival}
 use Rattle.arch_model.specs.Archives.{Archive, empty_archive, live, text_of}
 use Rattle.arch_model.specs.Delivery.{delivered, removed}
 use Rattle.epoch_store.specs.Recovery.{Recovers}
 use Rattle.archive_cli.specs.declared.words.Job.TheVariants.{Init, Deliver, Remove}
 use Rattle.archive_cli.specs.Words.{AsksFor}
 use Rattle.archive_cli.specs.Program.{Edges, RanTo, IsInput, AsksForInit, AsksForCommand, message_of, made_at}
+use Rattle.archive_cli.specs.Turns.{Transcript, plain_transcript}
+
+-- What the plain function prints of a script is a transcript of it: the one in which no allocation
+-- fails.
+abbrev pub PlainIsTranscript : Type 0
+PlainIsTranscript = (config : Config) (arrivals : List Arrival)
+    → Transcript config arrivals (plain_transcript config arrivals)
 
 -- The words ask for a delivery, and the archive is one with the message on the input of these edges,
 -- at their first moment to come.

@@ -2,7 +2,10 @@
 use Rattle.std.specs.Prelude.{◌≡◌, ◌<◌, ◌⊎◌, ℕ, Bool, true, false, List, [], ◌∷◌, ◌++◌, map, length, All, Option, Some, None}
 use Rattle.std.specs.Option.{option_to_list, unwrap_or}
 use Rattle.arch_base.specs.declared.config.Config.{Config}
-use Rattle.archive_cli.specs.Words.{setting_word, IsSetting, IsMade, EachOnce, limit_of, slice_of, max_of, mirror_of, limits, slices, maxes, mirrors}
+use Rattle.archive_cli.specs.Words.{setting_word, Gives, IsSetting, IsMade, EachOnce, limit_of, slice_of, max_of, mirror_of, limits, slices, maxes, mirrors}
+use Rattle.archive_cli.specs.declared.words.Job.{Job}
+use Rattle.archive_cli.specs.declared.words.Job.TheVariants.{Serve}
+use Rattle.archive_cli.specs.declared.words.ServeOption.{ServeOption}
 use Rattle.archive_cli.specs.declared.words.Setting.{Setting}
 use Rattle.archive_cli.specs.declared.words.Settings.{Settings}
 
@@ -68,3 +71,9 @@ abbrev pub IsConfigured : List (List ℕ) → Option Config → Type 0
 IsConfigured words (Some config) = (settings : List Setting) × IsMade words settings config
 IsConfigured words None = (settings : List Setting) (config : Config)
     → IsMade words settings config → ⊥
+
+-- The serving that options give, or none if two are of one kind.
+abbrev pub IsServing : List ServeOption → Option Job → Type 0
+IsServing options (Some job) = (turns : ℕ) × (port : ℕ) × (job ≡ Serve turns port)
+    × Gives options turns port
+IsServing options None = (turns port : ℕ) → Gives options turns port → ⊥

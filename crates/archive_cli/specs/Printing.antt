@@ -1,16 +1,22 @@
 -- How what is due is printed, and what is read of the input.
-use Rattle.std.specs.Prelude.{◌≡◌, ◌<◌, ◌≤◌, ◌⊎◌, ◌+◌, ℕ, List, ◌++◌, length, take, codes, Option, Result, Ok, Err, is_ok, if◌then◌else◌}
+use Rattle.std.specs.Prelude.{◌≡◌, ◌<◌, ◌≤◌, ◌⊎◌, ◌+◌, ℕ, List, [], ◌++◌, length, take, codes, Option, Result, Ok, Err, is_ok, if◌then◌else◌}
 use Rattle.arch_base.specs.Counts.{Rose}
 use Rattle.arch_base.specs.declared.config.Config.{Config}
 use Rattle.edge_io.specs.Phrases.{Says}
+use Rattle.edge_io.specs.Scripts.{Arrival}
 use Rattle.edge_io.specs.declared.sink.SinkFault.{SinkFault}
 use Rattle.disk_model.specs.Disk.{Content}
 use Rattle.answer_lines.specs.Lines.{whole_line}
 use Rattle.archive_cli.specs.declared.outcome.Outcome.{Outcome}
-use Rattle.archive_cli.specs.Program.{Edges, NoneFailed, EndsBy, DeliverActs, IsSilent, IsInput, input_limit, message_of, Replays, StopsShort}
+use Rattle.archive_cli.specs.Program.{Edges, NoneFailed, EndsBy, DeliverActs, IsSilent, IsInput, input_limit, message_of, PlaysPart, Replays, StopsShort}
 use Rattle.edge_io.specs.Left.{before, IsUsedUp}
+use Rattle.archive_cli.specs.Serving.{ServeRun, run_line, run_status}
+use Rattle.archive_cli.specs.Statuses.{code_of}
 use Rattle.archive_cli.specs.declared.status.Status.{Status}
 use Rattle.archive_cli.specs.declared.status.Status.TheVariants as exit
+use Rattle.archive_cli.specs.Turns.{Transcript}
+use Rattle.archive_cli.specs.declared.playing.Played.{Played}
+use Rattle.archive_cli.specs.declared.playing.Played.TheVariants.{Whole, Cut}
 use Rattle.archive_cli.specs.declared.reading.Piece.{Piece}
 use Rattle.archive_cli.specs.declared.reading.Piece.TheVariants.{End, More}
 use Rattle.archive_cli.specs.declared.reading.InputRefusal.{InputRefusal}
@@ -36,6 +42,12 @@ pub record Exactly (words : List ℕ) (status due_status : Status) (printed : Li
 abbrev pub IsReplayDue : Config → List ℕ → Status → List ℕ → Type 0
 IsReplayDue config input status printed = Replays config input status printed
     ⊎ StopsShort config input status printed
+
+-- What was played of a script, with this text and these events, over an empty archive with these
+-- settings.
+abbrev pub IsPlayedAs : Config → List ℕ → List Arrival → Played → Type 0
+IsPlayedAs config text arrivals (Whole frames) = Transcript config arrivals frames
+IsPlayedAs config text arrivals (Cut frames) = (frames ≡ []) ⊎ PlaysPart config text frames
 
 -- One more piece of the input was appended, and the bytes are at most `most`; or none remains; or
 -- the source failed; or memory ran out for a piece, which was taken all the same. The count of faults
@@ -107,3 +119,9 @@ InputDone status i j =
     × JobDone (DeliverActs (message_of input)) status i j)
     ⊎ (Printed (IsUnread i j) status i.taken i.lost j.taken j.lost
     ⊎ (IsSilent status i j × Rose i.unread j.unread))
+
+-- What is due of a run of `serve` was printed, or the output failed; and this is the number of the
+-- status.
+abbrev pub RunPrinted : ServeRun → ℕ → Option (List ℕ) → ℕ → Option (List ℕ) → ℕ → Type 0
+RunPrinted run code out lost out' lost' = (status : Status) × (code ≡ code_of status)
+    × Printed (Exactly (run_line run) (run_status run)) status out lost out' lost'

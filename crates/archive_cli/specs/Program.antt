@@ -21,7 +21,7 @@ use Rattle.archive_cli.specs.Outcomes.{outcome_line, status_of}
 use Rattle.archive_cli.specs.Statuses.{code_of}
 use Rattle.archive_cli.specs.Words.{IsJob, AsksFor}
 use Rattle.archive_cli.specs.Serving.{ServeRun, Shut, run_status, run_line}
-use Rattle.archive_cli.specs.Turns.{Transcript}
+use Rattle.archive_cli.specs.Turns.{Transcript, TranscriptFront}
 use Rattle.archive_cli.specs.declared.words.Job.{Job}
 use Rattle.archive_cli.specs.declared.words.Job.TheVariants.{Help, Version, Replay, Init, Deliver, Remove, Check, Serve}
 use Rattle.archive_cli.specs.declared.outcome.Outcome.{Outcome}
@@ -213,12 +213,21 @@ pub record Does (words : List (List ℕ)) (input : List ℕ) (i j : Edges) (stat
   pub asked : IsJob words job
   pub ends : Ends job input i j status printed
 
--- Out of memory, a script isn't read; or it is, and its events were played: whatever frames of them
--- were collected are printed, and then a line that tells of it.
+-- The input is a script, whose events up to the first stop were played while memory ran out. The
+-- frames are those of so many of its first events.
+pub record PlaysPart (config : Config) (input : List ℕ) (frames : List ℕ) : Type 0 where
+  pub short : length input ≤ input_limit
+  pub arrivals : List Arrival
+  pub script : IsScript arrivals input
+  pub front : TranscriptFront config arrivals frames
+
+-- Out of memory, a script isn't played; or all of it is, and the frames of its first events are
+-- printed, and then a line that tells of it.
 pub record StopsShort (config : Config) (input : List ℕ) (status : Status) (printed : List ℕ)
     : Type 0 where
   pub status_is : status ≡ exit.Memory
   pub frames : List ℕ
+  pub played : (frames ≡ []) ⊎ PlaysPart config input frames
   pub printed_is : printed ≡ frames ++ whole_line (codes "12 no memory")
 
 -- The words ask for a replay, which ran out of memory. No device failed.

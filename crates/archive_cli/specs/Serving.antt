@@ -1,22 +1,28 @@
 -- How serving the archive on a disk ends, and what it does there.
-use Rattle.std.specs.Prelude.{◌≡◌, ◌≤◌, ◌⊎◌, ℕ, List, [], ◌∷◌, Bool, true, false, Option}
-use Rattle.arch_base.specs.Counts.{Rose}
-use Rattle.disk_model.specs.Disk.{Files, Content, LeavesOnly}
-use Rattle.edge_io.specs.Hosts.{Told}
+use Rattle.std.specs.Prelude.{◌≡◌, ◌≤◌, ℕ, List, [], ◌∷◌, ◌++◌, Bool, Option, Some, Ok, Err}
+use Rattle.std.specs.List.{Contains}
+use Rattle.arch_base.specs.Counts.{RoseIf}
+use Rattle.disk_model.specs.Disk.{Files, Content, Told, WhereTold, LeavesOnly}
+use Rattle.edge_io.specs.Hosts as hosts
 use Rattle.edge_io.specs.Scripts.{Arrival}
 use Rattle.keep_course.specs.Courses.{archives_of}
 use Rattle.arch_model.specs.Archives.{Archive}
-use Rattle.arch_model.specs.Standing.{Standing, one_of, IsFound}
+use Rattle.arch_model.specs.Following.{Follows}
+use Rattle.arch_model.specs.Standing.{Standing, one_of}
 use Rattle.arch_model.specs.declared.opening.OpenRefusal.{OpenRefusal}
 use Rattle.arch_model.specs.declared.opening.OpenRefusal.TheVariants as opening
-use Rattle.epoch_store.specs.Opens.{ReadsAs, RecoversOf, RecoversOfWith, AllRecoverWith}
+use Rattle.epoch_store.specs.Files.{as_read}
+use Rattle.epoch_store.specs.Opens.{Opens, IsOnlySynced, ReadsAs, RecoversOf, RecoversOfWith, AllRecoverOf, AllRecoverWith}
+use Rattle.epoch_store.specs.Stores.{View}
+use Rattle.archive_core.specs.Openings.{LeavesKindly}
 use Rattle.answer_lines.specs.Lines.{whole_line, memory_word}
 use Rattle.node_serve.specs.Ends.{EndsBy, given_after, before_all}
+use Rattle.node_serve.specs.Plain.{last_world}
 use Rattle.node_serve.specs.Turns.{Turn, Served, passed_in}
 use Rattle.node_serve.specs.World.{Outer, World}
 use Rattle.node_serve.specs.declared.serving.ServeEnd.{ServeEnd}
 use Rattle.node_serve.specs.declared.serving.ServeEnd.TheVariants as end
-use Rattle.archive_cli.specs.DiskCommands.{StandsAs}
+use Rattle.archive_cli.specs.DiskCommands.{StandsAs, StaysUnopened}
 use Rattle.archive_cli.specs.Outcomes.{refusal_line, refusal_status}
 use Rattle.archive_cli.specs.Turns.{IsStart}
 use Rattle.archive_cli.specs.declared.status.Status.{Status}
@@ -53,12 +59,12 @@ run_line (Ended how) = end_line how
 -- The host of a run: the events that it gave and has left, its count of faults, and the outside of
 -- its connections with the disk's count of faults.
 pub record Hosted : Type 0 where
-  pub given : Told
-  pub left : Told
+  pub given : hosts.Told
+  pub left : hosts.Told
   pub faults : ℕ
   pub out : Outer
 
-abbrev pub hosted : Told → Told → ℕ → Outer → Hosted
+abbrev pub hosted : hosts.Told → hosts.Told → ℕ → Outer → Hosted
 hosted given left faults out = record { given = given; left = left; faults = faults; out = out }
 
 -- A run took these events from its host, which gave no others.
@@ -67,12 +73,26 @@ pub record TookFrom (arrivals : List Arrival) (i j : Hosted) : Type 0 where
   pub left_is : i.left ≡ before_all arrivals j.left
   pub later : i.faults ≤ j.faults
 
--- How a run ended, by the events that it took.
-abbrev pub RunBy : ServeRun → List Arrival → ℕ → Hosted → Hosted → Type 0
-RunBy (Shut why) arrivals turns i j = (arrivals ≡ []) × (j.faults ≡ i.faults)
-RunBy (Ended how) arrivals turns i j =
-    EndsBy how false arrivals turns j.left i.faults j.faults
-    ⊎ EndsBy how true arrivals turns j.left i.faults j.faults
+-- All of the host of a run stayed: it wasn't asked, and nothing was sent. The disk's count of faults
+-- is its own.
+pub record HostKept (i j : Hosted) : Type 0 where
+  pub given_kept : j.given ≡ i.given
+  pub left_kept : j.left ≡ i.left
+  pub faults_kept : j.faults ≡ i.faults
+  pub taken_kept : j.out.taken ≡ i.out.taken
+  pub closings_kept : j.out.closings ≡ i.out.closings
+  pub lost_kept : j.out.lost ≡ i.out.lost
+
+-- The archive of a standing follows an archive, and the one in doubt there follows the standing's:
+-- no number of the one names a second message in the other.
+pub record FollowsIn (a : Archive) (s : Standing) : Type 0 where
+  pub archive : Follows a s.archive
+  pub doubt : (b : Archive) → s.doubt ≡ Some b → Follows s.archive b
+
+-- Each of these standings follows the archive of the one before it.
+abbrev pub FollowOn : Archive → List Standing → Type 0
+FollowOn a [] = Unit {0}
+FollowOn a (s ∷ ss) = FollowsIn a s × FollowOn s.archive ss
 
 -- A disk, by its content and by what each crash since a moment may have left.
 module _ {D : Type 0} (content : D → Option Content) (moment : D → ℕ)
@@ -83,14 +103,26 @@ module _ {D : Type 0} (content : D → Option Content) (moment : D → ℕ)
     pub later : moment old ≤ moment new
     pub each : (image : Files) → left_since new (moment old) image → RecoversOfWith cache may image
 
+  -- The disk stood for the archive of a standing, or for the one in doubt there. A crash since then
+  -- leaves one of the two, or an archive of a standing after one of the acts of later turns, or one
+  -- that was in doubt there.
+  pub record StoodFor (s : Standing) (later : List Turn) (new : D) : Type 0 where
+    pub at : D
+    pub stood : (cache : List ℕ) × AllRecoverWith cache (one_of s) (content at)
+    pub crash : (cache : List ℕ) × CrashLeaves at new cache (archives_of (s ∷ passed_in later))
+
   -- The archive that the disk read as was found, and the events were taken to their end, one after
-  -- another, each with its replies over the archive of that moment. A crash since the run began
-  -- leaves an archive of the standing before it, or one that stood after one of the acts, or one that
-  -- was in doubt there.
-  pub record ServedOn (s : Standing) (old new : D) (arrivals : List Arrival) (i j : Hosted)
-      : Type 0 where
+  -- another, each with its replies over the archive of that moment.
+  --
+  -- Until the disk was synced, a crash leaves what it might have left before; from then on the archive
+  -- that was found, or one of a standing after one of the acts, or one in doubt there. Before each
+  -- event, and after the last one, the disk stood for the archive of that moment, and a crash since
+  -- then leaves that one or a later one: so no acknowledged command is lost. No number names a second
+  -- message.
+  pub record ServedOn (may : List (Option Archive)) (old new : D) (arrivals : List Arrival)
+      (i j : Hosted) : Type 0 where
     pub found : Archive
-    pub is_found : IsFound s found
+    pub is_among : Contains may (Some found)
     pub reads : ReadsAs found (content old)
     pub first : World
     pub starts : IsStart found first
@@ -100,16 +132,40 @@ module _ {D : Type 0} (content : D → Option Content) (moment : D → ℕ)
     pub last_out : last.out ≡ j.out
     pub served : Served arrivals first turns last
     pub stands : (cache : List ℕ) × AllRecoverWith cache (one_of last.standing) (content new)
-    pub crash : (cache : List ℕ) × CrashLeaves old new cache (archives_of (s ∷ passed_in turns))
+    pub synced : D
+    pub only : Told IsOnlySynced (content old) (content synced)
+    pub before : LeavesOnly moment left_since old synced (RecoversOf may)
+    pub after : (cache : List ℕ)
+        × CrashLeaves synced new cache (archives_of (first.standing ∷ passed_in turns))
+    pub crash : (cache : List ℕ) × CrashLeaves old new cache (may ++ archives_of (passed_in turns))
+    pub stood : (earlier later : List Turn) → turns ≡ earlier ++ later
+        → StoodFor (last_world first earlier).standing later new
+    pub numbers : FollowOn found (passed_in turns)
 
-  -- What a run of `serve` did: it took these events, and ended by them; and whatever the disk stood
-  -- for, they were served, if it was opened.
-  pub record ServesDisk (turns : ℕ) (run : ServeRun) (old new : D) (i j : Hosted) : Type 0 where
+  -- The archive wasn't opened. The refusal is that of the files as they read, the disk is left as it
+  -- stood, and the host wasn't asked. The disk's count of faults rose exactly if it failed.
+  pub record ShutOut (why : OpenRefusal) (old new : D) (i j : Hosted) : Type 0 where
+    pub kept : HostKept i j
+    pub answer : WhereTold (λ k. Opens (as_read k) (Err why)) (content old)
+    pub unopened : LeavesKindly why (content old) (content new)
+    pub crash : (may : List (Option Archive)) → AllRecoverOf may (content old)
+        → LeavesOnly moment left_since old new (RecoversOf may)
+    pub stands : (s : Standing) → StandsAs s (content old) → (t : Standing)
+        × StandsAs t (content new) × StaysUnopened s (content old) why t
+    pub cause : RoseIf (why ≡ opening.DiskFault) i.out.disk j.out.disk
+
+  -- The archive was opened, and serving took these events and ended by them. Whichever archives the
+  -- disk may have stood for, they were served.
+  pub record ServedBy (how : ServeEnd) (turns : ℕ) (old new : D) (i j : Hosted) : Type 0 where
     pub arrivals : List Arrival
     pub took : TookFrom arrivals i j
-    pub ends : RunBy run arrivals turns i j
-    pub served : (how : ServeEnd) → run ≡ Ended how → (s : Standing) → StandsAs s (content old)
-        → ServedOn s old new arrivals i j
-    pub shut : (why : OpenRefusal) → run ≡ Shut why → (s : Standing) → StandsAs s (content old)
-        → LeavesOnly moment left_since old new (RecoversOf (one_of s))
-    pub fault : run ≡ Shut opening.DiskFault → Rose i.out.disk j.out.disk
+    pub none : Bool
+    pub ends : EndsBy how none arrivals turns j.left i.faults j.faults
+    pub answer : WhereTold (λ k. (v : View) × Opens (as_read k) (Ok v)) (content old)
+    pub served : (may : List (Option Archive)) → AllRecoverOf may (content old)
+        → ServedOn may old new arrivals i j
+
+  -- What a run of `serve` did, by how it ended.
+  abbrev pub ServesDisk : ℕ → ServeRun → D → D → Hosted → Hosted → Type 0
+  ServesDisk turns (Shut why) old new i j = ShutOut why old new i j
+  ServesDisk turns (Ended how) old new i j = ServedBy how turns old new i j

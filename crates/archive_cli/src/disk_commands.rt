@@ -16,7 +16,7 @@ ghost use Rattle.archive_cli.specs.DiskCommands.{Makes, unmade, TakesTo, ChecksT
 use crate::outcome::Outcome;
 use arch_base::Config;
 use arch_model::{Answer, Command};
-use archive_core::{Engine, NotMade, NotOpened};
+use archive_core::{CountedArchive, Engine, NotMade, NotOpened};
 use disk_model::Disk;
 use epoch_store::InitRefusal;
 use std::alloc::Global;
@@ -92,15 +92,16 @@ pub(crate) fn check<D: Disk>(alloc: Global, disk: D) -> (Outcome, D)
     ensures kind { IsCheck result.0 }
     ensures cause { RoseIf (IsFault result.0) (D.faults disk) (D.faults result.1) }
 {
-    match Engine::open(alloc, disk) {
-        Ok(engine) => {
+    let mut disk = disk;
+    match CountedArchive::open(alloc, &mut disk) {
+        Ok(counted) => {
             let counts = Outcome::Checked {
-                entries: engine.entry_count(),
-                live: engine.message_count(),
-                next: engine.next_of_root(),
+                entries: counted.entry_count(),
+                live: counted.message_count(),
+                next: counted.next_of_root(),
             };
-            (counts, engine.into_disk())
+            (counts, disk)
         }
-        Err(NotOpened { disk, why }) => (Outcome::Unopened(why), disk),
+        Err(why) => (Outcome::Unopened(why), disk),
     }
 }

@@ -1,7 +1,16 @@
-//! The law of runs in order, for all words, inputs and faults.
-ghost use Rattle.archive_cli.specs.Laws.{RunsInARow};
+//! The laws of scripts, for all events, and of runs in order, for all words, inputs and faults.
+ghost use Rattle.archive_cli.specs.Laws.{PlainIsTranscript, RunsInARow};
 
 use arch_model::numbers_keep_their_texts;
+use node_serve::plain_law;
+
+/// Shows that what the plain function prints of a script is a transcript of it: the one in which no
+/// allocation fails.
+pub fn plain_is_transcript()
+    ensures { PlainIsTranscript }
+{
+    plain_law();
+}
 
 /// Shows what a crash leaves after `init` and two commands on one disk, each `deliver` or `remove`, by
 /// the clause `ends` of `run` alone.

@@ -13,7 +13,7 @@ mod status;
 mod texts;
 mod words;
 
-pub use laws::runs_in_a_row;
+pub use laws::{plain_is_transcript, runs_in_a_row};
 pub use playing::{CountedKeep, play_script};
 pub use program::{print_no_memory, run};
 pub use status::Status;

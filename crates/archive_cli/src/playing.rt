@@ -6,13 +6,13 @@ ghost use Rattle.answer_lines.specs.Lines.{whole_line};
 ghost use Rattle.edge_io.specs.Phrases.{Says};
 ghost use Rattle.edge_io.specs.Scripts.{Arrival, IsArrival, IsScript};
 ghost use Rattle.edge_io.specs.ScriptHosts.{IsNewScriptHost};
-ghost use Rattle.archive_cli.specs.Printing.{Printed, IsReplayDue};
+ghost use Rattle.archive_cli.specs.Printing.{Printed, IsPlayedAs, IsReplayDue};
 ghost use Rattle.archive_cli.specs.Program.{input_limit};
 
 use crate::program::{print, print_no_memory};
 use crate::status::Status;
 use answer_lines::say_memory;
-use arch_base::NoMemory;
+use arch_base::{Bytes, NoMemory};
 use arch_model::Keep;
 use archive_core::Engine;
 use disk_model::MemDisk;
@@ -63,37 +63,38 @@ pub fn play_script<K: CountedKeep + Drop, O: Sink>(
         return print_no_memory(out);
     }
     match ScriptHost::new(alloc, events) {
-        Ok(host) => play_over(alloc, keep, host, out),
+        Ok(host) => print_played(play_over(alloc, keep, host), out),
         Err(NoMemory) => print_no_memory(out),
     }
 }
 
-/// Plays the events of a new host over a keeper, and prints their frames.
-fn play_over<K: CountedKeep + Drop, O: Sink>(
-    alloc: Global,
-    keep: K,
-    host: ScriptHost,
-    out: &mut O,
-) -> Status
+/// What was played of a script.
+#[derive(Drop)]
+enum Played {
+    /// All of it. These are its frames.
+    Whole(Bytes),
+    /// Memory ran out. These are the frames of the first events, or none.
+    Cut(Bytes),
+}
+
+/// Plays the events of a new host over a keeper.
+fn play_over<K: CountedKeep + Drop>(alloc: Global, keep: K, host: ScriptHost) -> Played
     requires unfailed { K.faults keep ≡ 0 }
-    ensures printed { (arrivals : List Arrival) → IsNewScriptHost arrivals host
+    ensures { (arrivals : List Arrival) → IsNewScriptHost arrivals host
         → (config : Config) → K.holds keep (empty_archive config)
         → (text : List ℕ) → IsScript arrivals text → length text ≤ input_limit
-        → Printed (IsReplayDue config text) result (O.taken out.old) (O.faults out.old)
-        (O.taken out.new) (O.faults out.new) }
-    ensures sink { O.alike out.old out.new }
+        → IsPlayedAs config text arrivals result }
 {
     let mut host = host;
     let mut node = Node::new(alloc, keep);
     let end = serve(alloc, &mut node, &mut host, ALL_EVENTS);
     let starved = host.starved();
-    let keep = node.into_keep();
-    let failed = keep.failed();
+    let failed = node.into_keep().failed();
     let frames = host.into_frames();
     if is_whole(end, starved, failed) {
-        return print(frames.as_slice(), Status::Done, out);
+        return Played::Whole(frames);
     }
-    Status::Memory.if_taken(say_cut(frames.as_slice(), out))
+    Played::Cut(frames)
 }
 
 /// Returns whether all events were played, and no memory ran out at the host or the disk.
@@ -106,7 +107,22 @@ fn is_whole(end: ServeEnd, starved: u64, failed: u64) -> bool
     }
 }
 
-/// Writes the frames of a script, and that memory ran out.
+/// Prints the frames of a script, and a line after them if memory ran out.
+fn print_played<O: Sink>(played: Played, out: &mut O) -> Status
+    ensures printed { (config : Config) (text : List ℕ) (arrivals : List Arrival)
+        → IsPlayedAs config text arrivals played → IsScript arrivals text
+        → length text ≤ input_limit
+        → Printed (IsReplayDue config text) result (O.taken out.old) (O.faults out.old)
+        (O.taken out.new) (O.faults out.new) }
+    ensures sink { O.alike out.old out.new }
+{
+    match played {
+        Played::Whole(frames) => print(frames.as_slice(), Status::Done, out),
+        Played::Cut(frames) => Status::Memory.if_taken(say_cut(frames.as_slice(), out)),
+    }
+}
+
+/// Writes frames, and that memory ran out.
 fn say_cut<O: Sink>(frames: &[u8], out: &mut O) -> Result<(), SinkFault>
     ensures said { Says (frames.now ++ whole_line (codes "12 no memory")) (O.taken out.old)
         (O.faults out.old) (O.taken out.new) (O.faults out.new) result }

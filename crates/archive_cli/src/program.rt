@@ -11,10 +11,9 @@ ghost use Rattle.arch_model.specs.Standing.{Standing};
 ghost use Rattle.archive_cli.specs.DiskCommands.{StandsAs, delivering, removing, taking};
 ghost use Rattle.archive_cli.specs.Outcomes.{outcome_line, status_of};
 ghost use Rattle.archive_cli.specs.Program.{RanTo, TakesInput, TookAtMost, LeavesDisk, AsksForInit, CommandActs, InitActs, IsInput, WordsLeave, InitLeaves, RunLeaves, RunLeavesAmong, all_edges, edges, input_limit, message_limit, message_of, made_at};
-ghost use Rattle.archive_cli.specs.Printing.{Printed, Exactly, IsReplayDue, Replayed, JobDone, InputDone};
+ghost use Rattle.archive_cli.specs.Printing.{Printed, Exactly, IsReplayDue, Replayed, JobDone, InputDone, RunPrinted};
 ghost use Rattle.arch_base.specs.Configs.{IsConfig};
-ghost use Rattle.archive_cli.specs.Serving.{ServeRun, ServesDisk, hosted, run_status};
-ghost use Rattle.archive_cli.specs.Statuses.{code_of};
+ghost use Rattle.archive_cli.specs.Serving.{ServeRun, ServesDisk, hosted};
 ghost use Rattle.node_serve.specs.World.{outer};
 ghost use Rattle.edge_io.specs.Scripts.{IsArrival, IsScript};
 
@@ -85,10 +84,11 @@ pub fn run<D: Disk, H: Host, S: Source, O: Sink, C: Clock>(
         → AllRecoverOf may (D.content disk)
         → LeavesOnly D.moment D.left_since disk result.1 (RecoversOf may) }
     // What serving did: the events that it took, the replies to each over the archive of that moment,
-    // the disk then, and what a crash leaves. Its status is that of how it ended, or 6 if the output
-    // failed.
+    // the disk then, what a crash leaves, and why it ended. Its status and what is printed are those
+    // of how it ended, unless the output failed.
     ensures serve { (turns port : ℕ) → AsksFor (spelled words.now) (Serve turns port)
-        → (run : ServeRun) × ((result.0 ≡ code_of (run_status run)) ⊎ (result.0 ≡ 6))
+        → (run : ServeRun) × RunPrinted run result.0 (O.taken out.old) (O.faults out.old)
+        (O.taken out.new) (O.faults out.new)
         × ServesDisk D.content D.moment D.left_since turns run disk result.1
         (hosted (H.given host.old) (H.left host.old) (H.faults host.old)
         (outer (H.taken host.old) (H.closings host.old) (D.faults disk) (H.lost host.old)))

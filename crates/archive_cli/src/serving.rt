@@ -7,6 +7,7 @@ ghost use Rattle.node_serve.specs.World.{outer};
 use crate::outcome::Outcome;
 use crate::program::{print_no_memory, print_outcome};
 use crate::status::Status;
+use arch_model::{law_of_commands, law_of_numbers};
 use archive_core::{Engine, NotOpened};
 use disk_model::Disk;
 use edge_io::{Host, Sink};
@@ -37,6 +38,8 @@ pub(crate) fn serve_disk<D: Disk, H: Host, O: Sink>(
 {
     match Engine::open(alloc, disk) {
         Ok(engine) => {
+            law_of_commands();
+            law_of_numbers();
             let mut node = Node::new(alloc, engine);
             let end = serve(alloc, &mut node, host, turns);
             (print_end(end, out), node.into_keep().into_disk())

@@ -1,8 +1,8 @@
 //! The words of a command line.
-ghost use Rattle.std.specs.Prelude.{◌≡◌, ◌≢◌, ◌∷◌, [], codes, decimal};
+ghost use Rattle.std.specs.Prelude.{◌≡◌, ◌≢◌, ◌∷◌, [], Some, codes, decimal};
 ghost use Rattle.edge_io.specs.Parsing.{Spells};
 ghost use Rattle.archive_cli.specs.Words.{IsJob, IsSetting, IsServeOption, IsUpTo, setting_word, serve_word, spelled};
-ghost use Rattle.archive_cli.specs.Options.{IsCollected, IsConfigured, IsWith, config_by};
+ghost use Rattle.archive_cli.specs.Options.{IsCollected, IsConfigured, IsServing, IsWith, config_by};
 
 use arch_base::{Config, Name, read_decimal};
 
@@ -147,10 +147,22 @@ pub fn read_words(words: &[&str]) -> Option<Job>
     ensures { IsJob (spelled words.now) result }
 {
     match words {
-        [word, options @ ..] if *word == "serve" => read_serve(options),
-        [word] => read_one(word),
-        [word, name, options @ ..] => read_named(word, name, options),
+        [word, more @ ..] => read_command(word, more),
         _ => None,
+    }
+}
+
+/// Returns what a word and those after it ask for.
+#[tactic(auto, using(crate::proofs::Grammar::serve_named))]
+fn read_command(word: &str, more: &[&str]) -> Option<Job>
+    ensures { IsJob (word.now ∷ spelled more.now) result }
+{
+    if word == "serve" {
+        return read_serve(more);
+    }
+    match more {
+        [] => read_one(word),
+        [name, options @ ..] => read_named(word, name, options),
     }
 }
 
@@ -161,17 +173,27 @@ fn read_serve(options: &[&str]) -> Option<Job>
 {
     match options {
         [] => Some(served(MAX_TURNS, FIRST_PORT)),
-        [option] => match read_serve_option(option)? {
-            ServeOption::Turns(turns) => Some(served(turns, FIRST_PORT)),
-            ServeOption::Port(port) => Some(served(MAX_TURNS, port)),
-        },
-        [option, other] => match (read_serve_option(option)?, read_serve_option(other)?) {
-            (ServeOption::Turns(turns), ServeOption::Port(port)) => Some(served(turns, port)),
-            (ServeOption::Port(port), ServeOption::Turns(turns)) => Some(served(turns, port)),
-            _ => None,
-        },
+        [option] => read_option(option),
+        [option, other] => read_both_options(option, other),
         _ => None,
     }
+}
+
+/// Returns the serving that one option asks for.
+fn read_option(option: &str) -> Option<Job>
+    ensures { IsJob (codes "serve" ∷ option.now ∷ []) result }
+{
+    let option = read_serve_option(option)?;
+    Some(served_with(option))
+}
+
+/// Returns the serving that two options ask for.
+fn read_both_options(option: &str, other: &str) -> Option<Job>
+    ensures { IsJob (codes "serve" ∷ option.now ∷ other.now ∷ []) result }
+{
+    let option = read_serve_option(option)?;
+    let other = read_serve_option(other)?;
+    served_with_both(option, other)
 }
 
 /// Returns the job of serving at most so many events from a port on.
@@ -179,6 +201,27 @@ fn served(turns: u64, port: u16) -> Job
     ensures { result ≡ Job.Serve turns port }
 {
     Job::Serve { turns, port }
+}
+
+/// Returns the job of serving with an option.
+fn served_with(option: ServeOption) -> Job
+    ensures { IsServing (option ∷ []) (Some result) }
+{
+    match option {
+        ServeOption::Turns(turns) => served(turns, FIRST_PORT),
+        ServeOption::Port(port) => served(MAX_TURNS, port),
+    }
+}
+
+/// Returns the job of serving with two options, or `None` if they are of one kind.
+fn served_with_both(option: ServeOption, other: ServeOption) -> Option<Job>
+    ensures { IsServing (option ∷ other ∷ []) result }
+{
+    match (option, other) {
+        (ServeOption::Turns(turns), ServeOption::Port(port)) => Some(served(turns, port)),
+        (ServeOption::Port(port), ServeOption::Turns(turns)) => Some(served(turns, port)),
+        _ => None,
+    }
 }
 
 /// Returns the option of `serve` that a word spells, or `None` if it spells none.

@@ -15,13 +15,13 @@ const MAIL: &[u8] =
     b"From: Ann <ann@example.org>\nDate: Thu, 1 Feb 2024 10:00:00 +0000\nSubject: first\nMessage-ID: <a@x>\n\none\n";
 
 /// What its delivery to an archive without messages is answered, and then its removal.
-const TAKEN: &[u8] = b"1 ok 1 1d023c572ccd6f3cc82ae855343346b043adaba5\n";
+pub(crate) const TAKEN: &[u8] = b"1 ok 1 1d023c572ccd6f3cc82ae855343346b043adaba5\n";
 
 /// What is read of an archive without messages, of one with a message, and of one whose message was
 /// removed.
 const NONE: &[u8] = b"entries 0 live 0 next 1\n";
 
-const ONE: &[u8] = b"entries 1 live 1 next 2\n";
+pub(crate) const ONE: &[u8] = b"entries 1 live 1 next 2\n";
 
 const GONE: &[u8] = b"entries 2 live 0 next 2\n";
 
@@ -94,7 +94,7 @@ fn empty(alloc: Global) -> MemDisk {
 
 /// Runs words on an input over a disk. Returns the disk if the run ends with the status that is due
 /// and prints what is due.
-fn printing(alloc: Global, disk: MemDisk, due: &Due<'_>) -> Option<MemDisk> {
+pub(crate) fn printing(alloc: Global, disk: MemDisk, due: &Due<'_>) -> Option<MemDisk> {
     let (status, disk, sink) = ran_on(alloc, disk, due.words, due.input)?;
     if status == due.status && sink.taken() == due.printed {
         Some(disk)

@@ -170,6 +170,7 @@ fn asked(words: &[&str]) -> &'static str {
         Some(Job::Deliver) => "deliver",
         Some(Job::Remove { number: _ }) => "remove",
         Some(Job::Check) => "check",
+        Some(Job::Serve { turns: _, port: _ }) => "serve",
     }
 }
 
@@ -181,7 +182,7 @@ struct Request<'a> {
 }
 
 /// Words in the grammar.
-const JOBS: [Request<'_>; 10] = [
+const JOBS: [Request<'_>; 12] = [
     Request {
         words: &["--help"],
         job: "help",
@@ -221,6 +222,14 @@ const JOBS: [Request<'_>; 10] = [
     Request {
         words: &["init", "replay"],
         job: "init",
+    },
+    Request {
+        words: &["serve"],
+        job: "serve",
+    },
+    Request {
+        words: &["serve", "port=65500", "turns=9223372036854775808"],
+        job: "serve",
     },
 ];
 

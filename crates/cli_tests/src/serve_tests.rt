@@ -1,7 +1,7 @@
 //! Runs of `serve` over disks and hosts in memory.
 use crate::absent::Absent;
-use crate::disk_tests::Still;
-use crate::run_tests::{bytes, numbers};
+use crate::disk_tests::{ONE, Still, TAKEN, printing};
+use crate::run_tests::{Due, bytes, numbers};
 use arch_base::Numbers;
 use archive_cli::run;
 use disk_model::MemDisk;
@@ -86,6 +86,53 @@ fn serving_ends_by_its_events(rt: HostRuntime) {
     assert!(rt; ends(rt.alloc(), &["serve"], QUIET, &[], 0));
     assert!(rt; ends(rt.alloc(), &["serve", "turns=2"], b"1 q\n2 s\n", &[], 0));
     assert!(rt; ends(rt.alloc(), &["serve"], QUIET, &[2], 6));
+}
+
+/// A script that delivers a message and stops.
+const DELIVERS: &[u8] =
+    b"1706781700 o 1 control\n1706781700 b 1 115\ndeliver 103\nFrom: Ann <ann@example.org>\nDate: Thu, 1 Feb 2024 10:00:00 +0000\nSubject: first\nMessage-ID: <a@x>\n\none\n\n1706781701 s\n";
+
+/// A run that checks the archive.
+const COUNTED: Due<'_> = Due {
+    words: &["check"],
+    input: b"",
+    status: 0,
+    printed: ONE,
+};
+
+/// Serves that script over an archive. Returns the disk, if the connection took the answer.
+fn delivering(alloc: Global) -> Option<MemDisk> {
+    let disk = made(alloc)?;
+    let mut host = host(alloc, DELIVERS, &[])?;
+    let mut source = MemSource::new(alloc, bytes(alloc, b"")?, Numbers::new(alloc));
+    let mut sink = MemSink::new(alloc, Numbers::new(alloc));
+    let (status, disk) = run(
+        alloc,
+        &["serve"],
+        disk,
+        &mut host,
+        &mut source,
+        &mut sink,
+        &mut Still,
+    );
+    if status == 0 && host.taken(1) == TAKEN {
+        Some(disk)
+    } else {
+        None
+    }
+}
+
+/// Returns whether the program counts what was delivered while it was served.
+fn is_counted(alloc: Global) -> bool {
+    match delivering(alloc) {
+        None => false,
+        Some(disk) => printing(alloc, disk, &COUNTED).is_some(),
+    }
+}
+
+#[test]
+fn what_serving_acknowledged_is_there_afterwards(rt: HostRuntime) {
+    assert!(rt; is_counted(rt.alloc()));
 }
 
 /// Returns whether serving a disk without an archive ends with the status for that.

@@ -1,15 +1,17 @@
 use Rattle.std.proofs.Common.{Some, None, codes, refl, ℕ, subst}
 use Rattle.disk_model.specs.Moments.{weaker}
 use Rattle.answer_lines.specs.Lines.{whole_line}
+use Rattle.node_serve.specs.World.{outer}
 use Rattle.archive_cli.specs.DiskCommands.{removing}
 use Rattle.archive_cli.specs.Program.{CommandActs, InitActs, InitLeaves, RunLeaves, RunLeavesAmong, WordsLeave}
-use Rattle.archive_cli.specs.Serving.{run_line, run_status}
+use Rattle.archive_cli.specs.Serving.{hosted}
 use Rattle.archive_cli.specs.Words.{spelled}
 use Rattle.archive_cli.specs.declared.words.Job.TheVariants.{Help, Version, Init, Deliver, Remove}
 use Rattle.archive_cli.specs.declared.status.Status.TheVariants as exit
 use Rattle.archive_cli.specs.declared.texts.TheConstants.{HELP, VERSION}
 use Rattle.archive_cli.proofs.Grammar.{replay-config, init-config, same_number, same-serve}
-use Rattle.archive_cli.proofs.Printed.{ran-exactly, ran-replayed, ran-made, ran-delivered, ran-removed, ran-checked, ran-served, status-or, job-moved, some-moment}
+use Rattle.archive_cli.proofs.Printed.{ran-exactly, ran-replayed, ran-made, ran-delivered, ran-removed, ran-checked, ran-served, job-moved, some-moment}
+use Rattle.archive_cli.proofs.ServedDisk.{shut-faults}
 use Rattle.archive_cli.proofs.program.run.Goals as goal
 
 pub returns-in-None-clause-ends : goal.returns-in-None-clause-ends
@@ -110,13 +112,20 @@ returns-in-Some-Remove-clause-remove_among g c = λ may number asked all.
 pub returns-in-Some-Serve-clause-ends : goal.returns-in-Some-Serve-clause-ends
 returns-in-Some-Serve-clause-ends g c =
     let served = c.serve_disk-status.ensures.serves in
-    (c.serve_disk-status.result.0, c.code-in-Some-Serve.ensures, ran-served (spelled c.args.words.now) c.in-Some-Serve.turns c.in-Some-Serve.port served.0 c.serve_disk-status.result.0 _ _ (rw c.in-Some-Serve.field-0-is at c.in-Some-Serve.ensures) served.1.fault refl refl served.2)
+    let host = λ (h : g.row.H.Denot) (n : ℕ). hosted (g.H.Host.given h) (g.H.Host.left h) (g.H.Host.faults h) (outer (g.H.Host.taken h) (g.H.Host.closings h) n (g.H.Host.lost h)) in
+    let old = host c.args.host.now (g.D.Disk.faults c.args.disk) in
+    let new = host c.serve_disk-status.new.host (g.D.Disk.faults c.serve_disk-status.result.1) in (
+      c.serve_disk-status.result.0,
+      c.code-in-Some-Serve.ensures,
+      ran-served (spelled c.args.words.now) c.in-Some-Serve.turns c.in-Some-Serve.port served.0 c.serve_disk-status.result.0 _ _ (rw c.in-Some-Serve.field-0-is at c.in-Some-Serve.ensures)
+          (shut-faults g.D.Disk.content g.D.Disk.moment g.D.Disk.left_since c.in-Some-Serve.turns served.0 c.args.disk c.serve_disk-status.result.1 old new served.1) refl refl served.2,
+    )
 
 pub returns-in-Some-Serve-clause-serve : goal.returns-in-Some-Serve-clause-serve
 returns-in-Some-Serve-clause-serve g c = λ turns port asked.
     let same = same-serve (spelled c.args.words.now) turns port c.in-Some-Serve.turns c.in-Some-Serve.port asked (rw c.in-Some-Serve.field-0-is at c.in-Some-Serve.ensures) in
     let served = c.serve_disk-status.ensures.serves in
-    (served.0, status-or c.serve_disk-status.result.0 (run_status served.0) _ (run_line served.0) _ _ _ _ c.code-in-Some-Serve.ensures served.2, rw same.0 served.1)
+    (served.0, (c.serve_disk-status.result.0, c.code-in-Some-Serve.ensures, served.2), rw same.0 served.1)
 
 pub returns-in-Some-Serve-clause-host : goal.returns-in-Some-Serve-clause-host
 returns-in-Some-Serve-clause-host g c = λ none. absurd (none c.in-Some-Serve.turns c.in-Some-Serve.port (rw c.in-Some-Serve.field-0-is at c.in-Some-Serve.ensures))
