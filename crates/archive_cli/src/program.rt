@@ -123,7 +123,7 @@ pub fn run<D: Disk, H: Host, S: Source, O: Sink, C: Clock>(
             let (outcome, disk) = check(alloc, disk);
             (print_outcome(&outcome, out).code(), disk)
         }
-        Some(Job::Serve { turns, port: _ }) => {
+        Some(Job::Serve { turns, port: _port }) => {
             let (status, disk) = serve_disk(alloc, turns, disk, host, out);
             (status.code(), disk)
         }

@@ -117,15 +117,15 @@ returns-in-Some-Serve-clause-ends g c =
     let new = host c.serve_disk-status.new.host (g.D.Disk.faults c.serve_disk-status.result.1) in (
       c.serve_disk-status.result.0,
       c.code-in-Some-Serve.ensures,
-      ran-served (spelled c.args.words.now) c.in-Some-Serve.turns c.in-Some-Serve.port served.0 c.serve_disk-status.result.0 _ _ (rw c.in-Some-Serve.field-0-is at c.in-Some-Serve.ensures)
+      ran-served (spelled c.args.words.now) c.in-Some-Serve.turns c.in-Some-Serve._port served.0 c.serve_disk-status.result.0 _ _ (rw c.in-Some-Serve.field-0-is at c.in-Some-Serve.ensures)
           (shut-faults g.D.Disk.content g.D.Disk.moment g.D.Disk.left_since c.in-Some-Serve.turns served.0 c.args.disk c.serve_disk-status.result.1 old new served.1) refl refl served.2,
     )
 
 pub returns-in-Some-Serve-clause-serve : goal.returns-in-Some-Serve-clause-serve
 returns-in-Some-Serve-clause-serve g c = λ turns port asked.
-    let same = same-serve (spelled c.args.words.now) turns port c.in-Some-Serve.turns c.in-Some-Serve.port asked (rw c.in-Some-Serve.field-0-is at c.in-Some-Serve.ensures) in
+    let same = same-serve (spelled c.args.words.now) turns port c.in-Some-Serve.turns c.in-Some-Serve._port asked (rw c.in-Some-Serve.field-0-is at c.in-Some-Serve.ensures) in
     let served = c.serve_disk-status.ensures.serves in
     (served.0, (c.serve_disk-status.result.0, c.code-in-Some-Serve.ensures, served.2), rw same.0 served.1)
 
 pub returns-in-Some-Serve-clause-host : goal.returns-in-Some-Serve-clause-host
-returns-in-Some-Serve-clause-host g c = λ none. absurd (none c.in-Some-Serve.turns c.in-Some-Serve.port (rw c.in-Some-Serve.field-0-is at c.in-Some-Serve.ensures))
+returns-in-Some-Serve-clause-host g c = λ none. absurd (none c.in-Some-Serve.turns c.in-Some-Serve._port (rw c.in-Some-Serve.field-0-is at c.in-Some-Serve.ensures))
