@@ -1,6 +1,5 @@
 -- Lines that print a tree, and are no more than its nodes, are its lines.
 use Rattle.std.proofs.Common.{◌≡◌, ◌+◌, ◌≤◌, ℕ, zero, suc, List, [], ◌∷◌, ◌++◌, length, Result, Ok, Err, IfOk, refl, ◌∙◌, ap, arith, length-append}
-use Rattle.std.specs.List.{flat_map}
 use Rattle.thread_tree.specs.Trees.{Node, Prints, nothing, node, line_of, nodes, roots, under}
 use Rattle.thread_tree.specs.Laid.{lines_down, tree_lines}
 use Rattle.thread_tree.specs.declared.twigs.Twig.{Twig}

@@ -1,5 +1,5 @@
 -- Single steps of loops and maps.
-use Rattle.std.proofs.Common.{◌≡◌, ◌+◌, ◌-◌, ◌≤◌, ◌<◌, ℕ, zero, suc, Bool, true, false, cond, List, [], ◌∷◌, ◌++◌, length, map, take, get_or, filter, Option, Some, None, unwrap_or, if◌then◌else◌, bytes_eq, BTreeMap, refl, sym, ◌∙◌, ap, inl, inr, arith, MatchBool}
+use Rattle.std.proofs.Common.{◌≡◌, ◌+◌, ◌-◌, ◌≤◌, ◌<◌, ℕ, zero, suc, Bool, true, false, cond, List, [], ◌∷◌, ◌++◌, length, map, take, get_or, filter, Option, Some, None, is_some, ◌||◌, unwrap_or, if◌then◌else◌, bytes_eq, BTreeMap, refl, sym, ◌∙◌, ap, subst, inl, inr, arith, MatchBool}
 use Rattle.std.specs.Option.{option_map}
 use Rattle.std.specs.Ordering.{nat_cmp}
 use Rattle.std.specs.Cmp.Lexicographic.{slice_cmp}
@@ -13,7 +13,7 @@ use Rattle.thread_model.specs.Members.{Among}
 use Rattle.thread_model.proofs.Members.{any-among, among-any, among-push}
 use Rattle.thread_model.proofs.Texts.{found_after}
 use Rattle.thread_tree.specs.Trees.{Node, HaveOwnIds, last_other, lesser_by, names_id, or_else}
-use Rattle.thread_tree.specs.Facts.{NotesAbove, NotesNaming, NotesPlacing, above_at, above_value, at_id, is_lesser, placing_at, placing_value}
+use Rattle.thread_tree.specs.Facts.{AreIdsOf, NotesAbove, NotesNaming, NotesPlacing, above_at, above_value, at_id, is_lesser, placing_at, placing_value}
 use Rattle.thread_tree.specs.Nodes.{count_up, flag_at, jump_at, jump_of, kept_line, node_at, node_in, nodes_in}
 use Rattle.thread_tree.specs.declared.twigs.Twig.{Twig}
 use Rattle.thread_tree.specs.declared.lines.Line.{Line}
@@ -22,7 +22,7 @@ use Rattle.thread_tree.specs.declared.facts.Naming.{Naming}
 use Rattle.thread_tree.specs.declared.facts.Placing.{Placing}
 use Rattle.thread_tree.specs.declared.facts.Facts.{Facts}
 use Rattle.thread_tree.proofs.Doubling.{get-some}
-use Rattle.thread_tree.proofs.Kept.{last-push}
+use Rattle.thread_tree.proofs.Kept.{eq-swap, last-push}
 use Rattle.thread_tree.proofs.Lesser.{takes-lesser}
 
 -- An item that is there doesn't depend on what stands for a missing one.
@@ -154,6 +154,42 @@ contains-id ts id b is =
     let r = any-among (λ (u : Twig). bytes_eq u.id id) ts (sym is ∙ t) in
     (r.0, r.1, (bytes_eq-Decides r.0.id id).0 r.2))
     (λ f t h e. false≢true (sym f ∙ is ∙ among-any (λ (u : Twig). bytes_eq u.id id) ts t h ((bytes_eq-Decides t.id id).1 e)))
+
+-- The ids of messages, of one more.
+named-one : (b c : Bool) → b ≡ c → (b || false) ≡ (if c then true else false)
+named-one true true same = refl
+named-one true false same = absurd (false≢true (sym same))
+named-one false true same = absurd (false≢true same)
+named-one false false same = refl
+
+named-later : (b c later found : Bool) → later ≡ (if c then true else found) → (b || later) ≡ (if c then true else b || found)
+named-later true true later found ih = refl
+named-later true false later found ih = refl
+named-later false c later found ih = ih
+
+named-push : (ts : List Twig) (t : Twig) (q : List ℕ) → names_id (ts ++ t ∷ []) q ≡ (if bytes_eq q t.id then true else names_id ts q)
+named-push [] t q = named-one (bytes_eq t.id q) (bytes_eq q t.id) (eq-swap t.id q)
+named-push (u ∷ us) t q = named-later (bytes_eq u.id q) (bytes_eq q t.id) (names_id (us ++ t ∷ []) q) (names_id us q) (named-push us t q)
+
+some-if : {X : Type 0} (c : Bool) (v : X) (o : Option X) → is_some (if c then Some v else o) ≡ (if c then true else is_some o)
+some-if true v o = refl
+some-if false v o = refl
+
+ids-push : {X : Type 0} (ts : List Twig) (t : Twig) (old new : BTreeMap (Vec ℕ) X) (v : X) → AreIdsOf ts old → ((q : List ℕ) → at_id new q ≡ (if bytes_eq q t.id then Some v else at_id old q)) → AreIdsOf (ts ++ t ∷ []) new
+ids-push ts t old new v are put = λ q.
+    ap is_some (put q)
+    ∙ some-if (bytes_eq q t.id) v (at_id old q)
+    ∙ ap (λ (b : Bool). if bytes_eq q t.id then true else b) (are q)
+    ∙ sym (named-push ts t q)
+
+-- Messages and the index of their ids, of one message more.
+pub added-kept : (ts room new : List Twig) (t : Twig) (id : List ℕ) (old index : BTreeMap (Vec ℕ) ℕ) (v : ℕ) → new ≡ room ++ t ∷ [] → room ≡ ts → HaveOwnIds ts × AreIdsOf ts old → ((u : Twig) → Among ts u → u.id ≡ id → ⊥) → t.id ≡ id → ((q : List ℕ) → at_id index q ≡ (if bytes_eq q id then Some v else at_id old q))
+    → HaveOwnIds new × AreIdsOf new index
+added-kept ts room new t id old index v pushed same kept fresh own put =
+    subst (λ (us : List Twig). HaveOwnIds us × AreIdsOf us index) (sym (pushed ∙ ap (λ (us : List Twig). us ++ t ∷ []) same)) (
+      own-push ts t kept.0 (λ u h e. fresh u h (e ∙ own)),
+      ids-push ts t old index v kept.1 (λ q. put q ∙ ap (λ (b : List ℕ). if bytes_eq q b then Some v else at_id old q) (sym own)),
+    )
 
 -- A list without length.
 pub none-by-length : {X : Type 0} (xs : List X) → length xs ≡ 0 → xs ≡ []

@@ -1,5 +1,5 @@
 -- What is kept of messages, by ids.
-use Rattle.std.specs.Prelude.{◌≡◌, ℕ, Bool, true, List, [], ◌∷◌, nat_lt, Option, Some, None, is_none, if◌then◌else◌}
+use Rattle.std.specs.Prelude.{◌≡◌, ℕ, Bool, true, List, [], ◌∷◌, nat_lt, Option, Some, None, is_none, is_some, if◌then◌else◌}
 use Rattle.std.specs.Option.{option_map}
 use Rattle.std.specs.Str.{bytes_eq}
 use Rattle.std.specs.Ordering.{nat_cmp}
@@ -7,7 +7,7 @@ use Rattle.std.specs.Cmp.Lexicographic.{slice_cmp}
 use Rattle.std.specs.BTreeMap.{BTreeMap, get_by}
 use Rattle.std.specs.Global.{Vec}
 use Rattle.thread_model.specs.Members.{has}
-use Rattle.thread_tree.specs.Trees.{Node, before, last_other, lesser_by, message_of, named_by}
+use Rattle.thread_tree.specs.Trees.{Node, before, last_other, lesser_by, message_of, named_by, names_id}
 use Rattle.thread_tree.specs.declared.twigs.Twig.{Twig}
 use Rattle.thread_tree.specs.declared.facts.Above.{Above}
 use Rattle.thread_tree.specs.declared.facts.Naming.{Naming}
@@ -17,6 +17,10 @@ use Rattle.thread_tree.specs.declared.facts.Facts.{Facts}
 -- The value of an id in a map by ids.
 abbrev pub at_id : {X : Type 0} → BTreeMap (Vec ℕ) X → List ℕ → Option X
 at_id values id = get_by (λ (k : Vec ℕ). slice_cmp nat_cmp id k.items) values
+
+-- An index has the ids of messages, and no others.
+abbrev pub AreIdsOf : {X : Type 0} → List Twig → BTreeMap (Vec ℕ) X → Type 0
+AreIdsOf twigs index = (q : List ℕ) → is_some (at_id index q) ≡ names_id twigs q
 
 -- Whether a number is less than one that may be there, or none is there.
 abbrev pub is_lesser : ℕ → Option ℕ → Bool

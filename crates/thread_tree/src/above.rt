@@ -1,5 +1,5 @@
 //! What each node stands under, by its index.
-ghost use Rattle.std.specs.Prelude.{◌≡◌, Some, IfOk, OnOk, if◌then◌else◌, ℕ, List};
+ghost use Rattle.std.specs.Prelude.{◌≡◌, Some, IfOk, OnErr, OnOk, if◌then◌else◌, ℕ, List};
 ghost use Rattle.std.specs.Str.{bytes_eq};
 ghost use Rattle.thread_tree.specs.Facts.{at_id, kept_up};
 ghost use Rattle.thread_tree.specs.Nodes.{AreClosed, AreUps, HaveNodeIds, IsIndexOf, index_bound, nodes_in};
@@ -10,13 +10,21 @@ use arch_base::NoMemory;
 use std::alloc::Global;
 use std::collections::BTreeMap;
 
-/// Indices of nodes by their ids.
-type NodeIndex = BTreeMap<Vec<u8>, usize>;
+/// Indices by ids.
+pub(crate) type IdIndex = BTreeMap<Vec<u8>, usize>;
 
 /// Puts the index of an id into an index.
-fn put_index(alloc: Global, index: &mut NodeIndex, id: &[u8], i: usize) -> Result<(), NoMemory>
-    ensures { OnOk result ((q : List ℕ) → at_id index.new q ≡ (if bytes_eq q id.now then Some i
+///
+/// `NoMemory` leaves the index unchanged.
+pub(crate) fn put_index(
+    alloc: Global,
+    index: &mut IdIndex,
+    id: &[u8],
+    i: usize,
+) -> Result<(), NoMemory>
+    ensures ok { OnOk result ((q : List ℕ) → at_id index.new q ≡ (if bytes_eq q id.now then Some i
         else at_id index.old q)) }
+    ensures err { OnErr result (index.new.entries ≡ index.old.entries) }
 {
     let key = id.to_vec(alloc)?;
     index.insert(key, i)?;
@@ -24,7 +32,7 @@ fn put_index(alloc: Global, index: &mut NodeIndex, id: &[u8], i: usize) -> Resul
 }
 
 /// Returns the indices of nodes by their ids.
-fn index_of(alloc: Global, nodes: &[PlainNode]) -> Result<NodeIndex, NoMemory>
+fn index_of(alloc: Global, nodes: &[PlainNode]) -> Result<IdIndex, NoMemory>
     requires { HaveNodeIds (nodes_in nodes.now) }
     ensures { IfOk result (IsIndexOf (nodes_in nodes.now)) }
 {
@@ -36,7 +44,7 @@ fn index_of(alloc: Global, nodes: &[PlainNode]) -> Result<NodeIndex, NoMemory>
 }
 
 /// Returns the index of what an id stands under.
-fn up_of(facts: &Facts, index: &NodeIndex, id: &[u8]) -> Option<usize>
+fn up_of(facts: &Facts, index: &IdIndex, id: &[u8]) -> Option<usize>
     ensures { result ≡ index_bound index.now (kept_up facts.now id.now) }
 {
     let up = facts.up(id)?;

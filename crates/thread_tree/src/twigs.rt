@@ -1,8 +1,5 @@
 //! Messages with their references, and the tree of them.
-ghost use Rattle.std.specs.Prelude.{◌≡◌};
-ghost use Rattle.thread_tree.specs.Trees.{names_id};
-
-use crate::above::ups_of;
+use crate::above::{IdIndex, put_index, ups_of};
 use crate::facts::Facts;
 use crate::forest::{preorder, under_lists};
 use crate::lines::Lines;
@@ -10,6 +7,7 @@ use crate::loops::{root_flags, roots_of};
 use crate::nodes::{lines_of, nodes_of};
 use arch_base::{Bytes, NoMemory, Texts};
 use std::alloc::Global;
+use std::collections::BTreeMap;
 use std::marker::Model;
 
 /// A message: its number, its id, its references and its date's seconds.
@@ -26,6 +24,8 @@ pub struct Twig {
 pub struct Twigs {
     alloc: Global,
     twigs: Vec<Twig>,
+    /// The index of each message by its id.
+    indices: IdIndex,
 }
 
 impl Model for Twigs {
@@ -34,11 +34,12 @@ impl Model for Twigs {
 
     ghost Value = { List Twig };
 
+    ghost use Rattle.thread_tree.specs.Facts.{AreIdsOf};
     ghost use Rattle.thread_tree.specs.Trees.{HaveOwnIds};
 
     ghost view = { λ t. t.twigs.items };
 
-    ghost invariant = { λ t. HaveOwnIds t.twigs.items };
+    ghost invariant = { λ t. HaveOwnIds t.twigs.items × AreIdsOf t.twigs.items t.indices };
 }
 
 impl Twigs {
@@ -56,15 +57,16 @@ impl Twigs {
         Twigs {
             alloc,
             twigs: Vec::new(alloc),
+            indices: BTreeMap::new(alloc),
         }
     }
 
-    /// Returns whether a message has an id. It goes over all messages.
+    /// Returns whether a message has an id.
     pub fn contains(&self, id: &[u8]) -> bool
         ensures { MatchBool result ((t : Twig) × Among self.now t × (t.id ≡ id.now))
             ((t : Twig) → Among self.now t → t.id ≡ id.now → ⊥) }
     {
-        has_id(self.twigs.as_slice(), id)
+        self.indices.contains_key(id)
     }
 
     /// Adds a message whose id is new.
@@ -88,6 +90,8 @@ impl Twigs {
             refs: refs.copy()?,
             secs,
         };
+        self.twigs.reserve(1)?;
+        put_index(self.alloc, &mut self.indices, id, self.twigs.len())?;
         self.twigs.push(twig)?;
         Ok(())
     }
@@ -108,16 +112,4 @@ impl Twigs {
         let walked = preorder(self.alloc, under.as_slice(), roots.as_slice())?;
         lines_of(self.alloc, &facts, nodes.as_slice(), walked.as_slice())
     }
-}
-
-/// Returns whether a message has an id.
-fn has_id(twigs: &[Twig], id: &[u8]) -> bool
-    ensures { result ≡ names_id twigs.now id.now }
-{
-    for twig in twigs {
-        if twig.id.as_slice() == id {
-            return true;
-        }
-    }
-    false
 }

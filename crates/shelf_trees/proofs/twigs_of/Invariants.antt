@@ -4,5 +4,5 @@ use Rattle.shelf_trees.specs.Twigs.{twigs_after}
 use Rattle.shelf_trees.proofs.twigs_of.Given as goal
 
 abbrev pub invariant-loop-number : goal.invariant-loop-number
-invariant-loop-number g l = (a : Archive) → g.S.Shelf.holds l.shelf.now a
+invariant-loop-number g l = (a : Archive) → g.S.Shelf.holds l.shelf a
     → twigs_after (live a.entries) l.twigs (drop l.number-index l.numbers) ≡ twigs_after (live a.entries) [] l.numbers

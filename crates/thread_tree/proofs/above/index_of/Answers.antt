@@ -16,7 +16,7 @@ loop-i-preserved c =
     let low : i < length ns = subst (λ n. i < n) (sym (length-map nodes node_in)) c.loop-i-test.true in
     index-more ns c.loop-i.index c.put_index.new.index i c.requires low c.loop-i.invariant
     (index-put nodes c.loop-i.index c.put_index.new.index i d c.as_slice.result.now c.loop-i-test.true
-    c.as_slice.ensures.value c.in_ok-put_index.ensures)
+    c.as_slice.ensures.value c.in_ok-put_index.ensures.ok)
 
 -- src/above.rt:27:1
 pub returns : goal.returns

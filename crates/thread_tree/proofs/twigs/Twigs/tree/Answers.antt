@@ -3,7 +3,6 @@ use Rattle.thread_tree.specs.Trees.{Prints, nodes, roots}
 use Rattle.thread_tree.specs.Laid.{tree_lines}
 use Rattle.thread_model.specs.Members.{Among}
 use Rattle.thread_tree.specs.declared.twigs.Twig.{Twig}
-use Rattle.thread_tree.specs.declared.lines.Line.{Line}
 use Rattle.std.proofs.Common.{subst, sym, ap, ◌∙◌, length, filter, map, ℕ, List, Option, Bool}
 use Rattle.std.specs.Global.{Vec}
 use Rattle.std.proofs.lemmas.Result.{IfOk-weaker}
