@@ -24,13 +24,13 @@ use Rattle.http_front.specs.Sessions.{IsTurn, SaysThen}
 use Rattle.http_front.specs.declared.session.Turn.TheVariants.{Went, Kept, Closed}
 
 -- The answer to a head is the answer to the bytes that start with it.
-acts-head : (reading : Reading) (moment : ℕ) (a : Archive) (bytes head rest : List ℕ) (i : Outside) (held : Option (List ℕ)) (j : Outside) → front head_limit bytes ≡ Whole head rest → Acts (said_head reading moment a (reading.reads head) rest) i held a j → Acts (said reading moment a bytes) i held a j
+acts-head : (reading : Reading) (moment : ℕ) (a : Archive) (bytes head rest : List ℕ) (i : Outside) (held : Option (List ℕ)) (j : Outside) → front head_limit bytes ≡ Whole head rest → Acts (said_head moment a (reading head) rest) i held a j → Acts (said reading moment a bytes) i held a j
 acts-head reading moment a bytes head rest i held j is acts =
-    acts-words (said reading moment a bytes) (said_head reading moment a (reading.reads head) rest) i held a j (λ way. ap (λ (f : Front). said_at reading moment a bytes f way) is) acts
+    acts-words (said reading moment a bytes) (said_head moment a (reading head) rest) i held a j (λ way. ap (λ (f : Front). said_at reading moment a bytes f way) is) acts
 
 -- A head that took `n` bytes of a piece was answered, and the session continues or not.
 pub turn-went : (reading : Reading) (moment : ℕ) (a : Archive) (old piece head : List ℕ) (n : ℕ) (i : Outside) (new : List ℕ) (j : Outside) (goes : Bool) → front head_limit (old ++ piece) ≡ Whole head (drop n piece) → new ≡ []
-    → Acts (said_head reading moment a (reading.reads head) (drop n piece)) i (held_if goes (drop n piece)) a j → IsTurn reading moment a old piece i (if goes then Went n else Closed) new j
+    → Acts (said_head moment a (reading head) (drop n piece)) i (held_if goes (drop n piece)) a j → IsTurn reading moment a old piece i (if goes then Went n else Closed) new j
 turn-went reading moment a old piece head n i new j true is none acts =
     subst (λ (left : List ℕ). (has_request (old ++ piece) ≡ true) × Acts (said reading moment a (old ++ piece)) i (Some (left ++ drop n piece)) a j) (sym none) (ap is_whole is, acts-head reading moment a (old ++ piece) head (drop n piece) i (Some (drop n piece)) j is acts)
 turn-went reading moment a old piece head n i new j false is none acts = acts-head reading moment a (old ++ piece) head (drop n piece) i None j is acts

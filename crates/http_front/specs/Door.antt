@@ -42,22 +42,22 @@ said_found moment a sends ends rest found reads way =
     else served moment a sends ends rest found) way
 
 -- A request in each way.
-abbrev pub said_asked : Reading → ℕ → Archive → Asked → Bool → List ℕ → Way → Says
-said_asked reading moment a asked sends rest way = said_found moment a sends asked.closes rest
-    (target_found reading a asked.target) (target_reads a asked.target) way
+abbrev pub said_asked : ℕ → Archive → Asked → Bool → List ℕ → Way → Says
+said_asked moment a asked sends rest way = said_found moment a sends asked.closes rest
+    (target_found a asked.target) (target_reads a asked.target) way
 
 -- A refusal, which closes the connection and needs no memory.
-abbrev pub said_verdict : Reading → ℕ → Archive → Asked → List ℕ → Verdict → Way → Says
-said_verdict reading moment a asked rest (Serve sends) way =
-    said_asked reading moment a asked sends rest way
-said_verdict reading moment a asked rest (Refuse status sends) way =
+abbrev pub said_verdict : ℕ → Archive → Asked → List ℕ → Verdict → Way → Says
+said_verdict moment a asked rest (Serve sends) way =
+    said_asked moment a asked sends rest way
+said_verdict moment a asked rest (Refuse status sends) way =
     closes a (word status moment sends true)
 
 -- What is said to a head, by what it asks. What is no head is a bad request.
-abbrev pub said_head : Reading → ℕ → Archive → Option Asked → List ℕ → Way → Says
-said_head reading moment a None rest way = closes a (word BadRequest moment true true)
-said_head reading moment a (Some asked) rest way =
-    said_verdict reading moment a asked rest (verdict_of (Some asked)) way
+abbrev pub said_head : ℕ → Archive → Option Asked → List ℕ → Way → Says
+said_head moment a None rest way = closes a (word BadRequest moment true true)
+said_head moment a (Some asked) rest way =
+    said_verdict moment a asked rest (verdict_of (Some asked)) way
 
 -- Out of memory for the beginning of a head, the connection is closed with a word. An empty rest
 -- needs no memory.
@@ -73,7 +73,7 @@ said_keeping moment a bytes way =
 -- What is said to what is at the front. A head that is too long closes the connection.
 abbrev pub said_at : Reading → ℕ → Archive → List ℕ → Front → Way → Says
 said_at reading moment a bytes (Whole head rest) way =
-    said_head reading moment a (reading.reads head) rest way
+    said_head moment a (reading head) rest way
 said_at reading moment a bytes Long way = closes a (word HeadTooLarge moment true true)
 said_at reading moment a bytes Partial way = said_keeping moment a bytes way
 
