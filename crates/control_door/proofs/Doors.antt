@@ -108,7 +108,7 @@ shorter_at moment s bytes false k (Asked request rest) is h next =
     omega (arith, size)
 shorter_at moment s bytes opened k Unfinished is h next = absurd (cc h)
 
-control_cuts : (moment : ℕ) → CutDoor (said moment) has_request with_piece left
+pub control_cuts : (moment : ℕ) → CutDoor (said moment) has_request with_piece left
 control_cuts moment = record {
   request_stays = λ q h asked. goes_request q (ahead h.bytes) (ahead (h.bytes ++ q)) (ahead-goes h.bytes q) asked;
   said_stays = λ q s h way asked. goes_said moment s h.bytes q h.opened way (ahead h.bytes) (ahead (h.bytes ++ q)) (ahead-goes h.bytes q) asked;

@@ -1,5 +1,5 @@
 -- The messages of numbers, one after another.
-use Rattle.std.specs.Prelude.{◌≡◌, ◌+◌, ◌<◌, ◌≤◌, ℕ, Bool, true, false, List, [], ◌∷◌, ◌++◌, length, drop, get_or, Result, Ok, Err, OnOk, refl, if◌then◌else◌}
+use Rattle.std.specs.Prelude.{◌≡◌, ◌+◌, ◌<◌, ◌≤◌, ℕ, Bool, true, false, List, [], ◌∷◌, ◌++◌, length, drop, get_or, Result, Ok, Err, OnOk, if◌then◌else◌}
 use Rattle.std.specs.Bool.{MatchBool}
 use Rattle.std.specs.Str.{bytes_eq}
 use Rattle.std.proofs.Common.{◌∙◌, sym, ap}
@@ -45,8 +45,8 @@ with-added ts t is = ap (λ (b : Bool). if b then ts else ts ++ t ∷ []) is
 
 -- An id that is no message's.
 pub fresh : (ts : List Twig) (id other : List ℕ) (r : Bool) → other ≡ id → r ≡ false → MatchBool r ((t : Twig) × Among ts t × (t.id ≡ id)) ((t : Twig) → Among ts t → t.id ≡ id → ⊥) → (t : Twig) → Among ts t → t.id ≡ other → ⊥
-fresh ts id other true same no h t in' is = absurd (false≢true (sym no))
-fresh ts id other false same no h t in' is = h t in' (is ∙ same)
+fresh ts id other true same none h t in' is = absurd (false≢true (sym none))
+fresh ts id other false same none h t in' is = h t in' (is ∙ same)
 
 pub on-weaker : {T E : Type 0} (r : Result T E) (P Q : Type 0) → (P → Q) → OnOk r P → OnOk r Q
 on-weaker (Ok x) P Q less holds = less holds

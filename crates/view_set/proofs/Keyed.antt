@@ -1,5 +1,5 @@
 -- Rows with their keys, and what a change of the rows makes of them.
-use Rattle.std.specs.Prelude.{◌≡◌, ℕ, Bool, true, false, List, [], ◌∷◌, ◌++◌, Result, Ok, Err, OnOk, OnErr, is_ok, Option, None, refl}
+use Rattle.std.specs.Prelude.{◌≡◌, ℕ, Bool, true, false, List, [], ◌∷◌, Result, Ok, Err, OnOk, OnErr, is_ok, None, refl}
 use Rattle.std.specs.declared.cmp.Ordering.{Ordering}
 use Rattle.std.specs.declared.cmp.Ordering.TheVariants.{Less, Equal, Greater}
 use Rattle.std.specs.Ordering.{nat_cmp, match_ordering}
@@ -10,7 +10,6 @@ use Rattle.std.proofs.lemmas.Bool.{false≢true}
 use Rattle.mail_forms.specs.declared.row.Row.{Row}
 use Rattle.overview_index.specs.Listings.{row_in, with_row, without}
 use Rattle.overview_index.proofs.RowLists.{none_front, without-with}
-use Rattle.thread_model.specs.Members.{Among}
 use Rattle.thread_model.specs.Threads.{Row as Keyed}
 use Rattle.thread_model.proofs.Entries.{true-at}
 use Rattle.thread_index.specs.Index.{Threads, IsNew, members_of}

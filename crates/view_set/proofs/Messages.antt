@@ -1,5 +1,5 @@
 -- The threads of the rows of an archive's messages.
-use Rattle.std.specs.Prelude.{◌≡◌, ◌==◌, ℕ, Bool, true, false, List, [], ◌∷◌, map, Option, Some, None, refl, if◌then◌else◌}
+use Rattle.std.specs.Prelude.{◌≡◌, ◌==◌, ℕ, Bool, true, false, List, [], ◌∷◌, map, Option, Some, refl, if◌then◌else◌}
 use Rattle.std.specs.Option.{unwrap_or}
 use Rattle.std.specs.Ordering.{nat_cmp}
 use Rattle.std.specs.BTreeMap.{is_at}
@@ -7,7 +7,7 @@ use Rattle.std.specs.Map.{lookup}
 use Rattle.std.proofs.Common.{◌∙◌, sym, ap, cond}
 use Rattle.std.proofs.lemmas.Bool.{false≢true, eqb-true, eq-eqb}
 use Rattle.arch_model.specs.Archives.{Entry}
-use Rattle.arch_model.specs.Listings.{rows_of, row_at}
+use Rattle.arch_model.specs.Listings.{rows_of}
 use Rattle.arch_model.specs.Threading.{thread_in as threaded, keyed as keyed_messages, keys_in, keys_of as keys_at}
 use Rattle.thread_model.specs.Threads.{Row as Keyed, thread}
 use Rattle.thread_model.proofs.Entries.{at-eqb}
