@@ -13,5 +13,5 @@ returns-in-Ok-clause-acts g c = λ moment a rest held.
     let found = some-found (text_of (live a.entries) c.args.number) (c.is_live.ensures a held ∙ c.if-not-is_live.false) in
     acts-threaded moment (standing a None) c.args.number (Some found.0) rest _ _ _ found.1 refl (rw (c.as_slice.ensures ∙ c.in-Ok.ensures a held) at c.say.ensures.said)
 
-pub returns-clause-acts : goal.returns-clause-acts
-returns-clause-acts g c = λ moment a rest held. acts-unthreaded moment (standing a None) c.args.number rest _ _ _ refl c.say_memory.ensures.said
+pub returns-in-Err-clause-acts : goal.returns-in-Err-clause-acts
+returns-in-Err-clause-acts g c = λ moment a rest held. acts-unthreaded moment (standing a None) c.args.number rest _ _ _ refl c.say_memory.ensures.said
