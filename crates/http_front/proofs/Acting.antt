@@ -1,27 +1,20 @@
 -- The acts of the code are acts of a session.
-use Rattle.std.proofs.Common.{◌≡◌, ◌<◌, ◌≤◌, ℕ, Bool, true, false, not, ◌&&◌, List, [], ◌∷◌, ◌++◌, length, drop, Option, Some, None, Result, Ok, Err, is_ok, refl, sym, ap, subst, ◌∙◌, arith, if◌then◌else◌}
+use Rattle.std.proofs.Common.{◌≡◌, ◌<◌, ℕ, Bool, true, false, not, ◌&&◌, List, [], ◌∷◌, ◌++◌, length, drop, Option, Some, None, Result, Ok, Err, is_ok, refl, sym, ap, subst, ◌∙◌, arith, if◌then◌else◌}
 use Rattle.std.proofs.lemmas.List.{append-nil}
 use Rattle.edge_io.specs.Phrases.{Says}
 use Rattle.edge_io.specs.declared.sink.SinkFault.{SinkFault}
-use Rattle.line_door.specs.Acts.{Outside, Way, Plain, Memory, Disk, Acts, held_if}
+use Rattle.line_door.specs.Acts.{Outside, Way, Plain, Memory, Acts, held_if}
 use Rattle.line_door.specs.Making.{closes}
 use Rattle.line_door.specs.Plain.{silent}
 use Rattle.line_door.proofs.Acting.{acts-by_says, acts-closing, acts-silent, acts-words}
 use Rattle.arch_model.specs.Archives.{Archive}
-use Rattle.arch_model.specs.Shelves.{ReadingWhy}
-use Rattle.arch_model.specs.declared.text_refusal.TextRefusal.{TextRefusal}
-use Rattle.arch_model.specs.declared.text_refusal.TextRefusal.TheVariants as refusal
-use Rattle.http_heads.specs.Heads.{Asked}
-use Rattle.http_heads.specs.declared.reply.Body.{Body}
-use Rattle.http_heads.specs.declared.reply.Status.{Status}
-use Rattle.http_heads.specs.declared.reply.Status.TheVariants.{Done, NotFound, HeadTooLarge, ServerError, Unavailable}
-use Rattle.http_heads.specs.declared.reply.Verdict.TheVariants.{Serve, Refuse}
+use Rattle.http_heads.specs.declared.reply.Status.TheVariants.{HeadTooLarge, Unavailable}
 use Rattle.http_front.specs.Fronts.{Front, Whole, Long, Partial, front, is_whole, head_limit}
-use Rattle.http_front.specs.Asking.{Reading, Found, Gives, Streams, Missing, target_found, target_reads}
-use Rattle.http_front.specs.Replies.{reply, word}
-use Rattle.http_front.specs.Door.{Says as SaysAct, replies, served, said_asked, said_head, unkept, said_at, said, has_request}
+use Rattle.http_front.specs.Asking.{Reading}
+use Rattle.http_front.specs.Replies.{word}
+use Rattle.http_front.specs.Door.{Says as SaysAct, replies, said_head, unkept, said_at, said, has_request}
 use Rattle.http_front.specs.Sessions.{IsTurn, SaysThen}
-use Rattle.http_front.specs.declared.session.Turn.TheVariants.{Went, Kept, Closed}
+use Rattle.http_front.specs.declared.session.Turn.TheVariants.{Went, Closed}
 
 -- The answer to a head is the answer to the bytes that start with it.
 acts-head : (reading : Reading) (moment : ℕ) (a : Archive) (bytes head rest : List ℕ) (i : Outside) (held : Option (List ℕ)) (j : Outside) → front head_limit bytes ≡ Whole head rest → Acts (said_head moment a (reading head) rest) i held a j → Acts (said reading moment a bytes) i held a j

@@ -1,7 +1,7 @@
 -- The laws of the door of pages.
-use Rattle.std.proofs.Common.{◌≡◌, ◌<◌, ◌⊎◌, inl, inr, ℕ, Bool, true, false, List, [], ◌∷◌, ◌++◌, length, Option, Some, None, refl, sym, ap, ◌∙◌, append_assoc, if◌then◌else◌}
-use Rattle.line_door.specs.Acts.{Said, Way, Plain, Memory, Disk, Newer}
-use Rattle.line_door.specs.Making.{closes, in_ways}
+use Rattle.std.proofs.Common.{◌≡◌, ◌<◌, ◌⊎◌, inl, inr, ℕ, Bool, true, false, List, [], ◌∷◌, ◌++◌, length, Option, Some, None, refl, append_assoc, if◌then◌else◌}
+use Rattle.line_door.specs.Acts.{Way, Plain, Memory, Disk, Newer}
+use Rattle.line_door.specs.Making.{closes}
 use Rattle.line_door.specs.Plain.{silent}
 use Rattle.line_door.specs.Cuts.{CutDoor, DoorLaws, said_with}
 use Rattle.line_door.proofs.Cutting.{door_laws}

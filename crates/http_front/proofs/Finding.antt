@@ -1,5 +1,5 @@
 -- What stands under a target, step by step.
-use Rattle.std.proofs.Common.{◌≡◌, ◌≤◌, ◌+◌, ℕ, Bool, true, false, List, take, drop, length, Option, Some, None, IfOk, is_some, Result, Ok, Err, refl, sym, ap, subst, ◌∙◌, arith}
+use Rattle.std.proofs.Common.{◌≡◌, ◌≤◌, ℕ, Bool, true, false, List, take, drop, length, Option, Some, None, IfOk, is_some, Result, Ok, Err, refl, sym, ap, subst, ◌∙◌, arith}
 use Rattle.std.proofs.lemmas.List.{length-take}
 use Rattle.arch_base.specs.declared.sequence.NoMemory.{NoMemory}
 use Rattle.arch_model.specs.Archives.{Entry, Archive, live}
@@ -13,7 +13,7 @@ use Rattle.http_heads.specs.Addresses.{Named, named_by, segments_of}
 use Rattle.http_heads.specs.Parameters.{path_of}
 use Rattle.http_heads.specs.declared.reply.Body.TheVariants.{Page}
 use Rattle.http_front.specs.Views.{rows_at}
-use Rattle.http_front.specs.Asking.{Found, Gives, Streams, Missing, message_found, text_found, feed_found, listing_found, found_of, named_found, path_found, reads_texts, path_reads, texts_for, path_texts, feed_len, rows_needed, ReadsUpTo}
+use Rattle.http_front.specs.Asking.{Found, Gives, Missing, message_found, text_found, feed_found, listing_found, found_of, named_found, path_found, reads_texts, path_reads, texts_for, path_texts, feed_len, rows_needed, ReadsUpTo}
 use Rattle.http_front.specs.Sessions.{Finds, MakesPage}
 use Rattle.http_front.specs.declared.found.Held.{Held}
 use Rattle.http_front.specs.declared.found.Held.TheVariants as what

@@ -1,9 +1,9 @@
 -- What is found and said makes an act.
-use Rattle.std.proofs.Common.{◌≡◌, ◌≤◌, ◌⊎◌, inl, inr, ℕ, Bool, true, false, not, ◌&&◌, List, Option, Some, None, Result, Ok, Err, is_ok, refl, sym, ap, subst, ◌∙◌, arith}
+use Rattle.std.proofs.Common.{◌≡◌, ◌≤◌, inl, inr, ℕ, Bool, true, false, not, ◌&&◌, List, Option, Some, None, Result, Err, is_ok, refl, sym, ap, subst, ◌∙◌, arith}
 use Rattle.edge_io.specs.Phrases.{Says}
 use Rattle.edge_io.specs.declared.sink.SinkFault.{SinkFault}
 use Rattle.httparse.specs.Grammar.{RequestHead}
-use Rattle.line_door.specs.Acts.{Outside, Way, Plain, Memory, Disk, Acts, held_if}
+use Rattle.line_door.specs.Acts.{Outside, Plain, Memory, Disk, Acts, held_if}
 use Rattle.line_door.specs.Making.{closes}
 use Rattle.line_door.proofs.Acting.{acts-closing, acts-from, acts-words}
 use Rattle.arch_model.specs.Archives.{Archive}
@@ -18,9 +18,9 @@ use Rattle.http_heads.specs.declared.reply.Status.{Status}
 use Rattle.http_heads.specs.declared.reply.Status.TheVariants.{Done, BadRequest, NotFound, ServerError, Unavailable}
 use Rattle.http_heads.specs.declared.reply.Verdict.{Verdict}
 use Rattle.http_heads.specs.declared.reply.Verdict.TheVariants.{Serve, Refuse}
-use Rattle.http_front.specs.Asking.{Reading, IsReading, Found, Gives, Streams, Missing, target_found, target_reads}
+use Rattle.http_front.specs.Asking.{Reading, IsReading, Found, Gives, Streams, Missing}
 use Rattle.http_front.specs.Replies.{reply, word}
-use Rattle.http_front.specs.Door.{replies, served, said_found, said_asked, said_verdict, said_head}
+use Rattle.http_front.specs.Door.{served, said_found, said_asked, said_verdict, said_head}
 use Rattle.http_front.specs.Sessions.{SaysThen, SaysWhole, SaysUnread, Finds, said_mailbox}
 use Rattle.http_front.proofs.Acting.{acts-replied}
 

@@ -1,5 +1,5 @@
 -- What an archive has under the target of a request.
-use Rattle.std.specs.Prelude.{◌≡◌, ◌≤◌, ◌+◌, ℕ, Bool, true, false, List, [], ◌∷◌, take, drop, reverse, codes, Option, Some, None}
+use Rattle.std.specs.Prelude.{◌≡◌, ◌≤◌, ◌+◌, ℕ, Bool, true, false, List, take, drop, reverse, codes, Option, Some, None}
 use Rattle.arch_model.specs.Archives.{Archive, live}
 use Rattle.arch_model.specs.Listings.{listing}
 use Rattle.atom_mbox.specs.Feeds.{feed_of}

@@ -1,13 +1,12 @@
 -- What the door of pages answers. Its session is the bytes that are not answered yet, and its
 -- requests read an archive and change nothing.
-use Rattle.std.specs.Prelude.{ℕ, Bool, true, false, List, [], ◌∷◌, ◌++◌, length, Option, Some, None, if◌then◌else◌}
-use Rattle.line_door.specs.Acts.{Said, Way, Plain, Memory, Disk, Newer}
+use Rattle.std.specs.Prelude.{ℕ, Bool, true, false, List, [], ◌∷◌, ◌++◌, Option, Some, None, if◌then◌else◌}
+use Rattle.line_door.specs.Acts.{Said, Way}
 use Rattle.line_door.specs.Making.{closes, in_ways}
 use Rattle.line_door.specs.Plain.{silent}
 use Rattle.arch_model.specs.Archives.{Archive}
 use Rattle.http_heads.specs.Heads.{Asked}
 use Rattle.http_heads.specs.Replies.{verdict_of}
-use Rattle.http_heads.specs.declared.reply.Body.{Body}
 use Rattle.http_heads.specs.declared.reply.Status.TheVariants.{Done, BadRequest, NotFound, HeadTooLarge, ServerError, Unavailable}
 use Rattle.http_heads.specs.declared.reply.Verdict.{Verdict}
 use Rattle.http_heads.specs.declared.reply.Verdict.TheVariants.{Serve, Refuse}

@@ -1,8 +1,7 @@
 -- The answers to a connection for pages do not depend on how its bytes are cut.
-use Rattle.std.specs.Prelude.{◌≡◌, ◌<◌, ◌≤◌, ◌+◌, ◌↔◌, ℕ, List, ◌++◌, length, take, codes, Option, Some, None, Bool, true, false}
+use Rattle.std.specs.Prelude.{◌≡◌, ◌<◌, ◌≤◌, ◌+◌, ◌↔◌, ℕ, List, ◌++◌, length, codes}
 use Rattle.line_door.specs.Cuts.{DoorLaws}
-use Rattle.arch_model.specs.Archives.{Archive}
-use Rattle.http_front.specs.Fronts.{Whole, Long, Partial, front, is_whole}
+use Rattle.http_front.specs.Fronts.{Whole, Long, Partial, front}
 use Rattle.http_front.specs.Asking.{Reading}
 use Rattle.http_front.specs.Door.{said, has_request, with_piece}
 

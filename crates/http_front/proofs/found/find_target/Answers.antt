@@ -1,7 +1,6 @@
-use Rattle.std.proofs.Common.{◌≡◌, ◌∙◌, List, ℕ, Option, Some, None, ap, sym}
-use Rattle.std.specs.Prelude.{option_map}
+use Rattle.std.proofs.Common.{◌∙◌, Some, None, ap}
 use Rattle.arch_base.specs.declared.config.Config.{Config}
-use Rattle.http_heads.specs.Addresses.{Named, shown, named_by, segments_of}
+use Rattle.http_heads.specs.Addresses.{shown, named_by, segments_of}
 use Rattle.http_heads.specs.Parameters.{path_of}
 use Rattle.http_front.proofs.Finding.{finds-named, finds-nothing, reads-named, path-named}
 use Rattle.http_front.proofs.found.find_target.Goals as goal

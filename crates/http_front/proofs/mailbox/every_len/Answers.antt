@@ -1,4 +1,4 @@
-use Rattle.std.proofs.Common.{◌∙◌, length, ap, sym, arith, rules}
+use Rattle.std.proofs.Common.{length, ap, arith, rules}
 use Rattle.http_front.proofs.Pieces.{len-more, len-none, pieces-all}
 use Rattle.http_front.proofs.mailbox.every_len.Goals as goal
 

@@ -1,4 +1,4 @@
-use Rattle.std.proofs.Common.{arith, rules}
+use Rattle.std.proofs.Common.{arith}
 use Rattle.http_front.proofs.Pieces.{len-next, len-past}
 use Rattle.http_front.proofs.mailbox.len_of.Goals as goal
 

@@ -1,5 +1,5 @@
-use Rattle.std.proofs.Common.{◌∙◌, refl, ap, length, arith, rules}
-use Rattle.http_front.proofs.Streaming.{long-waits, long-said, long-lost}
+use Rattle.std.proofs.Common.{refl, ap, length, arith}
+use Rattle.http_front.proofs.Streaming.{long-said, long-lost}
 use Rattle.http_front.proofs.mailbox.say_long.Goals as goal
 
 pub returns-in-Ok-clause-part : goal.returns-in-Ok-clause-part

@@ -1,5 +1,5 @@
-use Rattle.std.proofs.Common.{◌+◌, ◌++◌, drop, refl, arith, rules}
-use Rattle.http_front.specs.Mailboxes.{mailbox_at, piece_at}
+use Rattle.std.proofs.Common.{◌+◌, ◌++◌, drop, refl, arith}
+use Rattle.http_front.specs.Mailboxes.{mailbox_at}
 use Rattle.arch_model.proofs.Shelving.{stays-joined, stays-same}
 use Rattle.http_front.proofs.Pieces.{mailbox-next, mailbox-none}
 use Rattle.http_front.proofs.Streaming.{sofar-none, sofar-put, streams-end, streams-lost, streams-stopped}
