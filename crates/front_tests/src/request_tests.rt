@@ -46,8 +46,8 @@ const CLOSE: &[u8] = b"Connection: close\r\n";
 /// The lines that refuse a method.
 const ALLOW: &[u8] = b"Allow: GET, HEAD\r\nConnection: close\r\n";
 
-/// Requests for what is there.
-static SHOWN: [Case; 37] = [
+/// Requests for the listing.
+static LISTED: [Case; 15] = [
     Case {
         request: b"GET /list/ HTTP/1.1\r\n\r\n",
         status: b"200 OK",
@@ -139,6 +139,55 @@ static SHOWN: [Case; 37] = [
         next: Next::Go,
     },
     Case {
+        request: b"GET /list/ HTTP/1.1\r\nConnection: close;x\r\n\r\n",
+        status: b"200 OK",
+        kind: PAGE,
+        body: LISTING,
+        more: b"",
+        sends: true,
+        next: Next::Go,
+    },
+    Case {
+        request: b"GET /list/ HTTP/1.1\r\nHost: a\r\nHost: b\r\n\r\n",
+        status: b"200 OK",
+        kind: PAGE,
+        body: LISTING,
+        more: b"",
+        sends: true,
+        next: Next::Go,
+    },
+    Case {
+        request: b"\r\nGET /list/ HTTP/1.1\r\n\r\n",
+        status: b"200 OK",
+        kind: PAGE,
+        body: LISTING,
+        more: b"",
+        sends: true,
+        next: Next::Go,
+    },
+    Case {
+        request: b"\n\nGET /list/ HTTP/1.1\nA: b\r\n\r\n",
+        status: b"200 OK",
+        kind: PAGE,
+        body: LISTING,
+        more: b"",
+        sends: true,
+        next: Next::Go,
+    },
+    Case {
+        request: b"GET /list/ HTTP/1.1\r\nContent-Length: 0\r\ncontent-length: \t0\r\n\r\n",
+        status: b"200 OK",
+        kind: PAGE,
+        body: LISTING,
+        more: b"",
+        sends: true,
+        next: Next::Go,
+    },
+];
+
+/// Requests for messages and their texts.
+static MESSAGES: [Case; 9] = [
+    Case {
         request: b"GET /list/a@x/ HTTP/1.1\r\n\r\n",
         status: b"200 OK",
         kind: PAGE,
@@ -193,33 +242,6 @@ static SHOWN: [Case; 37] = [
         next: Next::Go,
     },
     Case {
-        request: b"GET /list/a@x/t/ HTTP/1.1\r\n\r\n",
-        status: b"200 OK",
-        kind: PAGE,
-        body: THREAD_A,
-        more: b"",
-        sends: true,
-        next: Next::Go,
-    },
-    Case {
-        request: b"GET /list/b%2F2%40x/t/ HTTP/1.1\r\n\r\n",
-        status: b"200 OK",
-        kind: PAGE,
-        body: THREAD_B,
-        more: b"",
-        sends: true,
-        next: Next::Go,
-    },
-    Case {
-        request: b"GET /list/c@x/%74/ HTTP/1.1\r\n\r\n",
-        status: b"200 OK",
-        kind: PAGE,
-        body: THREAD_C,
-        more: b"",
-        sends: true,
-        next: Next::Go,
-    },
-    Case {
         request: b"GET /list/a@x/raw HTTP/1.1\r\n\r\n",
         status: b"200 OK",
         kind: TEXT,
@@ -246,6 +268,41 @@ static SHOWN: [Case; 37] = [
         sends: true,
         next: Next::Go,
     },
+];
+
+/// Requests for threads.
+static THREADS: [Case; 3] = [
+    Case {
+        request: b"GET /list/a@x/t/ HTTP/1.1\r\n\r\n",
+        status: b"200 OK",
+        kind: PAGE,
+        body: THREAD_A,
+        more: b"",
+        sends: true,
+        next: Next::Go,
+    },
+    Case {
+        request: b"GET /list/b%2F2%40x/t/ HTTP/1.1\r\n\r\n",
+        status: b"200 OK",
+        kind: PAGE,
+        body: THREAD_B,
+        more: b"",
+        sends: true,
+        next: Next::Go,
+    },
+    Case {
+        request: b"GET /list/c@x/%74/ HTTP/1.1\r\n\r\n",
+        status: b"200 OK",
+        kind: PAGE,
+        body: THREAD_C,
+        more: b"",
+        sends: true,
+        next: Next::Go,
+    },
+];
+
+/// Requests for feeds.
+static FEEDS: [Case; 5] = [
     Case {
         request: b"GET /list/new.atom HTTP/1.1\r\n\r\n",
         status: b"200 OK",
@@ -291,6 +348,10 @@ static SHOWN: [Case; 37] = [
         sends: true,
         next: Next::Go,
     },
+];
+
+/// Requests for mailbox files.
+static MAILBOXES: [Case; 5] = [
     Case {
         request: b"GET /list/all.mbox HTTP/1.1\r\n\r\n",
         status: b"200 OK",
@@ -332,51 +393,6 @@ static SHOWN: [Case; 37] = [
         status: b"200 OK",
         kind: MBOX,
         body: LONE_MBOX,
-        more: b"",
-        sends: true,
-        next: Next::Go,
-    },
-    Case {
-        request: b"GET /list/ HTTP/1.1\r\nConnection: close;x\r\n\r\n",
-        status: b"200 OK",
-        kind: PAGE,
-        body: LISTING,
-        more: b"",
-        sends: true,
-        next: Next::Go,
-    },
-    Case {
-        request: b"GET /list/ HTTP/1.1\r\nHost: a\r\nHost: b\r\n\r\n",
-        status: b"200 OK",
-        kind: PAGE,
-        body: LISTING,
-        more: b"",
-        sends: true,
-        next: Next::Go,
-    },
-    Case {
-        request: b"\r\nGET /list/ HTTP/1.1\r\n\r\n",
-        status: b"200 OK",
-        kind: PAGE,
-        body: LISTING,
-        more: b"",
-        sends: true,
-        next: Next::Go,
-    },
-    Case {
-        request: b"\n\nGET /list/ HTTP/1.1\nA: b\r\n\r\n",
-        status: b"200 OK",
-        kind: PAGE,
-        body: LISTING,
-        more: b"",
-        sends: true,
-        next: Next::Go,
-    },
-    Case {
-        request: b"GET /list/ HTTP/1.1\r\nContent-Length: 0\r\ncontent-length: \t0\r\n\r\n",
-        status: b"200 OK",
-        kind: PAGE,
-        body: LISTING,
         more: b"",
         sends: true,
         next: Next::Go,
@@ -919,8 +935,36 @@ fn is_answered(alloc: Global, case: &Case) -> bool {
 }
 
 #[test]
-fn what_is_there_is_shown(rt: HostRuntime) {
-    for case in &SHOWN {
+fn the_listing_is_shown(rt: HostRuntime) {
+    for case in &LISTED {
+        assert!(rt; is_answered(rt.alloc(), case), "{:?}", case.request);
+    }
+}
+
+#[test]
+fn messages_are_shown(rt: HostRuntime) {
+    for case in &MESSAGES {
+        assert!(rt; is_answered(rt.alloc(), case), "{:?}", case.request);
+    }
+}
+
+#[test]
+fn threads_are_shown(rt: HostRuntime) {
+    for case in &THREADS {
+        assert!(rt; is_answered(rt.alloc(), case), "{:?}", case.request);
+    }
+}
+
+#[test]
+fn feeds_are_shown(rt: HostRuntime) {
+    for case in &FEEDS {
+        assert!(rt; is_answered(rt.alloc(), case), "{:?}", case.request);
+    }
+}
+
+#[test]
+fn mailbox_files_are_shown(rt: HostRuntime) {
+    for case in &MAILBOXES {
         assert!(rt; is_answered(rt.alloc(), case), "{:?}", case.request);
     }
 }

@@ -1,36 +1,29 @@
 -- The acts of the code are acts of a session.
-use Rattle.std.proofs.Common.{◌≡◌, ◌<◌, ◌≤◌, ℕ, Bool, true, false, not, ◌&&◌, List, [], ◌∷◌, ◌++◌, length, drop, Option, Some, None, Result, Ok, Err, is_ok, refl, sym, ap, subst, ◌∙◌, arith, if◌then◌else◌}
+use Rattle.std.proofs.Common.{◌≡◌, ◌<◌, ℕ, Bool, true, false, not, ◌&&◌, List, [], ◌∷◌, ◌++◌, length, drop, Option, Some, None, Result, Ok, Err, is_ok, refl, sym, ap, subst, ◌∙◌, arith, if◌then◌else◌}
 use Rattle.std.proofs.lemmas.List.{append-nil}
 use Rattle.edge_io.specs.Phrases.{Says}
 use Rattle.edge_io.specs.declared.sink.SinkFault.{SinkFault}
-use Rattle.line_door.specs.Acts.{Outside, Way, Plain, Memory, Disk, Acts, held_if}
+use Rattle.line_door.specs.Acts.{Outside, Way, Plain, Memory, Acts, held_if}
 use Rattle.line_door.specs.Making.{closes}
 use Rattle.line_door.specs.Plain.{silent}
 use Rattle.line_door.proofs.Acting.{acts-by_says, acts-closing, acts-silent, acts-words}
 use Rattle.arch_model.specs.Archives.{Archive}
-use Rattle.arch_model.specs.Shelves.{ReadingWhy}
-use Rattle.arch_model.specs.declared.text_refusal.TextRefusal.{TextRefusal}
-use Rattle.arch_model.specs.declared.text_refusal.TextRefusal.TheVariants as refusal
-use Rattle.http_heads.specs.Heads.{Asked}
-use Rattle.http_heads.specs.declared.reply.Body.{Body}
-use Rattle.http_heads.specs.declared.reply.Status.{Status}
-use Rattle.http_heads.specs.declared.reply.Status.TheVariants.{Done, NotFound, HeadTooLarge, ServerError, Unavailable}
-use Rattle.http_heads.specs.declared.reply.Verdict.TheVariants.{Serve, Refuse}
+use Rattle.http_heads.specs.declared.reply.Status.TheVariants.{HeadTooLarge, Unavailable}
 use Rattle.http_front.specs.Fronts.{Front, Whole, Long, Partial, front, is_whole, head_limit}
-use Rattle.http_front.specs.Asking.{Reading, Found, Gives, Streams, Missing, target_found, target_reads}
-use Rattle.http_front.specs.Replies.{reply, word}
-use Rattle.http_front.specs.Door.{Says as SaysAct, replies, served, said_asked, said_head, unkept, said_at, said, has_request}
+use Rattle.http_front.specs.Asking.{Reading}
+use Rattle.http_front.specs.Replies.{word}
+use Rattle.http_front.specs.Door.{Says as SaysAct, replies, said_head, unkept, said_at, said, has_request}
 use Rattle.http_front.specs.Sessions.{IsTurn, SaysThen}
-use Rattle.http_front.specs.declared.session.Turn.TheVariants.{Went, Kept, Closed}
+use Rattle.http_front.specs.declared.session.Turn.TheVariants.{Went, Closed}
 
 -- The answer to a head is the answer to the bytes that start with it.
-acts-head : (reading : Reading) (moment : ℕ) (a : Archive) (bytes head rest : List ℕ) (i : Outside) (held : Option (List ℕ)) (j : Outside) → front head_limit bytes ≡ Whole head rest → Acts (said_head reading moment a (reading.reads head) rest) i held a j → Acts (said reading moment a bytes) i held a j
+acts-head : (reading : Reading) (moment : ℕ) (a : Archive) (bytes head rest : List ℕ) (i : Outside) (held : Option (List ℕ)) (j : Outside) → front head_limit bytes ≡ Whole head rest → Acts (said_head moment a (reading head) rest) i held a j → Acts (said reading moment a bytes) i held a j
 acts-head reading moment a bytes head rest i held j is acts =
-    acts-words (said reading moment a bytes) (said_head reading moment a (reading.reads head) rest) i held a j (λ way. ap (λ (f : Front). said_at reading moment a bytes f way) is) acts
+    acts-words (said reading moment a bytes) (said_head moment a (reading head) rest) i held a j (λ way. ap (λ (f : Front). said_at reading moment a bytes f way) is) acts
 
 -- A head that took `n` bytes of a piece was answered, and the session continues or not.
 pub turn-went : (reading : Reading) (moment : ℕ) (a : Archive) (old piece head : List ℕ) (n : ℕ) (i : Outside) (new : List ℕ) (j : Outside) (goes : Bool) → front head_limit (old ++ piece) ≡ Whole head (drop n piece) → new ≡ []
-    → Acts (said_head reading moment a (reading.reads head) (drop n piece)) i (held_if goes (drop n piece)) a j → IsTurn reading moment a old piece i (if goes then Went n else Closed) new j
+    → Acts (said_head moment a (reading head) (drop n piece)) i (held_if goes (drop n piece)) a j → IsTurn reading moment a old piece i (if goes then Went n else Closed) new j
 turn-went reading moment a old piece head n i new j true is none acts =
     subst (λ (left : List ℕ). (has_request (old ++ piece) ≡ true) × Acts (said reading moment a (old ++ piece)) i (Some (left ++ drop n piece)) a j) (sym none) (ap is_whole is, acts-head reading moment a (old ++ piece) head (drop n piece) i (Some (drop n piece)) j is acts)
 turn-went reading moment a old piece head n i new j false is none acts = acts-head reading moment a (old ++ piece) head (drop n piece) i None j is acts

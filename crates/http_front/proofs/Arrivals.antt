@@ -1,5 +1,6 @@
 -- The last arrival of mails.
-use Rattle.std.proofs.Common.{◌≡◌, ◌==◌, ℕ, List, [], ◌∷◌, ◌++◌, Option, Some, None, max, refl, sym, ap, ◌∙◌, arith}
+use Rattle.std.proofs.Common.{◌≡◌, ◌==◌, ℕ, suc, Bool, false, List, [], ◌∷◌, ◌++◌, length, Option, Some, None, max, refl, ap, ◌∙◌, arith, if◌then◌else◌}
+use Rattle.std.proofs.lemmas.Bool.Decides.{nat_tests}
 use Rattle.std.specs.Prelude.{fold}
 use Rattle.atom_mbox.specs.Feeds.{later, last_arrival, updated_of}
 use Rattle.atom_mbox.specs.declared.feeds.Shown.{Shown}
@@ -40,7 +41,10 @@ updated-none born (mail ∷ mails) e = absurd (some mail.row.arrived (latest_of 
 
 pub updated-some : (born last : ℕ) (mails : List Shown) → latest_of mails ≡ Some last → updated_of born mails ≡ last
 updated-some born last [] e = absurd (cc e)
-updated-some born last (mail ∷ mails) e = fold-latest 0 (mail ∷ mails) ∙ ap (later_than 0) e ∙ least last
+updated-some born last (mail ∷ mails) e = ap (λ (b : Bool). if b then born else last_arrival (mail ∷ mails)) (some (length mails)) ∙ fold-latest 0 (mail ∷ mails) ∙ ap (later_than 0) e ∙ least last
   where
+    some : (n : ℕ) → (suc n == 0) ≡ false
+    some n = grind (arith, nat_tests)
+
     least : (n : ℕ) → max 0 n ≡ n
     least n = grind (arith)

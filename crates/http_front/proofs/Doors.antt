@@ -1,7 +1,7 @@
 -- The laws of the door of pages.
-use Rattle.std.proofs.Common.{◌≡◌, ◌<◌, ◌⊎◌, inl, inr, ℕ, Bool, true, false, List, [], ◌∷◌, ◌++◌, length, Option, Some, None, refl, sym, ap, ◌∙◌, append_assoc, if◌then◌else◌}
-use Rattle.line_door.specs.Acts.{Said, Way, Plain, Memory, Disk, Newer}
-use Rattle.line_door.specs.Making.{closes, in_ways}
+use Rattle.std.proofs.Common.{◌≡◌, ◌<◌, ◌⊎◌, inl, inr, ℕ, Bool, true, false, List, [], ◌∷◌, ◌++◌, length, Option, Some, None, refl, append_assoc, if◌then◌else◌}
+use Rattle.line_door.specs.Acts.{Way, Plain, Memory, Disk, Newer}
+use Rattle.line_door.specs.Making.{closes}
 use Rattle.line_door.specs.Plain.{silent}
 use Rattle.line_door.specs.Cuts.{CutDoor, DoorLaws, said_with}
 use Rattle.line_door.proofs.Cutting.{door_laws}
@@ -43,16 +43,16 @@ found-after moment a sends ends rest q found reads Disk =
     either-after reads (served moment a sends ends rest found) (served moment a sends ends (rest ++ q) found) (closes a (word ServerError moment sends true)) q refl (served-after moment a sends ends rest q found)
 found-after moment a sends ends rest q found reads Newer = served-after moment a sends ends rest q found
 
-verdict-after : (reading : Reading) (moment : ℕ) (a : Archive) (asked : Asked) (rest q : List ℕ) (verdict : Verdict) (way : Way) → said_verdict reading moment a asked (rest ++ q) verdict way ≡ said_with (with_piece q) (said_verdict reading moment a asked rest verdict way)
-verdict-after reading moment a asked rest q (Serve sends) way = found-after moment a sends asked.closes rest q (target_found reading a asked.target) (target_reads a asked.target) way
-verdict-after reading moment a asked rest q (Refuse status sends) way = refl
+verdict-after : (moment : ℕ) (a : Archive) (asked : Asked) (rest q : List ℕ) (verdict : Verdict) (way : Way) → said_verdict moment a asked (rest ++ q) verdict way ≡ said_with (with_piece q) (said_verdict moment a asked rest verdict way)
+verdict-after moment a asked rest q (Serve sends) way = found-after moment a sends asked.closes rest q (target_found a asked.target) (target_reads a asked.target) way
+verdict-after moment a asked rest q (Refuse status sends) way = refl
 
-head-after : (reading : Reading) (moment : ℕ) (a : Archive) (asked : Option Asked) (rest q : List ℕ) (way : Way) → said_head reading moment a asked (rest ++ q) way ≡ said_with (with_piece q) (said_head reading moment a asked rest way)
-head-after reading moment a None rest q way = refl
-head-after reading moment a (Some asked) rest q way = verdict-after reading moment a asked rest q (verdict_of (Some asked)) way
+head-after : (moment : ℕ) (a : Archive) (asked : Option Asked) (rest q : List ℕ) (way : Way) → said_head moment a asked (rest ++ q) way ≡ said_with (with_piece q) (said_head moment a asked rest way)
+head-after moment a None rest q way = refl
+head-after moment a (Some asked) rest q way = verdict-after moment a asked rest q (verdict_of (Some asked)) way
 
 goes-said : (reading : Reading) (moment : ℕ) (a : Archive) (bytes q : List ℕ) (way : Way) (f g : Front) → Goes q f g → is_whole f ≡ true → said_at reading moment a (bytes ++ q) g way ≡ said_with (with_piece q) (said_at reading moment a bytes f way)
-goes-said reading moment a bytes q way f g (Same head rest) h = head-after reading moment a (reading.reads head) rest q way
+goes-said reading moment a bytes q way f g (Same head rest) h = head-after moment a (reading head) rest q way
 goes-said reading moment a bytes q way f g Over h = refl
 goes-said reading moment a bytes q way f g (Open next) h = absurd (cc h)
 
@@ -76,17 +76,17 @@ served-left moment a sends ends rest (Gives body bytes) k e = replies-left a res
 served-left moment a sends ends rest (Streams body bytes) k e = replies-left a rest ends sends (reply Done moment body bytes sends ends) k e
 served-left moment a sends ends rest Missing k e = replies-left a rest ends false (word NotFound moment sends ends) k e
 
-verdict-left : (reading : Reading) (moment : ℕ) (a : Archive) (asked : Asked) (rest : List ℕ) (verdict : Verdict) (k : List ℕ) → (said_verdict reading moment a asked rest verdict Plain).next ≡ Some k → rest ≡ k
-verdict-left reading moment a asked rest (Serve sends) k e = served-left moment a sends asked.closes rest (target_found reading a asked.target) k e
-verdict-left reading moment a asked rest (Refuse status sends) k e = absurd (cc e)
+verdict-left : (moment : ℕ) (a : Archive) (asked : Asked) (rest : List ℕ) (verdict : Verdict) (k : List ℕ) → (said_verdict moment a asked rest verdict Plain).next ≡ Some k → rest ≡ k
+verdict-left moment a asked rest (Serve sends) k e = served-left moment a sends asked.closes rest (target_found a asked.target) k e
+verdict-left moment a asked rest (Refuse status sends) k e = absurd (cc e)
 
-head-left : (reading : Reading) (moment : ℕ) (a : Archive) (asked : Option Asked) (rest k : List ℕ) → (said_head reading moment a asked rest Plain).next ≡ Some k → rest ≡ k
-head-left reading moment a None rest k e = absurd (cc e)
-head-left reading moment a (Some asked) rest k e = verdict-left reading moment a asked rest (verdict_of (Some asked)) k e
+head-left : (moment : ℕ) (a : Archive) (asked : Option Asked) (rest k : List ℕ) → (said_head moment a asked rest Plain).next ≡ Some k → rest ≡ k
+head-left moment a None rest k e = absurd (cc e)
+head-left moment a (Some asked) rest k e = verdict-left moment a asked rest (verdict_of (Some asked)) k e
 
 shorter-at : (reading : Reading) (moment : ℕ) (a : Archive) (bytes k : List ℕ) (f : Front) → front head_limit bytes ≡ f → is_whole f ≡ true → (said_at reading moment a bytes f Plain).next ≡ Some k → length k < length bytes
 shorter-at reading moment a bytes k (Whole head rest) is h next =
-    let same : rest ≡ k = head-left reading moment a (reading.reads head) rest k next in
+    let same : rest ≡ k = head-left moment a (reading head) rest k next in
     let less = front-shorter head_limit bytes head rest is in
     rw same at less
 shorter-at reading moment a bytes k Long is h next = absurd (cc next)

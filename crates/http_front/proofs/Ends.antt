@@ -1,13 +1,13 @@
 -- Where heads end, in terms of the bytes alone.
-use Rattle.std.proofs.Common.{◌≡◌, ◌<◌, ◌≤◌, ◌+◌, ◌↔◌, ◌⊎◌, inl, inr, ℕ, zero, suc, Bool, true, false, nat_le, nat_lt, List, [], ◌∷◌, ◌++◌, length, take, drop, codes, Option, Some, None, refl, sym, ap, subst, ◌∙◌, length-append, arith, if◌then◌else◌}
+use Rattle.std.proofs.Common.{◌≡◌, ◌<◌, ◌≤◌, ◌+◌, inl, inr, ℕ, zero, suc, Bool, true, false, nat_le, nat_lt, List, [], ◌∷◌, ◌++◌, length, take, drop, codes, Option, Some, None, refl, sym, ap, ◌∙◌, length-append, arith, if◌then◌else◌}
 use Rattle.std.proofs.Math.Seq.{take-append_seam, drop-append-add}
 use Rattle.std.proofs.lemmas.Bool.{cases_order}
 use Rattle.std.proofs.lemmas.Bool.Decides.{nat_tests}
 use Rattle.std.proofs.lemmas.List.{take-append-drop, length-take-le}
 use Rattle.std.proofs.lemmas.Slice.Eq.{bytes_eq-Decides}
-use Rattle.http_front.specs.Fronts.{ends_here, plus_len, head_len, Front, Whole, Long, Partial, sized, front}
+use Rattle.http_front.specs.Fronts.{ends_here, head_len, Front, Whole, Long, Partial, sized, front}
 use Rattle.http_front.specs.Laws.{EndsAt, IsWhole, FrontLaw}
-use Rattle.http_front.proofs.Fronts.{len_by, head_len-cons, head_len-within, sized-whole, sized-over, sized-part, sized-long, front-goes, Goes, Same, Over, Open}
+use Rattle.http_front.proofs.Fronts.{len_by, head_len-cons, head_len-within, sized-whole, sized-part, front-goes, Goes, Same, Over, Open}
 
 -- A head ends at the front where four bytes end it.
 pub here-ends : (bytes : List ℕ) → ends_here bytes ≡ true → EndsAt bytes 0

@@ -1,6 +1,5 @@
 -- The entries and the arrivals of a feed, one after another.
-use Rattle.std.proofs.Common.{◌≡◌, ◌<◌, ◌+◌, ℕ, Bool, true, false, List, [], ◌∷◌, ◌++◌, length, take, get_or, Option, Some, None, Result, Ok, Err, refl, sym, ap, subst, ◌∙◌, append_assoc, append-nil, arith, nat_le, if◌then◌else◌}
-use Rattle.std.specs.List.{flat_map}
+use Rattle.std.proofs.Common.{◌≡◌, ◌<◌, ◌+◌, ℕ, Bool, true, false, List, [], ◌∷◌, ◌++◌, length, take, get_or, Option, Some, None, Result, Err, refl, sym, ap, subst, ◌∙◌, append_assoc, append-nil, arith, nat_le, if◌then◌else◌}
 use Rattle.std.proofs.lemmas.List.{take_more}
 use Rattle.std.proofs.lemmas.List.Concat.{flat_map-append}
 use Rattle.arch_base.specs.Moments.{last_moment}
@@ -22,31 +21,30 @@ use Rattle.http_front.proofs.Arrivals.{latest-append}
 use Rattle.http_front.proofs.Pieces.{RowAndText, Neither, Both, row-and-text, text-none}
 
 -- The mails of one more number.
-shown-more : (entries : List Entry) (numbers : List ℕ) (i n : ℕ) → i < length numbers → n ≡ get_or numbers i n → shown_all entries (take (i + 1) numbers) ≡ shown_all entries (take i numbers) ++ shown_at entries n
-shown-more entries numbers i n lt is =
-    ap (shown_all entries) (take_more numbers i n lt)
-    ∙ flat_map-append (shown_at entries) (take i numbers) (get_or numbers i n ∷ [])
-    ∙ ap (λ (xs : List Shown). shown_all entries (take i numbers) ++ xs) (append-nil (shown_at entries (get_or numbers i n)))
-    ∙ ap (λ (k : ℕ). shown_all entries (take i numbers) ++ shown_at entries k) (sym is)
+shown-more : (entries : List Entry) (numbers : List ℕ) (i d : ℕ) → i < length numbers → shown_all entries (take (i + 1) numbers) ≡ shown_all entries (take i numbers) ++ shown_at entries (get_or numbers i d)
+shown-more entries numbers i d lt =
+    ap (shown_all entries) (take_more numbers i d lt)
+    ∙ flat_map-append (shown_at entries) (take i numbers) (get_or numbers i d ∷ [])
+    ∙ ap (λ (xs : List Shown). shown_all entries (take i numbers) ++ xs) (append-nil (shown_at entries (get_or numbers i d)))
 
 -- The entries of one more number.
-pub entries-more : (name : List ℕ) (entries : List Entry) (numbers : List ℕ) (i n : ℕ) (start old new : List ℕ) → i < length numbers → n ≡ get_or numbers i n → old ≡ start ++ entries_of name (shown_all entries (take i numbers)) → new ≡ old ++ entries_of name (shown_at entries n)
+pub entries-more : (name : List ℕ) (entries : List Entry) (numbers : List ℕ) (i d : ℕ) (start old new : List ℕ) → i < length numbers → old ≡ start ++ entries_of name (shown_all entries (take i numbers)) → new ≡ old ++ entries_of name (shown_at entries (get_or numbers i d))
     → new ≡ start ++ entries_of name (shown_all entries (take (i + 1) numbers))
-entries-more name entries numbers i n start old new lt is before appended =
+entries-more name entries numbers i d start old new lt before appended =
     appended
-    ∙ ap (λ (w : List ℕ). w ++ entries_of name (shown_at entries n)) before
-    ∙ append_assoc start (entries_of name (shown_all entries (take i numbers))) (entries_of name (shown_at entries n))
-    ∙ ap (λ (w : List ℕ). start ++ w) (sym (flat_map-append (entry_of_shown name) (shown_all entries (take i numbers)) (shown_at entries n)) ∙ ap (entries_of name) (sym (shown-more entries numbers i n lt is)))
+    ∙ ap (λ (w : List ℕ). w ++ entries_of name (shown_at entries (get_or numbers i d))) before
+    ∙ append_assoc start (entries_of name (shown_all entries (take i numbers))) (entries_of name (shown_at entries (get_or numbers i d)))
+    ∙ ap (λ (w : List ℕ). start ++ w) (sym (flat_map-append (entry_of_shown name) (shown_all entries (take i numbers)) (shown_at entries (get_or numbers i d))) ∙ ap (entries_of name) (sym (shown-more entries numbers i d lt)))
 
 -- The last arrival with one more number.
-pub latest-more : (entries : List Entry) (numbers : List ℕ) (i n : ℕ) (last found next : Option ℕ) → i < length numbers → n ≡ get_or numbers i n → last ≡ latest_of (shown_all entries (take i numbers)) → found ≡ latest_of (shown_at entries n) → next ≡ later_of last found
+pub latest-more : (entries : List Entry) (numbers : List ℕ) (i d : ℕ) (last found next : Option ℕ) → i < length numbers → last ≡ latest_of (shown_all entries (take i numbers)) → found ≡ latest_of (shown_at entries (get_or numbers i d)) → next ≡ later_of last found
     → next ≡ latest_of (shown_all entries (take (i + 1) numbers))
-latest-more entries numbers i n last found next lt is before here joined =
+latest-more entries numbers i d last found next lt before here joined =
     joined
     ∙ ap (λ (o : Option ℕ). later_of o found) before
     ∙ ap (later_of (latest_of (shown_all entries (take i numbers)))) here
-    ∙ sym (latest-append (shown_all entries (take i numbers)) (shown_at entries n))
-    ∙ ap latest_of (sym (shown-more entries numbers i n lt is))
+    ∙ sym (latest-append (shown_all entries (take i numbers)) (shown_at entries (get_or numbers i d)))
+    ∙ ap latest_of (sym (shown-more entries numbers i d lt))
 
 -- The arrival of a row that is shown with a text.
 arrival-shown : (row : Row) (text : List ℕ) → latest_of (shown_by (Some row) (Some text)) ≡ arrival_of row
@@ -58,6 +56,8 @@ arrival-shown row text = by (nat_le row.arrived last_moment)
 
 row-shown : (o : Option Row) (text : Option (List ℕ)) → RowAndText o text → (row : Row) → one_row o ≡ row ∷ [] → latest_of (shown_by o text) ≡ arrival_of row
 row-shown None None Neither row e = absurd (cc e)
+row-shown None (Some text) never row e = elim never [ ]
+row-shown (Some r) None never row e = elim never [ ]
 row-shown (Some r) (Some text) (Both r' t is) row e = let same : r ≡ row = cc in arrival-shown r text ∙ ap arrival_of same
 
 -- When the mail of a number arrived, by its row.
@@ -121,9 +121,9 @@ finds-refused a found refusal.DiskFault whole = refl
 finds-refused a found (refusal.Damaged named other) whole = whole
 finds-refused a found refusal.NoMemory whole = tt
 
-three-parts : (head body tail new start mails made : List ℕ) → new ≡ [] → start ≡ new ++ head → mails ≡ start ++ body → made ≡ mails ++ tail → head ++ (body ++ tail) ≡ made
+three-parts : (head body tail new start mails made : List ℕ) → new ≡ [] → start ≡ new ++ head → mails ≡ start ++ body → made ≡ mails ++ tail → (head ++ body) ++ tail ≡ made
 three-parts head body tail new start mails made none begun filled ended =
-    sym (ended ∙ ap (λ (w : List ℕ). w ++ tail) (filled ∙ ap (λ (w : List ℕ). w ++ body) (begun ∙ ap (λ (w : List ℕ). w ++ head) none)) ∙ append_assoc head body tail)
+    sym (ended ∙ ap (λ (w : List ℕ). w ++ tail) (filled ∙ ap (λ (w : List ℕ). w ++ body) (begun ∙ ap (λ (w : List ℕ). w ++ head) none)))
 
 -- A feed was made of its three parts.
 pub feed-made : (a : Archive) (numbers new start mails made : List ℕ) → new ≡ [] → start ≡ new ++ feed_start a.config.name (updated_of a.config.born (shown_all a.entries numbers)) → mails ≡ start ++ entries_of a.config.name (shown_all a.entries numbers) → made ≡ mails ++ feed_end

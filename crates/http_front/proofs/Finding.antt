@@ -1,5 +1,5 @@
 -- What stands under a target, step by step.
-use Rattle.std.proofs.Common.{◌≡◌, ◌≤◌, ◌+◌, ℕ, Bool, true, false, List, take, drop, length, Option, Some, None, IfOk, is_some, Result, Ok, Err, refl, sym, ap, subst, ◌∙◌, arith}
+use Rattle.std.proofs.Common.{◌≡◌, ◌≤◌, ℕ, Bool, true, false, List, take, drop, length, Option, Some, None, IfOk, is_some, Result, Ok, Err, refl, sym, ap, subst, ◌∙◌, arith}
 use Rattle.std.proofs.lemmas.List.{length-take}
 use Rattle.arch_base.specs.declared.sequence.NoMemory.{NoMemory}
 use Rattle.arch_model.specs.Archives.{Entry, Archive, live}
@@ -13,20 +13,20 @@ use Rattle.http_heads.specs.Addresses.{Named, named_by, segments_of}
 use Rattle.http_heads.specs.Parameters.{path_of}
 use Rattle.http_heads.specs.declared.reply.Body.TheVariants.{Page}
 use Rattle.http_front.specs.Views.{rows_at}
-use Rattle.http_front.specs.Asking.{Reading, Found, Gives, Streams, Missing, message_found, text_found, feed_found, listing_found, found_of, named_found, path_found, reads_texts, path_reads, texts_for, path_texts, feed_len, rows_needed, ReadsUpTo}
+use Rattle.http_front.specs.Asking.{Found, Gives, Missing, message_found, text_found, feed_found, listing_found, found_of, named_found, path_found, reads_texts, path_reads, texts_for, path_texts, feed_len, rows_needed, ReadsUpTo}
 use Rattle.http_front.specs.Sessions.{Finds, MakesPage}
 use Rattle.http_front.specs.declared.found.Held.{Held}
 use Rattle.http_front.specs.declared.found.Held.TheVariants as what
 
 -- A path that names something.
-pub finds-named : (reading : Reading) (a : Archive) (query asked : List ℕ) (o : Option Named) (named : Named) (result : Result Held TextRefusal) → o ≡ Some named → query ≡ asked → Finds a (named_found reading a query named) (reads_texts named) result → Finds a (path_found reading a asked o) (path_reads o) result
-finds-named reading a query asked o named result is same found =
-    subst (λ (x : Option Named). Finds a (path_found reading a asked x) (path_reads x) result) (sym is)
-    (subst (λ (q : List ℕ). Finds a (named_found reading a q named) (reads_texts named) result) same found)
+pub finds-named : (a : Archive) (query asked : List ℕ) (o : Option Named) (named : Named) (result : Result Held TextRefusal) → o ≡ Some named → query ≡ asked → Finds a (named_found a query named) (reads_texts named) result → Finds a (path_found a asked o) (path_reads o) result
+finds-named a query asked o named result is same found =
+    subst (λ (x : Option Named). Finds a (path_found a asked x) (path_reads x) result) (sym is)
+    (subst (λ (q : List ℕ). Finds a (named_found a q named) (reads_texts named) result) same found)
 
 -- A path that names nothing.
-pub finds-nothing : (reading : Reading) (a : Archive) (query : List ℕ) (o : Option Named) → o ≡ None → Finds a (path_found reading a query o) (path_reads o) (Ok what.Nothing)
-finds-nothing reading a query o is = subst (λ (x : Option Named). Finds a (path_found reading a query x) (path_reads x) (Ok what.Nothing)) (sym is) refl
+pub finds-nothing : (a : Archive) (query : List ℕ) (o : Option Named) → o ≡ None → Finds a (path_found a query o) (path_reads o) (Ok what.Nothing)
+finds-nothing a query o is = subst (λ (x : Option Named). Finds a (path_found a query x) (path_reads x) (Ok what.Nothing)) (sym is) refl
 
 -- An id of a live mail.
 pub finds-mail : (a : Archive) (o : Option ℕ) (n : ℕ) (give : ℕ → Found) (reads : Bool) (result : Result Held TextRefusal) → o ≡ Some n → Finds a (give n) reads result → Finds a (found_of o give) reads result

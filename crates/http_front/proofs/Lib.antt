@@ -1,8 +1,6 @@
 pub mod Fronts
 pub mod Ends
 pub mod Scanning
-pub mod Trees
-pub mod Ids
 pub mod ThreadRows
 pub mod Doors
 pub mod Acting

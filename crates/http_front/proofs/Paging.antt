@@ -1,11 +1,11 @@
 -- The rows that a page of the listing needs say as much as all rows.
-use Rattle.std.proofs.Common.{◌≡◌, ◌<◌, ◌≤◌, ◌+◌, ◌-◌, ◌==◌, min, ℕ, zero, suc, Bool, true, false, List, [], ◌∷◌, ◌++◌, map, reverse, take, drop, length, Option, Some, None, is_some, refl, sym, ap, subst, ◌∙◌, arith, if◌then◌else◌}
+use Rattle.std.proofs.Common.{◌≡◌, ◌-◌, ◌==◌, min, ℕ, zero, suc, Bool, true, false, List, [], ◌∷◌, ◌++◌, reverse, take, drop, length, Option, Some, None, is_some, refl, sym, ap, subst, ◌∙◌, arith, if◌then◌else◌}
 use Rattle.std.specs.List.{All, flat_map}
 use Rattle.std.proofs.lemmas.List.{length-take, length-drop, reverse-append}
 use Rattle.std.proofs.lemmas.List.Elements.{All-nil, All-cons, All-head, All-tail, All-weaker, All-drop, All-map, All-push}
 use Rattle.std.proofs.lemmas.Bool.Decides.{nat_tests}
 use Rattle.std.proofs.lemmas.Map.Views.{All-insert_key}
-use Rattle.arch_model.specs.Archives.{Entry, Archive, live}
+use Rattle.arch_model.specs.Archives.{Entry, live}
 use Rattle.arch_model.specs.Listings.{row_at, row_in, dated, date_cmp, by_date, number_beside, listing}
 use Rattle.html_pages.specs.Lines.{row_line, rows_shown, older_link}
 use Rattle.html_pages.specs.Pages.{listing_of, page_of}

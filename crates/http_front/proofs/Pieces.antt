@@ -22,19 +22,23 @@ mbox-is e = refl
 
 pub row-and-text : (entries : List Entry) (n : ℕ) → RowAndText (row_in entries n) (text_of entries n)
 row-and-text [] n = Neither
-row-and-text (e ∷ es) n = by (e.number == n)
+row-and-text (e ∷ es) n = by (e.number == n) (row-and-text es n)
   where
-    by : (t : Bool) → RowAndText (if t then Some (row_at e) else row_in es n) (if t then Some e.text else text_of es n)
-    by true = Both (row_at e) e.text (mbox-is e)
-    by false = row-and-text es n
+    by : (t : Bool) → RowAndText (row_in es n) (text_of es n) → RowAndText (if t then Some (row_at e) else row_in es n) (if t then Some e.text else text_of es n)
+    by true later = Both (row_at e) e.text (mbox-is e)
+    by false later = later
 
 -- The rows of a number by its text.
 row-told : (row : Option Row) (text : Option (List ℕ)) → RowAndText row text → (found : Row) → one_row row ≡ found ∷ [] → length (piece_by text) ≡ found.mbox
 row-told None None Neither found e = absurd (cc e)
+row-told None (Some text) never found e = elim never [ ]
+row-told (Some row) None never found e = elim never [ ]
 row-told (Some row) (Some text) (Both r t is) found e = let same : row ≡ found = cc in sym is ∙ ap (λ (x : Row). x.mbox) same
 
 no-row : (row : Option Row) (text : Option (List ℕ)) → RowAndText row text → one_row row ≡ [] → text ≡ None
 no-row None None Neither e = refl
+no-row None (Some text) never e = elim never [ ]
+no-row (Some row) None never e = elim never [ ]
 no-row (Some row) (Some text) (Both r t is) e = absurd (cc e)
 
 -- A number without a row has no text.
@@ -95,8 +99,8 @@ pieces-none entries low none =
     ap (pieces_from entries low) size ∙ skip entries low (4294967296 - low) 0 (λ m from to. none m from)
 
 -- The pieces of a list of numbers from an index on.
-pub mailbox-next : (entries : List Entry) (numbers : List ℕ) (i n : ℕ) → i < length numbers → n ≡ get_or numbers i n → mailbox_at entries (drop i numbers) ≡ piece_at entries n ++ mailbox_at entries (drop (i + 1) numbers)
-mailbox-next entries numbers i n lt is = at_drop_more (mailbox_at entries) numbers i n lt ∙ ap (λ (k : ℕ). piece_at entries k ++ mailbox_at entries (drop (i + 1) numbers)) (sym is)
+pub mailbox-next : (entries : List Entry) (numbers : List ℕ) (i d : ℕ) → i < length numbers → mailbox_at entries (drop i numbers) ≡ piece_at entries (get_or numbers i d) ++ mailbox_at entries (drop (i + 1) numbers)
+mailbox-next entries numbers i d lt = at_drop_more (mailbox_at entries) numbers i d lt
 
 pub mailbox-none : (entries : List Entry) (numbers : List ℕ) (i : ℕ) → length numbers ≤ i → mailbox_at entries (drop i numbers) ≡ []
 mailbox-none entries numbers i past = ap (mailbox_at entries) (drop_all i numbers past)
@@ -111,9 +115,9 @@ pub len-none : (entries : List Entry) (low len all : ℕ) → IsNext entries low
 len-none entries low len all none before = let over : length (pieces_left entries low) ≡ 0 = ap length (pieces-none entries low none) in omega (arith, before, over)
 
 -- One more piece of these numbers, and none.
-pub len-next : (entries : List Entry) (numbers : List ℕ) (i n len size all : ℕ) → i < length numbers → n ≡ get_or numbers i n → len + length (mailbox_at entries (drop i numbers)) ≡ all → size ≡ length (piece_at entries n) → (len + size) + length (mailbox_at entries (drop (i + 1) numbers)) ≡ all
-len-next entries numbers i n len size all lt is before told =
-    let cut : length (mailbox_at entries (drop i numbers)) ≡ length (piece_at entries n) + length (mailbox_at entries (drop (i + 1) numbers)) = ap length (mailbox-next entries numbers i n lt is) ∙ length-append (piece_at entries n) (mailbox_at entries (drop (i + 1) numbers)) in
+pub len-next : (entries : List Entry) (numbers : List ℕ) (i d len size all : ℕ) → i < length numbers → len + length (mailbox_at entries (drop i numbers)) ≡ all → size ≡ length (piece_at entries (get_or numbers i d)) → (len + size) + length (mailbox_at entries (drop (i + 1) numbers)) ≡ all
+len-next entries numbers i d len size all lt before told =
+    let cut : length (mailbox_at entries (drop i numbers)) ≡ length (piece_at entries (get_or numbers i d)) + length (mailbox_at entries (drop (i + 1) numbers)) = ap length (mailbox-next entries numbers i d lt) ∙ length-append (piece_at entries (get_or numbers i d)) (mailbox_at entries (drop (i + 1) numbers)) in
     omega (arith, before, told, cut)
 
 pub len-past : (entries : List Entry) (numbers : List ℕ) (i len all : ℕ) → length numbers ≤ i → len + length (mailbox_at entries (drop i numbers)) ≡ all → len ≡ all

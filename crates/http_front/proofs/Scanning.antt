@@ -4,8 +4,8 @@ use Rattle.std.proofs.Math.Seq.{take-append-add, drop-append-add}
 use Rattle.std.proofs.lemmas.Bool.{eqb-true, eqb-false, ne_eqb}
 use Rattle.std.proofs.lemmas.Bool.Decides.{nat_tests}
 use Rattle.std.proofs.lemmas.List.{length-take-le, take-append-drop}
-use Rattle.http_front.specs.Fronts.{ends_here, plus_len, head_len, Front, Whole, Long, Partial, sized, front}
-use Rattle.http_front.specs.Scans.{started, next_seen, scan_by, scan, seen_by, seen_after, IsHeld}
+use Rattle.http_front.specs.Fronts.{ends_here, plus_len, head_len, Whole, Long, Partial, sized, front}
+use Rattle.http_front.specs.Scans.{next_seen, scan_by, scan, seen_by, seen_after, IsHeld}
 use Rattle.http_front.specs.declared.scan.Seen.{Seen}
 use Rattle.http_front.specs.declared.scan.Seen.TheVariants.{Nothing, Return, Line, LineReturn}
 use Rattle.http_front.proofs.Fronts.{len_by, head_len-cons, head_len-later, sized-whole, sized-over, sized-part, sized-long}

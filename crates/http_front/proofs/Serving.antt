@@ -1,9 +1,9 @@
 -- What is found and said makes an act.
-use Rattle.std.proofs.Common.{◌≡◌, ◌≤◌, ◌⊎◌, inl, inr, ℕ, Bool, true, false, not, ◌&&◌, List, Option, Some, None, Result, Ok, Err, is_ok, refl, sym, ap, subst, ◌∙◌, arith}
+use Rattle.std.proofs.Common.{◌≡◌, ◌≤◌, inl, inr, ℕ, Bool, true, false, not, ◌&&◌, List, Option, Some, None, Result, Err, is_ok, refl, sym, ap, subst, ◌∙◌, arith}
 use Rattle.edge_io.specs.Phrases.{Says}
 use Rattle.edge_io.specs.declared.sink.SinkFault.{SinkFault}
 use Rattle.httparse.specs.Grammar.{RequestHead}
-use Rattle.line_door.specs.Acts.{Outside, Way, Plain, Memory, Disk, Acts, held_if}
+use Rattle.line_door.specs.Acts.{Outside, Plain, Memory, Disk, Acts, held_if}
 use Rattle.line_door.specs.Making.{closes}
 use Rattle.line_door.proofs.Acting.{acts-closing, acts-from, acts-words}
 use Rattle.arch_model.specs.Archives.{Archive}
@@ -18,41 +18,41 @@ use Rattle.http_heads.specs.declared.reply.Status.{Status}
 use Rattle.http_heads.specs.declared.reply.Status.TheVariants.{Done, BadRequest, NotFound, ServerError, Unavailable}
 use Rattle.http_heads.specs.declared.reply.Verdict.{Verdict}
 use Rattle.http_heads.specs.declared.reply.Verdict.TheVariants.{Serve, Refuse}
-use Rattle.http_front.specs.Asking.{Reading, IsReading, Found, Gives, Streams, Missing, target_found, target_reads}
+use Rattle.http_front.specs.Asking.{Reading, IsReading, Found, Gives, Streams, Missing}
 use Rattle.http_front.specs.Replies.{reply, word}
-use Rattle.http_front.specs.Door.{replies, served, said_found, said_asked, said_verdict, said_head}
+use Rattle.http_front.specs.Door.{served, said_found, said_asked, said_verdict, said_head}
 use Rattle.http_front.specs.Sessions.{SaysThen, SaysWhole, SaysUnread, Finds, said_mailbox}
 use Rattle.http_front.proofs.Acting.{acts-replied}
 
 -- What a head that was read asks.
-pub reads-some : (reading : Reading) → IsReading reading → (bytes : List ℕ) (head : RequestHead) (asked : Asked) → IsHead bytes head → asked ≡ asked_of head → reading.reads bytes ≡ Some asked
-reads-some reading is bytes head asked read same = is.heads.head bytes head read ∙ ap Some (sym same)
+pub reads-some : (reading : Reading) → IsReading reading → (bytes : List ℕ) (head : RequestHead) (asked : Asked) → IsHead bytes head → asked ≡ asked_of head → reading bytes ≡ Some asked
+reads-some reading is bytes head asked read same = is.head bytes head read ∙ ap Some (sym same)
 
 -- What is no head.
-pub reads-none : (reading : Reading) → IsReading reading → (bytes : List ℕ) → ((head : RequestHead) → IsHead bytes head → None ≡ Some (asked_of head)) → reading.reads bytes ≡ None
-reads-none reading is bytes other = is.heads.none bytes (λ head read. never (asked_of head) (other head read))
+pub reads-none : (reading : Reading) → IsReading reading → (bytes : List ℕ) → ((head : RequestHead) → IsHead bytes head → None ≡ Some (asked_of head)) → reading bytes ≡ None
+reads-none reading is bytes other = is.none bytes (λ head read. never (asked_of head) (other head read))
   where
     never : (asked : Asked) → None ≡ Some asked → ⊥
     never asked e = cc e
 
-module _ (reading : Reading) (moment : ℕ) (a : Archive) (rest : List ℕ) where
+module _ (moment : ℕ) (a : Archive) (rest : List ℕ) where
   -- What is no head is a bad request.
-  pub acts-bad : (asked : Option Asked) (i j : Outside) (sent : Result Unit SinkFault) → asked ≡ None → j.disk ≡ i.disk → Says (word BadRequest moment true true) i.out i.lost j.out j.lost sent → Acts (said_head reading moment a asked rest) i None a j
+  pub acts-bad : (asked : Option Asked) (i j : Outside) (sent : Result Unit SinkFault) → asked ≡ None → j.disk ≡ i.disk → Says (word BadRequest moment true true) i.out i.lost j.out j.lost sent → Acts (said_head moment a asked rest) i None a j
   acts-bad asked i j sent none kept words =
-      acts-closing (said_head reading moment a asked rest) Plain (closes a (word BadRequest moment true true)) i j a sent (ap (λ (o : Option Asked). said_head reading moment a o rest Plain) none) refl kept (omega (arith, kept)) words refl
+      acts-closing (said_head moment a asked rest) Plain (closes a (word BadRequest moment true true)) i j a sent (ap (λ (o : Option Asked). said_head moment a o rest Plain) none) refl kept (omega (arith, kept)) words refl
 
   -- A head is refused.
   pub acts-refused : (found : Option Asked) (asked : Asked) (status : Status) (sends : Bool) (i j : Outside) (sent : Result Unit SinkFault) → found ≡ Some asked → verdict_of (Some asked) ≡ Refuse status sends → j.disk ≡ i.disk → Says (word status moment sends true) i.out i.lost j.out j.lost sent
-      → Acts (said_head reading moment a found rest) i None a j
+      → Acts (said_head moment a found rest) i None a j
   acts-refused found asked status sends i j sent is verdict kept words =
-      acts-closing (said_head reading moment a found rest) Plain (closes a (word status moment sends true)) i j a sent
-      (ap (λ (o : Option Asked). said_head reading moment a o rest Plain) is ∙ ap (λ (v : Verdict). said_verdict reading moment a asked rest v Plain) verdict) refl kept (omega (arith, kept)) words refl
+      acts-closing (said_head moment a found rest) Plain (closes a (word status moment sends true)) i j a sent
+      (ap (λ (o : Option Asked). said_head moment a o rest Plain) is ∙ ap (λ (v : Verdict). said_verdict moment a asked rest v Plain) verdict) refl kept (omega (arith, kept)) words refl
 
   -- A head is served.
-  pub acts-served : (found : Option Asked) (asked : Asked) (sends : Bool) (i : Outside) (held : Option (List ℕ)) (j : Outside) → found ≡ Some asked → verdict_of (Some asked) ≡ Serve sends → Acts (said_asked reading moment a asked sends rest) i held a j → Acts (said_head reading moment a found rest) i held a j
+  pub acts-served : (found : Option Asked) (asked : Asked) (sends : Bool) (i : Outside) (held : Option (List ℕ)) (j : Outside) → found ≡ Some asked → verdict_of (Some asked) ≡ Serve sends → Acts (said_asked moment a asked sends rest) i held a j → Acts (said_head moment a found rest) i held a j
   acts-served found asked sends i held j is verdict acts =
-      acts-words (said_head reading moment a found rest) (said_asked reading moment a asked sends rest) i held a j
-      (λ way. ap (λ (o : Option Asked). said_head reading moment a o rest way) is ∙ ap (λ (v : Verdict). said_verdict reading moment a asked rest v way) verdict) acts
+      acts-words (said_head moment a found rest) (said_asked moment a asked sends rest) i held a j
+      (λ way. ap (λ (o : Option Asked). said_head moment a o rest way) is ∙ ap (λ (v : Verdict). said_verdict moment a asked rest v way) verdict) acts
 
 module _ (moment : ℕ) (a : Archive) (sends ends : Bool) (rest : List ℕ) (found : Found) (reads : Bool) where
   -- What was found is said whole, or memory ran out.

@@ -39,7 +39,7 @@ pub record SoFar (all unsaid left : List ℕ) (begun : Bool) (i j : Outside) : T
 
 -- Nothing was said yet.
 pub sofar-none : (all unsaid left : List ℕ) (i : Outside) → all ≡ unsaid ++ left → SoFar all unsaid left false i i
-sofar-none all unsaid left i is = record { front = []; joined = is; says = (refl, plus-none i.out); some = λ no. absurd (cc no); none = λ no. refl; kept = refl }
+sofar-none all unsaid left i is = record { front = []; joined = is; says = (refl, plus-none i.out); some = λ unsent. absurd (cc unsent); none = λ unsent. refl; kept = refl }
 
 module _ (all unsaid left piece more : List ℕ) (begun : Bool) (i j : Outside) (before : SoFar all unsaid left begun i j) (is : left ≡ piece ++ more) where
   -- All words, where the next piece is taken apart.
@@ -61,8 +61,8 @@ module _ (all unsaid left piece more : List ℕ) (begun : Bool) (i j : Outside) 
     front = before.front ++ (unsaid ++ piece);
     joined = parted ∙ sym (append_assoc before.front (unsaid ++ piece) more) ∙ ap (λ (w : List ℕ). (before.front ++ (unsaid ++ piece)) ++ (w ++ more)) (sym said.none);
     says = Says-then before.front (unsaid ++ piece) i.out j.out k.out i.lost j.lost k.lost tt (Ok tt) before.says said.says;
-    some = λ yes. omega (arith, length-append before.front (unsaid ++ piece), said.some);
-    none = λ no. absurd (cc no);
+    some = λ sent. omega (arith, length-append before.front (unsaid ++ piece), said.some);
+    none = λ unsent. absurd (cc unsent);
     kept = said.disk ∙ before.kept;
   }
 
@@ -107,27 +107,27 @@ module _ (moment : ℕ) (a : Archive) (ends : Bool) (rest all : List ℕ) where
         short_some = omega (arith, length-append (unsaid ++ piece) more, length-append unsaid piece, stops.some)
 
         nothing : begun ≡ false → Says [] i.out i.lost k.out k.lost (Ok tt)
-        nothing no = let front : Says [] i.out i.lost j.out j.lost (Ok tt) = subst (λ (w : List ℕ). Says w i.out i.lost j.out j.lost (Ok tt)) (before.none no) before.says in (stops.lost ∙ front.0, stops.out ∙ front.1)
+        nothing unsent = let front : Says [] i.out i.lost j.out j.lost (Ok tt) = subst (λ (w : List ℕ). Says w i.out i.lost j.out j.lost (Ok tt)) (before.none unsent) before.says in (stops.lost ∙ front.0, stops.out ∙ front.1)
 
         told : (w : TextRefusal) → begun ≡ false → IsUndamaged w → ReadingWhy j.disk k.disk w → SaysStopped false w moment k.out k.lost l.out l.lost → Acts (said_stream moment a ends rest all) i None a l
-        told refusal.DiskFault no whole rose words =
+        told refusal.DiskFault unsent whole rose words =
             let rose_all : Rose i.disk l.disk = omega (arith, before.kept, same, rose) in
             acts-closing (said_stream moment a ends rest all) Disk (closes a (word ServerError moment true true)) i l a words.0 refl refl rose_all later
-            (Says-then [] (word ServerError moment true true) i.out k.out l.out i.lost k.lost l.lost tt words.0 (nothing no) words.1) refl
-        told (refusal.Damaged named found) no whole other words = absurd whole
-        told refusal.NoMemory no whole kept words =
+            (Says-then [] (word ServerError moment true true) i.out k.out l.out i.lost k.lost l.lost tt words.0 (nothing unsent) words.1) refl
+        told (refusal.Damaged named found) unsent whole other words = absurd whole
+        told refusal.NoMemory unsent whole kept words =
             acts-closing (said_stream moment a ends rest all) Memory (closes a (word Unavailable moment true true)) i l a words.0 refl refl (same ∙ kept ∙ before.kept) later
-            (Says-then [] (word Unavailable moment true true) i.out k.out l.out i.lost k.lost l.lost tt words.0 (nothing no) words.1) refl
+            (Says-then [] (word Unavailable moment true true) i.out k.out l.out i.lost k.lost l.lost tt words.0 (nothing unsent) words.1) refl
 
         by : (b : Bool) → begun ≡ b → SaysStopped b why moment k.out k.lost l.out l.lost → Acts (said_stream moment a ends rest all) i None a l
-        by true yes quiet =
-            acts-short (said_stream moment a ends rest all) (replies a rest ends true all) before.front ((unsaid ++ piece) ++ more) i l a refl refl apart (before.some yes) short_some (cause why stops.whole stops.why) later
+        by true sent quiet =
+            acts-short (said_stream moment a ends rest all) (replies a rest ends true all) before.front ((unsaid ++ piece) ++ more) i l a refl refl apart (before.some sent) short_some (cause why stops.whole stops.why) later
             (quiet.1 ∙ stops.lost ∙ before.says.0, quiet.0 ∙ stops.out ∙ before.says.1) refl
-        by false no words = told why no stops.whole stops.why words
+        by false unsent words = told why unsent stops.whole stops.why words
 
 -- Words by other ones, and by the outside before.
-said-as : {v w : List ℕ} {out out' end : Option (List ℕ)} {lost lost' last : ℕ} → v ≡ w → out' ≡ out → lost' ≡ lost → (sent : Result Unit SinkFault) → Says v out' lost' end last sent → Says w out lost end last sent
-said-as {v} {w} {out} {out'} {end} {lost} {lost'} {last} same outs losts sent says =
+said-as : (v w : List ℕ) (out out' end : Option (List ℕ)) (lost lost' last : ℕ) → v ≡ w → out' ≡ out → lost' ≡ lost → (sent : Result Unit SinkFault) → Says v out' lost' end last sent → Says w out lost end last sent
+said-as v w out out' end lost lost' last same outs losts sent says =
     subst (λ (x : List ℕ). Says x out lost end last sent) same (subst (λ (o : Option (List ℕ)). Says v o lost end last sent) outs (subst (λ (l : ℕ). Says v out' l end last sent) losts says))
 
 -- After a piece was put after the words that are to be said, these are said if they are long.
@@ -136,10 +136,10 @@ part-long piece begun old mid new i j k (part.Put after) put outs losts disks (i
     inl (more.0, record { added = more.1.added ∙ append-nil mid ∙ put; out = more.1.out ∙ outs; lost = more.1.lost ∙ losts; disk = more.1.disk ∙ disks })
 part-long piece begun old mid new i j k (part.Put after) put outs losts disks (inr said) =
     let words : mid ++ [] ≡ old ++ piece = append-nil mid ∙ put in
-    inr (said.0, record { none = said.1.none; some = subst (λ (w : List ℕ). 0 < length w) words said.1.some; says = said-as words outs losts (Ok tt) said.1.says; disk = said.1.disk ∙ disks })
+    inr (said.0, record { none = said.1.none; some = subst (λ (w : List ℕ). 0 < length w) words said.1.some; says = said-as (mid ++ []) (old ++ piece) i.out j.out k.out i.lost j.lost k.lost words outs losts (Ok tt) said.1.says; disk = said.1.disk ∙ disks })
 part-long piece begun old mid new i j k part.Lost put outs losts disks lost_all =
     let words : mid ++ [] ≡ old ++ piece = append-nil mid ∙ put in
-    record { fault = lost_all.fault; says = said-as words outs losts (Err lost_all.fault) lost_all.says; disk = lost_all.disk ∙ disks }
+    record { fault = lost_all.fault; says = said-as (mid ++ []) (old ++ piece) i.out j.out k.out i.lost j.lost k.lost words outs losts (Err lost_all.fault) lost_all.says; disk = lost_all.disk ∙ disks }
 part-long piece begun old mid new i j k (part.Unread why) put outs losts disks never = absurd (omega (arith, never.some))
 
 -- Few words wait; many are said, or lost.
@@ -148,10 +148,10 @@ long-waits begun old i = inl (refl, record { added = sym (append-nil old); out =
 
 pub long-said : (begun : Bool) (old new : List ℕ) (i j : Outside) → new ≡ [] → 0 < length old → Says old i.out i.lost j.out j.lost (Ok tt) → j.disk ≡ i.disk → IsPart [] begun old i (part.Put true) new j
 long-said begun old new i j none some says same =
-    inr (refl, record { none = none; some = subst (λ (w : List ℕ). 0 < length w) (sym (append-nil old)) some; says = said-as (sym (append-nil old)) refl refl (Ok tt) says; disk = same })
+    inr (refl, record { none = none; some = subst (λ (w : List ℕ). 0 < length w) (sym (append-nil old)) some; says = said-as old (old ++ []) i.out i.out j.out i.lost i.lost j.lost (sym (append-nil old)) refl refl (Ok tt) says; disk = same })
 
 pub long-lost : (begun : Bool) (old new : List ℕ) (i j : Outside) (fault : SinkFault) → Says old i.out i.lost j.out j.lost (Err fault) → j.disk ≡ i.disk → IsPart [] begun old i part.Lost new j
-long-lost begun old new i j fault says same = record { fault = fault; says = said-as (sym (append-nil old)) refl refl (Err fault) says; disk = same }
+long-lost begun old new i j fault says same = record { fault = fault; says = said-as old (old ++ []) i.out i.out j.out i.lost i.lost j.lost (sym (append-nil old)) refl refl (Err fault) says; disk = same }
 
 -- The piece of a live number, and that of one that isn't live.
 pub part-at : (entries : List Entry) (n found : ℕ) (begun : Bool) (old : List ℕ) (i : Outside) (p : Part) (new : List ℕ) (k : Outside) → found ≡ n → text_at entries n ≡ shown_text entries n → IsPart (piece_by (shown_text entries found)) begun old i p new k → IsPart (piece_at entries n) begun old i p new k

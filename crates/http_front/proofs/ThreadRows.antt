@@ -7,16 +7,17 @@ use Rattle.std.proofs.lemmas.List.{take_more, map_push}
 use Rattle.arch_model.specs.Listings.{date_cmp}
 use Rattle.mail_forms.specs.declared.row.Row.{Row}
 use Rattle.thread_tree.specs.declared.twigs.Twig.{Twig}
-use Rattle.arch_model.specs.Archives.{Archive}
+use Rattle.arch_model.specs.Archives.{Archive, live}
 use Rattle.html_pages.specs.Lines.{thread_line}
 use Rattle.html_pages.specs.Pages.{page_of, thread_of}
 use Rattle.html_pages.specs.declared.thread_line.ThreadLine.{ThreadLine}
 use Rattle.http_heads.specs.declared.reply.Body.TheVariants.{Page}
-use Rattle.thread_tree.specs.Trees.{Prints, roots}
+use Rattle.shelf_trees.specs.Twigs.{thread_twigs}
+use Rattle.thread_tree.specs.Laid.{tree_lines}
 use Rattle.thread_tree.specs.declared.lines.Line.{Line}
 use Rattle.web_text.specs.Escapes.{title_of}
-use Rattle.http_front.specs.Asking.{Reading, IsReading, Gives}
-use Rattle.http_front.specs.Threads.{place_of, put_places, thread_rows, tree_line, tree_page, with_twig, twig_of, twigs_after}
+use Rattle.http_front.specs.Asking.{Gives}
+use Rattle.http_front.specs.Threads.{place_of, put_places, tree_line, tree_page}
 
 -- The rows that references refer to.
 abbrev pub rows_lent : List (Bor Row) → List Row
@@ -38,26 +39,13 @@ places-more rows i d row start old new lt is before puts =
     ∙ sym (places-append start (rows_lent (take i rows)) (get_or rows i d).now)
     ∙ ap (put_places start) (sym (rows-more rows i d lt))
 
-twigs-append : (twigs : List Twig) (rows : List Row) (row : Row) → twigs_after twigs (rows ++ row ∷ []) ≡ with_twig (twigs_after twigs rows) (twig_of row)
-twigs-append twigs [] row = refl
-twigs-append twigs (r ∷ rs) row = twigs-append (with_twig twigs (twig_of r)) rs row
-
--- One more mail of a tree.
-pub twigs-more : (rows : List (Bor Row)) (i : ℕ) (d : Bor Row) (row : Row) (start old new : List Twig) → i < length rows → row ≡ (get_or rows i d).now → old ≡ twigs_after start (rows_lent (take i rows)) → new ≡ with_twig old (twig_of row)
-    → new ≡ twigs_after start (rows_lent (take (i + 1) rows))
-twigs-more rows i d row start old new lt is before adds =
-    adds ∙ ap (λ (ts : List Twig). with_twig ts (twig_of row)) before
-    ∙ ap (λ (r : Row). with_twig (twigs_after start (rows_lent (take i rows))) (twig_of r)) is
-    ∙ sym (twigs-append start (rows_lent (take i rows)) (get_or rows i d).now)
-    ∙ ap (twigs_after start) (sym (rows-more rows i d lt))
-
 -- The page that was made by the lines of a tree.
-pub page-made : (reading : Reading) → IsReading reading → (a : Archive) (n : ℕ) (row : Row) (twigs : List Twig) (tree shown : List Line) (items lines : List ThreadLine) (name page : List ℕ) → twigs ≡ twigs_after [] (thread_rows a.entries n) → Prints twigs 0 (roots twigs) tree → shown ≡ tree
+pub page-made : (a : Archive) (n : ℕ) (row : Row) (twigs : List Twig) (tree shown : List Line) (items lines : List ThreadLine) (name page : List ℕ) → twigs ≡ thread_twigs (live a.entries) n → tree ≡ tree_lines twigs → shown ≡ tree
     → flat_map (thread_line a.config.name) items ≡ flat_map (tree_line a.config.name a.entries) shown → lines ≡ items → name ≡ a.config.name → page ≡ thread_of name row lines
-    → Gives Page (tree_page a.config.name a.entries row (reading.lays (twigs_after [] (thread_rows a.entries n)))) ≡ Gives Page page
+    → Gives Page (tree_page a.config.name a.entries row (tree_lines (thread_twigs (live a.entries) n))) ≡ Gives Page page
 unfolding tree_page thread_of
-page-made reading is a n row twigs tree shown items lines name page mails prints same laid all named made =
-    let laid_is : reading.lays (twigs_after [] (thread_rows a.entries n)) ≡ shown = ap reading.lays (sym mails) ∙ is.trees twigs tree prints ∙ sym same in
+page-made a n row twigs tree shown items lines name page mails laid_as same laid all named made =
+    let laid_is : tree_lines (thread_twigs (live a.entries) n) ≡ shown = ap tree_lines (sym mails) ∙ sym laid_as ∙ sym same in
     ap (λ (ls : List Line). Gives Page (page_of (title_of row.subject) (flat_map (tree_line a.config.name a.entries) ls))) laid_is
     ∙ ap (λ (w : List ℕ). Gives Page (page_of (title_of row.subject) w)) (sym laid)
     ∙ ap (λ (ls : List ThreadLine). Gives Page (page_of (title_of row.subject) (flat_map (thread_line a.config.name) ls))) (sym all)

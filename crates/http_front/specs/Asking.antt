@@ -1,5 +1,5 @@
 -- What an archive has under the target of a request.
-use Rattle.std.specs.Prelude.{◌≡◌, ◌≤◌, ◌+◌, ℕ, Bool, true, false, List, [], ◌∷◌, take, drop, reverse, codes, Option, Some, None}
+use Rattle.std.specs.Prelude.{◌≡◌, ◌≤◌, ◌+◌, ℕ, Bool, true, false, List, take, drop, reverse, codes, Option, Some, None}
 use Rattle.arch_model.specs.Archives.{Archive, live}
 use Rattle.arch_model.specs.Listings.{listing}
 use Rattle.atom_mbox.specs.Feeds.{feed_of}
@@ -13,28 +13,23 @@ use Rattle.http_heads.specs.declared.reply.Body.TheVariants.{Page, Text, Feed, M
 use Rattle.httparse.specs.Grammar.{RequestHead}
 use Rattle.mail_forms.specs.declared.row.Row.{Row}
 use Rattle.mime_parts.specs.Texts.{body_text_of}
-use Rattle.thread_tree.specs.declared.twigs.Twig.{Twig}
-use Rattle.thread_tree.specs.declared.lines.Line.{Line}
+use Rattle.shelf_trees.specs.Twigs.{thread_twigs}
+use Rattle.thread_tree.specs.Laid.{tree_lines}
 use Rattle.http_front.specs.Views.{number_named, shown_row, rows_at, shown_text, shown_all}
-use Rattle.http_front.specs.Threads.{LaysTrees, thread_rows, oldest_first, twigs_after, tree_page}
+use Rattle.http_front.specs.Threads.{thread_rows, oldest_first, tree_page}
 use Rattle.http_front.specs.Mailboxes.{mailbox_at, whole_mailbox}
 
--- How heads are read and how trees are laid out. Both are grammars, so each is given as a function.
-pub record Reading : Type 0 where
-  pub reads : List ℕ → Option Asked
-  pub lays : List Twig → List Line
+-- How heads are read: what a head asks, or nothing for what is no head. It is a grammar, so it is given
+-- as a function.
+abbrev pub Reading : Type 0
+Reading = List ℕ → Option Asked
 
--- A function reads heads: it gives what a head asks, and nothing for what is no head.
-pub record ReadsHeads (reads : List ℕ → Option Asked) : Type 0 where
-  pub head : (bytes : List ℕ) (head : RequestHead) → IsHead bytes head
-      → reads bytes ≡ Some (asked_of head)
-  pub none : (bytes : List ℕ) → ((head : RequestHead) → IsHead bytes head → ⊥)
-      → reads bytes ≡ None
-
--- The reading is that of both grammars.
+-- The reading is that of the grammar.
 pub record IsReading (reading : Reading) : Type 0 where
-  pub heads : ReadsHeads reading.reads
-  pub trees : LaysTrees reading.lays
+  pub head : (bytes : List ℕ) (head : RequestHead) → IsHead bytes head
+      → reading bytes ≡ Some (asked_of head)
+  pub none : (bytes : List ℕ) → ((head : RequestHead) → IsHead bytes head → ⊥)
+      → reading bytes ≡ None
 
 -- What stands under a target: a body that is said whole, one that is streamed, or nothing.
 pub data Found : Type 0 where
@@ -72,10 +67,10 @@ text_found None = Missing
 text_found (Some text) = Gives Text text
 
 -- The page of the thread of a number, by its row.
-abbrev pub thread_found : Reading → Archive → ℕ → Option Row → Found
-thread_found reading a n None = Missing
-thread_found reading a n (Some row) = Gives Page
-    (tree_page a.config.name a.entries row (reading.lays (twigs_after [] (thread_rows a.entries n))))
+abbrev pub thread_found : Archive → ℕ → Option Row → Found
+thread_found a n None = Missing
+thread_found a n (Some row) = Gives Page
+    (tree_page a.config.name a.entries row (tree_lines (thread_twigs (live a.entries) n)))
 
 -- The feed of these numbers.
 abbrev pub feed_found : Archive → List ℕ → Found
@@ -88,30 +83,30 @@ feed_len = 25
 
 -- What an address names: the newest mails of the archive or of a thread in a feed, newest first; all
 -- mails by number, or those of a thread by date, in a mailbox file; and the pages.
-abbrev pub named_found : Reading → Archive → List ℕ → Named → Found
-named_found reading a query TheListing = listing_found a (parameter (codes "q") query)
+abbrev pub named_found : Archive → List ℕ → Named → Found
+named_found a query TheListing = listing_found a (parameter (codes "q") query)
     (skipped (parameter (codes "o") query))
-named_found reading a query (MessageOf id) = found_of (number_named a.entries id)
+named_found a query (MessageOf id) = found_of (number_named a.entries id)
     (λ (n : ℕ). message_found a (shown_row a.entries n) (shown_text a.entries n))
-named_found reading a query (TextOf id) = found_of (number_named a.entries id)
+named_found a query (TextOf id) = found_of (number_named a.entries id)
     (λ (n : ℕ). text_found (shown_text a.entries n))
-named_found reading a query (ThreadOf id) = found_of (number_named a.entries id)
-    (λ (n : ℕ). thread_found reading a n (shown_row a.entries n))
-named_found reading a query TheFeed = feed_found a (take feed_len (listing (live a.entries)))
-named_found reading a query (ThreadFeedOf id) = found_of (number_named a.entries id)
+named_found a query (ThreadOf id) = found_of (number_named a.entries id)
+    (λ (n : ℕ). thread_found a n (shown_row a.entries n))
+named_found a query TheFeed = feed_found a (take feed_len (listing (live a.entries)))
+named_found a query (ThreadFeedOf id) = found_of (number_named a.entries id)
     (λ (n : ℕ). feed_found a (take feed_len (reverse (oldest_first (thread_rows a.entries n)))))
-named_found reading a query TheMailbox = Streams Mailbox (whole_mailbox a.entries)
-named_found reading a query (ThreadMailboxOf id) = found_of (number_named a.entries id)
+named_found a query TheMailbox = Streams Mailbox (whole_mailbox a.entries)
+named_found a query (ThreadMailboxOf id) = found_of (number_named a.entries id)
     (λ (n : ℕ). Streams Mailbox (mailbox_at a.entries (oldest_first (thread_rows a.entries n))))
 
 -- What is found of an address, if the path names one.
-abbrev pub path_found : Reading → Archive → List ℕ → Option Named → Found
-path_found reading a query None = Missing
-path_found reading a query (Some named) = named_found reading a query named
+abbrev pub path_found : Archive → List ℕ → Option Named → Found
+path_found a query None = Missing
+path_found a query (Some named) = named_found a query named
 
 -- What stands under a target.
-abbrev pub target_found : Reading → Archive → List ℕ → Found
-target_found reading a target = path_found reading a (query_of target)
+abbrev pub target_found : Archive → List ℕ → Found
+target_found a target = path_found a (query_of target)
     (named_by a.config.name (segments_of (path_of target)))
 
 -- Texts are read for what is named: for the page of a message, its text, feeds and mailbox files.

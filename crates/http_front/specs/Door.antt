@@ -1,13 +1,12 @@
 -- What the door of pages answers. Its session is the bytes that are not answered yet, and its
 -- requests read an archive and change nothing.
-use Rattle.std.specs.Prelude.{ℕ, Bool, true, false, List, [], ◌∷◌, ◌++◌, length, Option, Some, None, if◌then◌else◌}
-use Rattle.line_door.specs.Acts.{Said, Way, Plain, Memory, Disk, Newer}
+use Rattle.std.specs.Prelude.{ℕ, Bool, true, false, List, [], ◌∷◌, ◌++◌, Option, Some, None, if◌then◌else◌}
+use Rattle.line_door.specs.Acts.{Said, Way}
 use Rattle.line_door.specs.Making.{closes, in_ways}
 use Rattle.line_door.specs.Plain.{silent}
 use Rattle.arch_model.specs.Archives.{Archive}
 use Rattle.http_heads.specs.Heads.{Asked}
 use Rattle.http_heads.specs.Replies.{verdict_of}
-use Rattle.http_heads.specs.declared.reply.Body.{Body}
 use Rattle.http_heads.specs.declared.reply.Status.TheVariants.{Done, BadRequest, NotFound, HeadTooLarge, ServerError, Unavailable}
 use Rattle.http_heads.specs.declared.reply.Verdict.{Verdict}
 use Rattle.http_heads.specs.declared.reply.Verdict.TheVariants.{Serve, Refuse}
@@ -42,22 +41,22 @@ said_found moment a sends ends rest found reads way =
     else served moment a sends ends rest found) way
 
 -- A request in each way.
-abbrev pub said_asked : Reading → ℕ → Archive → Asked → Bool → List ℕ → Way → Says
-said_asked reading moment a asked sends rest way = said_found moment a sends asked.closes rest
-    (target_found reading a asked.target) (target_reads a asked.target) way
+abbrev pub said_asked : ℕ → Archive → Asked → Bool → List ℕ → Way → Says
+said_asked moment a asked sends rest way = said_found moment a sends asked.closes rest
+    (target_found a asked.target) (target_reads a asked.target) way
 
 -- A refusal, which closes the connection and needs no memory.
-abbrev pub said_verdict : Reading → ℕ → Archive → Asked → List ℕ → Verdict → Way → Says
-said_verdict reading moment a asked rest (Serve sends) way =
-    said_asked reading moment a asked sends rest way
-said_verdict reading moment a asked rest (Refuse status sends) way =
+abbrev pub said_verdict : ℕ → Archive → Asked → List ℕ → Verdict → Way → Says
+said_verdict moment a asked rest (Serve sends) way =
+    said_asked moment a asked sends rest way
+said_verdict moment a asked rest (Refuse status sends) way =
     closes a (word status moment sends true)
 
 -- What is said to a head, by what it asks. What is no head is a bad request.
-abbrev pub said_head : Reading → ℕ → Archive → Option Asked → List ℕ → Way → Says
-said_head reading moment a None rest way = closes a (word BadRequest moment true true)
-said_head reading moment a (Some asked) rest way =
-    said_verdict reading moment a asked rest (verdict_of (Some asked)) way
+abbrev pub said_head : ℕ → Archive → Option Asked → List ℕ → Way → Says
+said_head moment a None rest way = closes a (word BadRequest moment true true)
+said_head moment a (Some asked) rest way =
+    said_verdict moment a asked rest (verdict_of (Some asked)) way
 
 -- Out of memory for the beginning of a head, the connection is closed with a word. An empty rest
 -- needs no memory.
@@ -73,7 +72,7 @@ said_keeping moment a bytes way =
 -- What is said to what is at the front. A head that is too long closes the connection.
 abbrev pub said_at : Reading → ℕ → Archive → List ℕ → Front → Way → Says
 said_at reading moment a bytes (Whole head rest) way =
-    said_head reading moment a (reading.reads head) rest way
+    said_head moment a (reading head) rest way
 said_at reading moment a bytes Long way = closes a (word HeadTooLarge moment true true)
 said_at reading moment a bytes Partial way = said_keeping moment a bytes way
 

@@ -1,11 +1,7 @@
 -- The answers to a connection for pages do not depend on how its bytes are cut.
-use Rattle.std.specs.Prelude.{◌≡◌, ◌<◌, ◌≤◌, ◌+◌, ◌↔◌, ℕ, List, ◌++◌, length, take, codes, Option, Some, None, Bool, true, false}
+use Rattle.std.specs.Prelude.{◌≡◌, ◌<◌, ◌≤◌, ◌+◌, ◌↔◌, ℕ, List, ◌++◌, length, codes}
 use Rattle.line_door.specs.Cuts.{DoorLaws}
-use Rattle.arch_model.specs.Archives.{Archive}
-use Rattle.thread_tree.specs.Trees.{Prints, roots}
-use Rattle.thread_tree.specs.declared.lines.Line.{Line}
-use Rattle.thread_tree.specs.declared.twigs.Twig.{Twig}
-use Rattle.http_front.specs.Fronts.{Whole, Long, Partial, front, is_whole}
+use Rattle.http_front.specs.Fronts.{Whole, Long, Partial, front}
 use Rattle.http_front.specs.Asking.{Reading}
 use Rattle.http_front.specs.Door.{said, has_request, with_piece}
 
@@ -33,14 +29,8 @@ pub record FrontLaw : Type 0 where
   pub stays_long : (limit : ℕ) (bytes more : List ℕ) → front limit bytes ≡ Long
       → front limit (bytes ++ more) ≡ Long
 
--- The lines of a tree are one list, so the function that a reading has for them is one.
-abbrev pub TreesAreOne : Type 0
-TreesAreOne = (twigs : List Twig) (lines other : List Line) → Prints twigs 0 (roots twigs) lines
-    → Prints twigs 0 (roots twigs) other → lines ≡ other
-
 -- However the bytes are cut, the door says and leaves the same. The acts of one piece and then of
 -- another are acts of both, even if allocations, the disk or sends fail.
 pub record HttpLaws : Type 0 where
   pub door : (reading : Reading) (moment : ℕ) → DoorLaws (said reading moment) has_request with_piece length
   pub front : FrontLaw
-  pub trees : TreesAreOne

@@ -74,13 +74,13 @@ MakesPage found (Ok (what.Mails numbers)) = ⊥
 MakesPage found (Err refused) = Unit {0}
 
 -- What is found of a live number, by the form in which it is asked for.
-abbrev pub form_found : Reading → Archive → Form → ℕ → Found
-form_found reading a form.Message n = message_found a (shown_row a.entries n) (shown_text a.entries n)
-form_found reading a form.Text n = text_found (shown_text a.entries n)
-form_found reading a form.Thread n = thread_found reading a n (shown_row a.entries n)
-form_found reading a form.Feed n =
+abbrev pub form_found : Archive → Form → ℕ → Found
+form_found a form.Message n = message_found a (shown_row a.entries n) (shown_text a.entries n)
+form_found a form.Text n = text_found (shown_text a.entries n)
+form_found a form.Thread n = thread_found a n (shown_row a.entries n)
+form_found a form.Feed n =
     feed_found a (take feed_len (reverse (oldest_first (thread_rows a.entries n))))
-form_found reading a form.Mailbox n =
+form_found a form.Mailbox n =
     Streams Mailbox (mailbox_at a.entries (oldest_first (thread_rows a.entries n)))
 
 -- Texts are read for a form.
@@ -113,10 +113,9 @@ said_mailbox moment a sends ends rest bytes =
 -- A shelf: the archives that it holds.
 module _ {S : Type 0} (holds : S → Archive → Type 0) where
   -- Whichever archive is held, this was found.
-  abbrev pub FindsIn : (Reading → Archive → Found) → (Archive → Bool) → S → Result Held TextRefusal
-      → Type 0
-  FindsIn found reads shelf result = (reading : Reading) → IsReading reading → (a : Archive)
-      → holds shelf a → Finds a (found reading a) (reads a) result
+  abbrev pub FindsIn : (Archive → Found) → (Archive → Bool) → S → Result Held TextRefusal → Type 0
+  FindsIn found reads shelf result = (a : Archive) → holds shelf a
+      → Finds a (found a) (reads a) result
 
   -- Whichever archive is held, at most so many texts were read.
   abbrev pub ReadsIn : (Archive → ℕ) → S → ℕ → ℕ → Type 0
@@ -126,13 +125,12 @@ module _ {S : Type 0} (holds : S → Archive → Type 0) where
   abbrev pub AnswersHead : ℕ → List ℕ → S → Outside → Bool → Outside → Type 0
   AnswersHead moment head shelf i goes_on j = (reading : Reading) → IsReading reading
       → (a : Archive) (rest : List ℕ) → holds shelf a
-      → Acts (said_head reading moment a (reading.reads head) rest) i (held_if goes_on rest) a j
+      → Acts (said_head moment a (reading head) rest) i (held_if goes_on rest) a j
 
   -- Whichever archive is held and whatever follows, a request is served.
   abbrev pub Serves : ℕ → Asked → Bool → S → Outside → Bool → Outside → Type 0
-  Serves moment asked sends shelf i goes_on j = (reading : Reading) → IsReading reading
-      → (a : Archive) (rest : List ℕ) → holds shelf a
-      → Acts (said_asked reading moment a asked sends rest) i (held_if goes_on rest) a j
+  Serves moment asked sends shelf i goes_on j = (a : Archive) (rest : List ℕ) → holds shelf a
+      → Acts (said_asked moment a asked sends rest) i (held_if goes_on rest) a j
 
   -- Whichever archive is held and whatever follows, the reply with a mailbox file is said.
   abbrev pub ServesMailbox : (Archive → List ℕ) → ℕ → Bool → Bool → S → Outside → Bool → Outside

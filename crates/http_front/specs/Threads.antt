@@ -1,8 +1,6 @@
 -- The thread of a mail: its mails by date, and its tree.
-use Rattle.std.specs.Prelude.{◌≡◌, ℕ, List, [], ◌∷◌, ◌++◌, map, Option, Some, None, codes, if◌then◌else◌}
-use Rattle.std.specs.List.{flat_map, list_any}
-use Rattle.std.specs.Str.{bytes_eq}
-use Rattle.std.specs.Borrow.{Bor}
+use Rattle.std.specs.Prelude.{◌≡◌, ℕ, List, [], ◌∷◌, ◌++◌, map, Option, Some, None, codes}
+use Rattle.std.specs.List.{flat_map}
 use Rattle.std.specs.BTreeSet.{insert_key}
 use Rattle.arch_model.specs.Archives.{Entry, live}
 use Rattle.arch_model.specs.Listings.{date_cmp, number_beside}
@@ -11,8 +9,6 @@ use Rattle.html_pages.specs.Lines.{row_line, indent, entry_line}
 use Rattle.html_pages.specs.Pages.{page_of}
 use Rattle.html_pages.specs.declared.thread_line.ThreadEntry.{ThreadEntry}
 use Rattle.mail_forms.specs.declared.row.Row.{Row}
-use Rattle.thread_tree.specs.Trees.{Prints, roots, names_id}
-use Rattle.thread_tree.specs.declared.twigs.Twig.{Twig}
 use Rattle.thread_tree.specs.declared.lines.Line.{Line}
 use Rattle.thread_tree.specs.declared.lines.Who.{Who}
 use Rattle.thread_tree.specs.declared.lines.Who.TheVariants.{Live, Ghost}
@@ -36,25 +32,6 @@ oldest_first rows = map number_beside (put_places [] rows)
 abbrev pub thread_rows : List Entry → ℕ → List Row
 thread_rows entries n = rows_at entries (thread_in (live entries) n)
 
--- The mail of a row in a tree.
-abbrev pub twig_of : Row → Twig
-twig_of row = record { number = row.number; id = row.id; refs = row.refs; secs = row.date.secs }
-
--- One more mail of a tree. No two mails of an archive have the same id; of two that had, the first
--- would stay.
-abbrev pub with_twig : List Twig → Twig → List Twig
-with_twig twigs twig = if names_id twigs twig.id then twigs else twigs ++ twig ∷ []
-
--- These ids are those of the mails.
-abbrev pub AreIds : List (Bor (List ℕ)) → List Twig → Type 0
-AreIds ids twigs = (id : List ℕ)
-    → list_any (λ (key : Bor (List ℕ)). bytes_eq key.now id) ids ≡ names_id twigs id
-
--- The mails of these rows in a tree.
-abbrev pub twigs_after : List Twig → List Row → List Twig
-twigs_after twigs [] = twigs
-twigs_after twigs (row ∷ rows) = twigs_after (with_twig twigs (twig_of row)) rows
-
 -- A line of a page after its indent: the mail of a number, or the id of a mail that the archive doesn't
 -- have. Of a number without a mail, which no tree has, there is no line.
 abbrev pub who_line : List ℕ → List Entry → List ℕ → Who → List ℕ
@@ -76,8 +53,3 @@ IsEntryOf name entries who (Some entry) = (before : List ℕ)
 unfoldable pub tree_page : List ℕ → List Entry → Row → List Line → List ℕ
 tree_page name entries row lines =
     page_of (title_of row.subject) (flat_map (tree_line name entries) lines)
-
--- A function of mails gives the lines of their tree, wherever there are such lines.
-abbrev pub LaysTrees : (List Twig → List Line) → Type 0
-LaysTrees lays = (twigs : List Twig) (lines : List Line) → Prints twigs 0 (roots twigs) lines
-    → lays twigs ≡ lines

@@ -27,7 +27,7 @@ pub(crate) fn feed_at<S: Shelf>(
     shelf: &mut S,
 ) -> Result<Held, TextRefusal>
     requires { S.ready shelf.old ≡ true }
-    ensures found { FindsIn S.holds (λ reading a. feed_found a numbers.now) (λ a. true) shelf.old
+    ensures found { FindsIn S.holds (λ a. feed_found a numbers.now) (λ a. true) shelf.old
         result }
     ensures shelf { Stays S.holds S.ready S.alike S.faults shelf.old shelf.new }
     ensures cause { ReadCause (S.faults shelf.old) (S.faults shelf.new) result }

@@ -58,7 +58,7 @@ pub(crate) fn find_target<S: Shelf>(
     shelf: &mut S,
 ) -> Result<Held, TextRefusal>
     requires { S.ready shelf.old ≡ true }
-    ensures found { FindsIn S.holds (λ reading a. target_found reading a target.now)
+    ensures found { FindsIn S.holds (λ a. target_found a target.now)
         (λ a. target_reads a target.now) shelf.old result }
     ensures shelf { Stays S.holds S.ready S.alike S.faults shelf.old shelf.new }
     ensures cause { ReadCause (S.faults shelf.old) (S.faults shelf.new) result }
@@ -83,7 +83,7 @@ fn find_address<S: Shelf>(
     shelf: &mut S,
 ) -> Result<Held, TextRefusal>
     requires { S.ready shelf.old ≡ true }
-    ensures found { FindsIn S.holds (λ reading a. named_found reading a query.now (shown address.entry))
+    ensures found { FindsIn S.holds (λ a. named_found a query.now (shown address.entry))
         (λ a. reads_texts (shown address.entry)) shelf.old result }
     ensures shelf { Stays S.holds S.ready S.alike S.faults shelf.old shelf.new }
     ensures cause { ReadCause (S.faults shelf.old) (S.faults shelf.new) result }
@@ -108,7 +108,7 @@ fn find_address<S: Shelf>(
 /// Makes the feed of the newest mails.
 fn find_newest<S: Shelf>(alloc: Global, shelf: &mut S) -> Result<Held, TextRefusal>
     requires { S.ready shelf.old ≡ true }
-    ensures found { FindsIn S.holds (λ reading a. feed_found a (take feed_len (listing (live a.entries))))
+    ensures found { FindsIn S.holds (λ a. feed_found a (take feed_len (listing (live a.entries))))
         (λ a. true) shelf.old result }
     ensures shelf { Stays S.holds S.ready S.alike S.faults shelf.old shelf.new }
     ensures cause { ReadCause (S.faults shelf.old) (S.faults shelf.new) result }
@@ -130,7 +130,7 @@ fn find_mail<S: Shelf>(
 ) -> Result<Held, TextRefusal>
     requires { S.ready shelf.old ≡ true }
     ensures found { FindsIn S.holds
-        (λ reading a. found_of (number_named a.entries id.now) (form_found reading a form))
+        (λ a. found_of (number_named a.entries id.now) (form_found a form))
         (λ a. form_reads form) shelf.old result }
     ensures shelf { Stays S.holds S.ready S.alike S.faults shelf.old shelf.new }
     ensures cause { ReadCause (S.faults shelf.old) (S.faults shelf.new) result }
@@ -165,7 +165,7 @@ fn find_number<S: Shelf>(
     shelf: &mut S,
 ) -> Result<Held, TextRefusal>
     requires { S.ready shelf.old ≡ true }
-    ensures found { FindsIn S.holds (λ reading a. form_found reading a form n) (λ a. form_reads form)
+    ensures found { FindsIn S.holds (λ a. form_found a form n) (λ a. form_reads form)
         shelf.old result }
     ensures shelf { Stays S.holds S.ready S.alike S.faults shelf.old shelf.new }
     ensures cause { ReadCause (S.faults shelf.old) (S.faults shelf.new) result }

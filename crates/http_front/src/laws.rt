@@ -11,7 +11,6 @@ ghost use Rattle.http_front.specs.Paging.{ListingIsWhole};
 /// * Acts without such failures do what the plain function does.
 /// * A head at the front ends with the first empty line, and has at most 16,384 bytes. More bytes
 ///   leave it what it is, and so they leave a head that is too long.
-/// * The lines of a tree are one list.
 pub fn http_laws()
     ensures { HttpLaws }
 {}

@@ -172,9 +172,17 @@ fn piece_len<S: Shelf>(n: u64, shelf: &S) -> u128
     ensures small { result < 2 ^ 64 }
 {
     match row_of_number(n, shelf) {
-        Some(row) => u128::from(row.mbox),
+        Some(row) => widened(row.mbox),
         None => 0,
     }
+}
+
+/// Returns a length as a number of more bits, in which lengths are added.
+fn widened(len: u64) -> u128
+    ensures value { result ≡ len }
+    ensures small { result < 2 ^ 64 }
+{
+    u128::from(len)
 }
 
 /// Writes what is to be said and then the pieces of all mails, by number.

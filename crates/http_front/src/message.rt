@@ -18,7 +18,7 @@ use std::alloc::Global;
 /// Returns the text of a number, if it is live. Reads one text.
 pub(crate) fn text_at<S: Shelf>(alloc: Global, n: u32, shelf: &mut S) -> Result<Held, TextRefusal>
     requires { S.ready shelf.old ≡ true }
-    ensures found { FindsIn S.holds (λ reading a. text_found (shown_text a.entries n)) (λ a. true)
+    ensures found { FindsIn S.holds (λ a. text_found (shown_text a.entries n)) (λ a. true)
         shelf.old result }
     ensures shelf { Stays S.holds S.ready S.alike S.faults shelf.old shelf.new }
     ensures cause { ReadCause (S.faults shelf.old) (S.faults shelf.new) result }
@@ -42,7 +42,7 @@ pub(crate) fn message_at<S: Shelf>(
 ) -> Result<Held, TextRefusal>
     requires { S.ready shelf.old ≡ true }
     ensures found { FindsIn S.holds
-        (λ reading a. message_found a (shown_row a.entries n) (shown_text a.entries n)) (λ a. true)
+        (λ a. message_found a (shown_row a.entries n) (shown_text a.entries n)) (λ a. true)
         shelf.old result }
     ensures shelf { Stays S.holds S.ready S.alike S.faults shelf.old shelf.new }
     ensures cause { ReadCause (S.faults shelf.old) (S.faults shelf.new) result }

@@ -5,9 +5,9 @@ ghost use Rattle.std.specs.List.{flat_map};
 ghost use Rattle.arch_model.specs.Archives.{Archive};
 ghost use Rattle.arch_model.specs.Listings.{date_cmp, number_beside};
 ghost use Rattle.html_pages.specs.Lines.{thread_line};
-ghost use Rattle.http_front.specs.Threads.{place_of, oldest_first, thread_rows, with_twig, twig_of, twigs_after, tree_line, AreIds, IsEntryOf};
+ghost use Rattle.http_front.specs.Threads.{place_of, oldest_first, thread_rows, tree_line, IsEntryOf};
 ghost use Rattle.http_front.specs.Views.{shown_row};
-ghost use Rattle.http_front.specs.Asking.{Reading, IsReading, thread_found};
+ghost use Rattle.http_front.specs.Asking.{thread_found};
 ghost use Rattle.http_front.specs.Sessions.{MakesPage};
 
 use crate::found::Held;
@@ -17,15 +17,13 @@ use arch_model::Shelf;
 use html_pages::{ThreadEntry, ThreadLine, thread_page};
 use http_heads::Body;
 use mail_forms::Row;
+use shelf_trees::twigs_of;
 use std::alloc::Global;
 use std::collections::BTreeSet;
-use thread_tree::{Line, Twigs, Who};
+use thread_tree::{Line, Who};
 
 /// A mail's place in the order of dates: the seconds of its date, and then its number.
 type Place = (u64, u32);
-
-/// The ids of mails.
-type Ids<'a> = BTreeSet<&'a [u8]>;
 
 /// Returns the numbers of the thread of a number, by date and then by number. Reads no text.
 pub(crate) fn oldest_of<S: Shelf>(alloc: Global, n: u32, shelf: &S) -> Result<Numbers, NoMemory>
@@ -86,8 +84,8 @@ fn put_place(row: &Row, places: &mut BTreeSet<Place>) -> Result<(), NoMemory>
 /// Returns the page of the thread of a number, if it has a row. Reads no text.
 pub(crate) fn thread_at<S: Shelf>(alloc: Global, n: u32, shelf: &S) -> Result<Held, NoMemory>
     requires { S.ready shelf.now ≡ true }
-    ensures { (reading : Reading) → IsReading reading → (a : Archive) → S.holds shelf.now a
-        → MakesPage (thread_found reading a n (shown_row a.entries n)) result }
+    ensures { (a : Archive) → S.holds shelf.now a
+        → MakesPage (thread_found a n (shown_row a.entries n)) result }
 {
     match shelf.row(n) {
         Some(row) => page_at(alloc, n, row, shelf),
@@ -98,44 +96,14 @@ pub(crate) fn thread_at<S: Shelf>(alloc: Global, n: u32, shelf: &S) -> Result<He
 /// Returns the page of the thread of a number with this row.
 fn page_at<S: Shelf>(alloc: Global, n: u32, row: &Row, shelf: &S) -> Result<Held, NoMemory>
     requires { S.ready shelf.now ≡ true }
-    ensures { (reading : Reading) → IsReading reading → (a : Archive) → S.holds shelf.now a
-        → MakesPage (thread_found reading a n (Some row.now)) result }
+    ensures { (a : Archive) → S.holds shelf.now a
+        → MakesPage (thread_found a n (Some row.now)) result }
 {
     let twigs = twigs_of(alloc, n, shelf)?;
     let tree = twigs.tree()?;
     let lines = lines_of(alloc, tree.as_slice(), shelf)?;
     let page = thread_page(alloc, &shelf.config().name, row, lines.as_slice())?;
     Ok(Held::Whole(Body::Page, page))
-}
-
-/// Returns the mails in the thread of a number as those of a tree.
-fn twigs_of<S: Shelf>(alloc: Global, n: u32, shelf: &S) -> Result<Twigs, NoMemory>
-    requires { S.ready shelf.now ≡ true }
-    ensures { (a : Archive) → S.holds shelf.now a
-        → IfOk result (λ twigs. twigs ≡ twigs_after [] (thread_rows a.entries n)) }
-{
-    let members = shelf.thread_of(n)?;
-    let rows = rows_of(alloc, members.as_slice(), shelf)?;
-    let mut ids = BTreeSet::new(alloc);
-    let mut twigs = Twigs::new(alloc);
-    for row in rows.as_slice() {
-        add_twig(*row, &mut ids, &mut twigs)?;
-    }
-    Ok(twigs)
-}
-
-/// Adds the mail of a row, unless one with its id is there. `ids` are the ids of the mails that are
-/// there.
-fn add_twig<'a>(row: &'a Row, ids: &mut Ids<'a>, twigs: &mut Twigs) -> Result<(), NoMemory>
-    requires { AreIds ids.old.keys twigs.old }
-    ensures added { OnOk result (twigs.new ≡ with_twig twigs.old (twig_of row.now)) }
-    ensures ids { OnOk result (AreIds ids.new.keys twigs.new) }
-{
-    if ids.insert(row.id.as_slice())? {
-        twigs.add(row.number, row.id.as_slice(), &row.refs, row.date.secs)
-    } else {
-        Ok(())
-    }
 }
 
 /// Returns the lines of a page by those of a tree.

@@ -6,14 +6,14 @@ pub returns-in-Serve-clause-acts : goal.returns-in-Serve-clause-acts
 returns-in-Serve-clause-acts g c = λ reading is a rest held.
     let read = c.in-Some.ensures.some in
     let found = reads-some reading is c.args.head.now read.0 _ read.1 read.2 in
-    acts-served reading c.args.moment a rest (reading.reads c.args.head.now) _ c.in-Serve.sends _ _ _ found (sym c.judge.ensures ∙ c.in-Serve.is) (c.serve.ensures.acts reading is a rest held)
+    acts-served c.args.moment a rest (reading c.args.head.now) _ c.in-Serve.sends _ _ _ found (sym c.judge.ensures ∙ c.in-Serve.is) (c.serve.ensures.acts a rest held)
 
 pub returns-in-Refuse-clause-acts : goal.returns-in-Refuse-clause-acts
 returns-in-Refuse-clause-acts g c = λ reading is a rest held.
     let read = c.in-Some.ensures.some in
     let found = reads-some reading is c.args.head.now read.0 _ read.1 read.2 in
-    acts-refused reading c.args.moment a rest (reading.reads c.args.head.now) _ c.in-Refuse.status c.in-Refuse.sends _ _ _ found (sym c.judge.ensures ∙ c.in-Refuse.is) refl c.say_status.ensures.said
+    acts-refused c.args.moment a rest (reading c.args.head.now) _ c.in-Refuse.status c.in-Refuse.sends _ _ _ found (sym c.judge.ensures ∙ c.in-Refuse.is) refl c.say_status.ensures.said
 
 pub returns-in-None-clause-acts : goal.returns-in-None-clause-acts
 returns-in-None-clause-acts g c = λ reading is a rest held.
-    acts-bad reading c.args.moment a rest (reading.reads c.args.head.now) _ _ _ (reads-none reading is c.args.head.now c.in-None.ensures.found) refl c.say_status-in-None.ensures.said
+    acts-bad c.args.moment a rest (reading c.args.head.now) _ _ _ (reads-none reading is c.args.head.now c.in-None.ensures.found) refl c.say_status-in-None.ensures.said

@@ -5,9 +5,9 @@ use Rattle.http_front.proofs.Finding.{finds-mail, finds-no_mail}
 use Rattle.http_front.proofs.found.find_mail.Goals as goal
 
 pub returns-in-Ok-Some-clause-found : goal.returns-in-Ok-Some-clause-found
-returns-in-Ok-Some-clause-found g c = λ reading is a held.
-    finds-mail a (number_named a.entries c.args.id.now) _ (form_found reading a c.args.form) (form_reads c.args.form) _ (sym (c.in-Ok-Some.ensures a held) ∙ c.in-Ok-Some.field-0-is) (c.find_number.ensures.found reading is a held)
+returns-in-Ok-Some-clause-found g c = λ a held.
+    finds-mail a (number_named a.entries c.args.id.now) _ (form_found a c.args.form) (form_reads c.args.form) _ (sym (c.in-Ok-Some.ensures a held) ∙ c.in-Ok-Some.field-0-is) (c.find_number.ensures.found a held)
 
 pub returns-in-Ok-None-clause-found : goal.returns-in-Ok-None-clause-found
-returns-in-Ok-None-clause-found g c = λ reading is a held.
-    finds-no_mail a (number_named a.entries c.args.id.now) (form_found reading a c.args.form) (form_reads c.args.form) (sym (c.in-Ok-None.ensures a held) ∙ c.in-Ok-None.field-0-is)
+returns-in-Ok-None-clause-found g c = λ a held.
+    finds-no_mail a (number_named a.entries c.args.id.now) (form_found a c.args.form) (form_reads c.args.form) (sym (c.in-Ok-None.ensures a held) ∙ c.in-Ok-None.field-0-is)

@@ -5,8 +5,8 @@ use Rattle.http_front.proofs.Finding.{finds-feed, reads-feed}
 use Rattle.http_front.proofs.found.find_newest.Goals as goal
 
 pub returns-in-Ok-clause-found : goal.returns-in-Ok-clause-found
-returns-in-Ok-clause-found g c = λ reading is a held.
-    finds-feed a c.as_slice.result.now _ c.feed_at.result (c.as_slice.ensures ∙ c.in-Ok.ensures a held) (c.feed_at.ensures.found reading is a held)
+returns-in-Ok-clause-found g c = λ a held.
+    finds-feed a c.as_slice.result.now _ c.feed_at.result (c.as_slice.ensures ∙ c.in-Ok.ensures a held) (c.feed_at.ensures.found a held)
 
 pub returns-in-Ok-clause-reads : goal.returns-in-Ok-clause-reads
 returns-in-Ok-clause-reads g c = λ a held. reads-feed c.as_slice.result.now (listing (live a.entries)) _ _ (c.as_slice.ensures ∙ c.in-Ok.ensures a held) c.feed_at.ensures.reads

@@ -1,16 +1,15 @@
-use Rattle.std.proofs.Common.{◌≡◌, ◌∙◌, List, ℕ, Option, Some, None, ap, sym}
-use Rattle.std.specs.Prelude.{option_map}
+use Rattle.std.proofs.Common.{◌∙◌, Some, None, ap}
 use Rattle.arch_base.specs.declared.config.Config.{Config}
-use Rattle.http_heads.specs.Addresses.{Named, shown, named_by, segments_of}
+use Rattle.http_heads.specs.Addresses.{shown, named_by, segments_of}
 use Rattle.http_heads.specs.Parameters.{path_of}
 use Rattle.http_front.proofs.Finding.{finds-named, finds-nothing, reads-named, path-named}
 use Rattle.http_front.proofs.found.find_target.Goals as goal
 
 pub returns-in-Some-clause-found : goal.returns-in-Some-clause-found
-returns-in-Some-clause-found g c = λ reading is a held.
-    finds-named reading a c.split_target.result.1.now _ (named_by a.config.name (segments_of (path_of c.args.target.now))) (shown c.in-Some.address) _
+returns-in-Some-clause-found g c = λ a held.
+    finds-named a c.split_target.result.1.now _ (named_by a.config.name (segments_of (path_of c.args.target.now))) (shown c.in-Some.address) _
     (path-named a c.args.target.now _ _ _ (Some (shown c.in-Some.address)) c.in-Some.ensures (c.as_slice.ensures.value ∙ ap (λ (k : Config). k.name) (c.config.ensures a held)) (c.as_slice-in-Ok.ensures ∙ c.in-Ok.ensures) c.split_target.ensures.path)
-    c.split_target.ensures.query (c.find_address.ensures.found reading is a held)
+    c.split_target.ensures.query (c.find_address.ensures.found a held)
 
 pub returns-in-Some-clause-reads : goal.returns-in-Some-clause-reads
 returns-in-Some-clause-reads g c = λ a held.
@@ -19,6 +18,6 @@ returns-in-Some-clause-reads g c = λ a held.
     (c.find_address.ensures.reads a held)
 
 pub returns-in-Ok-clause-found : goal.returns-in-Ok-clause-found
-returns-in-Ok-clause-found g c = λ reading is a held.
-    finds-nothing reading a _ (named_by a.config.name (segments_of (path_of c.args.target.now)))
+returns-in-Ok-clause-found g c = λ a held.
+    finds-nothing a _ (named_by a.config.name (segments_of (path_of c.args.target.now)))
     (path-named a c.args.target.now _ _ _ None c.in-None.ensures (c.as_slice.ensures.value ∙ ap (λ (k : Config). k.name) (c.config.ensures a held)) (c.as_slice-in-Ok.ensures ∙ c.in-Ok.ensures) c.split_target.ensures.path)

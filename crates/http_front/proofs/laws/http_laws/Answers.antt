@@ -1,7 +1,6 @@
 use Rattle.http_front.proofs.Doors.{http_door}
 use Rattle.http_front.proofs.Ends.{front_law}
-use Rattle.http_front.proofs.Trees.{trees_are_one}
 use Rattle.http_front.proofs.laws.http_laws.Goals as goal
 
 pub returns : goal.returns
-returns c = record { door = http_door; front = front_law; trees = trees_are_one }
+returns c = record { door = http_door; front = front_law }

@@ -1,4 +1,4 @@
-use Rattle.std.proofs.Common.{◌∙◌, length, ap, sym, arith, rules}
+use Rattle.std.proofs.Common.{length, ap, arith, rules}
 use Rattle.http_front.proofs.Pieces.{len-more, len-none, pieces-all}
 use Rattle.http_front.proofs.mailbox.every_len.Goals as goal
 
@@ -12,8 +12,8 @@ loop-n-init g c = record {
 pub loop-n-preserved : goal.loop-n-preserved
 loop-n-preserved g c = record {
   value = λ a held.
-      len-more a.entries c.loop-n.low c.in-Some.n c.loop-n.len c.piece_len.result _ c.in-Some.ensures.later.1 (c.in-Some.ensures.next a held) (c.loop-n.invariant.value a held) (c.piece_len.ensures.value a held);
-  room = omega (arith, c.in-Some.ensures.later, c.piece_len.ensures.small, c.loop-n.invariant.room);
+      len-more a.entries c.loop-n.low c.in-Some.n c.loop-n.len c.piece_len-len.result _ c.in-Some.ensures.later.1 (c.in-Some.ensures.next a held) (c.loop-n.invariant.value a held) (c.piece_len-len.ensures.value a held);
+  room = omega (arith, c.in-Some.ensures.later, c.piece_len-len.ensures.small, c.loop-n.invariant.room);
   within = search rules;
 }
 

@@ -5,11 +5,11 @@ use Rattle.http_front.proofs.mailbox.say_every_mail.Goals as goal
 
 pub returns-then-sends-clause-acts : goal.returns-then-sends-clause-acts
 returns-then-sends-clause-acts g c = λ a rest held.
-    serves-body c.args.moment a c.args.sends c.args.closes rest (whole_mailbox a.entries) c.in-Ok.head c.every_len.result c.in-Ok.ensures (c.every_len.ensures a held) _ _ _ c.if-sends.true (c.say_every_piece.ensures.acts a rest held)
+    serves-body c.args.moment a c.args.sends c.args.closes rest (whole_mailbox a.entries) c.in-Ok.head c.every_len-len.result c.in-Ok.ensures (c.every_len-len.ensures a held) _ _ _ c.if-sends.true (c.say_every_piece.ensures.acts a rest held)
 
 pub returns-else-sends-clause-acts : goal.returns-else-sends-clause-acts
 returns-else-sends-clause-acts g c = λ a rest held.
-    serves-head c.args.moment a c.args.sends c.args.closes rest (whole_mailbox a.entries) c.in-Ok.head c.every_len.result c.in-Ok.ensures (c.every_len.ensures a held) _ _ _ c.if-sends.false refl c.say_rest.ensures.said
+    serves-head c.args.moment a c.args.sends c.args.closes rest (whole_mailbox a.entries) c.in-Ok.head c.every_len-len.result c.in-Ok.ensures (c.every_len-len.ensures a held) _ _ _ c.if-sends.false refl c.say_rest.ensures.said
 
 pub returns-in-Err-clause-acts : goal.returns-in-Err-clause-acts
 returns-in-Err-clause-acts g c = λ a rest held.

@@ -1,9 +1,6 @@
-use Rattle.std.proofs.Common.{◌∙◌, refl, ap, length, arith, rules}
-use Rattle.http_front.proofs.Streaming.{long-waits, long-said, long-lost}
+use Rattle.std.proofs.Common.{refl, ap, length, arith}
+use Rattle.http_front.proofs.Streaming.{long-said, long-lost}
 use Rattle.http_front.proofs.mailbox.say_long.Goals as goal
-
-pub returns-then-len-lt65536-clause-part : goal.returns-then-len-lt65536-clause-part
-returns-then-len-lt65536-clause-part g c = λ disk. long-waits c.args.begun c.args.unsaid.now _
 
 pub returns-in-Ok-clause-part : goal.returns-in-Ok-clause-part
 returns-in-Ok-clause-part g c = λ disk.

@@ -5,11 +5,11 @@ use Rattle.http_front.proofs.mailbox.say_mails.Goals as goal
 
 pub returns-then-sends-clause-acts : goal.returns-then-sends-clause-acts
 returns-then-sends-clause-acts g c = λ a rest held.
-    serves-body c.args.moment a c.args.sends c.args.closes rest (mailbox_at a.entries c.args.numbers.now) c.in-Ok.head c.len_of.result c.in-Ok.ensures (c.len_of.ensures a held) _ _ _ c.if-sends.true (c.say_pieces.ensures.acts a rest held)
+    serves-body c.args.moment a c.args.sends c.args.closes rest (mailbox_at a.entries c.args.numbers.now) c.in-Ok.head c.len_of-len.result c.in-Ok.ensures (c.len_of-len.ensures a held) _ _ _ c.if-sends.true (c.say_pieces.ensures.acts a rest held)
 
 pub returns-else-sends-clause-acts : goal.returns-else-sends-clause-acts
 returns-else-sends-clause-acts g c = λ a rest held.
-    serves-head c.args.moment a c.args.sends c.args.closes rest (mailbox_at a.entries c.args.numbers.now) c.in-Ok.head c.len_of.result c.in-Ok.ensures (c.len_of.ensures a held) _ _ _ c.if-sends.false refl c.say_rest.ensures.said
+    serves-head c.args.moment a c.args.sends c.args.closes rest (mailbox_at a.entries c.args.numbers.now) c.in-Ok.head c.len_of-len.result c.in-Ok.ensures (c.len_of-len.ensures a held) _ _ _ c.if-sends.false refl c.say_rest.ensures.said
 
 pub returns-in-Err-clause-acts : goal.returns-in-Err-clause-acts
 returns-in-Err-clause-acts g c = λ a rest held.

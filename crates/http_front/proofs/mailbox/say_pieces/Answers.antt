@@ -1,5 +1,5 @@
-use Rattle.std.proofs.Common.{◌+◌, ◌++◌, drop, refl, arith, rules}
-use Rattle.http_front.specs.Mailboxes.{mailbox_at, piece_at}
+use Rattle.std.proofs.Common.{◌+◌, ◌++◌, drop, refl, arith}
+use Rattle.http_front.specs.Mailboxes.{mailbox_at}
 use Rattle.arch_model.proofs.Shelving.{stays-joined, stays-same}
 use Rattle.http_front.proofs.Pieces.{mailbox-next, mailbox-none}
 use Rattle.http_front.proofs.Streaming.{sofar-none, sofar-put, streams-end, streams-lost, streams-stopped}
@@ -16,8 +16,8 @@ pub loop-n-preserved : goal.loop-n-preserved
 loop-n-preserved g c = record {
   so_far = λ a held.
       let now = c.loop-n.invariant.shelf.kept a held in
-      sofar-put (c.args.unsaid ++ mailbox_at a.entries c.args.numbers.now) c.loop-n.unsaid (mailbox_at a.entries (drop c.loop-n.n-index c.args.numbers.now)) (piece_at a.entries c.n-item.result) (mailbox_at a.entries (drop (c.loop-n.n-index + 1) c.args.numbers.now)) c.loop-n.begun _ _ (c.loop-n.invariant.so_far a held)
-      (mailbox-next a.entries c.args.numbers.now c.loop-n.n-index c.n-item.result c.loop-n-test.true c.n-item.is) c.in-Put.said c.say_part.new.unsaid _ (c.in-Put.ensures.part a now);
+      sofar-put (c.args.unsaid ++ mailbox_at a.entries c.args.numbers.now) c.loop-n.unsaid (mailbox_at a.entries (drop c.loop-n.n-index c.args.numbers.now)) _ (mailbox_at a.entries (drop (c.loop-n.n-index + 1) c.args.numbers.now)) c.loop-n.begun _ _ (c.loop-n.invariant.so_far a held)
+      (mailbox-next a.entries c.args.numbers.now c.loop-n.n-index _ c.loop-n-test.true) c.in-Put.said c.say_part.new.unsaid _ (c.in-Put.ensures.part a now);
   shelf = stays-joined g.S.Shelf.holds g.S.Shelf.ready g.S.Shelf.alike g.S.Shelf.faults g.met.S.Shelf.alike_joined _ _ _ c.loop-n.invariant.shelf c.say_part.ensures.shelf;
   sink = g.met.O.Sink.alike_joined _ _ _ c.loop-n.invariant.sink c.say_part.ensures.sink;
 }
@@ -25,14 +25,14 @@ loop-n-preserved g c = record {
 pub returns-in-Lost-clause-acts : goal.returns-in-Lost-clause-acts
 returns-in-Lost-clause-acts g c = λ a rest held.
     let now = c.loop-n.invariant.shelf.kept a held in
-    streams-lost c.args.manner.moment a c.args.manner.closes rest (c.args.unsaid ++ mailbox_at a.entries c.args.numbers.now) c.loop-n.unsaid (mailbox_at a.entries (drop c.loop-n.n-index c.args.numbers.now)) (piece_at a.entries c.n-item.result) (mailbox_at a.entries (drop (c.loop-n.n-index + 1) c.args.numbers.now)) c.loop-n.begun _ _
-    (c.loop-n.invariant.so_far a held) (mailbox-next a.entries c.args.numbers.now c.loop-n.n-index c.n-item.result c.loop-n-test.true c.n-item.is) _ (c.in-Lost.ensures.part a now)
+    streams-lost c.args.manner.moment a c.args.manner.closes rest (c.args.unsaid ++ mailbox_at a.entries c.args.numbers.now) c.loop-n.unsaid (mailbox_at a.entries (drop c.loop-n.n-index c.args.numbers.now)) _ (mailbox_at a.entries (drop (c.loop-n.n-index + 1) c.args.numbers.now)) c.loop-n.begun _ _
+    (c.loop-n.invariant.so_far a held) (mailbox-next a.entries c.args.numbers.now c.loop-n.n-index _ c.loop-n-test.true) _ (c.in-Lost.ensures.part a now)
 
 pub returns-in-Unread-clause-acts : goal.returns-in-Unread-clause-acts
 returns-in-Unread-clause-acts g c = λ a rest held.
     let now = c.loop-n.invariant.shelf.kept a held in
-    rw c.stop.ensures.next (streams-stopped c.args.manner.moment a c.args.manner.closes rest (c.args.unsaid ++ mailbox_at a.entries c.args.numbers.now) c.loop-n.unsaid (mailbox_at a.entries (drop c.loop-n.n-index c.args.numbers.now)) (piece_at a.entries c.n-item.result) (mailbox_at a.entries (drop (c.loop-n.n-index + 1) c.args.numbers.now)) c.loop-n.begun _ _
-    (c.loop-n.invariant.so_far a held) (mailbox-next a.entries c.args.numbers.now c.loop-n.n-index c.n-item.result c.loop-n-test.true c.n-item.is) c.in-Unread.refusal c.say_part.new.unsaid _ _ (c.in-Unread.ensures.part a now) refl c.stop.ensures.said)
+    rw c.stop.ensures.next (streams-stopped c.args.manner.moment a c.args.manner.closes rest (c.args.unsaid ++ mailbox_at a.entries c.args.numbers.now) c.loop-n.unsaid (mailbox_at a.entries (drop c.loop-n.n-index c.args.numbers.now)) _ (mailbox_at a.entries (drop (c.loop-n.n-index + 1) c.args.numbers.now)) c.loop-n.begun _ _
+    (c.loop-n.invariant.so_far a held) (mailbox-next a.entries c.args.numbers.now c.loop-n.n-index _ c.loop-n-test.true) c.in-Unread.refusal c.say_part.new.unsaid _ _ (c.in-Unread.ensures.part a now) refl c.stop.ensures.said)
 
 pub returns-clause-acts : goal.returns-clause-acts
 returns-clause-acts g c = λ a rest held.

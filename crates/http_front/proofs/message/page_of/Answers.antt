@@ -1,4 +1,4 @@
-use Rattle.std.proofs.Common.{◌∙◌, sym, ap}
+use Rattle.std.proofs.Common.{sym, ap}
 use Rattle.arch_base.specs.declared.config.Config.{Config}
 use Rattle.http_heads.specs.declared.reply.Body.TheVariants.{Page}
 use Rattle.http_front.specs.Asking.{Gives}

@@ -1,4 +1,4 @@
-use Rattle.std.proofs.Common.{[], ap, sym, ◌∙◌}
+use Rattle.std.proofs.Common.{[], ap}
 use Rattle.std.specs.Borrow.{Bor}
 use Rattle.mail_forms.specs.declared.row.Row.{Row}
 use Rattle.http_front.proofs.ThreadRows.{places-more}

@@ -10,7 +10,7 @@ returns-in-More-clause-turn g c = λ reading is a held. c.hold.ensures.turn read
 pub returns-in-Long-clause-turn : goal.returns-in-Long-clause-turn
 returns-in-Long-clause-turn g c = λ reading is a held.
     let bytes = c.as_slice.ensures ∙ c.self.view_is in
-    turn-long reading c.args.moment a c.args.self.now c.args.piece.now _ _ _ _ (rw bytes at c.in-Long.ensures) refl c.say_status.ensures.said
+    turn-long reading c.args.moment a c.args.self.now c.args.piece.now _ c.args.self.now _ _ (rw bytes at c.in-Long.ensures) refl c.say_status.ensures.said
 
 pub returns-in-Head-clause-turn : goal.returns-in-Head-clause-turn
 returns-in-Head-clause-turn g c = λ reading is a held.

@@ -1,4 +1,4 @@
-use Rattle.std.proofs.Common.{◌++◌, Some, None, refl, inl, inr, arith}
+use Rattle.std.proofs.Common.{◌++◌, Some, None, refl, inl, inr}
 use Rattle.line_door.specs.Course.{talk}
 use Rattle.line_door.proofs.Courses.{Going-same, Going-more, Fed-last, Last-done}
 use Rattle.arch_model.proofs.Shelving.{stays-same, stays-joined}
