@@ -6,7 +6,7 @@ use Rattle.archive_cli.specs.DiskCommands.{removing}
 use Rattle.archive_cli.specs.Program.{CommandActs, InitActs, InitLeaves, RunLeaves, RunLeavesAmong, WordsLeave}
 use Rattle.archive_cli.specs.Serving.{hosted}
 use Rattle.archive_cli.specs.Words.{spelled}
-use Rattle.archive_cli.specs.declared.words.Job.TheVariants.{Help, Version, Init, Deliver, Remove}
+use Rattle.archive_cli.specs.declared.words.Job.TheVariants.{Help, Version, Init, Deliver, Remove, Serve}
 use Rattle.archive_cli.specs.declared.status.Status.TheVariants as exit
 use Rattle.archive_cli.specs.declared.texts.TheConstants.{HELP, VERSION}
 use Rattle.archive_cli.proofs.Grammar.{replay-config, init-config, same_number, same-serve}
@@ -53,6 +53,9 @@ returns-in-None-clause-init g c = λ asked. absurd (c.in-None.ensures (Init aske
 
 pub returns-in-None-clause-deliver : goal.returns-in-None-clause-deliver
 returns-in-None-clause-deliver g c = λ s asked all. absurd (c.in-None.ensures Deliver asked)
+
+pub returns-in-None-clause-serve : goal.returns-in-None-clause-serve
+returns-in-None-clause-serve g c = λ turns port asked. absurd (c.in-None.ensures (Serve turns port) asked)
 
 pub returns-in-Some-Init-clause-init : goal.returns-in-Some-Init-clause-init
 returns-in-Some-Init-clause-init g c = λ asked.
