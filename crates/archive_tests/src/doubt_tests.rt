@@ -45,9 +45,8 @@ fn fails_to_remove(engine: &mut Engine<MemDisk>) -> bool {
     ready && told && Some(came) == accepted(1, FIRST_ID) && went == Answer::DiskFault
 }
 
-/// Makes an archive of one mail over a disk of which a call fails, by its ordinal from 1, and removes
-/// the mail. Returns the archive in doubt, or `None` if the disk fails before the removal or not at
-/// all.
+/// Removes the mail of an archive of one mail, over a disk of which a call fails, by its ordinal from 1.
+/// Returns the archive in doubt, or `None` if the disk fails before the removal or not at all.
 fn in_doubt(alloc: Global, ordinal: u64) -> Result<Option<Engine<MemDisk>>, Fail> {
     let disk = failing(alloc, &[ordinal])?;
     match made(alloc, disk) {
@@ -68,32 +67,64 @@ fn are_exact(disk: &mut MemDisk, epoch: u64) -> Result<bool, DiskFault> {
 }
 
 /// Reopens an archive in doubt, and returns how many entries it has: one, or two where the removal is
-/// found. Returns `None` if these aren't the entries, or the files aren't exactly those of that archive.
-fn entries_found(alloc: Global, engine: Engine<MemDisk>) -> Result<Option<u64>, Fail> {
-    let mut engine = engine;
+/// found. Returns `None` if these aren't the entries.
+fn reopened_count(alloc: Global, engine: &mut Engine<MemDisk>) -> Result<Option<u64>, Fail> {
     engine.fresh()?;
     let count = engine.entry_count();
     let ready = !engine.is_stale();
     let gone = engine.live_from(0).is_none() == (count == 2);
-    let both = has_both(alloc, &mut engine)? == (count == 2);
+    let both = has_both(alloc, engine)? == (count == 2);
+    Ok((ready && gone && both).then_some(count))
+}
+
+/// Reopens an archive in doubt, and returns how many entries it has. Returns `None` if these aren't the
+/// entries, or the files aren't exactly those of that archive.
+fn entries_found(alloc: Global, engine: Engine<MemDisk>) -> Result<Option<u64>, Fail> {
+    let mut engine = engine;
+    let found = reopened_count(alloc, &mut engine)?;
     let mut disk = engine.into_disk();
-    let exact = are_exact(&mut disk, if count == 2 { 672 } else { 316 })?;
-    Ok((ready && gone && both && exact).then_some(count))
+    let exact = are_exact(&mut disk, if found == Some(2) { 672 } else { 316 })?;
+    Ok(if exact { found } else { None })
+}
+
+/// What is found after a removal.
+#[derive(Clone, Copy, PartialEq)]
+enum Found {
+    /// Nothing is in doubt.
+    Sure,
+    /// The removal was not done.
+    Before,
+    /// The removal was done.
+    After,
+    /// Something else.
+    Other,
+}
+
+/// Returns what is found after a removal over a disk of which a call fails, by its ordinal from 1.
+fn found_after(alloc: Global, ordinal: u64) -> Result<Found, Fail> {
+    match in_doubt(alloc, ordinal)? {
+        None => Ok(Found::Sure),
+        Some(engine) => match entries_found(alloc, engine)? {
+            Some(1) => Ok(Found::Before),
+            Some(2) => Ok(Found::After),
+            _other => Ok(Found::Other),
+        },
+    }
 }
 
 #[test]
 fn a_removal_in_doubt_is_found_or_not(rt: HostRuntime) -> Result<(), Fail> {
     let mut before = false;
-    let mut last = None;
+    let mut last = Found::Sure;
     for ordinal in 1..80 {
-        if let Some(engine) = in_doubt(rt.alloc(), ordinal)? {
-            last = entries_found(rt.alloc(), engine)?;
-
-            assert!(rt; last == Some(1) || last == Some(2));
-            before = before || last == Some(1);
+        let found = found_after(rt.alloc(), ordinal)?;
+        assert!(rt; found != Found::Other);
+        before = before || found == Found::Before;
+        if found != Found::Sure {
+            last = found;
         }
     }
     // The last call of a removal is a sync. When it fails, the next root was written before.
-    assert!(rt; before && last == Some(2));
+    assert!(rt; before && last == Found::After);
     Ok(())
 }

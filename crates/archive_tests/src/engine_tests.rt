@@ -1,6 +1,7 @@
 //! An archive that owns its disk, by the trait of keepers: what it gives, and what it does after a
 //! fault.
 use crate::accepted::accepted;
+use crate::both::{Check, both_pass};
 use arch_base::{Bytes, id_of_hex};
 use arch_model::{Answer, Command, EntryLine, Keep, OpenRefusal};
 use archive_core::{Engine, NotMade, NotOpened};
@@ -224,24 +225,28 @@ fn gives_blobs<K: Keep>(alloc: Global, keep: &mut K) -> Result<bool, Fail> {
     Ok(first && second && !other && none.as_slice().is_empty())
 }
 
-/// Delivers two messages to a keeper without any, and returns whether it counts, lists and gives
-/// them.
-fn is_shelf_of_two<K: Keep>(alloc: Global, keep: &mut K) -> Result<bool, Fail> {
-    let taken = takes_two(keep)?;
-    let counted = counts_two(keep)?;
+/// Returns whether a keeper lists two messages as an archive in memory does.
+fn lists_as_memory<K: Keep>(alloc: Global, keep: &mut K) -> Result<bool, Fail> {
     let mut memory = two_in_memory(alloc, 316).ok_or("no settings")?;
-    let listed = lists_two(keep, &mut memory)?;
-    let given = gives_blobs(alloc, keep)?;
-    Ok(taken && counted && listed && given)
+    Ok(lists_two(keep, &mut memory)?)
+}
+
+/// Two messages that are delivered are counted, listed and given.
+struct ShelfOfTwo;
+
+impl Check for ShelfOfTwo {
+    fn passes<K: Keep>(alloc: Global, keep: &mut K) -> Result<bool, Fail> {
+        let taken = takes_two(keep)?;
+        let counted = counts_two(keep)?;
+        let listed = lists_as_memory(alloc, keep)?;
+        let given = gives_blobs(alloc, keep)?;
+        Ok(taken && counted && listed && given)
+    }
 }
 
 #[test]
 fn an_engine_is_a_shelf_as_the_archive_in_memory_is(rt: HostRuntime) -> Result<(), Fail> {
-    let alloc = rt.alloc();
-    let mut engine = made(alloc, empty_disk(alloc))?;
-    assert!(rt; is_shelf_of_two(alloc, &mut engine)?);
-    let mut memory = in_memory(alloc, 316, 10, false).ok_or("no settings")?;
-    assert!(rt; is_shelf_of_two(alloc, &mut memory)?);
+    assert!(rt; both_pass::<ShelfOfTwo>(rt.alloc(), 316)?);
     Ok(())
 }
 
@@ -262,6 +267,18 @@ fn unmade(alloc: Global, disk: MemDisk) -> Option<(MemDisk, InitRefusal)> {
     }
 }
 
+/// Returns the disk of which it was told that it has no archive.
+fn without_archive(alloc: Global, disk: MemDisk) -> Option<MemDisk> {
+    let (disk, why) = unopened(alloc, disk)?;
+    (why == OpenRefusal::NoArchive).then_some(disk)
+}
+
+/// Returns the disk of which it was told that it has an archive.
+fn with_archive(alloc: Global, disk: MemDisk) -> Option<MemDisk> {
+    let (disk, why) = unmade(alloc, disk)?;
+    (why == InitRefusal::Exists).then_some(disk)
+}
+
 /// Makes an archive on a disk and delivers a message to it, and returns the disk.
 fn with_message(alloc: Global, disk: MemDisk) -> Result<MemDisk, Fail> {
     let mut engine = made(alloc, disk)?;
@@ -279,23 +296,17 @@ fn has_message(alloc: Global, disk: MemDisk) -> Result<bool, Fail> {
 #[test]
 fn a_disk_on_which_nothing_is_opened_is_handed_back(rt: HostRuntime) -> Result<(), Fail> {
     let alloc = rt.alloc();
-    let Some((disk, why)) = unopened(alloc, empty_disk(alloc)) else {
-        return Ok(assert!(rt; false));
-    };
-    assert!(rt; why == OpenRefusal::NoArchive);
-    let disk = with_message(alloc, disk)?;
-    assert!(rt; has_message(alloc, disk)?);
+    let disk = without_archive(alloc, empty_disk(alloc)).ok_or("an archive")?;
+    let made = with_message(alloc, disk)?;
+    assert!(rt; has_message(alloc, made)?);
     Ok(())
 }
 
 #[test]
 fn a_disk_on_which_nothing_is_made_is_handed_back(rt: HostRuntime) -> Result<(), Fail> {
     let alloc = rt.alloc();
-    let disk = with_message(alloc, empty_disk(alloc))?;
-    let Some((disk, why)) = unmade(alloc, disk) else {
-        return Ok(assert!(rt; false));
-    };
-    assert!(rt; why == InitRefusal::Exists);
+    let made = with_message(alloc, empty_disk(alloc))?;
+    let disk = with_archive(alloc, made).ok_or("no archive")?;
     assert!(rt; has_message(alloc, disk)?);
     Ok(())
 }

@@ -5,7 +5,11 @@
 #[cfg(test)]
 mod accepted;
 #[cfg(test)]
+mod both;
+#[cfg(test)]
 mod core_tests;
+#[cfg(test)]
+mod counting_tests;
 #[cfg(test)]
 mod disk_removal_tests;
 #[cfg(test)]

@@ -1,14 +1,13 @@
 //! The rows of archives in memory and on disks: what each row says, how it is found, and the listing.
 use crate::accepted::accepted;
+use crate::both::{Check, both_pass};
 use crate::engine_tests::opened;
 use crate::removal_tests::{answer, on_disk};
 use arch_model::{Command, Keep, OpenRefusal, Shelf};
-use archive_core::Engine;
 use disk_model::MemDisk;
 use epoch_tests::{FIRST, FIRST_ID, LATER, MOMENT, SECOND};
 use std::alloc::Global;
 use std::test::Fail;
-use store_tests::in_memory;
 
 /// A mail of the day after the first one.
 const NEXT_DAY: &[u8] =
@@ -102,40 +101,58 @@ fn follows_removals<K: Keep>(keep: &mut K) -> Result<bool, Fail> {
     Ok(ready && rest && lost && new && answered)
 }
 
+/// The four mails are listed, and found by their ids.
+struct ShowsFour;
+
+impl Check for ShowsFour {
+    fn passes<K: Keep>(_alloc: Global, keep: &mut K) -> Result<bool, Fail> {
+        shows_four(keep)
+    }
+}
+
 #[test]
 fn rows_are_listed_by_date_and_number(rt: HostRuntime) -> Result<(), Fail> {
-    let alloc = rt.alloc();
-    let mut memory = in_memory(alloc, 2000, 10, false).ok_or("settings")?;
-    assert!(rt; shows_four(&mut memory)?);
-    let mut engine = on_disk(alloc, 2000, false)?;
-    assert!(rt; shows_four(&mut engine)?);
+    assert!(rt; both_pass::<ShowsFour>(rt.alloc(), 2000)?);
     Ok(())
+}
+
+/// The rows of the four mails follow removals.
+struct FollowsRemovals;
+
+impl Check for FollowsRemovals {
+    fn passes<K: Keep>(_alloc: Global, keep: &mut K) -> Result<bool, Fail> {
+        let shown = shows_four(keep)?;
+        let follows = follows_removals(keep)?;
+        Ok(shown && follows)
+    }
 }
 
 #[test]
 fn rows_follow_removals(rt: HostRuntime) -> Result<(), Fail> {
-    let alloc = rt.alloc();
-    let mut memory = in_memory(alloc, 2000, 10, false).ok_or("settings")?;
-    assert!(rt; shows_four(&mut memory)? && follows_removals(&mut memory)?);
-    let mut engine = on_disk(alloc, 2000, false)?;
-    assert!(rt; shows_four(&mut engine)? && follows_removals(&mut engine)?);
+    assert!(rt; both_pass::<FollowsRemovals>(rt.alloc(), 2000)?);
     Ok(())
 }
 
-/// Makes an archive of four mails of which two were removed and one came again, and reopens it.
-fn reopened(alloc: Global) -> Result<Engine<MemDisk>, Fail> {
+/// Makes an archive of four mails of which two were removed and one came again, and returns its disk.
+fn disk_of_three(alloc: Global) -> Result<MemDisk, Fail> {
     let mut engine = on_disk(alloc, 400, false)?;
-    let _ = shows_four(&mut engine)?;
-    let _ = follows_removals(&mut engine)?;
-    Ok(opened(alloc, engine.into_disk())?)
+    let _ = FollowsRemovals::passes(alloc, &mut engine)?;
+    Ok(engine.into_disk())
+}
+
+/// Returns whether the rows of these three mails are listed and found.
+fn has_three<K: Keep>(keep: &mut K) -> Result<bool, Fail> {
+    let listed = page_is(keep, 0, 9, &[4, 5, 3])?;
+    let found = id_is(keep, b"<a@x>", Some(5))?;
+    let gone = !has_row(keep, 2)?;
+    let there = has_row(keep, 3)?;
+    Ok(listed && found && gone && there)
 }
 
 #[test]
 fn rows_are_the_same_after_a_reopening(rt: HostRuntime) -> Result<(), Fail> {
-    let mut engine = reopened(rt.alloc())?;
-    assert!(rt; page_is(&mut engine, 0, 9, &[4, 5, 3])?);
-    assert!(rt; id_is(&mut engine, b"<a@x>", Some(5))?);
-    assert!(rt; !has_row(&mut engine, 2)? && has_row(&mut engine, 3)?);
-    assert!(rt; engine.message_count() == 3);
+    let mut engine = opened(rt.alloc(), disk_of_three(rt.alloc())?)?;
+    let three = has_three(&mut engine)?;
+    assert!(rt; three && engine.message_count() == 3);
     Ok(())
 }

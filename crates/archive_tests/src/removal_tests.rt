@@ -2,6 +2,7 @@
 ghost use Rattle.std.specs.Prelude.{◌≤◌};
 
 use crate::accepted::accepted;
+use crate::both::{Check, both_pass};
 use crate::engine_tests::{blob_is, line, live_from, opened, put_epoch, put_text};
 use arch_base::{Bytes, LAST_MOMENT, id_of_hex};
 use arch_model::{Answer, Command, EntryLine, Keep, OpenRefusal};
@@ -90,40 +91,40 @@ pub(crate) fn has_both<K: Keep>(alloc: Global, keep: &mut K) -> Result<bool, Fai
 }
 
 /// Delivers the first mail and removes it, and returns whether the removal is the second entry.
-fn goes<K: Keep>(alloc: Global, keep: &mut K) -> Result<bool, Fail> {
-    let gone = comes_and_goes(keep)?;
-    let both = has_both(alloc, keep)?;
-    Ok(gone && both)
+struct Goes;
+
+impl Check for Goes {
+    fn passes<K: Keep>(alloc: Global, keep: &mut K) -> Result<bool, Fail> {
+        let gone = comes_and_goes(keep)?;
+        let both = has_both(alloc, keep)?;
+        Ok(gone && both)
+    }
 }
 
 #[test]
 fn a_removal_is_an_entry_of_its_own(rt: HostRuntime) -> Result<(), Fail> {
-    let alloc = rt.alloc();
-    let mut memory = in_memory(alloc, 1000, 10, false).ok_or("settings")?;
-    assert!(rt; goes(alloc, &mut memory)?);
-    let mut engine = on_disk(alloc, 1000, false)?;
-    assert!(rt; goes(alloc, &mut engine)?);
+    assert!(rt; both_pass::<Goes>(rt.alloc(), 1000)?);
     Ok(())
 }
 
 /// Delivers the first mail, removes it and delivers it again, and returns whether it is the third
 /// entry, in an epoch of 1,028 bytes, under a number of its own.
-fn comes_again<K: Keep>(alloc: Global, keep: &mut K) -> Result<bool, Fail> {
-    let gone = comes_and_goes(keep)?;
-    let again = Some(answer(keep, &Command::Deliver(FIRST), LAST)?) == accepted(2, FIRST_ID);
-    let twice = answer(keep, &Command::Deliver(FIRST), LAST)? == Answer::Duplicate(2);
-    let third = is_entry(line(keep, 2)?, EntryKind::Message, 2, AGAIN_COMMIT);
-    let is_long = epoch_len(alloc, keep, 0)? == Some(1028);
-    Ok(gone && again && twice && third && is_long)
+struct ComesAgain;
+
+impl Check for ComesAgain {
+    fn passes<K: Keep>(alloc: Global, keep: &mut K) -> Result<bool, Fail> {
+        let gone = comes_and_goes(keep)?;
+        let again = Some(answer(keep, &Command::Deliver(FIRST), LAST)?) == accepted(2, FIRST_ID);
+        let twice = answer(keep, &Command::Deliver(FIRST), LAST)? == Answer::Duplicate(2);
+        let third = is_entry(line(keep, 2)?, EntryKind::Message, 2, AGAIN_COMMIT);
+        let is_long = epoch_len(alloc, keep, 0)? == Some(1028);
+        Ok(gone && again && twice && third && is_long)
+    }
 }
 
 #[test]
 fn a_removed_text_comes_again(rt: HostRuntime) -> Result<(), Fail> {
-    let alloc = rt.alloc();
-    let mut memory = in_memory(alloc, 2000, 10, false).ok_or("settings")?;
-    assert!(rt; comes_again(alloc, &mut memory)?);
-    let mut engine = on_disk(alloc, 2000, false)?;
-    assert!(rt; comes_again(alloc, &mut engine)?);
+    assert!(rt; both_pass::<ComesAgain>(rt.alloc(), 2000)?);
     Ok(())
 }
 
@@ -135,22 +136,22 @@ fn text_is<K: Keep>(alloc: Global, keep: &mut K, n: u32, wanted: &[u8]) -> Resul
 }
 
 /// Returns whether a mail with the id of the removed one is kept unchanged, and then removed.
-fn gives_the_id<K: Keep>(alloc: Global, keep: &mut K) -> Result<bool, Fail> {
-    let gone = comes_and_goes(keep)?;
-    let other = accepted(2, UNCHANGED_ID);
-    let came = Some(answer(keep, &Command::Deliver(OTHER), LAST)?) == other;
-    let shown = text_is(alloc, keep, 2, OTHER)?;
-    let went = Some(answer(keep, &Command::Remove(2), LAST)?) == other;
-    Ok(gone && came && shown && went)
+struct GivesTheId;
+
+impl Check for GivesTheId {
+    fn passes<K: Keep>(alloc: Global, keep: &mut K) -> Result<bool, Fail> {
+        let gone = comes_and_goes(keep)?;
+        let other = accepted(2, UNCHANGED_ID);
+        let came = Some(answer(keep, &Command::Deliver(OTHER), LAST)?) == other;
+        let shown = text_is(alloc, keep, 2, OTHER)?;
+        let went = Some(answer(keep, &Command::Remove(2), LAST)?) == other;
+        Ok(gone && came && shown && went)
+    }
 }
 
 #[test]
 fn the_id_of_a_removed_mail_is_free(rt: HostRuntime) -> Result<(), Fail> {
-    let alloc = rt.alloc();
-    let mut memory = in_memory(alloc, 2000, 10, false).ok_or("settings")?;
-    assert!(rt; gives_the_id(alloc, &mut memory)?);
-    let mut engine = on_disk(alloc, 2000, false)?;
-    assert!(rt; gives_the_id(alloc, &mut engine)?);
+    assert!(rt; both_pass::<GivesTheId>(rt.alloc(), 2000)?);
     Ok(())
 }
 
@@ -166,28 +167,33 @@ fn refuses_each<K: Keep>(keep: &mut K, numbers: &[u32]) -> Result<bool, OpenRefu
 
 /// Delivers the first mail and removes it, and returns whether no number can be removed then, and
 /// nothing changes.
-fn removes_once<K: Keep>(alloc: Global, keep: &mut K) -> Result<bool, Fail> {
-    let none = refuses_each(keep, &[0, 1])?;
-    let gone = comes_and_goes(keep)?;
-    let each = refuses_each(keep, &[0, 1, 2, u32::MAX])?;
-    let both = has_both(alloc, keep)?;
-    Ok(none && gone && each && both)
+struct RemovesOnce;
+
+impl Check for RemovesOnce {
+    fn passes<K: Keep>(alloc: Global, keep: &mut K) -> Result<bool, Fail> {
+        let none = refuses_each(keep, &[0, 1])?;
+        let gone = comes_and_goes(keep)?;
+        let each = refuses_each(keep, &[0, 1, 2, u32::MAX])?;
+        let both = has_both(alloc, keep)?;
+        Ok(none && gone && each && both)
+    }
 }
 
 #[test]
 fn what_is_not_live_is_not_removed(rt: HostRuntime) -> Result<(), Fail> {
-    let alloc = rt.alloc();
-    let mut memory = in_memory(alloc, 1000, 10, false).ok_or("settings")?;
-    assert!(rt; removes_once(alloc, &mut memory)?);
-    let mut engine = on_disk(alloc, 1000, false)?;
-    assert!(rt; removes_once(alloc, &mut engine)?);
+    assert!(rt; both_pass::<RemovesOnce>(rt.alloc(), 1000)?);
     Ok(())
 }
 
 #[test]
-fn a_mirror_removes_nothing(rt: HostRuntime) -> Result<(), Fail> {
+fn a_mirror_in_memory_removes_nothing(rt: HostRuntime) -> Result<(), Fail> {
     let mut memory = in_memory(rt.alloc(), 1000, 10, true).ok_or("settings")?;
     assert!(rt; answer(&mut memory, &Command::Remove(1), MOMENT)? == Answer::IsMirror);
+    Ok(())
+}
+
+#[test]
+fn a_mirror_on_a_disk_removes_nothing(rt: HostRuntime) -> Result<(), Fail> {
     let mut engine = on_disk(rt.alloc(), 1000, true)?;
     assert!(rt; answer(&mut engine, &Command::Remove(1), MOMENT)? == Answer::IsMirror);
     Ok(())
@@ -204,41 +210,41 @@ fn has_second_alone<K: Keep>(keep: &mut K) -> Result<bool, OpenRefusal> {
 
 /// Removes the first of two mails, and returns whether the second one alone is shown, and the first
 /// is given by its blob id.
-fn shows_second_alone<K: Keep>(alloc: Global, keep: &mut K) -> Result<bool, Fail> {
-    let gone = comes_and_goes(keep)?;
-    let second = Some(answer(keep, &Command::Deliver(SECOND), LAST)?) == accepted(2, SECOND_ID);
-    let alone = has_second_alone(keep)?;
-    let text = text_is(alloc, keep, 1, SECOND)?;
-    let blob = blob_is(alloc, keep, FIRST_ID, FIRST)?;
-    Ok(gone && second && alone && text && blob)
+struct ShowsSecondAlone;
+
+impl Check for ShowsSecondAlone {
+    fn passes<K: Keep>(alloc: Global, keep: &mut K) -> Result<bool, Fail> {
+        let gone = comes_and_goes(keep)?;
+        let second = Some(answer(keep, &Command::Deliver(SECOND), LAST)?) == accepted(2, SECOND_ID);
+        let alone = has_second_alone(keep)?;
+        let text = text_is(alloc, keep, 1, SECOND)?;
+        let blob = blob_is(alloc, keep, FIRST_ID, FIRST)?;
+        Ok(gone && second && alone && text && blob)
+    }
 }
 
 #[test]
 fn a_removed_number_is_not_shown(rt: HostRuntime) -> Result<(), Fail> {
-    let alloc = rt.alloc();
-    let mut memory = in_memory(alloc, 2000, 10, false).ok_or("settings")?;
-    assert!(rt; shows_second_alone(alloc, &mut memory)?);
-    let mut engine = on_disk(alloc, 2000, false)?;
-    assert!(rt; shows_second_alone(alloc, &mut engine)?);
+    assert!(rt; both_pass::<ShowsSecondAlone>(rt.alloc(), 2000)?);
     Ok(())
 }
 
 /// Delivers the first mail and removes it, and returns whether each is an epoch by itself.
-fn fills_two_epochs<K: Keep>(alloc: Global, keep: &mut K) -> Result<bool, Fail> {
-    let gone = comes_and_goes(keep)?;
-    let zero = epoch_len(alloc, keep, 0)? == Some(316);
-    let one = epoch_len(alloc, keep, 1)? == Some(316);
-    let two = epoch_len(alloc, keep, 2)?.is_none();
-    Ok(gone && zero && one && two)
+struct FillsTwoEpochs;
+
+impl Check for FillsTwoEpochs {
+    fn passes<K: Keep>(alloc: Global, keep: &mut K) -> Result<bool, Fail> {
+        let gone = comes_and_goes(keep)?;
+        let zero = epoch_len(alloc, keep, 0)? == Some(316);
+        let one = epoch_len(alloc, keep, 1)? == Some(316);
+        let two = epoch_len(alloc, keep, 2)?.is_none();
+        Ok(gone && zero && one && two)
+    }
 }
 
 #[test]
 fn a_removal_goes_to_the_epoch_that_has_room(rt: HostRuntime) -> Result<(), Fail> {
-    let alloc = rt.alloc();
-    let mut memory = in_memory(alloc, 316, 10, false).ok_or("settings")?;
-    assert!(rt; fills_two_epochs(alloc, &mut memory)?);
-    let mut engine = on_disk(alloc, 316, false)?;
-    assert!(rt; fills_two_epochs(alloc, &mut engine)?);
+    assert!(rt; both_pass::<FillsTwoEpochs>(rt.alloc(), 316)?);
     Ok(())
 }
 
@@ -306,24 +312,37 @@ fn is_opened_alike<K: Keep>(alloc: Global, disk: MemDisk, other: &mut K) -> Resu
     Ok(listed && given)
 }
 
-/// Returns whether an archive on a disk answers commands as another one does, and then is that,
-/// also when it is reopened.
-fn is_alike<K: Keep>(alloc: Global, engine: Engine<MemDisk>, other: &mut K) -> Result<bool, Fail> {
-    let mut engine = engine;
-    let answered = answer_alike(&mut engine, other)?;
-    let given = give_alike(alloc, &mut engine, other)?;
-    let again = is_opened_alike(alloc, engine.into_disk(), other)?;
-    Ok(answered && given && again)
+/// Returns whether two archives answer commands alike, and then give the same.
+fn are_filled_alike<K: Keep, L: Keep>(
+    alloc: Global,
+    keep: &mut K,
+    other: &mut L,
+) -> Result<bool, Fail> {
+    let answered = answer_alike(keep, other)?;
+    let given = give_alike(alloc, keep, other)?;
+    Ok(answered && given)
 }
 
-/// Returns whether an archive on a disk is alike one in memory so, with epochs of this least length.
+/// Makes an archive on a disk that answers commands as another one does, and returns the disk, or
+/// `None` if it answers or gives something else.
+fn alike_on_disk<K: Keep>(alloc: Global, limit: u64, other: &mut K) -> Result<Option<MemDisk>, Fail>
+    requires low { 1 ≤ limit }
+    requires high { limit ≤ 1099511627776 }
+{
+    let mut engine = on_disk(alloc, limit, false)?;
+    let alike = are_filled_alike(alloc, &mut engine, other)?;
+    Ok(alike.then_some(engine.into_disk()))
+}
+
+/// Returns whether an archive on a disk answers commands as one in memory does, and then is that, also
+/// when it is reopened, with epochs of this least length.
 fn are_alike(alloc: Global, limit: u64) -> Result<bool, Fail>
     requires low { 1 ≤ limit }
     requires high { limit ≤ 1099511627776 }
 {
     let mut memory = in_memory(alloc, limit, 10, false).ok_or("settings")?;
-    let engine = on_disk(alloc, limit, false)?;
-    is_alike(alloc, engine, &mut memory)
+    let disk = alike_on_disk(alloc, limit, &mut memory)?.ok_or("not alike")?;
+    is_opened_alike(alloc, disk, &mut memory)
 }
 
 #[test]

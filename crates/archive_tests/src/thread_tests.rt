@@ -1,13 +1,12 @@
 //! The threads of archives in memory and on disks, as messages come and go, and after a reopening.
+use crate::both::{Check, both_pass};
 use crate::engine_tests::opened;
 use crate::removal_tests::{answer, on_disk};
 use arch_model::{Command, Keep, OpenRefusal, Shelf};
-use archive_core::Engine;
 use disk_model::MemDisk;
 use epoch_tests::{LATER, MOMENT};
 use std::alloc::Global;
 use std::test::Fail;
-use store_tests::in_memory;
 
 /// Two mails alone, and a third that answers both and one that isn't there.
 const ALONE: &[u8] = b"Message-ID: <a@x>\n\none\n";
@@ -52,35 +51,45 @@ fn parts<K: Keep>(keep: &mut K) -> Result<bool, Fail> {
     Ok(ready && apart && gone)
 }
 
+/// Threads join and part.
+struct JoinsAndParts;
+
+impl Check for JoinsAndParts {
+    fn passes<K: Keep>(_alloc: Global, keep: &mut K) -> Result<bool, Fail> {
+        let joined = joins(keep)?;
+        let parted = parts(keep)?;
+        Ok(joined && parted)
+    }
+}
+
 #[test]
 fn threads_join_and_part(rt: HostRuntime) -> Result<(), Fail> {
-    let alloc = rt.alloc();
-    let mut memory = in_memory(alloc, 2000, 10, false).ok_or("settings")?;
-    assert!(rt; joins(&mut memory)? && parts(&mut memory)?);
-    let mut engine = on_disk(alloc, 2000, false)?;
-    assert!(rt; joins(&mut engine)? && parts(&mut engine)?);
+    assert!(rt; both_pass::<JoinsAndParts>(rt.alloc(), 2000)?);
     Ok(())
 }
 
-/// Makes an archive of the three mails, the first of which was removed, and reopens it.
-fn reopened(alloc: Global) -> Result<Engine<MemDisk>, Fail> {
+/// Makes an archive of the three mails, the first of which was removed, and returns its disk.
+fn disk_of_two(alloc: Global) -> Result<MemDisk, Fail> {
     let mut engine = on_disk(alloc, 400, false)?;
     let _ = joins(&mut engine)?;
     let _ = stays_ready(&mut engine, &Command::Remove(1), LATER)?;
-    Ok(opened(alloc, engine.into_disk())?)
+    Ok(engine.into_disk())
+}
+
+/// Returns whether the two mails that are left are in one thread, and the second is alone once the
+/// third is removed.
+fn parts_after<K: Keep>(keep: &mut K) -> Result<bool, Fail> {
+    let gone = thread_is(keep, 1, &[])?;
+    let both = thread_is(keep, 2, &[2, 3])?;
+    let ready = stays_ready(keep, &Command::Remove(3), LATER)?;
+    let alone = thread_is(keep, 2, &[2])?;
+    let none = thread_is(keep, 3, &[])?;
+    Ok(gone && both && ready && alone && none)
 }
 
 #[test]
 fn threads_are_the_same_after_a_reopening(rt: HostRuntime) -> Result<(), Fail> {
-    let mut engine = reopened(rt.alloc())?;
-    assert!(rt; thread_is(&mut engine, 1, &[])?);
-    assert!(rt; thread_is(&mut engine, 2, &[2, 3])?);
+    let mut engine = opened(rt.alloc(), disk_of_two(rt.alloc())?)?;
     assert!(rt; parts_after(&mut engine)?);
     Ok(())
-}
-
-/// Removes the third mail of those that are left, and returns whether the second is alone.
-fn parts_after<K: Keep>(keep: &mut K) -> Result<bool, Fail> {
-    let ready = stays_ready(keep, &Command::Remove(3), LATER)?;
-    Ok(ready && thread_is(keep, 2, &[2])? && thread_is(keep, 3, &[])?)
 }
