@@ -1,5 +1,5 @@
 //! A shelf whose texts can't be read from a number on.
-ghost use Rattle.std.specs.Prelude.{◌≡◌, true, refl};
+ghost use Rattle.std.specs.Prelude.{◌≡◌, ◌≤◌, true, refl};
 ghost use Rattle.arch_base.specs.Counts.{Rose};
 ghost use Rattle.arch_model.specs.Untold.{HoldsNone};
 
@@ -38,7 +38,8 @@ impl FailingShelf {
 
     /// Counts a fault.
     fn fail(&mut self)
-        ensures { Rose self.old.faults self.new.faults }
+        ensures rose { Rose self.old.faults self.new.faults }
+        ensures later { self.old.faults ≤ self.new.faults }
     {
         self.faults = self.faults.saturating_add(1);
     }

@@ -250,7 +250,8 @@ fn a_head_of_16385_bytes_is_too_long(rt: HostRuntime) {
 fn endless_is_answered(alloc: Global, len: usize, reply: &[u8], next: Next) -> bool {
     match head_of(alloc, 20_000) {
         Some(head) => {
-            let front = head.as_slice().split_at(len.min(20_000)).0;
+            let whole = head.as_slice();
+            let front = whole.split_at(len.min(whole.len())).0;
             is_answered_in(alloc, front, 1_000, reply, next)
         }
         None => false,
