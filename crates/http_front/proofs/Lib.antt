@@ -2,6 +2,7 @@ pub mod Fronts
 pub mod Ends
 pub mod Scanning
 pub mod ThreadRows
+pub mod HeadReading
 pub mod Doors
 pub mod Acting
 pub mod Serving

@@ -6,8 +6,6 @@ use Rattle.line_door.specs.Making.{in_ways}
 use Rattle.line_door.specs.Course.{talk, Fed}
 use Rattle.arch_model.specs.Archives.{Archive}
 use Rattle.arch_base.specs.declared.sequence.NoMemory.{NoMemory}
-use Rattle.arch_model.specs.declared.opening.OpenRefusal.{OpenRefusal}
-use Rattle.arch_model.specs.declared.opening.OpenRefusal.TheVariants as opening
 use Rattle.arch_model.specs.declared.text_refusal.TextRefusal.{TextRefusal}
 use Rattle.arch_model.specs.declared.text_refusal.TextRefusal.TheVariants as refusal
 use Rattle.edge_io.specs.Phrases.{Says}
@@ -21,7 +19,7 @@ use Rattle.http_front.specs.Threads.{thread_rows, oldest_first}
 use Rattle.http_front.specs.Asking.{Reading, IsReading, Found, Gives, Streams, Missing, message_found, text_found, thread_found, feed_found, feed_len, ReadsUpTo}
 use Rattle.http_front.specs.Door.{Says as SaysAct, replies, said_found, said, said_head, said_asked, has_request}
 use Rattle.http_front.specs.Mailboxes.{mailbox_at, whole_mailbox}
-use Rattle.http_front.specs.Replies.{reply, word, word_of, damaged_line, unopened_word}
+use Rattle.http_front.specs.Replies.{reply, word, word_of, damaged_line}
 use Rattle.http_front.specs.declared.session.Turn.{Turn}
 use Rattle.http_front.specs.declared.session.Turn.TheVariants.{Went, Kept, Closed}
 use Rattle.http_front.specs.declared.found.Held.{Held}
@@ -188,17 +186,3 @@ abbrev pub SaysStopped : Bool → TextRefusal → ℕ → Option (List ℕ) → 
 SaysStopped true refused moment out lost out' lost' = (out' ≡ out) × (lost' ≡ lost)
 SaysStopped false refused moment out lost out' lost' = (sent : Result Unit SinkFault)
     × SaysUnread refused moment true out lost out' lost' sent
-
--- It was said why an archive was not opened, and that the connection is closed. Out of memory for the
--- name of a damaged file, that is said.
-abbrev pub SaysUnopened : OpenRefusal → ℕ → Option (List ℕ) → ℕ → Option (List ℕ) → ℕ
-    → Result Unit SinkFault → Type 0
-SaysUnopened (opening.Damaged file at) moment out lost out' lost' sent =
-    Says (unopened_word (opening.Damaged file at) moment) out lost out' lost' sent
-    ⊎ Says (word Unavailable moment true true) out lost out' lost' sent
-SaysUnopened opening.NoArchive moment out lost out' lost' sent =
-    Says (unopened_word opening.NoArchive moment) out lost out' lost' sent
-SaysUnopened opening.DiskFault moment out lost out' lost' sent =
-    Says (unopened_word opening.DiskFault moment) out lost out' lost' sent
-SaysUnopened opening.NoMemory moment out lost out' lost' sent =
-    Says (unopened_word opening.NoMemory moment) out lost out' lost' sent
