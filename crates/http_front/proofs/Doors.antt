@@ -92,7 +92,7 @@ shorter-at reading moment a bytes k (Whole head rest) is h next =
 shorter-at reading moment a bytes k Long is h next = absurd (cc next)
 shorter-at reading moment a bytes k Partial is h next = absurd (cc h)
 
-http_cuts : (reading : Reading) (moment : ℕ) → CutDoor (said reading moment) has_request with_piece length
+pub http_cuts : (reading : Reading) (moment : ℕ) → CutDoor (said reading moment) has_request with_piece length
 http_cuts reading moment = record {
   request_stays = λ q h asked. goes-whole q (front head_limit h) (front head_limit (h ++ q)) (front-goes head_limit h q) asked;
   said_stays = λ q a h way asked. goes-said reading moment a h q way (front head_limit h) (front head_limit (h ++ q)) (front-goes head_limit h q) asked;

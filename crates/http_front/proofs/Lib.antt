@@ -4,6 +4,7 @@ pub mod Scanning
 pub mod ThreadRows
 pub mod HeadReading
 pub mod Doors
+pub mod Staying
 pub mod Acting
 pub mod Serving
 pub mod Replying

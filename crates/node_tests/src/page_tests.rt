@@ -1,0 +1,41 @@
+//! Clients of the door of pages beside one who delivers and removes.
+use crate::served::{ACCEPTED, DELIVERED, joined, served_plain};
+use edge_io::MemHost;
+use std::alloc::Global;
+
+/// A client asks for the text of the message, which comes in two pieces of the request.
+const ASKED: &[u8] =
+    b"1706781700 o 2 http\n1706781700 b 2 20\nGET /list/a@x/raw HT\n1706781800 b 2 10\nTP/1.1\r\n\r\n\n";
+
+/// The message is removed, and the client asks again, and then for what no archive has.
+const AGAIN: &[u8] =
+    b"1706781800 b 1 9\nremove 1\n\n1706781800 b 2 30\nGET /list/a@x/raw HTTP/1.1\r\n\r\n\n1706781800 b 2 16\nGET / HTTP/1.0\r\n\n1706781800 b 2 2\n\r\n\n";
+
+/// What the client gets. Each reply has the date of the piece that ended its request.
+const GOT: &[u8] =
+    b"HTTP/1.1 200 OK\r\nDate: Thu, 01 Feb 2024 10:03:20 GMT\r\nContent-Type: text/plain\r\nContent-Length: 103\r\n\r\nFrom: Ann <ann@example.org>\nDate: Thu, 1 Feb 2024 10:00:00 +0000\nSubject: first\nMessage-ID: <a@x>\n\none\nHTTP/1.1 404 Not Found\r\nDate: Thu, 01 Feb 2024 10:03:20 GMT\r\nContent-Type: text/plain; charset=utf-8\r\nContent-Length: 10\r\n\r\nnot found\nHTTP/1.1 404 Not Found\r\nDate: Thu, 01 Feb 2024 10:03:20 GMT\r\nContent-Type: text/plain; charset=utf-8\r\nContent-Length: 10\r\nConnection: close\r\n\r\nnot found\n";
+
+/// Serves texts of a script in order over an archive in memory, and returns the host.
+fn host_after(alloc: Global, texts: &[&[u8]]) -> Option<MemHost> {
+    let text = joined(alloc, texts)?;
+    let (_end, host) = served_plain(alloc, text.as_slice(), &[])?;
+    Some(host)
+}
+
+/// Returns whether the client gets what it should and is closed, and the one who delivers is not.
+fn is_shown(alloc: Global) -> bool {
+    match host_after(alloc, &[DELIVERED, ASKED, AGAIN]) {
+        None => false,
+        Some(host) => {
+            host.taken(2) == GOT
+                && host.is_closed(2)
+                && host.taken(1).starts_with(ACCEPTED)
+                && !host.is_closed(1)
+        }
+    }
+}
+
+#[test]
+fn a_page_is_gone_once_its_message_is_removed(rt: HostRuntime) {
+    assert!(rt; is_shown(rt.alloc()));
+}
