@@ -491,6 +491,29 @@ fn worked_runs(rt: HostRuntime) {
     }
 }
 
+/// Scripts whose connections ask for pages.
+const PAGES: [Due<'_>; 2] = [
+    Due {
+        words: &["replay", "list"],
+        input: b"1706781800 o 1 http\n1706781800 b 1 52\nGET /list/zz/ HTTP/1.1\r\n\r\nGET /list/zz/ HTTP/1.1\r\n\r\n\n",
+        status: 0,
+        printed: b"1 268\nHTTP/1.1 404 Not Found\r\nDate: Thu, 01 Feb 2024 10:03:20 GMT\r\nContent-Type: text/plain; charset=utf-8\r\nContent-Length: 10\r\n\r\nnot found\nHTTP/1.1 404 Not Found\r\nDate: Thu, 01 Feb 2024 10:03:20 GMT\r\nContent-Type: text/plain; charset=utf-8\r\nContent-Length: 10\r\n\r\nnot found\n\n",
+    },
+    Due {
+        words: &["replay", "list"],
+        input: b"1706781800 o 1 control\n1706781800 b 1 115\ndeliver 103\nFrom: Ann <ann@example.org>\nDate: Thu, 1 Feb 2024 10:00:00 +0000\nSubject: first\nMessage-ID: <a@x>\n\none\n\n1706781800 o 2 http\n1706781800 b 2 53\nGET /list/ HTTP/1.1\r\n\r\nGET /list/a@x/raw HTTP/1.1\r\n\r\n\n1706781800 s\n",
+        status: 0,
+        printed: b"1 48\n1 ok 1 1d023c572ccd6f3cc82ae855343346b043adaba5\n\n2 445\nHTTP/1.1 200 OK\r\nDate: Thu, 01 Feb 2024 10:03:20 GMT\r\nContent-Type: text/html; charset=utf-8\r\nContent-Length: 122\r\n\r\n<html><head><title>list</title></head><body><pre>2024-02-01 10:00 <a href=\"/list/a@x/\">first</a> Ann\n</pre></body></html>\nHTTP/1.1 200 OK\r\nDate: Thu, 01 Feb 2024 10:03:20 GMT\r\nContent-Type: text/plain\r\nContent-Length: 103\r\n\r\nFrom: Ann <ann@example.org>\nDate: Thu, 1 Feb 2024 10:00:00 +0000\nSubject: first\nMessage-ID: <a@x>\n\none\n\n",
+    },
+];
+
+#[test]
+fn worked_pages(rt: HostRuntime) {
+    for due in &PAGES {
+        assert!(rt; is_as_due(rt.alloc(), due));
+    }
+}
+
 /// A source without an end.
 #[derive(Drop)]
 struct Endless;

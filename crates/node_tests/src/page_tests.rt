@@ -1,5 +1,6 @@
 //! Clients of the door of pages beside one who delivers and removes.
-use crate::served::{ACCEPTED, DELIVERED, joined, served_plain};
+use crate::fault_tests::made_over_failing;
+use crate::served::{ACCEPTED, DELIVERED, host, joined, served_on, served_plain};
 use edge_io::MemHost;
 use std::alloc::Global;
 
@@ -38,4 +39,43 @@ fn is_shown(alloc: Global) -> bool {
 #[test]
 fn a_page_is_gone_once_its_message_is_removed(rt: HostRuntime) {
     assert!(rt; is_shown(rt.alloc()));
+}
+
+/// A client asks for the text of the message.
+const ONCE: &[u8] = b"1706781700 o 2 http\n1706781800 b 2 30\nGET /list/a@x/raw HTTP/1.1\r\n\r\n\n";
+
+/// What it gets of the archive with the message, of the one before, and if the disk fails.
+const NEW: &[u8] =
+    b"HTTP/1.1 200 OK\r\nDate: Thu, 01 Feb 2024 10:03:20 GMT\r\nContent-Type: text/plain\r\nContent-Length: 103\r\n\r\nFrom: Ann <ann@example.org>\nDate: Thu, 1 Feb 2024 10:00:00 +0000\nSubject: first\nMessage-ID: <a@x>\n\none\n";
+
+const OLD: &[u8] =
+    b"HTTP/1.1 404 Not Found\r\nDate: Thu, 01 Feb 2024 10:03:20 GMT\r\nContent-Type: text/plain; charset=utf-8\r\nContent-Length: 10\r\n\r\nnot found\n";
+
+const FAULT: &[u8] =
+    b"HTTP/1.1 500 Internal Server Error\r\nDate: Thu, 01 Feb 2024 10:03:20 GMT\r\nContent-Type: text/plain; charset=utf-8\r\nContent-Length: 11\r\nConnection: close\r\n\r\ndisk fault\n";
+
+/// Returns whether the client got the reply of an archive, or that of a fault and was closed.
+fn is_answered(host: &MemHost) -> bool {
+    if host.taken(2) == FAULT {
+        return host.is_closed(2);
+    }
+    (host.taken(2) == NEW || host.taken(2) == OLD) && !host.is_closed(2)
+}
+
+/// Returns whether that is so where one call of the disk fails.
+fn is_answered_over(alloc: Global, ordinal: u64) -> Option<bool> {
+    let Some(engine) = made_over_failing(alloc, ordinal) else {
+        return Some(true);
+    };
+    let text = joined(alloc, &[DELIVERED, ONCE])?;
+    let mut host = host(alloc, text.as_slice(), &[])?;
+    let (_end, _engine) = served_on(alloc, engine, &mut host);
+    Some(is_answered(&host))
+}
+
+#[test]
+fn a_failing_disk_is_told_at_the_door_of_pages(rt: HostRuntime) {
+    for ordinal in 1..80 {
+        assert!(rt; is_answered_over(rt.alloc(), ordinal) == Some(true));
+    }
 }
