@@ -156,16 +156,17 @@ field-some field is =
     ap is_empty (content-line (field_text field) field.end (lacks-field 13 field no-token-13 refl refl is))
     ∙ some-bytes field.name (58 ∷ field.raw) is.name.0
 
+-- The field with another value.
+abbrev with_raw : Field → List ℕ → Field
+with_raw field bytes = record { name = field.name; raw = bytes; end = field.end }
+
 field-read : (field : Field) → IsField field → field_by (content (field_text field ++ return_of field.end)) (ending (field_text field ++ return_of field.end)) ≡ field
 field-read field is =
     let all = lacks-field 13 field no-token-13 refl refl is in
     ap (λ (t : List ℕ). field_by t (ending (field_text field ++ return_of field.end))) (content-line (field_text field) field.end all)
     ∙ ap (λ (e : LineEnd). field_by (field_text field) e) (ending-line (field_text field) field.end all)
     ∙ ap (λ (n : List ℕ). field_named n (field_text field) field.end) (ap first_piece (slice_split_at (λ (b : ℕ). b == 58) field.name 58 field.raw (lacks-token 58 field.name no-token-58 is.name.1) refl))
-    ∙ ap (λ (r : List ℕ). with_raw r) (drop-append-add field.name (58 ∷ field.raw) 1)
-  where
-    with_raw : List ℕ → Field
-    with_raw r = record { name = field.name; raw = r; end = field.end }
+    ∙ ap (with_raw field) (drop-append-add field.name (58 ∷ field.raw) 1)
 
 fields-read : (fields : List Field) (last : LineEnd) → All IsField fields → fields_in (field_lines fields last) ≡ fields
 fields-read [] crlf all = refl
@@ -221,15 +222,17 @@ head-lines head is =
     ∙ line-split (start_text head) head.line_end (print_section head.fields head.last ++ []) (lacks-start 10 head no-token-10 refl refl is)
     ∙ ap (λ (t : List (List ℕ)). start_line head ∷ t) (section-lines head.fields head.last is.fields))
 
+-- A head with another minor version, other fields and another end.
+abbrev with_parts : RequestHead → ℕ → List Field → LineEnd → Option RequestHead
+with_parts head n fs end =
+    Some (record { blank = head.blank; method = head.method; target = head.target; minor = n; line_end = head.line_end; fields = fs; last = end })
+
 -- The lines of a head are read as it.
 head-by : (head : RequestHead) → IsRequestHead head → head_by head.blank head.line_end (head.method ∷ head.target ∷ print_version head.minor ∷ []) (field_lines head.fields head.last) ≡ Some head
 head-by head is =
-    ap (λ (n : ℕ). with_parts n (fields_in (field_lines head.fields head.last)) (last_in (field_lines head.fields head.last))) (minor-read head.minor is.minor)
-    ∙ ap (λ (fs : List Field). with_parts head.minor fs (last_in (field_lines head.fields head.last))) (fields-read head.fields head.last is.fields)
-    ∙ ap (λ (end : LineEnd). with_parts head.minor head.fields end) (last-read head.fields head.last is.fields)
-  where
-    with_parts : ℕ → List Field → LineEnd → Option RequestHead
-    with_parts n fs end = Some (record { blank = head.blank; method = head.method; target = head.target; minor = n; line_end = head.line_end; fields = fs; last = end })
+    ap (λ (n : ℕ). with_parts head n (fields_in (field_lines head.fields head.last)) (last_in (field_lines head.fields head.last))) (minor-read head.minor is.minor)
+    ∙ ap (λ (fs : List Field). with_parts head head.minor fs (last_in (field_lines head.fields head.last))) (fields-read head.fields head.last is.fields)
+    ∙ ap (λ (end : LineEnd). with_parts head head.minor head.fields end) (last-read head.fields head.last is.fields)
 
 head-read : (head : RequestHead) → IsRequestHead head → head_in (pieces_of 10 (print_request head ++ [])) ≡ Some head
 head-read head is =
