@@ -1,4 +1,3 @@
-use Rattle.std.proofs.Common.{refl}
 use Rattle.node_serve.specs.Nodes.{places_of}
 use Rattle.node_serve.proofs.PlaceMaps.{placed-inserted}
 use Rattle.node_serve.proofs.Turning.{makes-silent, makes-starved, makes-unchanged}
