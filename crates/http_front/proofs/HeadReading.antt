@@ -1,5 +1,5 @@
 -- The function that reads heads reads them as the grammar has it.
-use Rattle.std.proofs.Common.{◌≡◌, ◌<◌, ◌≤◌, ◌+◌, ℕ, zero, suc, Bool, true, false, not, ◌&&◌, ◌||◌, ◌==◌, cond, List, [], ◌∷◌, ◌++◌, length, drop, map, flat_map, All, Option, Some, None, refl, sym, ap, ◌∙◌, arith, append_assoc, append-nil, codes, if◌then◌else◌}
+use Rattle.std.proofs.Common.{◌≡◌, ◌<◌, ◌≤◌, ℕ, zero, suc, Bool, true, false, not, ◌||◌, ◌==◌, cond, List, [], ◌∷◌, ◌++◌, length, map, flat_map, All, Option, Some, None, refl, sym, ap, ◌∙◌, arith, append_assoc, append-nil, if◌then◌else◌}
 use Rattle.std.proofs.Math.Seq.{drop-append-add}
 use Rattle.std.proofs.lemmas.Bool.{and_parts, and_from, false_from_ne_true, leb-true, le-leb, ltb-true, lt-ltb}
 use Rattle.std.proofs.lemmas.Bool.Decides.{Decides-eqb}
@@ -10,9 +10,9 @@ use Rattle.std.proofs.lemmas.List.Sums.{AllPass-from_list_all, list_all-from_All
 use Rattle.std.proofs.lemmas.Slice.Eq.{bytes_eq-Decides}
 use Rattle.std.proofs.lemmas.Str.{IsUtf8-from_is_utf8, is_utf8-from_IsUtf8}
 use Rattle.std.specs.List.{list_all, list_any}
-use Rattle.httparse.specs.Grammar.{is_token_byte, is_uri_byte, is_value_byte, AllPass, IsToken, is_token, LineEnd, crlf, lf, print_end, print_blank, print_version, Field, print_field, IsField, print_section, RequestHead, print_request, IsRequestHead, ReadsRequest}
+use Rattle.httparse.specs.Grammar.{is_token_byte, is_uri_byte, is_value_byte, AllPass, IsToken, is_token, LineEnd, crlf, lf, print_end, print_blank, print_version, Field, print_field, IsField, print_section, RequestHead, print_request, IsRequestHead}
 use Rattle.httparse.proofs.GrammarLemmas.{print_request-append, cons-append}
-use Rattle.http_heads.specs.Heads.{IsHead, Asked, asked_of}
+use Rattle.http_heads.specs.Heads.{IsHead, asked_of}
 use Rattle.http_heads.specs.Pieces.{pieces_of}
 use Rattle.http_front.specs.Asking.{IsReading}
 use Rattle.http_front.specs.Reading.{is_return, content, ending, is_empty, ends_before, lines_after, first_piece, field_named, field_by, fields_in, last_in, minor_of, head_by, head_from, head_in, is_field, is_valid, is_head, asked_if, asked_in}
