@@ -19,7 +19,7 @@ use Rattle.keep_course.specs.Answering.{newer_of, said_reopening}
 use Rattle.keep_course.specs.Courses.{afters}
 use Rattle.control_door.specs.Door as control
 use Rattle.control_door.specs.Door.{Waiting}
-use Rattle.control_door.specs.Requests.{Request, Delivers, Shows, Removes, Lists, Quits, Mistakes, Exceeds, Ahead, Asked, Unfinished, ahead}
+use Rattle.control_door.specs.Requests.{Request, Delivers, Shows, Removes, Threads, Lists, Quits, Mistakes, Exceeds, Ahead, Asked, Unfinished, ahead}
 use Rattle.nntp_reader.specs.Door as news
 use Rattle.nntp_reader.specs.Door.{Reader}
 use Rattle.http_front.specs.Reading.{asked_in}
@@ -85,6 +85,7 @@ module _ (itself : FollowsItself) (commands : CommandFollows) where
   answers moment s (Delivers message) rest kept = sure s.archive _ (with-message s.archive message moment)
   answers moment s (Shows number) rest kept = stays s kept
   answers moment s (Removes number) rest kept = sure s.archive _ (without s.archive number moment)
+  answers moment s (Threads number) rest kept = stays s kept
   answers moment s Lists rest kept = stays s kept
   answers moment s Quits rest kept = stays s kept
   answers moment s Mistakes rest kept = stays s kept
@@ -94,6 +95,7 @@ module _ (itself : FollowsItself) (commands : CommandFollows) where
   starves moment s (Delivers message) rest kept = stays s kept
   starves moment s (Shows number) rest kept = stays s kept
   starves moment s (Removes number) rest kept = stays s kept
+  starves moment s (Threads number) rest kept = stays s kept
   starves moment s Lists rest kept = stays s kept
   starves moment s Quits rest kept = stays s kept
   starves moment s Mistakes rest kept = stays s kept
@@ -103,6 +105,7 @@ module _ (itself : FollowsItself) (commands : CommandFollows) where
   fails moment s (Delivers message) rest kept = doubts s.archive _ (with-message s.archive message moment)
   fails moment s (Shows number) rest kept = stays s kept
   fails moment s (Removes number) rest kept = doubts s.archive _ (without s.archive number moment)
+  fails moment s (Threads number) rest kept = stays s kept
   fails moment s Lists rest kept = stays s kept
   fails moment s Quits rest kept = stays s kept
   fails moment s Mistakes rest kept = stays s kept

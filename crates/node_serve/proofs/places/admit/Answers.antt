@@ -34,11 +34,11 @@ open_silent-requires-clause-silent g c = λ s. ap (λ (bytes : List ℕ). says s
 pub open_silent-requires-clause-none : goal.open_silent-requires-clause-none
 open_silent-requires-clause-none g c = c.end.ensures.gone
 
-pub open_silent-requires-2-clause-silent : goal.open_silent-requires-2-clause-silent
-open_silent-requires-2-clause-silent g c = λ s. ap (λ (bytes : List ℕ). says s (session.Http bytes) []) (sym c.open-in-Http.ensures)
+pub open_silent-requires-in-Http-clause-silent : goal.open_silent-requires-in-Http-clause-silent
+open_silent-requires-in-Http-clause-silent g c = λ s. ap (λ (bytes : List ℕ). says s (session.Http bytes) []) (sym c.open-in-Http.ensures)
 
-pub open_silent-requires-2-clause-none : goal.open_silent-requires-2-clause-none
-open_silent-requires-2-clause-none g c = c.end.ensures.gone
+pub open_silent-requires-in-Http-clause-none : goal.open_silent-requires-in-Http-clause-none
+open_silent-requires-in-Http-clause-none g c = c.end.ensures.gone
 
 pub open_news-requires-clause-none : goal.open_news-requires-clause-none
 open_news-requires-clause-none g c = c.end.ensures.gone
