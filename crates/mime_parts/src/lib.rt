@@ -1,4 +1,5 @@
-//! Divides a mail into its parts, decodes them, and shows its body as text (RFC 2045 and RFC 2046).
+//! Divides a mail into its parts, decodes them, shows its body as text (RFC 2045 and RFC 2046), and
+//! gives its words.
 #![tactic(auto)]
 
 mod content_type;
@@ -12,8 +13,10 @@ mod part;
 mod place;
 mod quoted;
 mod visiting;
+mod words;
 
 pub use decoding::{body_text, decode_part};
 pub use laws::{bodies_are_divided, parts_are_a_tree};
 pub use part::{Encoding, Part, Parts, Shape, Span};
 pub use visiting::tree;
+pub use words::words;
