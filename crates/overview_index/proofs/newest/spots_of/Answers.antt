@@ -1,0 +1,12 @@
+use Rattle.std.proofs.Common.{sym, arith, ap, ◌∙◌}
+use Rattle.overview_index.proofs.Newest.{spots-more, spots-none}
+use Rattle.overview_index.proofs.newest.spots_of.Goals as goal
+
+pub loop-i-init : goal.loop-i-init
+loop-i-init c = record { within = omega arith; put = sym (spots-none c.args.rows.now.entries c.args.numbers.now) }
+
+pub loop-i-preserved : goal.loop-i-preserved
+loop-i-preserved c = record {
+  within = (let before = c.loop-i.invariant.within in omega (arith, before));
+  put = spots-more c.args.rows.now.entries c.args.numbers.now c.loop-i.i c.index-numbers-i.result c.index-numbers-i.result c.loop-i.found.keys c.put_spot.new.found.keys c.loop-i-test.true c.loop-i.invariant.within c.index-numbers-i.is c.loop-i.invariant.put c.in_ok-put_spot.ensures;
+}
