@@ -27,6 +27,7 @@ pub use mail_commits::{EntryIds, entry_commit, push_entry};
 pub use mail_forms::Row;
 pub use next::Next;
 pub use opening::OpenRefusal;
+pub use query_lang::Query;
 pub use shelf::{Shelf, is_live};
 pub use text_refusal::TextRefusal;
 pub use walked::Walked;

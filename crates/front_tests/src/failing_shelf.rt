@@ -91,6 +91,10 @@ impl Shelf for FailingShelf {
         self.archive.thread_of(n)
     }
 
+    fn search(&self, query: &Query) -> Result<Numbers, NoMemory> {
+        self.archive.search(query)
+    }
+
     fn entry(&self, index: u64) -> Option<EntryLine> {
         self.archive.entry(index)
     }
