@@ -4,6 +4,7 @@
 mod counted;
 mod keys;
 mod laws;
+mod posting;
 mod rebuilding;
 mod rows;
 mod views;

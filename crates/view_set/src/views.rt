@@ -6,8 +6,9 @@ ghost use Rattle.view_set.specs.Threads.{thread_in};
 ghost use Rattle.view_set.specs.Viewed.{no_mails, with_mail, without_mail, searched};
 ghost use Rattle.word_index.specs.Rows.{found};
 
-use crate::counted::{add_thread, take_thread};
+use crate::counted::take_thread;
 use crate::keys::keys_of;
+use crate::posting::post;
 use arch_base::{NoMemory, Numbers};
 use mail_forms::Row;
 use overview_index::Overview;
@@ -69,13 +70,9 @@ impl Views {
         let (number, day) = (row.number, utc_day(&row.date));
         let keys = keys_of(self.alloc, &row)?;
         self.overview.add(row)?;
-        if let Err(refused) = self.words.add(number, &words, day) {
+        let posted = post(&mut self.words, &mut self.threads, number, &words, day, &keys);
+        if let Err(refused) = posted {
             self.overview.take(number);
-            return Err(refused);
-        }
-        if let Err(refused) = add_thread(&mut self.threads, number, &keys) {
-            self.overview.take(number);
-            self.words.take(number);
             return Err(refused);
         }
         Ok(())
