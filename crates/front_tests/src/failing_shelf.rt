@@ -4,7 +4,7 @@ ghost use Rattle.arch_base.specs.Counts.{Rose};
 ghost use Rattle.arch_model.specs.Untold.{HoldsNone};
 
 use arch_base::{Bytes, Config, NoMemory, Numbers, ObjectId};
-use arch_model::{EntryLine, Row, Shelf, TextRefusal};
+use arch_model::{EntryLine, Query, Row, Shelf, TextRefusal};
 use mem_archive::MemArchive;
 
 /// Why a text isn't read.

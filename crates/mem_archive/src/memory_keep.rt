@@ -6,7 +6,9 @@ ghost use Rattle.mem_archive.specs.Crashes.{held-left, same-read};
 
 use crate::memory::MemArchive;
 use arch_base::{Bytes, Config, NoMemory, Numbers, ObjectId};
-use arch_model::{Answer, Command, EntryLine, Keep, OpenRefusal, Row, Shelf, TextRefusal};
+use arch_model::{
+    Answer, Command, EntryLine, Keep, OpenRefusal, Query, Row, Shelf, TextRefusal,
+};
 
 impl Shelf for MemArchive {
     ghost holds = { λ m a. a ≡ m };
@@ -53,6 +55,10 @@ impl Shelf for MemArchive {
 
     fn thread_of(&self, n: u32) -> Result<Numbers, NoMemory> {
         self.thread(n)
+    }
+
+    fn search(&self, query: &Query) -> Result<Numbers, NoMemory> {
+        self.matching(query)
     }
 
     fn entry(&self, index: u64) -> Option<EntryLine> {

@@ -61,6 +61,11 @@ words-taken (e ∷ es) number n ascends =
 pub mails-taken : (es : List Entry) (number n : ℕ) → Ascends number es → without_mail (views_of es) n ≡ views_of (without_number n es)
 mails-taken es number n ascends = both (without_mail (views_of es) n) (views_of (without_number n es)) (rows-taken es number n ascends) (words-taken es number n ascends)
 
+-- There are words of just the messages that have a row.
+pub are-worded : (es : List Entry) → AreWorded (rows_of es) (worded_of es)
+are-worded [] = refl
+are-worded (e ∷ es) = ap (λ (ns : List ℕ). e.number ∷ ns) (are-worded es)
+
 -- A message that was added and taken again leaves what was there.
 pub mail-back : (v : Viewed) (row : Row) (words : WordLists) (n : ℕ) → n ≡ row.number → AreWorded v.rows v.words → row_in v.rows row.number ≡ None → without_mail (with_mail v row words) n ≡ v
 mail-back v row words n is worded none =
