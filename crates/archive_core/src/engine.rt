@@ -24,9 +24,7 @@ use crate::not_made::{NotMade, NotOpened};
 use crate::opened::Opened;
 use crate::rows::follow;
 use arch_base::{Bytes, Config, NoMemory, Numbers, ObjectId};
-use arch_model::{
-    Answer, Command, EntryLine, Keep, OpenRefusal, Query, Row, Shelf, TextRefusal,
-};
+use arch_model::{Answer, Command, EntryLine, Keep, OpenRefusal, Query, Row, Shelf, TextRefusal};
 use disk_model::Disk;
 use epoch_store::law_of_recovery;
 use std::alloc::Global;

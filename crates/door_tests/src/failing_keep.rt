@@ -5,9 +5,7 @@ ghost use Rattle.arch_model.specs.Untold.{HoldsNone, LeavesUntold, untold-read};
 ghost use Rattle.arch_base.specs.Moments.{last_moment};
 
 use arch_base::{Bytes, Config, NoMemory, Numbers, ObjectId};
-use arch_model::{
-    Answer, Command, EntryLine, Keep, OpenRefusal, Query, Row, Shelf, TextRefusal,
-};
+use arch_model::{Answer, Command, EntryLine, Keep, OpenRefusal, Query, Row, Shelf, TextRefusal};
 use mem_archive::MemArchive;
 
 /// The call of a keeper that fails.

@@ -16,7 +16,7 @@ least_left a b h = grind (arith)
 least_right : (a b : ℕ) → b ≤ a → min a b ≡ b
 least_right a b h = grind (arith)
 
-take_least : {A : Type 0} (n : ℕ) (xs : List A) → take (min (length xs) n) xs ≡ take n xs
+pub take_least : {A : Type 0} (n : ℕ) (xs : List A) → take (min (length xs) n) xs ≡ take n xs
 take_least {A} n xs =
     let short : length xs ≤ n → take (min (length xs) n) xs ≡ take n xs = λ h. ap (λ m. take m xs) (least_left (length xs) n h) ∙ take_all (length xs) xs (omega arith) ∙ sym (take_all n xs h) in
     elim (cases_order (length xs) n) [
@@ -25,7 +25,7 @@ take_least {A} n xs =
       | inr (inr more) ↦ ap (λ m. take m xs) (least_right (length xs) n (omega arith))
     ]
 
-drop_least : {A : Type 0} (n : ℕ) (xs : List A) → drop (min (length xs) n) xs ≡ drop n xs
+pub drop_least : {A : Type 0} (n : ℕ) (xs : List A) → drop (min (length xs) n) xs ≡ drop n xs
 drop_least {A} n xs =
     let short : length xs ≤ n → drop (min (length xs) n) xs ≡ drop n xs = λ h. ap (λ m. drop m xs) (least_left (length xs) n h) ∙ drop_all (length xs) xs (omega arith) ∙ sym (drop_all n xs h) in
     elim (cases_order (length xs) n) [

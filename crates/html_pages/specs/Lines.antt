@@ -35,7 +35,7 @@ abbrev pub older_found : List ℕ → ℕ → ℕ → List ℕ
 older_found text skip count =
     if count == 0 then []
     else codes "<a href=\"?q=" ++ byte_serialize text ++ codes "&amp;o="
-        ++ decimal (skip + rows_shown) ++ codes "\">older</a>\n"
+    ++ decimal (skip + rows_shown) ++ codes "\">older</a>\n"
 
 -- The line of a field: its name, and its decoded value.
 abbrev pub field_line : List ℕ → Option FieldText → List ℕ

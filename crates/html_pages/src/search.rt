@@ -41,12 +41,7 @@ pub fn search_page(
 }
 
 /// Appends the link to the rows after those that are shown, if there are any.
-fn push_older(
-    text: &[u8],
-    older: &[&Row],
-    skip: u64,
-    into: &mut Bytes,
-) -> Result<(), NoMemory>
+fn push_older(text: &[u8], older: &[&Row], skip: u64, into: &mut Bytes) -> Result<(), NoMemory>
     ensures { OnOk result (into.new ≡ into.old ++ older_found text.now skip (length older.now)) }
 {
     if older.is_empty() {

@@ -18,7 +18,7 @@ use Rattle.http_heads.specs.declared.reply.Body.TheVariants.{Mailbox}
 use Rattle.http_heads.specs.declared.reply.Status.TheVariants.{Done, ServerError, Unavailable}
 use Rattle.http_front.specs.Views.{shown_row, shown_text}
 use Rattle.http_front.specs.Threads.{thread_rows, oldest_first}
-use Rattle.http_front.specs.Asking.{Reading, IsReading, Found, Gives, Streams, Missing, message_found, text_found, thread_found, feed_found, feed_len, ReadsUpTo}
+use Rattle.http_front.specs.Asking.{Reading, IsReading, Found, Gives, Streams, Missing, BadRange, message_found, text_found, thread_found, feed_found, feed_len, ReadsUpTo}
 use Rattle.http_front.specs.Door.{Says as SaysAct, replies, said_found, said, said_head, said_asked, has_request}
 use Rattle.http_front.specs.Mailboxes.{mailbox_at, whole_mailbox}
 use Rattle.http_front.specs.Replies.{reply, word, word_of, damaged_line, unopened_word}
@@ -57,6 +57,7 @@ IsHeldFor a found reads what.EveryMail = (found ≡ Streams Mailbox (whole_mailb
 IsHeldFor a found reads (what.Mails numbers) =
     (found ≡ Streams Mailbox (mailbox_at a.entries numbers)) × (reads ≡ true)
 IsHeldFor a found reads what.Nothing = found ≡ Missing
+IsHeldFor a found reads what.BadRange = found ≡ BadRange
 
 -- What stands under a target was found, or memory ran out; or the disk failed, where texts are read.
 abbrev pub Finds : Archive → Found → Bool → Result Held TextRefusal → Type 0
@@ -65,10 +66,11 @@ Finds a found reads (Err refusal.DiskFault) = reads ≡ true
 Finds a found reads (Err (refusal.Damaged named found')) = ⊥
 Finds a found reads (Err refusal.NoMemory) = Unit {0}
 
--- A page was made, or there is none; or memory ran out.
+-- A page was made, or there is none, or what is asked is no query; or memory ran out.
 abbrev pub MakesPage : Found → Result Held NoMemory → Type 0
 MakesPage found (Ok (what.Whole body bytes)) = found ≡ Gives body bytes
 MakesPage found (Ok what.Nothing) = found ≡ Missing
+MakesPage found (Ok what.BadRange) = found ≡ BadRange
 MakesPage found (Ok what.EveryMail) = ⊥
 MakesPage found (Ok (what.Mails numbers)) = ⊥
 MakesPage found (Err refused) = Unit {0}

@@ -12,6 +12,7 @@ mod message;
 mod numbers;
 mod replies;
 mod scan;
+mod search;
 mod session;
 mod thread;
 mod words;

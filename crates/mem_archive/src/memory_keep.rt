@@ -6,9 +6,7 @@ ghost use Rattle.mem_archive.specs.Crashes.{held-left, same-read};
 
 use crate::memory::MemArchive;
 use arch_base::{Bytes, Config, NoMemory, Numbers, ObjectId};
-use arch_model::{
-    Answer, Command, EntryLine, Keep, OpenRefusal, Query, Row, Shelf, TextRefusal,
-};
+use arch_model::{Answer, Command, EntryLine, Keep, OpenRefusal, Query, Row, Shelf, TextRefusal};
 
 impl Shelf for MemArchive {
     ghost holds = { λ m a. a ≡ m };

@@ -39,11 +39,7 @@ fn spots_of(
 }
 
 /// Puts where the row of a number stands into a set, if there is one.
-fn put_spot(
-    rows: &BTreeMap<u32, Row>,
-    n: u64,
-    found: &mut BTreeSet<Spot>,
-) -> Result<(), NoMemory>
+fn put_spot(rows: &BTreeMap<u32, Row>, n: u64, found: &mut BTreeSet<Spot>) -> Result<(), NoMemory>
     ensures { OnOk result (found.new.keys
         ≡ spots_before (row_numbered rows.now.entries n) found.old.keys) }
 {

@@ -49,9 +49,10 @@ found_later e rows (x ∷ es) low less ascends all =
 
 all-found : (low : ℕ) (es : List Entry) → Ascends low es → AllByRecursion (IsFound (rows_of es)) es
 all-found low [] ascends = tt
-all-found low (e ∷ es) ascends =
-    (ap (λ (t : Bool). cond t (Some (row_at e)) (row_in (rows_of es) e.number)) (true-at e.number e.number refl),
-    found_later e (rows_of es) es (e.number + 1) (omega arith) ascends.1 (all-found (e.number + 1) es ascends.1))
+all-found low (e ∷ es) ascends = (
+  ap (λ (t : Bool). cond t (Some (row_at e)) (row_in (rows_of es) e.number)) (true-at e.number e.number refl),
+  found_later e (rows_of es) es (e.number + 1) (omega arith) ascends.1 (all-found (e.number + 1) es ascends.1),
+)
 
 -- So the rows of the numbers of some of them are theirs.
 numbered_row : (rows : List (ℕ × Row)) (e : Entry) → e.number < 4294967296 → IsFound rows e → row_numbered rows e.number ≡ (e.number, row_at e) ∷ []
