@@ -21,4 +21,6 @@ mod reading_tests;
 #[cfg(test)]
 mod removal_tests;
 #[cfg(test)]
+mod search_tests;
+#[cfg(test)]
 mod thread_tests;
