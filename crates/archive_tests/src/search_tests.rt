@@ -194,7 +194,7 @@ fn mail(alloc: Global, number: u32, drawn: u64) -> Result<Bytes, NoMemory> {
 
 /// Makes an archive without mails on a disk, with room for many.
 fn roomy(alloc: Global) -> Result<Engine<MemDisk>, InitRefusal> {
-    match settings(1 << 30, MANY, false) {
+    match settings(1_073_741_824, MANY, false) {
         None => Err(InitRefusal::NoMemory),
         Some(config) => match Engine::make(alloc, empty_disk(alloc), &config) {
             Ok(engine) => Ok(engine),

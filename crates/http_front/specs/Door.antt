@@ -23,8 +23,8 @@ abbrev pub replies : Archive → List ℕ → Bool → Bool → List ℕ → Say
 replies a rest ends streamed words =
     record { next = if ends then None else Some rest; words = words; streamed = streamed; after = a }
 
--- The reply to a request with what is found: a body, `not found`, or `bad range`. The body of a mailbox file is
--- streamed. `sends` is false for the method `HEAD`.
+-- The reply to a request with what is found: a body, `not found`, or `bad range`. The body of a
+-- mailbox file is streamed. `sends` is false for the method `HEAD`.
 abbrev pub served : ℕ → Archive → Bool → Bool → List ℕ → Found → Says
 served moment a sends ends rest (Gives body bytes) =
     replies a rest ends false (reply Done moment body bytes sends ends)

@@ -26,4 +26,5 @@ StopsWithin count (Err unread) = unread.index < count
 -- The row and the words of the text of the entry at an index were added, with a number and a moment.
 abbrev pub AddsRowAt : List Entry → ℕ → ℕ → ℕ → Viewed → Viewed → Type 0
 AddsRowAt entries index number moment old new =
-    (text : List ℕ) × HasTextAt entries index text × (new ≡ with_mail old (row_of number text moment) (mail_words text))
+    (text : List ℕ) × HasTextAt entries index text
+    × (new ≡ with_mail old (row_of number text moment) (mail_words text))
