@@ -49,10 +49,10 @@ number_at spot = spot.number
 unfoldable pub listing : List (ℕ × Row) → List ℕ
 listing rows = map number_at (reverse (spots rows))
 
--- Where further rows stand, too.
-abbrev pub spots_before : List (ℕ × Row) → List Spot → List Spot
-spots_before [] found = found
-spots_before (e ∷ rows) found = insert_key spot_cmp (spots_before rows found) (spot_of e.1)
+-- Where a further row stands, too, if there is one.
+abbrev pub with_spot : Option Row → List Spot → List Spot
+with_spot None found = found
+with_spot (Some row) found = insert_key spot_cmp found (spot_of row)
 
 -- A row under its number, if there is one.
 abbrev pub under : ℕ → Option Row → List (ℕ × Row)

@@ -1,6 +1,6 @@
 //! Orders rows by their dates.
-ghost use Rattle.std.specs.Prelude.{◌≡◌, map, reverse, OnOk, IfOk};
-ghost use Rattle.overview_index.specs.Listings.{number_at, spots, spots_before, row_numbered, rows_numbered, listing};
+ghost use Rattle.std.specs.Prelude.{◌≡◌, map, reverse, OnOk, IfOk, option_copied};
+ghost use Rattle.overview_index.specs.Listings.{number_at, spots, with_spot, under, row_numbered, rows_numbered, listing};
 
 use crate::spot::Spot;
 use arch_base::{NoMemory, Numbers};
@@ -33,20 +33,27 @@ fn spots_of(
     let mut i = numbers.len();
     while i > 0 {
         i -= 1;
-        put_spot(rows, numbers[i], &mut found)?;
+        put_spot(row_of_number(rows, numbers[i]), &mut found)?;
     }
     Ok(found)
 }
 
-/// Puts where the row of a number stands into a set, if there is one.
-fn put_spot(rows: &BTreeMap<u32, Row>, n: u64, found: &mut BTreeSet<Spot>) -> Result<(), NoMemory>
-    ensures { OnOk result (found.new.keys
-        ≡ spots_before (row_numbered rows.now.entries n) found.old.keys) }
+/// Returns the row of a number. Numbers of more than 32 bits have none.
+fn row_of_number(rows: &BTreeMap<u32, Row>, n: u64) -> Option<&Row>
+    ensures { under n (option_copied result) ≡ row_numbered rows.now.entries n }
 {
-    if n > u64::from(u32::MAX) {
-        return Ok(());
+    if n <= u64::from(u32::MAX) {
+        rows.get(&(n as u32))
+    } else {
+        None
     }
-    match rows.get(&(n as u32)) {
+}
+
+/// Puts where a row stands into a set, if there is a row.
+fn put_spot(row: Option<&Row>, found: &mut BTreeSet<Spot>) -> Result<(), NoMemory>
+    ensures { OnOk result (found.new.keys ≡ with_spot (option_copied row.entry) found.old.keys) }
+{
+    match row {
         Some(row) => {
             found.insert(Spot::of(row))?;
             Ok(())

@@ -32,4 +32,4 @@ set-more words i d old new word all within is puts so_far =
     ∙ so_far
 
 pub set-end : (words : List (List ℕ)) (i : ℕ) (set all : List (List ℕ)) → length words ≤ i → with_words set (drop i words) ≡ all → set ≡ all
-set-end words i set all past so_far = ap (with_words set) (sym (drop_all words i past)) ∙ so_far
+set-end words i set all past so_far = ap (with_words set) (sym (drop_all i words past)) ∙ so_far

@@ -1,4 +1,5 @@
-use Rattle.std.proofs.Common.{sym, arith, ap, ◌∙◌}
+use Rattle.std.proofs.Common.{sym, arith}
+use Rattle.std.specs.Prelude.{option_copied}
 use Rattle.overview_index.proofs.Newest.{spots-more, spots-none}
 use Rattle.overview_index.proofs.newest.spots_of.Goals as goal
 
@@ -8,5 +9,5 @@ loop-i-init c = record { within = omega arith; put = sym (spots-none c.args.rows
 pub loop-i-preserved : goal.loop-i-preserved
 loop-i-preserved c = record {
   within = (let before = c.loop-i.invariant.within in omega (arith, before));
-  put = spots-more c.args.rows.now.entries c.args.numbers.now c.loop-i.i c.index-numbers-i.result c.index-numbers-i.result c.loop-i.found.keys c.put_spot.new.found.keys c.loop-i-test.true c.loop-i.invariant.within c.index-numbers-i.is c.loop-i.invariant.put c.in_ok-put_spot.ensures;
+  put = spots-more c.args.rows.now.entries c.args.numbers.now c.loop-i.i c.index-numbers-i.result c.index-numbers-i.result (option_copied c.row_of_number.result) c.loop-i.found.keys c.put_spot.new.found.keys c.loop-i-test.true c.loop-i.invariant.within c.index-numbers-i.is c.row_of_number.ensures c.loop-i.invariant.put c.in_ok-put_spot.ensures;
 }
