@@ -18,7 +18,7 @@ use Rattle.overview_index.specs.Listings.{row_in, under, row_numbered, rows_numb
 use Rattle.overview_index.proofs.Messages.{AllBelow, Ascends, listing-is}
 use Rattle.thread_model.proofs.Entries.{true-at, false-at}
 use Rattle.word_index.specs.Rows.{Row as Worded, found}
-use Rattle.view_set.specs.Viewed.{worded_of, views_of, searched}
+use Rattle.view_set.specs.Viewed.{worded_by, worded_of, views_of, searched}
 use Rattle.view_set.proofs.Walking.{live-ascends}
 
 -- The numbers of messages.
@@ -34,7 +34,7 @@ matched_step false e word words es is = is
 found-is : (query : Query) (es : List Entry) → found query (worded_of es) ≡ numbers_of (filter (is_match query) es)
 found-is query [] = refl
 found-is query (e ∷ es) =
-    matched_step (is_match query e) e (record { words = mail_words e.text; day = _ }) (filter (λ (w : ℕ × Worded). matches query w.1.words w.1.day) (worded_of es)) (filter (is_match query) es) (found-is query es)
+    matched_step (is_match query e) e (worded_by (row_at e) (mail_words e.text)) (filter (λ (w : ℕ × Worded). matches query w.1.words w.1.day) (worded_of es)) (filter (is_match query) es) (found-is query es)
 
 -- Each message is found by its number.
 abbrev IsFound : List (ℕ × Row) → Entry → Type 0
@@ -44,7 +44,7 @@ found_later : (e : Entry) (rows : List (ℕ × Row)) (es : List Entry) (low : �
 found_later e rows [] low less ascends all = tt
 found_later e rows (x ∷ es) low less ascends all =
     let above : low ≤ x.number = ascends.0 in
-    let other : is_at (nat_cmp x.number) e.number ≡ false = false-at x.number e.number (λ same. omega (arith, above, less, same)) in
+    let other : is_at (nat_cmp x.number) e.number ≡ false = false-at x.number e.number (λ (same : x.number ≡ e.number). omega (arith, above, less, same)) in
     (ap (λ (t : Bool). cond t (Some (row_at e)) (row_in rows x.number)) other ∙ all.0, found_later e rows es (x.number + 1) (omega (arith, above, less)) ascends.1 all.1)
 
 all-found : (low : ℕ) (es : List Entry) → Ascends low es → AllByRecursion (IsFound (rows_of es)) es

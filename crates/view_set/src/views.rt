@@ -70,15 +70,14 @@ impl Views {
         let (number, day) = (row.number, utc_day(&row.date));
         let keys = keys_of(self.alloc, &row)?;
         self.overview.add(row)?;
-        let posted = post(
+        if let Err(refused) = post(
             &mut self.words,
             &mut self.threads,
             number,
             &words,
             day,
             &keys,
-        );
-        if let Err(refused) = posted {
+        ) {
             self.overview.take(number);
             return Err(refused);
         }
