@@ -8,7 +8,7 @@ use Rattle.arch_base.specs.declared.ids.Id20.{Id20}
 use Rattle.git_objects.specs.declared.entry_kind.EntryKind.TheVariants.{Message}
 use Rattle.mime_parts.specs.Words.{mail_words}
 use Rattle.arch_model.specs.Archives.{Archive, Entry, message, deletion, live}
-use Rattle.arch_model.specs.Listings.{rows_of, row_at, row_in as row_shown}
+use Rattle.arch_model.specs.Listings.{row_at, row_in as row_shown}
 use Rattle.arch_model.specs.Rows.{row_of}
 use Rattle.arch_model.specs.Validity.{Rise}
 use Rattle.arch_model.proofs.LiveEntries.{live-message, live-deletion, live-all}

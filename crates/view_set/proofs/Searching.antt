@@ -1,16 +1,16 @@
 -- The search among rows and words is the search among the messages.
-use Rattle.std.specs.Prelude.{◌≡◌, ◌+◌, ◌<◌, ◌≤◌, ℕ, Bool, true, false, nat_lt, List, [], ◌∷◌, ◌++◌, map, Option, Some, None, refl, if◌then◌else◌}
-use Rattle.std.specs.List.{AllByRecursion, filter, flat_map}
+use Rattle.std.specs.Prelude.{◌≡◌, ◌+◌, ◌<◌, ◌≤◌, ℕ, Bool, true, false, List, [], ◌∷◌, ◌++◌, map, Some, refl, if◌then◌else◌}
+use Rattle.std.specs.List.{AllByRecursion, filter}
 use Rattle.std.specs.Ordering.{nat_cmp}
 use Rattle.std.specs.BTreeMap.{is_at}
-use Rattle.std.proofs.Common.{◌∙◌, sym, ap, cond, arith}
+use Rattle.std.proofs.Common.{◌∙◌, ap, cond, arith}
 use Rattle.std.proofs.lemmas.Bool.{lt-ltb}
 use Rattle.mail_forms.specs.declared.row.Row.{Row}
 use Rattle.mime_parts.specs.Words.{mail_words}
 use Rattle.query_lang.specs.Matching.{matches}
 use Rattle.query_lang.specs.declared.query.Query.{Query}
 use Rattle.arch_model.specs.Archives.{Archive, Entry, live}
-use Rattle.arch_model.specs.Listings.{row_at, rows_of, listing as listed}
+use Rattle.arch_model.specs.Listings.{row_at, rows_of}
 use Rattle.arch_model.specs.Searching.{is_match, search}
 use Rattle.arch_model.specs.Validity.{IsArchive}
 use Rattle.arch_model.proofs.LiveEntries.{live-all}

@@ -1,6 +1,5 @@
 -- Laws of the rows, the threads and the words of an archive's messages.
-use Rattle.std.specs.Prelude.{◌≡◌, ◌<◌, ℕ, List}
-use Rattle.std.specs.List.{AllByRecursion}
+use Rattle.std.specs.Prelude.{◌≡◌, ℕ, List}
 use Rattle.arch_model.specs.Archives.{Archive, Entry, live}
 use Rattle.arch_model.specs.Listings.{rows_of}
 use Rattle.arch_model.specs.Searching.{search}

@@ -1,4 +1,3 @@
-use Rattle.std.proofs.Common.{sym}
 use Rattle.query_lang.specs.Queries.{query_of}
 use Rattle.http_front.proofs.Finding.{page-read, page-unread}
 use Rattle.http_front.proofs.search.search_at.Goals as goal
