@@ -55,6 +55,8 @@ fn page_of<S: Shelf>(
 fn needed(numbers: &[u64], skip: u64) -> &[u64]
     ensures { result.now ≡ take rows_needed (drop skip numbers.now) }
 {
-    let rest = numbers.split_at(numbers.len().min(skip as usize)).1;
-    rest.split_at(rest.len().min(ROWS_NEEDED as usize)).0
+    let start = numbers.len().min(skip as usize);
+    let rest = numbers.split_at(start).1;
+    let count = rest.len().min(ROWS_NEEDED as usize);
+    rest.split_at(count).0
 }

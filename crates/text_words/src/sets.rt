@@ -21,7 +21,8 @@ fn set_of(alloc: Global, words: &[Bytes]) -> Result<BTreeSet<Vec<u8>>, NoMemory>
 {
     let mut set = BTreeSet::new(alloc);
     for word in words {
-        set.insert(Vec::from_slice(alloc, word.as_slice())?)?;
+        let bytes = Vec::from_slice(alloc, word.as_slice())?;
+        set.insert(bytes)?;
     }
     Ok(set)
 }
