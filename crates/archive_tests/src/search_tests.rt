@@ -118,7 +118,7 @@ fn finds<K: Keep>(alloc: Global, keep: &mut K, search: &Search) -> Result<bool, 
 /// Delivers the mails.
 fn fill<K: Keep>(keep: &mut K) -> Result<(), OpenRefusal> {
     for mail in &MAILS {
-        let _ = answer(keep, &Command::Deliver(mail), MOMENT)?;
+        let _ = answer(keep, &Command::Deliver(*mail), MOMENT)?;
     }
     Ok(())
 }
