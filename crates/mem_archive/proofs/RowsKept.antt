@@ -83,7 +83,7 @@ module _ (config : Config) (ks : List Kept) (places : List Place) (index : Index
       ∙ ap (λ (v : Viewed). row_in v.rows number) views_are ∙ row-is (live (entries_of ks)) number ∙ none_above (live (entries_of ks)) number (live-all (λ (e : Entry). e.number < number) (entries_of ks) below)
 
   worded : AreWorded views.rows views.words
-  worded = rw views_are (are-worded (live (entries_of ks)))
+  worded = subst (λ (v : Viewed). AreWorded v.rows v.words) (sym views_are) (are-worded (live (entries_of ks)))
 
   back : (new : Viewed) → new ≡ without_mail mid number → new ≡ views
   back new new_is =
