@@ -1,5 +1,5 @@
 -- The search among live messages.
-use Rattle.std.specs.Prelude.{ℕ, Bool, List}
+use Rattle.std.specs.Prelude.{◌==◌, ℕ, Bool, false, List, [], ◌∷◌, if◌then◌else◌}
 use Rattle.std.specs.List.{filter}
 use Rattle.mime_parts.specs.Words.{mail_words}
 use Rattle.query_lang.specs.declared.query.Query.{Query}
@@ -16,3 +16,8 @@ is_match query e = matches query (mail_words e.text) (utc_day (row_at e).date)
 -- The numbers of the messages that match, newest first: the listing of those messages.
 unfoldable pub search : Query → List Entry → List ℕ
 search query entries = listing (filter (is_match query) entries)
+
+-- The first of some messages with a number matches a query.
+abbrev pub matches_at : Query → List Entry → ℕ → Bool
+matches_at query [] n = false
+matches_at query (e ∷ es) n = if e.number == n then is_match query e else matches_at query es n

@@ -4,4 +4,5 @@ pub mod Worded
 pub mod MailLists
 pub mod Walking
 pub mod Searching
+pub mod Filtering
 pub mod Results

@@ -1,5 +1,5 @@
 //! Laws of threads and searches of rows. The functions do nothing: their contracts are the laws.
-ghost use Rattle.view_set.specs.Laws.{ThreadsAreTheArchives, SearchIsTheArchives};
+ghost use Rattle.view_set.specs.Laws.{ThreadsAreTheArchives, SearchIsTheArchives, SearchFiltersTheListing};
 
 /// Shows that the threads of the rows of an archive's messages are the threads of the messages, as an
 /// archive defines them.
@@ -11,4 +11,10 @@ pub fn threads_are_the_archives()
 /// messages, as an archive defines it.
 pub fn search_is_the_archives()
     ensures { SearchIsTheArchives }
+{}
+
+/// Shows that a search among an archive's live messages is the listing without the messages that don't
+/// match.
+pub fn search_filters_the_listing()
+    ensures { SearchFiltersTheListing }
 {}

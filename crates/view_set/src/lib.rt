@@ -9,7 +9,7 @@ mod rebuilding;
 mod rows;
 mod views;
 
-pub use laws::{search_is_the_archives, threads_are_the_archives};
+pub use laws::{search_filters_the_listing, search_is_the_archives, threads_are_the_archives};
 pub use rebuilding::{Unread, rebuild};
 pub use rows::{add_if_stored, add_row};
 pub use views::Views;
