@@ -1,6 +1,6 @@
 -- Archives that follow one another: no number of an archive ever names a second message.
 use Rattle.std.specs.Prelude.{◌≡◌, ◌<◌, ◌≤◌, ℕ, List, Some}
-use Rattle.arch_model.specs.Archives.{Archive, with_entry, with_deletion, live, messages, text_of}
+use Rattle.arch_model.specs.Archives.{Archive, with_entry, with_deletion, without_entries, live, messages, text_of}
 use Rattle.arch_model.specs.Validity.{IsArchive}
 
 -- `b` follows `a`: its next number isn't less, and each of its messages with a number below the next
@@ -27,6 +27,11 @@ FollowsWithEntry = (a : Archive) (epoch : ℕ) (text : List ℕ) (moment : ℕ)
 abbrev pub FollowsWithDeletion : Type 0
 FollowsWithDeletion = (a : Archive) (number epoch : ℕ) (text : List ℕ) (moment : ℕ)
     → Follows a (with_deletion a number epoch text moment)
+
+-- A valid archive without the entries of a text follows the one with them. Numbers that are no longer
+-- those of a message are not given again.
+abbrev pub FollowsWithoutText : Type 0
+FollowsWithoutText = (a : Archive) (text : List ℕ) → IsArchive a → Follows a (without_entries a text)
 
 -- A number names the same text in an archive and in one that follows it, if both have a message with
 -- it.

@@ -1,14 +1,14 @@
--- The laws of deliveries and removals.
-use Rattle.std.specs.Prelude.{◌≡◌, ◌≢◌, ◌<◌, ◌≤◌, ◌^◌, ℕ, zero, suc, List, Option, Some, None, IsSome, Ok, length}
+-- The laws of commands.
+use Rattle.std.specs.Prelude.{◌≡◌, ◌≢◌, ◌⊎◌, ◌<◌, ◌≤◌, ◌^◌, ℕ, zero, suc, List, Option, Some, None, IsSome, Ok, length}
 use Rattle.arch_base.specs.declared.ids.Id20.{Id20}
 use Rattle.arch_base.specs.Names.{IsName}
 use Rattle.mail_reader.specs.StorageTexts.{IsStorageText}
 use Rattle.mail_reader.specs.Stored.{stored}
 use Rattle.mail_reader.specs.Ids.{own_id}
 use Rattle.mail_reader.specs.Content.{content_id_of}
-use Rattle.arch_model.specs.Archives.{Archive, owner, live, text_of}
+use Rattle.arch_model.specs.Archives.{Archive, without_entries, owner, live, messages, text_of}
 use Rattle.arch_model.specs.Candidates.{made_id, with_made, met, choice_of}
-use Rattle.arch_model.specs.Delivery.{delivered, removed, applied}
+use Rattle.arch_model.specs.Delivery.{delivered, removed, purged, edited, applied}
 use Rattle.arch_model.specs.Following.{Follows}
 use Rattle.arch_model.specs.Validity.{IsArchive}
 use Rattle.arch_base.specs.Moments.{last_moment}
@@ -40,10 +40,26 @@ TakesFromView = (a : Archive) (number moment : ℕ)
     × ((id : Id20) → (removed a number moment).answer ≡ answer.Ok number id
     → text_of (live (removed a number moment).archive.entries) number ≡ None)
 
--- A command leaves each live number below the next one.
+-- After a command on a valid archive each live number is below the next one.
 abbrev pub StaysNumbered : Type 0
-StaysNumbered = (a : Archive) (command : Command) (moment : ℕ) → 1 ≤ a.next → IsNumbered a
+StaysNumbered = (a : Archive) (command : Command) (moment : ℕ) → IsArchive a
     → (1 ≤ (applied a command moment).archive.next) × IsNumbered (applied a command moment).archive
+
+-- A purge that is accepted leaves no entry with the text of its number, and leaves every other entry
+-- as it was, in order.
+abbrev pub DropsText : Type 0
+DropsText = (a : Archive) (number : ℕ) (id : Id20)
+    → (purged a number).answer ≡ answer.Ok number id →
+    (text : List ℕ) × (text_of (messages a.entries) number ≡ Some text)
+    × ((purged a number).archive ≡ without_entries a text)
+
+-- An edit that is accepted leaves the archive that the delivery leaves on the one without the text.
+-- One that isn't leaves the archive unchanged.
+abbrev pub EditsWhole : Type 0
+EditsWhole = (a : Archive) (number moment : ℕ) (bytes : List ℕ)
+    → ((edited a number bytes moment).archive ≡ a)
+    ⊎ ((text : List ℕ) × (text_of (live a.entries) number ≡ Some text)
+    × (edited a number bytes moment ≡ delivered (without_entries a text) bytes moment))
 
 -- The storage form of bytes is a storage text if it has an own id, and it is one with a made id at
 -- the front.
@@ -58,9 +74,10 @@ abbrev pub KeepsValid : Type 0
 KeepsValid = (a : Archive) (command : Command) (moment : ℕ) → moment ≤ last_moment → IsArchive a
     → IsArchive (applied a command moment).archive
 
--- The archive after a command follows the one before it.
+-- The archive after a command follows the valid one before it: over all commands, a number that named
+-- a text never names another one, nor comes back once it was purged.
 abbrev pub CommandFollows : Type 0
-CommandFollows = (a : Archive) (command : Command) (moment : ℕ)
+CommandFollows = (a : Archive) (command : Command) (moment : ℕ) → IsArchive a
     → Follows a (applied a command moment).archive
 
 -- The message that goes in comes out: the number of an accepted message has the text that the
