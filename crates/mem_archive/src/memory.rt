@@ -2,13 +2,14 @@
 ghost use Rattle.std.specs.Prelude.{◌≡◌, ◌++◌, ◌≤◌, false, take, drop, option_copied, IfOk, OnOk, OnErr, IsSome, Some, None};
 ghost use Rattle.arch_base.specs.Configs.{IsConfig};
 ghost use Rattle.mail_reader.specs.Content.{content_id_of};
+ghost use Rattle.mail_reader.specs.Stored.{stored as stored_of};
 ghost use Rattle.mail_reader.specs.Ids.{own_id as own_id_of};
 ghost use Rattle.git_objects.specs.Objects.{blob_id_of};
-ghost use Rattle.arch_model.specs.Archives.{empty_archive, with_entry, with_deletion, live, messages, text_of, in_epoch, IsFree, has_entry};
-ghost use Rattle.arch_model.specs.Delivery.{Delivers, applied, delivered, removed, collision, new_epoch};
+ghost use Rattle.arch_model.specs.Archives.{empty_archive, with_entry, with_deletion, without_entries, live, messages, text_of, in_epoch, IsFree, has_entry};
+ghost use Rattle.arch_model.specs.Delivery.{Delivers, applied, delivered, removed, purged, edited, unless_refused, is_form, collision, new_epoch};
 ghost use Rattle.arch_judge.specs.Judging.{Judges};
 ghost use Rattle.arch_model.specs.Epochs.{epoch_bytes};
-ghost use Rattle.mem_archive.specs.Memory.{GivesEpoch, Grows, MayKeep};
+ghost use Rattle.mem_archive.specs.Memory.{GivesEpoch, Grows, MayKeep, MayFollow, entry_of, appended_as, numbered_to};
 ghost use Rattle.arch_model.specs.Listings.{row_in, number_of_id, listing};
 ghost use Rattle.arch_model.specs.Shelves.{IsGreatestLive, live_between, line_at, blob_text};
 ghost use Rattle.arch_model.specs.Standing.{IsLeastLive, IsUntouched};
@@ -21,7 +22,7 @@ use arch_base::{Bytes, Config, NoMemory, Numbers, ObjectId};
 use arch_judge::{Index, Owner, Verdict, compared, judge};
 use arch_model::{Answer, Command, EntryLine, Row};
 use git_objects::{EntryKind, blob_id};
-use mail_reader::{content_id, own_id};
+use mail_reader::{StoredRefusal, content_id, own_id, stored};
 use std::alloc::Global;
 use std::marker::Model;
 use view_set::{Views, add_if_stored};
@@ -32,7 +33,7 @@ pub struct MemArchive {
     alloc: Global,
     config: Config,
     kept: Vec<Kept>,
-    places: Vec<Place>,
+    places: Vec<Option<Place>>,
     index: Index,
     views: Views,
     end: End,
@@ -219,8 +220,10 @@ impl MemArchive {
     /// `Deliver` keeps the message under the next number, or refuses it. The first cause decides:
     /// the archive is a mirror, the message has no field, it has too many bytes, it is there
     /// already, another text has its blob id, no number is left. `Remove` ends the message with a
-    /// number, or refuses: the archive is a mirror, or the number is not live. A refusal, and
-    /// `NoMemory`, leave the archive unchanged.
+    /// number, or refuses: the archive is a mirror, or the number is not live. `Purge` drops each entry
+    /// with the text of a number, or refuses: the archive is a mirror, or the number has no message.
+    /// `Edit` purges a live number and delivers a message in its place, or refuses as a removal and a
+    /// delivery do. A refusal, and `NoMemory`, leave the archive unchanged.
     pub fn command(&mut self, command: &Command<'_>, moment: u64) -> Answer
         ensures done { Delivers self.old result self.new (applied self.old command.now moment) }
         ensures untouched { IsUntouched result self.old self.new }
@@ -228,6 +231,8 @@ impl MemArchive {
         match command {
             Command::Deliver(bytes) => self.deliver(bytes, moment),
             Command::Remove(number) => self.remove(*number, moment),
+            Command::Purge(number) => self.purge(*number),
+            Command::Edit(number, bytes) => self.edit(*number, bytes, moment),
         }
     }
 
@@ -352,6 +357,161 @@ impl MemArchive {
         Ok(())
     }
 
+    /// Drops each entry with the text of a number, or refuses.
+    fn purge(&mut self, number: u32) -> Answer
+        ensures done { Delivers self.old result self.new (purged self.old number) }
+        ensures untouched { IsUntouched result self.old self.new }
+    {
+        if self.config.mirror {
+            return Answer::IsMirror;
+        }
+        let Some(text) = self.text_once(number) else {
+            return Answer::NoText(number);
+        };
+        let id = blob_id(text);
+        match self.without_text(text) {
+            Ok(without) => {
+                *self = without;
+                Answer::Ok { number, id }
+            }
+            Err(NoMemory) => Answer::NoMemory,
+        }
+    }
+
+    /// Purges a live message and delivers another one in its place, or refuses.
+    fn edit(&mut self, number: u32, bytes: &[u8], moment: u64) -> Answer
+        ensures done { Delivers self.old result self.new (edited self.old number bytes.now moment) }
+        ensures untouched { IsUntouched result self.old self.new }
+    {
+        if self.config.mirror {
+            return Answer::IsMirror;
+        }
+        let Some(text) = self.text(number) else {
+            return Answer::NotLive(number);
+        };
+        match stores_as(self.alloc, bytes, text) {
+            Err(NoMemory) => Answer::NoMemory,
+            Ok(true) => Answer::Duplicate(number),
+            Ok(false) => match self.without_text(text) {
+                Ok(without) => self.deliver_on(without, bytes, moment),
+                Err(NoMemory) => Answer::NoMemory,
+            },
+        }
+    }
+
+    /// Delivers a message on another archive, and takes that in place of this one if the message was
+    /// kept.
+    fn deliver_on(&mut self, other: MemArchive, bytes: &[u8], moment: u64) -> Answer
+        ensures done { Delivers self.old result self.new
+            (unless_refused self.old (delivered other bytes.now moment)) }
+        ensures untouched { IsUntouched result self.old self.new }
+    {
+        let mut other = other;
+        let answer = other.deliver(bytes, moment);
+        if let Answer::Ok { .. } = answer {
+            *self = other;
+        }
+        answer
+    }
+
+    /// Returns the archive without the entries of a text.
+    ///
+    /// The other entries keep their epochs, numbers and moments. Commits change where one before them
+    /// in their epoch is left out.
+    fn without_text(&self, text: &[u8]) -> Result<MemArchive, NoMemory>
+        ensures { IfOk result (λ made. made ≡ without_entries self.now text.now) }
+    {
+        let mut made = MemArchive::new(self.alloc, self.config.copy());
+        for kept in self.kept.as_slice() {
+            if kept.text.as_slice() != text {
+                made.append_again(kept)?;
+            }
+        }
+        made.number_to_next(self.next())?;
+        Ok(made)
+    }
+
+    /// Appends an entry of another archive, in its own epoch and under its own number.
+    ///
+    /// `NoMemory` may leave a part of it.
+    fn append_again(&mut self, kept: &Kept) -> Result<(), NoMemory>
+        requires { MayFollow self.old (entry_of kept.now) }
+        ensures { OnOk result (self.new ≡ appended_as self.old (entry_of kept.now)) }
+    {
+        let end = self
+            .end
+            .in_epoch(kept.epoch, self.config.limit)
+            .after(self.alloc, kept.kind, kept.text.as_slice(), kept.moment)?;
+        let mut text = Bytes::new(self.alloc);
+        text.push_slice(kept.text.as_slice())?;
+        let entry = Kept {
+            kind: kept.kind,
+            number: kept.number,
+            epoch: kept.epoch,
+            text,
+            moment: kept.moment,
+            commit: end.parent.unwrap(),
+        };
+        match kept.kind {
+            EntryKind::Message => self.append_message(entry)?,
+            EntryKind::Deletion => self.append_deletion(entry)?,
+        }
+        self.end = end;
+        Ok(())
+    }
+
+    /// Appends a message under its own number. Numbers that it leaves out have no message.
+    fn append_message(&mut self, entry: Kept) -> Result<(), NoMemory> {
+        self.number_to_next(entry.number)?;
+        let id = own_id_bytes(self.alloc, entry.text.as_slice())?;
+        let blob = blob_id(entry.text.as_slice());
+        let owner = Owner {
+            number: entry.number,
+            content: content_id(entry.text.as_slice()),
+        };
+        let index = self.kept.len();
+        add_if_stored(
+            self.alloc,
+            &mut self.views,
+            entry.number,
+            &blob,
+            entry.text.as_slice(),
+            entry.moment,
+        )?;
+        self.index.insert(id, blob, owner)?;
+        self.kept.push(entry)?;
+        self.places.push(Some(Place {
+            entry: index,
+            live: true,
+        }))?;
+        Ok(())
+    }
+
+    /// Appends the deletion of a live message.
+    fn append_deletion(&mut self, entry: Kept) -> Result<(), NoMemory> {
+        let id = own_id_bytes(self.alloc, entry.text.as_slice())?;
+        let number = entry.number;
+        self.kept.push(entry)?;
+        self.index.remove(id.as_slice());
+        // The row is taken, even if memory runs out for the threads.
+        let _ = self.views.take(number);
+        hide(&mut self.places, number as usize - 1);
+        Ok(())
+    }
+
+    /// Gives the numbers from the next one on, up to the one before this, no message.
+    ///
+    /// `NoMemory` may leave some of them.
+    fn number_to_next(&mut self, next: u32) -> Result<(), NoMemory>
+        requires { next ≤ self.old.config.max + 1 }
+        ensures { OnOk result (self.new ≡ numbered_to self.old next) }
+    {
+        while self.next() < next {
+            self.places.push(None)?;
+        }
+        Ok(())
+    }
+
     /// Returns the number of the next message.
     pub(crate) fn next(&self) -> u32
         ensures { result ≡ self.now.next }
@@ -409,9 +569,20 @@ impl MemArchive {
             moment,
             commit,
         })?;
-        self.places.push(Place { entry, live: true })?;
+        self.places.push(Some(Place { entry, live: true }))?;
         self.end = end;
         Ok(())
+    }
+}
+
+/// Returns whether the storage form of bytes is a text.
+fn stores_as(alloc: Global, bytes: &[u8], text: &[u8]) -> Result<bool, NoMemory>
+    ensures { IfOk result (λ same. same ≡ is_form text.now (stored_of bytes.now)) }
+{
+    match stored(alloc, bytes) {
+        Ok(form) => Ok(form.as_slice() == text),
+        Err(StoredRefusal::NoMemory) => Err(NoMemory),
+        Err(_refused) => Ok(false),
     }
 }
 
