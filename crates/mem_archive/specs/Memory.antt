@@ -258,3 +258,10 @@ appended_as a e = record {
 -- The archive with another next number, if that is greater.
 abbrev pub numbered_to : Archive → ℕ → Archive
 numbered_to a next = record { config = a.config; entries = a.entries; next = greater a.next next }
+
+-- The end and the commit after an entry that is appended so.
+pub record IsEndAfter (a : Archive) (e : Entry) (commit : Id20) (end_ : End) : Type 0 where
+  pub ends : IsEnd a.config.limit (a.entries ++ e ∷ []) end_
+  pub epoch : end_.epoch ≡ e.epoch
+  pub commit_is : commit
+      ≡ commit_id e.kind e.text e.moment (last_commit None (in_epoch a.entries e.epoch))

@@ -9,12 +9,13 @@ ghost use Rattle.arch_model.specs.Archives.{empty_archive, with_entry, with_dele
 ghost use Rattle.arch_model.specs.Delivery.{Delivers, applied, delivered, removed, purged, edited, unless_refused, is_form, collision, new_epoch};
 ghost use Rattle.arch_judge.specs.Judging.{Judges};
 ghost use Rattle.arch_model.specs.Epochs.{epoch_bytes};
-ghost use Rattle.mem_archive.specs.Memory.{GivesEpoch, Grows, MayKeep, MayFollow, entry_of, appended_as, numbered_to};
+ghost use Rattle.mem_archive.specs.Memory.{GivesEpoch, Grows, MayKeep, MayFollow, IsEndAfter, entry_of, appended_as, numbered_to};
 ghost use Rattle.arch_model.specs.Listings.{row_in, number_of_id, listing};
 ghost use Rattle.arch_model.specs.Shelves.{IsGreatestLive, live_between, line_at, blob_text};
 ghost use Rattle.arch_model.specs.Standing.{IsLeastLive, IsUntouched};
 ghost use Rattle.arch_model.specs.Threading.{thread_in};
 ghost use Rattle.arch_model.specs.declared.answer.Answer.{Answer};
+ghost use Rattle.git_objects.specs.declared.entry_kind.EntryKind.{EntryKind};
 
 use crate::kept::{End, Kept, Place, push_after};
 use crate::placing::{count_live, greatest_live, hide, least_live, once_at, place_of, shown_at};
@@ -279,7 +280,7 @@ impl MemArchive {
         }) }
         ensures untouched { IsUntouched result self.old self.new }
     {
-        match self.keep(text, blob, moment) {
+        match self.keep(text, moment) {
             Ok(()) => Answer::Ok { number, id: blob },
             Err(NoMemory) => Answer::NoMemory,
         }
@@ -340,21 +341,15 @@ impl MemArchive {
         let kind = EntryKind::Deletion;
         let end = self.end.with(self.alloc, self.config.limit, kind, text.as_slice(), moment)?;
         let commit = end.parent.unwrap();
-        let id = own_id_bytes(self.alloc, text.as_slice())?;
-        self.kept.push(Kept {
+        let entry = Kept {
             kind,
             number,
             epoch: end.epoch,
             text,
             moment,
             commit,
-        })?;
-        self.index.remove(id.as_slice());
-        // The row is taken, even if memory runs out for the threads.
-        let _ = self.views.take(number);
-        hide(&mut self.places, number as usize - 1);
-        self.end = end;
-        Ok(())
+        };
+        self.append_deletion(entry, end)
     }
 
     /// Drops each entry with the text of a number, or refuses.
@@ -431,64 +426,76 @@ impl MemArchive {
         Ok(made)
     }
 
-    /// Appends an entry of another archive, in its own epoch and under its own number.
+    /// Appends an entry of another archive, in its own epoch and under its own number. Numbers that a
+    /// message leaves out have no message.
     ///
-    /// `NoMemory` may leave a part of it.
+    /// `NoMemory` may leave a part of these numbers given.
     fn append_again(&mut self, kept: &Kept) -> Result<(), NoMemory>
         requires { MayFollow self.old (entry_of kept.now) }
         ensures { OnOk result (self.new ≡ appended_as self.old (entry_of kept.now)) }
     {
-        let end = self
-            .end
-            .in_epoch(kept.epoch, self.config.limit)
-            .after(self.alloc, kept.kind, kept.text.as_slice(), kept.moment)?;
-        let mut text = Bytes::new(self.alloc);
-        text.push_slice(kept.text.as_slice())?;
-        let entry = Kept {
-            kind: kept.kind,
-            number: kept.number,
-            epoch: kept.epoch,
-            text,
-            moment: kept.moment,
-            commit: end.parent.unwrap(),
-        };
+        let end = self.end.in_epoch(kept.epoch, self.config.limit);
+        let (kind, text) = (kept.kind, kept.text.as_slice());
+        let end = end.after(self.alloc, kind, text, kept.moment)?;
+        let entry = kept.copy(self.alloc, end.parent.unwrap())?;
         match kept.kind {
-            EntryKind::Message => self.append_message(entry)?,
-            EntryKind::Deletion => self.append_deletion(entry)?,
+            EntryKind::Message => {
+                self.number_to_next(kept.number)?;
+                self.append_message(entry, end)
+            }
+            EntryKind::Deletion => self.append_deletion(entry, end),
         }
-        self.end = end;
-        Ok(())
     }
 
-    /// Appends a message under its own number. Numbers that it leaves out have no message.
-    fn append_message(&mut self, entry: Kept) -> Result<(), NoMemory> {
-        self.number_to_next(entry.number)?;
+    /// Appends a message with the next number.
+    ///
+    /// `NoMemory` leaves the archive unchanged.
+    fn append_message(&mut self, entry: Kept, end: End) -> Result<(), NoMemory>
+        requires follows { MayFollow self.old (entry_of entry) }
+        requires number { entry.number ≡ self.old.next }
+        requires ends { IsEndAfter self.old (entry_of entry) entry.commit end }
+        ensures ok { OnOk result (self.new ≡ appended_as self.old (entry_of entry)) }
+        ensures err { OnErr result (self.new ≡ self.old) }
+    {
         let id = own_id_bytes(self.alloc, entry.text.as_slice())?;
+        let owner = self.owner_of(entry.text.as_slice());
         let blob = blob_id(entry.text.as_slice());
-        let owner = Owner {
-            number: entry.number,
-            content: content_id(entry.text.as_slice()),
-        };
         let index = self.kept.len();
+        self.places.reserve(1)?;
+        self.kept.reserve(1)?;
+        let number = owner.number;
+        let text = entry.text.as_slice();
         add_if_stored(
             self.alloc,
             &mut self.views,
-            entry.number,
+            number,
             &blob,
-            entry.text.as_slice(),
+            text,
             entry.moment,
         )?;
-        self.index.insert(id, blob, owner)?;
+        if let Err(NoMemory) = self.index.insert(id, blob, owner) {
+            let _ = self.views.take(number);
+            return Err(NoMemory);
+        }
         self.kept.push(entry)?;
         self.places.push(Some(Place {
             entry: index,
             live: true,
         }))?;
+        self.end = end;
         Ok(())
     }
 
     /// Appends the deletion of a live message.
-    fn append_deletion(&mut self, entry: Kept) -> Result<(), NoMemory> {
+    ///
+    /// `NoMemory` leaves the archive unchanged.
+    fn append_deletion(&mut self, entry: Kept, end: End) -> Result<(), NoMemory>
+        requires follows { MayFollow self.old (entry_of entry) }
+        requires kind { entry.kind ≡ EntryKind.Deletion }
+        requires ends { IsEndAfter self.old (entry_of entry) entry.commit end }
+        ensures ok { OnOk result (self.new ≡ appended_as self.old (entry_of entry)) }
+        ensures err { OnErr result (self.new ≡ self.old) }
+    {
         let id = own_id_bytes(self.alloc, entry.text.as_slice())?;
         let number = entry.number;
         self.kept.push(entry)?;
@@ -496,6 +503,7 @@ impl MemArchive {
         // The row is taken, even if memory runs out for the threads.
         let _ = self.views.take(number);
         hide(&mut self.places, number as usize - 1);
+        self.end = end;
         Ok(())
     }
 
@@ -532,9 +540,8 @@ impl MemArchive {
     /// Appends a message.
     ///
     /// `NoMemory` leaves the archive unchanged.
-    fn keep(&mut self, text: Bytes, blob: ObjectId, moment: u64) -> Result<(), NoMemory>
+    fn keep(&mut self, text: Bytes, moment: u64) -> Result<(), NoMemory>
         requires free { IsFree (live self.old.entries) text }
-        requires blob { blob ≡ blob_id_of text }
         requires alone { collision self.old.entries text ≡ None }
         requires room { self.old.next ≤ self.old.config.max }
         ensures ok { OnOk result (self.new ≡ with_entry self.old (new_epoch self.old) text moment) }
@@ -543,35 +550,15 @@ impl MemArchive {
         let kind = EntryKind::Message;
         let end = self.end.with(self.alloc, self.config.limit, kind, text.as_slice(), moment)?;
         let commit = end.parent.unwrap();
-        let id = own_id_bytes(self.alloc, text.as_slice())?;
-        let owner = self.owner_of(text.as_slice());
-        let entry = self.kept.len();
-        self.places.reserve(1)?;
-        self.kept.reserve(1)?;
-        let number = owner.number;
-        add_if_stored(
-            self.alloc,
-            &mut self.views,
-            number,
-            &blob,
-            text.as_slice(),
-            moment,
-        )?;
-        if let Err(NoMemory) = self.index.insert(id, blob, owner) {
-            let _ = self.views.take(number);
-            return Err(NoMemory);
-        }
-        self.kept.push(Kept {
+        let entry = Kept {
             kind,
-            number,
+            number: self.next(),
             epoch: end.epoch,
             text,
             moment,
             commit,
-        })?;
-        self.places.push(Some(Place { entry, live: true }))?;
-        self.end = end;
-        Ok(())
+        };
+        self.append_message(entry, end)
     }
 }
 
