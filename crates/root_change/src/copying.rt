@@ -11,7 +11,7 @@ use disk_model::{Disk, DiskFault, FileName};
 const WINDOW: u64 = 4096;
 
 /// A range of a file's bytes.
-#[derive(Clone, Copy, Debug, PartialEq, Eq)]
+#[derive(Clone, Copy, Debug, PartialEq, Eq, Drop)]
 pub struct FileRange {
     /// The file.
     pub file: FileName,

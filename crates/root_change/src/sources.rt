@@ -11,7 +11,7 @@ use crate::copying::{FileRange, copy_range};
 use disk_model::{Disk, DiskFault, FileName};
 
 /// Where bytes come from.
-#[derive(Clone, Copy, Debug, PartialEq, Eq)]
+#[derive(Clone, Copy, Debug, PartialEq, Eq, Drop)]
 pub enum Source {
     /// A range of the bytes that are passed beside the sources.
     Bytes {
