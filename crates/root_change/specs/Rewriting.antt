@@ -19,7 +19,7 @@ use Rattle.root_change.specs.declared.sources.Source.{Source}
 use Rattle.root_change.specs.declared.sources.Source.TheVariants.{Bytes, Range}
 use Rattle.root_change.specs.Copying.{range_of}
 use Rattle.root_change.specs.Gathering.{source_count}
-use Rattle.root_change.specs.Names.{place_of, names_file}
+use Rattle.root_change.specs.Names.{place_of}
 use Rattle.root_change.specs.Texts.{Texts, HasSizes}
 use Rattle.root_change.specs.Parts.{Parts, texts_of, IsOwn, RecoversEither}
 
@@ -194,13 +194,13 @@ IsPartToPlan kind.Map number = number ≡ 0
 IsPartToPlan kind.Epoch number = number < epoch_count
 IsPartToPlan kind.Cache number = ⊥
 
--- The sources of a plan come from files that a root names.
+-- The sources of a plan come from files that are no newer than a root.
 abbrev pub ComesFrom : Root → Source → Type 0
 ComesFrom root (Bytes offset count) = Unit {0}
-ComesFrom root (Range range) = names_file root range.file ≡ true
+ComesFrom root (Range range) = range.file.gen_ ≤ root.sequence
 
--- A plan may be carried out: it is one of a part that may be planned, and copies from files that the
--- root names. What it appends to is shorter than 2^62 bytes, and is not what it copies from.
+-- A plan may be carried out: it is one of a part that may be planned, and copies from files that are
+-- no newer than the root. What it appends to is shorter than 2^62 bytes, and gets bytes alone.
 pub record MayCarry (root : Root) (plan : Plan) : Type 0 where
   pub part : IsPartToPlan plan.kind plan.number
   pub valid : IsPlan plan
