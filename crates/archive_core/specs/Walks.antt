@@ -11,7 +11,7 @@ use Rattle.arch_model.specs.Validity.{IsArchive}
 use Rattle.arch_model.specs.declared.answer.Answer.{Answer}
 use Rattle.arch_model.specs.declared.answer.Answer.TheVariants as answer
 use Rattle.arch_model.specs.declared.command.Command.{Command}
-use Rattle.arch_model.specs.declared.command.Command.TheVariants.{Deliver, Remove}
+use Rattle.arch_model.specs.declared.command.Command.TheVariants.{Deliver, Remove, Purge, Edit}
 use Rattle.arch_model.specs.declared.line.EntryLine.{EntryLine}
 use Rattle.arch_model.specs.declared.opening.OpenRefusal.{OpenRefusal}
 use Rattle.arch_model.specs.declared.opening.OpenRefusal.TheVariants as opening
@@ -43,27 +43,37 @@ unread_opening v None (reading.Damaged named other) = opening.NoMemory
 unread_opening v (Some e) (reading.Damaged named other) =
     opening.Damaged (epoch_file_of v.root e.epoch) e.seen.at
 
--- What an accepted command does to the rows of live messages: a delivery adds the row of its text, and
--- a removal takes the row of its number.
-abbrev pub RowsDone : Command → ℕ → List ℕ → ℕ → List (ℕ × Row) → List (ℕ × Row) → Type 0
-RowsDone (Deliver bytes) number text moment old new = new ≡ with_row old (row_of number text moment)
-RowsDone (Remove n) number text moment old new = new ≡ without old n
+-- Rows without that of a number, if there is one.
+abbrev pub without_gone : List (ℕ × Row) → Option ℕ → List (ℕ × Row)
+without_gone rows None = rows
+without_gone rows (Some n) = without rows n
+
+-- What an accepted command does to the rows of live messages: a delivery adds the row of its text, a
+-- removal takes the row of its number, a purge takes that of the number that is gone, and an edit does
+-- both.
+abbrev pub RowsDone : Command → Option ℕ → ℕ → List ℕ → ℕ → List (ℕ × Row) → List (ℕ × Row) → Type 0
+RowsDone (Deliver bytes) gone number text moment old new =
+    new ≡ with_row old (row_of number text moment)
+RowsDone (Remove n) gone number text moment old new = new ≡ without old n
+RowsDone (Purge n) gone number text moment old new = new ≡ without_gone old gone
+RowsDone (Edit n bytes) gone number text moment old new =
+    new ≡ with_row (without_gone old gone) (row_of number text moment)
 
 -- What a command that was answered so does to them. A refusal leaves them.
-abbrev pub RowsAfter : Command → Answer → List ℕ → ℕ → List (ℕ × Row) → List (ℕ × Row) → Type 0
-RowsAfter command (answer.Ok number id) text moment old new =
-    RowsDone command number text moment old new
-RowsAfter command (answer.Duplicate number) text moment old new = new ≡ old
-RowsAfter command answer.NoFields text moment old new = new ≡ old
-RowsAfter command (answer.TooLarge len) text moment old new = new ≡ old
-RowsAfter command (answer.Full max) text moment old new = new ≡ old
-RowsAfter command (answer.Collision number) text moment old new = new ≡ old
-RowsAfter command (answer.NotLive number) text moment old new = new ≡ old
-RowsAfter command (answer.NoText number) text moment old new = new ≡ old
-RowsAfter command answer.IsMirror text moment old new = new ≡ old
-RowsAfter command answer.DiskFault text moment old new = new ≡ old
-RowsAfter command (answer.Damaged file offset) text moment old new = new ≡ old
-RowsAfter command answer.NoMemory text moment old new = new ≡ old
+abbrev pub RowsAfter : Command → Option ℕ → Answer → List ℕ → ℕ → List (ℕ × Row) → List (ℕ × Row) → Type 0
+RowsAfter command gone (answer.Ok number id) text moment old new =
+    RowsDone command gone number text moment old new
+RowsAfter command gone (answer.Duplicate number) text moment old new = new ≡ old
+RowsAfter command gone answer.NoFields text moment old new = new ≡ old
+RowsAfter command gone (answer.TooLarge len) text moment old new = new ≡ old
+RowsAfter command gone (answer.Full max) text moment old new = new ≡ old
+RowsAfter command gone (answer.Collision number) text moment old new = new ≡ old
+RowsAfter command gone (answer.NotLive number) text moment old new = new ≡ old
+RowsAfter command gone (answer.NoText number) text moment old new = new ≡ old
+RowsAfter command gone answer.IsMirror text moment old new = new ≡ old
+RowsAfter command gone answer.DiskFault text moment old new = new ≡ old
+RowsAfter command gone (answer.Damaged file offset) text moment old new = new ≡ old
+RowsAfter command gone answer.NoMemory text moment old new = new ≡ old
 
 -- An archive whose own disk is there is valid.
 pub store-valid : (v : View) (cache : List ℕ) (a : Archive) (k : Option Content)

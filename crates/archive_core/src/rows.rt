@@ -1,31 +1,33 @@
 //! The rows and threads of live messages, as commands change them.
 ghost use Rattle.std.specs.Prelude.{◌≡◌, true, is_ok, OnOk};
 ghost use Rattle.archive_core.specs.Commands.{OnRefusal, TellsText, is_delivery, IfDelivery, IfRemoval};
-ghost use Rattle.archive_core.specs.Walks.{RowsAfter};
+ghost use Rattle.archive_core.specs.Walks.{RowsAfter, without_gone};
 
 use arch_base::NoMemory;
 use arch_model::{Answer, Command};
 use std::alloc::Global;
 use view_set::{Views, add_row};
 
-/// Brings views up to a command that was answered so: a delivery that kept a text adds its row, and a
-/// removal takes the row of its number. Only the threads that the row touches are changed.
+/// Brings views up to a command that was answered so: a delivery that kept a text adds its row, a
+/// removal takes the row of its number, a purge that of the number that is gone, and an edit does both.
+/// Only the threads that the rows touch are changed.
 ///
 /// `NoMemory` if memory runs out for a row or for the threads. It comes only after a command that was
-/// accepted, and after a removal the rows are brought up all the same.
+/// accepted, and after a removal and a purge the rows are brought up all the same.
 pub(crate) fn follow(
     alloc: Global,
     views: &mut Views,
     command: &Command<'_>,
     answer: &Answer,
+    gone: Option<u32>,
     text: &[u8],
     moment: u64,
 ) -> Result<(), NoMemory>
     requires text { IfDelivery (is_delivery command.now) (TellsText answer.now text.now) }
     ensures rows { OnOk result
-        (RowsAfter command.now answer.now text.now moment views.old views.new) }
+        (RowsAfter command.now gone answer.now text.now moment views.old views.new) }
     ensures removed { IfRemoval (is_delivery command.now)
-        (RowsAfter command.now answer.now text.now moment views.old views.new) }
+        (RowsAfter command.now gone answer.now text.now moment views.old views.new) }
     ensures refused { OnRefusal answer.now (is_ok result ≡ true) }
 {
     match answer {
@@ -35,7 +37,24 @@ pub(crate) fn follow(
                 views.take(*number)?;
                 Ok(())
             }
+            Command::Purge(_) => take_gone(views, gone),
+            Command::Edit(_, _) => {
+                take_gone(views, gone)?;
+                add_row(alloc, views, *number, id, text, moment)
+            }
         },
         _refused => Ok(()),
+    }
+}
+
+/// Takes the row of a number that is gone, if there is one.
+///
+/// `NoMemory` if it ran out for the threads. The row is taken then, too.
+fn take_gone(views: &mut Views, gone: Option<u32>) -> Result<(), NoMemory>
+    ensures { views.new ≡ without_gone views.old gone }
+{
+    match gone {
+        None => Ok(()),
+        Some(number) => views.take(number),
     }
 }

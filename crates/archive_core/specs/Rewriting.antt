@@ -1,0 +1,122 @@
+-- Purges and edits of an archive on a disk.
+use Rattle.std.specs.Prelude.{◌≡◌, ◌+◌, ◌-◌, ◌<◌, ◌^◌, ℕ, Bool, false, List, [], Option, Some, None, Result, Ok, Err, OnOk, OnErr, IfOk}
+use Rattle.arch_base.specs.Counts.{RoseIf}
+use Rattle.arch_base.specs.declared.ids.Id20.{Id20}
+use Rattle.disk_model.specs.Disk.{Files, Content, WhereTold, LeavesOnly}
+use Rattle.disk_model.specs.Synced.{IsSettled}
+use Rattle.mail_reader.specs.Stored.{stored}
+use Rattle.mail_reader.specs.declared.storing.StoredRefusal.{StoredRefusal}
+use Rattle.git_objects.specs.Objects.{blob_id_of}
+use Rattle.arch_model.specs.Archives.{Archive, live, messages, text_of, with_entry, without_entries}
+use Rattle.arch_model.specs.Delivery.{collision, delivered, is_form, new_epoch, unless_refused}
+use Rattle.arch_model.specs.declared.answer.Answer.{Answer}
+use Rattle.arch_model.specs.declared.answer.Answer.TheVariants as answer
+use Rattle.arch_judge.specs.Indexes.{IsIndex}
+use Rattle.arch_judge.specs.declared.index.Index.{Index}
+use Rattle.arch_judge.specs.declared.judging.Verdict.{Verdict}
+use Rattle.epoch_file.specs.declared.refusal.StoreRefusal.{StoreRefusal}
+use Rattle.epoch_file.specs.declared.refusal.StoreRefusal.TheVariants as refusal
+use Rattle.epoch_store.specs.Planning.{PlansUndamaged}
+use Rattle.epoch_store.specs.Stores.{View, HasSizes, IsStoreWith, MayEdit, RecoversOneOf, Rewrites}
+use Rattle.archive_core.specs.Commands.{AnswersDelivery, DoneBy, IfUnreadEdit, IsAlone, IsLiveOf, JudgesRead, OnDone, OnRefusal, OnlyLooks, UnlessFault}
+
+-- The answers where there is no storage form to compare, or a text wasn't read.
+abbrev pub IsUnformed : Answer → Type 0
+IsUnformed answer.NoFields = Unit {0}
+IsUnformed (answer.TooLarge len) = Unit {0}
+IsUnformed answer.NoMemory = Unit {0}
+IsUnformed answer.DiskFault = Unit {0}
+IsUnformed (answer.Damaged file at) = Unit {0}
+IsUnformed other = ⊥
+
+-- Whether a storage form is the text of a live number. If there is none, an answer of a delivery. Nothing
+-- is damaged.
+abbrev pub ComparesForm : Archive → ℕ → Result (List ℕ) StoredRefusal → Result Bool Answer → Type 0
+ComparesForm a number form (Ok same) = (text : List ℕ) → text_of (live a.entries) number ≡ Some text
+    → same ≡ is_form text form
+ComparesForm a number form (Err answer.NoMemory) = Unit {0}
+ComparesForm a number form (Err answer.DiskFault) = Unit {0}
+ComparesForm a number form (Err reply) = (text : List ℕ) (b : Archive) (moment : ℕ)
+    → text_of (live a.entries) number ≡ Some text → b.config.mirror ≡ false
+    → (bytes : List ℕ) → stored bytes ≡ form → (delivered b bytes moment).answer ≡ reply
+
+-- The verdict on a delivery on the archive of an index is what the definition says of it, unless a read
+-- failed.
+abbrev pub JudgesEdit : {D : Type 0} → (D → Option Content) → D → View → Index → List ℕ → Verdict
+    → Type 0
+JudgesEdit content disk v index bytes verdict = (a : Archive) (cache text : List ℕ)
+    → IsStoreWith v cache a (content disk)
+    → IsIndex (without_entries a text).entries index
+    → JudgesRead (without_entries a text) bytes verdict × IsAlone (without_entries a text) verdict
+
+-- A message may be kept in place of a text: an edit would be accepted, and this is its blob id.
+pub record MayReplace (v : View) (number : ℕ) (old : Id20) (text : List ℕ) (blob : Id20) : Type 0 where
+  pub edit : MayEdit v number old text
+  pub blob_is : blob ≡ blob_id_of text
+
+-- What dropping the entries with a blob id promises, for each archive that the disk holds.
+pub record DropsAs {D : Type 0} (content : D → Option Content) (moment : D → ℕ)
+    (left_since : D → ℕ → Files → Type 0) (faults : D → ℕ) (old new : D) (before after : View)
+    (number : ℕ) (blob : Id20) (result : Result (Option ℕ) StoreRefusal) : Type 0 where
+  pub any_moment : (a : Archive) (cache text : List ℕ) → IsStoreWith before cache a (content old)
+      → before.root.sequence + 1 < 2 ^ 64 → text_of (messages a.entries) number ≡ Some text
+      → LeavesOnly moment left_since old new (RecoversOneOf cache a [] (without_entries a text))
+  pub done : (a : Archive) (cache text : List ℕ) → IsStoreWith before cache a (content old)
+      → before.root.sequence + 1 < 2 ^ 64 → text_of (messages a.entries) number ≡ Some text
+      → IfOk result (λ gone. IsStoreWith after [] (without_entries a text) (content new)
+      × IsLiveOf (live a.entries) text gone)
+  pub settled : OnOk result (WhereTold IsSettled (content new))
+  pub sizes : OnOk result (WhereTold (HasSizes after) (content new))
+  pub goes_on : OnOk result (Rewrites before.root after.root)
+  pub slot : OnOk result (after.slot ≡ 1 - before.slot)
+  pub same : OnErr result (after ≡ before)
+  pub looks : result ≡ Err refusal.NoMemory → OnlyLooks content moment left_since old new
+  pub undamaged : PlansUndamaged before result (content old)
+  pub cause : RoseIf (result ≡ Err refusal.DiskFault) (faults old) (faults new)
+
+-- What keeping a message in place of a text promises.
+pub record ReplacesAs {D : Type 0} (content : D → Option Content) (moment : D → ℕ)
+    (left_since : D → ℕ → Files → Type 0) (faults : D → ℕ) (old new : D) (before after : View)
+    (number : ℕ) (blob : Id20) (text : List ℕ) (arrived : ℕ) (result : Result Unit StoreRefusal)
+    : Type 0 where
+  pub any_moment : (a : Archive) (cache gone : List ℕ) → IsStoreWith before cache a (content old)
+      → before.root.sequence + 1 < 2 ^ 64 → text_of (live a.entries) number ≡ Some gone
+      → collision (without_entries a gone).entries text ≡ None
+      → LeavesOnly moment left_since old new (RecoversOneOf cache a []
+      (with_entry (without_entries a gone) (new_epoch (without_entries a gone)) text arrived))
+  pub done : (a : Archive) (cache gone : List ℕ) → IsStoreWith before cache a (content old)
+      → before.root.sequence + 1 < 2 ^ 64 → text_of (live a.entries) number ≡ Some gone
+      → collision (without_entries a gone).entries text ≡ None
+      → OnOk result (IsStoreWith after [] (with_entry (without_entries a gone)
+      (new_epoch (without_entries a gone)) text arrived) (content new))
+  pub settled : OnOk result (WhereTold IsSettled (content new))
+  pub sizes : OnOk result (WhereTold (HasSizes after) (content new))
+  pub goes_on : OnOk result (Rewrites before.root after.root)
+  pub slot : OnOk result (after.slot ≡ 1 - before.slot)
+  pub same : OnErr result (after ≡ before)
+  pub looks : result ≡ Err refusal.NoMemory → OnlyLooks content moment left_since old new
+  pub undamaged : PlansUndamaged before result (content old)
+  pub cause : RoseIf (result ≡ Err refusal.DiskFault) (faults old) (faults new)
+
+-- What a delivery in place of a text promises: the answer is that of the delivery on the archive
+-- without it, and a refusal leaves all as it was.
+pub record EditsAs {D : Type 0} (content : D → Option Content) (moment : D → ℕ)
+    (left_since : D → ℕ → Files → Type 0) (faults : D → ℕ) (old new : D) (before after : View)
+    (number : ℕ) (blob : Id20) (bytes : List ℕ) (arrived : ℕ) (reply : Answer) : Type 0 where
+  pub any_moment : (a : Archive) (cache gone : List ℕ) → IsStoreWith before cache a (content old)
+      → before.root.sequence + 1 < 2 ^ 64 → text_of (live a.entries) number ≡ Some gone
+      → LeavesOnly moment left_since old new (RecoversOneOf cache a []
+      (unless_refused a (delivered (without_entries a gone) bytes arrived)).archive)
+  pub done : (a : Archive) (cache gone : List ℕ) → IsStoreWith before cache a (content old)
+      → before.root.sequence + 1 < 2 ^ 64 → text_of (live a.entries) number ≡ Some gone
+      → DoneBy after cache [] a (unless_refused a (delivered (without_entries a gone) bytes arrived))
+      reply (content new)
+  pub settled : OnDone reply (WhereTold IsSettled (content new))
+  pub goes_on : OnDone reply (Rewrites before.root after.root)
+  pub slot : OnDone reply (after.slot ≡ 1 - before.slot)
+  pub same : OnRefusal reply (after ≡ before)
+  pub untouched : OnRefusal reply (UnlessFault reply (OnlyLooks content moment left_since old new))
+  pub unmoved : IfUnreadEdit reply (new ≡ old)
+  pub sizes : UnlessFault reply (WhereTold (HasSizes after) (content new))
+  pub cause : RoseIf (reply ≡ answer.DiskFault) (faults old) (faults new)
+  pub for_command : AnswersDelivery reply
