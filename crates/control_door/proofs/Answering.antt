@@ -12,7 +12,7 @@ use Rattle.arch_model.specs.Keeping.{Moves, OnlyRead, Comes, AnswerCause}
 use Rattle.arch_model.specs.Shelves.{IsUndamaged, ReadingWhy}
 use Rattle.arch_model.specs.Standing.{Standing, standing}
 use Rattle.arch_model.specs.declared.command.Command.{Command}
-use Rattle.arch_model.specs.declared.command.Command.TheVariants.{Deliver, Remove}
+use Rattle.arch_model.specs.declared.command.Command.TheVariants.{Deliver, Remove, Purge, Edit}
 use Rattle.arch_model.specs.declared.answer.Answer.{Answer}
 use Rattle.arch_model.specs.declared.text_refusal.TextRefusal.{TextRefusal}
 use Rattle.arch_model.specs.declared.text_refusal.TextRefusal.TheVariants as reading
@@ -111,14 +111,20 @@ acts-refusing moment s message rest i j sent same words =
 command-plain : (moment : ℕ) (s : Standing) (command : Command) (rest : List ℕ) → answered moment s (request_for command) rest ≡ carries_out (applied s.archive command moment) rest
 command-plain moment s (Deliver bytes) rest = refl
 command-plain moment s (Remove number) rest = refl
+command-plain moment s (Purge number) rest = refl
+command-plain moment s (Edit number bytes) rest = refl
 
 command-memory : (moment : ℕ) (s : Standing) (command : Command) (rest : List ℕ) → refused_memory moment s (request_for command) rest ≡ goes_on rest memory_word s
 command-memory moment s (Deliver bytes) rest = refl
 command-memory moment s (Remove number) rest = refl
+command-memory moment s (Purge number) rest = refl
+command-memory moment s (Edit number bytes) rest = refl
 
 command-disk : (moment : ℕ) (s : Standing) (command : Command) (rest : List ℕ) → refused_disk moment s (request_for command) rest ≡ doubts s (applied s.archive command moment) rest
 command-disk moment s (Deliver bytes) rest = refl
 command-disk moment s (Remove number) rest = refl
+command-disk moment s (Purge number) rest = refl
+command-disk moment s (Edit number bytes) rest = refl
 
 -- A command was answered, and the line of the answer was said.
 pub acts-commanded : (moment : ℕ) (a : Archive) (command : Command) (rest : List ℕ) (t : Standing) (reply : Answer) (i j : Outside) (sent : Result Unit SinkFault) → Comes true (standing a None) (λ (b : Archive). applied b command moment) reply t → AnswerCause i.disk j.disk reply → i.disk ≤ j.disk

@@ -7,14 +7,14 @@ use Rattle.line_door.specs.Plain.{silent}
 use Rattle.disk_model.specs.Sizes.{epoch_count}
 use Rattle.arch_model.specs.Archives.{Entry, live, text_of, in_epoch}
 use Rattle.arch_model.specs.Epochs.{epoch_bytes}
-use Rattle.arch_model.specs.Delivery.{Done, delivered, removed, answer_line}
+use Rattle.arch_model.specs.Delivery.{Done, delivered, removed, purged, edited, answer_line}
 use Rattle.arch_model.specs.Standing.{Standing, standing}
 use Rattle.answer_lines.specs.Lines.{whole_line, memory_word, disk_word, unopened_words}
 use Rattle.keep_course.specs.Answering.{said_reopening}
 use Rattle.shelf_trees.specs.Twigs.{thread_twigs}
 use Rattle.thread_tree.specs.Laid.{tree_lines}
 use Rattle.control_door.specs.Threads.{tree_words}
-use Rattle.control_door.specs.Requests.{Request, Delivers, Shows, Removes, Threads, Lists, Quits, Mistakes, Exceeds, Ahead, Asked, Unfinished, ahead, is_request}
+use Rattle.control_door.specs.Requests.{Request, Delivers, Shows, Removes, Purges, Edits, Threads, Lists, Quits, Mistakes, Exceeds, Ahead, Asked, Unfinished, ahead, is_request}
 
 -- The word for a line that is not an order, or that is too long.
 abbrev pub bad_word : List ℕ
@@ -87,6 +87,9 @@ answered moment s (Delivers message) rest = carries_out (delivered s.archive mes
 answered moment s (Shows number) rest =
     goes_on rest (shown number (text_of (live s.archive.entries) number)) s
 answered moment s (Removes number) rest = carries_out (removed s.archive number moment) rest
+answered moment s (Purges number) rest = carries_out (purged s.archive number) rest
+answered moment s (Edits number message) rest =
+    carries_out (edited s.archive number message moment) rest
 answered moment s (Threads number) rest = goes_on rest
     (threaded (live s.archive.entries) number (text_of (live s.archive.entries) number)) s
 answered moment s Lists rest = goes_on rest (epochs_words s.archive.entries) s
@@ -100,6 +103,8 @@ abbrev pub refused_memory : ℕ → Standing → Request → List ℕ → Says
 refused_memory moment s (Delivers message) rest = goes_on rest memory_word s
 refused_memory moment s (Shows number) rest = goes_on rest memory_word s
 refused_memory moment s (Removes number) rest = goes_on rest memory_word s
+refused_memory moment s (Purges number) rest = goes_on rest memory_word s
+refused_memory moment s (Edits number message) rest = goes_on rest memory_word s
 refused_memory moment s (Threads number) rest = goes_on rest memory_word s
 refused_memory moment s Lists rest = goes_on rest memory_word s
 refused_memory moment s Quits rest = answered moment s Quits rest
@@ -113,6 +118,9 @@ abbrev pub refused_disk : ℕ → Standing → Request → List ℕ → Says
 refused_disk moment s (Delivers message) rest = doubts s (delivered s.archive message moment) rest
 refused_disk moment s (Shows number) rest = goes_on rest disk_word s
 refused_disk moment s (Removes number) rest = doubts s (removed s.archive number moment) rest
+refused_disk moment s (Purges number) rest = doubts s (purged s.archive number) rest
+refused_disk moment s (Edits number message) rest =
+    doubts s (edited s.archive number message moment) rest
 refused_disk moment s (Threads number) rest = answered moment s (Threads number) rest
 refused_disk moment s Lists rest = goes_on rest disk_word s
 refused_disk moment s Quits rest = answered moment s Quits rest

@@ -1,9 +1,9 @@
 -- The grammar of a line at the control door. Its words are read in any case.
-use Rattle.std.specs.Prelude.{ℕ, Bool, ◌&&◌, nat_le, List, length, take, drop, codes, Option, Some, None, if◌then◌else◌}
+use Rattle.std.specs.Prelude.{ℕ, Bool, ◌&&◌, ◌==◌, nat_le, List, [], ◌∷◌, length, take, drop, codes, Option, Some, None, if◌then◌else◌}
 use Rattle.std.specs.Str.{str_eq_ignore_ascii_case}
 use Rattle.arch_base.specs.Decimals.{decimal_of}
 use Rattle.control_door.specs.declared.order.Order.{Order}
-use Rattle.control_door.specs.declared.order.Order.TheVariants.{Deliver, TooMuch, Show, Remove, Thread, Epochs, Quit, Bad}
+use Rattle.control_door.specs.declared.order.Order.TheVariants.{Deliver, TooMuch, Show, Remove, Purge, Edit, Thread, Epochs, Quit, Bad}
 
 -- The line starts with this word, in any case.
 abbrev pub begins_with : List ℕ → List ℕ → Bool
@@ -29,19 +29,50 @@ abbrev pub remove_order : Option ℕ → Order
 remove_order None = Bad
 remove_order (Some number) = Remove number
 
+-- `purge N`.
+abbrev pub purge_order : Option ℕ → Order
+purge_order None = Bad
+purge_order (Some number) = Purge number
+
+-- A byte in front of the first of two texts.
+abbrev pub in_front : ℕ → Option (List ℕ × List ℕ) → Option (List ℕ × List ℕ)
+in_front byte None = None
+in_front byte (Some (front, rest)) = Some (byte ∷ front, rest)
+
+-- What is before and after the first space of a text, if it has one.
+abbrev pub at_space : List ℕ → Option (List ℕ × List ℕ)
+at_space [] = None
+at_space (byte ∷ bytes) = if byte == 32 then Some ([], bytes) else in_front byte (at_space bytes)
+
+-- `edit N SIZE`: at most 9,000,000 bytes follow. A greater decimal is too much.
+abbrev pub edit_order : Option ℕ → Option ℕ → Order
+edit_order None size = Bad
+edit_order (Some number) None = Bad
+edit_order (Some number) (Some size) = if nat_le size 9000000 then Edit number size else TooMuch
+
+abbrev pub edit_parts : Option (List ℕ × List ℕ) → Order
+edit_parts None = Bad
+edit_parts (Some (number, size)) = edit_order (number_in (decimal_of number)) (decimal_of size)
+
+-- The words after `edit`.
+abbrev pub edit_words : List ℕ → Order
+edit_words words = edit_parts (at_space words)
+
 -- `thread N`.
 abbrev pub thread_order : Option ℕ → Order
 thread_order None = Bad
 thread_order (Some number) = Thread number
 
--- The order of a line without its line end: `deliver SIZE`, `show N`, `remove N`, `thread N`, `epochs`,
--- `quit`, or unknown.
+-- The order of a line without its line end: `deliver SIZE`, `show N`, `remove N`, `purge N`,
+-- `edit N SIZE`, `thread N`, `epochs`, `quit`, or unknown.
 abbrev pub order_of : List ℕ → Order
 order_of line =
     if begins_with (codes "deliver ") line then deliver_order (decimal_of (drop 8 line))
     else if begins_with (codes "show ") line then show_order (number_in (decimal_of (drop 5 line)))
     else if begins_with (codes "remove ") line
     then remove_order (number_in (decimal_of (drop 7 line)))
+    else if begins_with (codes "purge ") line then purge_order (number_in (decimal_of (drop 6 line)))
+    else if begins_with (codes "edit ") line then edit_words (drop 5 line)
     else if begins_with (codes "thread ") line
     then thread_order (number_in (decimal_of (drop 7 line)))
     else if str_eq_ignore_ascii_case line (codes "epochs") then Epochs
