@@ -7,7 +7,7 @@ use Rattle.disk_model.specs.Disk.{Files, Content, Told, WhereTold, LeavesOnly}
 use Rattle.root_slots.specs.RootName.{root_name}
 use Rattle.root_slots.specs.Slots.{IsShutFile}
 use Rattle.arch_model.specs.Archives.{Archive, empty_archive, live as live_entries}
-use Rattle.arch_model.specs.Delivery.{Done, delivered, removed, applied}
+use Rattle.arch_model.specs.Delivery.{Done, delivered, removed, purged, edited, applied}
 use Rattle.arch_model.specs.Keeping.{Settles, Comes}
 use Rattle.arch_model.specs.Standing.{Standing, standing, one_of, IsFound}
 use Rattle.arch_model.specs.declared.command.Command.{Command}
@@ -68,6 +68,14 @@ delivering bytes moment a = delivered a bytes moment
 -- What the removal of a number makes of an archive at a moment.
 abbrev pub removing : ℕ → ℕ → Archive → Done
 removing number moment a = removed a number moment
+
+-- What the purge of a number makes of an archive at a moment.
+abbrev pub purging : ℕ → ℕ → Archive → Done
+purging number moment a = purged a number
+
+-- What the edit of a number with bytes makes of an archive at a moment.
+abbrev pub editing : ℕ → List ℕ → ℕ → Archive → Done
+editing number bytes moment a = edited a number bytes moment
 
 -- The answer is that of the definition, and the disk is the own disk of the definition's archive.
 pub record IsDone (wanted : Done) (reply : Answer) (new : Option Content) : Type 0 where

@@ -8,7 +8,8 @@ use Rattle.edge_io.specs.declared.sink.SinkFault.{SinkFault}
 use Rattle.disk_model.specs.Disk.{Content}
 use Rattle.answer_lines.specs.Lines.{whole_line}
 use Rattle.archive_cli.specs.declared.outcome.Outcome.{Outcome}
-use Rattle.archive_cli.specs.Program.{Edges, NoneFailed, EndsBy, DeliverActs, IsSilent, IsInput, input_limit, message_of, PlaysPart, Replays, StopsShort}
+use Rattle.archive_cli.specs.DiskCommands.{editing}
+use Rattle.archive_cli.specs.Program.{Edges, NoneFailed, EndsBy, CommandActs, DeliverActs, IsSilent, IsInput, input_limit, message_of, PlaysPart, Replays, StopsShort}
 use Rattle.edge_io.specs.Left.{before, IsUsedUp}
 use Rattle.archive_cli.specs.Serving.{ServeRun, run_line, run_status}
 use Rattle.archive_cli.specs.Statuses.{code_of}
@@ -117,6 +118,14 @@ abbrev pub InputDone : Status → Edges → Edges → Type 0
 InputDone status i j =
     ((input : List ℕ) × IsInput i.left input
     × JobDone (DeliverActs (message_of input)) status i j)
+    ⊎ (Printed (IsUnread i j) status i.taken i.lost j.taken j.lost
+    ⊎ (IsSilent status i j × Rose i.unread j.unread))
+
+-- The same of the edit of a number.
+abbrev pub EditDone : ℕ → Status → Edges → Edges → Type 0
+EditDone number status i j =
+    ((input : List ℕ) × IsInput i.left input
+    × JobDone (CommandActs (editing number (message_of input))) status i j)
     ⊎ (Printed (IsUnread i j) status i.taken i.lost j.taken j.lost
     ⊎ (IsSilent status i j × Rose i.unread j.unread))
 

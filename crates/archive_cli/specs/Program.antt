@@ -16,14 +16,14 @@ use Rattle.epoch_store.specs.Files.{as_read}
 use Rattle.epoch_store.specs.First.{MakingLeaves}
 use Rattle.epoch_store.specs.Opens.{ReadsAs, RecoversOf}
 use Rattle.answer_lines.specs.Lines.{whole_line}
-use Rattle.archive_cli.specs.DiskCommands.{Makes, TakesTo, ChecksTo, IsOpenedAs, IsFault, IsReply, IsCheck, StandsAs, TakesOn, ChecksOn, CommandRuns, CommandRunsAmong, LeavesUnopened, delivering, removing}
+use Rattle.archive_cli.specs.DiskCommands.{Makes, TakesTo, ChecksTo, IsOpenedAs, IsFault, IsReply, IsCheck, StandsAs, TakesOn, ChecksOn, CommandRuns, CommandRunsAmong, LeavesUnopened, delivering, removing, purging, editing}
 use Rattle.archive_cli.specs.Outcomes.{outcome_line, status_of}
 use Rattle.archive_cli.specs.Statuses.{code_of}
 use Rattle.archive_cli.specs.Words.{IsJob, AsksFor}
 use Rattle.archive_cli.specs.Serving.{ServeRun, Shut, run_status, run_line}
 use Rattle.archive_cli.specs.Turns.{Transcript, TranscriptFront}
 use Rattle.archive_cli.specs.declared.words.Job.{Job}
-use Rattle.archive_cli.specs.declared.words.Job.TheVariants.{Help, Version, Replay, Init, Deliver, Remove, Check, Serve}
+use Rattle.archive_cli.specs.declared.words.Job.TheVariants.{Help, Version, Replay, Init, Deliver, Remove, Purge, Edit, Check, Serve}
 use Rattle.archive_cli.specs.declared.outcome.Outcome.{Outcome}
 use Rattle.archive_cli.specs.declared.outcome.Outcome.TheVariants.{Answered}
 use Rattle.archive_cli.specs.declared.status.Status.{Status}
@@ -203,6 +203,10 @@ Ends (Some Deliver) input i j status printed =
     EndsBy (DeliverActs (message_of input)) i j status printed
 Ends (Some (Remove number)) input i j status printed =
     EndsBy (CommandActs (removing number)) i j status printed
+Ends (Some (Purge number)) input i j status printed =
+    EndsBy (CommandActs (purging number)) i j status printed
+Ends (Some (Edit number)) input i j status printed =
+    EndsBy (CommandActs (editing number (message_of input))) i j status printed
 Ends (Some Check) input i j status printed = EndsBy CheckActs i j status printed
 Ends (Some (Serve turns port)) input i j status printed = ServeEnds i j status printed
 
@@ -238,16 +242,24 @@ pub record ReplayRunsOut (words : List (List ℕ)) (input : List ℕ) (i j : Edg
   pub stops : StopsShort config input status printed
   pub spared : NoneFailed i j
 
+-- The words ask to edit a message.
+abbrev pub AsksForEdit : List (List ℕ) → Type 0
+AsksForEdit words = (number : ℕ) × AsksFor words (Edit number)
+
+-- The words ask for a job that reads a message on the input: a delivery or an edit.
+abbrev pub AsksForMessage : List (List ℕ) → Type 0
+AsksForMessage words = AsksFor words Deliver ⊎ AsksForEdit words
+
 -- Out of memory, a message isn't read, and the disk is unchanged. No device failed.
 pub record DeliverRunsOut (words : List (List ℕ)) (i j : Edges) (status : Status) (printed : List ℕ)
     : Type 0 where
-  pub asked : AsksFor words Deliver
+  pub asked : AsksForMessage words
   pub status_is : status ≡ exit.Memory
   pub printed_is : printed ≡ whole_line (codes "12 no memory")
   pub kept : j.content ≡ i.content
   pub spared : NoneFailed i j
 
--- A replay or a delivery ran out of memory.
+-- A replay, a delivery or an edit ran out of memory.
 abbrev pub RunsOut : List (List ℕ) → List ℕ → Edges → Edges → Status → List ℕ → Type 0
 RunsOut words input i j status printed = ReplayRunsOut words input i j status printed
     ⊎ DeliverRunsOut words i j status printed
@@ -272,7 +284,7 @@ pub record IsPrinted (words : List (List ℕ)) (status : Status) (i j : Edges) :
 
 -- The words ask for a job that reads the input.
 abbrev pub AsksForInput : List (List ℕ) → Type 0
-AsksForInput words = ((config : Config) × AsksFor words (Replay config)) ⊎ AsksFor words Deliver
+AsksForInput words = ((config : Config) × AsksFor words (Replay config)) ⊎ AsksForMessage words
 
 -- The words ask to make an archive.
 abbrev pub AsksForInit : List (List ℕ) → Type 0
@@ -282,9 +294,13 @@ AsksForInit words = (config : Config) × AsksFor words (Init config)
 abbrev pub AsksForRemoval : List (List ℕ) → Type 0
 AsksForRemoval words = (number : ℕ) × AsksFor words (Remove number)
 
--- The words ask for a command on an archive: a delivery or a removal.
+-- The words ask to purge a message.
+abbrev pub AsksForPurge : List (List ℕ) → Type 0
+AsksForPurge words = (number : ℕ) × AsksFor words (Purge number)
+
+-- The words ask for a command on an archive: a delivery, a removal, a purge or an edit.
 abbrev pub AsksForCommand : List (List ℕ) → Type 0
-AsksForCommand words = AsksFor words Deliver ⊎ AsksForRemoval words
+AsksForCommand words = AsksForMessage words ⊎ (AsksForRemoval words ⊎ AsksForPurge words)
 
 -- The words ask for a job that reads the clock.
 abbrev pub AsksForMoment : List (List ℕ) → Type 0
@@ -377,5 +393,5 @@ RunLeavesAmong content moment left_since old new may coming wanted =
 -- The words ask for a job without a disk.
 abbrev pub LeavesDisk : List (List ℕ) → Type 0
 LeavesDisk words = ((config : Config) → AsksFor words (Init config) → ⊥)
-    × (AsksFor words Deliver → ⊥) × ((number : ℕ) → AsksFor words (Remove number) → ⊥)
+    × (AsksForCommand words → ⊥)
     × (AsksFor words Check → ⊥) × ((turns port : ℕ) → AsksFor words (Serve turns port) → ⊥)

@@ -5,7 +5,7 @@ use Rattle.std.specs.Borrow.{Bor}
 use Rattle.arch_base.specs.Names.{IsName}
 use Rattle.arch_base.specs.declared.config.Config.{Config}
 use Rattle.archive_cli.specs.declared.words.Job.{Job}
-use Rattle.archive_cli.specs.declared.words.Job.TheVariants.{Help, Version, Replay, Init, Deliver, Remove, Check, Serve}
+use Rattle.archive_cli.specs.declared.words.Job.TheVariants.{Help, Version, Replay, Init, Deliver, Remove, Purge, Edit, Check, Serve}
 use Rattle.archive_cli.specs.declared.words.ServeOption.{ServeOption}
 use Rattle.archive_cli.specs.declared.words.ServeOption.TheVariants as serving
 use Rattle.archive_cli.specs.declared.words.Setting.{Setting}
@@ -141,6 +141,21 @@ pub record IsRemove (words : List (List ℕ)) (number : ℕ) : Type 0 where
   pub is : words ≡ codes "remove" ∷ decimal number ∷ []
   pub range : IsUpTo 2147483647 number
 
+-- The word `purge`, and then a number of a message.
+pub record IsPurge (words : List (List ℕ)) (number : ℕ) : Type 0 where
+  pub is : words ≡ codes "purge" ∷ decimal number ∷ []
+  pub range : IsUpTo 2147483647 number
+
+-- The word `edit`, and then a number of a message.
+pub record IsEdit (words : List (List ℕ)) (number : ℕ) : Type 0 where
+  pub is : words ≡ codes "edit" ∷ decimal number ∷ []
+  pub range : IsUpTo 2147483647 number
+
+-- Words are one that spells a number of a message, or they are not.
+abbrev pub IsLone : List (List ℕ) → Option ℕ → Type 0
+IsLone words (Some number) = (words ≡ decimal number ∷ []) × IsUpTo 2147483647 number
+IsLone words None = (number : ℕ) → IsUpTo 2147483647 number → words ≡ decimal number ∷ [] → ⊥
+
 -- The word of an option of `serve`: its kind, `=`, and its number in decimal.
 abbrev pub serve_word : ServeOption → List ℕ
 serve_word (serving.Turns n) = codes "turns=" ++ decimal n
@@ -186,6 +201,8 @@ AsksFor words (Replay config) = IsReplay words config
 AsksFor words (Init config) = IsInit words config
 AsksFor words Deliver = words ≡ codes "deliver" ∷ []
 AsksFor words (Remove number) = IsRemove words number
+AsksFor words (Purge number) = IsPurge words number
+AsksFor words (Edit number) = IsEdit words number
 AsksFor words Check = words ≡ codes "check" ∷ []
 AsksFor words (Serve turns port) = IsServe words turns port
 

@@ -12,10 +12,10 @@ pub fn plain_is_transcript()
     plain_law();
 }
 
-/// Shows what a crash leaves after `init` and two commands on one disk, each `deliver` or `remove`, by
-/// the clause `ends` of `run` alone.
+/// Shows what a crash leaves after `init` and two commands on one disk, each `deliver`, `remove`,
+/// `purge` or `edit`, by the clause `ends` of `run` alone.
 ///
-/// The first command may be stopped by a fault. Each live number keeps its text until it is removed.
+/// The first command may be stopped by a fault. Each live number keeps its text until it is removed, purged or edited.
 pub fn runs_in_a_row()
     ensures { RunsInARow }
 {

@@ -5,13 +5,13 @@ ghost use Rattle.arch_model.specs.Archives.{Archive};
 ghost use Rattle.epoch_store.specs.Opens.{AllRecoverOf, RecoversOf};
 ghost use Rattle.answer_lines.specs.Lines.{whole_line};
 ghost use Rattle.archive_cli.specs.Words.{spelled, AsksFor};
-ghost use Rattle.archive_cli.specs.declared.words.Job.TheVariants.{Deliver, Remove, Check, Serve};
+ghost use Rattle.archive_cli.specs.declared.words.Job.TheVariants.{Deliver, Remove, Purge, Edit, Check, Serve};
 ghost use Rattle.arch_base.specs.declared.config.Config.{Config};
 ghost use Rattle.arch_model.specs.Standing.{Standing};
-ghost use Rattle.archive_cli.specs.DiskCommands.{StandsAs, delivering, removing, taking};
+ghost use Rattle.archive_cli.specs.DiskCommands.{StandsAs, delivering, removing, purging, editing, taking};
 ghost use Rattle.archive_cli.specs.Outcomes.{outcome_line, status_of};
 ghost use Rattle.archive_cli.specs.Program.{RanTo, TakesInput, TookAtMost, LeavesDisk, AsksForInit, CommandActs, InitActs, IsInput, WordsLeave, InitLeaves, RunLeaves, RunLeavesAmong, all_edges, edges, input_limit, message_limit, message_of, made_at};
-ghost use Rattle.archive_cli.specs.Printing.{Printed, Exactly, IsReplayDue, Replayed, JobDone, InputDone, RunPrinted};
+ghost use Rattle.archive_cli.specs.Printing.{Printed, Exactly, IsReplayDue, Replayed, JobDone, InputDone, EditDone, RunPrinted};
 ghost use Rattle.arch_base.specs.Configs.{IsConfig};
 ghost use Rattle.archive_cli.specs.Serving.{ServeRun, ServesDisk, hosted};
 ghost use Rattle.node_serve.specs.World.{outer};
@@ -79,6 +79,24 @@ pub fn run<D: Disk, H: Host, S: Source, O: Sink, C: Clock>(
         → AsksFor (spelled words.now) (Remove number) → AllRecoverOf may (D.content disk)
         → RunLeavesAmong D.content D.moment D.left_since disk result.1 may (C.coming clock.old)
         (removing number) }
+    // The same while a message is purged.
+    ensures purge { (s : Standing) (number : ℕ) → AsksFor (spelled words.now) (Purge number)
+        → StandsAs s (D.content disk) → RunLeaves D.content D.moment D.left_since disk result.1 s
+        (C.coming clock.old) (purging number) }
+    ensures purge_among { (may : List (Option Archive)) (number : ℕ)
+        → AsksFor (spelled words.now) (Purge number) → AllRecoverOf may (D.content disk)
+        → RunLeavesAmong D.content D.moment D.left_since disk result.1 may (C.coming clock.old)
+        (purging number) }
+    // The same while a message is edited.
+    ensures edit { (s : Standing) (number : ℕ) → AsksFor (spelled words.now) (Edit number)
+        → StandsAs s (D.content disk) → (sent : List ℕ) × IsInput (S.left input.old) sent
+        × RunLeaves D.content D.moment D.left_since disk result.1 s (C.coming clock.old)
+        (editing number (message_of sent)) }
+    ensures edit_among { (may : List (Option Archive)) (number : ℕ)
+        → AsksFor (spelled words.now) (Edit number) → AllRecoverOf may (D.content disk)
+        → (sent : List ℕ) × IsInput (S.left input.old) sent
+        × RunLeavesAmong D.content D.moment D.left_since disk result.1 may (C.coming clock.old)
+        (editing number (message_of sent)) }
     // A crash while an archive is checked leaves one that the disk may have stood for.
     ensures check { (may : List (Option Archive)) → AsksFor (spelled words.now) Check
         → AllRecoverOf may (D.content disk)
@@ -117,6 +135,14 @@ pub fn run<D: Disk, H: Host, S: Source, O: Sink, C: Clock>(
         }
         Some(Job::Remove { number }) => {
             let (status, disk) = carry_out(alloc, disk, &Command::Remove(number), out, clock);
+            (status.code(), disk)
+        }
+        Some(Job::Purge { number }) => {
+            let (status, disk) = carry_out(alloc, disk, &Command::Purge(number), out, clock);
+            (status.code(), disk)
+        }
+        Some(Job::Edit { number }) => {
+            let (status, disk) = edit_input(alloc, number, disk, input, out, clock);
             (status.code(), disk)
         }
         Some(Job::Check) => {
@@ -202,6 +228,49 @@ fn deliver_input<D: Disk, S: Source, O: Sink, C: Clock>(
         // A message's front is never too long.
         Err(InputRefusal::TooLong) => (print_no_memory(out), disk),
         Ok(bytes) => carry_out(alloc, disk, &Command::Deliver(bytes.as_slice()), out, clock),
+    }
+}
+
+/// Puts the message on the input in the place of the one with a number, at the clock's moment.
+fn edit_input<D: Disk, S: Source, O: Sink, C: Clock>(
+    alloc: Global,
+    number: u32,
+    disk: D,
+    input: &mut S,
+    out: &mut O,
+    clock: &mut C,
+) -> (Status, D)
+    ensures ends { EditDone number result.0
+        (all_edges (S.left input.old) (S.faults input.old) (O.taken out.old) (O.faults out.old)
+        (C.coming clock.old) (C.faults clock.old) (D.content disk) (D.faults disk))
+        (all_edges (S.left input.new) (S.faults input.new) (O.taken out.new) (O.faults out.new)
+        (C.coming clock.new) (C.faults clock.new) (D.content result.1) (D.faults result.1)) }
+    ensures later { S.faults input.old ≤ S.faults input.new }
+    ensures few { TookAtMost message_limit (S.left input.old) (S.left input.new) }
+    ensures any_moment { (s : Standing) → StandsAs s (D.content disk)
+        → (sent : List ℕ) × IsInput (S.left input.old) sent
+        × RunLeaves D.content D.moment D.left_since disk result.1 s (C.coming clock.old)
+        (editing number (message_of sent)) }
+    ensures among { (may : List (Option Archive)) → AllRecoverOf may (D.content disk)
+        → (sent : List ℕ) × IsInput (S.left input.old) sent
+        × RunLeavesAmong D.content D.moment D.left_since disk result.1 may (C.coming clock.old)
+        (editing number (message_of sent)) }
+    ensures disk_later { D.faults disk ≤ D.faults result.1 }
+    ensures clock_later { C.faults clock.old ≤ C.faults clock.new }
+    ensures sink { O.alike out.old out.new }
+{
+    match read_message(alloc, input) {
+        Err(InputRefusal::Fault) => (Status::Edges, disk),
+        Err(InputRefusal::NoMemory) => (print_no_memory(out), disk),
+        // A message's front is never too long.
+        Err(InputRefusal::TooLong) => (print_no_memory(out), disk),
+        Ok(bytes) => carry_out(
+            alloc,
+            disk,
+            &Command::Edit(number, bytes.as_slice()),
+            out,
+            clock,
+        ),
     }
 }
 
