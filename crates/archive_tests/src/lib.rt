@@ -7,6 +7,8 @@ mod accepted;
 #[cfg(test)]
 mod core_tests;
 #[cfg(test)]
+mod disk_purge_tests;
+#[cfg(test)]
 mod disk_removal_tests;
 #[cfg(test)]
 mod doubt_tests;
@@ -16,6 +18,8 @@ mod engine_tests;
 mod listing_tests;
 #[cfg(test)]
 mod model_tests;
+#[cfg(test)]
+mod purge_tests;
 #[cfg(test)]
 mod reading_tests;
 #[cfg(test)]
