@@ -78,9 +78,9 @@ pub record IsLeft (first second third : List (List ℕ)) (i k m : Edges) (image 
   pub stands : Recovers image two
 
 -- Three runs on one disk: `init` that ends with status 0, and two commands, each `deliver`, `remove`,
--- `purge` or `edit`, however these end. So the first of them may be stopped by a fault of the disk, and may have
--- been done or not; then the second one found its archive, or the one without messages, and each crash
--- after it leaves that one or what the second one makes of it.
+-- `purge` or `edit`, however these end. So the first of them may be stopped by a fault of the disk, and
+-- may have been done or not; then the second one found its archive, or the one without messages, and
+-- each crash after it leaves that one or what the second one makes of it.
 abbrev pub RunsInARow : Type 0
 RunsInARow = (first second third : List (List ℕ)) (a b : ℕ) (i j k l m n : Edges) (made : Content)
     → AsksForInit first → RanTo first 0 i j → j.content ≡ Some made

@@ -15,7 +15,8 @@ pub fn plain_is_transcript()
 /// Shows what a crash leaves after `init` and two commands on one disk, each `deliver`, `remove`,
 /// `purge` or `edit`, by the clause `ends` of `run` alone.
 ///
-/// The first command may be stopped by a fault. Each live number keeps its text until it is removed, purged or edited.
+/// The first command may be stopped by a fault. Each live number keeps its text until it is removed,
+/// purged or edited.
 pub fn runs_in_a_row()
     ensures { RunsInARow }
 {

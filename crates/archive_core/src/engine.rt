@@ -184,7 +184,8 @@ impl<D: Disk> Engine<D> {
             (RecoversOneOf cache a (cache_left command.now cache) (applied a command.now moment).archive) }
         ensures done { (a : Archive) (cache : List ℕ)
             → IsStoreWith self.old.view cache a (D.content self.old.disk)
-            → DoneBy self.new.view cache (cache_left command.now cache) a (applied a command.now moment) result
+            → DoneBy self.new.view cache (cache_left command.now cache) a
+            (applied a command.now moment) result
             (D.content self.new.disk) }
         // As a keeper's.
         ensures stands { (a : Archive) → Holds D.content self.old a → (t : Standing)

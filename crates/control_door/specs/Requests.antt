@@ -6,8 +6,8 @@ use Rattle.control_door.specs.declared.order.Order.{Order}
 use Rattle.control_door.specs.declared.order.Order.TheVariants.{Deliver, TooMuch, Show, Remove, Purge, Edit, Thread, Epochs, Quit, Bad}
 
 -- A whole request: a message to deliver, a number to show, to remove or to purge, a number and the message
--- in its place, a number whose thread to show, the list of epochs, the end, a line that is not an order, or a line that is too long or announces
--- too much, after which the door closes.
+-- in its place, a number whose thread to show, the list of epochs, the end, a line that is not an
+-- order, or a line that is too long or announces too much, after which the door closes.
 pub data Request : Type 0 where
   Delivers : List ℕ → Request
   Shows : ℕ → Request

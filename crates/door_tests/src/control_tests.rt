@@ -427,7 +427,7 @@ fn a_mirror_takes_no_command(rt: HostRuntime) {
 }
 
 /// Lines without their line end, and their orders.
-const ORDERS: [(&[u8], Order); 17] = [
+const ORDERS: [(&[u8], Order); 26] = [
     (b"deliver 0", Order::Deliver(0)),
     (b"dELIVER 9000000", Order::Deliver(9_000_000)),
     (b"deliver 9000001", Order::TooMuch),
@@ -439,6 +439,18 @@ const ORDERS: [(&[u8], Order); 17] = [
     (b"REMOVE 2147483647", Order::Remove(2_147_483_647)),
     (b"remove 2147483648", Order::Bad),
     (b"remove", Order::Bad),
+    (b"purge 1", Order::Purge(1)),
+    (b"pURGE 2147483648", Order::Bad),
+    (b"edit 1 0", Order::Edit(1, 0)),
+    (
+        b"EDIT 2147483647 9000000",
+        Order::Edit(2_147_483_647, 9_000_000),
+    ),
+    (b"edit 7 9000001", Order::TooMuch),
+    (b"edit 0 9000001", Order::Bad),
+    (b"edit 7 18446744073709551616", Order::Bad),
+    (b"edit 7", Order::Bad),
+    (b"edit 7  1", Order::Bad),
     (b"thread 1", Order::Thread(1)),
     (b"tHREAD 2147483647", Order::Thread(2_147_483_647)),
     (b"thread 0", Order::Bad),
