@@ -110,14 +110,14 @@ impl Planner {
         ensures file { IfOk result (λ plan. plan.file ≡ file) }
         ensures opened { IfOk result (Opens self.old file self.new) }
     {
-        match self.current.take() {
-            Some(plan) if plan.file() == file => Ok(plan),
-            Some(plan) => {
-                self.close(plan)?;
-                Ok(EpochPlan::new(file))
-            }
-            None => Ok(EpochPlan::new(file)),
+        let Some(plan) = self.current.take() else {
+            return Ok(EpochPlan::new(file));
+        };
+        if plan.file() == file {
+            return Ok(plan);
         }
+        self.close(plan)?;
+        Ok(EpochPlan::new(file))
     }
 
     /// Keeps the plan of an epoch whose entries have all been taken, if it loses one.

@@ -6,6 +6,7 @@ ghost use Rattle.arch_base.specs.declared.ids.Id20.{Id20};
 ghost use Rattle.disk_model.specs.Disk.{Image, Told, Unchanged, WhereTold, LeavesOnly};
 ghost use Rattle.disk_model.specs.Sizes.{greatest_epoch};
 ghost use Rattle.disk_model.specs.Synced.{IsSettled};
+ghost use Rattle.mail_reader.specs.StorageTexts.{IsStorageText};
 ghost use Rattle.arch_model.specs.Archives.{Archive, live, messages, text_of, with_entry, without_entries};
 ghost use Rattle.arch_model.specs.Delivery.{collision, new_epoch};
 ghost use Rattle.epoch_store.specs.Planning.{IsBlobOf, IsPlaceAfter, IsReady, KeepsPlanned, PlansArchive, PlansEdit, PlansOwn, PlansPurge, PlansUndamaged, length_after};
@@ -211,6 +212,7 @@ impl Store {
         text: &[u8],
         moment: u64,
     ) -> Result<(), StoreRefusal>
+        requires storage { IsStorageText text.now }
         requires moment { moment ≤ last_moment }
         requires left { self.now.root.next ≤ self.now.root.config.max }
         ensures planned { OnOk result (PlansEdit self.now planned.old text.now moment planned.new) }

@@ -9,3 +9,4 @@ mod Remakes
 mod Tidies
 mod Copies
 mod Gathers
+pub mod Plans

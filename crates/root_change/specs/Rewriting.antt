@@ -1,5 +1,5 @@
 -- Parts of an archive that a command writes anew or appends to, from bytes and ranges of the old files.
-use Rattle.std.specs.Prelude.{◌≡◌, ◌+◌, ◌-◌, ◌*◌, ◌<◌, ◌≤◌, ◌^◌, ◌==◌, ◌&&◌, nat_lt, ℕ, Bool, true, false, List, [], ◌∷◌, ◌++◌, length, get_or, slice_get, Option, Some, None, Result, Ok, Err, IfOk, OnOk, if◌then◌else◌}
+use Rattle.std.specs.Prelude.{◌≡◌, ◌≢◌, ◌+◌, ◌-◌, ◌*◌, ◌<◌, ◌≤◌, ◌^◌, ◌==◌, ◌&&◌, nat_lt, ℕ, Bool, true, false, List, [], ◌∷◌, ◌++◌, length, get_or, slice_get, Option, Some, None, Result, Ok, Err, IfOk, OnOk, if◌then◌else◌}
 use Rattle.std.specs.List.{flat_map, sum_by}
 use Rattle.arch_base.specs.Counts.{RoseIf}
 use Rattle.disk_model.specs.declared.name.FileKind.{FileKind}
@@ -10,6 +10,7 @@ use Rattle.disk_model.specs.Sizes.{epoch_count, record_size}
 use Rattle.disk_model.specs.Synced.{IsSettled}
 use Rattle.root_slots.specs.declared.root.Place.{Place}
 use Rattle.root_slots.specs.declared.root.Root.{Root}
+use Rattle.root_slots.specs.RootName.{root_name}
 use Rattle.root_slots.specs.Valid.{IsRoot, no_place}
 use Rattle.root_change.specs.declared.plan.Target.{Target}
 use Rattle.root_change.specs.declared.plan.Target.TheVariants.{Anew, Behind}
@@ -194,10 +195,10 @@ IsPartToPlan kind.Map number = number ≡ 0
 IsPartToPlan kind.Epoch number = number < epoch_count
 IsPartToPlan kind.Cache number = ⊥
 
--- The sources of a plan come from files that are no newer than a root.
+-- The sources of a plan come from files that are no newer than a root, and not the root file.
 abbrev pub ComesFrom : Root → Source → Type 0
 ComesFrom root (Bytes offset count) = Unit {0}
-ComesFrom root (Range range) = range.file.gen_ ≤ root.sequence
+ComesFrom root (Range range) = (range.file.gen_ ≤ root.sequence) × (range.file ≢ root_name)
 
 -- A plan may be carried out: it is one of a part that may be planned, and copies from files that are
 -- no newer than the root. What it appends to is shorter than 2^62 bytes, and gets bytes alone.

@@ -8,6 +8,7 @@ ghost use Rattle.root_slots.specs.Valid.{IsRoot};
 ghost use Rattle.root_change.specs.Names.{bounds_of};
 ghost use Rattle.root_change.specs.Texts.{HasSizes};
 ghost use Rattle.root_change.specs.Rewriting.{CarriesOut, IsFailed, IsRootAfter, MapFits, MayCarry, MayCarryAll, place_by, map_by};
+ghost use Rattle.root_change.specs.declared.plan.Target.{Target};
 ghost use Rattle.root_change.specs.Writing.{IsFileOf, PlansLeave, SetsPlace, WritesPlan, WritesPlans};
 
 use crate::appending::end_of;
@@ -43,7 +44,7 @@ impl From<DiskFault> for RewriteRefusal {
 
 /// Returns the `Place` of an epoch after a plan with this target and so many bytes.
 fn epoch_after(place: Place, target: Target, count: u64, next: u64) -> Place
-    requires { place.length + count < 2 ^ 64 }
+    requires { target ≡ Target.Behind → place.length + count < 2 ^ 64 }
     ensures { result ≡ place_by next target place count }
 {
     match target {
@@ -65,7 +66,7 @@ fn epoch_after(place: Place, target: Target, count: u64, next: u64) -> Place
 
 /// Returns the `Place` of the map after a plan with this target and so many bytes.
 fn map_after(place: Place, target: Target, count: u64, next: u64) -> Place
-    requires { place.length + count < 2 ^ 64 }
+    requires { target ≡ Target.Behind → place.length + count < 2 ^ 64 }
     ensures { result ≡ map_by next target place count }
 {
     match target {
