@@ -4,6 +4,7 @@ use Rattle.std.specs.List.{AllByRecursion, filter}
 use Rattle.std.specs.Str.{bytes_eq}
 use Rattle.std.proofs.Common.{◌⊎◌, inl, inr, ◌∙◌, sym, ap, subst, arith, append-nil, append_assoc}
 use Rattle.std.proofs.lemmas.Bool.Decides.{nat_tests}
+use Rattle.std.proofs.lemmas.Slice.Eq.{bytes_eq-Decides}
 use Rattle.git_objects.specs.Objects.{blob_id_of}
 use Rattle.git_objects.specs.declared.entry_kind.EntryKind.{EntryKind}
 use Rattle.git_objects.specs.declared.entry_kind.EntryKind.TheVariants.{Message, Deletion}
@@ -11,7 +12,7 @@ use Rattle.mail_reader.specs.Ids.{own_id}
 use Rattle.arch_model.specs.Archives.{Entry, Archive, message, deletion, is_message, is_ended, live, messages, text_of, without_text, without_entries}
 use Rattle.arch_model.specs.Following.{FollowsWithoutText}
 use Rattle.arch_model.specs.Validity.{IsEntry, IsFrom, number_after, Rise, AtEachPlace, EndsLive, IdsDiffer, LiveDiffer, BlobsAgree, IsArchive}
-use Rattle.arch_model.proofs.LiveEntries.{live-message, live-deletion, without}
+use Rattle.arch_model.proofs.LiveEntries.{live-message, live-deletion, without, found-has, all-text}
 
 -- The numbers of entries rise from this one on.
 abbrev pub Climbs : ℕ → List Entry → Type 0
@@ -315,3 +316,56 @@ follows_without_text a text valid = record {
   texts = λ n old less is.
       kept_found (other text) 1 (messages a.entries) n old (messages_climb 1 0 a.entries valid.order) (sym (ap (λ (l : List Entry). text_of l n) (messages_kept (other text) a.entries)) ∙ is);
 }
+
+-- Texts that differ are told apart.
+test_false : (x y : List ℕ) (t : Bool) → bytes_eq x y ≡ t → x ≢ y → bytes_eq x y ≡ false
+test_false x y true is apart = absurd (apart ((bytes_eq-Decides x y).0 is))
+test_false x y false is apart = is
+
+-- The front entry stays, or it goes.
+front_stays : (text : List ℕ) (e : Entry) (es : List Entry) → bytes_eq text e.text ≡ false → without_text (e ∷ es) text ≡ e ∷ without_text es text
+front_stays text e es is = ap (λ (b : Bool). if not b then e ∷ without_text es text else without_text es text) is
+
+front_goes : (text : List ℕ) (e : Entry) (es : List Entry) → bytes_eq text e.text ≡ true → without_text (e ∷ es) text ≡ without_text es text
+front_goes text e es is = ap (λ (b : Bool). if not b then e ∷ without_text es text else without_text es text) is
+
+-- Where no entry has the own id of a text, none goes with it.
+none_with : (es : List Entry) (text : List ℕ) → AllByRecursion (λ (f : Entry). own_id f.text ≢ own_id text) es → without_text es text ≡ es
+none_with [] text apart = refl
+none_with (e ∷ es) text apart =
+    let stays : bytes_eq text e.text ≡ false = test_false text e.text (bytes_eq text e.text) refl (λ same. apart.0 (ap own_id (sym same))) in
+    front_stays text e es stays ∙ ap (λ (l : List Entry). e ∷ l) (none_with es text apart.1)
+
+gone_step : (t : Bool) (m : ℕ) (text : List ℕ) (e : Entry) (es : List Entry) → (e.number == m) ≡ t → IdsDiffer (e ∷ es) → Climbs (e.number + 1) es → (text_of es m ≡ Some text → without_text es text ≡ without m es) → (if t then Some e.text else text_of es m) ≡ Some text
+    → without_text (e ∷ es) text ≡ (if t then without m es else e ∷ without m es)
+gone_step true m text e es test differ climbs rest is =
+    let own : e.text ≡ text = cc in
+    let here : bytes_eq text e.text ≡ true = (bytes_eq-Decides text e.text).1 (sym own) in
+    let apart : AllByRecursion (λ (f : Entry). own_id f.text ≢ own_id text) es = subst (λ (t : List ℕ). AllByRecursion (λ (f : Entry). own_id f.text ≢ own_id t) es) own differ.0 in
+    let number : e.number ≡ m = grind (arith, nat_tests, test) in
+    front_goes text e es here ∙ none_with es text apart ∙ sym (without_none (other text) m (e.number + 1) es (omega (arith, number)) climbs)
+gone_step false m text e es test differ climbs rest is =
+    let apart : own_id text ≢ own_id e.text = all-text (λ (t : List ℕ). own_id t ≢ own_id e.text) es text differ.0 (found-has es m text is) in
+    let stays : bytes_eq text e.text ≡ false = test_false text e.text (bytes_eq text e.text) refl (λ same. apart (ap own_id same)) in
+    front_stays text e es stays ∙ ap (λ (l : List Entry). e ∷ l) (rest is)
+
+-- Where ids differ and numbers rise, the entries without the text of a number are those without the
+-- number.
+pub text_gone : (low : ℕ) (es : List Entry) (m : ℕ) (text : List ℕ) → Climbs low es → IdsDiffer es → text_of es m ≡ Some text → without_text es text ≡ without m es
+text_gone low [] m text climbs differ is = refl
+text_gone low (e ∷ es) m text climbs differ is = gone_step (e.number == m) m text e es refl differ climbs.1 (text_gone (e.number + 1) es m text climbs.1 differ.1) is
+
+own_found : (e : Entry) (es : List Entry) → text_of (e ∷ es) e.number ≡ Some e.text
+own_found e es = let same : (e.number == e.number) ≡ true = grind (arith, nat_tests) in ap (λ (b : Bool). if b then Some e.text else text_of es e.number) same
+
+later_found : (t : Bool) (n : ℕ) (text : List ℕ) (e : Entry) (es : List Entry) → (e.number == n) ≡ t → Climbs (e.number + 1) es → text_of es n ≡ Some text → text_of (e ∷ es) n ≡ Some text
+later_found true n text e es test climbs is =
+    absurd (let same : e.number ≡ n = grind (arith, nat_tests, test) in let more : e.number + 1 ≤ n = climbs_above (e.number + 1) es n text climbs is in omega (arith, same, more))
+later_found false n text e es test climbs is = ap (λ (b : Bool). if b then Some e.text else text_of es n) test ∙ is
+
+-- Where no number has a text, no entry goes with it.
+pub none_gone : (low : ℕ) (es : List Entry) (text : List ℕ) → Climbs low es → ((n : ℕ) → text_of es n ≡ Some text → ⊥) → without_text es text ≡ es
+none_gone low [] text climbs none = refl
+none_gone low (e ∷ es) text climbs none =
+    let stays : bytes_eq text e.text ≡ false = test_false text e.text (bytes_eq text e.text) refl (λ same. none e.number (own_found e es ∙ ap Some (sym same))) in
+    front_stays text e es stays ∙ ap (λ (l : List Entry). e ∷ l) (none_gone (e.number + 1) es text climbs.1 (λ n is. none n (later_found (e.number == n) n text e es refl climbs.1 is)))

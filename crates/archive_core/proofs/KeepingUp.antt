@@ -9,9 +9,9 @@ use Rattle.mail_forms.specs.declared.row.Row.{Row}
 use Rattle.mail_reader.specs.Stored.{stored}
 use Rattle.mail_reader.specs.declared.storing.StoredRefusal.{StoredRefusal}
 use Rattle.mail_reader.specs.declared.storing.StoredRefusal.TheVariants as storing
-use Rattle.arch_model.specs.Archives.{Entry, Archive, message, with_entry, live, text_of}
+use Rattle.arch_model.specs.Archives.{Entry, Archive, message, with_entry, without_entries, live, messages, text_of}
 use Rattle.arch_model.specs.Candidates.{choice_of}
-use Rattle.arch_model.specs.Delivery.{Done, applied, delivered, delivered_form, delivered_choice, delivered_kept, removed_text, refused, new_epoch, collision}
+use Rattle.arch_model.specs.Delivery.{Done, applied, delivered, delivered_form, delivered_choice, delivered_kept, removed_text, purged_text, edited_text, is_accepted, is_form, unless_refused, refused, new_epoch, collision}
 use Rattle.arch_model.specs.Keeping.{StaysReady}
 use Rattle.arch_model.specs.Listings.{rows_of, row_at}
 use Rattle.arch_model.specs.Rows.{row_of}
@@ -21,16 +21,17 @@ use Rattle.arch_model.specs.declared.answer.Answer.TheVariants as answer
 use Rattle.arch_model.specs.declared.choice.Choice.{Choice}
 use Rattle.arch_model.specs.declared.choice.Choice.TheVariants as choice
 use Rattle.arch_model.specs.declared.command.Command.{Command}
-use Rattle.arch_model.specs.declared.command.Command.TheVariants.{Deliver, Remove}
-use Rattle.arch_model.proofs.LiveEntries.{live-message, live-deletion, live-all, without as without_number}
+use Rattle.arch_model.specs.declared.command.Command.TheVariants.{Deliver, Remove, Purge, Edit}
+use Rattle.arch_model.proofs.LiveEntries.{live-message, live-deletion, live-all, ids-now, without as without_number}
 use Rattle.arch_model.proofs.ValidArchives.{all_weaker}
+use Rattle.arch_model.proofs.Purging.{live_climbs, live_without, none_gone, text_gone}
 use Rattle.arch_judge.proofs.Endings.{Ascend, live-ascend}
 use Rattle.epoch_store.specs.Stores.{View}
 use Rattle.overview_index.specs.Listings.{with_row, without}
 use Rattle.overview_index.proofs.Messages.{HasId, AllBelow, Ascends, rows-added, rows-taken}
-use Rattle.archive_core.specs.Commands.{DoneBy, OnRefusal, KeepsText, is_delivery, IfDelivery, OnDone}
+use Rattle.archive_core.specs.Commands.{DoneBy, OnRefusal, KeepsText, is_delivery, IfDelivery, IsLiveOf, OnDone}
 use Rattle.archive_core.specs.Engines.{needs_opening, RowsKeepUp}
-use Rattle.archive_core.specs.Walks.{RowsDone, RowsAfter}
+use Rattle.archive_core.specs.Walks.{RowsDone, RowsAfter, without_gone}
 
 -- A command that isn't accepted keeps the archive.
 abbrev pub KeepsUnlessOk : Archive → Done → Type 0
@@ -66,9 +67,52 @@ removed_keeps : (t : Bool) (a : Archive) (number moment : ℕ) → KeepsUnlessOk
 removed_keeps true a number moment never = refl
 removed_keeps false a number moment never = text_keeps a number moment (text_of (live a.entries) number) never
 
+found_keeps : (a : Archive) (number : ℕ) (found : Option (List ℕ)) → KeepsUnlessOk a (purged_text a number found)
+found_keeps a number None never = refl
+found_keeps a number (Some text) never = absurd (never number (blob_id_of text) refl)
+
+purged_keeps : (t : Bool) (a : Archive) (number : ℕ) → KeepsUnlessOk a (if t then refused a answer.IsMirror else purged_text a number (text_of (messages a.entries) number))
+purged_keeps true a number never = refl
+purged_keeps false a number never = found_keeps a number (text_of (messages a.entries) number) never
+
+-- An answer that a command was carried out has a number and an id.
+never_accepted : (reply : Answer) → ((n : ℕ) (id : Id20) → reply ≡ answer.Ok n id → ⊥) → is_accepted reply ≡ false
+never_accepted (answer.Ok n id) never = absurd (never n id refl)
+never_accepted (answer.Duplicate n) never = refl
+never_accepted answer.NoFields never = refl
+never_accepted (answer.TooLarge len) never = refl
+never_accepted (answer.Full max) never = refl
+never_accepted (answer.Collision n) never = refl
+never_accepted (answer.NotLive n) never = refl
+never_accepted (answer.NoText n) never = refl
+never_accepted answer.IsMirror never = refl
+never_accepted answer.DiskFault never = refl
+never_accepted (answer.Damaged file at) never = refl
+never_accepted answer.NoMemory never = refl
+
+unless_keeps : (a : Archive) (d : Done) (t : Bool) → is_accepted d.answer ≡ t → KeepsUnlessOk a (if t then d else refused a d.answer)
+unless_keeps a d true accepted never = absurd (let none : is_accepted d.answer ≡ false = never_accepted d.answer never in let wrong : true ≡ false = sym accepted ∙ none in cc)
+unless_keeps a d false accepted never = refl
+
+form_unless : (a : Archive) (number : ℕ) (bytes text : List ℕ) (moment : ℕ) (t : Bool) → KeepsUnlessOk a (if t then refused a (answer.Duplicate number) else unless_refused a (delivered (without_entries a text) bytes moment))
+form_unless a number bytes text moment true never = refl
+form_unless a number bytes text moment false never =
+    let d : Done = delivered (without_entries a text) bytes moment in
+    unless_keeps a d (is_accepted d.answer) refl never
+
+edit_keeps : (a : Archive) (number : ℕ) (bytes : List ℕ) (moment : ℕ) (found : Option (List ℕ)) → KeepsUnlessOk a (edited_text a number bytes moment found)
+edit_keeps a number bytes moment None never = refl
+edit_keeps a number bytes moment (Some text) never = form_unless a number bytes text moment (is_form text (stored bytes)) never
+
+edited_keeps : (t : Bool) (a : Archive) (number : ℕ) (bytes : List ℕ) (moment : ℕ) → KeepsUnlessOk a (if t then refused a answer.IsMirror else edited_text a number bytes moment (text_of (live a.entries) number))
+edited_keeps true a number bytes moment never = refl
+edited_keeps false a number bytes moment never = edit_keeps a number bytes moment (text_of (live a.entries) number) never
+
 pub applied-keeps : (a : Archive) (command : Command) (moment : ℕ) → KeepsUnlessOk a (applied a command moment)
 applied-keeps a (Deliver bytes) moment never = mirror_keeps a.config.mirror a bytes.now moment never
 applied-keeps a (Remove number) moment never = removed_keeps a.config.mirror a number moment never
+applied-keeps a (Purge number) moment never = purged_keeps a.config.mirror a number never
+applied-keeps a (Edit number bytes) moment never = edited_keeps a.config.mirror a number bytes.now moment never
 
 -- An accepted delivery takes the next number.
 new_next : (t : Bool) (a : Archive) (text : List ℕ) (moment n : ℕ) (id : Id20) → (if t then refused a (answer.Full a.config.max) else record { archive = with_entry a (new_epoch a) text moment; answer = answer.Ok a.next (blob_id_of text) }).answer ≡ answer.Ok n id → n ≡ a.next
@@ -127,6 +171,13 @@ with_kept a b text moment n old new valid old_is n_is b_is new_is =
     ∙ rows-added (live a.entries) one (live-below a valid)
     ∙ ap rows_of (sym (live-message a.entries a.next (new_epoch a) text moment))
     ∙ ap (λ (c : Archive). rows_of (live c.entries)) (sym b_is)
+
+-- The rows without that of the live number of a text are those of the archive without the text.
+pub rows_gone : (a : Archive) (text : List ℕ) (gone : Option ℕ) → IsArchive a → IsLiveOf (live a.entries) text gone → without_gone (rows_of (live a.entries)) gone ≡ rows_of (live (without_entries a text).entries)
+rows_gone a text None valid none = ap rows_of (sym (live_without a text valid ∙ none_gone 1 (live a.entries) text (live_climbs 1 0 a.entries valid.order) none))
+rows_gone a text (Some m) valid is =
+    rows-taken (live a.entries) 1 m (live-ascends a valid)
+    ∙ ap rows_of (sym (live_without a text valid ∙ text_gone 1 (live a.entries) m text (live_climbs 1 0 a.entries valid.order) (ids-now a.entries valid.ids) is))
 
 pub done-rows : (a : Archive) (command : Command) (moment n : ℕ) (id : Id20) (text : List ℕ) (old new : List (ℕ × Row)) → IsArchive a → (applied a command moment).answer ≡ answer.Ok n id → IfDelivery (is_delivery command) (KeepsText a (applied a command moment) moment text)
     → old ≡ rows_of (live a.entries) → RowsDone command n text moment old new → new ≡ rows_of (live (applied a command moment).archive.entries)

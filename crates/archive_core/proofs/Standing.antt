@@ -49,7 +49,7 @@ archive_taken a text slice moment wanted reply is judged = ap (λ (t : List ℕ)
 stays : (v : View) (cache : List ℕ) (a : Archive) (k : Option Content) (wanted : Done) (reply : Answer) → IsStoreWith v cache a k → wanted ≡ refused a reply → (wanted.answer ≡ reply) × IsStoreWith v cache wanted.archive k
 stays v cache a k wanted reply store is = (ap (λ (d : Done). d.answer) is, subst (λ (b : Archive). IsStoreWith v cache b k) (sym (ap (λ (d : Done). d.archive) is)) store)
 
-pub refusal-done : (v : View) (cache : List ℕ) (a : Archive) (bytes : List ℕ) (moment : ℕ) (k : Option Content) (reply : Answer) → IsStoreWith v cache a k → JudgesRead a bytes (Refuse reply) → DoneBy v cache a (delivered a bytes moment) reply k
+pub refusal-done : (v : View) (cache : List ℕ) (a : Archive) (bytes : List ℕ) (moment : ℕ) (k : Option Content) (reply : Answer) → IsStoreWith v cache a k → JudgesRead a bytes (Refuse reply) → DoneBy v cache cache a (delivered a bytes moment) reply k
 refusal-done v cache a bytes moment k answer.NoMemory store judged = store
 refusal-done v cache a bytes moment k answer.DiskFault store judged = tt
 refusal-done v cache a bytes moment k (answer.Duplicate n) store judged = let both = stays v cache a k (delivered a bytes moment) (answer.Duplicate n) store (judged moment) in record { answer_is = both.0; store = both.1 }
@@ -64,10 +64,10 @@ refusal-done v cache a bytes moment k (answer.NoText n) store judged = absurd ju
 refusal-done v cache a bytes moment k (answer.Damaged file at) store judged = absurd judged
 
 -- Where a text wasn't read, nothing was done.
-pub unread-done : (v : View) (cache : List ℕ) (a : Archive) (i : ℕ) (old new : List ℕ) (why : TextRefusal) (reply : Answer) (wanted : Done) (k : Option Content) → reply ≡ unread_answer v i why → GivesTextOf a i old new (Err why) → IsStoreWith v cache a k → DoneBy v cache a wanted reply k
-unread-done v cache a i old new reading.DiskFault reply wanted k is given store = subst (λ (r : Answer). DoneBy v cache a wanted r k) (sym is) tt
-unread-done v cache a i old new reading.NoMemory reply wanted k is given store = subst (λ (r : Answer). DoneBy v cache a wanted r k) (sym is) store
-unread-done v cache a i old new (reading.Damaged named found) reply wanted k is given store = absurd given
+pub unread-done : (v : View) (cache left : List ℕ) (a : Archive) (i : ℕ) (old new : List ℕ) (why : TextRefusal) (reply : Answer) (wanted : Done) (k : Option Content) → reply ≡ unread_answer v i why → GivesTextOf a i old new (Err why) → IsStoreWith v cache a k → DoneBy v cache left a wanted reply k
+unread-done v cache left a i old new reading.DiskFault reply wanted k is given store = subst (λ (r : Answer). DoneBy v cache left a wanted r k) (sym is) tt
+unread-done v cache left a i old new reading.NoMemory reply wanted k is given store = subst (λ (r : Answer). DoneBy v cache left a wanted r k) (sym is) store
+unread-done v cache left a i old new (reading.Damaged named found) reply wanted k is given store = absurd given
 
 -- An item for which there was room was pushed.
 pub pushed : {X : Type 0} (ok : Bool) (old new : List X) (x : X) → new ≡ (if ok then old ++ x ∷ [] else old) → ok ≡ true → new ≡ old ++ x ∷ []
