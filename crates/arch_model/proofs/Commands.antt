@@ -105,7 +105,7 @@ module _ (law : TakenAreStorage) where
       (not_before a) is
 
   edited_by : (a : Archive) (number : ℕ) (bytes : List ℕ) (moment : ℕ) (d : Done) → moment ≤ last_moment → IsArchive a → Edits a number bytes moment d → IsArchive d.archive
-  edited_by a number bytes moment d in_time valid (Unedited answer) = valid
+  edited_by a number bytes moment d in_time valid (Unedited answer other) = valid
   edited_by a number bytes moment d in_time valid (Redelivered text is) =
       let rest : Archive = without_entries a text in
       valid_by rest bytes moment (delivered rest bytes moment) in_time (valid_without a text valid) (comes rest bytes moment)
@@ -130,7 +130,7 @@ follows_purged a number d valid (Spared answer other) = follows_itself a
 follows_purged a number d valid (Dropped text is) = follows_without_text a text valid
 
 follows_edited : (a : Archive) (number : ℕ) (bytes : List ℕ) (moment : ℕ) (d : Done) → IsArchive a → Edits a number bytes moment d → Follows a d.archive
-follows_edited a number bytes moment d valid (Unedited answer) = follows_itself a
+follows_edited a number bytes moment d valid (Unedited answer other) = follows_itself a
 follows_edited a number bytes moment d valid (Redelivered text is) =
     let rest : Archive = without_entries a text in
     follows_through a rest d.archive (follows_without_text a text valid) (follows_by rest bytes moment (delivered rest bytes moment) (comes rest bytes moment))

@@ -1,5 +1,5 @@
 -- The rows of live messages after a command.
-use Rattle.std.specs.Prelude.{◌≡◌, ◌||◌, ◌<◌, ◌+◌, ℕ, Bool, true, false, not, nat_lt, List, [], ◌∷◌, Option, Some, None, Result, Ok, Err, OnOk, is_ok, if◌then◌else◌, refl}
+use Rattle.std.specs.Prelude.{◌≡◌, ◌||◌, ◌<◌, ◌+◌, ℕ, Bool, true, false, not, nat_lt, List, [], ◌∷◌, Option, Some, None, Result, Ok, Err, OnOk, is_ok, unwrap_or, if◌then◌else◌, refl}
 use Rattle.std.specs.List.{AllByRecursion}
 use Rattle.std.proofs.Common.{◌∙◌, sym, ap}
 use Rattle.arch_base.specs.declared.ids.Id20.{Id20}
@@ -11,7 +11,7 @@ use Rattle.mail_reader.specs.declared.storing.StoredRefusal.{StoredRefusal}
 use Rattle.mail_reader.specs.declared.storing.StoredRefusal.TheVariants as storing
 use Rattle.arch_model.specs.Archives.{Entry, Archive, message, with_entry, without_entries, live, messages, text_of}
 use Rattle.arch_model.specs.Candidates.{choice_of}
-use Rattle.arch_model.specs.Delivery.{Done, applied, delivered, delivered_form, delivered_choice, delivered_kept, removed_text, purged_text, edited_text, is_accepted, is_form, unless_refused, refused, new_epoch, collision}
+use Rattle.arch_model.specs.Delivery.{Done, applied, delivered, delivered_form, delivered_choice, delivered_kept, removed_text, purged, edited, purged_text, edited_text, is_accepted, is_form, unless_refused, refused, new_epoch, collision}
 use Rattle.arch_model.specs.Keeping.{StaysReady}
 use Rattle.arch_model.specs.Listings.{rows_of, row_at}
 use Rattle.arch_model.specs.Rows.{row_of}
@@ -24,12 +24,13 @@ use Rattle.arch_model.specs.declared.command.Command.{Command}
 use Rattle.arch_model.specs.declared.command.Command.TheVariants.{Deliver, Remove, Purge, Edit}
 use Rattle.arch_model.proofs.LiveEntries.{live-message, live-deletion, live-all, ids-now, without as without_number}
 use Rattle.arch_model.proofs.ValidArchives.{all_weaker}
-use Rattle.arch_model.proofs.Purging.{live_climbs, live_without, none_gone, text_gone}
+use Rattle.arch_model.proofs.Purging.{live_climbs, live_without, none_gone, text_gone, valid_without}
+use Rattle.arch_model.proofs.Rewrites.{purged_is, edited_is}
 use Rattle.arch_judge.proofs.Endings.{Ascend, live-ascend}
 use Rattle.epoch_store.specs.Stores.{View}
 use Rattle.overview_index.specs.Listings.{with_row, without}
 use Rattle.overview_index.proofs.Messages.{HasId, AllBelow, Ascends, rows-added, rows-taken}
-use Rattle.archive_core.specs.Commands.{DoneBy, OnRefusal, KeepsText, is_delivery, IfDelivery, IsLiveOf, OnDone}
+use Rattle.archive_core.specs.Commands.{DoneBy, OnRefusal, KeepsText, KeepsTextFor, is_delivery, IfDelivery, IsGone, IsLiveOf, OnDone}
 use Rattle.archive_core.specs.Engines.{needs_opening, RowsKeepUp}
 use Rattle.archive_core.specs.Walks.{RowsDone, RowsAfter, without_gone}
 
@@ -179,14 +180,40 @@ rows_gone a text (Some m) valid is =
     rows-taken (live a.entries) 1 m (live-ascends a valid)
     ∙ ap rows_of (sym (live_without a text valid ∙ text_gone 1 (live a.entries) m text (live_climbs 1 0 a.entries valid.order) (ids-now a.entries valid.ids) is))
 
-pub done-rows : (a : Archive) (command : Command) (moment n : ℕ) (id : Id20) (text : List ℕ) (old new : List (ℕ × Row)) → IsArchive a → (applied a command moment).answer ≡ answer.Ok n id → IfDelivery (is_delivery command) (KeepsText a (applied a command moment) moment text)
-    → old ≡ rows_of (live a.entries) → RowsDone command n text moment old new → new ≡ rows_of (live (applied a command moment).archive.entries)
-done-rows a (Deliver bytes) moment n id text old new valid is kept old_is new_is = with_kept a (delivered a bytes.now moment).archive text moment n old new valid old_is (mirror_next a.config.mirror a bytes.now moment n id is) kept new_is
-done-rows a (Remove number) moment n id text old new valid is kept old_is new_is =
+one_text : (found : Option (List ℕ)) (text other : List ℕ) → found ≡ Some text → found ≡ Some other → text ≡ other
+one_text found text other is was = ap (λ (o : Option (List ℕ)). unwrap_or o text) (sym is ∙ was)
+
+purge_rows : (a : Archive) (number n : ℕ) (id : Id20) (gone : Option ℕ) (old new : List (ℕ × Row)) → IsArchive a → (purged a number).answer ≡ answer.Ok n id → IsGone a (Purge number) gone → old ≡ rows_of (live a.entries) → new ≡ without_gone old gone → new ≡ rows_of (live (purged a number).archive.entries)
+purge_rows a number n id gone old new valid is taken old_is new_is =
+    let dropped = purged_is a number n id is in
+    let same : taken.0 ≡ dropped.0 = one_text (text_of (messages a.entries) number) taken.0 dropped.0 taken.1 dropped.1 in
+    new_is
+    ∙ ap (λ rs. without_gone rs gone) old_is
+    ∙ rows_gone a taken.0 gone valid taken.2
+    ∙ ap (λ (t : List ℕ). rows_of (live (without_entries a t).entries)) same
+    ∙ ap (λ (b : Archive). rows_of (live b.entries)) (sym dropped.2)
+
+edit_rows : (a : Archive) (number : ℕ) (bytes : List ℕ) (moment n : ℕ) (id : Id20) (text : List ℕ) (gone : Option ℕ) (old new : List (ℕ × Row)) → IsArchive a → (edited a number bytes moment).answer ≡ answer.Ok n id
+    → (was : List ℕ) × (text_of (live a.entries) number ≡ Some was) × KeepsText (without_entries a was) (edited a number bytes moment) moment text → gone ≡ Some number
+    → old ≡ rows_of (live a.entries) → new ≡ with_row (without_gone old gone) (row_of n text moment) → new ≡ rows_of (live (edited a number bytes moment).archive.entries)
+edit_rows a number bytes moment n id text gone old new valid is kept gone_is old_is new_is =
+    let redone = edited_is a number bytes moment n id is in
+    let same : kept.0 ≡ redone.0 = one_text (text_of (live a.entries) number) kept.0 redone.0 kept.1 redone.1 in
+    let rest : Archive = without_entries a kept.0 in
+    let answer_is : (delivered rest bytes moment).answer ≡ answer.Ok n id = ap (λ (t : List ℕ). (delivered (without_entries a t) bytes moment).answer) same ∙ sym (ap (λ (d : Done). d.answer) redone.2) ∙ is in
+    let rows_are : without_gone old gone ≡ rows_of (live rest.entries) = ap (λ (g : Option ℕ). without_gone old g) gone_is ∙ ap (λ rs. without_gone rs (Some number)) old_is ∙ rows_gone a kept.0 (Some number) valid kept.1 in
+    with_kept rest (edited a number bytes moment).archive text moment n (without_gone old gone) new (valid_without a kept.0 valid) rows_are (mirror_next rest.config.mirror rest bytes moment n id answer_is) kept.2 new_is
+
+pub done-rows : (a : Archive) (command : Command) (moment n : ℕ) (id : Id20) (text : List ℕ) (gone : Option ℕ) (old new : List (ℕ × Row)) → IsArchive a → (applied a command moment).answer ≡ answer.Ok n id → IfDelivery (is_delivery command) (KeepsTextFor command a (applied a command moment) moment text)
+    → IsGone a command gone → old ≡ rows_of (live a.entries) → RowsDone command gone n text moment old new → new ≡ rows_of (live (applied a command moment).archive.entries)
+done-rows a (Deliver bytes) moment n id text gone old new valid is kept taken old_is new_is = with_kept a (delivered a bytes.now moment).archive text moment n old new valid old_is (mirror_next a.config.mirror a bytes.now moment n id is) kept new_is
+done-rows a (Remove number) moment n id text gone old new valid is kept taken old_is new_is =
     new_is
     ∙ ap (λ rs. without rs number) old_is
     ∙ rows-taken (live a.entries) 1 number (live-ascends a valid)
     ∙ ap rows_of (sym (removed_gone a.config.mirror a number moment n id is))
+done-rows a (Purge number) moment n id text gone old new valid is kept taken old_is new_is = purge_rows a number n id gone old new valid is taken old_is new_is
+done-rows a (Edit number bytes) moment n id text gone old new valid is kept taken old_is new_is = edit_rows a number bytes.now moment n id text gone old new valid is kept taken old_is new_is
 
 -- What holds if a result is Ok.
 pub on-ok : {T E : Type 0} (r : Result T E) (P : Type 0) → OnOk r P → is_ok r ≡ true → P
@@ -207,21 +234,21 @@ same-rows : (a : Archive) (command : Command) (moment : ℕ) (old new : List (�
 same-rows a command moment old new old_is same never = same ∙ old_is ∙ ap (λ (b : Archive). rows_of (live b.entries)) (sym (applied-keeps a command moment never))
 
 -- The rows keep up with a command, however it was answered.
-pub kept-up : (a : Archive) (command : Command) (moment : ℕ) (text : List ℕ) (v : View) (cache : List ℕ) (content : Option Content) (old new : List (ℕ × Row)) (ready ok : Bool) (reply : Answer) → IsArchive a → old ≡ rows_of (live a.entries)
-    → DoneBy v cache a (applied a command moment) reply content → IfDelivery (is_delivery command) (OnDone reply (KeepsText a (applied a command moment) moment text)) → (ready ≡ true → ok ≡ true) → OnRefusal reply (ok ≡ true)
-    → (ok ≡ true → RowsAfter command reply text moment old new) → RowsKeepUp reply ready new a (applied a command moment).archive
-kept-up a command moment text v cache content old new ready ok (answer.Ok number id) valid old_is done kept followed refused rows = λ now. done-rows a command moment number id text old new valid done.answer_is kept old_is (rows (followed now))
-kept-up a command moment text v cache content old new ready ok answer.NoMemory valid old_is done kept followed refused rows = rows refused ∙ old_is
-kept-up a command moment text v cache content old new ready ok answer.DiskFault valid old_is done kept followed refused rows = tt
-kept-up a command moment text v cache content old new ready ok (answer.Damaged file at) valid old_is done kept followed refused rows = tt
-kept-up a command moment text v cache content old new ready ok (answer.Duplicate number) valid old_is done kept followed refused rows = same-rows a command moment old new old_is (rows refused) (λ n id is. (let wrong : (answer.Duplicate number) ≡ answer.Ok n id = sym done.answer_is ∙ is in cc))
-kept-up a command moment text v cache content old new ready ok answer.NoFields valid old_is done kept followed refused rows = same-rows a command moment old new old_is (rows refused) (λ n id is. (let wrong : answer.NoFields ≡ answer.Ok n id = sym done.answer_is ∙ is in cc))
-kept-up a command moment text v cache content old new ready ok (answer.TooLarge len) valid old_is done kept followed refused rows = same-rows a command moment old new old_is (rows refused) (λ n id is. (let wrong : (answer.TooLarge len) ≡ answer.Ok n id = sym done.answer_is ∙ is in cc))
-kept-up a command moment text v cache content old new ready ok (answer.Full max) valid old_is done kept followed refused rows = same-rows a command moment old new old_is (rows refused) (λ n id is. (let wrong : (answer.Full max) ≡ answer.Ok n id = sym done.answer_is ∙ is in cc))
-kept-up a command moment text v cache content old new ready ok (answer.Collision number) valid old_is done kept followed refused rows = same-rows a command moment old new old_is (rows refused) (λ n id is. (let wrong : (answer.Collision number) ≡ answer.Ok n id = sym done.answer_is ∙ is in cc))
-kept-up a command moment text v cache content old new ready ok (answer.NotLive number) valid old_is done kept followed refused rows = same-rows a command moment old new old_is (rows refused) (λ n id is. (let wrong : (answer.NotLive number) ≡ answer.Ok n id = sym done.answer_is ∙ is in cc))
-kept-up a command moment text v cache content old new ready ok answer.IsMirror valid old_is done kept followed refused rows = same-rows a command moment old new old_is (rows refused) (λ n id is. (let wrong : answer.IsMirror ≡ answer.Ok n id = sym done.answer_is ∙ is in cc))
-kept-up a command moment text v cache content old new ready ok (answer.NoText number) valid old_is done kept followed refused rows = absurd done
+pub kept-up : (a : Archive) (command : Command) (moment : ℕ) (text : List ℕ) (gone : Option ℕ) (v : View) (cache left : List ℕ) (content : Option Content) (old new : List (ℕ × Row)) (ready ok : Bool) (reply : Answer) → IsArchive a → old ≡ rows_of (live a.entries)
+    → DoneBy v cache left a (applied a command moment) reply content → IfDelivery (is_delivery command) (OnDone reply (KeepsTextFor command a (applied a command moment) moment text)) → OnDone reply (IsGone a command gone) → (ready ≡ true → ok ≡ true) → OnRefusal reply (ok ≡ true)
+    → (ok ≡ true → RowsAfter command gone reply text moment old new) → RowsKeepUp reply ready new a (applied a command moment).archive
+kept-up a command moment text gone v cache left content old new ready ok (answer.Ok number id) valid old_is done kept taken followed refused rows = λ now. done-rows a command moment number id text gone old new valid done.answer_is kept taken old_is (rows (followed now))
+kept-up a command moment text gone v cache left content old new ready ok answer.NoMemory valid old_is done kept taken followed refused rows = rows refused ∙ old_is
+kept-up a command moment text gone v cache left content old new ready ok answer.DiskFault valid old_is done kept taken followed refused rows = tt
+kept-up a command moment text gone v cache left content old new ready ok (answer.Damaged file at) valid old_is done kept taken followed refused rows = tt
+kept-up a command moment text gone v cache left content old new ready ok (answer.Duplicate number) valid old_is done kept taken followed refused rows = same-rows a command moment old new old_is (rows refused) (λ n id is. (let wrong : (answer.Duplicate number) ≡ answer.Ok n id = sym done.answer_is ∙ is in cc))
+kept-up a command moment text gone v cache left content old new ready ok answer.NoFields valid old_is done kept taken followed refused rows = same-rows a command moment old new old_is (rows refused) (λ n id is. (let wrong : answer.NoFields ≡ answer.Ok n id = sym done.answer_is ∙ is in cc))
+kept-up a command moment text gone v cache left content old new ready ok (answer.TooLarge len) valid old_is done kept taken followed refused rows = same-rows a command moment old new old_is (rows refused) (λ n id is. (let wrong : (answer.TooLarge len) ≡ answer.Ok n id = sym done.answer_is ∙ is in cc))
+kept-up a command moment text gone v cache left content old new ready ok (answer.Full max) valid old_is done kept taken followed refused rows = same-rows a command moment old new old_is (rows refused) (λ n id is. (let wrong : (answer.Full max) ≡ answer.Ok n id = sym done.answer_is ∙ is in cc))
+kept-up a command moment text gone v cache left content old new ready ok (answer.Collision number) valid old_is done kept taken followed refused rows = same-rows a command moment old new old_is (rows refused) (λ n id is. (let wrong : (answer.Collision number) ≡ answer.Ok n id = sym done.answer_is ∙ is in cc))
+kept-up a command moment text gone v cache left content old new ready ok (answer.NotLive number) valid old_is done kept taken followed refused rows = same-rows a command moment old new old_is (rows refused) (λ n id is. (let wrong : (answer.NotLive number) ≡ answer.Ok n id = sym done.answer_is ∙ is in cc))
+kept-up a command moment text gone v cache left content old new ready ok answer.IsMirror valid old_is done kept taken followed refused rows = same-rows a command moment old new old_is (rows refused) (λ n id is. (let wrong : answer.IsMirror ≡ answer.Ok n id = sym done.answer_is ∙ is in cc))
+kept-up a command moment text gone v cache left content old new ready ok (answer.NoText number) valid old_is done kept taken followed refused rows = same-rows a command moment old new old_is (rows refused) (λ n id is. (let wrong : (answer.NoText number) ≡ answer.Ok n id = sym done.answer_is ∙ is in cc))
 
 -- It needn't be reopened after a refusal by the rules, and must be after a fault.
 pub stays-ready : (stale ok : Bool) (reply : Answer) → stale ≡ (needs_opening reply || not ok) → OnRefusal reply (ok ≡ true) → StaysReady true reply (not stale)
