@@ -297,7 +297,7 @@ module _ {D : Type 0} (content : D → Option Content) (moment : D → ℕ) (lef
     taken-at (answer.Damaged file at) stale never rows untouched = absurd never
 
   -- A removal that was done leaves the archive after it held.
-  removed_by : (e new : Owning D) (a : Archive) (n arrived : ℕ) (text : List ℕ) (reply : Answer) → (held : Holds content e a) → DoneBy new.view held.0 a (applied a (Remove n) arrived) reply (content new.disk) → RowsAfter (Remove n) reply text arrived e.rows new.rows
+  removed_by : (e new : Owning D) (a : Archive) (n arrived : ℕ) (text : List ℕ) (reply : Answer) → (held : Holds content e a) → DoneBy new.view held.0 held.0 a (applied a (Remove n) arrived) reply (content new.disk) → RowsAfter (Remove n) reply text arrived e.rows new.rows
       → OnDone reply (Holds content new (applied a (Remove n) arrived).archive)
   removed_by e new a n arrived text (answer.Ok number id) held done rows = (held.0, done.store, done-rows a (Remove n) arrived number id text e.rows new.rows (store_keeps e.view held.0 a (content e.disk) held.1).valid done.answer_is tt held.2 rows)
   removed_by e new a n arrived text answer.NoMemory held done rows = tt

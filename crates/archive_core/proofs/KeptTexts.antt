@@ -77,3 +77,18 @@ for-delivery (Deliver bytes) reply delivers is = is
 for-delivery (Remove number) reply delivers is = absurd (cc)
 for-delivery (Purge number) reply delivers is = absurd (cc)
 for-delivery (Edit number bytes) reply delivers is = delivery-edit number reply is
+
+-- What holds in any case holds after Ok.
+pub when-done : (reply : Answer) (P : Type 0) → P → OnDone reply P
+when-done (answer.Ok number id) P is = is
+when-done (answer.Duplicate number) P is = tt
+when-done answer.NoFields P is = tt
+when-done (answer.TooLarge len) P is = tt
+when-done (answer.Full max) P is = tt
+when-done (answer.Collision number) P is = tt
+when-done (answer.NotLive number) P is = tt
+when-done (answer.NoText number) P is = tt
+when-done answer.IsMirror P is = tt
+when-done answer.DiskFault P is = tt
+when-done (answer.Damaged file at) P is = tt
+when-done answer.NoMemory P is = tt

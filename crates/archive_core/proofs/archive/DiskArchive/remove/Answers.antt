@@ -57,7 +57,7 @@ pub returns-clause-done : goal.returns-clause-done
 returns-clause-done g c = λ a cache store room.
     let k = g.D.Disk.content c.args.disk.now in
     let own = subst (λ (v : View). IsStoreWith v cache a k) (sym c.self.view_is) store in
-    unread-done c.args.self.now cache a c.in-Some.index c.new-text.result c.text.new.into c.in-Err.refusal c.unread.result (removed a c.args.number c.args.moment) (g.D.Disk.content c.text.new.disk) c.unread.ensures (c.in-Err.ensures.archive a cache own)
+    unread-done c.args.self.now cache cache a c.in-Some.index c.new-text.result c.text.new.into c.in-Err.refusal c.unread.result (removed a c.args.number c.args.moment) (g.D.Disk.content c.text.new.disk) c.unread.ensures (c.in-Err.ensures.archive a cache own)
     (still_own c.args.self.now cache a k (g.D.Disk.content c.text.new.disk) c.text.ensures.same store)
 
 pub returns-in-Ok-clause-unmoved : goal.returns-in-Ok-clause-unmoved

@@ -1,6 +1,6 @@
 use Rattle.std.proofs.Common.{◌≡◌, ◌∙◌, ◌||◌, ℕ, List, false, not, is_ok, ap, sym, subst}
 use Rattle.arch_model.specs.Keeping.{text_known}
-use Rattle.archive_core.specs.Commands.{is_delivery}
+use Rattle.archive_core.specs.Commands.{cache_left, is_delivery}
 use Rattle.epoch_store.specs.Stores.{IsStoreWith}
 use Rattle.archive_core.specs.Engines.{Owning, needs_opening, reading-same}
 use Rattle.arch_model.specs.Archives.{Archive}
@@ -47,9 +47,9 @@ returns-clause-stands g c =
     wanted reply (λ needs. stale_is ∙ needs-stale (needs_opening reply) ok needs)
     (λ a cache store. c.command_keeping-answer.ensures.taken.any_moment a cache store room) (λ a cache store. c.command_keeping-answer.ensures.taken.done a cache store room)
     (λ a cache store old_is.
-    kept-up a c.args.command.now c.args.moment c.as_slice-kept.result.now c.command_keeping-answer.new.self cache (g.D.Disk.content c.command_keeping-answer.new.disk) c.self.inside.views c.follow-followed.new.views (not c.is_left_stale-self-inside.result) ok reply
+    kept-up a c.args.command.now c.args.moment c.as_slice-kept.result.now c.command_keeping-answer.new.gone c.command_keeping-answer.new.self cache (cache_left c.args.command.now cache) (g.D.Disk.content c.command_keeping-answer.new.disk) c.self.inside.views c.follow-followed.new.views (not c.is_left_stale-self-inside.result) ok reply
     (store_keeps c.self.inside.archive cache a (g.D.Disk.content c.self.inside.disk) store).valid old_is (c.command_keeping-answer.ensures.taken.done a cache store room)
-    (rw c.as_slice-kept.ensures (c.command_keeping-answer.ensures.kept a cache store)) (λ ready. followed-ready (needs_opening reply) ok (ap not (sym stale_is) ∙ ready)) c.follow-followed.ensures.refused
+    (rw c.as_slice-kept.ensures (c.command_keeping-answer.ensures.kept a cache store)) (c.command_keeping-answer.ensures.gone a cache store) (λ ready. followed-ready (needs_opening reply) ok (ap not (sym stale_is) ∙ ready)) c.follow-followed.ensures.refused
     (λ went. on-ok c.follow-followed.result _ c.follow-followed.ensures.rows went))
     c.command_keeping-answer.ensures.taken.untouched
 
