@@ -21,8 +21,8 @@ use Rattle.arch_base.specs.Moments.{last_moment}
 use Rattle.arch_model.specs.declared.command.Command.TheVariants.{Deliver, Remove, Purge, Edit}
 use Rattle.arch_model.proofs.Deliveries.{Comes, Refused, Accepted, comes, Ends, Still, Ended, ends}
 use Rattle.arch_model.proofs.ValidArchives.{all_weaker, not_before, Agrees, archive_grows, archive_ends}
-use Rattle.arch_model.proofs.Following.{follows_itself, follows_through, follows_with_entry, follows_with_deletion, number_below}
-use Rattle.arch_model.proofs.Purging.{valid_without, follows_without_text}
+use Rattle.arch_model.proofs.Following.{follows_itself, follows_through, follows_with_entry, follows_with_deletion, follows_without_text, number_below}
+use Rattle.arch_model.proofs.Purging.{valid_without}
 use Rattle.arch_model.proofs.Rewrites.{Purges, Spared, Dropped, purges, Edits, Unedited, Redelivered, edits}
 use Rattle.arch_model.proofs.LiveEntries.{live-all, found-has, live-has, all-text}
 use Rattle.arch_model.proofs.Owners.{bytes_eq-refl, front_free}
@@ -125,19 +125,19 @@ follows_ended : (a : Archive) (number moment : ℕ) (d : Done) → Ends a number
 follows_ended a number moment d (Still answer other) = follows_itself a
 follows_ended a number moment d (Ended text is) = follows_with_deletion a number (new_epoch a) text moment
 
-follows_purged : (a : Archive) (number : ℕ) (d : Done) → IsArchive a → Purges a number d → Follows a d.archive
-follows_purged a number d valid (Spared answer other) = follows_itself a
-follows_purged a number d valid (Dropped text is) = follows_without_text a text valid
+follows_purged : (a : Archive) (number : ℕ) (d : Done) → Purges a number d → Follows a d.archive
+follows_purged a number d (Spared answer other) = follows_itself a
+follows_purged a number d (Dropped text is) = follows_without_text a text
 
-follows_edited : (a : Archive) (number : ℕ) (bytes : List ℕ) (moment : ℕ) (d : Done) → IsArchive a → Edits a number bytes moment d → Follows a d.archive
-follows_edited a number bytes moment d valid (Unedited answer other) = follows_itself a
-follows_edited a number bytes moment d valid (Redelivered text is) =
+follows_edited : (a : Archive) (number : ℕ) (bytes : List ℕ) (moment : ℕ) (d : Done) → Edits a number bytes moment d → Follows a d.archive
+follows_edited a number bytes moment d (Unedited answer other) = follows_itself a
+follows_edited a number bytes moment d (Redelivered text is) =
     let rest : Archive = without_entries a text in
-    follows_through a rest d.archive (follows_without_text a text valid) (follows_by rest bytes moment (delivered rest bytes moment) (comes rest bytes moment))
+    follows_through a rest d.archive (follows_without_text a text) (follows_by rest bytes moment (delivered rest bytes moment) (comes rest bytes moment))
 
--- The archive after a command follows the valid one before it.
+-- The archive after a command follows the one before it.
 pub command_follows : CommandFollows
-command_follows a (Deliver bytes) moment valid = follows_by a bytes.now moment (delivered a bytes.now moment) (comes a bytes.now moment)
-command_follows a (Remove number) moment valid = follows_ended a number moment (removed a number moment) (ends a number moment)
-command_follows a (Purge number) moment valid = follows_purged a number (purged a number) valid (purges a number)
-command_follows a (Edit number bytes) moment valid = follows_edited a number bytes.now moment (edited a number bytes.now moment) valid (edits a number bytes.now moment)
+command_follows a (Deliver bytes) moment = follows_by a bytes.now moment (delivered a bytes.now moment) (comes a bytes.now moment)
+command_follows a (Remove number) moment = follows_ended a number moment (removed a number moment) (ends a number moment)
+command_follows a (Purge number) moment = follows_purged a number (purged a number) (purges a number)
+command_follows a (Edit number bytes) moment = follows_edited a number bytes.now moment (edited a number bytes.now moment) (edits a number bytes.now moment)

@@ -1,4 +1,4 @@
--- Without the entries of a text an archive is valid, and follows.
+-- Without the entries of a text an archive is valid.
 use Rattle.std.specs.Prelude.{◌≡◌, ◌≢◌, ◌+◌, ◌<◌, ◌≤◌, ◌==◌, ℕ, Bool, true, false, not, ◌&&◌, List, [], ◌∷◌, ◌++◌, Option, Some, None, refl, if◌then◌else◌}
 use Rattle.std.specs.List.{AllByRecursion, filter}
 use Rattle.std.specs.Str.{bytes_eq}
@@ -10,7 +10,6 @@ use Rattle.git_objects.specs.declared.entry_kind.EntryKind.{EntryKind}
 use Rattle.git_objects.specs.declared.entry_kind.EntryKind.TheVariants.{Message, Deletion}
 use Rattle.mail_reader.specs.Ids.{own_id}
 use Rattle.arch_model.specs.Archives.{Entry, Archive, message, deletion, is_message, is_ended, live, messages, text_of, without_text, without_entries}
-use Rattle.arch_model.specs.Following.{FollowsWithoutText}
 use Rattle.arch_model.specs.Validity.{IsEntry, IsFrom, number_after, Rise, AtEachPlace, EndsLive, IdsDiffer, LiveDiffer, BlobsAgree, IsArchive}
 use Rattle.arch_model.proofs.LiveEntries.{live-message, live-deletion, without, found-has, all-text}
 
@@ -309,14 +308,6 @@ valid_without a text valid =
       blobs = kept_blobs (other text) a.entries valid.blobs;
     }
 
--- It follows the archive with them.
-pub follows_without_text : FollowsWithoutText
-follows_without_text a text valid = record {
-  next = omega arith;
-  texts = λ n old less is.
-      kept_found (other text) 1 (messages a.entries) n old (messages_climb 1 0 a.entries valid.order) (sym (ap (λ (l : List Entry). text_of l n) (messages_kept (other text) a.entries)) ∙ is);
-}
-
 -- Texts that differ are told apart.
 test_false : (x y : List ℕ) (t : Bool) → bytes_eq x y ≡ t → x ≢ y → bytes_eq x y ≡ false
 test_false x y true is apart = absurd (apart ((bytes_eq-Decides x y).0 is))
@@ -358,7 +349,7 @@ text_gone low (e ∷ es) m text climbs differ is = gone_step (e.number == m) m t
 own_found : (e : Entry) (es : List Entry) → text_of (e ∷ es) e.number ≡ Some e.text
 own_found e es = let same : (e.number == e.number) ≡ true = grind (arith, nat_tests) in ap (λ (b : Bool). if b then Some e.text else text_of es e.number) same
 
-later_found : (t : Bool) (n : ℕ) (text : List ℕ) (e : Entry) (es : List Entry) → (e.number == n) ≡ t → Climbs (e.number + 1) es → text_of es n ≡ Some text → text_of (e ∷ es) n ≡ Some text
+pub later_found : (t : Bool) (n : ℕ) (text : List ℕ) (e : Entry) (es : List Entry) → (e.number == n) ≡ t → Climbs (e.number + 1) es → text_of es n ≡ Some text → text_of (e ∷ es) n ≡ Some text
 later_found true n text e es test climbs is =
     absurd (let same : e.number ≡ n = grind (arith, nat_tests, test) in let more : e.number + 1 ≤ n = climbs_above (e.number + 1) es n text climbs is in omega (arith, same, more))
 later_found false n text e es test climbs is = ap (λ (b : Bool). if b then Some e.text else text_of es n) test ∙ is

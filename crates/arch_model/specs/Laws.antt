@@ -74,10 +74,10 @@ abbrev pub KeepsValid : Type 0
 KeepsValid = (a : Archive) (command : Command) (moment : ℕ) → moment ≤ last_moment → IsArchive a
     → IsArchive (applied a command moment).archive
 
--- The archive after a command follows the valid one before it: over all commands, a number that named
--- a text never names another one, nor comes back once it was purged.
+-- The archive after a command follows the one before it: over all commands, a number that named a text
+-- never names another one, nor comes back once it was purged.
 abbrev pub CommandFollows : Type 0
-CommandFollows = (a : Archive) (command : Command) (moment : ℕ) → IsArchive a
+CommandFollows = (a : Archive) (command : Command) (moment : ℕ)
     → Follows a (applied a command moment).archive
 
 -- The message that goes in comes out: the number of an accepted message has the text that the

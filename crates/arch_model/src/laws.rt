@@ -40,8 +40,8 @@ pub fn first_candidate_decides()
 
 /// Shows that no number of an archive ever names a second message.
 ///
-/// An archive with one more message follows, so does one with one more deletion, and so does a valid
-/// one without the entries of a text. What follows has under an old number the same text, or none,
+/// An archive with one more message follows, so does one with one more deletion, and so does one
+/// without the entries of a text. What follows has under an old number the same text, or none,
 /// and shows the same text, or none.
 #[tactic(auto, using(crate::proofs::Following::follows_itself, crate::proofs::Following::follows_through))]
 pub fn law_of_numbers()
@@ -66,7 +66,7 @@ pub fn law_of_taken_texts()
 }
 
 /// Shows that a command up to the last moment leaves a valid archive valid, and that the archive
-/// after any command follows the valid one before it.
+/// after any command follows the one before it.
 #[tactic(auto, using(crate::proofs::Commands::command_follows))]
 pub fn law_of_commands()
     ensures valid { KeepsValid }

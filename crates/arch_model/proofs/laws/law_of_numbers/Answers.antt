@@ -1,5 +1,4 @@
-use Rattle.arch_model.proofs.Following.{follows_with_entry, follows_with_deletion, numbers_stay, shown_stay}
-use Rattle.arch_model.proofs.Purging.{follows_without_text}
+use Rattle.arch_model.proofs.Following.{follows_with_entry, follows_with_deletion, follows_without_text, numbers_stay, shown_stay}
 use Rattle.arch_model.proofs.laws.law_of_numbers.Goals as goal
 
 pub returns-clause-with_entry : goal.returns-clause-with_entry
