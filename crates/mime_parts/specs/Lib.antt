@@ -8,4 +8,5 @@ pub mod Trees
 pub mod Visiting
 pub mod QuotedPrintable
 pub mod Texts
+pub mod Words
 pub mod Laws

@@ -82,14 +82,14 @@ fn push_leaf(alloc: Global, part: &Part, bytes: &[u8], into: &mut Bytes) -> Resu
 }
 
 /// Returns whether a leaf is shown as text.
-fn is_shown(part: &Part) -> bool
+pub(crate) fn is_shown(part: &Part) -> bool
     ensures { result ≡ is_shown part.now }
 {
     part.major.as_slice().eq_ignore_ascii_case(b"text") && !part.attached
 }
 
 /// Returns the text of bytes in a charset.
-fn read_in(alloc: Global, charset: &[u8], bytes: &[u8]) -> Result<String, NoMemory>
+pub(crate) fn read_in(alloc: Global, charset: &[u8], bytes: &[u8]) -> Result<String, NoMemory>
     ensures { IfOk result (λ text. string_bytes text ≡ read_in charset.now bytes.now) }
 {
     if charset.eq_ignore_ascii_case(b"iso-8859-1") {

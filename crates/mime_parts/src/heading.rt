@@ -106,7 +106,7 @@ fn is_identity(name: &[u8]) -> bool
 }
 
 /// Returns the value of the first field with a name.
-fn first_value<'a>(bytes: &'a [u8], name: &[u8]) -> Option<&'a [u8]>
+pub(crate) fn first_value<'a>(bytes: &'a [u8], name: &[u8]) -> Option<&'a [u8]>
     ensures { option_copied result
         ≡ option_map (λ (field : FieldText). field.value) (first_named name.now (fields_of bytes.now)) }
 {

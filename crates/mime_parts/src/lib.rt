@@ -1,4 +1,5 @@
-//! Divides a mail into its parts, decodes them, and shows its body as text (RFC 2045 and RFC 2046).
+//! Divides a mail into its parts, decodes them, shows its body as text (RFC 2045 and RFC 2046), and
+//! gives its words.
 #![tactic(auto)]
 
 mod content_type;
@@ -7,6 +8,7 @@ mod delimiters;
 mod heading;
 mod laws;
 mod lexemes;
+mod mail_words;
 mod params;
 mod part;
 mod place;
@@ -15,5 +17,6 @@ mod visiting;
 
 pub use decoding::{body_text, decode_part};
 pub use laws::{bodies_are_divided, parts_are_a_tree};
+pub use mail_words::words;
 pub use part::{Encoding, Part, Parts, Shape, Span};
 pub use visiting::tree;

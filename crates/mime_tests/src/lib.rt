@@ -23,3 +23,5 @@ mod limit_tests;
 mod shown;
 #[cfg(test)]
 mod tree_tests;
+#[cfg(test)]
+mod words_tests;

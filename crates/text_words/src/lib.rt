@@ -1,8 +1,10 @@
 //! The words of texts, by which messages are searched.
 #![tactic(auto)]
 
+mod sets;
 mod word_lists;
 mod words;
 
+pub use sets::word_set;
 pub use word_lists::WordLists;
 pub use words::{MAX_WORD_LEN, push_words};
