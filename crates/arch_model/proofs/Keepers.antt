@@ -1,11 +1,11 @@
 -- What follows for whoever calls a keeper.
-use Rattle.std.proofs.Common.{◌≡◌, ℕ, Bool, true, false, List, [], ◌∷◌, ◌++◌, Option, Some, None, inl, inr, refl, sym, ap, subst, ◌∙◌, arith}
+use Rattle.std.proofs.Common.{◌≡◌, ℕ, Bool, true, false, List, [], ◌∷◌, ◌++◌, Option, Some, None, Result, Ok, Err, inl, inr, refl, sym, ap, subst, ◌∙◌, arith}
 use Rattle.std.specs.List.{Contains}
 use Rattle.std.proofs.lemmas.Bool.{false≢true}
 use Rattle.arch_model.specs.Archives.{Archive}
 use Rattle.arch_model.specs.Delivery.{Done}
 use Rattle.arch_model.specs.Standing.{Standing, standing, with_doubt, one_of, IsFound}
-use Rattle.arch_model.specs.Keeping.{HasDoubt, Has, HasAll, Passes, Fits, Moves, OnlyRead, Settles, Ending, Accepts, Refuses, Starves, Fails, Breaks, StaysShut, ComesBy, Comes, StaysReady, CauseBy, AnswerCause, OpeningWhy, opening_answer}
+use Rattle.arch_model.specs.Keeping.{HasDoubt, Has, HasAll, Passes, Fits, Moves, OnlyRead, Settles, Reopens, Ending, Accepts, Refuses, Starves, Fails, Breaks, StaysShut, ComesBy, Comes, StaysReady, CauseBy, AnswerCause, OpeningWhy, opening_answer}
 use Rattle.arch_model.specs.Untold.{HoldsNone, LeavesUntold}
 use Rattle.arch_model.specs.declared.answer.Answer.{Answer}
 use Rattle.arch_model.specs.declared.opening.OpenRefusal.{OpenRefusal}
@@ -43,6 +43,17 @@ all-split may (s ∷ ss) ts has = let rest = all-split may ss ts has.1 in ((has.
 pub found-one : (b x : Archive) → IsFound (standing b None) x → x ≡ b
 found-one b x (inl older) = older
 found-one b x (inr no_doubt) = absurd (cc)
+
+-- What a reopening leaves where nothing was in doubt.
+settled-sure : (a : Archive) (t : Standing) → Settles (standing a None) t → t ≡ standing a None
+settled-sure a t settles = ap (λ (x : Archive). standing x t.doubt) (found-one a t.archive settles.found) ∙ ap (λ (doubt : Option Archive). standing a doubt) settles.sure
+
+pub reopens-sure : (a : Archive) (t : Standing) (result : Result ℕ OpenRefusal) → Reopens (standing a None) result t → t ≡ standing a None
+reopens-sure a t (Ok x) settles = settled-sure a t settles
+reopens-sure a t (Err opening.DiskFault) same = same
+reopens-sure a t (Err opening.NoMemory) same = same
+reopens-sure a t (Err opening.NoArchive) never = absurd never
+reopens-sure a t (Err (opening.Damaged file at)) never = absurd never
 
 -- Found through a reopening.
 found-through : (s t : Standing) (x : Archive) → Settles s t → IsFound (standing t.archive None) x → IsFound s x

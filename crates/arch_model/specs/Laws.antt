@@ -1,5 +1,5 @@
 -- The laws of deliveries and removals.
-use Rattle.std.specs.Prelude.{◌≡◌, ◌≢◌, ◌<◌, ◌≤◌, ◌^◌, ℕ, zero, suc, List, Option, Some, None, IsSome, Ok, length}
+use Rattle.std.specs.Prelude.{◌≡◌, ◌≢◌, ◌<◌, ◌≤◌, ◌^◌, ℕ, zero, suc, List, Option, Some, None, IsSome, Result, Ok, length}
 use Rattle.arch_base.specs.declared.ids.Id20.{Id20}
 use Rattle.arch_base.specs.Names.{IsName}
 use Rattle.mail_reader.specs.StorageTexts.{IsStorageText}
@@ -11,6 +11,8 @@ use Rattle.arch_model.specs.Candidates.{made_id, with_made, met, choice_of}
 use Rattle.arch_model.specs.Delivery.{delivered, removed, applied}
 use Rattle.arch_model.specs.Following.{Follows}
 use Rattle.arch_model.specs.Validity.{IsArchive}
+use Rattle.arch_model.specs.Standing.{Standing, standing}
+use Rattle.arch_model.specs.Keeping.{Reopens}
 use Rattle.arch_base.specs.Moments.{last_moment}
 use Rattle.arch_model.specs.declared.answer.Answer.TheVariants as answer
 use Rattle.arch_model.specs.declared.choice.Meeting.{Meeting}
@@ -18,6 +20,7 @@ use Rattle.arch_model.specs.declared.choice.Meeting.TheVariants.{Free, Same, Oth
 use Rattle.arch_model.specs.declared.choice.Choice.{Choice}
 use Rattle.arch_model.specs.declared.choice.Choice.TheVariants.{Take, Repeat}
 use Rattle.arch_model.specs.declared.command.Command.{Command}
+use Rattle.arch_model.specs.declared.opening.OpenRefusal.{OpenRefusal}
 
 -- Each live number is at least 1 and below the next one.
 abbrev pub IsNumbered : Archive → Type 0
@@ -109,3 +112,9 @@ FirstDecides =
     (a : Archive) (text : List ℕ) → length (live a.entries) < 2 ^ 63
     → ((k : ℕ) × IsChosenAt a text k (choice_of a text))
     × ((k : ℕ) (choice : Choice) → IsChosenAt a text k choice → choice ≡ choice_of a text)
+
+-- Where nothing is in doubt, a keeper that reads its files again stands for the archive that it stood
+-- for, whether it answers with the number of live messages or refuses.
+abbrev pub ReindexStays : Type 0
+ReindexStays = (a : Archive) (t : Standing) (result : Result ℕ OpenRefusal)
+    → Reopens (standing a None) result t → t ≡ standing a None

@@ -12,6 +12,7 @@ pub mod Rows
 pub mod Shelves
 pub mod Standing
 pub mod Threading
+pub mod Searching
 pub mod Untold
 pub mod Validity
 pub mod Walking

@@ -1,8 +1,8 @@
 //! The trait of keepers: shelves that also carry out commands, and can be reopened.
-ghost use Rattle.std.specs.Prelude.{◌≡◌, ◌≤◌, Bool, true, false, not, List, [], ◌∷◌, Option, Some, is_ok};
+ghost use Rattle.std.specs.Prelude.{◌≡◌, ◌≤◌, Bool, true, false, not, List, [], ◌∷◌, Option, Some, is_ok, IfOk, length};
 ghost use Rattle.std.specs.List.{Contains};
 ghost use Rattle.arch_base.specs.Moments.{last_moment};
-ghost use Rattle.arch_model.specs.Archives.{Archive, in_epoch};
+ghost use Rattle.arch_model.specs.Archives.{Archive, in_epoch, live};
 ghost use Rattle.arch_model.specs.Delivery.{applied};
 ghost use Rattle.arch_model.specs.Keeping.{Passes, Fits, Moves, OnlyRead, Reopens, Comes, StaysReady, AnswerCause, OpeningCause, text_known};
 ghost use Rattle.arch_model.specs.Shelves.{AppendsTo, Stays, ReadCause, ReadsOnce};
@@ -44,6 +44,23 @@ pub trait Keep: Shelf {
         ensures found { (s : Standing) → Fits Self.holds Self.ready leaves self.old s
             → (t : Standing) × Moves Self.holds Self.ready leaves self.old s self.new t
             × Reopens s result t }
+        ensures any_moment { (s : Standing) → Fits Self.holds Self.ready leaves self.old s
+            → Passes leaves self.old self.new [] }
+        ensures ready { Self.ready self.new ≡ is_ok result }
+        ensures later { Self.faults self.old ≤ Self.faults self.new }
+        ensures cause { OpeningCause (Self.faults self.old) (Self.faults self.new) result };
+
+    /// Reads the files again and rebuilds from them what is kept beside them, as the rows of live
+    /// messages, their threads and their words. Returns the number of live messages.
+    ///
+    /// Finds what `fresh` of a stale keeper finds: with no command in doubt, the archive that was
+    /// held, so each answer is the one that would be given without it. After a refusal the keeper is
+    /// stale. `DiskFault` if the disk failed, and the count of faults rose; any other result leaves
+    /// the count. `NoMemory` if an allocation fails.
+    fn reindex(&mut self) -> Result<u32, OpenRefusal>
+        ensures found { (s : Standing) → Fits Self.holds Self.ready leaves self.old s
+            → (t : Standing) × Moves Self.holds Self.ready leaves self.old s self.new t
+            × Reopens s result t × IfOk result (λ count. count ≡ length (live t.archive.entries)) }
         ensures any_moment { (s : Standing) → Fits Self.holds Self.ready leaves self.old s
             → Passes leaves self.old self.new [] }
         ensures ready { Self.ready self.new ≡ is_ok result }

@@ -2,7 +2,7 @@
 //! and of epochs that grow.
 ghost use Rattle.arch_model.specs.Epochs.{EpochGrows};
 ghost use Rattle.arch_model.specs.Following.{FollowsItself, FollowsThrough, FollowsWithEntry, FollowsWithDeletion, NumbersStay, ShownStay};
-ghost use Rattle.arch_model.specs.Laws.{CommandFollows, FirstDecides, KeepsNumbers, KeepsValid, StaysNumbered, ShowsDelivered, TakenAreStorage, TakesFromView};
+ghost use Rattle.arch_model.specs.Laws.{CommandFollows, FirstDecides, KeepsNumbers, KeepsValid, ReindexStays, StaysNumbered, ShowsDelivered, TakenAreStorage, TakesFromView};
 
 use mail_reader::{field_in_front, forms_are_short, id_line_is_kept, stored_once};
 
@@ -72,4 +72,12 @@ pub fn law_of_commands()
 /// Shows that one more entry in an epoch appends its bytes, and leaves those before it unchanged.
 pub fn epoch_grows()
     ensures { EpochGrows }
+{}
+
+/// Shows that with no command in doubt a keeper that rebuilds what it keeps beside the files stands
+/// for the same archive after it.
+///
+/// So each answer after `Keep::reindex` is one that would be given without it.
+pub fn reindex_keeps_the_archive()
+    ensures { ReindexStays }
 {}

@@ -21,12 +21,14 @@ pub use keep::Keep;
 pub use laws::{
     delivered_is_shown, epoch_grows, first_candidate_decides, law_of_commands, law_of_numbers,
     law_of_taken_texts, numbers_keep_their_texts, numbers_stay_below_the_next,
+    reindex_keeps_the_archive,
 };
 pub use line::EntryLine;
 pub use mail_commits::{EntryIds, entry_commit, push_entry};
 pub use mail_forms::Row;
 pub use next::Next;
 pub use opening::OpenRefusal;
+pub use query_lang::Query;
 pub use shelf::{Shelf, is_live};
 pub use text_refusal::TextRefusal;
 pub use walked::Walked;

@@ -5,11 +5,13 @@ ghost use Rattle.arch_model.specs.Listings.{row_in, number_of_id, listing};
 ghost use Rattle.arch_model.specs.Shelves.{IsGreatestLive, live_between, line_at, GivesBlobIn, AppendsTo, Stays, ReadCause, ReadsOnce};
 ghost use Rattle.arch_model.specs.Standing.{IsLeastLive, GivesTextIn, KeepsUnlessFound};
 ghost use Rattle.arch_model.specs.Threading.{thread_in};
+ghost use Rattle.arch_model.specs.Searching.{search};
 
 use crate::line::EntryLine;
 use crate::text_refusal::TextRefusal;
 use arch_base::{Bytes, Config, NoMemory, Numbers, ObjectId};
 use mail_forms::Row;
+use query_lang::Query;
 
 /// A shelf: a value that gives the entries, the texts and the rows of one archive.
 ///
@@ -87,6 +89,15 @@ pub trait Shelf {
         requires ready { ready self.now ≡ true }
         ensures { (a : Archive) → holds self.now a
             → IfOk result (λ numbers. numbers ≡ thread_in (live a.entries) n) };
+
+    /// Returns the numbers of the live messages that match a query, newest first, in the order of
+    /// `order_page`. Reads no text.
+    ///
+    /// `NoMemory` if an allocation fails.
+    fn search(&self, query: &Query) -> Result<Numbers, NoMemory>
+        requires ready { ready self.now ≡ true }
+        ensures { (a : Archive) → holds self.now a
+            → IfOk result (λ numbers. numbers ≡ search query.now (live a.entries)) };
 
     /// Returns the entry at an index, from 0, without its text, or `None` if there are not so many.
     fn entry(&self, index: u64) -> Option<EntryLine>
