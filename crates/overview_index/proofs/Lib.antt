@@ -6,3 +6,4 @@ pub mod Indexing
 pub mod SpotLaws
 pub mod Pages
 pub mod Messages
+pub mod NewestFirst

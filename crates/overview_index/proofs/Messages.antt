@@ -43,7 +43,7 @@ unfolding row_of id_fact
 row-id e q has = id_step (own_id e.text) q has
 
 -- The tests for a number.
-at_is : (n m : ℕ) → is_at (nat_cmp n) m ≡ (m == n)
+pub at_is : (n m : ℕ) → is_at (nat_cmp n) m ≡ (m == n)
 at_is n m = by (nat_lt n m) (n == m) (m == n) refl refl refl where
   by : (t u v : Bool) → nat_lt n m ≡ t → (n == m) ≡ u → (m == n) ≡ v → is_eq (cond t Less (cond u Equal Greater)) ≡ v
   by true u true a b c = absurd (let less = ltb-true n m a in let same : m ≡ n = eqb-true m n c in omega (arith, less, same))
@@ -159,7 +159,7 @@ listing-is es = numbers_of_pairs (reverse (spots (rows_of es))) ∙ ap (map numb
 abbrev pub AllBelow : ℕ → List Entry → Type 0
 AllBelow n es = AllByRecursion (λ (e : Entry). e.number < n) es
 
-above_front : (n m : ℕ) → m < n → nat_cmp n m ≡ Greater
+pub above_front : (n m : ℕ) → m < n → nat_cmp n m ≡ Greater
 above_front n m below = by (nat_lt n m) (n == m) refl refl where
   by : (t u : Bool) → nat_lt n m ≡ t → (n == m) ≡ u → cond t Less (cond u Equal Greater) ≡ Greater
   by true u a b = absurd (let less = ltb-true n m a in omega (arith, less, below))
@@ -198,7 +198,7 @@ other_front n m less = by (m == n) refl where
   by true e = absurd (let same : m ≡ n = eqb-true m n e in omega (arith, same, less))
   by false e = refl
 
-none-below : (es : List Entry) (n number : ℕ) → Ascends number es → n < number → without_number n es ≡ es
+pub none-below : (es : List Entry) (n number : ℕ) → Ascends number es → n < number → without_number n es ≡ es
 none-below [] n number ascends less = refl
 none-below (e ∷ es) n number ascends less =
     let above : number ≤ e.number = ascends.0 in

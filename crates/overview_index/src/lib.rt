@@ -2,6 +2,7 @@
 #![tactic(auto)]
 
 mod laws;
+mod newest;
 mod overview;
 mod spot;
 mod views;

@@ -1,7 +1,8 @@
 //! The rows of mails by number, by id, and by date and number.
 ghost use Rattle.std.specs.Prelude.{◌≡◌, [], map, take, drop, None, IfOk, OnOk, OnErr, is_some, option_copied};
-ghost use Rattle.overview_index.specs.Listings.{row_in, number_of, number_at, with_row, without, listing, live_between, IsLeastFrom, IsGreatestTo};
+ghost use Rattle.overview_index.specs.Listings.{row_in, number_of, number_at, with_row, without, listing, rows_numbered, live_between, IsLeastFrom, IsGreatestTo};
 
+use crate::newest::newest_first;
 use crate::spot::Spot;
 use crate::views::Views;
 use arch_base::{NoMemory, Numbers};
@@ -132,6 +133,16 @@ impl Overview {
     {
         let spots = self.views.dates.page(skip as usize, count as usize)?;
         numbers_of(self.alloc, spots.as_slice())
+    }
+
+    /// Returns the numbers of these that have a row, newest first: by the seconds of their dates, and
+    /// then by number, both falling. Each is returned once.
+    ///
+    /// With k numbers it takes k steps of the logarithm of n each. `NoMemory` if an allocation fails.
+    pub fn newest_first(&self, numbers: &[u64]) -> Result<Numbers, NoMemory>
+        ensures { IfOk result (λ found. found ≡ listing (rows_numbered self.now numbers.now)) }
+    {
+        newest_first(self.alloc, &self.rows, numbers)
     }
 }
 

@@ -93,10 +93,17 @@ fn pages_by_date(overview: &Overview) -> Result<bool, NoMemory> {
     )
 }
 
+/// Returns whether those of some numbers that have a row come newest first, and each once.
+fn some_by_date(overview: &Overview) -> Result<bool, NoMemory> {
+    let some = overview.newest_first(&[1, 9, 3, 9, 2, 4_294_967_297, 4])?;
+    let none = overview.newest_first(&[3])?;
+    Ok(are(&some, &[9, 4, 1, 2]) && are(&none, &[]))
+}
+
 /// Returns whether an overview of the rows, added in an order, finds and pages them.
 fn is_right(alloc: Global, order: &[usize; 7]) -> Result<bool, NoMemory> {
     let overview = overview_of(alloc, order)?;
-    Ok(finds_each(&overview) && pages_by_date(&overview)?)
+    Ok(finds_each(&overview) && pages_by_date(&overview)? && some_by_date(&overview)?)
 }
 
 #[test]
