@@ -1,11 +1,11 @@
 -- Rows with their keys, and what a change of the rows makes of them.
-use Rattle.std.specs.Prelude.{◌≡◌, ℕ, Bool, true, false, List, [], ◌∷◌, Result, Ok, Err, OnOk, OnErr, is_ok, None, refl}
+use Rattle.std.specs.Prelude.{◌≡◌, ◌⊎◌, ℕ, Bool, true, false, List, [], ◌∷◌, Result, Ok, Err, OnOk, OnErr, is_ok, None, refl}
 use Rattle.std.specs.declared.cmp.Ordering.{Ordering}
 use Rattle.std.specs.declared.cmp.Ordering.TheVariants.{Less, Equal, Greater}
 use Rattle.std.specs.Ordering.{nat_cmp, match_ordering}
 use Rattle.std.specs.BTreeMap.{is_at, insert_entry}
 use Rattle.std.specs.Map.{remove_entry}
-use Rattle.std.proofs.Common.{◌∙◌, sym, ap, cond, inl, inr}
+use Rattle.std.proofs.Common.{◌∙◌, sym, ap, subst, cond, inl, inr}
 use Rattle.std.proofs.lemmas.Bool.{false≢true}
 use Rattle.mail_forms.specs.declared.row.Row.{Row}
 use Rattle.overview_index.specs.Listings.{row_in, with_row, without}
@@ -65,6 +65,11 @@ threaded-taken rows old new n threaded becomes = λ whole.
 -- Threads that aren't whole are those of any rows.
 pub threaded-not : (rows : List (ℕ × Row)) (threads : Threads) → threads.whole ≡ false → AreThreaded rows threads
 threaded-not rows threads broken = λ whole. absurd (false≢true (sym broken ∙ whole))
+
+-- Threads that were left as they were, or that aren't whole, are those of the rows as before.
+pub threaded-either : (rows : List (ℕ × Row)) (old new : Threads) → AreThreaded rows old → (new ≡ old) ⊎ (new.whole ≡ false) → AreThreaded rows new
+threaded-either rows old new threaded (inl same) = subst (λ (t : Threads). AreThreaded rows t) (sym same) threaded
+threaded-either rows old new threaded (inr broken) = threaded-not rows new broken
 
 -- A row that was added and taken again leaves the rows as they were.
 pub taken-back : (rows : List (ℕ × Row)) (row : Row) (n : ℕ) → n ≡ row.number → row_in rows row.number ≡ None → without (with_row rows row) n ≡ rows

@@ -1,20 +1,20 @@
--- What was walked through so far, and the rows of its live messages.
+-- What was walked through so far, and the views of its live messages.
 use Rattle.std.specs.Prelude.{◌≡◌, ◌+◌, ◌<◌, ◌≤◌, ◌&&◌, ℕ, zero, suc, Bool, true, false, not, List, [], ◌∷◌, ◌++◌, length, take, slice_get, Some, None, refl, if◌then◌else◌}
 use Rattle.std.proofs.Common.{◌∙◌, sym, ap, subst, arith}
 use Rattle.git_objects.specs.declared.entry_kind.EntryKind.{EntryKind}
 use Rattle.git_objects.specs.declared.entry_kind.EntryKind.TheVariants.{Message, Deletion}
-use Rattle.mail_forms.specs.declared.row.Row.{Row}
+use Rattle.mime_parts.specs.Words.{mail_words}
 use Rattle.arch_model.specs.Archives.{Entry, Archive, message, deletion, is_message, is_ended, live}
-use Rattle.arch_model.specs.Listings.{rows_of}
 use Rattle.arch_model.specs.Rows.{row_of}
 use Rattle.arch_model.specs.Shelves.{line_after, lines_after, line_at}
 use Rattle.arch_model.specs.Validity.{IsArchive, IsFrom, Rise, number_after}
 use Rattle.arch_model.specs.Walking.{WalksOn}
 use Rattle.arch_model.specs.declared.line.EntryLine.{EntryLine}
 use Rattle.arch_model.proofs.LiveEntries.{live-message, live-deletion, without as without_number}
-use Rattle.overview_index.specs.Listings.{with_row, without}
-use Rattle.overview_index.proofs.Messages.{AllBelow, Ascends, rows-added, rows-taken}
+use Rattle.overview_index.proofs.Messages.{AllBelow, Ascends}
+use Rattle.view_set.specs.Viewed.{Viewed, with_mail, without_mail, views_of}
 use Rattle.view_set.specs.Walks.{AddsRowAt}
+use Rattle.view_set.proofs.MailLists.{mails-added, mails-taken}
 
 only : {X : Type 0} (x y : X) → Some x ≡ Some y → x ≡ y
 only x y is = cc
@@ -29,7 +29,7 @@ ascends_step Message true number e xs low rest = ascends-low number (e.number + 
 ascends_step Message false number e xs low rest = (low, rest)
 ascends_step Deletion ended number e xs low rest = rest
 
-live-ascends : (number epoch : ℕ) (es : List Entry) → Rise number epoch es → Ascends number (live es)
+pub live-ascends : (number epoch : ℕ) (es : List Entry) → Rise number epoch es → Ascends number (live es)
 live-ascends number epoch [] rise = tt
 live-ascends number epoch (e ∷ es) rise = ascends_step e.kind (is_ended es e.number) number e (live es) rise.0 (live-ascends (number_after e.kind number e.number) e.epoch es rise.2)
 
@@ -90,10 +90,10 @@ as_message e is = ap (λ (k : EntryKind). let f : Entry = record { kind = k; num
 as_deletion : (e : Entry) → e.kind ≡ Deletion → e ≡ deletion e.number e.epoch e.text e.moment
 as_deletion e is = ap (λ (k : EntryKind). let f : Entry = record { kind = k; number = e.number; epoch = e.epoch; text = e.text; moment = e.moment } in f) is
 
--- The rows with one message more.
-pub rows-message : (a : Archive) (i : ℕ) (line : EntryLine) (old new : List (ℕ × Row)) → IsArchive a → line_at a.entries i ≡ Some line → line.kind ≡ Message → old ≡ rows_of (live (take i a.entries)) → AddsRowAt a.entries i line.number line.secs old new
-    → new ≡ rows_of (live (take (i + 1) a.entries))
-rows-message a i line old new valid is kind old_is adds =
+-- The views with one message more.
+pub views-message : (a : Archive) (i : ℕ) (line : EntryLine) (old new : Viewed) → IsArchive a → line_at a.entries i ≡ Some line → line.kind ≡ Message → old ≡ views_of (live (take i a.entries)) → AddsRowAt a.entries i line.number line.secs old new
+    → new ≡ views_of (live (take (i + 1) a.entries))
+views-message a i line old new valid is kind old_is adds =
     let at = line-entry [] a.entries i line is in
     let e : Entry = at.entry in
     let more : take (i + 1) a.entries ≡ take i a.entries ++ e ∷ [] = take-more a.entries i e at.there in
@@ -102,18 +102,19 @@ rows-message a i line old new valid is kind old_is adds =
     ap (λ (f : Entry). live (take i a.entries ++ f ∷ [])) one ∙ live-message (take i a.entries) e.number e.epoch e.text e.moment ∙ ap (λ (f : Entry). live (take i a.entries) ++ f ∷ []) (sym one) in
     let rise : Ascends 1 (live (take i a.entries) ++ e ∷ []) = subst (λ (l : List Entry). Ascends 1 l) (ap live more ∙ grows) (live-ascends 1 0 (take (i + 1) a.entries) (rise-take 1 0 (i + 1) a.entries valid.order)) in
     let text_is : adds.0 ≡ e.text = sym adds.1.2 ∙ ap (λ (f : Entry). f.text) (only adds.1.0 e (sym adds.1.1 ∙ at.there)) in
+    let before : Viewed = views_of (live (take i a.entries)) in
     adds.2
-    ∙ ap (λ rs. with_row rs (row_of line.number adds.0 line.secs)) old_is
-    ∙ ap (λ n. with_row (rows_of (live (take i a.entries))) (row_of n adds.0 line.secs)) (sym at.number)
-    ∙ ap (λ t. with_row (rows_of (live (take i a.entries))) (row_of e.number t line.secs)) text_is
-    ∙ ap (λ m. with_row (rows_of (live (take i a.entries))) (row_of e.number e.text m)) (sym at.secs)
-    ∙ rows-added (live (take i a.entries)) e (last_above 1 (live (take i a.entries)) e rise).1
-    ∙ ap rows_of (sym (ap live more ∙ grows))
+    ∙ ap (λ (v : Viewed). with_mail v (row_of line.number adds.0 line.secs) (mail_words adds.0)) old_is
+    ∙ ap (λ n. with_mail before (row_of n adds.0 line.secs) (mail_words adds.0)) (sym at.number)
+    ∙ ap (λ t. with_mail before (row_of e.number t line.secs) (mail_words t)) text_is
+    ∙ ap (λ m. with_mail before (row_of e.number e.text m) (mail_words e.text)) (sym at.secs)
+    ∙ mails-added (live (take i a.entries)) e (last_above 1 (live (take i a.entries)) e rise).1
+    ∙ ap views_of (sym (ap live more ∙ grows))
 
 -- And with one deletion more.
-pub rows-deletion : (a : Archive) (i : ℕ) (line : EntryLine) (old new : List (ℕ × Row)) → IsArchive a → line_at a.entries i ≡ Some line → line.kind ≡ Deletion → old ≡ rows_of (live (take i a.entries)) → new ≡ without old line.number
-    → new ≡ rows_of (live (take (i + 1) a.entries))
-rows-deletion a i line old new valid is kind old_is new_is =
+pub views-deletion : (a : Archive) (i : ℕ) (line : EntryLine) (old new : Viewed) → IsArchive a → line_at a.entries i ≡ Some line → line.kind ≡ Deletion → old ≡ views_of (live (take i a.entries)) → new ≡ without_mail old line.number
+    → new ≡ views_of (live (take (i + 1) a.entries))
+views-deletion a i line old new valid is kind old_is new_is =
     let at = line-entry [] a.entries i line is in
     let e : Entry = at.entry in
     let more : take (i + 1) a.entries ≡ take i a.entries ++ e ∷ [] = take-more a.entries i e at.there in
@@ -122,15 +123,15 @@ rows-deletion a i line old new valid is kind old_is new_is =
     ap (λ (f : Entry). live (take i a.entries ++ f ∷ [])) one ∙ live-deletion (take i a.entries) e.number e.epoch e.text e.moment in
     let rise : Ascends 1 (live (take i a.entries)) = live-ascends 1 0 (take i a.entries) (rise-take 1 0 i a.entries valid.order) in
     new_is
-    ∙ ap (λ rs. without rs line.number) old_is
-    ∙ ap (λ n. without (rows_of (live (take i a.entries))) n) (sym at.number)
-    ∙ rows-taken (live (take i a.entries)) 1 e.number rise
-    ∙ ap rows_of (sym (ap live more ∙ shrinks))
+    ∙ ap (λ (v : Viewed). without_mail v line.number) old_is
+    ∙ ap (λ n. without_mail (views_of (live (take i a.entries))) n) (sym at.number)
+    ∙ mails-taken (live (take i a.entries)) 1 e.number rise
+    ∙ ap views_of (sym (ap live more ∙ shrinks))
 
 -- What was walked through so far.
-pub record Filled {W : Type 0} (holds : W → Archive → Type 0) (sound : W → Type 0) (lines : W → List EntryLine) (alike : W → W → Type 0) (faults : W → ℕ) (old new : W) (index : ℕ) (rows : List (ℕ × Row)) : Type 0 where
+pub record Filled {W : Type 0} (holds : W → Archive → Type 0) (sound : W → Type 0) (lines : W → List EntryLine) (alike : W → W → Type 0) (faults : W → ℕ) (old new : W) (index : ℕ) (views : Viewed) : Type 0 where
   pub walk : WalksOn holds sound lines alike faults old new
-  pub rows_are : (a : Archive) → holds old a → rows ≡ rows_of (live (take index a.entries))
+  pub views_are : (a : Archive) → holds old a → views ≡ views_of (live (take index a.entries))
   pub steady : faults new ≡ faults old
 
 module _ {W : Type 0} (holds : W → Archive → Type 0) (sound : W → Type 0) (lines : W → List EntryLine) (alike : W → W → Type 0) (faults : W → ℕ) (alike_same : (w : W) → alike w w) (alike_joined : (w x y : W) → alike w x → alike x y → alike w y) where

@@ -1,3 +1,4 @@
 pub mod Threads
+pub mod Viewed
 pub mod Walks
 pub mod Laws

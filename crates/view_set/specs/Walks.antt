@@ -1,11 +1,11 @@
 -- What a walk through entries makes of the rows of live messages.
 use Rattle.std.specs.Prelude.{◌≡◌, ◌<◌, ℕ, List, Result, Ok, Err}
-use Rattle.mail_forms.specs.declared.row.Row.{Row}
 use Rattle.arch_model.specs.Archives.{Entry}
 use Rattle.arch_model.specs.Rows.{row_of}
 use Rattle.arch_model.specs.Shelves.{ReadingWhy, IsUndamaged}
 use Rattle.arch_model.specs.Walking.{HasTextAt}
-use Rattle.overview_index.specs.Listings.{with_row}
+use Rattle.mime_parts.specs.Words.{mail_words}
+use Rattle.view_set.specs.Viewed.{Viewed, with_mail}
 use Rattle.view_set.specs.declared.rebuilding.Unread.{Unread}
 
 -- Why a text of what is walked through wasn't read, or that memory ran out.
@@ -23,7 +23,8 @@ abbrev pub StopsWithin : {T : Type 0} → ℕ → Result T Unread → Type 0
 StopsWithin count (Ok rows) = Unit {0}
 StopsWithin count (Err unread) = unread.index < count
 
--- The row of the text of the entry at an index was added, with a number and a moment.
-abbrev pub AddsRowAt : List Entry → ℕ → ℕ → ℕ → List (ℕ × Row) → List (ℕ × Row) → Type 0
+-- The row and the words of the text of the entry at an index were added, with a number and a moment.
+abbrev pub AddsRowAt : List Entry → ℕ → ℕ → ℕ → Viewed → Viewed → Type 0
 AddsRowAt entries index number moment old new =
-    (text : List ℕ) × HasTextAt entries index text × (new ≡ with_row old (row_of number text moment))
+    (text : List ℕ) × HasTextAt entries index text
+    × (new ≡ with_mail old (row_of number text moment) (mail_words text))

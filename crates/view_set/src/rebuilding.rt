@@ -1,7 +1,7 @@
 //! The views of what is walked through.
-ghost use Rattle.std.specs.Prelude.{◌≡◌, ◌+◌, ◌<◌, ℕ, [], Some, take, length, slice_get, IfOk, IfErr, OnOk};
+ghost use Rattle.std.specs.Prelude.{◌≡◌, ◌+◌, ◌<◌, ℕ, Some, take, length, slice_get, IfOk, IfErr, OnOk};
 ghost use Rattle.arch_model.specs.Archives.{Archive, live};
-ghost use Rattle.arch_model.specs.Listings.{rows_of};
+ghost use Rattle.view_set.specs.Viewed.{views_of, no_mails};
 ghost use Rattle.arch_model.specs.Shelves.{line_at, ReadCause, IsUndamaged};
 ghost use Rattle.arch_model.specs.Walking.{WalksOn};
 ghost use Rattle.view_set.specs.Walks.{AddsRowAt, WalkWhy, WalksUndamaged, StopsWithin};
@@ -13,7 +13,7 @@ use arch_model::{EntryLine, TextRefusal, Walked};
 use git_objects::EntryKind;
 use std::alloc::Global;
 
-/// An entry whose text wasn't read, or for whose row or threads memory ran out.
+/// An entry whose text wasn't read, or for whose row, words or threads memory ran out.
 #[derive(Drop)]
 pub struct Unread {
     /// The index of the entry.
@@ -23,14 +23,14 @@ pub struct Unread {
 }
 
 /// Returns the views of the live messages of what is walked through: those that its deliveries and
-/// removals would have made. Reads each message once.
+/// removals would have made. Reads each message once, for its row and its words.
 ///
 /// A refusal has the index of the entry at which the walk stopped. `DiskFault` if a read failed, and
 /// the count of faults rose; `Damaged` if a text has another id than its entry's blob, which never
 /// happens while an archive is held; `NoMemory` if an allocation fails.
 pub fn rebuild<W: Walked>(alloc: Global, walked: &mut W) -> Result<Views, Unread>
     ensures rows { (a : Archive) → W.holds walked.old a
-        → IfOk result (λ views. views ≡ rows_of (live a.entries)) }
+        → IfOk result (λ views. views ≡ views_of (live a.entries)) }
     ensures undamaged { (a : Archive) → W.holds walked.old a → WalksUndamaged result }
     ensures sound { W.sound walked.old → WalksUndamaged result }
     ensures within { StopsWithin (length (W.lines walked.old)) result }
@@ -46,9 +46,9 @@ pub fn rebuild<W: Walked>(alloc: Global, walked: &mut W) -> Result<Views, Unread
 
 /// Adds the live messages of what is walked through to no views.
 fn fill<W: Walked>(alloc: Global, walked: &mut W, views: &mut Views) -> Result<(), Unread>
-    requires none { views.old ≡ rows_of [] }
+    requires none { views.old ≡ no_mails }
     ensures rows { (a : Archive) → W.holds walked.old a
-        → OnOk result (views.new ≡ rows_of (live a.entries)) }
+        → OnOk result (views.new ≡ views_of (live a.entries)) }
     ensures undamaged { (a : Archive) → W.holds walked.old a → WalksUndamaged result }
     ensures sound { W.sound walked.old → WalksUndamaged result }
     ensures within { StopsWithin (length (W.lines walked.old)) result }
@@ -72,8 +72,8 @@ fn fill<W: Walked>(alloc: Global, walked: &mut W, views: &mut Views) -> Result<(
     Ok(())
 }
 
-/// Takes one more entry into views: adds the row of a message, or takes the row of the one that it
-/// ends.
+/// Takes one more entry into views: adds the row and the words of a message, or takes those of the one
+/// that it ends.
 fn take_line<W: Walked>(
     alloc: Global,
     walked: &mut W,
@@ -85,8 +85,8 @@ fn take_line<W: Walked>(
     requires there { index < length (W.lines walked.old) }
     requires archive { (a : Archive) → W.holds walked.old a → line_at a.entries index ≡ Some line.now }
     ensures rows { (a : Archive) → W.holds walked.old a
-        → views.old ≡ rows_of (live (take index a.entries))
-        → OnOk result (views.new ≡ rows_of (live (take (index + 1) a.entries))) }
+        → views.old ≡ views_of (live (take index a.entries))
+        → OnOk result (views.new ≡ views_of (live (take (index + 1) a.entries))) }
     ensures undamaged { (a : Archive) → W.holds walked.old a → IfErr result IsUndamaged }
     ensures sound { W.sound walked.old → IfErr result IsUndamaged }
     ensures walk { WalksOn W.holds W.sound W.lines W.alike W.faults walked.old walked.new }
@@ -101,7 +101,7 @@ fn take_line<W: Walked>(
     }
 }
 
-/// Reads the text of a message, and adds its row to views.
+/// Reads the text of a message, and adds its row and its words to views.
 fn add_message<W: Walked>(
     alloc: Global,
     walked: &mut W,

@@ -1,20 +1,23 @@
-//! The rows of texts.
+//! The rows and words of texts.
 ghost use Rattle.std.specs.Prelude.{◌≡◌, OnOk, OnErr};
 ghost use Rattle.git_objects.specs.Objects.{blob_id_of};
 ghost use Rattle.mail_reader.specs.StorageTexts.{IsStorageText};
 ghost use Rattle.arch_model.specs.Rows.{row_of as row_fact};
-ghost use Rattle.overview_index.specs.Listings.{with_row};
+ghost use Rattle.mime_parts.specs.Words.{mail_words};
+ghost use Rattle.view_set.specs.Viewed.{with_mail};
 
 use crate::views::Views;
 use arch_base::{NoMemory, ObjectId};
 use mail_reader::is_stored;
 use mail_rows::row_of;
+use mime_parts::words;
 use std::alloc::Global;
 
-/// Adds the row of a message, by its number, its blob id, its text and the moment of its arrival.
+/// Adds the row and the words of a message, by its number, its blob id, its text and the moment of
+/// its arrival.
 ///
 /// `NoMemory` if an allocation fails, or if a row has the number or the own id, which no two live
-/// messages of an archive have. It leaves the rows unchanged.
+/// messages of an archive have. It leaves rows and words unchanged.
 pub fn add_row(
     alloc: Global,
     views: &mut Views,
@@ -25,20 +28,22 @@ pub fn add_row(
 ) -> Result<(), NoMemory>
     requires text { IsStorageText text.now }
     requires blob { blob.now ≡ blob_id_of text.now }
-    ensures ok { OnOk result (views.new ≡ with_row views.old (row_fact number text.now moment)) }
+    ensures ok { OnOk result (views.new ≡ with_mail views.old (row_fact number text.now moment)
+        (mail_words text.now)) }
     ensures err { OnErr result (views.new ≡ views.old) }
 {
     let row = row_of(alloc, number, blob, text, moment)?;
+    let words = words(alloc, text)?;
     if views.get(number).is_some() || views.by_id(row.id.as_slice()).is_some() {
         return Err(NoMemory);
     }
-    views.add(row)
+    views.add(row, words)
 }
 
-/// Adds the row of a message, as `add_row` does, if its text is a storage text, which the text of an
-/// archive's message is.
+/// Adds the row and the words of a message, as `add_row` does, if its text is a storage text, which
+/// the text of an archive's message is.
 ///
-/// `NoMemory` if it is none, and wherever `add_row` gives it. It leaves the rows unchanged.
+/// `NoMemory` if it is none, and wherever `add_row` gives it. It leaves rows and words unchanged.
 pub fn add_if_stored(
     alloc: Global,
     views: &mut Views,
@@ -48,7 +53,8 @@ pub fn add_if_stored(
     moment: u64,
 ) -> Result<(), NoMemory>
     requires { blob.now ≡ blob_id_of text.now }
-    ensures ok { OnOk result (views.new ≡ with_row views.old (row_fact number text.now moment)) }
+    ensures ok { OnOk result (views.new ≡ with_mail views.old (row_fact number text.now moment)
+        (mail_words text.now)) }
     ensures err { OnErr result (views.new ≡ views.old) }
 {
     if !is_stored(text) {

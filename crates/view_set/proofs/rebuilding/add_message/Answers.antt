@@ -2,7 +2,8 @@ use Rattle.std.proofs.Common.{◌∙◌, ℕ, List, Ok, sym, ap, subst}
 use Rattle.git_objects.specs.Objects.{blob_id_of}
 use Rattle.arch_model.specs.Rows.{row_of}
 use Rattle.arch_model.specs.Walking.{GivesLine, GivesTextAt}
-use Rattle.overview_index.specs.Listings.{with_row}
+use Rattle.mime_parts.specs.Words.{mail_words}
+use Rattle.view_set.specs.Viewed.{with_mail}
 use Rattle.view_set.proofs.rebuilding.add_message.Goals as goal
 
 -- The text that was read has the line's blob id.
@@ -15,4 +16,4 @@ add_if_stored-requires g c =
 pub returns-in-Ok-clause-row : goal.returns-in-Ok-clause-row
 returns-in-Ok-clause-row g c = λ a held.
     let given = subst (λ (l : List ℕ). GivesTextAt a.entries c.args.index l c.text.new.into (Ok tt)) c.new-text.ensures (c.in_default.ensures.archive a held) in
-    (given.0, given.1, c.in-Ok.ensures.ok ∙ ap (λ (t : List ℕ). with_row c.args.views.now (row_of c.args.line.now.number t c.args.line.now.secs)) (c.as_slice-bytes.ensures ∙ given.2))
+    (given.0, given.1, c.in-Ok.ensures.ok ∙ ap (λ (t : List ℕ). with_mail c.args.views.now (row_of c.args.line.now.number t c.args.line.now.secs) (mail_words t)) (c.as_slice-bytes.ensures ∙ given.2))

@@ -1,6 +1,6 @@
 use Rattle.std.proofs.Common.{◌∙◌, ◌<◌, length, sym, ap, subst, arith, rules, []}
 use Rattle.arch_model.specs.Archives.{live}
-use Rattle.arch_model.specs.Listings.{rows_of}
+use Rattle.view_set.specs.Viewed.{views_of}
 use Rattle.arch_model.proofs.Shelving.{why-earlier}
 use Rattle.view_set.proofs.Walking.{walks-same, walks-joined, take-zero, take-all, line-within}
 use Rattle.view_set.proofs.rebuilding.fill.Goals as goal
@@ -8,7 +8,7 @@ use Rattle.view_set.proofs.rebuilding.fill.Goals as goal
 pub loop-line-init : goal.loop-line-init
 loop-line-init g c = record {
   walk = walks-same g.W.Walked.holds g.W.Walked.sound g.W.Walked.lines g.W.Walked.alike g.W.Walked.faults g.met.W.Walked.alike_same g.met.W.Walked.alike_joined c.args.walked.now;
-  rows_are = λ a held. c.requires.none ∙ ap (λ es. rows_of (live es)) (sym (take-zero a.entries));
+  views_are = λ a held. c.requires.none ∙ ap (λ es. views_of (live es)) (sym (take-zero a.entries));
   steady = search rules;
 }
 
@@ -28,14 +28,14 @@ loop-line-smaller g c =
 pub loop-line-preserved : goal.loop-line-preserved
 loop-line-preserved g c = record {
   walk = walks-joined g.W.Walked.holds g.W.Walked.sound g.W.Walked.lines g.W.Walked.alike g.W.Walked.faults g.met.W.Walked.alike_same g.met.W.Walked.alike_joined c.args.walked.now c.loop-line.walked c.take_line.new.walked c.loop-line.invariant.walk c.take_line.ensures.walk;
-  rows_are = λ a held. rw c.in-Some-checked_add.ensures.1 (c.in_default-take_line.ensures.rows a (c.loop-line.invariant.walk.kept a held) (c.loop-line.invariant.rows_are a held));
+  views_are = λ a held. rw c.in-Some-checked_add.ensures.1 (c.in_default-take_line.ensures.rows a (c.loop-line.invariant.walk.kept a held) (c.loop-line.invariant.views_are a held));
   steady = c.in_default-take_line.ensures.cause ∙ c.loop-line.invariant.steady;
 }
 
 pub returns-clause-rows : goal.returns-clause-rows
 returns-clause-rows g c = λ a held.
-    c.loop-line.invariant.rows_are a held
-    ∙ ap (λ es. rows_of (live es)) (take-all [] a.entries c.loop-line.index (sym (c.in_default.ensures.archive a (c.loop-line.invariant.walk.kept a held))))
+    c.loop-line.invariant.views_are a held
+    ∙ ap (λ es. views_of (live es)) (take-all [] a.entries c.loop-line.index (sym (c.in_default.ensures.archive a (c.loop-line.invariant.walk.kept a held))))
 
 pub returns-in-Err-clause-cause : goal.returns-in-Err-clause-cause
 returns-in-Err-clause-cause g c = why-earlier (g.W.Walked.faults c.args.walked.now) (g.W.Walked.faults c.loop-line.walked) (g.W.Walked.faults c.take_line.new.walked) c.in-Err.why c.loop-line.invariant.steady c.in-Err.ensures.cause

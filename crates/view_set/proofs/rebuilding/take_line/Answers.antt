@@ -1,15 +1,15 @@
 use Rattle.view_set.proofs.Results.{on-weaker}
-use Rattle.view_set.proofs.Walking.{rows-message, rows-deletion, walks-same}
+use Rattle.view_set.proofs.Walking.{views-message, views-deletion, walks-same}
 use Rattle.view_set.proofs.rebuilding.take_line.Goals as goal
 
 pub returns-in-Message-clause-rows : goal.returns-in-Message-clause-rows
 returns-in-Message-clause-rows g c = λ a held old_is.
-    on-weaker c.add_message.result _ _ (λ adds. rows-message a c.args.index c.args.line.now c.args.views.now c.add_message.new.views (g.met.W.Walked.holds_valid c.args.walked.now a held) (c.requires.archive a held) c.in-Message.is old_is adds)
+    on-weaker c.add_message.result _ _ (λ adds. views-message a c.args.index c.args.line.now c.args.views.now c.add_message.new.views (g.met.W.Walked.holds_valid c.args.walked.now a held) (c.requires.archive a held) c.in-Message.is old_is adds)
     (c.add_message.ensures.row a held)
 
 pub returns-in-Ok-clause-rows : goal.returns-in-Ok-clause-rows
 returns-in-Ok-clause-rows g c = λ a held old_is.
-    rows-deletion a c.args.index c.args.line.now c.args.views.now c.take.new.self (g.met.W.Walked.holds_valid c.args.walked.now a held) (c.requires.archive a held) c.in-Deletion.is old_is c.take.ensures
+    views-deletion a c.args.index c.args.line.now c.args.views.now c.take.new.self (g.met.W.Walked.holds_valid c.args.walked.now a held) (c.requires.archive a held) c.in-Deletion.is old_is c.take.ensures
 
 pub returns-in-Ok-clause-walk : goal.returns-in-Ok-clause-walk
 returns-in-Ok-clause-walk g c = walks-same g.W.Walked.holds g.W.Walked.sound g.W.Walked.lines g.W.Walked.alike g.W.Walked.faults g.met.W.Walked.alike_same g.met.W.Walked.alike_joined c.args.walked.now
