@@ -1,5 +1,5 @@
 -- What the calls of an archive that owns its disk do, by the calls below it.
-use Rattle.std.specs.Prelude.{◌≡◌, ◌⊎◌, ◌||◌, ◌+◌, ◌≤◌, ◌<◌, ℕ, zero, suc, Bool, true, false, not, List, [], length, get_or, Option, Some, None, Result, Ok, Err, refl}
+use Rattle.std.specs.Prelude.{◌≡◌, ◌⊎◌, ◌||◌, ◌+◌, ◌≤◌, ◌<◌, ℕ, zero, suc, Bool, true, false, not, List, [], ◌∷◌, length, get_or, Option, Some, None, Result, Ok, Err, refl}
 use Rattle.std.specs.List.{Contains}
 use Rattle.std.proofs.Common.{◌∙◌, sym, ap, subst, inl, inr, arith}
 use Rattle.std.proofs.lemmas.Bool.{false≢true}
@@ -8,7 +8,7 @@ use Rattle.arch_base.specs.declared.ids.Id20.{Id20}
 use Rattle.disk_model.specs.Disk.{Files, Content, Image, Told, Unchanged, ReadsFit, LeavesOnly}
 use Rattle.disk_model.specs.Moments.{started}
 use Rattle.arch_model.specs.Archives.{Archive, live}
-use Rattle.arch_model.specs.Listings.{rows_of}
+use Rattle.view_set.specs.Viewed.{views_of}
 use Rattle.arch_model.specs.Delivery.{Done, applied}
 use Rattle.arch_model.specs.Keeping.{Passes, Fits, Moves, Settles, StaysShut, Comes, Ending, Accepts, Refuses, Starves, Fails, Breaks, ReadyBy, StaysReady, AnswerCause, OpeningWhy, ending, opening_answer}
 use Rattle.arch_model.specs.Shelves.{Stays, ReadCause, ReadsOnce}
@@ -30,10 +30,10 @@ use Rattle.epoch_store.specs.Reads.{AnswersQuietly}
 use Rattle.epoch_store.specs.Recovery.{RecoversWith, RecoversSomeWith}
 use Rattle.epoch_store.specs.Stores.{View, Keeps, IsStoreWith, RecoversEitherWith}
 use Rattle.archive_core.specs.Commands.{DoneBy, OnDone, OnRefusal, UnlessFault, IfUnread, IfRemoval, OnlyLooks, is_delivery}
-use Rattle.archive_core.specs.Engines.{Owning, needs_opening, Holds, RowsKeepUp, IfRefused, is_ready, Leaves, ReadsOn, reading-same, store-left, now-left, reading-kept}
+use Rattle.archive_core.specs.Engines.{Owning, needs_opening, Holds, ViewsKeepUp, IfRefused, is_ready, Leaves, ReadsOn, reading-same, store-left, now-left, reading-kept}
 use Rattle.archive_core.specs.Numbers.{GivesBlobKept, TellsOther}
-use Rattle.archive_core.specs.Walks.{RowsAfter}
-use Rattle.archive_core.proofs.KeepingUp.{done-rows}
+use Rattle.archive_core.specs.Walks.{ViewsAfter}
+use Rattle.archive_core.proofs.KeepingUp.{done-views}
 use Rattle.archive_core.proofs.Standing.{store_keeps}
 
 -- What holds holds of a removal.
@@ -180,7 +180,7 @@ module _ {D : Type 0} (content : D → Option Content) (moment : D → ℕ) (lef
       )
 
   -- A reopening found the archive or the one in doubt.
-  pub opened-at : (e new : Owning D) → Reopening e new.disk → ((a : Archive) (cache : List ℕ) → ReadsWith cache a (content e.disk) → IsStoreWith new.view cache a (content new.disk) × (new.rows ≡ rows_of (live a.entries))) → (s : Standing) → Stands e s → (t : Standing) × Going e s new t × Settles s t
+  pub opened-at : (e new : Owning D) → Reopening e new.disk → ((a : Archive) (cache : List ℕ) → ReadsWith cache a (content e.disk) → IsStoreWith new.view cache a (content new.disk) × (new.views ≡ views_of (live a.entries))) → (s : Standing) → Stands e s → (t : Standing) × Going e s new t × Settles s t
   opened-at e new run opened s fits =
       let own = fits_all e s fits in
       let found = reads_one s own.0 (content e.disk) (reads_fit e.disk) own.1 in
@@ -242,14 +242,14 @@ module _ {D : Type 0} (content : D → Option Content) (moment : D → ℕ) (lef
     )
 
     -- It was carried out, or refused.
-    taken-done : (reply : Answer) → (wanted a).answer ≡ reply → IsStoreWith new.view cache (wanted a).archive (content new.disk) → (is_ready new ≡ true → new.rows ≡ rows_of (live (wanted a).archive.entries)) → Going e (standing a None) new (standing (wanted a).archive None)
+    taken-done : (reply : Answer) → (wanted a).answer ≡ reply → IsStoreWith new.view cache (wanted a).archive (content new.disk) → (is_ready new ≡ true → new.views ≡ views_of (live (wanted a).archive.entries)) → Going e (standing a None) new (standing (wanted a).archive None)
     taken-done reply answer_is own rows = record {
       fits = record { settled = λ ready. ((cache, own, rows ready), refl); left = λ may has. store-left content moment left_since counts_now only_now new (wanted a).archive may (cache, own) has.archive };
       passes = λ start may has left. taken-passes start may has.0.archive has.1.0.archive left;
     }
 
     -- Memory ran out before anything was done.
-    taken-none : OnlyLooks content moment left_since e.disk new.disk → IsStoreWith new.view cache a (content new.disk) → new.rows ≡ rows_of (live a.entries) → Going e (standing a None) new (standing a None)
+    taken-none : OnlyLooks content moment left_since e.disk new.disk → IsStoreWith new.view cache a (content new.disk) → new.views ≡ views_of (live a.entries) → Going e (standing a None) new (standing a None)
     taken-none looks own rows = record {
       fits = record { settled = λ ready. ((cache, own, rows), refl); left = λ may has. store-left content moment left_since counts_now only_now new a may (cache, own) has.archive };
       passes = λ start may has left. (
@@ -273,7 +273,7 @@ module _ {D : Type 0} (content : D → Option Content) (moment : D → ℕ) (lef
       passes = λ start may has left. taken-passes start may has.1.0.archive has.1.0.doubt left;
     }
 
-    pub taken-at : (reply : Answer) → (needs_opening reply ≡ true → new.stale ≡ true) → DoneBy new.view cache a (wanted a) reply (content new.disk) → RowsKeepUp reply (is_ready new) new.rows a (wanted a).archive
+    pub taken-at : (reply : Answer) → (needs_opening reply ≡ true → new.stale ≡ true) → DoneBy new.view cache a (wanted a) reply (content new.disk) → ViewsKeepUp reply (is_ready new) new.views a (wanted a).archive
         → OnRefusal reply (UnlessFault reply (OnlyLooks content moment left_since e.disk new.disk)) → (t : Standing) × Going e (standing a None) new t × Comes true (standing a None) wanted reply t
     taken-at answer.NoMemory stale done rows untouched = (standing a None, taken-none untouched done rows, inr (record { found = inl refl; sure = refl }))
     taken-at answer.DiskFault stale done rows untouched = (standing a (Some (wanted a).archive), taken-failed (ap not (stale refl)), inr (record { found = a; is_found = inl refl; stands = refl }))
@@ -297,9 +297,9 @@ module _ {D : Type 0} (content : D → Option Content) (moment : D → ℕ) (lef
     taken-at (answer.Damaged file at) stale never rows untouched = absurd never
 
   -- A removal that was done leaves the archive after it held.
-  removed_by : (e new : Owning D) (a : Archive) (n arrived : ℕ) (text : List ℕ) (reply : Answer) → (held : Holds content e a) → DoneBy new.view held.0 a (applied a (Remove n) arrived) reply (content new.disk) → RowsAfter (Remove n) reply text arrived e.rows new.rows
+  removed_by : (e new : Owning D) (a : Archive) (n arrived : ℕ) (text : List ℕ) (reply : Answer) → (held : Holds content e a) → DoneBy new.view held.0 a (applied a (Remove n) arrived) reply (content new.disk) → ViewsAfter (Remove n) reply text arrived e.views new.views
       → OnDone reply (Holds content new (applied a (Remove n) arrived).archive)
-  removed_by e new a n arrived text (answer.Ok number id) held done rows = (held.0, done.store, done-rows a (Remove n) arrived number id text e.rows new.rows (store_keeps e.view held.0 a (content e.disk) held.1).valid done.answer_is tt held.2 rows)
+  removed_by e new a n arrived text (answer.Ok number id) held done rows = (held.0, done.store, done-views a (Remove n) arrived number id text e.views new.views (store_keeps e.view held.0 a (content e.disk) held.1).valid done.answer_is tt held.2 rows)
   removed_by e new a n arrived text answer.NoMemory held done rows = tt
   removed_by e new a n arrived text (answer.Duplicate number) held done rows = tt
   removed_by e new a n arrived text answer.NoFields held done rows = tt
@@ -313,19 +313,19 @@ module _ {D : Type 0} (content : D → Option Content) (moment : D → ℕ) (lef
   removed_by e new a n arrived text (answer.Damaged file at) held done rows = tt
 
   pub removed-at : (e new : Owning D) (command : Command) (arrived : ℕ) (text : List ℕ) (reply : Answer) → ((a : Archive) (cache : List ℕ) → IsStoreWith e.view cache a (content e.disk) → DoneBy new.view cache a (applied a command arrived) reply (content new.disk))
-      → IfRemoval (is_delivery command) (RowsAfter command reply text arrived e.rows new.rows) → IfRemoval (is_delivery command) ((a : Archive) → Holds content e a → OnDone reply (Holds content new (applied a command arrived).archive))
+      → IfRemoval (is_delivery command) (ViewsAfter command reply text arrived e.views new.views) → IfRemoval (is_delivery command) ((a : Archive) → Holds content e a → OnDone reply (Holds content new (applied a command arrived).archive))
   removed-at e new (Deliver bytes) arrived text reply done rows = tt
   removed-at e new (Remove n) arrived text reply done rows = λ a held. removed_by e new a n arrived text reply held (done a held.0 held.1) rows
 
   -- A refusal leaves all but the disk as it was, and the disk was only read.
   module _ (e new : Owning D) (ok : Bool) (command : Command) (text : List ℕ) (arrived : ℕ) where
-    only-reads : new.view ≡ e.view → new.rows ≡ e.rows → new.stale ≡ e.stale → OnlyLooks content moment left_since e.disk new.disk → ReadsOn content moment left_since e new
-    only-reads view rows stale looks = record { view_is = view; rows_are = rows; stale_is = stale; files = looks.same; run = looks.any_moment }
+    only-reads : new.view ≡ e.view → new.views ≡ e.views → new.stale ≡ e.stale → OnlyLooks content moment left_since e.disk new.disk → ReadsOn content moment left_since e new
+    only-reads view views stale looks = record { view_is = view; views_are = views; stale_is = stale; files = looks.same; run = looks.any_moment }
 
-    same-owning : new.disk ≡ e.disk → new.view ≡ e.view → new.rows ≡ e.rows → new.stale ≡ e.stale → new ≡ e
-    same-owning disk view rows stale = λ i. record { disk = disk i; view = view i; rows = rows i; stale = stale i }
+    same-owning : new.disk ≡ e.disk → new.view ≡ e.view → new.views ≡ e.views → new.stale ≡ e.stale → new ≡ e
+    same-owning disk view views stale = λ i. record { disk = disk i; view = view i; views = views i; stale = stale i }
 
-    pub refused-at : (reply : Answer) → e.stale ≡ false → new.stale ≡ (needs_opening reply || not ok) → OnRefusal reply (ok ≡ true) → OnRefusal reply (new.view ≡ e.view) → (ok ≡ true → RowsAfter command reply text arrived e.rows new.rows)
+    pub refused-at : (reply : Answer) → e.stale ≡ false → new.stale ≡ (needs_opening reply || not ok) → OnRefusal reply (ok ≡ true) → OnRefusal reply (new.view ≡ e.view) → (ok ≡ true → ViewsAfter command reply text arrived e.views new.views)
         → OnRefusal reply (UnlessFault reply (OnlyLooks content moment left_since e.disk new.disk)) → IfRefused reply (ReadsOn content moment left_since e new)
     refused-at answer.NoMemory ready stale followed view rows looks = only-reads view (rows followed) (stale ∙ ap not followed ∙ sym ready) looks
     refused-at (answer.Duplicate n) ready stale followed view rows looks = only-reads view (rows followed) (stale ∙ ap not followed ∙ sym ready) looks
@@ -340,7 +340,7 @@ module _ {D : Type 0} (content : D → Option Content) (moment : D → ℕ) (lef
     refused-at answer.DiskFault ready stale followed view rows looks = tt
     refused-at (answer.Damaged file at) ready stale followed view rows looks = tt
 
-    pub unmoved-at : (reply : Answer) → e.stale ≡ false → new.stale ≡ (needs_opening reply || not ok) → OnRefusal reply (ok ≡ true) → OnRefusal reply (new.view ≡ e.view) → (ok ≡ true → RowsAfter command reply text arrived e.rows new.rows) → IfUnread reply (new.disk ≡ e.disk)
+    pub unmoved-at : (reply : Answer) → e.stale ≡ false → new.stale ≡ (needs_opening reply || not ok) → OnRefusal reply (ok ≡ true) → OnRefusal reply (new.view ≡ e.view) → (ok ≡ true → ViewsAfter command reply text arrived e.views new.views) → IfUnread reply (new.disk ≡ e.disk)
         → IfUnread reply (new ≡ e)
     unmoved-at answer.NoMemory ready stale followed view rows disk = tt
     unmoved-at (answer.Duplicate n) ready stale followed view rows disk = same-owning disk view (rows followed) (stale ∙ ap not followed ∙ sym ready)
@@ -380,12 +380,12 @@ module _ {D : Type 0} (content : D → Option Content) (moment : D → ℕ) (lef
 
   -- A call that only reads.
   pub stays-at : (faults : D → ℕ) (e : Owning D) (disk : D) → is_ready e ≡ true → Told Unchanged (content e.disk) (content disk) → LeavesOnly moment left_since e.disk disk (Image (content e.disk)) → faults e.disk ≤ faults disk
-      → Stays (Holds content) is_ready (ReadsOn content moment left_since) (λ (o : Owning D). faults o.disk) e (record { disk = disk; view = e.view; rows = e.rows; stale = e.stale })
+      → Stays (Holds content) is_ready (ReadsOn content moment left_since) (λ (o : Owning D). faults o.disk) e (record { disk = disk; view = e.view; views = e.views; stale = e.stale })
   stays-at faults e disk ready files run later =
-      let read : ReadsOn content moment left_since e (record { disk = disk; view = e.view; rows = e.rows; stale = e.stale }) = record { view_is = refl; rows_are = refl; stale_is = refl; files = files; run = run } in
+      let read : ReadsOn content moment left_since e (record { disk = disk; view = e.view; views = e.views; stale = e.stale }) = record { view_is = refl; views_are = refl; stale_is = refl; files = files; run = run } in
       record {
         same = read;
-        kept = (reading-kept content moment left_since counts_now only_now e (record { disk = disk; view = e.view; rows = e.rows; stale = e.stale }) read).held;
+        kept = (reading-kept content moment left_since counts_now only_now e (record { disk = disk; view = e.view; views = e.views; stale = e.stale }) read).held;
         at_hand = ready;
         later = later;
       }
@@ -409,9 +409,9 @@ module _ {D : Type 0} (content : D → Option Content) (moment : D → ℕ) (lef
     pub held-inside : (a : Archive) → Holds content old a → Holds content inside a
     held-inside a = subst (λ (o : Owning D). Holds content o a) (sym is)
 
-    -- The rows are those of the live messages.
-    pub rows-inside : (a : Archive) → Holds content old a → inside.rows ≡ rows_of (live a.entries)
-    rows-inside a held = let own = held-inside a held in own.2
+    -- The views are those of the live messages.
+    pub views-inside : (a : Archive) → Holds content old a → inside.views ≡ views_of (live a.entries)
+    views-inside a held = let own = held-inside a held in own.2
 
     pub kept-inside : (a : Archive) → Holds content old a → Keeps inside.view a
     kept-inside a held = let own = held-inside a held in store_keeps inside.view own.0 a (content inside.disk) own.1
@@ -421,7 +421,7 @@ module _ {D : Type 0} (content : D → Option Content) (moment : D → ℕ) (lef
     left-from disk wanted run = subst (λ (o : Owning D). (a : Archive) (cache : List ℕ) → IsStoreWith o.view cache a (content o.disk) → LeavesOnly moment left_since o.disk disk (RecoversEitherWith cache a (wanted a))) is run
 
     pub removed-from : (new : Owning D) (command : Command) (arrived : ℕ) (text : List ℕ) (reply : Answer) → ((a : Archive) (cache : List ℕ) → IsStoreWith inside.view cache a (content inside.disk) → DoneBy new.view cache a (applied a command arrived) reply (content new.disk))
-        → IfRemoval (is_delivery command) (RowsAfter command reply text arrived inside.rows new.rows) → IfRemoval (is_delivery command) ((a : Archive) → Holds content old a → OnDone reply (Holds content new (applied a command arrived).archive))
+        → IfRemoval (is_delivery command) (ViewsAfter command reply text arrived inside.views new.views) → IfRemoval (is_delivery command) ((a : Archive) → Holds content old a → OnDone reply (Holds content new (applied a command arrived).archive))
     removed-from new command arrived text reply done rows = subst (λ (o : Owning D). IfRemoval (is_delivery command) ((a : Archive) → Holds content o a → OnDone reply (Holds content new (applied a command arrived).archive))) is (removed-at inside new command arrived text reply done rows)
 
     pub done-from : (view : View) (disk : D) (wanted : Archive → Done) (reply : Answer) → ((a : Archive) (cache : List ℕ) → IsStoreWith inside.view cache a (content inside.disk) → DoneBy view cache a (wanted a) reply (content disk))
@@ -449,7 +449,7 @@ module _ {D : Type 0} (content : D → Option Content) (moment : D → ℕ) (lef
     pub answer-cause-from : (faults : D → ℕ) (disk : D) (reply : Answer) → RoseIf (reply ≡ answer.DiskFault) (faults inside.disk) (faults disk) → AnswerCause (faults old.disk) (faults disk) reply
     answer-cause-from faults disk reply rose = subst (λ (o : Owning D). AnswerCause (faults o.disk) (faults disk) reply) is (answer-cause (faults inside.disk) (faults disk) reply rose)
 
-    pub opened-from : (new : Owning D) → Reopening inside new.disk → ((a : Archive) (cache : List ℕ) → ReadsWith cache a (content inside.disk) → IsStoreWith new.view cache a (content new.disk) × (new.rows ≡ rows_of (live a.entries))) → (s : Standing) → Stands old s → (t : Standing) × Going old s new t × Settles s t
+    pub opened-from : (new : Owning D) → Reopening inside new.disk → ((a : Archive) (cache : List ℕ) → ReadsWith cache a (content inside.disk) → IsStoreWith new.view cache a (content new.disk) × (new.views ≡ views_of (live a.entries))) → (s : Standing) → Stands old s → (t : Standing) × Going old s new t × Settles s t
     opened-from new run opened = subst (λ (o : Owning D). (s : Standing) → Stands o s → (t : Standing) × Going o s new t × Settles s t) is (opened-at inside new run opened)
 
     pub unopened-from : (new : Owning D) (why : OpenRefusal) → Reopening inside new.disk → ((a : Archive) (cache : List ℕ) → ReadsWith cache a (content inside.disk) → IsWant why) → is_ready new ≡ false → (s : Standing) → Stands old s → (t : Standing) × Going old s new t × StaysShut s why t
@@ -458,27 +458,59 @@ module _ {D : Type 0} (content : D → Option Content) (moment : D → ℕ) (lef
     pub passes-from : (new : Owning D) → Reopening inside new.disk → (s : Standing) → Stands old s → Passes (Leaves moment left_since) old new []
     passes-from new run = subst (λ (o : Owning D). (s : Standing) → Stands o s → Passes (Leaves moment left_since) o new []) is (reopening-passes inside new run)
 
+    -- Out of use, it fits what it did, since a crash leaves of its disk alone.
+    abbrev pub shelved : Owning D
+    shelved = record { disk = inside.disk; view = inside.view; views = inside.views; stale = true }
+
+    pub shelved-fits : (s : Standing) → Stands old s → Stands shelved s
+    shelved-fits s fits =
+        let own : Stands inside s = subst (λ (o : Owning D). Stands o s) (sym is) fits in
+        record { settled = λ ready. absurd (false≢true ready); left = λ may has. own.left may has }
+
+    -- What happens to it then happens to what it was.
+    pub shelved-passes : (new : Owning D) (ss : List Standing) → Passes (Leaves moment left_since) shelved new ss → Passes (Leaves moment left_since) old new ss
+    shelved-passes new ss passes = λ start may has left. passes start may has (subst (λ (o : Owning D). Leaves moment left_since start o may) (sym is) left)
+
+    pub shelved-moves : (new : Owning D) (s t : Standing) → Going shelved s new t → Going old s new t
+    shelved-moves new s t moves = record { fits = moves.fits; passes = shelved-passes new (s ∷ t ∷ []) moves.passes }
+
+    -- It was read again, and counted.
+    pub reread-from : (new : Owning D) (count : ℕ) → ((s : Standing) → Stands shelved s → (t : Standing) × Going shelved s new t × Settles s t) → is_ready new ≡ true → ((a : Archive) → Holds content new a → count ≡ length (live a.entries)) → (s : Standing) → Stands old s
+        → (t : Standing) × Going old s new t × Settles s t × (count ≡ length (live t.archive.entries))
+    reread-from new count found ready counted s fits =
+        let got = found s (shelved-fits s fits) in
+        (got.0, shelved-moves new s got.0 got.1, got.2, counted got.0.archive (got.1.fits.settled ready).0)
+
+    -- Reading it again was refused.
+    pub unread-from : (new : Owning D) (why : OpenRefusal) → ((s : Standing) → Stands shelved s → (t : Standing) × Going shelved s new t × StaysShut s why t) → (s : Standing) → Stands old s
+        → (t : Standing) × Going old s new t × StaysShut s why t × Unit {0}
+    unread-from new why found s fits = let got = found s (shelved-fits s fits) in (got.0, shelved-moves new s got.0 got.1, got.2, tt)
+
+    -- What a crash leaves of it meanwhile.
+    pub reread-passes : (new : Owning D) → ((s : Standing) → Stands shelved s → Passes (Leaves moment left_since) shelved new []) → (s : Standing) → Stands old s → Passes (Leaves moment left_since) old new []
+    reread-passes new passes s fits = shelved-passes new [] (passes s (shelved-fits s fits))
+
     pub taken-from : CachesOne → (new : Owning D) (wanted : Archive → Done) (reply : Answer) → (needs_opening reply ≡ true → new.stale ≡ true) → ((a : Archive) (cache : List ℕ) → IsStoreWith inside.view cache a (content inside.disk) → LeavesOnly moment left_since inside.disk new.disk (RecoversEitherWith cache a (wanted a).archive))
         → ((a : Archive) (cache : List ℕ) → IsStoreWith inside.view cache a (content inside.disk) → DoneBy new.view cache a (wanted a) reply (content new.disk))
-        → ((a : Archive) (cache : List ℕ) → IsStoreWith inside.view cache a (content inside.disk) → inside.rows ≡ rows_of (live a.entries) → RowsKeepUp reply (is_ready new) new.rows a (wanted a).archive)
+        → ((a : Archive) (cache : List ℕ) → IsStoreWith inside.view cache a (content inside.disk) → inside.views ≡ views_of (live a.entries) → ViewsKeepUp reply (is_ready new) new.views a (wanted a).archive)
         → OnRefusal reply (UnlessFault reply (OnlyLooks content moment left_since inside.disk new.disk)) → (a : Archive) → Holds content old a → (t : Standing) × Going old (standing a None) new t × Comes true (standing a None) wanted reply t
     taken-from caches new wanted reply stale run done rows untouched =
         subst (λ (o : Owning D). (a : Archive) → Holds content o a → (t : Standing) × Going o (standing a None) new t × Comes true (standing a None) wanted reply t) is
         (λ a held. taken-at caches inside new a held.0 held.1 wanted (run a held.0 held.1) reply stale (done a held.0 held.1) (rows a held.0 held.1 held.2) untouched)
 
     pub stays-from : (faults : D → ℕ) (disk : D) → is_ready old ≡ true → Told Unchanged (content inside.disk) (content disk) → LeavesOnly moment left_since inside.disk disk (Image (content inside.disk)) → faults inside.disk ≤ faults disk
-        → Stays (Holds content) is_ready (ReadsOn content moment left_since) (λ (o : Owning D). faults o.disk) old (record { disk = disk; view = inside.view; rows = inside.rows; stale = inside.stale })
+        → Stays (Holds content) is_ready (ReadsOn content moment left_since) (λ (o : Owning D). faults o.disk) old (record { disk = disk; view = inside.view; views = inside.views; stale = inside.stale })
     stays-from faults disk ready files run later =
-        subst (λ (o : Owning D). is_ready o ≡ true → Stays (Holds content) is_ready (ReadsOn content moment left_since) (λ (p : Owning D). faults p.disk) o (record { disk = disk; view = inside.view; rows = inside.rows; stale = inside.stale })) is
+        subst (λ (o : Owning D). is_ready o ≡ true → Stays (Holds content) is_ready (ReadsOn content moment left_since) (λ (p : Owning D). faults p.disk) o (record { disk = disk; view = inside.view; views = inside.views; stale = inside.stale })) is
         (λ at_hand. stays-at faults inside disk at_hand files run later) ready
 
     pub refused-from : (new : Owning D) (ok : Bool) (command : Command) (text : List ℕ) (arrived : ℕ) (reply : Answer) → old.stale ≡ false → new.stale ≡ (needs_opening reply || not ok) → OnRefusal reply (ok ≡ true) → OnRefusal reply (new.view ≡ inside.view)
-        → (ok ≡ true → RowsAfter command reply text arrived inside.rows new.rows) → OnRefusal reply (UnlessFault reply (OnlyLooks content moment left_since inside.disk new.disk)) → IfRefused reply (ReadsOn content moment left_since old new)
+        → (ok ≡ true → ViewsAfter command reply text arrived inside.views new.views) → OnRefusal reply (UnlessFault reply (OnlyLooks content moment left_since inside.disk new.disk)) → IfRefused reply (ReadsOn content moment left_since old new)
     refused-from new ok command text arrived reply ready stale followed view rows looks =
         subst (λ (o : Owning D). o.stale ≡ false → IfRefused reply (ReadsOn content moment left_since o new)) is (λ at_hand. refused-at inside new ok command text arrived reply at_hand stale followed view rows looks) ready
 
     pub unmoved-from : (new : Owning D) (ok : Bool) (command : Command) (text : List ℕ) (arrived : ℕ) (reply : Answer) → old.stale ≡ false → new.stale ≡ (needs_opening reply || not ok) → OnRefusal reply (ok ≡ true) → OnRefusal reply (new.view ≡ inside.view)
-        → (ok ≡ true → RowsAfter command reply text arrived inside.rows new.rows) → IfUnread reply (new.disk ≡ inside.disk) → IfUnread reply (new ≡ old)
+        → (ok ≡ true → ViewsAfter command reply text arrived inside.views new.views) → IfUnread reply (new.disk ≡ inside.disk) → IfUnread reply (new ≡ old)
     unmoved-from new ok command text arrived reply ready stale followed view rows disk =
         subst (λ (o : Owning D). o.stale ≡ false → IfUnread reply (new ≡ o)) is (λ at_hand. unmoved-at inside new ok command text arrived reply at_hand stale followed view rows disk) ready
 

@@ -1,11 +1,11 @@
--- The rows of live messages after a command.
+-- The views of live messages after a command.
 use Rattle.std.specs.Prelude.{◌≡◌, ◌||◌, ◌<◌, ◌+◌, ℕ, Bool, true, false, not, nat_lt, List, [], ◌∷◌, Option, Some, None, Result, Ok, Err, OnOk, is_ok, if◌then◌else◌, refl}
 use Rattle.std.specs.List.{AllByRecursion}
 use Rattle.std.proofs.Common.{◌∙◌, sym, ap}
 use Rattle.arch_base.specs.declared.ids.Id20.{Id20}
 use Rattle.disk_model.specs.Disk.{Content}
 use Rattle.git_objects.specs.Objects.{blob_id_of}
-use Rattle.mail_forms.specs.declared.row.Row.{Row}
+use Rattle.mime_parts.specs.Words.{mail_words}
 use Rattle.mail_reader.specs.Stored.{stored}
 use Rattle.mail_reader.specs.declared.storing.StoredRefusal.{StoredRefusal}
 use Rattle.mail_reader.specs.declared.storing.StoredRefusal.TheVariants as storing
@@ -13,7 +13,7 @@ use Rattle.arch_model.specs.Archives.{Entry, Archive, message, with_entry, live,
 use Rattle.arch_model.specs.Candidates.{choice_of}
 use Rattle.arch_model.specs.Delivery.{Done, applied, delivered, delivered_form, delivered_choice, delivered_kept, removed_text, refused, new_epoch, collision}
 use Rattle.arch_model.specs.Keeping.{StaysReady}
-use Rattle.arch_model.specs.Listings.{rows_of, row_at}
+use Rattle.arch_model.specs.Listings.{row_at}
 use Rattle.arch_model.specs.Rows.{row_of}
 use Rattle.arch_model.specs.Validity.{IsArchive, IsEntry}
 use Rattle.arch_model.specs.declared.answer.Answer.{Answer}
@@ -26,11 +26,12 @@ use Rattle.arch_model.proofs.LiveEntries.{live-message, live-deletion, live-all,
 use Rattle.arch_model.proofs.ValidArchives.{all_weaker}
 use Rattle.arch_judge.proofs.Endings.{Ascend, live-ascend}
 use Rattle.epoch_store.specs.Stores.{View}
-use Rattle.overview_index.specs.Listings.{with_row, without}
-use Rattle.overview_index.proofs.Messages.{HasId, AllBelow, Ascends, rows-added, rows-taken}
+use Rattle.view_set.specs.Viewed.{Viewed, with_mail, without_mail, views_of}
+use Rattle.view_set.proofs.MailLists.{mails-added, mails-taken}
+use Rattle.overview_index.proofs.Messages.{HasId, AllBelow, Ascends}
 use Rattle.archive_core.specs.Commands.{DoneBy, OnRefusal, KeepsText, is_delivery, IfDelivery, OnDone}
-use Rattle.archive_core.specs.Engines.{needs_opening, RowsKeepUp}
-use Rattle.archive_core.specs.Walks.{RowsDone, RowsAfter}
+use Rattle.archive_core.specs.Engines.{needs_opening, ViewsKeepUp}
+use Rattle.archive_core.specs.Walks.{ViewsDone, ViewsAfter}
 
 -- A command that isn't accepted keeps the archive.
 abbrev pub KeepsUnlessOk : Archive → Done → Type 0
@@ -117,32 +118,32 @@ ascends-of number (e ∷ es) rise = (rise.0, ascends-of (e.number + 1) es rise.1
 pub live-ascends : (a : Archive) → IsArchive a → Ascends 1 (live a.entries)
 live-ascends a valid = ascends-of 1 (live a.entries) (live-ascend 1 0 a.entries valid.order)
 
--- The rows after an accepted command are those of the archive after it.
-with_kept : (a : Archive) (b : Archive) (text : List ℕ) (moment n : ℕ) (old new : List (ℕ × Row)) → IsArchive a → old ≡ rows_of (live a.entries) → n ≡ a.next → b ≡ with_entry a (new_epoch a) text moment → new ≡ with_row old (row_of n text moment) → new ≡ rows_of (live b.entries)
+-- The views after an accepted command are those of the archive after it.
+with_kept : (a : Archive) (b : Archive) (text : List ℕ) (moment n : ℕ) (old new : Viewed) → IsArchive a → old ≡ views_of (live a.entries) → n ≡ a.next → b ≡ with_entry a (new_epoch a) text moment → new ≡ with_mail old (row_of n text moment) (mail_words text) → new ≡ views_of (live b.entries)
 with_kept a b text moment n old new valid old_is n_is b_is new_is =
     let one : Entry = message a.next (new_epoch a) text moment in
     new_is
-    ∙ ap (λ m. with_row old (row_of m text moment)) n_is
-    ∙ ap (λ rs. with_row rs (row_at one)) old_is
-    ∙ rows-added (live a.entries) one (live-below a valid)
-    ∙ ap rows_of (sym (live-message a.entries a.next (new_epoch a) text moment))
-    ∙ ap (λ (c : Archive). rows_of (live c.entries)) (sym b_is)
+    ∙ ap (λ m. with_mail old (row_of m text moment) (mail_words text)) n_is
+    ∙ ap (λ (v : Viewed). with_mail v (row_at one) (mail_words text)) old_is
+    ∙ mails-added (live a.entries) one (live-below a valid)
+    ∙ ap views_of (sym (live-message a.entries a.next (new_epoch a) text moment))
+    ∙ ap (λ (c : Archive). views_of (live c.entries)) (sym b_is)
 
-pub done-rows : (a : Archive) (command : Command) (moment n : ℕ) (id : Id20) (text : List ℕ) (old new : List (ℕ × Row)) → IsArchive a → (applied a command moment).answer ≡ answer.Ok n id → IfDelivery (is_delivery command) (KeepsText a (applied a command moment) moment text)
-    → old ≡ rows_of (live a.entries) → RowsDone command n text moment old new → new ≡ rows_of (live (applied a command moment).archive.entries)
-done-rows a (Deliver bytes) moment n id text old new valid is kept old_is new_is = with_kept a (delivered a bytes.now moment).archive text moment n old new valid old_is (mirror_next a.config.mirror a bytes.now moment n id is) kept new_is
-done-rows a (Remove number) moment n id text old new valid is kept old_is new_is =
+pub done-views : (a : Archive) (command : Command) (moment n : ℕ) (id : Id20) (text : List ℕ) (old new : Viewed) → IsArchive a → (applied a command moment).answer ≡ answer.Ok n id → IfDelivery (is_delivery command) (KeepsText a (applied a command moment) moment text)
+    → old ≡ views_of (live a.entries) → ViewsDone command n text moment old new → new ≡ views_of (live (applied a command moment).archive.entries)
+done-views a (Deliver bytes) moment n id text old new valid is kept old_is new_is = with_kept a (delivered a bytes.now moment).archive text moment n old new valid old_is (mirror_next a.config.mirror a bytes.now moment n id is) kept new_is
+done-views a (Remove number) moment n id text old new valid is kept old_is new_is =
     new_is
-    ∙ ap (λ rs. without rs number) old_is
-    ∙ rows-taken (live a.entries) 1 number (live-ascends a valid)
-    ∙ ap rows_of (sym (removed_gone a.config.mirror a number moment n id is))
+    ∙ ap (λ (v : Viewed). without_mail v number) old_is
+    ∙ mails-taken (live a.entries) 1 number (live-ascends a valid)
+    ∙ ap views_of (sym (removed_gone a.config.mirror a number moment n id is))
 
 -- What holds if a result is Ok.
 pub on-ok : {T E : Type 0} (r : Result T E) (P : Type 0) → OnOk r P → is_ok r ≡ true → P
 on-ok (Ok x) P holds ok = holds
 on-ok (Err e) P holds ok = absurd (cc)
 
--- An engine that is ready after a command brought its rows up.
+-- An engine that is ready after a command brought its views up.
 pub followed-ready : (needs ok : Bool) → not (needs || not ok) ≡ true → ok ≡ true
 followed-ready true ok is = absurd (cc)
 followed-ready false true is = refl
@@ -152,24 +153,24 @@ pub needs-stale : (needs ok : Bool) → needs ≡ true → (needs || not ok) ≡
 needs-stale true ok is = refl
 needs-stale false ok is = absurd (cc)
 
-same-rows : (a : Archive) (command : Command) (moment : ℕ) (old new : List (ℕ × Row)) → old ≡ rows_of (live a.entries) → new ≡ old → ((n : ℕ) (id : Id20) → (applied a command moment).answer ≡ answer.Ok n id → ⊥) → new ≡ rows_of (live (applied a command moment).archive.entries)
-same-rows a command moment old new old_is same never = same ∙ old_is ∙ ap (λ (b : Archive). rows_of (live b.entries)) (sym (applied-keeps a command moment never))
+same-views : (a : Archive) (command : Command) (moment : ℕ) (old new : Viewed) → old ≡ views_of (live a.entries) → new ≡ old → ((n : ℕ) (id : Id20) → (applied a command moment).answer ≡ answer.Ok n id → ⊥) → new ≡ views_of (live (applied a command moment).archive.entries)
+same-views a command moment old new old_is same never = same ∙ old_is ∙ ap (λ (b : Archive). views_of (live b.entries)) (sym (applied-keeps a command moment never))
 
--- The rows keep up with a command, however it was answered.
-pub kept-up : (a : Archive) (command : Command) (moment : ℕ) (text : List ℕ) (v : View) (cache : List ℕ) (content : Option Content) (old new : List (ℕ × Row)) (ready ok : Bool) (reply : Answer) → IsArchive a → old ≡ rows_of (live a.entries)
+-- The views keep up with a command, however it was answered.
+pub kept-up : (a : Archive) (command : Command) (moment : ℕ) (text : List ℕ) (v : View) (cache : List ℕ) (content : Option Content) (old new : Viewed) (ready ok : Bool) (reply : Answer) → IsArchive a → old ≡ views_of (live a.entries)
     → DoneBy v cache a (applied a command moment) reply content → IfDelivery (is_delivery command) (OnDone reply (KeepsText a (applied a command moment) moment text)) → (ready ≡ true → ok ≡ true) → OnRefusal reply (ok ≡ true)
-    → (ok ≡ true → RowsAfter command reply text moment old new) → RowsKeepUp reply ready new a (applied a command moment).archive
-kept-up a command moment text v cache content old new ready ok (answer.Ok number id) valid old_is done kept followed refused rows = λ now. done-rows a command moment number id text old new valid done.answer_is kept old_is (rows (followed now))
+    → (ok ≡ true → ViewsAfter command reply text moment old new) → ViewsKeepUp reply ready new a (applied a command moment).archive
+kept-up a command moment text v cache content old new ready ok (answer.Ok number id) valid old_is done kept followed refused rows = λ now. done-views a command moment number id text old new valid done.answer_is kept old_is (rows (followed now))
 kept-up a command moment text v cache content old new ready ok answer.NoMemory valid old_is done kept followed refused rows = rows refused ∙ old_is
 kept-up a command moment text v cache content old new ready ok answer.DiskFault valid old_is done kept followed refused rows = tt
 kept-up a command moment text v cache content old new ready ok (answer.Damaged file at) valid old_is done kept followed refused rows = tt
-kept-up a command moment text v cache content old new ready ok (answer.Duplicate number) valid old_is done kept followed refused rows = same-rows a command moment old new old_is (rows refused) (λ n id is. (let wrong : (answer.Duplicate number) ≡ answer.Ok n id = sym done.answer_is ∙ is in cc))
-kept-up a command moment text v cache content old new ready ok answer.NoFields valid old_is done kept followed refused rows = same-rows a command moment old new old_is (rows refused) (λ n id is. (let wrong : answer.NoFields ≡ answer.Ok n id = sym done.answer_is ∙ is in cc))
-kept-up a command moment text v cache content old new ready ok (answer.TooLarge len) valid old_is done kept followed refused rows = same-rows a command moment old new old_is (rows refused) (λ n id is. (let wrong : (answer.TooLarge len) ≡ answer.Ok n id = sym done.answer_is ∙ is in cc))
-kept-up a command moment text v cache content old new ready ok (answer.Full max) valid old_is done kept followed refused rows = same-rows a command moment old new old_is (rows refused) (λ n id is. (let wrong : (answer.Full max) ≡ answer.Ok n id = sym done.answer_is ∙ is in cc))
-kept-up a command moment text v cache content old new ready ok (answer.Collision number) valid old_is done kept followed refused rows = same-rows a command moment old new old_is (rows refused) (λ n id is. (let wrong : (answer.Collision number) ≡ answer.Ok n id = sym done.answer_is ∙ is in cc))
-kept-up a command moment text v cache content old new ready ok (answer.NotLive number) valid old_is done kept followed refused rows = same-rows a command moment old new old_is (rows refused) (λ n id is. (let wrong : (answer.NotLive number) ≡ answer.Ok n id = sym done.answer_is ∙ is in cc))
-kept-up a command moment text v cache content old new ready ok answer.IsMirror valid old_is done kept followed refused rows = same-rows a command moment old new old_is (rows refused) (λ n id is. (let wrong : answer.IsMirror ≡ answer.Ok n id = sym done.answer_is ∙ is in cc))
+kept-up a command moment text v cache content old new ready ok (answer.Duplicate number) valid old_is done kept followed refused rows = same-views a command moment old new old_is (rows refused) (λ n id is. (let wrong : (answer.Duplicate number) ≡ answer.Ok n id = sym done.answer_is ∙ is in cc))
+kept-up a command moment text v cache content old new ready ok answer.NoFields valid old_is done kept followed refused rows = same-views a command moment old new old_is (rows refused) (λ n id is. (let wrong : answer.NoFields ≡ answer.Ok n id = sym done.answer_is ∙ is in cc))
+kept-up a command moment text v cache content old new ready ok (answer.TooLarge len) valid old_is done kept followed refused rows = same-views a command moment old new old_is (rows refused) (λ n id is. (let wrong : (answer.TooLarge len) ≡ answer.Ok n id = sym done.answer_is ∙ is in cc))
+kept-up a command moment text v cache content old new ready ok (answer.Full max) valid old_is done kept followed refused rows = same-views a command moment old new old_is (rows refused) (λ n id is. (let wrong : (answer.Full max) ≡ answer.Ok n id = sym done.answer_is ∙ is in cc))
+kept-up a command moment text v cache content old new ready ok (answer.Collision number) valid old_is done kept followed refused rows = same-views a command moment old new old_is (rows refused) (λ n id is. (let wrong : (answer.Collision number) ≡ answer.Ok n id = sym done.answer_is ∙ is in cc))
+kept-up a command moment text v cache content old new ready ok (answer.NotLive number) valid old_is done kept followed refused rows = same-views a command moment old new old_is (rows refused) (λ n id is. (let wrong : (answer.NotLive number) ≡ answer.Ok n id = sym done.answer_is ∙ is in cc))
+kept-up a command moment text v cache content old new ready ok answer.IsMirror valid old_is done kept followed refused rows = same-views a command moment old new old_is (rows refused) (λ n id is. (let wrong : answer.IsMirror ≡ answer.Ok n id = sym done.answer_is ∙ is in cc))
 kept-up a command moment text v cache content old new ready ok (answer.NoText number) valid old_is done kept followed refused rows = absurd done
 
 -- It needn't be reopened after a refusal by the rules, and must be after a fault.

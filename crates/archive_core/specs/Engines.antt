@@ -6,22 +6,21 @@ use native.Mathlib.Omega.{arith}
 use Rattle.disk_model.specs.declared.name.FileName.{FileName}
 use Rattle.disk_model.specs.Disk.{Files, Content, Image, Told, WhereTold, Unchanged, LeavesOnly}
 use Rattle.disk_model.specs.Moments.{started, joined}
-use Rattle.mail_forms.specs.declared.row.Row.{Row}
 use Rattle.arch_model.specs.Archives.{Archive, live}
-use Rattle.arch_model.specs.Listings.{rows_of}
 use Rattle.arch_model.specs.Keeping.{OnlyRead}
 use Rattle.arch_model.specs.declared.answer.Answer.{Answer}
 use Rattle.arch_model.specs.declared.answer.Answer.TheVariants as answer
 use Rattle.epoch_store.specs.Opens.{RecoversOfWith}
 use Rattle.epoch_store.specs.Stores.{View, HasSizes, IsStoreWith}
 use Rattle.epoch_store.specs.Leaving.{disk_recovers}
+use Rattle.view_set.specs.Viewed.{Viewed, views_of}
 
--- A disk, what is kept in memory of its archive, the rows of its live messages by their numbers, and
--- whether it has to be reopened.
+-- A disk, what is kept in memory of its archive, the rows and words of its live messages, and whether
+-- it has to be reopened.
 pub record Owning (D : Type 0) : Type 0 where
   pub disk : D
   pub view : View
-  pub rows : List (ℕ × Row)
+  pub views : Viewed
   pub stale : Bool
 
 -- While it needn't be reopened, the files that the archive names have their sizes.
@@ -43,11 +42,11 @@ needs_opening answer.IsMirror = false
 needs_opening (answer.Damaged file at) = true
 needs_opening answer.NoMemory = false
 
--- The archive that it holds: the disk is the archive's own, with whatever cache, and the rows are
+-- The archive that it holds: the disk is the archive's own, with whatever cache, and the views are
 -- those of the archive's live messages.
 abbrev pub Holds : {D : Type 0} → (D → Option Content) → Owning D → Archive → Type 0
 Holds content e a = (cache : List ℕ) × IsStoreWith e.view cache a (content e.disk)
-    × (e.rows ≡ rows_of (live a.entries))
+    × (e.views ≡ views_of (live a.entries))
 
 -- The disk is the archive's own, with whatever cache.
 abbrev pub Owns : {D : Type 0} → (D → Option Content) → Owning D → Archive → Type 0
@@ -65,21 +64,21 @@ Leaves moment left_since start e may = (moment start.disk ≤ moment e.disk) × 
     × ((image : Files) → left_since e.disk (moment start.disk) image
     → RecoversOfWith cache may image)
 
--- The rows keep up with a command that was answered so: they are those of the archive after it, unless
+-- The views keep up with a command that was answered so: they are those of the archive after it, unless
 -- the engine has to be reopened after `Ok`. After a fault they say nothing.
-abbrev pub RowsKeepUp : Answer → Bool → List (ℕ × Row) → Archive → Archive → Type 0
-RowsKeepUp (answer.Ok number id) ready rows a b = ready ≡ true → rows ≡ rows_of (live b.entries)
-RowsKeepUp answer.NoMemory ready rows a b = rows ≡ rows_of (live a.entries)
-RowsKeepUp answer.DiskFault ready rows a b = Unit {0}
-RowsKeepUp (answer.Damaged file at) ready rows a b = Unit {0}
-RowsKeepUp (answer.Duplicate number) ready rows a b = rows ≡ rows_of (live b.entries)
-RowsKeepUp answer.NoFields ready rows a b = rows ≡ rows_of (live b.entries)
-RowsKeepUp (answer.TooLarge len) ready rows a b = rows ≡ rows_of (live b.entries)
-RowsKeepUp (answer.Full max) ready rows a b = rows ≡ rows_of (live b.entries)
-RowsKeepUp (answer.Collision number) ready rows a b = rows ≡ rows_of (live b.entries)
-RowsKeepUp (answer.NotLive number) ready rows a b = rows ≡ rows_of (live b.entries)
-RowsKeepUp (answer.NoText number) ready rows a b = rows ≡ rows_of (live b.entries)
-RowsKeepUp answer.IsMirror ready rows a b = rows ≡ rows_of (live b.entries)
+abbrev pub ViewsKeepUp : Answer → Bool → Viewed → Archive → Archive → Type 0
+ViewsKeepUp (answer.Ok number id) ready views a b = ready ≡ true → views ≡ views_of (live b.entries)
+ViewsKeepUp answer.NoMemory ready views a b = views ≡ views_of (live a.entries)
+ViewsKeepUp answer.DiskFault ready views a b = Unit {0}
+ViewsKeepUp (answer.Damaged file at) ready views a b = Unit {0}
+ViewsKeepUp (answer.Duplicate number) ready views a b = views ≡ views_of (live b.entries)
+ViewsKeepUp answer.NoFields ready views a b = views ≡ views_of (live b.entries)
+ViewsKeepUp (answer.TooLarge len) ready views a b = views ≡ views_of (live b.entries)
+ViewsKeepUp (answer.Full max) ready views a b = views ≡ views_of (live b.entries)
+ViewsKeepUp (answer.Collision number) ready views a b = views ≡ views_of (live b.entries)
+ViewsKeepUp (answer.NotLive number) ready views a b = views ≡ views_of (live b.entries)
+ViewsKeepUp (answer.NoText number) ready views a b = views ≡ views_of (live b.entries)
+ViewsKeepUp answer.IsMirror ready views a b = views ≡ views_of (live b.entries)
 
 -- What holds after a refusal by the rules, or where memory ran out.
 abbrev pub IfRefused : Answer → Type 0 → Type 0
@@ -100,7 +99,7 @@ IfRefused answer.IsMirror P = P
 pub record ReadsOn {D : Type 0} (content : D → Option Content) (moment : D → ℕ)
     (left_since : D → ℕ → Files → Type 0) (old new : Owning D) : Type 0 where
   pub view_is : new.view ≡ old.view
-  pub rows_are : new.rows ≡ old.rows
+  pub views_are : new.views ≡ old.views
   pub stale_is : new.stale ≡ old.stale
   pub files : Told Unchanged (content old.disk) (content new.disk)
   pub run : LeavesOnly moment left_since old.disk new.disk (Image (content old.disk))
@@ -135,7 +134,7 @@ module _ {D : Type 0} (content : D → Option Content) (moment : D → ℕ)
   pub reading-same : (e : Owning D) → ReadsOn content moment left_since e e
   reading-same e = record {
     view_is = refl;
-    rows_are = refl;
+    views_are = refl;
     stale_is = refl;
     files = told-same (content e.disk);
     run = started moment left_since e.disk (Image (content e.disk))
@@ -149,7 +148,7 @@ module _ {D : Type 0} (content : D → Option Content) (moment : D → ℕ)
       let two = unchanged-is (content e.disk) (content f.disk) second.files in
       record {
         view_is = second.view_is ∙ first.view_is;
-        rows_are = second.rows_are ∙ first.rows_are;
+        views_are = second.views_are ∙ first.views_are;
         stale_is = second.stale_is ∙ first.stale_is;
         files = subst (λ (k : Option Content). Told Unchanged (content d.disk) k) (sym (two ∙ one))
             (told-same (content d.disk));
@@ -186,7 +185,7 @@ module _ {D : Type 0} (content : D → Option Content) (moment : D → ℕ)
           store.0,
           subst (λ (v : View). IsStoreWith v store.0 a (content e.disk)) (sym read.view_is)
               (subst (λ (k : Option Content). IsStoreWith d.view store.0 a k) (sym same) store.1),
-          read.rows_are ∙ store.2,
+          read.views_are ∙ store.2,
         );
         same = ap not read.stale_is;
         passes = λ start may has left. (

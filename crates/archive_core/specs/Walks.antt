@@ -1,10 +1,10 @@
--- The entries of a store and their texts, one after another, and the rows of the live ones after a
+-- The entries of a store and their texts, one after another, and the views of the live ones after a
 -- command.
 use Rattle.std.specs.Prelude.{◌≡◌, ℕ, List, [], ◌∷◌, Option, Some, None}
 use Rattle.std.proofs.Common.{◌∙◌, sym, subst}
 use Rattle.disk_model.specs.Disk.{Files, Content, Image, Told, Unchanged}
 use Rattle.disk_model.specs.Moments.{started, joined}
-use Rattle.mail_forms.specs.declared.row.Row.{Row}
+use Rattle.mime_parts.specs.Words.{mail_words}
 use Rattle.arch_model.specs.Archives.{Archive}
 use Rattle.arch_model.specs.Rows.{row_of}
 use Rattle.arch_model.specs.Validity.{IsArchive}
@@ -21,7 +21,7 @@ use Rattle.epoch_store.specs.Files.{epoch_file_of}
 use Rattle.epoch_store.specs.Reads.{line_of, HasTexts}
 use Rattle.epoch_store.specs.Stores.{View, IsStoreWith}
 use Rattle.epoch_store.specs.declared.entries.StoredEntry.{StoredEntry}
-use Rattle.overview_index.specs.Listings.{with_row, without}
+use Rattle.view_set.specs.Viewed.{Viewed, with_mail, without_mail}
 use Rattle.archive_core.specs.Commands.{OnlyLooks}
 use Rattle.archive_core.specs.Engines.{unchanged-is, told-same}
 
@@ -43,27 +43,28 @@ unread_opening v None (reading.Damaged named other) = opening.NoMemory
 unread_opening v (Some e) (reading.Damaged named other) =
     opening.Damaged (epoch_file_of v.root e.epoch) e.seen.at
 
--- What an accepted command does to the rows of live messages: a delivery adds the row of its text, and
--- a removal takes the row of its number.
-abbrev pub RowsDone : Command → ℕ → List ℕ → ℕ → List (ℕ × Row) → List (ℕ × Row) → Type 0
-RowsDone (Deliver bytes) number text moment old new = new ≡ with_row old (row_of number text moment)
-RowsDone (Remove n) number text moment old new = new ≡ without old n
+-- What an accepted command does to the views of live messages: a delivery adds the row and the words of
+-- its text, and a removal takes those of its number.
+abbrev pub ViewsDone : Command → ℕ → List ℕ → ℕ → Viewed → Viewed → Type 0
+ViewsDone (Deliver bytes) number text moment old new = new
+    ≡ with_mail old (row_of number text moment) (mail_words text)
+ViewsDone (Remove n) number text moment old new = new ≡ without_mail old n
 
 -- What a command that was answered so does to them. A refusal leaves them.
-abbrev pub RowsAfter : Command → Answer → List ℕ → ℕ → List (ℕ × Row) → List (ℕ × Row) → Type 0
-RowsAfter command (answer.Ok number id) text moment old new =
-    RowsDone command number text moment old new
-RowsAfter command (answer.Duplicate number) text moment old new = new ≡ old
-RowsAfter command answer.NoFields text moment old new = new ≡ old
-RowsAfter command (answer.TooLarge len) text moment old new = new ≡ old
-RowsAfter command (answer.Full max) text moment old new = new ≡ old
-RowsAfter command (answer.Collision number) text moment old new = new ≡ old
-RowsAfter command (answer.NotLive number) text moment old new = new ≡ old
-RowsAfter command (answer.NoText number) text moment old new = new ≡ old
-RowsAfter command answer.IsMirror text moment old new = new ≡ old
-RowsAfter command answer.DiskFault text moment old new = new ≡ old
-RowsAfter command (answer.Damaged file offset) text moment old new = new ≡ old
-RowsAfter command answer.NoMemory text moment old new = new ≡ old
+abbrev pub ViewsAfter : Command → Answer → List ℕ → ℕ → Viewed → Viewed → Type 0
+ViewsAfter command (answer.Ok number id) text moment old new =
+    ViewsDone command number text moment old new
+ViewsAfter command (answer.Duplicate number) text moment old new = new ≡ old
+ViewsAfter command answer.NoFields text moment old new = new ≡ old
+ViewsAfter command (answer.TooLarge len) text moment old new = new ≡ old
+ViewsAfter command (answer.Full max) text moment old new = new ≡ old
+ViewsAfter command (answer.Collision number) text moment old new = new ≡ old
+ViewsAfter command (answer.NotLive number) text moment old new = new ≡ old
+ViewsAfter command (answer.NoText number) text moment old new = new ≡ old
+ViewsAfter command answer.IsMirror text moment old new = new ≡ old
+ViewsAfter command answer.DiskFault text moment old new = new ≡ old
+ViewsAfter command (answer.Damaged file offset) text moment old new = new ≡ old
+ViewsAfter command answer.NoMemory text moment old new = new ≡ old
 
 -- An archive whose own disk is there is valid.
 pub store-valid : (v : View) (cache : List ℕ) (a : Archive) (k : Option Content)

@@ -1,12 +1,11 @@
 //! An archive that owns its disk.
-ghost use Rattle.std.specs.Prelude.{◌≡◌, ◌≢◌, ◌≤◌, true, false, IfOk, IfErr, OnErr, Err, List, [], None, not, ◌||◌, is_ok, is_some, length, ℕ};
+ghost use Rattle.std.specs.Prelude.{◌≡◌, ◌≢◌, ◌≤◌, true, false, IfOk, IfErr, OnErr, Err, List, None, not, ◌||◌, is_ok, is_some, length, ℕ};
 ghost use Rattle.arch_base.specs.Configs.{IsConfig};
 ghost use Rattle.arch_base.specs.Moments.{last_moment};
 ghost use Rattle.disk_model.specs.Disk.{LeavesOnly};
 ghost use Rattle.arch_model.specs.Archives.{Archive, live, text_of};
 ghost use Rattle.arch_model.specs.Delivery.{applied};
 ghost use Rattle.arch_model.specs.Keeping.{Moves, Comes, StaysReady, AnswerCause, text_known};
-ghost use Rattle.arch_model.specs.Listings.{rows_of};
 ghost use Rattle.arch_model.specs.Shelves.{GivesBlobIn, AppendsTo, Stays, ReadCause, ReadsOnce};
 ghost use Rattle.arch_model.specs.Standing.{Standing, standing, GivesTextIn, KeepsUnlessFound};
 ghost use Rattle.arch_model.specs.declared.answer.Answer.{Answer};
@@ -18,26 +17,27 @@ ghost use Rattle.archive_core.specs.Engines.{Holds, IfRefused, Leaves, ReadsOn, 
 ghost use Rattle.archive_core.specs.HandedBack.{disk_made, made_or_why, disk_opened, opened_or_why};
 ghost use Rattle.archive_core.specs.Numbers.{GivesTextKept, GivesBlobKept, Names};
 ghost use Rattle.archive_core.specs.Openings.{RefusesKindly};
+ghost use Rattle.view_set.specs.Viewed.{no_mails, views_of};
 
 use crate::archive::DiskArchive;
 use crate::not_made::{NotMade, NotOpened};
 use crate::opened::Opened;
 use crate::rows::follow;
 use arch_base::{Bytes, Config, NoMemory, Numbers, ObjectId};
-use arch_model::{Answer, Command, EntryLine, Keep, OpenRefusal, Row, Shelf, TextRefusal};
+use arch_model::{Answer, Command, EntryLine, Keep, OpenRefusal, Query, Row, Shelf, TextRefusal};
 use disk_model::Disk;
 use epoch_store::law_of_recovery;
 use std::alloc::Global;
 use std::marker::Model;
 use view_set::Views;
 
-/// An archive that owns its disk, and keeps the rows and threads of its live messages; implements
-/// `Shelf` and `Keep`.
+/// An archive that owns its disk, and keeps the rows, threads and words of its live messages;
+/// implements `Shelf` and `Keep`.
 ///
 /// The archive is stale after a command whose answer is `DiskFault`: it isn't known whether the
 /// command was done, and nothing else is answered until the archive is reopened. It is stale after
 /// the answer `Damaged` too, which a command on an archive's own disk never gives, and after an `Ok`
-/// for whose row or threads there was no memory, where nothing is in doubt.
+/// for whose row, words or threads there was no memory, where nothing is in doubt.
 #[derive(Drop)]
 pub struct Engine<D: Disk> {
     alloc: Global,
@@ -52,7 +52,7 @@ impl<D: Disk> Model for Engine<D> {
 
     ghost Value = { Owning D };
 
-    ghost view = { λ e. record { disk = e.disk; view = e.archive; rows = e.views; stale = e.stale } };
+    ghost view = { λ e. record { disk = e.disk; view = e.archive; views = e.views; stale = e.stale } };
 
     ghost invariant = { λ e. SizesUnless e.stale e.archive (D.content e.disk) };
 }
@@ -73,7 +73,7 @@ impl<D: Disk> Engine<D> {
         requires config { IsConfig config.now }
         ensures made { MakesArchive D.content D.moment D.left_since D.faults disk
             (disk_made result) config.now (made_or_why result) }
-        ensures rows { IfOk result (λ made. made.rows ≡ []) }
+        ensures rows { IfOk result (λ made. made.views ≡ no_mails) }
         ensures ready { IfOk result (λ made. made.stale ≡ false) }
     {
         let mut disk = disk;
@@ -107,7 +107,7 @@ impl<D: Disk> Engine<D> {
         ensures refused { RefusesKindly (opened_or_why result) (D.content disk)
             (D.content (disk_opened result)) }
         ensures rows { (a : Archive) (cache : List ℕ) → ReadsWith cache a (D.content disk)
-            → IfOk result (λ opened. opened.rows ≡ rows_of (live a.entries)) }
+            → IfOk result (λ opened. opened.views ≡ views_of (live a.entries)) }
         ensures ready { IfOk result (λ opened. opened.stale ≡ false) }
     {
         let mut disk = disk;
@@ -171,7 +171,7 @@ impl<D: Disk> Engine<D> {
     /// Carries out a command on an archive that needn't be reopened.
     ///
     /// The archive has to be reopened after the answers `DiskFault` and `Damaged`, and after an `Ok`
-    /// for whose row or threads there was no memory: then nothing is in doubt. It needn't be after any
+    /// for whose row, words or threads there was no memory: then nothing is in doubt. It needn't be after any
     /// other answer. After a removal the rows are right in any case, and memory may have run out for
     /// the threads alone. `Damaged` never comes while an archive is held.
     pub fn take(&mut self, command: &Command<'_>, moment: u64) -> Answer
@@ -278,6 +278,10 @@ impl<D: Disk> Shelf for Engine<D> {
         self.views.thread_of(n)
     }
 
+    fn search(&self, query: &Query) -> Result<Numbers, NoMemory> {
+        self.views.search(query)
+    }
+
     fn entry(&self, index: u64) -> Option<EntryLine> {
         self.archive.entry(index)
     }
@@ -349,6 +353,15 @@ impl<D: Disk> Keep for Engine<D> {
                 Ok(())
             }
             Err(refusal) => Err(refusal),
+        }
+    }
+
+    fn reindex(&mut self) -> Result<u32, OpenRefusal> {
+        // What is kept beside the files is out of use until they are read again.
+        self.stale = true;
+        match self.fresh() {
+            Ok(()) => Ok(self.message_count()),
+            Err(why) => Err(why),
         }
     }
 

@@ -1,8 +1,8 @@
-//! An archive that was opened on a disk, with the rows and threads of its live messages.
+//! An archive that was opened on a disk, with the rows, threads and words of its live
+//! messages.
 ghost use Rattle.std.specs.Prelude.{◌≡◌, ℕ, List, Err, IfOk, slice_get};
 ghost use Rattle.arch_base.specs.Counts.{RoseIf};
 ghost use Rattle.arch_model.specs.Archives.{Archive, live};
-ghost use Rattle.arch_model.specs.Listings.{rows_of};
 ghost use Rattle.arch_model.specs.declared.opening.OpenRefusal.{OpenRefusal};
 ghost use Rattle.epoch_store.specs.Opens.{ReadsWith, OpensWell};
 ghost use Rattle.epoch_store.specs.Promises.{OpensArchive};
@@ -11,6 +11,7 @@ ghost use Rattle.archive_core.specs.Commands.{OnlyLooks};
 ghost use Rattle.archive_core.specs.HandedBack.{view_opened};
 ghost use Rattle.archive_core.specs.Openings.{RefusesKindly};
 ghost use Rattle.archive_core.specs.Walks.{IsSound, unread_opening};
+ghost use Rattle.view_set.specs.Viewed.{views_of};
 
 use crate::archive::DiskArchive;
 use crate::walk::Walk;
@@ -20,7 +21,8 @@ use epoch_store::law_of_stores;
 use std::alloc::Global;
 use view_set::{Unread, Views, rebuild};
 
-/// An archive that was opened on a disk, and the rows and threads of its live messages.
+/// An archive that was opened on a disk, and the rows, threads and words of its live
+/// messages.
 #[derive(Drop)]
 pub(crate) struct Opened {
     pub(crate) archive: DiskArchive,
@@ -28,7 +30,8 @@ pub(crate) struct Opened {
 }
 
 impl Opened {
-    /// Opens the archive on a disk, and reads the texts of its messages for their rows and threads.
+    /// Opens the archive on a disk, and reads the text of each message once, for its row,
+    /// its threads and its words.
     ///
     /// The promises and the refusals are those of `DiskArchive::open`. `Damaged` may also have the
     /// offset of an entry whose text had another id when it was read again, which never happens on a
@@ -38,7 +41,7 @@ impl Opened {
             (view_opened result) }
         ensures refused { RefusesKindly result (D.content disk.old) (D.content disk.new) }
         ensures rows { (a : Archive) (cache : List ℕ) → ReadsWith cache a (D.content disk.old)
-            → IfOk result (λ opened. opened.views ≡ rows_of (live a.entries)) }
+            → IfOk result (λ opened. opened.views ≡ views_of (live a.entries)) }
     {
         law_of_stores();
         let archive = match DiskArchive::open(alloc, disk) {
@@ -53,7 +56,7 @@ impl Opened {
 }
 
 impl DiskArchive {
-    /// Returns the rows and threads of the live messages. Reads the text of each message once.
+    /// Returns the rows, threads and words of the live messages. Reads the text of each message once.
     ///
     /// `DiskFault` comes only if the disk's count of faults rose, and `NoMemory` only if memory runs
     /// out. `Damaged` comes if a text has another id than its entry, with the entry's file and offset,
@@ -61,7 +64,7 @@ impl DiskArchive {
     pub(crate) fn rows<D: Disk>(&self, alloc: Global, disk: &mut D) -> Result<Views, OpenRefusal>
         ensures rows { (a : Archive) (cache : List ℕ)
             → IsStoreWith self.now cache a (D.content disk.old)
-            → IfOk result (λ views. views ≡ rows_of (live a.entries)) }
+            → IfOk result (λ views. views ≡ views_of (live a.entries)) }
         ensures well { (a : Archive) (cache : List ℕ)
             → IsStoreWith self.now cache a (D.content disk.old) → OpensWell result }
         ensures sound { IsSound self.now (D.content disk.old) → OpensWell result }

@@ -25,7 +25,7 @@ const MAP: FileName = FileName {
 };
 
 /// Makes an archive on a disk, whose epochs take several entries each.
-fn made(alloc: Global, disk: MemDisk) -> Result<Engine<MemDisk>, InitRefusal> {
+pub(crate) fn made(alloc: Global, disk: MemDisk) -> Result<Engine<MemDisk>, InitRefusal> {
     match settings(2000, 10, false) {
         None => Err(InitRefusal::NoMemory),
         Some(config) => match Engine::make(alloc, disk, &config) {

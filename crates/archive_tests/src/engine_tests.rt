@@ -89,7 +89,7 @@ fn put_all<K: Keep>(keep: &mut K, into: &mut Bytes) -> Result<bool, Fail> {
 
 /// Delivers two messages to an archive without any, and returns whether each is answered as it
 /// should be.
-fn takes_two<K: Keep>(keep: &mut K) -> Result<bool, OpenRefusal> {
+pub(crate) fn takes_two<K: Keep>(keep: &mut K) -> Result<bool, OpenRefusal> {
     let none = live_from(keep, 0)?;
     let first = deliver(keep, FIRST)?;
     let second = deliver(keep, SECOND)?;
@@ -127,7 +127,7 @@ fn both_give_the_same<K: Keep>(
 
 /// Returns whether an archive of two messages gives the same as one in memory to which they were
 /// delivered, and which answered as it should.
-fn gives_as_memory<K: Keep>(alloc: Global, keep: &mut K) -> Result<bool, Fail> {
+pub(crate) fn gives_as_memory<K: Keep>(alloc: Global, keep: &mut K) -> Result<bool, Fail> {
     let mut memory = in_memory(alloc, 316, 10, false).ok_or("no settings")?;
     let taken = takes_two(&mut memory)?;
     let same = both_give_the_same(alloc, keep, &mut memory)?;

@@ -23,6 +23,10 @@ mod model_tests;
 #[cfg(test)]
 mod reading_tests;
 #[cfg(test)]
+mod reindex_tests;
+#[cfg(test)]
 mod removal_tests;
+#[cfg(test)]
+mod search_tests;
 #[cfg(test)]
 mod thread_tests;

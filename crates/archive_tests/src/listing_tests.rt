@@ -117,7 +117,7 @@ fn rows_are_listed_by_date_and_number(rt: HostRuntime) -> Result<(), Fail> {
 }
 
 /// The rows of the four mails follow removals.
-struct FollowsRemovals;
+pub(crate) struct FollowsRemovals;
 
 impl Check for FollowsRemovals {
     fn passes<K: Keep>(_alloc: Global, keep: &mut K) -> Result<bool, Fail> {
@@ -141,7 +141,7 @@ fn disk_of_three(alloc: Global) -> Result<MemDisk, Fail> {
 }
 
 /// Returns whether the rows of these three mails are listed and found.
-fn has_three<K: Keep>(keep: &mut K) -> Result<bool, Fail> {
+pub(crate) fn has_three<K: Keep>(keep: &mut K) -> Result<bool, Fail> {
     let listed = page_is(keep, 0, 9, &[4, 5, 3])?;
     let found = id_is(keep, b"<a@x>", Some(5))?;
     let gone = !has_row(keep, 2)?;

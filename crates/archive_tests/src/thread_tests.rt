@@ -68,23 +68,35 @@ fn threads_join_and_part(rt: HostRuntime) -> Result<(), Fail> {
     Ok(())
 }
 
+/// Delivers the three mails and removes the first one.
+pub(crate) fn joins_and_loses_one<K: Keep>(keep: &mut K) -> Result<(), Fail> {
+    let _ = joins(keep)?;
+    let _ = stays_ready(keep, &Command::Remove(1), LATER)?;
+    Ok(())
+}
+
 /// Makes an archive of the three mails, the first of which was removed, and returns its disk.
 fn disk_of_two(alloc: Global) -> Result<MemDisk, Fail> {
     let mut engine = on_disk(alloc, 400, false)?;
-    let _ = joins(&mut engine)?;
-    let _ = stays_ready(&mut engine, &Command::Remove(1), LATER)?;
+    joins_and_loses_one(&mut engine)?;
     Ok(engine.into_disk())
+}
+
+/// Returns whether the two mails that are left are in one thread.
+pub(crate) fn holds_two<K: Keep>(keep: &mut K) -> Result<bool, Fail> {
+    let gone = thread_is(keep, 1, &[])?;
+    let both = thread_is(keep, 2, &[2, 3])?;
+    Ok(gone && both)
 }
 
 /// Returns whether the two mails that are left are in one thread, and the second is alone once the
 /// third is removed.
 fn parts_after<K: Keep>(keep: &mut K) -> Result<bool, Fail> {
-    let gone = thread_is(keep, 1, &[])?;
-    let both = thread_is(keep, 2, &[2, 3])?;
+    let both = holds_two(keep)?;
     let ready = stays_ready(keep, &Command::Remove(3), LATER)?;
     let alone = thread_is(keep, 2, &[2])?;
     let none = thread_is(keep, 3, &[])?;
-    Ok(gone && both && ready && alone && none)
+    Ok(both && ready && alone && none)
 }
 
 #[test]

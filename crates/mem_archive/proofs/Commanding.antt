@@ -1,5 +1,5 @@
 -- The archive in memory as a keeper of itself.
-use Rattle.std.proofs.Common.{◌≡◌, ℕ, Bool, true, List, ◌++◌, Option, Some, None, is_some, Ok, inl, inr, refl, sym, ap, subst, ◌∙◌}
+use Rattle.std.proofs.Common.{◌≡◌, ℕ, Bool, true, List, ◌++◌, length, Option, Some, None, is_some, Ok, inl, inr, refl, sym, ap, subst, ◌∙◌}
 use Rattle.std.specs.List.{Contains}
 use Rattle.arch_model.specs.Archives.{Archive, live, text_of}
 use Rattle.arch_model.specs.Delivery.{Done, Delivers}
@@ -27,6 +27,10 @@ moves-itself m n s a same = record { fits = fits-itself a n same; passes = λ st
 -- Reopening does nothing.
 pub fresh-done : (m : Archive) (s : Standing) → Fits Holds at_hand Leaves m s → (t : Standing) × Moves Holds at_hand Leaves m s m t × Settles s t
 fresh-done m s fits = (standing m None, moves-itself m m s m refl, record { found = inl (sym (fits.settled refl).0); sure = refl })
+
+-- Rebuilding counts the live messages.
+pub reindex-done : (m : Archive) (s : Standing) → Fits Holds at_hand Leaves m s → (count : ℕ) → count ≡ length (live m.entries) → (t : Standing) × Moves Holds at_hand Leaves m s m t × Settles s t × (count ≡ length (live t.archive.entries))
+reindex-done m s fits count is = (standing m None, moves-itself m m s m refl, record { found = inl (sym (fits.settled refl).0); sure = refl }, is)
 
 -- The answer to a command is that of its keeper.
 module _ (m n : Archive) (wanted : Archive → Done) (s : Standing) (fits : Fits Holds at_hand Leaves m s) where

@@ -8,3 +8,4 @@ mod Delivering
 mod Commanding
 mod RowsKept
 mod OwnIds
+mod Counting

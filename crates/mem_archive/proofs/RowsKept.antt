@@ -1,16 +1,14 @@
--- The rows of the archive in memory after one more entry.
-use Rattle.std.specs.Prelude.{◌≡◌, ◌==◌, ◌+◌, ◌<◌, ℕ, Bool, true, false, List, [], ◌∷◌, ◌++◌, length, Some, None, refl, if◌then◌else◌}
+-- The views of the archive in memory after one more entry.
+use Rattle.std.specs.Prelude.{◌≡◌, ◌==◌, ◌+◌, ◌<◌, ◌≤◌, ℕ, Bool, true, false, List, [], ◌∷◌, ◌++◌, length, Some, None, refl, if◌then◌else◌}
 use Rattle.std.specs.List.{AllByRecursion}
-use Rattle.std.specs.BTreeMap.{insert_entry}
-use Rattle.std.specs.Ordering.{nat_cmp}
 use Rattle.std.proofs.Common.{◌∙◌, sym, ap, subst, arith}
 use Rattle.std.proofs.lemmas.Bool.{eqb-true}
 use Rattle.arch_base.specs.declared.config.Config.{Config}
 use Rattle.arch_base.specs.declared.ids.Id20.{Id20}
 use Rattle.git_objects.specs.declared.entry_kind.EntryKind.TheVariants.{Message}
-use Rattle.mail_forms.specs.declared.row.Row.{Row}
+use Rattle.mime_parts.specs.Words.{mail_words}
 use Rattle.arch_model.specs.Archives.{Archive, Entry, message, deletion, live}
-use Rattle.arch_model.specs.Listings.{rows_of, row_at, row_in as row_shown}
+use Rattle.arch_model.specs.Listings.{row_at, row_in as row_shown}
 use Rattle.arch_model.specs.Rows.{row_of}
 use Rattle.arch_model.specs.Validity.{Rise}
 use Rattle.arch_model.proofs.LiveEntries.{live-message, live-deletion, live-all}
@@ -19,9 +17,13 @@ use Rattle.arch_judge.specs.Indexes.{HasSame}
 use Rattle.arch_judge.specs.declared.index.Index.{Index}
 use Rattle.arch_judge.proofs.Endings.{Ascend, live-ascend}
 use Rattle.arch_judge.proofs.Indexes.{IsIndex-same}
-use Rattle.overview_index.specs.Listings.{row_in, with_row, without}
-use Rattle.overview_index.proofs.Messages.{AllBelow, Ascends, row-is, row-number, rows-added, rows-taken}
-use Rattle.overview_index.proofs.RowLists.{without-with}
+use Rattle.overview_index.specs.Listings.{row_in}
+use Rattle.overview_index.proofs.Messages.{AllBelow, Ascends, row-is, row-number}
+use Rattle.view_set.specs.Viewed.{Viewed, with_mail, without_mail, views_of, searched, AreWorded}
+use Rattle.view_set.proofs.MailLists.{mails-added, mails-taken, mail-back, are-worded}
+use Rattle.view_set.proofs.Searching.{searched-is}
+use Rattle.arch_model.specs.Searching.{search}
+use Rattle.query_lang.specs.declared.query.Query.{Query}
 use Rattle.mem_archive.specs.Memory.{archive_of, entries_of, IsKept, IsUpTo}
 use Rattle.mem_archive.specs.declared.kept.End.{End}
 use Rattle.mem_archive.specs.declared.kept.Kept.{Kept}
@@ -44,47 +46,52 @@ ascends-of number [] rise = tt
 ascends-of number (e ∷ es) rise = (rise.0, ascends-of (e.number + 1) es rise.1)
 
 -- One message more, with the next number.
-rows_message : (es more : List Entry) (next epoch : ℕ) (text : List ℕ) (moment : ℕ) (old new : List (ℕ × Row)) → more ≡ es ++ message next epoch text moment ∷ [] → AllByRecursion (λ (e : Entry). e.number < next) es → old ≡ rows_of (live es)
-    → new ≡ with_row old (row_of next text moment) → new ≡ rows_of (live more)
-rows_message es more next epoch text moment old new more_is below old_is new_is =
+views_message : (es more : List Entry) (next epoch : ℕ) (text : List ℕ) (moment : ℕ) (old new : Viewed) → more ≡ es ++ message next epoch text moment ∷ [] → AllByRecursion (λ (e : Entry). e.number < next) es → old ≡ views_of (live es)
+    → new ≡ with_mail old (row_of next text moment) (mail_words text) → new ≡ views_of (live more)
+views_message es more next epoch text moment old new more_is below old_is new_is =
     let one : Entry = message next epoch text moment in
     new_is
-    ∙ ap (λ rs. with_row rs (row_at one)) old_is
-    ∙ rows-added (live es) one (live-all (λ (e : Entry). e.number < next) es below)
-    ∙ ap rows_of (sym (ap live more_is ∙ live-message es next epoch text moment))
+    ∙ ap (λ (v : Viewed). with_mail v (row_at one) (mail_words text)) old_is
+    ∙ mails-added (live es) one (live-all (λ (e : Entry). e.number < next) es below)
+    ∙ ap views_of (sym (ap live more_is ∙ live-message es next epoch text moment))
 
 -- One deletion more.
-pub rows-deletion : (es more : List Entry) (n epoch : ℕ) (text : List ℕ) (moment : ℕ) (old new : List (ℕ × Row)) → more ≡ es ++ deletion n epoch text moment ∷ [] → Rise 1 0 es → old ≡ rows_of (live es) → new ≡ without old n → new ≡ rows_of (live more)
-rows-deletion es more n epoch text moment old new more_is rise old_is new_is =
+pub views-deletion : (es more : List Entry) (n epoch : ℕ) (text : List ℕ) (moment : ℕ) (old new : Viewed) → more ≡ es ++ deletion n epoch text moment ∷ [] → Rise 1 0 es → old ≡ views_of (live es) → new ≡ without_mail old n → new ≡ views_of (live more)
+views-deletion es more n epoch text moment old new more_is rise old_is new_is =
     new_is
-    ∙ ap (λ rs. without rs n) old_is
-    ∙ rows-taken (live es) 1 n (ascends-of 1 (live es) (live-ascend 1 0 es rise))
-    ∙ ap rows_of (sym (ap live more_is ∙ live-deletion es n epoch text moment))
+    ∙ ap (λ (v : Viewed). without_mail v n) old_is
+    ∙ mails-taken (live es) 1 n (ascends-of 1 (live es) (live-ascend 1 0 es rise))
+    ∙ ap views_of (sym (ap live more_is ∙ live-deletion es n epoch text moment))
 
 -- The same of what is kept, with the number that was made for the message. Where it is not kept, all
 -- is as before.
-module _ (config : Config) (ks : List Kept) (places : List Place) (index : Index) (end_ : End) (a : Archive) (is : archive_of config ks places ≡ a) (kept : IsKept config ks places index end_) (rows : List (ℕ × Row)) (rows_are : rows ≡ rows_of (live (entries_of ks))) (number : ℕ) (number_is : number ≡ a.next) (read : List ℕ) (moment : ℕ) (mid : List (ℕ × Row)) (mid_is : mid ≡ with_row rows (row_of number read moment)) where
+module _ (config : Config) (ks : List Kept) (places : List Place) (index : Index) (end_ : End) (a : Archive) (is : archive_of config ks places ≡ a) (kept : IsKept config ks places index end_) (views : Viewed) (views_are : views ≡ views_of (live (entries_of ks))) (number : ℕ) (number_is : number ≡ a.next) (read : List ℕ) (moment : ℕ) (mid : Viewed) (mid_is : mid ≡ with_mail views (row_of number read moment) (mail_words read)) where
   last : number ≡ length places + 1
   last = number_is ∙ ap (λ (b : Archive). b.next) (sym is)
 
   below : AllByRecursion (λ (e : Entry). e.number < number) (entries_of ks)
   below = all_weaker (IsUpTo (length places)) (λ (e : Entry). e.number < number) (entries_of ks) (λ e up. let most = up.1 in omega (arith, most, last)) kept.numbered
 
-  pub row-kept : (epoch : ℕ) (text : List ℕ) (commit : Id20) → read ≡ text → (held : List Kept) → held ≡ ks ++ record { kind = Message; number = number; epoch = epoch; text = text; moment = moment; commit = commit } ∷ [] → mid ≡ rows_of (live (entries_of held))
+  pub row-kept : (epoch : ℕ) (text : List ℕ) (commit : Id20) → read ≡ text → (held : List Kept) → held ≡ ks ++ record { kind = Message; number = number; epoch = epoch; text = text; moment = moment; commit = commit } ∷ [] → mid ≡ views_of (live (entries_of held))
   row-kept epoch text commit read_is held held_is =
-      rows_message (entries_of ks) (entries_of held) number epoch text moment rows mid (ap entries_of held_is ∙ entries_of-push ks (record { kind = Message; number = number; epoch = epoch; text = text; moment = moment; commit = commit })) below rows_are
-      (mid_is ∙ ap (λ t. with_row rows (row_of number t moment)) read_is)
+      views_message (entries_of ks) (entries_of held) number epoch text moment views mid (ap entries_of held_is ∙ entries_of-push ks (record { kind = Message; number = number; epoch = epoch; text = text; moment = moment; commit = commit })) below views_are
+      (mid_is ∙ ap (λ t. with_mail views (row_of number t moment) (mail_words t)) read_is)
 
-  free : row_in rows number ≡ None
-  free = ap (λ rs. row_in rs number) rows_are ∙ row-is (live (entries_of ks)) number ∙ none_above (live (entries_of ks)) number (live-all (λ (e : Entry). e.number < number) (entries_of ks) below)
+  free : row_in views.rows (row_of number read moment).number ≡ None
+  free =
+      ap (λ n. row_in views.rows n) (row-number number read moment)
+      ∙ ap (λ (v : Viewed). row_in v.rows number) views_are ∙ row-is (live (entries_of ks)) number ∙ none_above (live (entries_of ks)) number (live-all (λ (e : Entry). e.number < number) (entries_of ks) below)
 
-  back : (new : List (ℕ × Row)) → new ≡ without mid number → new ≡ rows
+  worded : AreWorded views.rows views.words
+  worded = subst (λ (v : Viewed). AreWorded v.rows v.words) (sym views_are) (are-worded (live (entries_of ks)))
+
+  back : (new : Viewed) → new ≡ without_mail mid number → new ≡ views
   back new new_is =
       new_is
-      ∙ ap (λ rs. without rs number) (mid_is ∙ ap (λ n. insert_entry nat_cmp rows n (row_of number read moment)) (row-number number read moment))
-      ∙ without-with rows number (row_of number read moment) free
+      ∙ ap (λ (v : Viewed). without_mail v number) mid_is
+      ∙ mail-back views (row_of number read moment) (mail_words read) number (sym (row-number number read moment)) worded free
 
-  pub row-left : (held : List Kept) → held ≡ ks → (spots : List Place) → spots ≡ places → (other : Index) → HasSame index other → (new : List (ℕ × Row)) → new ≡ without mid number → IsKept config held spots other end_ × (new ≡ rows_of (live (entries_of held)))
+  pub row-left : (held : List Kept) → held ≡ ks → (spots : List Place) → spots ≡ places → (other : Index) → HasSame index other → (new : Viewed) → new ≡ without_mail mid number → IsKept config held spots other end_ × (new ≡ views_of (live (entries_of held)))
   row-left held held_is spots spots_are other same new new_is = (
     subst (λ (ks2 : List Kept). IsKept config ks2 spots other end_) (sym held_is)
         (subst (λ (places2 : List Place). IsKept config ks places2 other end_) (sym spots_are) (record {
@@ -102,5 +109,17 @@ module _ (config : Config) (ks : List Kept) (places : List Place) (index : Index
           last = kept.last;
           ends = kept.ends;
         })),
-    back new new_is ∙ rows_are ∙ ap (λ (held2 : List Kept). rows_of (live (entries_of held2))) (sym held_is),
+    back new new_is ∙ views_are ∙ ap (λ (held2 : List Kept). views_of (live (entries_of held2))) (sym held_is),
   )
+
+-- A search among what is kept.
+pub found-kept : (config : Config) (ks : List Kept) (places : List Place) (index : Index) (end_ : End) (a : Archive) (is : archive_of config ks places ≡ a) (kept : IsKept config ks places index end_) (query : Query) → searched query (views_of (live a.entries)) ≡ search query (live a.entries)
+found-kept config ks places index end_ a is kept query =
+    subst (λ (b : Archive). searched query (views_of (live b.entries)) ≡ search query (live b.entries)) is
+    (searched-is query (length places + 1) (live (entries_of ks)) small (live-all (λ (e : Entry). e.number < length places + 1) (entries_of ks) below) (ascends-of 1 (live (entries_of ks)) (live-ascend 1 0 (entries_of ks) kept.order)))
+  where
+    below : AllByRecursion (λ (e : Entry). e.number < length places + 1) (entries_of ks)
+    below = all_weaker (IsUpTo (length places)) (λ (e : Entry). e.number < length places + 1) (entries_of ks) (λ e up. up.1) kept.numbered
+
+    small : length places + 1 ≤ 2147483648
+    small = (let most : config.max ≤ 2147483647 = kept.settings.max_high in let few = kept.numbers in omega (arith, most, few))

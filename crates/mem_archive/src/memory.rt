@@ -1,5 +1,5 @@
 //! A plain archive in memory, which does what the definitions say, call by call.
-ghost use Rattle.std.specs.Prelude.{◌≡◌, ◌++◌, ◌≤◌, false, take, drop, option_copied, IfOk, OnOk, OnErr, IsSome, Some, None};
+ghost use Rattle.std.specs.Prelude.{◌≡◌, ◌++◌, ◌≤◌, false, take, drop, length, option_copied, IfOk, OnOk, OnErr, IsSome, Some, None};
 ghost use Rattle.arch_base.specs.Configs.{IsConfig};
 ghost use Rattle.mail_reader.specs.Content.{content_id_of};
 ghost use Rattle.mail_reader.specs.Ids.{own_id as own_id_of};
@@ -12,6 +12,7 @@ ghost use Rattle.mem_archive.specs.Memory.{GivesEpoch, Grows, MayKeep};
 ghost use Rattle.arch_model.specs.Listings.{row_in, number_of_id, listing};
 ghost use Rattle.arch_model.specs.Shelves.{IsGreatestLive, live_between, line_at, blob_text};
 ghost use Rattle.arch_model.specs.Standing.{IsLeastLive, IsUntouched};
+ghost use Rattle.arch_model.specs.Searching.{search};
 ghost use Rattle.arch_model.specs.Threading.{thread_in};
 ghost use Rattle.arch_model.specs.declared.answer.Answer.{Answer};
 
@@ -19,7 +20,7 @@ use crate::kept::{End, Kept, Place, push_after};
 use crate::placing::{count_live, greatest_live, hide, least_live, once_at, place_of, shown_at};
 use arch_base::{Bytes, Config, NoMemory, Numbers, ObjectId};
 use arch_judge::{Index, Owner, Verdict, compared, judge};
-use arch_model::{Answer, Command, EntryLine, Row};
+use arch_model::{Answer, Command, EntryLine, Query, Row};
 use git_objects::{EntryKind, blob_id};
 use mail_reader::{content_id, own_id};
 use std::alloc::Global;
@@ -41,15 +42,15 @@ pub struct MemArchive {
 impl Model for MemArchive {
     ghost use Rattle.std.specs.Prelude.{◌≡◌};
     ghost use Rattle.arch_model.specs.Archives.{Archive, live};
-    ghost use Rattle.arch_model.specs.Listings.{rows_of};
     ghost use Rattle.mem_archive.specs.Memory.{archive_of, entries_of, IsKept};
+    ghost use Rattle.view_set.specs.Viewed.{views_of};
 
     ghost Value = { Archive };
 
     ghost view = { λ m. archive_of m.config m.kept.items m.places.items };
 
     ghost invariant = { λ m. IsKept m.config m.kept.items m.places.items m.index m.end
-        × (m.views ≡ rows_of (live (entries_of m.kept.items))) };
+        × (m.views ≡ views_of (live (entries_of m.kept.items))) };
 }
 
 impl MemArchive {
@@ -113,6 +114,14 @@ impl MemArchive {
         count_live(self.places.as_slice(), low, high)
     }
 
+    /// Returns how many live messages there are.
+    pub(crate) fn message_count(&self) -> u32
+        ensures { result ≡ length (live self.now.entries) }
+    {
+        // There are no more messages than numbers.
+        count_live(self.places.as_slice(), 0, u32::MAX).min(u64::from(u32::MAX)) as u32
+    }
+
     /// Returns the row of a live message, or `None` if the number is not live.
     pub(crate) fn row_at(&self, number: u32) -> Option<&Row>
         ensures { option_copied result ≡ row_in (live self.now.entries) number }
@@ -144,6 +153,13 @@ impl MemArchive {
         ensures { IfOk result (λ numbers. numbers ≡ thread_in (live self.now.entries) number) }
     {
         self.views.thread_of(number)
+    }
+
+    /// Returns the numbers of the live messages that match a query, newest first.
+    pub(crate) fn matching(&self, query: &Query) -> Result<Numbers, NoMemory>
+        ensures { IfOk result (λ numbers. numbers ≡ search query.now (live self.now.entries)) }
+    {
+        self.views.search(query)
     }
 
     /// Returns the entry at an index, from 0, without its text, or `None` if there are not so many.
@@ -345,7 +361,7 @@ impl MemArchive {
             commit,
         })?;
         self.index.remove(id.as_slice());
-        // The row is taken, even if memory runs out for the threads.
+        // The row and the words are taken, even if memory runs out for the threads.
         let _ = self.views.take(number);
         hide(&mut self.places, number as usize - 1);
         self.end = end;

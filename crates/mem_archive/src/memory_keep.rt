@@ -6,7 +6,7 @@ ghost use Rattle.mem_archive.specs.Crashes.{held-left, same-read};
 
 use crate::memory::MemArchive;
 use arch_base::{Bytes, Config, NoMemory, Numbers, ObjectId};
-use arch_model::{Answer, Command, EntryLine, Keep, OpenRefusal, Row, Shelf, TextRefusal};
+use arch_model::{Answer, Command, EntryLine, Keep, OpenRefusal, Query, Row, Shelf, TextRefusal};
 
 impl Shelf for MemArchive {
     ghost holds = { λ m a. a ≡ m };
@@ -55,6 +55,10 @@ impl Shelf for MemArchive {
         self.thread(n)
     }
 
+    fn search(&self, query: &Query) -> Result<Numbers, NoMemory> {
+        self.matching(query)
+    }
+
     fn entry(&self, index: u64) -> Option<EntryLine> {
         self.line(index)
     }
@@ -95,6 +99,11 @@ impl Keep for MemArchive {
 
     fn fresh(&mut self) -> Result<(), OpenRefusal> {
         Ok(())
+    }
+
+    // Nothing is kept beside the archive that could be read again.
+    fn reindex(&mut self) -> Result<u32, OpenRefusal> {
+        Ok(self.message_count())
     }
 
     fn command(&mut self, command: &Command<'_>, moment: u64) -> Answer {

@@ -24,14 +24,14 @@ pub returns-clause-any_moment : goal.returns-clause-any_moment
 returns-clause-any_moment g c =
     let room = c.has_next_root.ensures.0 c.if-not-has_next_root.false in
     left-from g.D.Disk.content g.D.Disk.moment g.D.Disk.left_since g.met.D.Disk.counts_now g.met.D.Disk.only_now g.met.D.Disk.reads_fit
-    (record { disk = c.self.inside.disk; view = c.self.inside.archive; rows = c.self.inside.views; stale = c.self.inside.stale }) c.args.self.now c.self.view_is c.command_keeping-answer.new.disk
+    (record { disk = c.self.inside.disk; view = c.self.inside.archive; views = c.self.inside.views; stale = c.self.inside.stale }) c.args.self.now c.self.view_is c.command_keeping-answer.new.disk
     (λ (a : Archive). (applied a c.args.command.now c.args.moment).archive) (λ a cache store. c.command_keeping-answer.ensures.taken.any_moment a cache store room)
 
 pub returns-clause-done : goal.returns-clause-done
 returns-clause-done g c =
     let room = c.has_next_root.ensures.0 c.if-not-has_next_root.false in
     done-from g.D.Disk.content g.D.Disk.moment g.D.Disk.left_since g.met.D.Disk.counts_now g.met.D.Disk.only_now g.met.D.Disk.reads_fit
-    (record { disk = c.self.inside.disk; view = c.self.inside.archive; rows = c.self.inside.views; stale = c.self.inside.stale }) c.args.self.now c.self.view_is c.command_keeping-answer.new.self c.command_keeping-answer.new.disk
+    (record { disk = c.self.inside.disk; view = c.self.inside.archive; views = c.self.inside.views; stale = c.self.inside.stale }) c.args.self.now c.self.view_is c.command_keeping-answer.new.self c.command_keeping-answer.new.disk
     (λ (a : Archive). applied a c.args.command.now c.args.moment) c.command_keeping-answer.result (λ a cache store. c.command_keeping-answer.ensures.taken.done a cache store room)
 
 pub returns-clause-stands : goal.returns-clause-stands
@@ -42,8 +42,8 @@ returns-clause-stands g c =
     let wanted = λ (a : Archive). applied a c.args.command.now c.args.moment in
     let stale_is : c.is_left_stale-self-inside.result ≡ (needs_opening reply || not ok) = c.is_left_stale-self-inside.ensures in
     taken-from g.D.Disk.content g.D.Disk.moment g.D.Disk.left_since g.met.D.Disk.counts_now g.met.D.Disk.only_now g.met.D.Disk.reads_fit
-    (record { disk = c.self.inside.disk; view = c.self.inside.archive; rows = c.self.inside.views; stale = c.self.inside.stale }) c.args.self.now c.self.view_is c.law_of_recovery.ensures.caches
-    (record { disk = c.command_keeping-answer.new.disk; view = c.command_keeping-answer.new.self; rows = c.follow-followed.new.views; stale = c.is_left_stale-self-inside.result })
+    (record { disk = c.self.inside.disk; view = c.self.inside.archive; views = c.self.inside.views; stale = c.self.inside.stale }) c.args.self.now c.self.view_is c.law_of_recovery.ensures.caches
+    (record { disk = c.command_keeping-answer.new.disk; view = c.command_keeping-answer.new.self; views = c.follow-followed.new.views; stale = c.is_left_stale-self-inside.result })
     wanted reply (λ needs. stale_is ∙ needs-stale (needs_opening reply) ok needs)
     (λ a cache store. c.command_keeping-answer.ensures.taken.any_moment a cache store room) (λ a cache store. c.command_keeping-answer.ensures.taken.done a cache store room)
     (λ a cache store old_is.
@@ -61,12 +61,12 @@ follow-followed-requires g c = record { text = rw c.as_slice-kept.ensures c.comm
 
 pub returns-clause-cause : goal.returns-clause-cause
 returns-clause-cause g c = answer-cause-from g.D.Disk.content g.D.Disk.moment g.D.Disk.left_since g.met.D.Disk.counts_now g.met.D.Disk.only_now g.met.D.Disk.reads_fit
-    (record { disk = c.self.inside.disk; view = c.self.inside.archive; rows = c.self.inside.views; stale = c.self.inside.stale }) c.args.self.now c.self.view_is
+    (record { disk = c.self.inside.disk; view = c.self.inside.archive; views = c.self.inside.views; stale = c.self.inside.stale }) c.args.self.now c.self.view_is
     g.D.Disk.faults c.command_keeping-answer.new.disk c.command_keeping-answer.result c.command_keeping-answer.ensures.taken.cause
 
 pub returns-clause-steady : goal.returns-clause-steady
 returns-clause-steady g c = steady-from g.D.Disk.content g.D.Disk.moment g.D.Disk.left_since g.met.D.Disk.counts_now g.met.D.Disk.only_now g.met.D.Disk.reads_fit
-    (record { disk = c.self.inside.disk; view = c.self.inside.archive; rows = c.self.inside.views; stale = c.self.inside.stale }) c.args.self.now c.self.view_is
+    (record { disk = c.self.inside.disk; view = c.self.inside.archive; views = c.self.inside.views; stale = c.self.inside.stale }) c.args.self.now c.self.view_is
     g.D.Disk.faults c.command_keeping-answer.new.disk c.command_keeping-answer.result c.command_keeping-answer.ensures.taken.cause
 
 pub returns-clause-unread : goal.returns-clause-unread
@@ -79,15 +79,15 @@ returns-then-not-has_next_root-clause-untouched g c = reading-same g.D.Disk.cont
 
 pub returns-clause-untouched : goal.returns-clause-untouched
 returns-clause-untouched g c = refused-from g.D.Disk.content g.D.Disk.moment g.D.Disk.left_since g.met.D.Disk.counts_now g.met.D.Disk.only_now g.met.D.Disk.reads_fit
-    (record { disk = c.self.inside.disk; view = c.self.inside.archive; rows = c.self.inside.views; stale = c.self.inside.stale }) c.args.self.now c.self.view_is
-    (record { disk = c.command_keeping-answer.new.disk; view = c.command_keeping-answer.new.self; rows = c.follow-followed.new.views; stale = c.is_left_stale-self-inside.result })
+    (record { disk = c.self.inside.disk; view = c.self.inside.archive; views = c.self.inside.views; stale = c.self.inside.stale }) c.args.self.now c.self.view_is
+    (record { disk = c.command_keeping-answer.new.disk; view = c.command_keeping-answer.new.self; views = c.follow-followed.new.views; stale = c.is_left_stale-self-inside.result })
     (is_ok c.follow-followed.result) c.args.command.now c.as_slice-kept.result.now c.args.moment c.command_keeping-answer.result c.requires.ready c.is_left_stale-self-inside.ensures c.follow-followed.ensures.refused c.command_keeping-answer.ensures.taken.same
     (λ went. on-ok c.follow-followed.result _ c.follow-followed.ensures.rows went) c.command_keeping-answer.ensures.taken.untouched
 
 pub returns-clause-unmoved : goal.returns-clause-unmoved
 returns-clause-unmoved g c = unmoved-from g.D.Disk.content g.D.Disk.moment g.D.Disk.left_since g.met.D.Disk.counts_now g.met.D.Disk.only_now g.met.D.Disk.reads_fit
-    (record { disk = c.self.inside.disk; view = c.self.inside.archive; rows = c.self.inside.views; stale = c.self.inside.stale }) c.args.self.now c.self.view_is
-    (record { disk = c.command_keeping-answer.new.disk; view = c.command_keeping-answer.new.self; rows = c.follow-followed.new.views; stale = c.is_left_stale-self-inside.result })
+    (record { disk = c.self.inside.disk; view = c.self.inside.archive; views = c.self.inside.views; stale = c.self.inside.stale }) c.args.self.now c.self.view_is
+    (record { disk = c.command_keeping-answer.new.disk; view = c.command_keeping-answer.new.self; views = c.follow-followed.new.views; stale = c.is_left_stale-self-inside.result })
     (is_ok c.follow-followed.result) c.args.command.now c.as_slice-kept.result.now c.args.moment c.command_keeping-answer.result c.requires.ready c.is_left_stale-self-inside.ensures c.follow-followed.ensures.refused c.command_keeping-answer.ensures.taken.same
     (λ went. on-ok c.follow-followed.result _ c.follow-followed.ensures.rows went) c.command_keeping-answer.ensures.taken.unmoved
 
@@ -98,6 +98,6 @@ pub returns-clause-removed : goal.returns-clause-removed
 returns-clause-removed g c =
     let room = c.has_next_root.ensures.0 c.if-not-has_next_root.false in
     removed-from g.D.Disk.content g.D.Disk.moment g.D.Disk.left_since g.met.D.Disk.counts_now g.met.D.Disk.only_now g.met.D.Disk.reads_fit
-    (record { disk = c.self.inside.disk; view = c.self.inside.archive; rows = c.self.inside.views; stale = c.self.inside.stale }) c.args.self.now c.self.view_is
-    (record { disk = c.command_keeping-answer.new.disk; view = c.command_keeping-answer.new.self; rows = c.follow-followed.new.views; stale = c.is_left_stale-self-inside.result })
+    (record { disk = c.self.inside.disk; view = c.self.inside.archive; views = c.self.inside.views; stale = c.self.inside.stale }) c.args.self.now c.self.view_is
+    (record { disk = c.command_keeping-answer.new.disk; view = c.command_keeping-answer.new.self; views = c.follow-followed.new.views; stale = c.is_left_stale-self-inside.result })
     c.args.command.now c.args.moment c.as_slice-kept.result.now c.command_keeping-answer.result (λ a cache store. c.command_keeping-answer.ensures.taken.done a cache store room) c.follow-followed.ensures.removed

@@ -1,11 +1,11 @@
-use Rattle.std.proofs.Common.{ℕ, List, subst}
-use Rattle.mail_forms.specs.declared.row.Row.{Row}
+use Rattle.std.proofs.Common.{subst}
 use Rattle.arch_model.specs.Archives.{live}
 use Rattle.overview_index.specs.Listings.{IsLeastFrom}
 use Rattle.overview_index.proofs.Messages.{least-live}
-use Rattle.archive_core.proofs.Engines.{rows-inside}
+use Rattle.view_set.specs.Viewed.{Viewed}
+use Rattle.archive_core.proofs.Engines.{views-inside}
 use Rattle.archive_core.proofs.engine.EngineShelf.live_from.Goals as goal
 
 pub returns : goal.returns
-returns g c = λ a store. least-live (live a.entries) c.args.n c.live_from.result (subst (λ (rs : List (ℕ × Row)). IsLeastFrom rs c.args.n c.live_from.result) (rows-inside g.D.Disk.content g.D.Disk.moment g.D.Disk.left_since g.met.D.Disk.counts_now g.met.D.Disk.only_now g.met.D.Disk.reads_fit
-    (record { disk = c.self.inside.disk; view = c.self.inside.archive; rows = c.self.inside.views; stale = c.self.inside.stale }) c.args.self.now c.self.view_is a store) c.live_from.ensures)
+returns g c = λ a store. least-live (live a.entries) c.args.n c.live_from.result (subst (λ (v : Viewed). IsLeastFrom v.rows c.args.n c.live_from.result) (views-inside g.D.Disk.content g.D.Disk.moment g.D.Disk.left_since g.met.D.Disk.counts_now g.met.D.Disk.only_now g.met.D.Disk.reads_fit
+    (record { disk = c.self.inside.disk; view = c.self.inside.archive; views = c.self.inside.views; stale = c.self.inside.stale }) c.args.self.now c.self.view_is a store) c.live_from.ensures)

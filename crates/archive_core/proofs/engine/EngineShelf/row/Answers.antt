@@ -2,9 +2,10 @@ use Rattle.std.proofs.Common.{◌∙◌, ap}
 use Rattle.arch_model.specs.Archives.{live}
 use Rattle.overview_index.specs.Listings.{row_in}
 use Rattle.overview_index.proofs.Messages.{row-is}
-use Rattle.archive_core.proofs.Engines.{rows-inside}
+use Rattle.view_set.specs.Viewed.{Viewed}
+use Rattle.archive_core.proofs.Engines.{views-inside}
 use Rattle.archive_core.proofs.engine.EngineShelf.row.Goals as goal
 
 pub returns : goal.returns
-returns g c = λ a store. c.get.ensures ∙ ap (λ rs. row_in rs c.args.n) (rows-inside g.D.Disk.content g.D.Disk.moment g.D.Disk.left_since g.met.D.Disk.counts_now g.met.D.Disk.only_now g.met.D.Disk.reads_fit
-    (record { disk = c.self.inside.disk; view = c.self.inside.archive; rows = c.self.inside.views; stale = c.self.inside.stale }) c.args.self.now c.self.view_is a store) ∙ row-is (live a.entries) c.args.n
+returns g c = λ a store. c.get.ensures ∙ ap (λ (v : Viewed). row_in v.rows c.args.n) (views-inside g.D.Disk.content g.D.Disk.moment g.D.Disk.left_since g.met.D.Disk.counts_now g.met.D.Disk.only_now g.met.D.Disk.reads_fit
+    (record { disk = c.self.inside.disk; view = c.self.inside.archive; views = c.self.inside.views; stale = c.self.inside.stale }) c.args.self.now c.self.view_is a store) ∙ row-is (live a.entries) c.args.n

@@ -1,9 +1,9 @@
 use Rattle.std.proofs.Common.{◌∙◌, ap}
 use Rattle.arch_model.specs.Archives.{Archive, live}
-use Rattle.arch_model.specs.Listings.{rows_of}
 use Rattle.overview_index.specs.Listings.{row_in}
 use Rattle.overview_index.proofs.Messages.{row-is}
+use Rattle.view_set.specs.Viewed.{Viewed, views_of}
 use Rattle.mem_archive.proofs.memory.MemArchive.row_at.Goals as goal
 
 pub returns : goal.returns
-returns c = c.get.ensures ∙ ap (λ rs. row_in rs c.args.number) (c.self.invariant.1 ∙ ap (λ (a : Archive). rows_of (live a.entries)) c.self.view_is) ∙ row-is (live c.args.self.now.entries) c.args.number
+returns c = c.get.ensures ∙ ap (λ (v : Viewed). row_in v.rows c.args.number) (c.self.invariant.1 ∙ ap (λ (a : Archive). views_of (live a.entries)) c.self.view_is) ∙ row-is (live c.args.self.now.entries) c.args.number
