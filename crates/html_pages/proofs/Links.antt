@@ -3,6 +3,7 @@ use Rattle.std.proofs.Common.{◌≡◌, ℕ, zero, suc, ◌+◌, ◌*◌, ◌%�
 use Rattle.std.specs.Prelude.{codes, filter, replicate}
 use Rattle.std.specs.Fmt.{decimal}
 use Rattle.std.specs.List.{flat_map}
+use Rattle.form_urlencoded.specs.Form.{byte_serialize}
 use Rattle.std.proofs.lemmas.Bool.{eqb-true, eqb-false}
 use Rattle.std.proofs.lemmas.Fmt.{decimal_by_steps_wide}
 use Rattle.std.proofs.lemmas.List.Elements.{filter-append}
@@ -18,10 +19,10 @@ use Rattle.html_pages.specs.declared.thread_line.ThreadLine.{ThreadLine}
 use Rattle.html_pages.specs.declared.thread_line.ThreadEntry.{ThreadEntry}
 use Rattle.html_pages.specs.declared.thread_line.ThreadEntry.TheVariants.{Mail, Missing}
 use Rattle.html_pages.specs.Pieces.{page_date, address}
-use Rattle.html_pages.specs.Lines.{row_line, older_link, field_line, header_line, links_line, indent, entry_line, thread_line}
-use Rattle.html_pages.specs.Pages.{page_of, shown_fields, message_lines, listing_of, message_of, thread_of}
-use Rattle.html_pages.specs.Laws.{is_markup, markup, link_markup, links_markup, page_markup, is_of_mail, mail_count, ListingHasItsTags, MessageHasItsTags, ThreadHasItsTags}
-use Rattle.html_pages.proofs.Markup.{apart, none-all, none-append, none-cons, text_none, address_none, name_none}
+use Rattle.html_pages.specs.Lines.{row_line, older_link, older_found, field_line, header_line, links_line, indent, entry_line, thread_line}
+use Rattle.html_pages.specs.Pages.{page_of, shown_fields, message_lines, listing_of, search_of, message_of, thread_of}
+use Rattle.html_pages.specs.Laws.{is_markup, markup, link_markup, links_markup, page_markup, is_of_mail, mail_count, ListingHasItsTags, SearchHasItsTags, MessageHasItsTags, ThreadHasItsTags}
+use Rattle.html_pages.proofs.Markup.{apart, none-all, none-append, none-cons, text_none, address_none, name_none, form_none}
 
 -- One piece more, by its markup.
 more : (a b m n : List ℕ) → markup a ≡ m → markup b ≡ n → markup (a ++ b) ≡ m ++ n
@@ -114,6 +115,36 @@ unfolding listing_of
 listing_tags name rows skip h l =
     framed name (flat_map (row_line name) (take 200 rows) ++ older_link skip (length (drop 200 rows))) (min (length rows) 201)
     (name_none name h) (shown_links name rows skip h l (eqb (length (drop 200 rows)) 0) refl)
+
+-- The page of a search.
+found_one : (text : List ℕ) (skip : ℕ) → skip < 2 ^ 64
+    → markup (codes "<a href=\"?q=" ++ byte_serialize text ++ codes "&amp;o=" ++ decimal (skip + 200) ++ codes "\">older</a>\n") ≡ link_markup
+found_one text skip h =
+    let a = codes "<a href=\"?q=" in
+    let b = byte_serialize text in
+    let c = codes "&amp;o=" in
+    let d = decimal (skip + 200) in
+    more (((a ++ b) ++ c) ++ d) (codes "\">older</a>\n") (codes "<\"") (codes "\"><>")
+    (and_none ((a ++ b) ++ c) d (codes "<\"") (and_none (a ++ b) c (codes "<\"") (and_none a b (codes "<\"") refl (form_none text)) refl) (number_none (skip + 200) (omega arith))) refl
+
+found_links : (name text : List ℕ) (rows : List Row) (skip : ℕ) → IsName name → skip < 2 ^ 64 → (none : Bool) → eqb (length (drop 200 rows)) 0 ≡ none
+    → markup (flat_map (row_line name) (take 200 rows) ++ cond none [] (codes "<a href=\"?q=" ++ byte_serialize text ++ codes "&amp;o=" ++ decimal (skip + 200) ++ codes "\">older</a>\n")) ≡ links_markup (min (length rows) 201)
+found_links name text rows skip h l true e =
+    let none : length (drop 200 rows) ≡ 0 = eqb-true (length (drop 200 rows)) 0 e in
+    let count : length (take 200 rows) ≡ min (length rows) 201 = grind (arith, length-take 200 rows, length-drop 200 rows, none) in
+    and_none (flat_map (row_line name) (take 200 rows)) [] (links_markup (min (length rows) 201)) (rows_links name (take 200 rows) h ∙ ap links_markup count) refl
+found_links name text rows skip h l false e =
+    let some : length (drop 200 rows) ≡ 0 → ⊥ = eqb-false (length (drop 200 rows)) 0 e in
+    let count : length (take 200 rows) + 1 ≡ min (length rows) 201 = grind (arith, length-take 200 rows, length-drop 200 rows, some) in
+    more (flat_map (row_line name) (take 200 rows)) (codes "<a href=\"?q=" ++ byte_serialize text ++ codes "&amp;o=" ++ decimal (skip + 200) ++ codes "\">older</a>\n") (links_markup (length (take 200 rows))) link_markup
+    (rows_links name (take 200 rows) h) (found_one text skip l)
+    ∙ links-append (length (take 200 rows)) 1 ∙ ap links_markup count
+
+pub search_tags : SearchHasItsTags
+unfolding search_of
+search_tags name text rows skip h l =
+    framed name (flat_map (row_line name) (take 200 rows) ++ older_found text skip (length (drop 200 rows))) (min (length rows) 201)
+    (name_none name h) (found_links name text rows skip h l (eqb (length (drop 200 rows)) 0) refl)
 
 -- The page of a message.
 field_none : (name : List ℕ) (field : Option FieldText) → markup name ≡ [] → markup (field_line name field) ≡ []

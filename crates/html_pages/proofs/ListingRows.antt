@@ -7,8 +7,8 @@ use Rattle.std.proofs.lemmas.Bool.{cases_order}
 use Rattle.std.proofs.lemmas.List.{take-map, drop-map, take_all, drop_all, length-map}
 use Rattle.std.proofs.lemmas.List.Folds.{flat_map-map}
 use Rattle.mail_forms.specs.declared.row.Row.{Row}
-use Rattle.html_pages.specs.Lines.{row_line, older_link}
-use Rattle.html_pages.specs.Pages.{page_of, listing_of}
+use Rattle.html_pages.specs.Lines.{row_line, older_link, older_found}
+use Rattle.html_pages.specs.Pages.{page_of, listing_of, search_of}
 
 least_left : (a b : ℕ) → a ≤ b → min a b ≡ a
 least_left a b h = grind (arith)
@@ -16,7 +16,7 @@ least_left a b h = grind (arith)
 least_right : (a b : ℕ) → b ≤ a → min a b ≡ b
 least_right a b h = grind (arith)
 
-take_least : {A : Type 0} (n : ℕ) (xs : List A) → take (min (length xs) n) xs ≡ take n xs
+pub take_least : {A : Type 0} (n : ℕ) (xs : List A) → take (min (length xs) n) xs ≡ take n xs
 take_least {A} n xs =
     let short : length xs ≤ n → take (min (length xs) n) xs ≡ take n xs = λ h. ap (λ m. take m xs) (least_left (length xs) n h) ∙ take_all (length xs) xs (omega arith) ∙ sym (take_all n xs h) in
     elim (cases_order (length xs) n) [
@@ -25,7 +25,7 @@ take_least {A} n xs =
       | inr (inr more) ↦ ap (λ m. take m xs) (least_right (length xs) n (omega arith))
     ]
 
-drop_least : {A : Type 0} (n : ℕ) (xs : List A) → drop (min (length xs) n) xs ≡ drop n xs
+pub drop_least : {A : Type 0} (n : ℕ) (xs : List A) → drop (min (length xs) n) xs ≡ drop n xs
 drop_least {A} n xs =
     let short : length xs ≤ n → drop (min (length xs) n) xs ≡ drop n xs = λ h. ap (λ m. drop m xs) (least_left (length xs) n h) ∙ drop_all (length xs) xs (omega arith) ∙ sym (drop_all n xs h) in
     elim (cases_order (length xs) n) [
@@ -65,3 +65,15 @@ listing-made name rows shown older m skip made e taken dropped h =
     h ∙ joined (codes "<html><head><title>") name (codes "</title></head><body><pre>") lines rest (codes "</pre></body></html>\n")
     ∙ ap (λ l. page_of name (l ++ rest)) (shown_lines (row_line name) 200 m rows shown e taken)
     ∙ ap (λ k. page_of name (flat_map (row_line name) (take 200 (map now_of rows)) ++ older_link skip k)) (older_count 200 m rows older e dropped)
+
+-- The page of a search, by its pieces.
+pub search-made : (name text : List ℕ) (rows shown older : List (Bor Row)) (m skip : ℕ) (made : List ℕ) → m ≡ min (length rows) 200 → shown ≡ take m rows → older ≡ drop m rows
+    → made ≡ ((((codes "<html><head><title>" ++ name) ++ codes "</title></head><body><pre>") ++ flat_map (λ (row : Bor Row). row_line name row.now) shown) ++ older_found text skip (length older)) ++ codes "</pre></body></html>\n"
+    → made ≡ search_of name text (map (λ (row : Bor Row). row.now) rows) skip
+unfolding search_of
+search-made name text rows shown older m skip made e taken dropped h =
+    let lines = flat_map (λ (row : Bor Row). row_line name row.now) shown in
+    let rest = older_found text skip (length older) in
+    h ∙ joined (codes "<html><head><title>") name (codes "</title></head><body><pre>") lines rest (codes "</pre></body></html>\n")
+    ∙ ap (λ l. page_of name (l ++ rest)) (shown_lines (row_line name) 200 m rows shown e taken)
+    ∙ ap (λ k. page_of name (flat_map (row_line name) (take 200 (map now_of rows)) ++ older_found text skip k)) (older_count 200 m rows older e dropped)

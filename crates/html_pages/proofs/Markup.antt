@@ -9,6 +9,8 @@ use Rattle.std.specs.Str.Lossy.{utf8_lossy}
 use Rattle.std.proofs.lemmas.Bool.{ne_eqb, or_from}
 use Rattle.std.proofs.lemmas.Bool.Decides.{nat_tests}
 use Rattle.std.proofs.lemmas.List.Elements.{filter-append}
+use Rattle.form_urlencoded.specs.Form.{is_unchanged, serialize_byte, byte_serialize}
+use Rattle.percent_encoding.specs.Percent.{percent_encode_byte}
 use Rattle.arch_base.specs.Names.{IsName, is_name_byte}
 use Rattle.web_text.specs.Addresses.{is_plain, in_address, inside, escaped_bytes, address_of}
 use Rattle.web_text.specs.Escapes.{is_excluded, shown, spelled, escaped_chars}
@@ -98,6 +100,20 @@ byte_by false b e = escape b
 pub id_none : (id : List ℕ) → markup (address_of id) ≡ []
 unfolding escaped_bytes
 id_none id = none-each in_address (λ b. byte_by (is_plain b) b refl) (inside id)
+
+-- A text in a form has none.
+form_by : (plain blank : Bool) (b : ℕ) → is_unchanged b ≡ plain → markup (cond plain (b ∷ []) (cond blank (43 ∷ []) (percent_encode_byte b))) ≡ []
+unfolding percent_encode_byte
+form_by true blank b e = one b (passes is_unchanged b refl refl refl e)
+form_by false true b e = refl
+form_by false false b e =
+    none-cons 37 (digit_glyph true (b / 16 % 16) ∷ digit_glyph true (b % 16) ∷ []) refl
+    (none-cons (digit_glyph true (b / 16 % 16)) (digit_glyph true (b % 16) ∷ []) (glyph_by (ltb (b / 16 % 16) 10) (b / 16 % 16) refl)
+    (one (digit_glyph true (b % 16)) (glyph_by (ltb (b % 16) 10) (b % 16) refl)))
+
+pub form_none : (text : List ℕ) → markup (byte_serialize text) ≡ []
+unfolding byte_serialize
+form_none text = none-each serialize_byte (λ b. form_by (is_unchanged b) (eqb b 32) b refl) text
 
 -- Bytes of which none is one.
 pub none-all : (bs : List ℕ) → All (λ (b : ℕ). is_markup b ≡ false) bs → markup bs ≡ []

@@ -5,7 +5,7 @@ use Rattle.arch_base.specs.Names.{IsName}
 use Rattle.mail_forms.specs.declared.row.Row.{Row}
 use Rattle.web_text.specs.Escapes.{escaped}
 use Rattle.html_pages.specs.Pieces.{address}
-use Rattle.html_pages.specs.Pages.{listing_of, message_of, thread_of}
+use Rattle.html_pages.specs.Pages.{listing_of, search_of, message_of, thread_of}
 use Rattle.html_pages.specs.declared.thread_line.ThreadLine.{ThreadLine}
 use Rattle.html_pages.specs.declared.thread_line.ThreadEntry.{ThreadEntry}
 use Rattle.html_pages.specs.declared.thread_line.ThreadEntry.TheVariants.{Mail, Missing}
@@ -42,6 +42,12 @@ AddressMakesNoTag = (name id : List ℕ) → IsName name → markup (address nam
 abbrev pub ListingHasItsTags : Type 0
 ListingHasItsTags = (name : List ℕ) (rows : List Row) (skip : ℕ) → IsName name → skip < 2 ^ 64
     → markup (listing_of name rows skip) ≡ page_markup (min (length rows) 201)
+
+-- The page of a search has its own tags, and a link for each row that it shows and to older ones,
+-- whatever text is searched for.
+abbrev pub SearchHasItsTags : Type 0
+SearchHasItsTags = (name text : List ℕ) (rows : List Row) (skip : ℕ) → IsName name → skip < 2 ^ 64
+    → markup (search_of name text rows skip) ≡ page_markup (min (length rows) 201)
 
 -- The page of a message has its own tags, and two links.
 abbrev pub MessageHasItsTags : Type 0

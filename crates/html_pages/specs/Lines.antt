@@ -1,6 +1,7 @@
 -- The lines of pages.
 use Rattle.std.specs.Prelude.{ℕ, ◌+◌, ◌*◌, min, ◌==◌, List, [], ◌++◌, Option, Some, None, replicate, codes, if◌then◌else◌}
 use Rattle.std.specs.Fmt.{decimal}
+use Rattle.form_urlencoded.specs.Form.{byte_serialize}
 use Rattle.mail_reader.specs.Fields.{FieldText, fields_of, first_named}
 use Rattle.mail_reader.specs.Values.{flat_of}
 use Rattle.mime_words.specs.Decoding.{decoded}
@@ -27,6 +28,14 @@ abbrev pub older_link : ℕ → ℕ → List ℕ
 older_link skip count =
     if count == 0 then []
     else codes "<a href=\"?o=" ++ decimal (skip + rows_shown) ++ codes "\">older</a>\n"
+
+-- The link to the rows that a search for a text found after those that are shown, of which there are
+-- so many. For none there is no link.
+abbrev pub older_found : List ℕ → ℕ → ℕ → List ℕ
+older_found text skip count =
+    if count == 0 then []
+    else codes "<a href=\"?q=" ++ byte_serialize text ++ codes "&amp;o="
+    ++ decimal (skip + rows_shown) ++ codes "\">older</a>\n"
 
 -- The line of a field: its name, and its decoded value.
 abbrev pub field_line : List ℕ → Option FieldText → List ℕ

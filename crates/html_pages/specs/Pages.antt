@@ -3,7 +3,7 @@ use Rattle.std.specs.Prelude.{ℕ, List, [], ◌∷◌, ◌++◌, length, take, 
 use Rattle.std.specs.List.{flat_map}
 use Rattle.mail_forms.specs.declared.row.Row.{Row}
 use Rattle.web_text.specs.Escapes.{escaped, title_of}
-use Rattle.html_pages.specs.Lines.{row_line, rows_shown, older_link, header_line, links_line, thread_line}
+use Rattle.html_pages.specs.Lines.{row_line, rows_shown, older_link, older_found, header_line, links_line, thread_line}
 use Rattle.html_pages.specs.declared.thread_line.ThreadLine.{ThreadLine}
 
 -- A page with a title, and with lines that are shown as they stand.
@@ -18,6 +18,13 @@ unfoldable pub listing_of : List ℕ → List Row → ℕ → List ℕ
 listing_of name rows skip =
     page_of name
     (flat_map (row_line name) (take rows_shown rows) ++ older_link skip (length (drop rows_shown rows)))
+
+-- The page of a search for a text: of the rows that were found and follow the skipped ones, at most
+-- 200, and a link to those after them, which searches for the same text.
+unfoldable pub search_of : List ℕ → List ℕ → List Row → ℕ → List ℕ
+search_of name text rows skip =
+    page_of name (flat_map (row_line name) (take rows_shown rows)
+    ++ older_found text skip (length (drop rows_shown rows)))
 
 -- The fields that the page of a message shows, in this order.
 abbrev pub shown_fields : List (List ℕ)

@@ -12,7 +12,7 @@ use mail_forms::Row;
 use std::alloc::Global;
 
 /// How many rows a listing shows at once.
-const ROWS_SHOWN: usize = 200;
+pub(crate) const ROWS_SHOWN: usize = 200;
 
 /// Returns the page of a listing.
 ///
@@ -36,7 +36,12 @@ pub fn listing_page(alloc: Global, name: &Name, rows: &[&Row], skip: u64) -> Res
 }
 
 /// Appends the lines of mails.
-fn push_rows(alloc: Global, name: &Name, rows: &[&Row], into: &mut Bytes) -> Result<(), NoMemory>
+pub(crate) fn push_rows(
+    alloc: Global,
+    name: &Name,
+    rows: &[&Row],
+    into: &mut Bytes,
+) -> Result<(), NoMemory>
     ensures { OnOk result (into.new
         ≡ into.old ++ flat_map (λ row. row_line name.now row.now) rows.now) }
 {

@@ -13,6 +13,8 @@ mod mails;
 #[cfg(test)]
 mod message_tests;
 #[cfg(test)]
+mod search_tests;
+#[cfg(test)]
 mod target_tests;
 #[cfg(test)]
 mod thread_tests;
