@@ -4,7 +4,7 @@ ghost use Rattle.arch_base.specs.Counts.{Rose};
 ghost use Rattle.arch_model.specs.Untold.{HoldsNone};
 
 use arch_base::{Bytes, Config, NoMemory, Numbers, ObjectId};
-use arch_model::{EntryLine, Row, Shelf, TextRefusal};
+use arch_model::{EntryLine, Query, Row, Shelf, TextRefusal};
 use mem_archive::MemArchive;
 
 /// Why a text isn't read.
@@ -90,6 +90,10 @@ impl Shelf for FailingShelf {
 
     fn thread_of(&self, n: u32) -> Result<Numbers, NoMemory> {
         self.archive.thread_of(n)
+    }
+
+    fn search(&self, query: &Query) -> Result<Numbers, NoMemory> {
+        self.archive.search(query)
     }
 
     fn entry(&self, index: u64) -> Option<EntryLine> {

@@ -1,6 +1,8 @@
 //! What is said where texts can't be read, or a send is lost.
 use crate::failing_shelf::{Failing, FailingShelf};
-use crate::mails::{A, MOMENT, archive_of_three, empty_archive};
+use crate::mails::{
+    A, AFTER_ONE, LISTING, LONE_A, MOMENT, THREAD_A, archive_of_three, empty_archive,
+};
 use arch_base::Numbers;
 use arch_model::{Command, Keep, Next};
 use edge_io::MemSink;
@@ -82,6 +84,34 @@ fn a_text_that_is_not_read_is_told(rt: HostRuntime) {
     }
 }
 
+/// Requests that need no text: a listing, the page of a thread, and searches.
+const WITHOUT_TEXTS: [(&[u8], &[u8]); 4] = [
+    (b"GET /list/ HTTP/1.1\r\n\r\n", LISTING),
+    (b"GET /list/a@x/t/ HTTP/1.1\r\n\r\n", THREAD_A),
+    (b"GET /list/?q=first HTTP/1.1\r\n\r\n", AFTER_ONE),
+    (b"GET /list/?q=b:one HTTP/1.1\r\n\r\n", LONE_A),
+];
+
+/// Returns whether a reply to a request ends with a page, though no text can be read, and the
+/// connection then continues.
+fn is_shown(alloc: Global, request: &[u8], page: &[u8]) -> bool {
+    let Some(archive) = archive_of_three(alloc) else {
+        return false;
+    };
+    let mut shelf = FailingShelf::new(archive, Failing::Disk, 1);
+    let mut out = MemSink::new(alloc, Numbers::new(alloc));
+    let mut session = HttpSession::open(alloc);
+    let next = session.feed(request, MOMENT, &mut shelf, &mut out);
+    out.taken().ends_with(page) && next == Next::Go
+}
+
+#[test]
+fn a_listing_a_thread_and_a_search_read_no_text(rt: HostRuntime) {
+    for (request, page) in &WITHOUT_TEXTS {
+        assert!(rt; is_shown(rt.alloc(), request, page), "{:?}", request);
+    }
+}
+
 /// Creates an archive with a mail of 70022 bytes, and a small one.
 fn big_archive(alloc: Global) -> Option<MemArchive> {
     let mut archive = empty_archive(alloc)?;
@@ -127,9 +157,10 @@ fn is_lost(alloc: Global, request: &[u8]) -> Option<bool> {
 }
 
 /// Requests of each kind.
-const REQUESTS: [&[u8]; 4] = [
+const REQUESTS: [&[u8]; 5] = [
     b"GET /list/ HTTP/1.1\r\n\r\n",
     b"GET /list/zz/ HTTP/1.1\r\n\r\n",
+    b"GET /list/?q=d:x HTTP/1.1\r\n\r\n",
     b"GET /list/all.mbox HTTP/1.1\r\n\r\n",
     b"x\r\n\r\n",
 ];

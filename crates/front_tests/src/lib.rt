@@ -11,6 +11,8 @@ mod mails;
 #[cfg(test)]
 mod request_tests;
 #[cfg(test)]
+mod search_tests;
+#[cfg(test)]
 mod stream_tests;
 #[cfg(test)]
 mod word_tests;

@@ -28,6 +28,10 @@ pub(crate) const LISTING: &[u8] =
 pub(crate) const AFTER_ONE: &[u8] =
     b"<html><head><title>list</title></head><body><pre>2024-02-01 11:00 <a href=\"/list/b%2F2@x/\">Re: &lt;first&gt; &amp; more</a> Bob\n2024-02-01 10:00 <a href=\"/list/a@x/\">first</a> Ann\n</pre></body></html>\n";
 
+/// The row of the first mail alone.
+pub(crate) const LONE_A: &[u8] =
+    b"<html><head><title>list</title></head><body><pre>2024-02-01 10:00 <a href=\"/list/a@x/\">first</a> Ann\n</pre></body></html>\n";
+
 /// A listing without a row.
 pub(crate) const AFTER_ALL: &[u8] =
     b"<html><head><title>list</title></head><body><pre></pre></body></html>\n";

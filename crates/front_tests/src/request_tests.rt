@@ -1,6 +1,6 @@
 //! Heads and targets, and their replies, which were worked out by hand from the formats.
 use crate::mails::{
-    A, AFTER_ALL, AFTER_ONE, ALL_MBOX, B, Connection, FEED, LISTING, LONE_FEED, LONE_MBOX,
+    A, AFTER_ALL, AFTER_ONE, ALL_MBOX, B, Connection, FEED, LISTING, LONE_A, LONE_FEED, LONE_MBOX,
     MESSAGE_A, MESSAGE_B, MESSAGE_C, THREAD_A, THREAD_B, THREAD_C, THREAD_FEED, THREAD_MBOX,
 };
 use arch_base::{Bytes, NoMemory};
@@ -47,7 +47,7 @@ const CLOSE: &[u8] = b"Connection: close\r\n";
 const ALLOW: &[u8] = b"Allow: GET, HEAD\r\nConnection: close\r\n";
 
 /// Requests for the listing.
-static LISTED: [Case; 15] = [
+static LISTED: [Case; 16] = [
     Case {
         request: b"GET /list/ HTTP/1.1\r\n\r\n",
         status: b"200 OK",
@@ -71,6 +71,15 @@ static LISTED: [Case; 15] = [
         status: b"200 OK",
         kind: PAGE,
         body: AFTER_ONE,
+        more: b"",
+        sends: true,
+        next: Next::Go,
+    },
+    Case {
+        request: b"GET /list/?o=2 HTTP/1.1\r\n\r\n",
+        status: b"200 OK",
+        kind: PAGE,
+        body: LONE_A,
         more: b"",
         sends: true,
         next: Next::Go,
@@ -400,7 +409,7 @@ static MAILBOXES: [Case; 5] = [
 ];
 
 /// Requests for what is not there.
-static ABSENT: [Case; 25] = [
+static ABSENT: [Case; 22] = [
     Case {
         request: b"GET /list/zz/ HTTP/1.1\r\n\r\n",
         status: b"404 Not Found",
@@ -582,33 +591,6 @@ static ABSENT: [Case; 25] = [
         next: Next::Go,
     },
     Case {
-        request: b"GET /list/?q= HTTP/1.1\r\n\r\n",
-        status: b"404 Not Found",
-        kind: WORDS,
-        body: b"not found\n",
-        more: b"",
-        sends: true,
-        next: Next::Go,
-    },
-    Case {
-        request: b"GET /list/?q=s:first HTTP/1.1\r\n\r\n",
-        status: b"404 Not Found",
-        kind: WORDS,
-        body: b"not found\n",
-        more: b"",
-        sends: true,
-        next: Next::Go,
-    },
-    Case {
-        request: b"GET /list/?o=1&%71=x HTTP/1.1\r\n\r\n",
-        status: b"404 Not Found",
-        kind: WORDS,
-        body: b"not found\n",
-        more: b"",
-        sends: true,
-        next: Next::Go,
-    },
-    Case {
         request: b"GET /list/b/2@x/ HTTP/1.1\r\n\r\n",
         status: b"404 Not Found",
         kind: WORDS,
@@ -625,6 +607,194 @@ static ABSENT: [Case; 25] = [
         more: b"",
         sends: true,
         next: Next::Go,
+    },
+];
+
+/// Requests for searches.
+static SEARCHED: [Case; 15] = [
+    Case {
+        request: b"GET /list/?q= HTTP/1.1\r\n\r\n",
+        status: b"200 OK",
+        kind: PAGE,
+        body: LISTING,
+        more: b"",
+        sends: true,
+        next: Next::Go,
+    },
+    Case {
+        request: b"GET /list/?q=s:first HTTP/1.1\r\n\r\n",
+        status: b"200 OK",
+        kind: PAGE,
+        body: AFTER_ONE,
+        more: b"",
+        sends: true,
+        next: Next::Go,
+    },
+    Case {
+        request: b"GET /list/?q=s%3Afirst&q=lone HTTP/1.1\r\n\r\n",
+        status: b"200 OK",
+        kind: PAGE,
+        body: AFTER_ONE,
+        more: b"",
+        sends: true,
+        next: Next::Go,
+    },
+    Case {
+        request: b"GET /list/?q=s:first&o=1 HTTP/1.1\r\n\r\n",
+        status: b"200 OK",
+        kind: PAGE,
+        body: LONE_A,
+        more: b"",
+        sends: true,
+        next: Next::Go,
+    },
+    Case {
+        request: b"GET /list/?o=1&%71=s:first HTTP/1.1\r\n\r\n",
+        status: b"200 OK",
+        kind: PAGE,
+        body: LONE_A,
+        more: b"",
+        sends: true,
+        next: Next::Go,
+    },
+    Case {
+        request: b"GET /list/?q=s:first&o=2 HTTP/1.1\r\n\r\n",
+        status: b"200 OK",
+        kind: PAGE,
+        body: AFTER_ALL,
+        more: b"",
+        sends: true,
+        next: Next::Go,
+    },
+    Case {
+        request: b"GET /list/?q=s:one HTTP/1.1\r\n\r\n",
+        status: b"200 OK",
+        kind: PAGE,
+        body: AFTER_ALL,
+        more: b"",
+        sends: true,
+        next: Next::Go,
+    },
+    Case {
+        request: b"GET /list/?q=one%20d:20240201..20240201 HTTP/1.1\r\n\r\n",
+        status: b"200 OK",
+        kind: PAGE,
+        body: LONE_A,
+        more: b"",
+        sends: true,
+        next: Next::Go,
+    },
+    Case {
+        request: b"GET /list/?q=one+d:20240202..20240202 HTTP/1.1\r\n\r\n",
+        status: b"200 OK",
+        kind: PAGE,
+        body: AFTER_ALL,
+        more: b"",
+        sends: true,
+        next: Next::Go,
+    },
+    Case {
+        request: b"GET /list/?q=d:20240201..20240201&o=1 HTTP/1.1\r\n\r\n",
+        status: b"200 OK",
+        kind: PAGE,
+        body: AFTER_ONE,
+        more: b"",
+        sends: true,
+        next: Next::Go,
+    },
+    Case {
+        request: b"GET /list/?q=f:ann HTTP/1.1\r\n\r\n",
+        status: b"200 OK",
+        kind: PAGE,
+        body: LONE_A,
+        more: b"",
+        sends: true,
+        next: Next::Go,
+    },
+    Case {
+        request: b"GET /list/?q=first%09one HTTP/1.1\r\n\r\n",
+        status: b"200 OK",
+        kind: PAGE,
+        body: LONE_A,
+        more: b"",
+        sends: true,
+        next: Next::Go,
+    },
+    Case {
+        request: b"GET /list/?o=1&q=x HTTP/1.1\r\n\r\n",
+        status: b"200 OK",
+        kind: PAGE,
+        body: AFTER_ALL,
+        more: b"",
+        sends: true,
+        next: Next::Go,
+    },
+    Case {
+        request: b"GET /list/?q=S:first HTTP/1.1\r\n\r\n",
+        status: b"200 OK",
+        kind: PAGE,
+        body: AFTER_ALL,
+        more: b"",
+        sends: true,
+        next: Next::Go,
+    },
+    Case {
+        request: b"HEAD /list/?q=s:one HTTP/1.1\r\n\r\n",
+        status: b"200 OK",
+        kind: PAGE,
+        body: AFTER_ALL,
+        more: b"",
+        sends: false,
+        next: Next::Go,
+    },
+];
+
+/// Searches for what is no query.
+static NO_QUERIES: [Case; 5] = [
+    Case {
+        request: b"GET /list/?q=d:20240201..20240101 HTTP/1.1\r\n\r\n",
+        status: b"400 Bad Request",
+        kind: WORDS,
+        body: b"bad range\n",
+        more: b"",
+        sends: true,
+        next: Next::Go,
+    },
+    Case {
+        request: b"GET /list/?q=one+d:20240230..20240301 HTTP/1.1\r\n\r\n",
+        status: b"400 Bad Request",
+        kind: WORDS,
+        body: b"bad range\n",
+        more: b"",
+        sends: true,
+        next: Next::Go,
+    },
+    Case {
+        request: b"GET /list/?q=d: HTTP/1.1\r\n\r\n",
+        status: b"400 Bad Request",
+        kind: WORDS,
+        body: b"bad range\n",
+        more: b"",
+        sends: true,
+        next: Next::Go,
+    },
+    Case {
+        request: b"HEAD /list/?q=d:x HTTP/1.1\r\n\r\n",
+        status: b"400 Bad Request",
+        kind: WORDS,
+        body: b"bad range\n",
+        more: b"",
+        sends: false,
+        next: Next::Go,
+    },
+    Case {
+        request: b"GET /list/?q=d:x HTTP/1.0\r\n\r\n",
+        status: b"400 Bad Request",
+        kind: WORDS,
+        body: b"bad range\n",
+        more: CLOSE,
+        sends: true,
+        next: Next::Close,
     },
 ];
 
@@ -937,6 +1107,20 @@ fn is_answered(alloc: Global, case: &Case) -> bool {
 #[test]
 fn the_listing_is_shown(rt: HostRuntime) {
     for case in &LISTED {
+        assert!(rt; is_answered(rt.alloc(), case), "{:?}", case.request);
+    }
+}
+
+#[test]
+fn searches_are_shown(rt: HostRuntime) {
+    for case in &SEARCHED {
+        assert!(rt; is_answered(rt.alloc(), case), "{:?}", case.request);
+    }
+}
+
+#[test]
+fn other_ranges_are_bad(rt: HostRuntime) {
+    for case in &NO_QUERIES {
         assert!(rt; is_answered(rt.alloc(), case), "{:?}", case.request);
     }
 }

@@ -1,7 +1,7 @@
 //! Streams worked out by hand from the formats, each fed in every way that its length allows.
 use crate::mails::Connection;
 use arch_model::Next;
-use http_front::http_laws;
+use http_front::{heads_are_read, http_laws};
 use std::alloc::Global;
 
 /// A stream to an archive without mails, and its replies.
@@ -195,6 +195,7 @@ fn is_answered(alloc: Global, stream: &Stream) -> bool {
 
 #[test]
 fn streams_are_answered_however_cut(rt: HostRuntime) {
+    heads_are_read();
     http_laws();
     for stream in &STREAMS {
         assert!(rt; is_answered(rt.alloc(), stream), "{:?}", stream.bytes);

@@ -68,7 +68,7 @@ fn no_memory_is(alloc: Global, reply: &[u8]) -> bool {
 /// Returns whether the reply to a refusal is this.
 fn unopened_is(alloc: Global, refusal: OpenRefusal, reply: &[u8]) -> bool {
     let mut out = MemSink::new(alloc, Numbers::new(alloc));
-    say_unopened(alloc, refusal, MOMENT, &mut out).is_ok() && out.taken() == reply
+    say_unopened(refusal, MOMENT, &mut out).is_ok() && out.taken() == reply
 }
 
 /// Returns the refusal of an archive with a damaged epoch.

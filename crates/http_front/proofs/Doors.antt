@@ -8,12 +8,12 @@ use Rattle.line_door.proofs.Cutting.{door_laws}
 use Rattle.arch_model.specs.Archives.{Archive}
 use Rattle.http_heads.specs.Heads.{Asked}
 use Rattle.http_heads.specs.Replies.{verdict_of}
-use Rattle.http_heads.specs.declared.reply.Status.TheVariants.{Done, NotFound, ServerError}
+use Rattle.http_heads.specs.declared.reply.Status.TheVariants.{Done, BadRequest, NotFound, ServerError}
 use Rattle.http_heads.specs.declared.reply.Verdict.{Verdict}
 use Rattle.http_heads.specs.declared.reply.Verdict.TheVariants.{Serve, Refuse}
 use Rattle.http_front.specs.Fronts.{Front, Whole, Long, Partial, front, is_whole, head_limit}
-use Rattle.http_front.specs.Asking.{Reading, Found, Gives, Streams, Missing, target_found, target_reads}
-use Rattle.http_front.specs.Replies.{reply, word}
+use Rattle.http_front.specs.Asking.{Reading, Found, Gives, Streams, Missing, BadRange, target_found, target_reads}
+use Rattle.http_front.specs.Replies.{reply, word, word_of, bad_range}
 use Rattle.http_front.specs.Door.{Says, replies, served, said_found, said_verdict, said_head, unkept, said_at, said, has_request, with_piece}
 use Rattle.http_front.proofs.Fronts.{Goes, Same, Over, Open, front-goes, front-shorter, not_whole}
 
@@ -30,6 +30,7 @@ served-after : (moment : ℕ) (a : Archive) (sends ends : Bool) (rest q : List �
 served-after moment a sends ends rest q (Gives body bytes) = replies-after a rest q ends false _
 served-after moment a sends ends rest q (Streams body bytes) = replies-after a rest q ends sends _
 served-after moment a sends ends rest q Missing = replies-after a rest q ends false _
+served-after moment a sends ends rest q BadRange = replies-after a rest q ends false _
 
 -- Where texts aren't read, the disk is as in the plain way.
 either-after : (t : Bool) (x x' y : Says) (q : List ℕ) → y ≡ said_with (with_piece q) y → x' ≡ said_with (with_piece q) x → (if t then y else x') ≡ said_with (with_piece q) (if t then y else x)
@@ -75,6 +76,7 @@ served-left : (moment : ℕ) (a : Archive) (sends ends : Bool) (rest : List ℕ)
 served-left moment a sends ends rest (Gives body bytes) k e = replies-left a rest ends false (reply Done moment body bytes sends ends) k e
 served-left moment a sends ends rest (Streams body bytes) k e = replies-left a rest ends sends (reply Done moment body bytes sends ends) k e
 served-left moment a sends ends rest Missing k e = replies-left a rest ends false (word NotFound moment sends ends) k e
+served-left moment a sends ends rest BadRange k e = replies-left a rest ends false (word_of BadRequest bad_range moment sends ends) k e
 
 verdict-left : (moment : ℕ) (a : Archive) (asked : Asked) (rest : List ℕ) (verdict : Verdict) (k : List ℕ) → (said_verdict moment a asked rest verdict Plain).next ≡ Some k → rest ≡ k
 verdict-left moment a asked rest (Serve sends) k e = served-left moment a sends asked.closes rest (target_found a asked.target) k e
@@ -92,7 +94,7 @@ shorter-at reading moment a bytes k (Whole head rest) is h next =
 shorter-at reading moment a bytes k Long is h next = absurd (cc next)
 shorter-at reading moment a bytes k Partial is h next = absurd (cc h)
 
-http_cuts : (reading : Reading) (moment : ℕ) → CutDoor (said reading moment) has_request with_piece length
+pub http_cuts : (reading : Reading) (moment : ℕ) → CutDoor (said reading moment) has_request with_piece length
 http_cuts reading moment = record {
   request_stays = λ q h asked. goes-whole q (front head_limit h) (front head_limit (h ++ q)) (front-goes head_limit h q) asked;
   said_stays = λ q a h way asked. goes-said reading moment a h q way (front head_limit h) (front head_limit (h ++ q)) (front-goes head_limit h q) asked;

@@ -1,19 +1,22 @@
 -- What stands under a target, step by step.
-use Rattle.std.proofs.Common.{◌≡◌, ◌≤◌, ℕ, Bool, true, false, List, take, drop, length, Option, Some, None, IfOk, is_some, Result, Ok, Err, refl, sym, ap, subst, ◌∙◌, arith}
-use Rattle.std.proofs.lemmas.List.{length-take}
+use Rattle.std.proofs.Common.{◌≡◌, ◌≤◌, ℕ, Bool, true, false, List, take, drop, length, min, Option, Some, None, IfOk, is_some, Result, Ok, Err, refl, sym, ap, subst, ◌∙◌, arith}
+use Rattle.std.proofs.lemmas.List.{length-take, take_min, drop_min}
 use Rattle.arch_base.specs.declared.sequence.NoMemory.{NoMemory}
 use Rattle.arch_model.specs.Archives.{Entry, Archive, live}
 use Rattle.arch_model.specs.Listings.{listing}
+use Rattle.arch_model.specs.Searching.{search}
 use Rattle.arch_model.specs.Standing.{GivesTextIn}
 use Rattle.arch_model.specs.declared.text_refusal.TextRefusal.{TextRefusal}
 use Rattle.arch_model.specs.declared.text_refusal.TextRefusal.TheVariants as refusal
 use Rattle.mail_forms.specs.declared.row.Row.{Row}
-use Rattle.html_pages.specs.Pages.{listing_of}
+use Rattle.html_pages.specs.Pages.{listing_of, search_of}
+use Rattle.query_lang.specs.Queries.{query_of}
+use Rattle.query_lang.specs.declared.query.Query.{Query}
 use Rattle.http_heads.specs.Addresses.{Named, named_by, segments_of}
 use Rattle.http_heads.specs.Parameters.{path_of}
 use Rattle.http_heads.specs.declared.reply.Body.TheVariants.{Page}
 use Rattle.http_front.specs.Views.{rows_at}
-use Rattle.http_front.specs.Asking.{Found, Gives, Missing, message_found, text_found, feed_found, listing_found, found_of, named_found, path_found, reads_texts, path_reads, texts_for, path_texts, feed_len, rows_needed, ReadsUpTo}
+use Rattle.http_front.specs.Asking.{Found, Gives, Missing, BadRange, message_found, text_found, feed_found, search_found, listing_found, found_of, named_found, path_found, reads_texts, path_reads, texts_for, path_texts, feed_len, rows_needed, ReadsUpTo}
 use Rattle.http_front.specs.Sessions.{Finds, MakesPage}
 use Rattle.http_front.specs.declared.found.Held.{Held}
 use Rattle.http_front.specs.declared.found.Held.TheVariants as what
@@ -42,6 +45,7 @@ finds-page a found reads (what.Whole body bytes) made = made
 finds-page a found reads what.EveryMail made = absurd made
 finds-page a found reads (what.Mails numbers) made = absurd made
 finds-page a found reads what.Nothing made = made
+finds-page a found reads what.BadRange made = made
 
 -- A text that is needed was not read, while an archive is held.
 pub finds-unread : (a : Archive) (found : Found) (entries : List Entry) (n : ℕ) (old new : List ℕ) (why : TextRefusal) → GivesTextIn entries n old new (Err why) → Finds a found true (Err why)
@@ -70,15 +74,45 @@ finds-message a row text read wanted held is same made =
 pub finds-feed : (a : Archive) (numbers wanted : List ℕ) (result : Result Held TextRefusal) → numbers ≡ wanted → Finds a (feed_found a numbers) true result → Finds a (feed_found a wanted) true result
 finds-feed a numbers wanted result same found = subst (λ (ns : List ℕ). Finds a (feed_found a ns) true result) same found
 
--- With words to search for there is no page.
-pub listing-searched : (a : Archive) (asked : Option (List ℕ)) (skip : ℕ) → is_some asked ≡ true → listing_found a asked skip ≡ Missing
-listing-searched a None skip is = absurd (cc is)
-listing-searched a (Some words) skip is = refl
+-- What is asked by the parameters of a target.
+pub page-asked : (a : Archive) (asked wanted : Option (List ℕ)) (skip skipped : ℕ) (result : Result Held NoMemory) → asked ≡ wanted → skip ≡ skipped → MakesPage (listing_found a asked skip) result → MakesPage (listing_found a wanted skipped) result
+page-asked a asked wanted skip skipped result is skips made =
+    subst (λ (o : Option (List ℕ)). MakesPage (listing_found a o skipped) result) is (subst (λ (n : ℕ). MakesPage (listing_found a asked n) result) skips made)
 
--- Without such words the page that was made is that of the listing.
-pub listing-shown : (a : Archive) (asked : Option (List ℕ)) (skip : ℕ) (found : Found) → is_some asked ≡ false → listing_found a None skip ≡ found → listing_found a asked skip ≡ found
-listing-shown a None skip found is shown = shown
-listing-shown a (Some words) skip found is shown = absurd (cc is)
+-- A search for a text.
+pub page-searched : (a : Archive) (asked : Option (List ℕ)) (text read : List ℕ) (skip : ℕ) (result : Result Held NoMemory) → asked ≡ Some text → read ≡ text → MakesPage (search_found a read skip (query_of read)) result → MakesPage (listing_found a asked skip) result
+page-searched a asked text read skip result is same made =
+    subst (λ (o : Option (List ℕ)). MakesPage (listing_found a o skip) result) (sym is) (subst (λ (t : List ℕ). MakesPage (search_found a t skip (query_of t)) result) same made)
+
+-- The listing, where no text is asked for.
+pub page-listed : (a : Archive) (asked : Option (List ℕ)) (skip : ℕ) (page : List ℕ) → asked ≡ None → listing_found a None skip ≡ Gives Page page → MakesPage (listing_found a asked skip) (Ok (what.Whole Page page))
+page-listed a asked skip page is made = ap (λ (o : Option (List ℕ)). listing_found a o skip) is ∙ made
+
+-- The page of a search by what the text was read as.
+pub page-read : (a : Archive) (text : List ℕ) (skip : ℕ) (query : Query) (asked : Option Query) (result : Result Held NoMemory) → asked ≡ Some query → MakesPage (search_found a text skip (Some query)) result → MakesPage (search_found a text skip asked) result
+page-read a text skip query asked result is made = subst (λ (o : Option Query). MakesPage (search_found a text skip o) result) (sym is) made
+
+pub page-unread : (a : Archive) (text : List ℕ) (skip : ℕ) (asked : Option Query) → asked ≡ None → search_found a text skip asked ≡ BadRange
+page-unread a text skip asked none = ap (search_found a text skip) none
+
+-- The page of a search is made of the rows that were found and follow the skipped ones.
+pub search-made : (a : Archive) (query : Query) (skip : ℕ) (name text found numbers : List ℕ) (rows : List Row) (page : List ℕ) → name ≡ a.config.name → found ≡ search query (live a.entries) → numbers ≡ take rows_needed (drop skip found) → rows ≡ rows_at a.entries numbers
+    → page ≡ search_of name text rows skip → search_found a text skip (Some query) ≡ Gives Page page
+search-made a query skip name text found numbers rows page named all cut read is =
+    let shown : rows ≡ rows_at a.entries (take rows_needed (drop skip (search query (live a.entries)))) = read ∙ ap (rows_at a.entries) (cut ∙ ap (λ (ns : List ℕ). take rows_needed (drop skip ns)) all) in
+    sym (ap (Gives Page) (is ∙ ap (λ (n : List ℕ). search_of n text rows skip) named ∙ ap (λ (rs : List Row). search_of a.config.name text rs skip) shown))
+
+swapped : (m n : ℕ) → min m n ≡ min n m
+swapped m n = omega arith
+
+-- The numbers that a page needs.
+pub needed-is : (numbers rest shown : List ℕ) (skip m k : ℕ) → m ≡ min (length numbers) skip → rest ≡ drop m numbers → k ≡ min (length rest) rows_needed → shown ≡ take k rest → shown ≡ take rows_needed (drop skip numbers)
+needed-is numbers rest shown skip m k m_is rest_is k_is shown_is =
+    shown_is
+    ∙ ap (λ (n : ℕ). take n rest) (k_is ∙ swapped (length rest) rows_needed)
+    ∙ take_min rows_needed rest
+    ∙ ap (take rows_needed)
+    (rest_is ∙ ap (λ (n : ℕ). drop n numbers) (m_is ∙ swapped (length numbers) skip) ∙ drop_min skip numbers)
 
 -- The texts that are read for a path that names something, and for an id of a live mail.
 pub reads-named : (o : Option Named) (named : Named) (before now : ℕ) → o ≡ Some named → ReadsUpTo (texts_for named) before now → ReadsUpTo (path_texts o) before now

@@ -2,7 +2,9 @@ pub mod Fronts
 pub mod Ends
 pub mod Scanning
 pub mod ThreadRows
+pub mod HeadReading
 pub mod Doors
+pub mod Staying
 pub mod Acting
 pub mod Serving
 pub mod Replying

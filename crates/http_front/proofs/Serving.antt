@@ -18,8 +18,8 @@ use Rattle.http_heads.specs.declared.reply.Status.{Status}
 use Rattle.http_heads.specs.declared.reply.Status.TheVariants.{Done, BadRequest, NotFound, ServerError, Unavailable}
 use Rattle.http_heads.specs.declared.reply.Verdict.{Verdict}
 use Rattle.http_heads.specs.declared.reply.Verdict.TheVariants.{Serve, Refuse}
-use Rattle.http_front.specs.Asking.{Reading, IsReading, Found, Gives, Streams, Missing}
-use Rattle.http_front.specs.Replies.{reply, word}
+use Rattle.http_front.specs.Asking.{Reading, IsReading, Found, Gives, Streams, Missing, BadRange}
+use Rattle.http_front.specs.Replies.{reply, word, word_of, bad_range}
 use Rattle.http_front.specs.Door.{served, said_found, said_asked, said_verdict, said_head}
 use Rattle.http_front.specs.Sessions.{SaysThen, SaysWhole, SaysUnread, Finds, said_mailbox}
 use Rattle.http_front.proofs.Acting.{acts-replied}
@@ -71,6 +71,11 @@ module _ (moment : ℕ) (a : Archive) (sends ends : Bool) (rest : List ℕ) (fou
   pub acts-missing : (i j : Outside) (goes : Bool) → found ≡ Missing → j.disk ≡ i.disk → SaysThen (word NotFound moment sends ends) ends i.out i.lost j.out j.lost goes → Acts (said_found moment a sends ends rest found reads) i (held_if goes rest) a j
   acts-missing i j goes is kept said =
       acts-replied (said_found moment a sends ends rest found reads) Plain a rest ends false (word NotFound moment sends ends) i j goes (ap (λ (f : Found). served moment a sends ends rest f) is) refl kept said
+
+  -- The text to search for is no query.
+  pub acts-bad_range : (i j : Outside) (goes : Bool) → found ≡ BadRange → j.disk ≡ i.disk → SaysThen (word_of BadRequest bad_range moment sends ends) ends i.out i.lost j.out j.lost goes → Acts (said_found moment a sends ends rest found reads) i (held_if goes rest) a j
+  acts-bad_range i j goes is kept said =
+      acts-replied (said_found moment a sends ends rest found reads) Plain a rest ends false (word_of BadRequest bad_range moment sends ends) i j goes (ap (λ (f : Found). served moment a sends ends rest f) is) refl kept said
 
   -- A text that is needed was not read, and it was said why.
   pub acts-unread : (why : TextRefusal) (i j : Outside) (sent : Result Unit SinkFault) → Finds a found reads (Err why) → ReadingWhy i.disk j.disk why → i.disk ≤ j.disk → SaysUnread why moment sends i.out i.lost j.out j.lost sent → Acts (said_found moment a sends ends rest found reads) i None a j

@@ -2,9 +2,10 @@
 use Rattle.std.specs.Prelude.{◌≡◌, ◌≤◌, ◌+◌, ℕ, Bool, true, false, List, take, drop, reverse, codes, Option, Some, None}
 use Rattle.arch_model.specs.Archives.{Archive, live}
 use Rattle.arch_model.specs.Listings.{listing}
+use Rattle.arch_model.specs.Searching.{search}
 use Rattle.atom_mbox.specs.Feeds.{feed_of}
 use Rattle.html_pages.specs.Lines.{rows_shown}
-use Rattle.html_pages.specs.Pages.{listing_of, message_of}
+use Rattle.html_pages.specs.Pages.{listing_of, search_of, message_of}
 use Rattle.http_heads.specs.Addresses.{Named, TheListing, TextOf, ThreadOf, MessageOf, TheFeed, TheMailbox, ThreadFeedOf, ThreadMailboxOf, named_by, segments_of}
 use Rattle.http_heads.specs.Heads.{IsHead, Asked, asked_of}
 use Rattle.http_heads.specs.Parameters.{path_of, query_of, parameter, skipped}
@@ -13,6 +14,8 @@ use Rattle.http_heads.specs.declared.reply.Body.TheVariants.{Page, Text, Feed, M
 use Rattle.httparse.specs.Grammar.{RequestHead}
 use Rattle.mail_forms.specs.declared.row.Row.{Row}
 use Rattle.mime_parts.specs.Texts.{body_text_of}
+use Rattle.query_lang.specs.Queries.{query_of as query_read}
+use Rattle.query_lang.specs.declared.query.Query.{Query}
 use Rattle.shelf_trees.specs.Twigs.{thread_twigs}
 use Rattle.thread_tree.specs.Laid.{tree_lines}
 use Rattle.http_front.specs.Views.{number_named, shown_row, rows_at, shown_text, shown_all}
@@ -31,23 +34,33 @@ pub record IsReading (reading : Reading) : Type 0 where
   pub none : (bytes : List ℕ) → ((head : RequestHead) → IsHead bytes head → ⊥)
       → reading bytes ≡ None
 
--- What stands under a target: a body that is said whole, one that is streamed, or nothing.
+-- What stands under a target: a body that is said whole, one that is streamed, or nothing; or the text
+-- to search for is no query.
 pub data Found : Type 0 where
   Gives : Body → List ℕ → Found
   Streams : Body → List ℕ → Found
   Missing : Found
+  BadRange : Found
 
 -- The rows that the page of a listing needs: those that it shows, and one that says that there are
 -- more.
 abbrev pub rows_needed : ℕ
 rows_needed = rows_shown + 1
 
--- The page of a listing. Searches aren't served yet: a target with words to search for has no page.
+-- The page of a search for a text, by its query. Without one a term that starts with `d:` is no range
+-- of days.
+abbrev pub search_found : Archive → List ℕ → ℕ → Option Query → Found
+search_found a text skip None = BadRange
+search_found a text skip (Some query) = Gives Page
+    (search_of a.config.name text
+    (rows_at a.entries (take rows_needed (drop skip (search query (live a.entries))))) skip)
+
+-- The page of a listing, or of a search where a text is asked for, whatever it is.
 abbrev pub listing_found : Archive → Option (List ℕ) → ℕ → Found
 listing_found a None skip = Gives Page
     (listing_of a.config.name
     (rows_at a.entries (take rows_needed (drop skip (listing (live a.entries))))) skip)
-listing_found a (Some words) skip = Missing
+listing_found a (Some text) skip = search_found a text skip (query_read text)
 
 -- What is found of a number, if a live mail has the id.
 abbrev pub found_of : Option ℕ → (ℕ → Found) → Found

@@ -11,8 +11,8 @@ use Rattle.http_heads.specs.declared.reply.Status.TheVariants.{Done, BadRequest,
 use Rattle.http_heads.specs.declared.reply.Verdict.{Verdict}
 use Rattle.http_heads.specs.declared.reply.Verdict.TheVariants.{Serve, Refuse}
 use Rattle.http_front.specs.Fronts.{Front, Whole, Long, Partial, front, is_whole, head_limit}
-use Rattle.http_front.specs.Asking.{Reading, Found, Gives, Streams, Missing, target_found, target_reads}
-use Rattle.http_front.specs.Replies.{reply, word}
+use Rattle.http_front.specs.Asking.{Reading, Found, Gives, Streams, Missing, BadRange, target_found, target_reads}
+use Rattle.http_front.specs.Replies.{reply, word, word_of, bad_range}
 
 -- What an act of a session says, and the bytes and the archive after it.
 abbrev pub Says : Type 0
@@ -23,14 +23,16 @@ abbrev pub replies : Archive → List ℕ → Bool → Bool → List ℕ → Say
 replies a rest ends streamed words =
     record { next = if ends then None else Some rest; words = words; streamed = streamed; after = a }
 
--- The reply to a request with what is found: a body, or `not found`. The body of a mailbox file is
--- streamed. `sends` is false for the method `HEAD`.
+-- The reply to a request with what is found: a body, `not found`, or `bad range`. The body of a
+-- mailbox file is streamed. `sends` is false for the method `HEAD`.
 abbrev pub served : ℕ → Archive → Bool → Bool → List ℕ → Found → Says
 served moment a sends ends rest (Gives body bytes) =
     replies a rest ends false (reply Done moment body bytes sends ends)
 served moment a sends ends rest (Streams body bytes) =
     replies a rest ends sends (reply Done moment body bytes sends ends)
 served moment a sends ends rest Missing = replies a rest ends false (word NotFound moment sends ends)
+served moment a sends ends rest BadRange =
+    replies a rest ends false (word_of BadRequest bad_range moment sends ends)
 
 -- What is found, in each way. Out of memory, or if the disk fails where it is read, the connection is
 -- closed with a word.

@@ -4,6 +4,7 @@ pub mod Views
 pub mod Threads
 pub mod Mailboxes
 pub mod Asking
+pub mod Reading
 pub mod Paging
 pub mod Replies
 pub mod Door

@@ -35,6 +35,10 @@ status_line HeadTooLarge = line (codes "head too large")
 status_line ServerError = line (codes "disk fault")
 status_line Unavailable = line (codes "out of memory")
 
+-- What is said of a text to search for that is no query.
+abbrev pub bad_range : List ℕ
+bad_range = line (codes "bad range")
+
 -- The reply with words and a status.
 unfoldable pub word_of : Status → List ℕ → ℕ → Bool → Bool → List ℕ
 word_of status words moment sends closes = reply status moment Words words sends closes

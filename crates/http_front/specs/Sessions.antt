@@ -6,8 +6,6 @@ use Rattle.line_door.specs.Making.{in_ways}
 use Rattle.line_door.specs.Course.{talk, Fed}
 use Rattle.arch_model.specs.Archives.{Archive}
 use Rattle.arch_base.specs.declared.sequence.NoMemory.{NoMemory}
-use Rattle.arch_model.specs.declared.opening.OpenRefusal.{OpenRefusal}
-use Rattle.arch_model.specs.declared.opening.OpenRefusal.TheVariants as opening
 use Rattle.arch_model.specs.declared.text_refusal.TextRefusal.{TextRefusal}
 use Rattle.arch_model.specs.declared.text_refusal.TextRefusal.TheVariants as refusal
 use Rattle.edge_io.specs.Phrases.{Says}
@@ -18,10 +16,10 @@ use Rattle.http_heads.specs.declared.reply.Body.TheVariants.{Mailbox}
 use Rattle.http_heads.specs.declared.reply.Status.TheVariants.{Done, ServerError, Unavailable}
 use Rattle.http_front.specs.Views.{shown_row, shown_text}
 use Rattle.http_front.specs.Threads.{thread_rows, oldest_first}
-use Rattle.http_front.specs.Asking.{Reading, IsReading, Found, Gives, Streams, Missing, message_found, text_found, thread_found, feed_found, feed_len, ReadsUpTo}
+use Rattle.http_front.specs.Asking.{Reading, IsReading, Found, Gives, Streams, Missing, BadRange, message_found, text_found, thread_found, feed_found, feed_len, ReadsUpTo}
 use Rattle.http_front.specs.Door.{Says as SaysAct, replies, said_found, said, said_head, said_asked, has_request}
 use Rattle.http_front.specs.Mailboxes.{mailbox_at, whole_mailbox}
-use Rattle.http_front.specs.Replies.{reply, word, word_of, damaged_line, unopened_word}
+use Rattle.http_front.specs.Replies.{reply, word, word_of, damaged_line}
 use Rattle.http_front.specs.declared.session.Turn.{Turn}
 use Rattle.http_front.specs.declared.session.Turn.TheVariants.{Went, Kept, Closed}
 use Rattle.http_front.specs.declared.found.Held.{Held}
@@ -57,6 +55,7 @@ IsHeldFor a found reads what.EveryMail = (found ≡ Streams Mailbox (whole_mailb
 IsHeldFor a found reads (what.Mails numbers) =
     (found ≡ Streams Mailbox (mailbox_at a.entries numbers)) × (reads ≡ true)
 IsHeldFor a found reads what.Nothing = found ≡ Missing
+IsHeldFor a found reads what.BadRange = found ≡ BadRange
 
 -- What stands under a target was found, or memory ran out; or the disk failed, where texts are read.
 abbrev pub Finds : Archive → Found → Bool → Result Held TextRefusal → Type 0
@@ -65,10 +64,11 @@ Finds a found reads (Err refusal.DiskFault) = reads ≡ true
 Finds a found reads (Err (refusal.Damaged named found')) = ⊥
 Finds a found reads (Err refusal.NoMemory) = Unit {0}
 
--- A page was made, or there is none; or memory ran out.
+-- A page was made, or there is none, or what is asked is no query; or memory ran out.
 abbrev pub MakesPage : Found → Result Held NoMemory → Type 0
 MakesPage found (Ok (what.Whole body bytes)) = found ≡ Gives body bytes
 MakesPage found (Ok what.Nothing) = found ≡ Missing
+MakesPage found (Ok what.BadRange) = found ≡ BadRange
 MakesPage found (Ok what.EveryMail) = ⊥
 MakesPage found (Ok (what.Mails numbers)) = ⊥
 MakesPage found (Err refused) = Unit {0}
@@ -188,17 +188,3 @@ abbrev pub SaysStopped : Bool → TextRefusal → ℕ → Option (List ℕ) → 
 SaysStopped true refused moment out lost out' lost' = (out' ≡ out) × (lost' ≡ lost)
 SaysStopped false refused moment out lost out' lost' = (sent : Result Unit SinkFault)
     × SaysUnread refused moment true out lost out' lost' sent
-
--- It was said why an archive was not opened, and that the connection is closed. Out of memory for the
--- name of a damaged file, that is said.
-abbrev pub SaysUnopened : OpenRefusal → ℕ → Option (List ℕ) → ℕ → Option (List ℕ) → ℕ
-    → Result Unit SinkFault → Type 0
-SaysUnopened (opening.Damaged file at) moment out lost out' lost' sent =
-    Says (unopened_word (opening.Damaged file at) moment) out lost out' lost' sent
-    ⊎ Says (word Unavailable moment true true) out lost out' lost' sent
-SaysUnopened opening.NoArchive moment out lost out' lost' sent =
-    Says (unopened_word opening.NoArchive moment) out lost out' lost' sent
-SaysUnopened opening.DiskFault moment out lost out' lost' sent =
-    Says (unopened_word opening.DiskFault moment) out lost out' lost' sent
-SaysUnopened opening.NoMemory moment out lost out' lost' sent =
-    Says (unopened_word opening.NoMemory moment) out lost out' lost' sent

@@ -9,12 +9,15 @@ ghost use Rattle.http_front.specs.Sessions.{AnswersHead, Serves, SaysWhole};
 
 use crate::found::{Held, find_target};
 use crate::mailbox::{say_every_mail, say_mails};
-use crate::replies::{push_reply, say_status, say_unread};
+use crate::replies::{push_reply, say_status, say_unread, say_words};
 use arch_base::{Bytes, NoMemory};
 use arch_model::{Next, Shelf};
 use edge_io::{Sink, say};
 use http_heads::{Body, Request, Status, Verdict, judge, read_head};
 use std::alloc::Global;
+
+/// What is said of a text to search for that is no query.
+const BAD_RANGE: &[u8] = b"bad range\n";
 
 /// Answers a whole head, and returns whether the session continues.
 pub(crate) fn answer_head<S: Shelf, O: Sink>(
@@ -75,6 +78,10 @@ fn serve<S: Shelf, O: Sink>(
         }
         Ok(Held::Nothing) => {
             let said = say_status(Status::NotFound, moment, sends, closes, out);
+            next_after(said.is_ok(), closes)
+        }
+        Ok(Held::BadRange) => {
+            let said = say_words(Status::BadRequest, BAD_RANGE, moment, sends, closes, out);
             next_after(said.is_ok(), closes)
         }
         Err(refusal) => {

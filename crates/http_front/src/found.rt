@@ -28,6 +28,8 @@ pub(crate) enum Held {
     Mails(Numbers),
     /// Nothing.
     Nothing,
+    /// That the text to search for is no query.
+    BadRange,
 }
 
 /// The form in which a mail is asked for.

@@ -1,6 +1,8 @@
 //! The laws of the door of pages, which hold for every archive and all bytes.
+ghost use Rattle.http_front.specs.Asking.{IsReading};
 ghost use Rattle.http_front.specs.Laws.{HttpLaws};
 ghost use Rattle.http_front.specs.Paging.{ListingIsWhole};
+ghost use Rattle.http_front.specs.Reading.{asked_in};
 
 /// Shows that the answers of the door of pages do not depend on how its bytes are cut.
 ///
@@ -19,4 +21,10 @@ pub fn http_laws()
 /// only as many are looked at as it needs.
 pub fn listing_is_whole()
     ensures { ListingIsWhole }
+{}
+
+/// Shows that heads can be read: the function that divides bytes into lines and these into parts, and
+/// takes them if they are valid and printed as the bytes, reads heads as the grammar does.
+pub fn heads_are_read()
+    ensures { IsReading asked_in }
 {}

@@ -12,10 +12,11 @@ mod message;
 mod numbers;
 mod replies;
 mod scan;
+mod search;
 mod session;
 mod thread;
 mod words;
 
-pub use laws::{http_laws, listing_is_whole};
+pub use laws::{heads_are_read, http_laws, listing_is_whole};
 pub use session::HttpSession;
 pub use words::{say_busy, say_no_memory, say_unopened};

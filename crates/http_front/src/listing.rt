@@ -1,5 +1,5 @@
-//! The page of the listing.
-ghost use Rattle.std.specs.Prelude.{◌≡◌, ◌++◌, IfOk, OnOk, None, true, codes, map, is_some, option_copied};
+//! The page of the listing, or of a search.
+ghost use Rattle.std.specs.Prelude.{◌≡◌, ◌++◌, IfOk, OnOk, None, true, codes, map, option_copied};
 ghost use Rattle.arch_model.specs.Archives.{Archive};
 ghost use Rattle.http_heads.specs.Parameters.{parameter as parameter_of, skipped};
 ghost use Rattle.http_front.specs.Views.{one_row, row_at, rows_at};
@@ -7,6 +7,7 @@ ghost use Rattle.http_front.specs.Asking.{Gives, listing_found};
 ghost use Rattle.http_front.specs.Sessions.{MakesPage};
 
 use crate::found::Held;
+use crate::search::search_at;
 use arch_base::{Bytes, NoMemory};
 use arch_model::Shelf;
 use html_pages::listing_page;
@@ -15,39 +16,45 @@ use mail_forms::Row;
 use std::alloc::Global;
 
 /// The rows that a page needs: those that it shows, and one that says that there are more.
-const ROWS_NEEDED: u64 = 201;
+pub(crate) const ROWS_NEEDED: u64 = 201;
 
-/// Returns the page of the listing, by the parameters of its target. Reads no text.
-///
-/// Searches aren't served yet: with words to search for there is no page.
+/// Returns the page of the listing, or of a search, by the parameters of its target. Reads no text.
 pub(crate) fn listing_at<S: Shelf>(alloc: Global, query: &[u8], shelf: &S) -> Result<Held, NoMemory>
     requires { S.ready shelf.now ≡ true }
     ensures { (a : Archive) → S.holds shelf.now a → MakesPage
         (listing_found a (parameter_of (codes "q") query.now) (skipped (parameter_of (codes "o") query.now)))
         result }
 {
-    let searches = has_words(alloc, query)?;
-    if searches {
-        return Ok(Held::Nothing);
-    }
-    let page = listing_from(alloc, query, shelf)?;
-    Ok(Held::Whole(Body::Page, page))
-}
-
-/// Returns whether the parameters of a target have words to search for.
-fn has_words(alloc: Global, query: &[u8]) -> Result<bool, NoMemory>
-    ensures { IfOk result (λ has. has ≡ is_some (parameter_of (codes "q") query.now)) }
-{
-    Ok(parameter(alloc, query, b"q")?.is_some())
-}
-
-/// Returns the page of the listing after the rows that the parameters skip.
-fn listing_from<S: Shelf>(alloc: Global, query: &[u8], shelf: &S) -> Result<Bytes, NoMemory>
-    requires { S.ready shelf.now ≡ true }
-    ensures { (a : Archive) → S.holds shelf.now a → IfOk result (λ page. listing_found a None
-        (skipped (parameter_of (codes "o") query.now)) ≡ Gives Body.Page page) }
-{
+    let asked = parameter(alloc, query, b"q")?;
     let skip = skip_in(alloc, query)?;
+    page_by(alloc, asked, skip, shelf)
+}
+
+/// Returns the page of a search for a text, or without one that of the listing.
+fn page_by<S: Shelf>(
+    alloc: Global,
+    asked: Option<Bytes>,
+    skip: u64,
+    shelf: &S,
+) -> Result<Held, NoMemory>
+    requires { S.ready shelf.now ≡ true }
+    ensures { (a : Archive) → S.holds shelf.now a → MakesPage (listing_found a asked skip) result }
+{
+    match asked {
+        Some(text) => search_at(alloc, text.as_slice(), skip, shelf),
+        None => {
+            let page = listing_from(alloc, skip, shelf)?;
+            Ok(Held::Whole(Body::Page, page))
+        }
+    }
+}
+
+/// Returns the page of the listing after the rows that are skipped.
+fn listing_from<S: Shelf>(alloc: Global, skip: u64, shelf: &S) -> Result<Bytes, NoMemory>
+    requires { S.ready shelf.now ≡ true }
+    ensures { (a : Archive) → S.holds shelf.now a
+        → IfOk result (λ page. listing_found a None skip ≡ Gives Body.Page page) }
+{
     let numbers = shelf.order_page(skip, ROWS_NEEDED)?;
     let rows = rows_of(alloc, numbers.as_slice(), shelf)?;
     listing_page(alloc, &shelf.config().name, rows.as_slice(), skip)

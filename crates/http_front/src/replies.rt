@@ -1,16 +1,17 @@
 //! Writes whole replies, and the words of statuses other than 200.
-ghost use Rattle.std.specs.Prelude.{◌≡◌, ◌++◌, ℕ, IfOk, OnOk, true};
+ghost use Rattle.std.specs.Prelude.{◌≡◌, ◌≤◌, ◌+◌, ◌++◌, ℕ, length, decimal, IfOk, OnOk, true};
 ghost use Rattle.arch_base.specs.Moments.{IsMoment};
 ghost use Rattle.edge_io.specs.Phrases.{Says};
 ghost use Rattle.http_front.specs.Sessions.{SaysUnread};
 ghost use Rattle.http_heads.specs.Dates.{reply_date};
 ghost use Rattle.http_heads.specs.Replies.{allow_line as allow, close_line as close};
-ghost use Rattle.http_front.specs.Replies.{reply, sent_body, word, word_of, status_line as line_of, damaged_line as damaged};
+ghost use Rattle.http_front.specs.Replies.{reply, sent_body, word, word_of, status_line as line_of, damaged_line as damaged, file_line};
 
 use arch_base::{Bytes, NoMemory, ObjectId, hex_of};
 use arch_model::TextRefusal;
 use edge_io::{Sink, SinkFault};
 use http_heads::{Body, Status, date_at, push_reply_head};
+use itoa::Buffer;
 use std::alloc::Global;
 use wire_replies::{Phrase, send};
 
@@ -103,6 +104,68 @@ fn say_dated<'a, O: Sink>(
             Phrase::Words(close_line(closes)),
             Phrase::Words(b"\r\n"),
             Phrase::Words(sent(words, sends)),
+        ],
+        out,
+    )
+}
+
+/// Writes that a file of the archive is damaged, and at which offset. `name` and `number` are the words
+/// for the file. The connection is closed.
+pub(crate) fn say_damaged_file<'a, O: Sink>(
+    name: &'a [u8],
+    number: &'a [u8],
+    at: u64,
+    moment: u64,
+    out: &mut O,
+) -> Result<(), SinkFault>
+    requires moment { IsMoment moment }
+    requires short { length name.now + length number.now ≤ 64 }
+    ensures said { Says (word_of Status.ServerError (file_line (name.now ++ number.now) at) moment
+        true true) (O.taken out.old) (O.faults out.old) (O.taken out.new) (O.faults out.new) result }
+    ensures sink { O.alike out.old out.new }
+{
+    let mut digits = Buffer::new();
+    let offset = digits.format(at).as_bytes();
+    let len = name.len() + number.len() + offset.len() + 10;
+    say_file_line(name, number, offset, len as u64, &date_at(moment), out)
+}
+
+/// Writes the reply with the line of a damaged file, whose length is given, and the date of a moment.
+fn say_file_line<'a, O: Sink>(
+    name: &'a [u8],
+    number: &'a [u8],
+    offset: &'a [u8],
+    len: u64,
+    date: &'a [u8],
+    out: &mut O,
+) -> Result<(), SinkFault>
+    requires { len ≡ length name.now + length number.now + length offset.now + 10 }
+    ensures said { (moment at : ℕ) → date.now ≡ reply_date moment → offset.now ≡ decimal at
+        → Says (word_of Status.ServerError (file_line (name.now ++ number.now) at) moment true true)
+        (O.taken out.old) (O.faults out.old) (O.taken out.new) (O.faults out.new) result }
+    ensures sink { O.alike out.old out.new }
+{
+    let status = Status::ServerError;
+    send(
+        &[
+            Phrase::Words(b"HTTP/1.1 "),
+            Phrase::Words(status.words()),
+            Phrase::Words(b"\r\nDate: "),
+            Phrase::Words(date),
+            Phrase::Words(b"\r\nContent-Type: "),
+            Phrase::Words(Body::Words.media_type()),
+            Phrase::Words(b"\r\nContent-Length: "),
+            Phrase::Number(len),
+            Phrase::Words(b"\r\n"),
+            Phrase::Words(allow_line(status)),
+            Phrase::Words(close_line(true)),
+            Phrase::Words(b"\r\n"),
+            Phrase::Words(b"damaged "),
+            Phrase::Words(name),
+            Phrase::Words(number),
+            Phrase::Words(b" "),
+            Phrase::Words(offset),
+            Phrase::Words(b"\n"),
         ],
         out,
     )

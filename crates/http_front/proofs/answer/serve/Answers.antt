@@ -2,7 +2,7 @@ use Rattle.std.proofs.Common.{◌∙◌, ◌&&◌, not, List, ℕ, Bool, ap, sym
 use Rattle.http_front.specs.Asking.{Gives, Streams, target_found, target_reads}
 use Rattle.http_front.specs.Mailboxes.{mailbox_at}
 use Rattle.http_heads.specs.declared.reply.Body.TheVariants.{Mailbox}
-use Rattle.http_front.proofs.Serving.{acts-mailbox, acts-whole, acts-missing, acts-unread}
+use Rattle.http_front.proofs.Serving.{acts-mailbox, acts-whole, acts-missing, acts-bad_range, acts-unread}
 use Rattle.http_front.proofs.answer.serve.Goals as goal
 
 pub returns-in-Ok-Whole-clause-acts : goal.returns-in-Ok-Whole-clause-acts
@@ -27,6 +27,12 @@ returns-in-Ok-Nothing-clause-acts g c = λ a rest held.
     let found = rw c.in-Ok-Nothing.field-0-is at (c.in-Ok-Nothing.ensures.found a held) in
     acts-missing c.args.moment a c.args.sends c.args.request.now.closes rest (target_found a c.args.request.now.target.now) (target_reads a c.args.request.now.target.now) _ _ _ found c.in-Ok-Nothing.ensures.cause
     (record { sent = c.say_status-said.result; says = c.say_status-said.ensures.said; next = c.next_after.ensures ∙ ap (λ (b : Bool). b && not c.args.request.now.closes) c.is_ok.ensures.value })
+
+pub returns-in-Ok-BadRange-clause-acts : goal.returns-in-Ok-BadRange-clause-acts
+returns-in-Ok-BadRange-clause-acts g c = λ a rest held.
+    let found = rw c.in-Ok-BadRange.field-0-is at (c.in-Ok-BadRange.ensures.found a held) in
+    acts-bad_range c.args.moment a c.args.sends c.args.request.now.closes rest (target_found a c.args.request.now.target.now) (target_reads a c.args.request.now.target.now) _ _ _ found c.in-Ok-BadRange.ensures.cause
+    (record { sent = c.say_words-said.result; says = c.say_words-said.ensures.said; next = c.next_after-in-Ok-BadRange.ensures ∙ ap (λ (b : Bool). b && not c.args.request.now.closes) c.is_ok-in-Ok-BadRange.ensures.value })
 
 pub returns-in-Err-clause-acts : goal.returns-in-Err-clause-acts
 returns-in-Err-clause-acts g c = λ a rest held.
