@@ -58,7 +58,7 @@ fn is_bad_piece(alloc: Global, line: &str, len: usize) -> Result<bool, AllocErro
 }
 
 /// Scripts and their numbers of events.
-const WHOLE: [(&str, u64); 12] = [
+const WHOLE: [(&str, u64); 13] = [
     ("", 0),
     ("0 q\n", 1),
     ("253402300799 s\n", 1),
@@ -66,6 +66,7 @@ const WHOLE: [(&str, u64); 12] = [
     ("5 o 1 control\n", 1),
     ("5 e 1\n", 1),
     ("5 o 65535 nntp\n", 1),
+    ("5 o 1 http\n", 1),
     ("5 o 0 control\n5 o 7 nntp\n", 2),
     ("5 e 65535\n", 1),
     ("5 b 1 1\n\n\n", 1),
@@ -102,7 +103,7 @@ const BAD: [(&str, u64); 24] = [
     ("5 Q\n", 1),
     ("5 o 65536 control\n", 1),
     ("5 o 1 Control\n", 1),
-    ("5 o 1 http\n", 1),
+    ("5 o 1 HTTP\n", 1),
     ("5 o 1 imap\n", 1),
     ("5 e 65536\n", 1),
     ("5 q\nx", 2),

@@ -5,7 +5,7 @@ ghost use Rattle.arch_model.specs.Untold.{HoldsNone, LeavesUntold, untold-read};
 ghost use Rattle.arch_base.specs.Moments.{last_moment};
 
 use arch_base::{Bytes, Config, NoMemory, Numbers, ObjectId};
-use arch_model::{Answer, Command, EntryLine, Keep, OpenRefusal, Row, Shelf, TextRefusal};
+use arch_model::{Answer, Command, EntryLine, Keep, OpenRefusal, Query, Row, Shelf, TextRefusal};
 use mem_archive::MemArchive;
 
 /// The call of a keeper that fails.
@@ -13,9 +13,10 @@ use mem_archive::MemArchive;
 pub enum Failing {
     /// A command, which is carried out or not, as the flag says.
     Command(bool),
-    /// A command, which isn't carried out, and the reopening after it.
+    /// A command, which isn't carried out, and the reopening after it; and a rebuilding.
     Opening,
-    /// A command, which isn't carried out, and the reopening after it, which runs out of memory.
+    /// A command, which isn't carried out, and the reopening after it, which runs out of memory; and
+    /// so does a rebuilding.
     OpeningWithoutMemory,
     /// A read of a text.
     Text,
@@ -132,6 +133,10 @@ impl Shelf for FailingKeep {
         self.archive.thread_of(n)
     }
 
+    fn search(&self, query: &Query) -> Result<Numbers, NoMemory> {
+        self.archive.search(query)
+    }
+
     fn entry(&self, index: u64) -> Option<EntryLine> {
         self.archive.entry(index)
     }
@@ -185,6 +190,24 @@ impl Keep for FailingKeep {
             _ => {
                 self.stale = false;
                 Ok(())
+            }
+        }
+    }
+
+    fn reindex(&mut self) -> Result<u32, OpenRefusal> {
+        match self.failing {
+            Failing::Opening => {
+                self.stale = true;
+                self.fail();
+                Err(OpenRefusal::DiskFault)
+            }
+            Failing::OpeningWithoutMemory => {
+                self.stale = true;
+                Err(OpenRefusal::NoMemory)
+            }
+            _ => {
+                self.stale = false;
+                self.archive.reindex()
             }
         }
     }

@@ -7,7 +7,8 @@ ghost use Rattle.door_tests.specs.Chains.{Chain};
 
 use crate::connection::archive;
 use crate::failing_keep::{Failing, FailingKeep};
-use arch_model::{Answer, Command, Keep};
+use arch_model::{Answer, Command, Keep, OpenRefusal};
+use std::alloc::Global;
 
 /// Delivers three messages at a moment, and returns the answers.
 ///
@@ -54,6 +55,38 @@ fn a_delivery_after_a_fault_reopens_first(rt: HostRuntime) {
     let (first, second, third) = deliver_three(&MESSAGES, 1, &mut keep);
     let failed = Answer::DiskFault;
     assert!(rt; first == failed && second == failed && third == failed);
+}
+
+#[test]
+fn a_rebuilding_counts_what_is_live(rt: HostRuntime) {
+    let Some(mut archive) = archive(rt.alloc()) else {
+        return assert!(rt; false);
+    };
+    let _ = deliver_three(&MESSAGES, 1, &mut archive);
+    let before = archive.reindex();
+    let _ = archive.command(&Command::Remove(1), 2);
+    assert!(rt; before == Ok(2) && archive.reindex() == Ok(1));
+}
+
+#[test]
+fn a_refused_rebuilding_leaves_the_keeper_stale(rt: HostRuntime) {
+    assert!(rt; is_refused(rt.alloc(), Failing::Opening, OpenRefusal::DiskFault));
+    assert!(rt;
+        is_refused(
+            rt.alloc(),
+            Failing::OpeningWithoutMemory,
+            OpenRefusal::NoMemory
+        )
+    );
+}
+
+/// Returns whether a rebuilding is refused so, and leaves the keeper stale.
+fn is_refused(alloc: Global, failing: Failing, refusal: OpenRefusal) -> bool {
+    let Some(archive) = archive(alloc) else {
+        return false;
+    };
+    let mut keep = FailingKeep::new(archive, failing);
+    keep.reindex() == Err(refusal) && keep.is_stale()
 }
 
 /// Returns the number of a message that was taken.

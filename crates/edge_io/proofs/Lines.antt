@@ -55,9 +55,9 @@ pub line-lacks : (event : Event) → IsLine event → Lacks 10 (line_of event)
 line-lacks event h =
     Lacks-append 10 (decimal event.moment) (32 ∷ words_of event.what) (decimal-lacks 10 event.moment (omega arith) (omega (arith, h.moment))) (refl, words-lack event.what h.what)
 
--- A text that is neither word names no door that the server has.
-pub no_door : (word : List ℕ) → word ≢ door_word Control → word ≢ door_word Nntp → (door : Door) → IsDoor door → word ≢ door_word door
-no_door word a b Control is = a
-no_door word a b Http is = absurd is
-no_door word a b Nntp is = b
-no_door word a b Imap is = absurd is
+-- A text that is none of these words names no door that the server has.
+pub no_door : (word : List ℕ) → word ≢ door_word Control → word ≢ door_word Http → word ≢ door_word Nntp → (door : Door) → IsDoor door → word ≢ door_word door
+no_door word a b c Control is = a
+no_door word a b c Http is = b
+no_door word a b c Nntp is = c
+no_door word a b c Imap is = absurd is

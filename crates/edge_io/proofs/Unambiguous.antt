@@ -20,14 +20,17 @@ use Rattle.edge_io.proofs.Fronts.{nil_from_length}
 -- A word is the name of at most one door that the server has.
 doors-once : (a b : Door) → IsDoor a → IsDoor b → door_word a ≡ door_word b → a ≡ b
 doors-once Control Control p q e = refl
+doors-once Control Http p q e = let first : 99 ≡ 104 = ap (λ l. get_or l 0 0) e in absurd (omega (arith, first))
 doors-once Control Nntp p q e = let first : 99 ≡ 110 = ap (λ l. get_or l 0 0) e in absurd (omega (arith, first))
+doors-once Http Control p q e = let first : 104 ≡ 99 = ap (λ l. get_or l 0 0) e in absurd (omega (arith, first))
+doors-once Http Http p q e = refl
+doors-once Http Nntp p q e = let first : 104 ≡ 110 = ap (λ l. get_or l 0 0) e in absurd (omega (arith, first))
 doors-once Nntp Control p q e = let first : 110 ≡ 99 = ap (λ l. get_or l 0 0) e in absurd (omega (arith, first))
+doors-once Nntp Http p q e = let first : 110 ≡ 104 = ap (λ l. get_or l 0 0) e in absurd (omega (arith, first))
 doors-once Nntp Nntp p q e = refl
-doors-once Http b p q e = absurd p
 doors-once Imap b p q e = absurd p
-doors-once Control Http p q e = absurd q
 doors-once Control Imap p q e = absurd q
-doors-once Nntp Http p q e = absurd q
+doors-once Http Imap p q e = absurd q
 doors-once Nntp Imap p q e = absurd q
 
 -- The words tell what happened.

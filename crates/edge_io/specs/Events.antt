@@ -15,7 +15,7 @@ IsConnection conn = conn < 65536
 -- The doors of a script: those that the server has.
 abbrev pub IsDoor : Door → Type 0
 IsDoor Control = Unit {0}
-IsDoor Http = ⊥
+IsDoor Http = Unit {0}
 IsDoor Nntp = Unit {0}
 IsDoor Imap = ⊥
 

@@ -197,6 +197,9 @@ fn read_door(word: &[u8]) -> Option<Door>
     if word == b"control".as_slice() {
         return Some(Door::Control);
     }
+    if word == b"http".as_slice() {
+        return Some(Door::Http);
+    }
     if word == b"nntp".as_slice() {
         return Some(Door::Nntp);
     }

@@ -122,8 +122,9 @@ fn a_closed_client_reads_what_was_sent(rt: HostRuntime) -> Result<(), Fail> {
     let mut into = room(rt.alloc())?;
     let mut host = SocketHost::listen(&rt, rt.alloc(), 17_330)?;
     assert!(rt; is_quiet(&mut host, &mut into)?);
-    let mut client = connect(&rt, 17_330)?;
-    assert!(rt; next_event(&mut host, &mut into)?.is_some());
+    let mut client = connect(&rt, 17_331)?;
+    let door = Door::Http;
+    assert!(rt; is_next(&mut host, &mut into, What::Opened { conn: 0, door })?);
     assert!(rt; reads_to_end(&mut host, &mut client)?);
     Ok(())
 }

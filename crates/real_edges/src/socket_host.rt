@@ -16,10 +16,10 @@ use std::time::SystemTime;
 /// A host over sockets on the loopback interface. It doesn't tell what it gives or what its
 /// connections take.
 ///
-/// It listens at the ports of the doors that the server has: control at its port, and NNTP at the
-/// next but one. It waits in the system until something happens, and gives `Quiet` if nothing did
-/// for about 100 ms. The end of a standard input that is a pipe gives `Stop`. Up to 512 clients are
-/// there at once, and others wait.
+/// It listens at the ports of the doors that the server has: control at its port, HTTP at the next,
+/// and NNTP at the one after that. It waits in the system until something happens, and gives `Quiet`
+/// if nothing did for about 100 ms. The end of a standard input that is a pipe gives `Stop`. Up to
+/// 512 clients are there at once, and others wait.
 ///
 /// A client that doesn't take 65,536 bytes within 10 s makes its `send` fail. All others wait
 /// meanwhile.

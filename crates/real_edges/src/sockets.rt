@@ -27,13 +27,17 @@ const PORTS: [Port; LISTENERS] = [
         offset: 0,
     },
     Port {
+        door: Door::Http,
+        offset: 1,
+    },
+    Port {
         door: Door::Nntp,
         offset: 2,
     },
 ];
 
 /// The number of listeners. Their places in a circle come first.
-const LISTENERS: usize = 2;
+const LISTENERS: usize = 3;
 
 /// The number of clients. Their places in a circle come after those of the listeners.
 const CLIENTS: usize = 512;
@@ -292,8 +296,8 @@ fn is_served(door: Door) -> bool
     ensures { IsTrue result → IsDoor door }
 {
     match door {
-        Door::Control | Door::Nntp => true,
-        Door::Http | Door::Imap => false,
+        Door::Control | Door::Http | Door::Nntp => true,
+        Door::Imap => false,
     }
 }
 
