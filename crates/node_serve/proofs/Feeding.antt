@@ -16,7 +16,9 @@ use Rattle.control_door.specs.Door.{Waiting, waiting}
 use Rattle.control_door.specs.Sessions as sessions
 use Rattle.nntp_reader.specs.Door as news
 use Rattle.nntp_reader.specs.Door.{Reader}
-use Rattle.node_serve.specs.Doors.{Came, AtControl, AtNews, with_piece, rest_if, said, is_asked}
+use Rattle.http_front.specs.Door as pages
+use Rattle.http_front.specs.Reading.{asked_in}
+use Rattle.node_serve.specs.Doors.{Came, AtControl, AtNews, AtHttp, with_piece, rest_if, said, is_asked}
 use Rattle.node_serve.specs.Nodes.{FedFrom}
 use Rattle.node_serve.specs.declared.session.Session.{Session}
 use Rattle.node_serve.specs.declared.session.Session.TheVariants as session
@@ -46,6 +48,10 @@ news-rest : (goes_on : Bool) (left : Reader) → held_if goes_on (session.News l
 news-rest true left = refl
 news-rest false left = refl
 
+http-rest : (goes_on : Bool) (left : List ℕ) → held_if goes_on (session.Http left) ≡ rest_if (held_over AtHttp (held_if goes_on left))
+http-rest true left = refl
+http-rest false left = refl
+
 module _ {K : Type 0} (holds : K → Archive → Type 0) (ready : K → Bool) (leaves : K → K → List (Option Archive) → Type 0) (moment : ℕ) where
   -- The piece of a session at the control door.
   pub control-fed : (bytes : List ℕ) (s : Standing) (old : K) (i : Outside) (goes_on : Bool) (left : List ℕ) (new : K) (j : Outside) → sessions.Feeds holds ready leaves moment bytes old i goes_on left new j → Fits holds ready leaves old s
@@ -73,6 +79,21 @@ module _ {K : Type 0} (holds : K → Archive → Type 0) (ready : K → Bool) (l
         held = held_over AtNews (held_if goes_on left);
         rest_is = news-rest goes_on left;
         course = reading-course holds ready leaves AtNews (news.said moment) news.has_request (said moment) is_asked (λ a h way. refl) (λ h. refl) old new (talk (Some start) s.archive i) (talk (held_if goes_on left) s.archive j) read (fed s.archive settled.1);
+      })
+
+  -- The piece of a session at the door of pages.
+  pub http-fed : ((k : K) (a : Archive) (may : List (Option Archive)) → holds k a → Contains may (Some a) → leaves k k may) → (start : List ℕ) (s : Standing) (old : K) (i : Outside) (goes_on : Bool) (left : List ℕ) (new : K) (j : Outside)
+      → ((a : Archive) → holds old a → Fed (pages.said asked_in moment) pages.has_request (talk (Some start) a i) (talk (held_if goes_on left) a j)) → OnlyRead holds ready leaves old new → ready old ≡ true → Fits holds ready leaves old s
+      → FedFrom holds ready leaves moment (AtHttp start) s old i goes_on (session.Http left) new j
+  http-fed holds_left start s old i goes_on left new j fed read at_hand fits =
+      let settled = settled-is holds ready leaves old s fits at_hand in
+      let moves = moves-read holds ready leaves holds_left old new s.archive settled.1 read in
+      subst (λ (x : Standing). FedFrom holds ready leaves moment (AtHttp start) x old i goes_on (session.Http left) new j) (sym settled.0) (record {
+        after = standing s.archive None;
+        fits = moves.fits;
+        held = held_over AtHttp (held_if goes_on left);
+        rest_is = http-rest goes_on left;
+        course = reading-course holds ready leaves AtHttp (pages.said asked_in moment) pages.has_request (said moment) is_asked (λ a h way. refl) (λ h. refl) old new (talk (Some start) s.archive i) (talk (held_if goes_on left) s.archive j) read (fed s.archive settled.1);
       })
 
   -- A reopening, and then the piece.

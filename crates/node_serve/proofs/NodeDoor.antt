@@ -17,7 +17,10 @@ use Rattle.control_door.proofs.Doors.{control_cuts}
 use Rattle.nntp_reader.specs.Door as news
 use Rattle.nntp_reader.specs.Door.{Reader}
 use Rattle.nntp_reader.proofs.Doors.{reader_cuts}
-use Rattle.node_serve.specs.Doors.{Held, Came, AtControl, AtNews, with_piece, unopened_words, said, is_asked}
+use Rattle.http_front.specs.Door as pages
+use Rattle.http_front.specs.Reading.{asked_in}
+use Rattle.http_front.proofs.Doors.{http_cuts}
+use Rattle.node_serve.specs.Doors.{Held, Came, AtControl, AtNews, AtHttp, with_piece, unopened_words, said, is_asked}
 use Rattle.node_serve.specs.Plain.{size_of}
 use Rattle.node_serve.specs.declared.session.Session.{Session}
 use Rattle.node_serve.specs.declared.session.Session.TheVariants as session
@@ -27,11 +30,13 @@ abbrev pub more_bytes : List ℕ → Held → Held
 more_bytes q (Came start piece) = Came start (piece ++ q)
 more_bytes q (AtControl w) = AtControl (control.with_piece q w)
 more_bytes q (AtNews reader) = AtNews (news.with_piece q reader)
+more_bytes q (AtHttp bytes) = AtHttp (pages.with_piece q bytes)
 
 -- Two pieces in order are one joined piece.
 pieces-joined : (start : Session) (p q : List ℕ) → with_piece start (p ++ q) ≡ more_bytes q (with_piece start p)
 pieces-joined (session.Control bytes) p q = ap (λ (b : List ℕ). AtControl (waiting b true)) (sym (append_assoc bytes p q))
 pieces-joined (session.News reader) p q = ap AtNews (sym ((reader_cuts 0).more_joined p q reader))
+pieces-joined (session.Http bytes) p q = ap AtHttp (sym (append_assoc bytes p q))
 
 -- A reopening leaves the bytes.
 opening-more : (line : OpenRefusal → List ℕ) (s : Standing) (h k : Held) (q : List ℕ) (way : Way) → k ≡ more_bytes q h → said_reopening line s k way ≡ said_with (more_bytes q) (said_reopening line s h way)
@@ -60,20 +65,25 @@ stays : (moment : ℕ) (q : List ℕ) (h : Held) → is_asked h ≡ true → is_
 stays moment q (Came start piece) asked = refl
 stays moment q (AtControl w) asked = (control_cuts moment).request_stays q w asked
 stays moment q (AtNews reader) asked = (reader_cuts moment).request_stays q reader asked
+stays moment q (AtHttp bytes) asked = (http_cuts asked_in moment).request_stays q bytes asked
 
 says-more : (moment : ℕ) (q : List ℕ) (s : Standing) (h : Held) (way : Way) → is_asked h ≡ true → said moment s (more_bytes q h) way ≡ said_with (more_bytes q) (said moment s h way)
-says-more moment q s (Came start piece) way asked = opening-more (unopened_words start) s (with_piece start piece) (with_piece start (piece ++ q)) q way (pieces-joined start piece q)
+says-more moment q s (Came start piece) way asked = opening-more (unopened_words moment start) s (with_piece start piece) (with_piece start (piece ++ q)) q way (pieces-joined start piece q)
 says-more moment q s (AtControl w) way asked =
     ap (λ (x : Said Waiting Standing). said_over (λ (t : Standing). t) AtControl x) ((control_cuts moment).said_stays q s w way asked)
     ∙ over-more (λ (t : Standing). t) AtControl (control.with_piece q) q (control.said moment s w way) (λ h. refl)
 says-more moment q s (AtNews reader) way asked =
     ap (λ (x : Said Reader Archive). said_over (λ (a : Archive). standing a s.doubt) AtNews x) ((reader_cuts moment).said_stays q s.archive reader way asked)
     ∙ over-more (λ (a : Archive). standing a s.doubt) AtNews (news.with_piece q) q (news.said moment s.archive reader way) (λ h. refl)
+says-more moment q s (AtHttp bytes) way asked =
+    ap (λ (x : Said (List ℕ) Archive). said_over (λ (a : Archive). standing a s.doubt) AtHttp x) ((http_cuts asked_in moment).said_stays q s.archive bytes way asked)
+    ∙ over-more (λ (a : Archive). standing a s.doubt) AtHttp (pages.with_piece q) q (pages.said asked_in moment s.archive bytes way) (λ h. refl)
 
 rests : (moment : ℕ) (s : Standing) (h : Held) → is_asked h ≡ false → said moment s h Plain ≡ silent s h
 rests moment s (Came start piece) none = absurd (false≢true (sym none))
 rests moment s (AtControl w) none = ap (λ (x : Said Waiting Standing). said_over (λ (t : Standing). t) AtControl x) ((control_cuts moment).rest_plain s w none)
 rests moment s (AtNews reader) none = ap (λ (x : Said Reader Archive). said_over (λ (a : Archive). standing a s.doubt) AtNews x) ((reader_cuts moment).rest_plain s.archive reader none)
+rests moment s (AtHttp bytes) none = ap (λ (x : Said (List ℕ) Archive). said_over (λ (a : Archive). standing a s.doubt) AtHttp x) ((http_cuts asked_in moment).rest_plain s.archive bytes none)
 
 keeps : (moment : ℕ) (s : Standing) (h : Held) (way : Way) → is_asked h ≡ false → ((said moment s h way).next ≡ None) ⊎ (said moment s h way ≡ silent s h)
 keeps moment s (Came start piece) way none = absurd (false≢true (sym none))
@@ -85,15 +95,21 @@ keeps moment s (AtNews reader) way none = elim ((reader_cuts moment).rest_kept s
   | inl shut ↦ inl (ap (held_over AtNews) shut)
   | inr kept ↦ inr (ap (λ (x : Said Reader Archive). said_over (λ (a : Archive). standing a s.doubt) AtNews x) kept)
 ]
+keeps moment s (AtHttp bytes) way none = elim ((http_cuts asked_in moment).rest_kept s.archive bytes way none) [
+  | inl shut ↦ inl (ap (held_over AtHttp) shut)
+  | inr kept ↦ inr (ap (λ (x : Said (List ℕ) Archive). said_over (λ (a : Archive). standing a s.doubt) AtHttp x) kept)
+]
 
 joins : (moment : ℕ) (p q : List ℕ) (h : Held) → more_bytes q (more_bytes p h) ≡ more_bytes (p ++ q) h
 joins moment p q (Came start piece) = ap (Came start) (append_assoc piece p q)
 joins moment p q (AtControl w) = ap AtControl ((control_cuts moment).more_joined p q w)
 joins moment p q (AtNews reader) = ap AtNews ((reader_cuts moment).more_joined p q reader)
+joins moment p q (AtHttp bytes) = ap AtHttp ((http_cuts asked_in moment).more_joined p q bytes)
 
 opened-smaller : (start : Session) (piece : List ℕ) → size_of (with_piece start piece) < size_of (Came start piece)
 opened-smaller (session.Control bytes) piece = omega arith
 opened-smaller (session.News reader) piece = omega arith
+opened-smaller (session.Http bytes) piece = omega arith
 
 smaller : (moment : ℕ) (s : Standing) (h k : Held) → is_asked h ≡ true → (said moment s h Plain).next ≡ Some k → size_of k < size_of h
 smaller moment s (Came start piece) k asked next =
@@ -105,6 +121,9 @@ smaller moment s (AtControl w) k asked next =
 smaller moment s (AtNews reader) k asked next =
     let some = over-some (λ (a : Archive). standing a s.doubt) AtNews (news.said moment s.archive reader Plain).next k next in
     subst (λ (x : Held). size_of x < size_of (AtNews reader)) some.2 ((reader_cuts moment).shorter s.archive reader some.0 asked some.1)
+smaller moment s (AtHttp bytes) k asked next =
+    let some = over-some (λ (a : Archive). standing a s.doubt) AtHttp (pages.said asked_in moment s.archive bytes Plain).next k next in
+    subst (λ (x : Held). size_of x < size_of (AtHttp bytes)) some.2 ((http_cuts asked_in moment).shorter s.archive bytes some.0 asked some.1)
 
 pub node_cuts : (moment : ℕ) → CutDoor (said moment) is_asked more_bytes size_of
 node_cuts moment = record {

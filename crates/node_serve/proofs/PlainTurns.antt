@@ -230,7 +230,7 @@ came-is None moment c piece w passed v came = (came.1, same-is w v came.0)
 came-is (Some start) moment c piece w passed v came = (fed-passed moment c start piece w passed v came, acted-is c (between_pieces (piece_said moment w.standing (Came start piece))) w v (fed-acts moment c start piece w passed v came))
 
 event-is : (x : What) (moment : ℕ) (piece : List ℕ) (w : World) (passed : List Standing) (v : World) → PlainTurnedBy x moment piece w passed v → (passed ≡ (plain_event x moment piece w).passed) × (v ≡ (plain_event x moment piece w).after)
-event-is (what.Opened c door) moment piece w passed v t = (t.1, acted-is c (said_making door (others_open c w) w.standing Plain) w v t.0)
+event-is (what.Opened c door) moment piece w passed v t = (t.1, acted-is c (said_making moment door (others_open c w) w.standing Plain) w v t.0)
 event-is (what.Bytes c len) moment piece w passed v t = came-is (w.session c) moment c piece w passed v t
 event-is (what.Ended c) moment piece w passed v t = (t.1, ended-is c w v t.0)
 event-is what.Quiet moment piece w passed v t = (t.1, same-is w v t.0)
@@ -241,7 +241,7 @@ came-at None moment c piece w counted = (same-at w, refl)
 came-at (Some start) moment c piece w counted = fed-at moment c start piece w counted
 
 event-at : (x : What) (moment : ℕ) (piece : List ℕ) (w : World) → IsCounted w → PlainTurnedBy x moment piece w (plain_event x moment piece w).passed (plain_event x moment piece w).after
-event-at (what.Opened c door) moment piece w counted = (acted-at c (said_making door (others_open c w) w.standing Plain) w counted, refl)
+event-at (what.Opened c door) moment piece w counted = (acted-at c (said_making moment door (others_open c w) w.standing Plain) w counted, refl)
 event-at (what.Bytes c len) moment piece w counted = came-at (w.session c) moment c piece w counted
 event-at (what.Ended c) moment piece w counted = (ended-at c w counted, refl)
 event-at what.Quiet moment piece w counted = (same-at w, refl)
@@ -261,7 +261,7 @@ came-turned (Some start) moment c piece w passed v fed = record {
 }
 
 event-turned : (x : What) (moment : ℕ) (piece : List ℕ) (w : World) (passed : List Standing) (v : World) → PlainTurnedBy x moment piece w passed v → TurnedBy x moment piece w passed v
-event-turned (what.Opened c door) moment piece w passed v t = (record { acts = plain-acts (said_making door (others_open c w) w.standing) (outside_at c w.out) (v.session c) v.standing (outside_at c v.out) t.0.acts; around = t.0.around }, t.1)
+event-turned (what.Opened c door) moment piece w passed v t = (record { acts = plain-acts (said_making moment door (others_open c w) w.standing) (outside_at c w.out) (v.session c) v.standing (outside_at c v.out) t.0.acts; around = t.0.around }, t.1)
 event-turned (what.Bytes c len) moment piece w passed v t = came-turned (w.session c) moment c piece w passed v t
 event-turned (what.Ended c) moment piece w passed v t = t
 event-turned what.Quiet moment piece w passed v t = t

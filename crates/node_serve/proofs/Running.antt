@@ -100,11 +100,11 @@ greets-after door.Http s = refl
 greets-after door.Nntp s = refl
 greets-after door.Imap s = refl
 
-pub making-after : (at : Door) (n : ℕ) (s : Standing) (way : Way) → (said_making at n s way).after ≡ s
-making-after at n s Plain = pick-after (nat_lt n session_limit) (greets at s) _ s (greets-after at s) refl
-making-after at n s Memory = pick-after (nat_lt n session_limit) _ _ s refl refl
-making-after at n s Disk = pick-after (nat_lt n session_limit) (greets at s) _ s (greets-after at s) refl
-making-after at n s Newer = pick-after (nat_lt n session_limit) (greets at s) _ s (greets-after at s) refl
+pub making-after : (moment : ℕ) (at : Door) (n : ℕ) (s : Standing) (way : Way) → (said_making moment at n s way).after ≡ s
+making-after moment at n s Plain = pick-after (nat_lt n session_limit) (greets at s) _ s (greets-after at s) refl
+making-after moment at n s Memory = pick-after (nat_lt n session_limit) _ _ s refl refl
+making-after moment at n s Disk = pick-after (nat_lt n session_limit) (greets at s) _ s (greets-after at s) refl
+making-after moment at n s Newer = pick-after (nat_lt n session_limit) (greets at s) _ s (greets-after at s) refl
 
 afters-last : (may : List (Option Archive)) (acts : List (Talk Held Standing)) (t : Talk Held Standing) → HasAll may (afters (acts ++ t ∷ [])) → Has may t.after
 afters-last may [] t has = has.0
@@ -121,7 +121,7 @@ turned-has may e w passed v turned now later = by e.0.what turned
     fed c (Some start) came = afters-last may came.acts (talk came.held v.standing _) (subst (λ (ss : List Standing). HasAll may ss) came.passed_is later)
 
     by : (x : What) → TurnedBy x e.0.moment e.1 w passed v → Has may v.standing
-    by (what.Opened c at) t = same (acts-after _ w.standing _ _ v.standing _ (λ way. making-after at _ w.standing way) t.0.acts)
+    by (what.Opened c at) t = same (acts-after _ w.standing _ _ v.standing _ (λ way. making-after _ at _ w.standing way) t.0.acts)
     by (what.Bytes c len) t = fed c (w.session c) t
     by (what.Ended c) t = same t.0.standing
     by what.Quiet t = same t.0.standing

@@ -35,14 +35,14 @@ others-none c s p o none = let zero : one_if (p.session c) ≡ 0 = ap (λ (x : O
 
 -- The making of a session, by how many others are open.
 
-made-few : (at : Door) (n : ℕ) (s : Standing) → n < session_limit → made at n s ≡ greets at s
-made-few at n s few = let test : nat_lt n session_limit ≡ true = grind (arith, nat_tests, few) in ap (λ (t : Bool). if t then greets at s else closes s (busy_words at)) test
+made-few : (moment : ℕ) (at : Door) (n : ℕ) (s : Standing) → n < session_limit → made moment at n s ≡ greets at s
+made-few moment at n s few = let test : nat_lt n session_limit ≡ true = grind (arith, nat_tests, few) in ap (λ (t : Bool). if t then greets at s else closes s (busy_words moment at)) test
 
-made-busy : (at : Door) (n : ℕ) (s : Standing) → session_limit ≤ n → made at n s ≡ closes s (busy_words at)
-made-busy at n s full = let test : nat_lt n session_limit ≡ false = grind (arith, nat_tests, full) in ap (λ (t : Bool). if t then greets at s else closes s (busy_words at)) test
+made-busy : (moment : ℕ) (at : Door) (n : ℕ) (s : Standing) → session_limit ≤ n → made moment at n s ≡ closes s (busy_words moment at)
+made-busy moment at n s full = let test : nat_lt n session_limit ≡ false = grind (arith, nat_tests, full) in ap (λ (t : Bool). if t then greets at s else closes s (busy_words moment at)) test
 
-unmade-few : (at : Door) (n : ℕ) (s : Standing) → n < session_limit → unmade at n s ≡ closes s (memory_words at)
-unmade-few at n s few = let test : nat_lt n session_limit ≡ true = grind (arith, nat_tests, few) in ap (λ (t : Bool). if t then closes s (memory_words at) else closes s (busy_words at)) test
+unmade-few : (moment : ℕ) (at : Door) (n : ℕ) (s : Standing) → n < session_limit → unmade moment at n s ≡ closes s (memory_words moment at)
+unmade-few moment at n s few = let test : nat_lt n session_limit ≡ true = grind (arith, nat_tests, few) in ap (λ (t : Bool). if t then closes s (memory_words moment at) else closes s (busy_words moment at)) test
 
 -- All around a connection that was refused.
 around-refused : (c : ℕ) (words : List ℕ) (s : Standing) (p : Places) (i j : Outer) → p.session c ≡ None → Refused c words i j → Around c (world_of s p i) (world_of s p j)
@@ -67,27 +67,27 @@ refused-closed c words sent i j k said taken closings same others closed lost di
 }
 
 -- The acts of a refusal are those of the making.
-refusing : (at : Door) (words : List ℕ) (c : ℕ) (p : Places) (i j : Outer) → p.session c ≡ None → Refused c words i j → ((s : Standing) → Acts (said_making at p.count s) (outside_at c i) None s (outside_at c j)) → Makes at c p i p j
-refusing at words c p i j none refused acts = λ s. record {
-  acts = subst (λ (n : ℕ). Acts (said_making at n s) (outside_at c i) (p.session c) s (outside_at c j)) (sym (others-none c s p i none))
-      (subst (λ (x : Option Session). Acts (said_making at p.count s) (outside_at c i) x s (outside_at c j)) (sym none) (acts s));
+refusing : (moment : ℕ) (at : Door) (words : List ℕ) (c : ℕ) (p : Places) (i j : Outer) → p.session c ≡ None → Refused c words i j → ((s : Standing) → Acts (said_making moment at p.count s) (outside_at c i) None s (outside_at c j)) → Makes moment at c p i p j
+refusing moment at words c p i j none refused acts = λ s. record {
+  acts = subst (λ (n : ℕ). Acts (said_making moment at n s) (outside_at c i) (p.session c) s (outside_at c j)) (sym (others-none c s p i none))
+      (subst (λ (x : Option Session). Acts (said_making moment at p.count s) (outside_at c i) x s (outside_at c j)) (sym none) (acts s));
   around = around-refused c words s p i j none refused;
 }
 
 -- A server that is full refuses.
-pub makes-busy : (at : Door) (c : ℕ) (p : Places) (i j : Outer) → p.session c ≡ None → session_limit ≤ p.count → Refused c (busy_words at) i j → Makes at c p i p j
-makes-busy at c p i j none full refused = refusing at (busy_words at) c p i j none refused (λ s.
-    acts-closing (said_making at p.count s) Plain (closes s (busy_words at)) (outside_at c i) (outside_at c j) s refused.sent (made-busy at p.count s full) refl refused.disk (omega (arith, refused.disk)) refused.said refl)
+pub makes-busy : (moment : ℕ) (at : Door) (c : ℕ) (p : Places) (i j : Outer) → p.session c ≡ None → session_limit ≤ p.count → Refused c (busy_words moment at) i j → Makes moment at c p i p j
+makes-busy moment at c p i j none full refused = refusing moment at (busy_words moment at) c p i j none refused (λ s.
+    acts-closing (said_making moment at p.count s) Plain (closes s (busy_words moment at)) (outside_at c i) (outside_at c j) s refused.sent (made-busy moment at p.count s full) refl refused.disk (omega (arith, refused.disk)) refused.said refl)
 
 -- So does one without memory.
-pub makes-starved : (at : Door) (c : ℕ) (p : Places) (i j : Outer) → p.session c ≡ None → p.count < session_limit → Refused c (memory_words at) i j → Makes at c p i p j
-makes-starved at c p i j none few refused = refusing at (memory_words at) c p i j none refused (λ s.
-    acts-closing (said_making at p.count s) Memory (closes s (memory_words at)) (outside_at c i) (outside_at c j) s refused.sent (unmade-few at p.count s few) refl refused.disk (omega (arith, refused.disk)) refused.said refl)
+pub makes-starved : (moment : ℕ) (at : Door) (c : ℕ) (p : Places) (i j : Outer) → p.session c ≡ None → p.count < session_limit → Refused c (memory_words moment at) i j → Makes moment at c p i p j
+makes-starved moment at c p i j none few refused = refusing moment at (memory_words moment at) c p i j none refused (λ s.
+    acts-closing (said_making moment at p.count s) Memory (closes s (memory_words moment at)) (outside_at c i) (outside_at c j) s refused.sent (unmade-few moment at p.count s few) refl refused.disk (omega (arith, refused.disk)) refused.said refl)
 
 -- And a door that isn't built.
-pub makes-unbuilt : (at : Door) (c : ℕ) (p : Places) (i j : Outer) → ((s : Standing) → greets at s ≡ closes s (busy_words at)) → p.session c ≡ None → p.count < session_limit → Refused c (busy_words at) i j → Makes at c p i p j
-makes-unbuilt at c p i j unbuilt none few refused = refusing at (busy_words at) c p i j none refused (λ s.
-    acts-closing (said_making at p.count s) Plain (closes s (busy_words at)) (outside_at c i) (outside_at c j) s refused.sent (made-few at p.count s few ∙ unbuilt s) refl refused.disk (omega (arith, refused.disk)) refused.said refl)
+pub makes-unbuilt : (moment : ℕ) (at : Door) (c : ℕ) (p : Places) (i j : Outer) → ((s : Standing) → greets at s ≡ closes s (busy_words moment at)) → p.session c ≡ None → p.count < session_limit → Refused c (busy_words moment at) i j → Makes moment at c p i p j
+makes-unbuilt moment at c p i j unbuilt none few refused = refusing moment at (busy_words moment at) c p i j none refused (λ s.
+    acts-closing (said_making moment at p.count s) Plain (closes s (busy_words moment at)) (outside_at c i) (outside_at c j) s refused.sent (made-few moment at p.count s few ∙ unbuilt s) refl refused.disk (omega (arith, refused.disk)) refused.said refl)
 
 -- All around a connection that got a session.
 around-placed : (c : ℕ) (start : Session) (s : Standing) (p q : Places) (i j : Outer) → p.session c ≡ None → q.session c ≡ Some start → OthersKept c p.session q.session → q.count ≡ p.count + 1 → OthersKept c i.taken j.taken → ((d : ℕ) → j.closings d ≡ i.closings d)
@@ -103,12 +103,12 @@ around-placed c start s p q i j none some others count taken closings =
       count = omega (arith, count, zero, one);
     }
 
--- The control door makes its session without a word.
-pub makes-control : (c : ℕ) (p q : Places) (i : Outer) → IsPlaced c p q → q.session c ≡ Some (session.Control []) → p.count < session_limit → Makes door.Control c p i q i
-makes-control c p q i placed some few = λ s. record {
-  acts = subst (λ (n : ℕ). Acts (said_making door.Control n s) (outside_at c i) (q.session c) s (outside_at c i)) (sym (others-none c s p i placed.none))
-      (acts-silent (said_making door.Control p.count s) (greets door.Control s) (outside_at c i) (outside_at c i) (q.session c) s (made-few door.Control p.count s few) refl refl refl refl some refl);
-  around = around-placed c (session.Control []) s p q i i placed.none some placed.others placed.count (λ d other. refl) (λ d. refl);
+-- A door that doesn't greet makes its session without a word.
+pub makes-silent : (moment : ℕ) (at : Door) (start : Session) (c : ℕ) (p q : Places) (i : Outer) → ((s : Standing) → greets at s ≡ says s start []) → IsPlaced c p q → q.session c ≡ Some start → p.count < session_limit → Makes moment at c p i q i
+makes-silent moment at start c p q i silent placed some few = λ s. record {
+  acts = subst (λ (n : ℕ). Acts (said_making moment at n s) (outside_at c i) (q.session c) s (outside_at c i)) (sym (others-none c s p i placed.none))
+      (acts-silent (said_making moment at p.count s) (says s start []) (outside_at c i) (outside_at c i) (q.session c) s (made-few moment at p.count s few ∙ silent s) refl refl refl refl some refl);
+  around = around-placed c start s p q i i placed.none some placed.others placed.count (λ d other. refl) (λ d. refl);
 }
 
 -- An act that says the same in each way is one by the rules, where the disk's count stayed.
@@ -130,34 +130,34 @@ acts-any {H} {A} words other x i held a j same whole plain kept acts = record { 
     by way (inr (inr s)) = absurd (stops way s)
 
 -- The greeting of a reader is the making of its session.
-greeting-made : (n : ℕ) (s : Standing) (i j : Outside) (held : Option Reader) → n < session_limit → j.disk ≡ i.disk → Acts (greeting s.archive) i held s.archive j → Acts (said_making door.Nntp n s) i (held_over session.News held) s j
-greeting-made n s i j held few kept acts =
+greeting-made : (moment n : ℕ) (s : Standing) (i j : Outside) (held : Option Reader) → n < session_limit → j.disk ≡ i.disk → Acts (greeting s.archive) i held s.archive j → Acts (said_making moment door.Nntp n s) i (held_over session.News held) s j
+greeting-made moment n s i j held few kept acts =
     let lifted = acts-over (λ (x : Archive). s) session.News (greeting s.archive) (λ (way : Way). said_over (λ (x : Archive). s) session.News (greeting s.archive way)) i held s.archive j (λ way. refl) acts in
-    acts-any (λ (way : Way). said_over (λ (x : Archive). s) session.News (greeting s.archive way)) (said_making door.Nntp n s) (says s (session.News new_reader) welcome_line) i (held_over session.News held) s j (λ way. refl) refl (made-few door.Nntp n s few) kept lifted
+    acts-any (λ (way : Way). said_over (λ (x : Archive). s) session.News (greeting s.archive way)) (said_making moment door.Nntp n s) (says s (session.News new_reader) welcome_line) i (held_over session.News held) s j (λ way. refl) refl (made-few moment door.Nntp n s few) kept lifted
 
 -- A reader's session was made, and its greeting was sent.
-pub makes-news : (c : ℕ) (p q r : Places) (i j : Outer) (reader : Reader) → IsPlaced c p q → IsPut c (session.News reader) q r → p.count < session_limit → j.disk ≡ i.disk
-    → ((a : Archive) → Acts (greeting a) (outside_at c i) (Some reader) a (outside_at c j)) → OthersKept c i.taken j.taken → ((d : ℕ) → j.closings d ≡ i.closings d) → Makes door.Nntp c p i r j
-makes-news c p q r i j reader placed put few kept acts taken closings = λ s. record {
-  acts = subst (λ (n : ℕ). Acts (said_making door.Nntp n s) (outside_at c i) (r.session c) s (outside_at c j)) (sym (others-none c s p i placed.none))
-      (subst (λ (x : Option Session). Acts (said_making door.Nntp p.count s) (outside_at c i) x s (outside_at c j)) (sym put.here) (greeting-made p.count s (outside_at c i) (outside_at c j) (Some reader) few kept (acts s.archive)));
+pub makes-news : (moment c : ℕ) (p q r : Places) (i j : Outer) (reader : Reader) → IsPlaced c p q → IsPut c (session.News reader) q r → p.count < session_limit → j.disk ≡ i.disk
+    → ((a : Archive) → Acts (greeting a) (outside_at c i) (Some reader) a (outside_at c j)) → OthersKept c i.taken j.taken → ((d : ℕ) → j.closings d ≡ i.closings d) → Makes moment door.Nntp c p i r j
+makes-news moment c p q r i j reader placed put few kept acts taken closings = λ s. record {
+  acts = subst (λ (n : ℕ). Acts (said_making moment door.Nntp n s) (outside_at c i) (r.session c) s (outside_at c j)) (sym (others-none c s p i placed.none))
+      (subst (λ (x : Option Session). Acts (said_making moment door.Nntp p.count s) (outside_at c i) x s (outside_at c j)) (sym put.here) (greeting-made moment p.count s (outside_at c i) (outside_at c j) (Some reader) few kept (acts s.archive)));
   around = around-placed c (session.News reader) s p r i j placed.none put.here (λ d other. put.others d other ∙ placed.others d other) (put.count ∙ placed.count) taken closings;
 }
 
 -- Its greeting was lost, and it ended.
-pub makes-lost : (c : ℕ) (p q r : Places) (i j k : Outer) → IsPlaced c p q → Ends c q r → p.count < session_limit → j.disk ≡ i.disk → k.disk ≡ j.disk → k.lost ≡ j.lost → ((d : ℕ) → k.taken d ≡ j.taken d)
-    → ((a : Archive) → Acts (greeting a) (outside_at c i) None a (outside_at c j)) → OthersKept c i.taken j.taken → ((d : ℕ) → j.closings d ≡ i.closings d) → OthersKept c j.closings k.closings → k.closings c ≡ one_more (j.closings c) → Makes door.Nntp c p i r k
-makes-lost c p q r i j k placed ends few kept disk lost same acts taken closings others closed = λ s.
+pub makes-lost : (moment c : ℕ) (p q r : Places) (i j k : Outer) → IsPlaced c p q → Ends c q r → p.count < session_limit → j.disk ≡ i.disk → k.disk ≡ j.disk → k.lost ≡ j.lost → ((d : ℕ) → k.taken d ≡ j.taken d)
+    → ((a : Archive) → Acts (greeting a) (outside_at c i) None a (outside_at c j)) → OthersKept c i.taken j.taken → ((d : ℕ) → j.closings d ≡ i.closings d) → OthersKept c j.closings k.closings → k.closings c ≡ one_more (j.closings c) → Makes moment door.Nntp c p i r k
+makes-lost moment c p q r i j k placed ends few kept disk lost same acts taken closings others closed = λ s.
     let ended = ends in
     let zero : one_if (p.session c) ≡ 0 = ap (λ (x : Option Session). one_if x) placed.none in
     let one : one_if (q.session c) ≡ 1 = ap (λ (x : Option Session). one_if x) placed.some in
     let none : one_if (r.session c) ≡ 0 = ap (λ (x : Option Session). one_if x) ended.gone in
     let out : outside_at c j ≡ outside_at c k = λ e. record { out = sym (same c) e; disk = sym disk e; lost = sym lost e } in
-    let said = greeting-made p.count s (outside_at c i) (outside_at c j) None few kept (acts s.archive) in
-    let here = subst (λ (o : Outside). Acts (said_making door.Nntp p.count s) (outside_at c i) None s o) out said in
+    let said = greeting-made moment p.count s (outside_at c i) (outside_at c j) None few kept (acts s.archive) in
+    let here = subst (λ (o : Outside). Acts (said_making moment door.Nntp p.count s) (outside_at c i) None s o) out said in
     record {
-      acts = subst (λ (n : ℕ). Acts (said_making door.Nntp n s) (outside_at c i) (r.session c) s (outside_at c k)) (sym (others-none c s p i placed.none))
-          (subst (λ (x : Option Session). Acts (said_making door.Nntp p.count s) (outside_at c i) x s (outside_at c k)) (sym ended.gone) here);
+      acts = subst (λ (n : ℕ). Acts (said_making moment door.Nntp n s) (outside_at c i) (r.session c) s (outside_at c k)) (sym (others-none c s p i placed.none))
+          (subst (λ (x : Option Session). Acts (said_making moment door.Nntp p.count s) (outside_at c i) x s (outside_at c k)) (sym ended.gone) here);
       around = record {
         sessions = λ d other. ended.sessions d other ∙ placed.others d other;
         taken = λ d other. same d ∙ taken d other;
@@ -168,14 +168,14 @@ makes-lost c p q r i j k placed ends few kept disk lost same acts taken closings
     }
 
 -- An open session of the connection ended first.
-pub makes-after : (at : Door) (c : ℕ) (p q r : Places) (i j : Outer) → Ends c p q → Makes at c q i r j → Makes at c p i r j
-makes-after at c p q r i j ends makes = λ s.
+pub makes-after : (moment : ℕ) (at : Door) (c : ℕ) (p q r : Places) (i j : Outer) → Ends c p q → Makes moment at c q i r j → Makes moment at c p i r j
+makes-after moment at c p q r i j ends makes = λ s.
     let ended = ends in
     let act = makes s in
     let zero : one_if (q.session c) ≡ 0 = ap (λ (x : Option Session). one_if x) ended.gone in
     let others : others_open c (world_of s q i) ≡ others_open c (world_of s p i) = omega (arith, ended.count, zero) in
     record {
-      acts = subst (λ (n : ℕ). Acts (said_making at n s) (outside_at c i) (r.session c) s (outside_at c j)) others act.acts;
+      acts = subst (λ (n : ℕ). Acts (said_making moment at n s) (outside_at c i) (r.session c) s (outside_at c j)) others act.acts;
       around = record {
         sessions = λ d other. act.around.sessions d other ∙ ended.sessions d other;
         taken = act.around.taken;
@@ -186,8 +186,8 @@ makes-after at c p q r i j ends makes = λ s.
     }
 
 -- The same of lists of sessions of which one is the other.
-pub makes-unchanged : (at : Door) (c : ℕ) (p : Places) (old new : List (ℕ × Session)) (i j : Outer) → new ≡ old → Makes at c p i (places_of old) j → Makes at c p i (places_of new) j
-makes-unchanged at c p old new i j same makes = subst (λ (sessions : List (ℕ × Session)). Makes at c p i (places_of sessions) j) (sym same) makes
+pub makes-unchanged : (moment : ℕ) (at : Door) (c : ℕ) (p : Places) (old new : List (ℕ × Session)) (i j : Outer) → new ≡ old → Makes moment at c p i (places_of old) j → Makes moment at c p i (places_of new) j
+makes-unchanged moment at c p old new i j same makes = subst (λ (sessions : List (ℕ × Session)). Makes moment at c p i (places_of sessions) j) (sym same) makes
 
 -- An end is one of a world.
 pub ended-world : (c : ℕ) (p q : Places) (s : Standing) (o : Outer) → Ends c p q → EndedAt c (world_of s p o) (world_of s q o)

@@ -15,6 +15,10 @@ use Rattle.control_door.specs.Door.{Waiting, waiting}
 use Rattle.nntp_reader.specs.Door as news
 use Rattle.nntp_reader.specs.Door.{Reader, new_reader}
 use Rattle.nntp_reader.specs.Notices.{welcome_line, memory_line, busy_line, unopened_line}
+use Rattle.http_front.specs.Door as pages
+use Rattle.http_front.specs.Reading.{asked_in}
+use Rattle.http_front.specs.Replies.{word, unopened_word}
+use Rattle.http_heads.specs.declared.reply.Status.TheVariants.{TooManyRequests, Unavailable}
 use Rattle.node_serve.specs.declared.session.Session.{Session}
 use Rattle.node_serve.specs.declared.session.Session.TheVariants as session
 
@@ -24,38 +28,45 @@ pub data Held : Type 0 where
   Came : Session → List ℕ → Held
   AtControl : Waiting → Held
   AtNews : Reader → Held
+  AtHttp : List ℕ → Held
 
 -- The session with a piece after its bytes, once the archive was reopened.
 abbrev pub with_piece : Session → List ℕ → Held
 with_piece (session.Control bytes) piece = AtControl (waiting (bytes ++ piece) true)
 with_piece (session.News reader) piece = AtNews (news.with_piece piece reader)
+with_piece (session.Http bytes) piece = AtHttp (pages.with_piece piece bytes)
 
 -- The session between two pieces.
 abbrev pub rest_of : Held → Session
 rest_of (Came start piece) = start
 rest_of (AtControl w) = session.Control w.bytes
 rest_of (AtNews reader) = session.News reader
+rest_of (AtHttp bytes) = session.Http bytes
 
 -- The session between two pieces, if it is open.
 abbrev pub rest_if : Option Held → Option Session
 rest_if None = None
 rest_if (Some h) = Some (rest_of h)
 
--- The line of a session's door for an archive that was not opened.
-abbrev pub unopened_words : Session → OpenRefusal → List ℕ
-unopened_words (session.Control bytes) why = lines.unopened_words why
-unopened_words (session.News reader) why = unopened_line why
+-- What a session's door says of an archive that was not opened, at a moment.
+abbrev pub unopened_words : ℕ → Session → OpenRefusal → List ℕ
+unopened_words moment (session.Control bytes) why = lines.unopened_words why
+unopened_words moment (session.News reader) why = unopened_line why
+unopened_words moment (session.Http bytes) why = unopened_word why moment
 
 -- What a session says at a moment. Before a piece the archive is reopened, which finds the older one
 -- or the one in doubt; or it is refused, and the door's word for that is said, and the connection is
--- closed. Each request is then answered as its door does.
+-- closed. Each request is then answered as its door does. What the head of a request for a page asks
+-- is `asked_in` of its bytes.
 abbrev pub said : ℕ → Standing → Held → Way → Said Held Standing
 said moment s (Came start piece) way =
-    said_reopening (unopened_words start) s (with_piece start piece) way
+    said_reopening (unopened_words moment start) s (with_piece start piece) way
 said moment s (AtControl w) way =
     said_over (λ (t : Standing). t) AtControl (control.said moment s w way)
 said moment s (AtNews reader) way =
     said_over (λ (a : Archive). standing a s.doubt) AtNews (news.said moment s.archive reader way)
+said moment s (AtHttp bytes) way = said_over (λ (a : Archive). standing a s.doubt) AtHttp
+    (pages.said asked_in moment s.archive bytes way)
 
 -- Something is to be done before a rest is kept: the archive is to be reopened, or a whole request is
 -- at the front.
@@ -63,42 +74,45 @@ abbrev pub is_asked : Held → Bool
 is_asked (Came start piece) = true
 is_asked (AtControl w) = control.has_request w
 is_asked (AtNews reader) = news.has_request reader
+is_asked (AtHttp bytes) = pages.has_request bytes
 
 -- The greatest number of open sessions.
 abbrev pub session_limit : ℕ
 session_limit = 256
 
--- A door's word for a server that is full. A door that isn't built has none.
-abbrev pub busy_words : Door → List ℕ
-busy_words door.Control = control.busy_word
-busy_words door.Http = []
-busy_words door.Nntp = busy_line
-busy_words door.Imap = []
+-- A door's word at a moment for a server that is full. A door that isn't built has none.
+abbrev pub busy_words : ℕ → Door → List ℕ
+busy_words moment door.Control = control.busy_word
+busy_words moment door.Http = word TooManyRequests moment true true
+busy_words moment door.Nntp = busy_line
+busy_words moment door.Imap = []
 
--- A door's word for a session for which memory ran out.
-abbrev pub memory_words : Door → List ℕ
-memory_words door.Control = lines.memory_word
-memory_words door.Http = []
-memory_words door.Nntp = memory_line
-memory_words door.Imap = []
+-- A door's word at a moment for a session for which memory ran out.
+abbrev pub memory_words : ℕ → Door → List ℕ
+memory_words moment door.Control = lines.memory_word
+memory_words moment door.Http = word Unavailable moment true true
+memory_words moment door.Nntp = memory_line
+memory_words moment door.Imap = []
 
--- A new session of a door, and its greeting. The control door has none. A connection at a door that
--- isn't built is closed without a word.
+-- A new session of a door, and its greeting. The control door and the door of pages have none. A
+-- connection at a door that isn't built is closed without a word.
 abbrev pub greets : Door → Standing → Said Session Standing
 greets door.Control s = says s (session.Control []) []
-greets door.Http s = closes s []
+greets door.Http s = says s (session.Http []) []
 greets door.Nntp s = says s (session.News new_reader) welcome_line
 greets door.Imap s = closes s []
 
 -- A session is made, or refused because as many others are open as there may be.
-abbrev pub made : Door → ℕ → Standing → Said Session Standing
-made at others s = if nat_lt others session_limit then greets at s else closes s (busy_words at)
+abbrev pub made : ℕ → Door → ℕ → Standing → Said Session Standing
+made moment at others s =
+    if nat_lt others session_limit then greets at s else closes s (busy_words moment at)
 
 -- Out of memory for a session, the door's word for that is said.
-abbrev pub unmade : Door → ℕ → Standing → Said Session Standing
-unmade at others s =
-    if nat_lt others session_limit then closes s (memory_words at) else closes s (busy_words at)
+abbrev pub unmade : ℕ → Door → ℕ → Standing → Said Session Standing
+unmade moment at others s = if nat_lt others session_limit
+    then closes s (memory_words moment at) else closes s (busy_words moment at)
 
--- What the making of a session says, by how many others are open. It reads no disk.
-abbrev pub said_making : Door → ℕ → Standing → Way → Said Session Standing
-said_making at others s way = in_ways (made at others s) (unmade at others s) (made at others s) way
+-- What the making of a session says at a moment, by how many others are open. It reads no disk.
+abbrev pub said_making : ℕ → Door → ℕ → Standing → Way → Said Session Standing
+said_making moment at others s way = in_ways (made moment at others s) (unmade moment at others s)
+    (made moment at others s) way

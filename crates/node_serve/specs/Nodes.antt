@@ -65,10 +65,11 @@ pub record Refused (c : ℕ) (words : List ℕ) (i j : Outer) : Type 0 where
   pub closed : j.closings c ≡ one_more (i.closings c)
   pub disk : j.disk ≡ i.disk
 
--- A session of a door was made at a connection, or refused.
-abbrev pub Makes : Door → ℕ → Places → Outer → Places → Outer → Type 0
-Makes door c p i q j = (s : Standing)
-    → ActAt c (said_making door (others_open c (world_of s p i)) s) (world_of s p i) (world_of s q j)
+-- A session of a door was made at a connection at a moment, or refused.
+abbrev pub Makes : ℕ → Door → ℕ → Places → Outer → Places → Outer → Type 0
+Makes moment door c p i q j = (s : Standing)
+    → ActAt c (said_making moment door (others_open c (world_of s p i)) s) (world_of s p i)
+    (world_of s q j)
 
 -- The session of a connection ended, if it had one.
 pub record Ends (c : ℕ) (p q : Places) : Type 0 where

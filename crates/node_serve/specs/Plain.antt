@@ -1,6 +1,6 @@
 -- What events do by the rules: no allocation fails, the disk answers, and no send is lost. As a
 -- function of a world, and as a relation whose acts all go in the way `Plain`.
-use Rattle.std.specs.Prelude.{◌≡◌, ◌==◌, ◌+◌, ◌-◌, ◌≤◌, ℕ, zero, suc, Bool, true, false, List, [], ◌∷◌, ◌++◌, Option, Some, None, if◌then◌else◌}
+use Rattle.std.specs.Prelude.{◌≡◌, ◌==◌, ◌+◌, ◌-◌, ◌≤◌, ℕ, zero, suc, Bool, true, false, List, [], ◌∷◌, ◌++◌, length, Option, Some, None, if◌then◌else◌}
 use Rattle.edge_io.specs.Scripts.{Arrival}
 use Rattle.edge_io.specs.Taken.{plus}
 use Rattle.edge_io.specs.declared.events.What.{What}
@@ -13,7 +13,7 @@ use Rattle.arch_model.specs.Standing.{Standing}
 use Rattle.control_door.specs.Door as control
 use Rattle.nntp_reader.specs.Door as news
 use Rattle.node_serve.specs.declared.session.Session.{Session}
-use Rattle.node_serve.specs.Doors.{Held, Came, AtControl, AtNews, with_piece, rest_if, said, is_asked, said_making}
+use Rattle.node_serve.specs.Doors.{Held, Came, AtControl, AtNews, AtHttp, with_piece, rest_if, said, is_asked, said_making}
 use Rattle.node_serve.specs.Turns.{Turn}
 use Rattle.node_serve.specs.World.{World, outer, Around, Same, EndedAt, outside_at, others_open, one_if, closed_if, open_below}
 
@@ -23,11 +23,13 @@ abbrev pub size_at_door : Held → ℕ
 size_at_door (Came start piece) = 0
 size_at_door (AtControl w) = control.left w
 size_at_door (AtNews reader) = news.left reader
+size_at_door (AtHttp bytes) = length bytes
 
 abbrev pub size_of : Held → ℕ
 size_of (Came start piece) = suc (size_at_door (with_piece start piece))
 size_of (AtControl w) = control.left w
 size_of (AtNews reader) = news.left reader
+size_of (AtHttp bytes) = length bytes
 
 -- What a piece says: the answers to its whole requests in order, after which the rest is kept.
 abbrev pub piece_said : ℕ → Standing → Held → Said Held Standing
@@ -99,7 +101,7 @@ plain_piece (Some start) moment c piece w =
 -- What happened at a moment.
 abbrev pub plain_event : What → ℕ → List ℕ → World → Turn
 plain_event (what.Opened c door) moment piece w =
-    turn_to [] (after_said c (said_making door (others_open c w) w.standing Plain) w)
+    turn_to [] (after_said c (said_making moment door (others_open c w) w.standing Plain) w)
 plain_event (what.Bytes c len) moment piece w = plain_piece (w.session c) moment c piece w
 plain_event (what.Ended c) moment piece w = turn_to [] (after_end c w)
 plain_event what.Quiet moment piece w = turn_to [] w
@@ -151,7 +153,7 @@ PlainCameTo (Some start) moment c piece w passed v = PlainFedAt moment c start p
 
 abbrev pub PlainTurnedBy : What → ℕ → List ℕ → World → List Standing → World → Type 0
 PlainTurnedBy (what.Opened c door) moment piece w passed v =
-    PlainActAt c (said_making door (others_open c w) w.standing Plain) w v × (passed ≡ [])
+    PlainActAt c (said_making moment door (others_open c w) w.standing Plain) w v × (passed ≡ [])
 PlainTurnedBy (what.Bytes c len) moment piece w passed v =
     PlainCameTo (w.session c) moment c piece w passed v
 PlainTurnedBy (what.Ended c) moment piece w passed v = EndedAt c w v × (passed ≡ [])

@@ -36,7 +36,7 @@ CameTo (Some start) moment c piece w passed v = FedAt moment c start piece w pas
 -- then its session is made, which greets, or is refused.
 abbrev pub TurnedBy : What → ℕ → List ℕ → World → List Standing → World → Type 0
 TurnedBy (what.Opened c door) moment piece w passed v =
-    ActAt c (said_making door (others_open c w) w.standing) w v × (passed ≡ [])
+    ActAt c (said_making moment door (others_open c w) w.standing) w v × (passed ≡ [])
 TurnedBy (what.Bytes c len) moment piece w passed v =
     CameTo (w.session c) moment c piece w passed v
 TurnedBy (what.Ended c) moment piece w passed v = EndedAt c w v × (passed ≡ [])

@@ -82,7 +82,10 @@ impl<K: Keep> Node<K> {
         ensures events { SameEvents H.left H.given H.recorded H.faults host.old host.new }
     {
         match event.what {
-            What::Opened { conn, door } => admit(self.alloc, conn, door, &mut self.sessions, host),
+            What::Opened { conn, door } => {
+                let moment = event.moment;
+                admit(self.alloc, conn, door, moment, &mut self.sessions, host)
+            }
             What::Bytes { conn, .. } => feed(
                 conn,
                 event.moment,

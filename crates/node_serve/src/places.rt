@@ -1,9 +1,11 @@
 //! The sessions of connections: how each is made, answers its pieces, and ends.
-ghost use Rattle.std.specs.Prelude.{◌≡◌, ◌≤◌, ◌<◌, ℕ, None};
+ghost use Rattle.std.specs.Prelude.{◌≡◌, ◌≤◌, ◌<◌, ℕ, [], None};
 ghost use Rattle.arch_base.specs.Moments.{last_moment};
+ghost use Rattle.arch_model.specs.Standing.{Standing};
 ghost use Rattle.edge_io.specs.Hosts.{SameEvents};
 ghost use Rattle.edge_io.specs.declared.events.What.TheVariants.{Bytes};
-ghost use Rattle.node_serve.specs.Doors.{session_limit};
+ghost use Rattle.line_door.specs.Making.{says};
+ghost use Rattle.node_serve.specs.Doors.{session_limit, greets};
 ghost use Rattle.node_serve.specs.Nodes.{Places, Makes, Ends, IsPlaced, IsPut, Turns, places_of, serving};
 ghost use Rattle.node_serve.specs.World.{outer};
 
@@ -12,6 +14,7 @@ use crate::welcome::{greet_reader, refuse, refuse_starved};
 use arch_model::{Keep, Next};
 use control_door::Session as ControlSession;
 use edge_io::{Door, Host};
+use http_front::HttpSession;
 use std::alloc::Global;
 use std::collections::BTreeMap;
 
@@ -33,10 +36,12 @@ pub(crate) fn admit<H: Host>(
     alloc: Global,
     conn: u32,
     door: Door,
+    moment: u64,
     sessions: &mut Sessions,
     host: &mut H,
 )
-    ensures made { (disk : ℕ) → Makes door conn (places_of sessions.old.entries)
+    requires moment { moment ≤ last_moment }
+    ensures made { (disk : ℕ) → Makes moment door conn (places_of sessions.old.entries)
         (outer (H.taken host.old) (H.closings host.old) disk (H.lost host.old))
         (places_of sessions.new.entries)
         (outer (H.taken host.new) (H.closings host.new) disk (H.lost host.new)) }
@@ -44,31 +49,46 @@ pub(crate) fn admit<H: Host>(
 {
     end(conn, sessions);
     if sessions.len() >= SESSION_LIMIT {
-        refuse(door, conn, host);
+        refuse(door, conn, moment, host);
         return;
     }
     match door {
-        Door::Control => open_control(alloc, conn, sessions, host),
-        Door::Nntp => open_news(alloc, conn, sessions, host),
-        Door::Http => refuse(Door::Http, conn, host),
-        Door::Imap => refuse(Door::Imap, conn, host),
+        Door::Control => {
+            let session = Session::Control(ControlSession::open(alloc));
+            open_silent(Door::Control, session, conn, moment, sessions, host)
+        }
+        Door::Http => {
+            let session = Session::Http(HttpSession::open(alloc));
+            open_silent(Door::Http, session, conn, moment, sessions, host)
+        }
+        Door::Nntp => open_news(alloc, conn, moment, sessions, host),
+        Door::Imap => refuse(Door::Imap, conn, moment, host),
     }
 }
 
-/// Makes a session of the control door at a connection without one, or refuses it if memory runs
-/// out.
-fn open_control<H: Host>(alloc: Global, conn: u32, sessions: &mut Sessions, host: &mut H)
+/// Makes a session of a door that doesn't greet at a connection without one, or refuses it if memory
+/// runs out.
+fn open_silent<H: Host>(
+    door: Door,
+    session: Session,
+    conn: u32,
+    moment: u64,
+    sessions: &mut Sessions,
+    host: &mut H,
+)
+    requires moment { moment ≤ last_moment }
+    requires silent { (s : Standing) → greets door s ≡ says s session [] }
     requires none { (places_of sessions.old.entries).session conn ≡ None }
     requires few { (places_of sessions.old.entries).count < session_limit }
-    ensures made { (disk : ℕ) → Makes Door.Control conn (places_of sessions.old.entries)
+    ensures made { (disk : ℕ) → Makes moment door conn (places_of sessions.old.entries)
         (outer (H.taken host.old) (H.closings host.old) disk (H.lost host.old))
         (places_of sessions.new.entries)
         (outer (H.taken host.new) (H.closings host.new) disk (H.lost host.new)) }
     ensures events { SameEvents H.left H.given H.recorded H.faults host.old host.new }
 {
-    match sessions.insert(conn, Session::Control(ControlSession::open(alloc))) {
+    match sessions.insert(conn, session) {
         Ok(_) => {}
-        Err(_) => refuse_starved(Door::Control, conn, host),
+        Err(_) => refuse_starved(door, conn, moment, host),
     }
 }
 
@@ -76,10 +96,11 @@ fn open_control<H: Host>(alloc: Global, conn: u32, sessions: &mut Sessions, host
 /// runs out.
 ///
 /// Its place is found first, by a session that takes no memory. So none greets that has no place.
-fn open_news<H: Host>(alloc: Global, conn: u32, sessions: &mut Sessions, host: &mut H)
+fn open_news<H: Host>(alloc: Global, conn: u32, moment: u64, sessions: &mut Sessions, host: &mut H)
+    requires moment { moment ≤ last_moment }
     requires none { (places_of sessions.old.entries).session conn ≡ None }
     requires few { (places_of sessions.old.entries).count < session_limit }
-    ensures made { (disk : ℕ) → Makes Door.Nntp conn (places_of sessions.old.entries)
+    ensures made { (disk : ℕ) → Makes moment Door.Nntp conn (places_of sessions.old.entries)
         (outer (H.taken host.old) (H.closings host.old) disk (H.lost host.old))
         (places_of sessions.new.entries)
         (outer (H.taken host.new) (H.closings host.new) disk (H.lost host.new)) }
@@ -87,15 +108,15 @@ fn open_news<H: Host>(alloc: Global, conn: u32, sessions: &mut Sessions, host: &
 {
     match sessions.insert(conn, Session::Control(ControlSession::open(alloc))) {
         Ok(_) => greet(alloc, conn, sessions, host),
-        Err(_) => refuse_starved(Door::Nntp, conn, host),
+        Err(_) => refuse_starved(Door::Nntp, conn, moment, host),
     }
 }
 
 /// Opens a session of a reader in the place of the one that a connection has, and greets. If the
 /// greeting is lost, the connection is closed and has no session.
 fn greet<H: Host>(alloc: Global, conn: u32, sessions: &mut Sessions, host: &mut H)
-    ensures made { (disk : ℕ) (p : Places) → IsPlaced conn p (places_of sessions.old.entries)
-        → p.count < session_limit → Makes Door.Nntp conn p
+    ensures made { (disk moment : ℕ) (p : Places) → IsPlaced conn p (places_of sessions.old.entries)
+        → p.count < session_limit → Makes moment Door.Nntp conn p
         (outer (H.taken host.old) (H.closings host.old) disk (H.lost host.old))
         (places_of sessions.new.entries)
         (outer (H.taken host.new) (H.closings host.new) disk (H.lost host.new)) }

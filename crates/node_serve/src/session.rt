@@ -14,6 +14,7 @@ use answer_lines::say_unopened;
 use arch_model::{Keep, Next, OpenRefusal};
 use control_door::Session as ControlSession;
 use edge_io::{ConnSink, Host, Sink, SinkFault};
+use http_front::HttpSession;
 use nntp_reader::NntpSession;
 
 /// A session of a connection, by its door.
@@ -23,6 +24,8 @@ pub enum Session {
     Control(ControlSession),
     /// At the door of readers of news.
     News(NntpSession),
+    /// At the door of pages.
+    Http(HttpSession),
 }
 
 /// Answers a piece that came to a session of a connection. Returns whether the session continues.
@@ -79,6 +82,7 @@ fn take<K: Keep, O: Sink>(
 ///
 /// Does nothing if no command is in doubt. If reopening is refused, writes the door's word for it.
 fn reopen<K: Keep, O: Sink>(session: &Session, moment: u64, keep: &mut K, out: &mut O) -> Next
+    requires moment { moment ≤ last_moment }
     ensures acts { Opens K.holds K.ready K.leaves moment session.now keep.old
         (outside (O.taken out.old) (K.faults keep.old) (O.faults out.old))
         (continues result) keep.new
@@ -90,21 +94,28 @@ fn reopen<K: Keep, O: Sink>(session: &Session, moment: u64, keep: &mut K, out: &
     match keep.fresh() {
         Ok(()) => Next::Go,
         Err(refusal) => {
-            let _ = say_shut(session, refusal, out);
+            let _ = say_shut(session, refusal, moment, out);
             Next::Close
         }
     }
 }
 
 /// Writes a door's word for an archive that was not reopened.
-fn say_shut<O: Sink>(session: &Session, refusal: OpenRefusal, out: &mut O) -> Result<(), SinkFault>
-    ensures said { Says (unopened_words session.now refusal) (O.taken out.old) (O.faults out.old)
+fn say_shut<O: Sink>(
+    session: &Session,
+    refusal: OpenRefusal,
+    moment: u64,
+    out: &mut O,
+) -> Result<(), SinkFault>
+    requires moment { moment ≤ last_moment }
+    ensures said { Says (unopened_words moment session.now refusal) (O.taken out.old) (O.faults out.old)
         (O.taken out.new) (O.faults out.new) result }
     ensures sink { O.alike out.old out.new }
 {
     match session {
         Session::Control(_) => say_unopened(refusal, out),
         Session::News(_) => nntp_reader::say_unopened(refusal, out),
+        Session::Http(_) => http_front::say_unopened(refusal, moment, out),
     }
 }
 
@@ -130,5 +141,6 @@ fn feed<K: Keep, O: Sink>(
     match session {
         Session::Control(control) => control.feed(piece, moment, keep, out),
         Session::News(reader) => reader.feed(piece, moment, keep, out),
+        Session::Http(pages) => pages.feed(piece, moment, keep, out),
     }
 }

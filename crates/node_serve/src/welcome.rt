@@ -1,5 +1,6 @@
 //! What a connection gets before it has a session.
-ghost use Rattle.std.specs.Prelude.{◌≡◌, ℕ};
+ghost use Rattle.std.specs.Prelude.{◌≡◌, ◌≤◌, ℕ};
+ghost use Rattle.arch_base.specs.Moments.{last_moment};
 ghost use Rattle.arch_model.specs.Archives.{Archive};
 ghost use Rattle.arch_model.specs.Next.{continues};
 ghost use Rattle.edge_io.specs.Hosts.{SameEvents, SameElsewhere};
@@ -17,57 +18,64 @@ use nntp_reader::NntpSession;
 use std::alloc::Global;
 
 /// Writes a door's word for a server that is full. A door that isn't built has none.
-fn say_busy<O: Sink>(door: Door, out: &mut O) -> Result<(), SinkFault>
-    ensures said { Says (busy_words door) (O.taken out.old) (O.faults out.old) (O.taken out.new)
+fn say_busy<O: Sink>(door: Door, moment: u64, out: &mut O) -> Result<(), SinkFault>
+    requires { moment ≤ last_moment }
+    ensures said { Says (busy_words moment door) (O.taken out.old) (O.faults out.old) (O.taken out.new)
         (O.faults out.new) result }
     ensures sink { O.alike out.old out.new }
 {
     match door {
         Door::Control => control_door::say_busy(out),
         Door::Nntp => nntp_reader::say_busy(out),
-        Door::Http | Door::Imap => say(b"", out),
+        Door::Http => http_front::say_busy(moment, out),
+        Door::Imap => say(b"", out),
     }
 }
 
 /// Writes a door's word for a session for which memory ran out. A door that isn't built has none.
-fn say_starved<O: Sink>(door: Door, out: &mut O) -> Result<(), SinkFault>
-    ensures said { Says (memory_words door) (O.taken out.old) (O.faults out.old) (O.taken out.new)
+fn say_starved<O: Sink>(door: Door, moment: u64, out: &mut O) -> Result<(), SinkFault>
+    requires { moment ≤ last_moment }
+    ensures said { Says (memory_words moment door) (O.taken out.old) (O.faults out.old) (O.taken out.new)
         (O.faults out.new) result }
     ensures sink { O.alike out.old out.new }
 {
     match door {
         Door::Control => say_memory(out),
         Door::Nntp => nntp_reader::say_no_memory(out),
-        Door::Http | Door::Imap => say(b"", out),
+        Door::Http => http_front::say_no_memory(moment, out),
+        Door::Imap => say(b"", out),
     }
 }
 
 /// Refuses a connection because as many sessions are open as there may be, and closes it. One at a
 /// door that isn't built is closed without a word.
-pub(crate) fn refuse<H: Host>(door: Door, conn: u32, host: &mut H)
-    ensures refused { (disk : ℕ) → Refused conn (busy_words door)
+pub(crate) fn refuse<H: Host>(door: Door, conn: u32, moment: u64, host: &mut H)
+    requires { moment ≤ last_moment }
+    ensures refused { (disk : ℕ) → Refused conn (busy_words moment door)
         (outer (H.taken host.old) (H.closings host.old) disk (H.lost host.old))
         (outer (H.taken host.new) (H.closings host.new) disk (H.lost host.new)) }
     ensures events { SameEvents H.left H.given H.recorded H.faults host.old host.new }
 {
-    let _ = write_busy(door, conn, host);
+    let _ = write_busy(door, conn, moment, host);
     host.close(conn);
 }
 
 /// Refuses a connection because memory ran out for its session, and closes it.
-pub(crate) fn refuse_starved<H: Host>(door: Door, conn: u32, host: &mut H)
-    ensures refused { (disk : ℕ) → Refused conn (memory_words door)
+pub(crate) fn refuse_starved<H: Host>(door: Door, conn: u32, moment: u64, host: &mut H)
+    requires { moment ≤ last_moment }
+    ensures refused { (disk : ℕ) → Refused conn (memory_words moment door)
         (outer (H.taken host.old) (H.closings host.old) disk (H.lost host.old))
         (outer (H.taken host.new) (H.closings host.new) disk (H.lost host.new)) }
     ensures events { SameEvents H.left H.given H.recorded H.faults host.old host.new }
 {
-    let _ = write_starved(door, conn, host);
+    let _ = write_starved(door, conn, moment, host);
     host.close(conn);
 }
 
 /// Writes a door's word for a server that is full to a connection.
-fn write_busy<H: Host>(door: Door, conn: u32, host: &mut H) -> Result<(), SinkFault>
-    ensures said { Says (busy_words door) (H.taken host.old conn) (H.lost host.old)
+fn write_busy<H: Host>(door: Door, conn: u32, moment: u64, host: &mut H) -> Result<(), SinkFault>
+    requires { moment ≤ last_moment }
+    ensures said { Says (busy_words moment door) (H.taken host.old conn) (H.lost host.old)
         (H.taken host.new conn) (H.lost host.new) result }
     ensures host { SameElsewhere H.left H.given H.recorded H.faults H.taken H.closings conn host.old
         host.new }
@@ -76,12 +84,13 @@ fn write_busy<H: Host>(door: Door, conn: u32, host: &mut H) -> Result<(), SinkFa
         host: &mut *host,
         conn,
     };
-    say_busy(door, &mut sink)
+    say_busy(door, moment, &mut sink)
 }
 
 /// Writes a door's word for a session for which memory ran out to a connection.
-fn write_starved<H: Host>(door: Door, conn: u32, host: &mut H) -> Result<(), SinkFault>
-    ensures said { Says (memory_words door) (H.taken host.old conn) (H.lost host.old)
+fn write_starved<H: Host>(door: Door, conn: u32, moment: u64, host: &mut H) -> Result<(), SinkFault>
+    requires { moment ≤ last_moment }
+    ensures said { Says (memory_words moment door) (H.taken host.old conn) (H.lost host.old)
         (H.taken host.new conn) (H.lost host.new) result }
     ensures host { SameElsewhere H.left H.given H.recorded H.faults H.taken H.closings conn host.old
         host.new }
@@ -90,7 +99,7 @@ fn write_starved<H: Host>(door: Door, conn: u32, host: &mut H) -> Result<(), Sin
         host: &mut *host,
         conn,
     };
-    say_starved(door, &mut sink)
+    say_starved(door, moment, &mut sink)
 }
 
 /// Opens a session of a reader, which greets its connection.

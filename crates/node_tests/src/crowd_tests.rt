@@ -2,6 +2,7 @@
 use crate::served::served_plain;
 use arch_base::Bytes;
 use edge_io::MemHost;
+use node_serve::count_law;
 use std::alloc::Global;
 
 /// The first connection. All have three digits.
@@ -66,6 +67,15 @@ fn the_257th_session_is_refused(rt: HostRuntime) {
     assert!(rt; is_refused(rt.alloc(), b"nntp", b"400 busy\r\n"));
 }
 
+/// What the 257th connection gets at the door of pages, at the moment of its opening.
+const BUSY_PAGE: &[u8] =
+    b"HTTP/1.1 429 Too Many Requests\r\nDate: Thu, 01 Jan 1970 00:00:01 GMT\r\nContent-Type: text/plain; charset=utf-8\r\nContent-Length: 5\r\nConnection: close\r\n\r\nbusy\n";
+
+#[test]
+fn the_257th_session_is_refused_at_the_door_of_pages(rt: HostRuntime) {
+    assert!(rt; is_refused(rt.alloc(), b"http", BUSY_PAGE));
+}
+
 /// Returns whether a place is free again once a session ended, and one that opens again takes none.
 fn has_place(alloc: Global) -> bool {
     match crowded(alloc, b"nntp", b"2 o 100 nntp\n2 e 101\n2 o 700 nntp\n") {
@@ -79,5 +89,6 @@ fn has_place(alloc: Global) -> bool {
 
 #[test]
 fn a_session_that_ends_leaves_its_place(rt: HostRuntime) {
+    count_law();
     assert!(rt; has_place(rt.alloc()));
 }

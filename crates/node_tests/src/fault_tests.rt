@@ -79,7 +79,7 @@ const OLD: &[u8] = b"201 piv2 reader\r\n211 0 1 0 list\r\n423 no such number\r\n
 const UNREAD: &[u8] = b"201 piv2 reader\r\n211 1 1 1 list\r\n403 disk fault\r\n";
 
 /// Makes an archive on a disk of which one call fails.
-fn made_over_failing(alloc: Global, ordinal: u64) -> Option<Engine<MemDisk>> {
+pub(crate) fn made_over_failing(alloc: Global, ordinal: u64) -> Option<Engine<MemDisk>> {
     let config = settings()?;
     let mut listed = Numbers::new(alloc);
     listed.push(ordinal).ok()?;

@@ -7,6 +7,8 @@ mod crowd_tests;
 #[cfg(test)]
 mod fault_tests;
 #[cfg(test)]
+mod page_tests;
+#[cfg(test)]
 mod reading_tests;
 #[cfg(test)]
 mod served;

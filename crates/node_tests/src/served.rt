@@ -6,7 +6,7 @@ use arch_base::{Bytes, Config, Name, Numbers};
 use arch_model::Keep;
 use edge_io::{MemHost, script};
 use mem_archive::MemArchive;
-use node_serve::{Node, ServeEnd, count_law, plain_law, serve};
+use node_serve::{Node, ServeEnd, serve};
 use std::alloc::Global;
 
 /// A script's text in which the first connection delivers a message to the archive.
@@ -103,11 +103,4 @@ fn serving_ends_when_its_events_are_spent(rt: HostRuntime) {
     assert!(rt; end_after(rt.alloc(), quiet, 4) == Some(ServeEnd::Spent(4)));
     assert!(rt; end_after(rt.alloc(), quiet, 5) == Some(ServeEnd::Stopped));
     assert!(rt; end_after(rt.alloc(), b"1 q\n2 s\n3 q\n", 2) == Some(ServeEnd::Stopped));
-}
-
-#[test]
-fn the_laws_are_called(rt: HostRuntime) {
-    count_law();
-    plain_law();
-    assert!(rt; true);
 }

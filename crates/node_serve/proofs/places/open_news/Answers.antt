@@ -7,10 +7,10 @@ use Rattle.node_serve.proofs.places.open_news.Goals as goal
 
 pub returns-in-Ok-clause-made : goal.returns-in-Ok-clause-made
 returns-in-Ok-clause-made g c = λ disk.
-    c.greet.ensures.made disk (places_of c.args.sessions.now.entries)
+    c.greet.ensures.made disk c.args.moment (places_of c.args.sessions.now.entries)
     (placed-inserted c.args.sessions.now c.insert.new.self c.args.conn _ (session.Control c.open.result) c.requires.none c.in-Ok.ensures.old c.in-Ok.ensures.updates c.in-Ok.ensures.len) c.requires.few
 
 pub returns-clause-made : goal.returns-clause-made
 returns-clause-made g c = λ disk.
-    makes-unchanged door.Nntp c.args.conn (places_of c.args.sessions.now.entries) c.args.sessions.now.entries c.insert.new.self.entries _ _ c.in-Err.ensures.err
-    (makes-starved door.Nntp c.args.conn (places_of c.args.sessions.now.entries) _ _ c.requires.none c.requires.few (c.refuse_starved.ensures.refused disk))
+    makes-unchanged c.args.moment door.Nntp c.args.conn (places_of c.args.sessions.now.entries) c.args.sessions.now.entries c.insert.new.self.entries _ _ c.in-Err.ensures.err
+    (makes-starved c.args.moment door.Nntp c.args.conn (places_of c.args.sessions.now.entries) _ _ c.requires.none c.requires.few (c.refuse_starved.ensures.refused disk))

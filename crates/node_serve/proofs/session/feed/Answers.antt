@@ -1,5 +1,7 @@
 use Rattle.std.proofs.Common.{◌++◌}
-use Rattle.node_serve.proofs.Feeding.{control-fed, news-fed}
+use Rattle.http_front.specs.Reading.{asked_in}
+use Rattle.http_front.proofs.HeadReading.{reads-heads}
+use Rattle.node_serve.proofs.Feeding.{control-fed, news-fed, http-fed}
 use Rattle.node_serve.proofs.session.feed.Goals as goal
 
 pub returns-in-Control-clause-fed : goal.returns-in-Control-clause-fed
@@ -9,3 +11,7 @@ returns-in-Control-clause-fed g c = λ s fits. rw c.in-Control.is (
 pub returns-in-News-clause-fed : goal.returns-in-News-clause-fed
 returns-in-News-clause-fed g c = λ s fits. rw c.in-News.is (
     news-fed g.K.Shelf.holds g.K.Shelf.ready g.K.Keep.leaves c.args.moment g.met.K.Keep.holds_left _ s c.args.keep.now _ _ _ c.feed-in-News.new.shelf _ c.feed-in-News.ensures.fed (g.met.K.Keep.alike_kept _ _ c.feed-in-News.ensures.shelf.same) c.requires.ready fits)
+
+pub returns-in-Http-clause-fed : goal.returns-in-Http-clause-fed
+returns-in-Http-clause-fed g c = λ s fits. rw c.in-Http.is (
+    http-fed g.K.Shelf.holds g.K.Shelf.ready g.K.Keep.leaves c.args.moment g.met.K.Keep.holds_left (c.in-Http.pages ++ c.args.piece.now) s c.args.keep.now _ _ _ c.feed-in-Http.new.shelf _ (c.feed-in-Http.ensures.fed asked_in reads-heads) (g.met.K.Keep.alike_kept _ _ c.feed-in-Http.ensures.shelf.same) c.requires.ready fits)
