@@ -13,7 +13,7 @@ use Rattle.arch_base.specs.declared.config.Config.{Config}
 use Rattle.archive_cli.specs.Words.{IsMade, IsInit, IsReplay, IsRemove, IsServe, IsServeOption, Gives, serve_word, IsJob, AsksFor, IsSetting, IsUpTo, EachOnce, setting_word, limit_of, slice_of, max_of, mirror_of, limits, slices, maxes, mirrors, spelled, limit_in, slice_in, max_in, mirror_in}
 use Rattle.archive_cli.specs.Options.{IsServing, Holds, HoldsMore, HoldsTwo, marks}
 use Rattle.archive_cli.specs.declared.words.Job.{Job}
-use Rattle.archive_cli.specs.declared.words.Job.TheVariants.{Help, Version, Replay, Init, Deliver, Remove, Check, Serve}
+use Rattle.archive_cli.specs.declared.words.Job.TheVariants.{Help, Version, Replay, Init, Deliver, Remove, Reindex, Check, Serve}
 use Rattle.archive_cli.specs.declared.words.ServeOption.{ServeOption}
 use Rattle.archive_cli.specs.declared.words.ServeOption.TheVariants as serving
 use Rattle.archive_cli.specs.declared.words.Setting.{Setting}
@@ -200,6 +200,7 @@ module _ (word : List ℕ) (more : List (List ℕ)) where
   remove_only Help e = absurd (not-alone (codes "remove") (codes "--help") word [] more [] e)
   remove_only Version e = absurd (not-alone (codes "remove") (codes "--version") word [] more [] e)
   remove_only Deliver e = absurd (not-alone (codes "remove") (codes "deliver") word [] more [] e)
+  remove_only Reindex e = absurd (not-alone (codes "remove") (codes "reindex") word [] more [] e)
   remove_only Check e = absurd (not-alone (codes "remove") (codes "check") word [] more [] e)
   remove_only (Remove number) r = (number, refl, r)
   remove_only (Init config) i = absurd (remove-init (first-word (codes "remove") (codes "init") [] [] (word ∷ more) i.after i.is))
@@ -257,6 +258,7 @@ module _ (word name : List ℕ) (options : List (List ℕ)) where
   not_made o v h Help e = cc e
   not_made o v h Version e = cc e
   not_made o v h Deliver e = cc e
+  not_made o v h Reindex e = cc e
   not_made o v h Check e = cc e
   not_made o v h (Remove number) r = o (cc r.is)
   not_made o v h (Init config) i = h i.settings config (after_word (codes "init") i.after i.settings config i.is i.made)
@@ -268,6 +270,7 @@ module _ (word name : List ℕ) (options : List (List ℕ)) where
   other_word o p q v Help e = cc e
   other_word o p q v Version e = cc e
   other_word o p q v Deliver e = cc e
+  other_word o p q v Reindex e = cc e
   other_word o p q v Check e = cc e
   other_word o p q v (Remove number) r = o (cc r.is)
   other_word o p q v (Init config) i = p (cc i.is)
@@ -290,6 +293,7 @@ module _ (word name : List ℕ) (options : List (List ℕ)) where
     not_replayed e Help f = cc f
     not_replayed e Version f = cc f
     not_replayed e Deliver f = cc f
+    not_replayed e Reindex f = cc f
     not_replayed e Check f = cc f
     not_replayed e (Remove number) r = remove-replay (sym (first-word word (codes "remove") [] [] (name ∷ options) (decimal number ∷ []) r.is) ∙ is)
     not_replayed e (Init other) i = apart 105 114 (codes "nit") (codes "eplay") (omega arith) (cc (i.is, is))
@@ -396,6 +400,7 @@ serve_only : (after : List (List ℕ)) (job : Job) → AsksFor (codes "serve" �
 serve_only after Help e = absurd (apart 115 45 (codes "erve") (codes "-help") (omega arith) (head-word (codes "serve") (codes "--help") after [] e))
 serve_only after Version e = absurd (apart 115 45 (codes "erve") (codes "-version") (omega arith) (head-word (codes "serve") (codes "--version") after [] e))
 serve_only after Deliver e = absurd (apart 115 100 (codes "erve") (codes "eliver") (omega arith) (head-word (codes "serve") (codes "deliver") after [] e))
+serve_only after Reindex e = absurd (apart 115 114 (codes "erve") (codes "eindex") (omega arith) (head-word (codes "serve") (codes "reindex") after [] e))
 serve_only after Check e = absurd (apart 115 99 (codes "erve") (codes "heck") (omega arith) (head-word (codes "serve") (codes "check") after [] e))
 serve_only after (Remove number) r = absurd (apart 115 114 (codes "erve") (codes "emove") (omega arith) (head-word (codes "serve") (codes "remove") after (decimal number ∷ []) r.is))
 serve_only after (Init config) i = absurd (apart 115 105 (codes "erve") (codes "nit") (omega arith) (head-word (codes "serve") (codes "init") after i.after i.is))

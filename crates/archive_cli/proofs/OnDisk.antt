@@ -1,4 +1,4 @@
--- What `init`, `check` and a command do, by the calls below them.
+-- What `init`, `reindex`, `check` and a command do, by the calls below them.
 use Rattle.std.specs.Prelude.{◌≡◌, ◌≢◌, ◌<◌, ◌≤◌, ℕ, zero, suc, true, List, [], length, Option, Some, None, Result, Ok, Err, refl}
 use Rattle.std.proofs.Common.{◌∙◌, sym, ap, subst, inl, inr, arith}
 use Rattle.arch_base.specs.Counts.{Rose, RoseIf}
@@ -33,9 +33,9 @@ use Rattle.archive_core.specs.Engines.{Owning}
 use Rattle.archive_core.specs.Openings.{LeavesKindly}
 use Rattle.archive_core.proofs.Stored.{stored-length}
 use Rattle.archive_core.proofs.Engines.{all_recover, reads_one, stands_for}
-use Rattle.archive_cli.specs.DiskCommands.{Makes, unmade, IsFault, IsOpenedAs, Answers, TakesTo, ChecksTo, StandsAs, StaysUnopened, TakesOn, CommandLeaves, CommandLeavesAmong}
+use Rattle.archive_cli.specs.DiskCommands.{Makes, unmade, IsFault, IsOpenedAs, Answers, TakesTo, ReindexesTo, ChecksTo, StandsAs, StaysUnopened, TakesOn, CommandLeaves, CommandLeavesAmong}
 use Rattle.archive_cli.specs.declared.outcome.Outcome.{Outcome}
-use Rattle.archive_cli.specs.declared.outcome.Outcome.TheVariants.{Made, Checked, Answered, Unopened}
+use Rattle.archive_cli.specs.declared.outcome.Outcome.TheVariants.{Made, Reindexed, Checked, Answered, Unopened}
 
 -- An archive was made.
 pub made-makes : (config : Config) (name : List ℕ) (v : View) (old new : Option Content) → name ≡ config.name → WhereTold (λ (k : Content). IsShutFile (k root_name).seen) old → WhereTold (IsDiskOf v (empty_archive config)) new → Makes config (Made name) old new
@@ -75,6 +75,14 @@ pub made-cause : (before now : ℕ) (name : List ℕ) → now ≡ before → Ros
 made-cause before now name same = record { later = omega (arith, same); failed = none; kept = λ free. same }
   where
     none : IsFault (Made name) → Rose before now
+    none (inl other) = absurd (cc other)
+    none (inr other) = absurd (cc other)
+
+-- What is kept beside the files was built anew, and the disk didn't fail.
+pub reindexed-cause : (before now live : ℕ) → now ≡ before → RoseIf (IsFault (Reindexed live)) before now
+reindexed-cause before now live same = record { later = omega (arith, same); failed = none; kept = λ free. same }
+  where
+    none : IsFault (Reindexed live) → Rose before now
     none (inl other) = absurd (cc other)
     none (inr other) = absurd (cc other)
 
@@ -127,12 +135,23 @@ unopened-takes a wanted (refusal.Damaged file at) old new reads want kind = absu
 unopened-takes a wanted refusal.DiskFault old new reads want kind = tt
 unopened-takes a wanted refusal.NoMemory old new reads want kind = kind a [] reads
 
+-- What a refusal to open leaves of an archive that was to be reindexed.
+pub unopened-reindexes : (a : Archive) (why : OpenRefusal) (old new : Option Content) → ReadsAs a old → IsWant why → LeavesKindly why old new → ReindexesTo a (Unopened why) new
+unopened-reindexes a refusal.NoArchive old new reads want kind = absurd want
+unopened-reindexes a (refusal.Damaged file at) old new reads want kind = absurd want
+unopened-reindexes a refusal.DiskFault old new reads want kind = tt
+unopened-reindexes a refusal.NoMemory old new reads want kind = kind a [] reads
+
 -- What a refusal to open leaves of an archive that was to be checked.
 pub unopened-checks : (a : Archive) (why : OpenRefusal) (old new : Option Content) → ReadsAs a old → IsWant why → LeavesKindly why old new → ChecksTo a (Unopened why) new
 unopened-checks a refusal.NoArchive old new reads want kind = absurd want
 unopened-checks a (refusal.Damaged file at) old new reads want kind = absurd want
 unopened-checks a refusal.DiskFault old new reads want kind = tt
 unopened-checks a refusal.NoMemory old new reads want kind = kind a [] reads
+
+-- The count of a store's live messages is that of its archive.
+pub opened-reindexes : (v : View) (a : Archive) (content : Option Content) (live : ℕ) → IsStoreOf v a content → live ≡ length (live_entries a.entries) → ReindexesTo a (Reindexed live) content
+opened-reindexes v a content live store lives = (lives, (v, store))
 
 -- The counts of a store are those of its archive.
 pub opened-checks : (v : View) (a : Archive) (content : Option Content) (entries live next : ℕ) → IsStoreOf v a content → entries ≡ length v.entries → live ≡ length (live_entries a.entries) → next ≡ v.root.next → ChecksTo a (Checked entries live next) content

@@ -23,14 +23,14 @@ use Rattle.edge_io.specs.Coming.{Moments, IsFirst}
 use Rattle.archive_cli.specs.Outcomes.{outcome_line, status_of}
 use Rattle.archive_cli.specs.declared.outcome.Outcome.{Outcome}
 use Rattle.archive_cli.specs.declared.outcome.Outcome.TheVariants.{Answered}
-use Rattle.archive_cli.specs.Program.{Edges, all_edges, NoneFailed, Acts, EndsBy, InitActs, CommandActs, DeliverActs, CheckActs, PlaysPart, IsInput, IsDue, Ends, Ran, input_limit, message_of, TookAtMost}
+use Rattle.archive_cli.specs.Program.{Edges, all_edges, NoneFailed, Acts, EndsBy, InitActs, CommandActs, DeliverActs, ReindexActs, CheckActs, PlaysPart, IsInput, IsDue, Ends, Ran, input_limit, message_of, TookAtMost}
 use Rattle.archive_cli.specs.Printing.{Printed, Exactly, IsReplayDue, Replayed, IsPieceRead, JobDone, InputDone, IsUnread}
 use Rattle.archive_cli.specs.declared.status.Status.{Status}
 use Rattle.archive_cli.specs.declared.status.Status.TheVariants as exit
 use Rattle.archive_cli.specs.declared.reading.InputRefusal.{InputRefusal}
 use Rattle.archive_cli.specs.declared.reading.InputRefusal.TheVariants.{Fault, TooLong, NoMemory}
 use Rattle.archive_cli.specs.declared.words.Job.{Job}
-use Rattle.archive_cli.specs.declared.words.Job.TheVariants.{Replay, Init, Deliver, Remove, Check, Serve}
+use Rattle.archive_cli.specs.declared.words.Job.TheVariants.{Replay, Init, Deliver, Remove, Reindex, Check, Serve}
 
 module _ (out : Option (List ℕ)) (lost : ℕ) (out' : Option (List ℕ)) (lost' : ℕ) where
   -- What is due by one rule is due by another.
@@ -131,6 +131,13 @@ ran-removed words number status i j asked (inl p) =
     let given = some-input i.left in
     ran-printed words given.0 status i j (EndsBy (CommandActs (removing number)) i j) given.1 (λ s printed due. inl (record { job = Some (Remove number); asked = asked; ends = due })) p
 ran-removed words number status i j asked (inr missed) = inr (inr (inl (record { asked = inr (inr (number, asked)); rose = missed.1; silent = missed.0 })))
+
+-- A reindexing is a run.
+pub ran-reindexed : (words : List (List ℕ)) (status : Status) (i j : Edges) (o : Outcome) → AsksFor words Reindex → Acts ReindexActs i j o → Printed (Exactly (whole_line (outcome_line o)) (status_of o)) status i.taken i.lost j.taken j.lost → Ran words status i j
+ran-reindexed words status i j o asked acts p =
+    let given = some-input i.left in
+    ran-printed words given.0 status i j (Exactly (whole_line (outcome_line o)) (status_of o)) given.1
+    (λ s printed e. inl (record { job = Some Reindex; asked = asked; ends = record { outcome = o; acts = acts; status_is = e.status_is; printed_is = e.words_is } })) p
 
 -- A check is a run.
 pub ran-checked : (words : List (List ℕ)) (status : Status) (i j : Edges) (o : Outcome) → AsksFor words Check → Acts CheckActs i j o → Printed (Exactly (whole_line (outcome_line o)) (status_of o)) status i.taken i.lost j.taken j.lost → Ran words status i j

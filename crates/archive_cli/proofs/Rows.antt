@@ -20,11 +20,11 @@ use Rattle.epoch_store.specs.Stores.{View, IsDiskOf}
 use Rattle.archive_core.specs.Engines.{store-recovers}
 use Rattle.archive_core.proofs.Engines.{recovers_either}
 use Rattle.archive_cli.specs.declared.outcome.Outcome.{Outcome}
-use Rattle.archive_cli.specs.declared.outcome.Outcome.TheVariants.{Made, Exists, Checked, Answered, Unopened}
+use Rattle.archive_cli.specs.declared.outcome.Outcome.TheVariants.{Made, Exists, Reindexed, Checked, Answered, Unopened}
 use Rattle.archive_cli.specs.declared.status.Status.{Status}
 use Rattle.archive_cli.specs.declared.status.Status.TheVariants as exit
 use Rattle.archive_cli.specs.declared.words.Job.{Job}
-use Rattle.archive_cli.specs.declared.words.Job.TheVariants.{Help, Version, Replay, Init, Deliver, Remove, Check, Serve}
+use Rattle.archive_cli.specs.declared.words.Job.TheVariants.{Help, Version, Replay, Init, Deliver, Remove, Reindex, Check, Serve}
 use Rattle.archive_cli.specs.DiskCommands.{Makes, StandsAs, StaysUnopened, TakesOn, delivering, removing}
 use Rattle.archive_cli.specs.Laws.{WithMessage, WithRemoval, Goes, RunsInARow}
 use Rattle.archive_cli.specs.Outcomes.{status_of}
@@ -42,6 +42,7 @@ only-delivers : (words : List (List ℕ)) (job : Job) → AsksFor words Deliver 
 only-delivers words Deliver asked also = refl
 only-delivers words Help asked also = absurd (other-words 100 45 (codes "eliver") (codes "-help") [] [] (omega arith) (sym asked ∙ also))
 only-delivers words Version asked also = absurd (other-words 100 45 (codes "eliver") (codes "-version") [] [] (omega arith) (sym asked ∙ also))
+only-delivers words Reindex asked also = absurd (other-words 100 114 (codes "eliver") (codes "eindex") [] [] (omega arith) (sym asked ∙ also))
 only-delivers words Check asked also = absurd (other-words 100 99 (codes "eliver") (codes "heck") [] [] (omega arith) (sym asked ∙ also))
 only-delivers words (Remove number) asked also = absurd (other-words 100 114 (codes "eliver") (codes "emove") [] (decimal number ∷ []) (omega arith) (sym asked ∙ also.is))
 only-delivers words (Replay config) asked also = absurd (other-words 100 114 (codes "eliver") (codes "eplay") [] also.after (omega arith) (sym asked ∙ also.is))
@@ -54,6 +55,7 @@ IsCommand Deliver = Unit {0}
 IsCommand (Remove number) = Unit {0}
 IsCommand Help = ⊥
 IsCommand Version = ⊥
+IsCommand Reindex = ⊥
 IsCommand Check = ⊥
 IsCommand (Replay config) = ⊥
 IsCommand (Init config) = ⊥
@@ -69,6 +71,7 @@ only-makes : (words : List (List ℕ)) (job : Job) → AsksForInit words → Ask
 only-makes words (Init config) asked also = (config, refl)
 only-makes words Help asked also = absurd (other-words 105 45 (codes "nit") (codes "-help") asked.1.after [] (omega arith) (sym asked.1.is ∙ also))
 only-makes words Version asked also = absurd (other-words 105 45 (codes "nit") (codes "-version") asked.1.after [] (omega arith) (sym asked.1.is ∙ also))
+only-makes words Reindex asked also = absurd (other-words 105 114 (codes "nit") (codes "eindex") asked.1.after [] (omega arith) (sym asked.1.is ∙ also))
 only-makes words Check asked also = absurd (other-words 105 99 (codes "nit") (codes "heck") asked.1.after [] (omega arith) (sym asked.1.is ∙ also))
 only-makes words (Replay config) asked also = absurd (other-words 105 114 (codes "nit") (codes "eplay") asked.1.after also.after (omega arith) (sym asked.1.is ∙ also.is))
 only-makes words Deliver asked also = absurd (other-words 105 100 (codes "nit") (codes "eliver") asked.1.after [] (omega arith) (sym asked.1.is ∙ also))
@@ -140,6 +143,7 @@ module _ (words : List (List ℕ)) (i : Edges) where
     steps-done s t old (Unopened why) stays = steps-unopened s t old why stays
     steps-done s t old (Made name) never = absurd never
     steps-done s t old Exists never = absurd never
+    steps-done s t old (Reindexed live) never = absurd never
     steps-done s t old (Checked entries live next) never = absurd never
 
   -- A command leads from what the disk stood for to what it stands for then.
@@ -174,6 +178,7 @@ module _ (words : List (List ℕ)) (i : Edges) where
       leads-does input told status printed (Some (Remove number)) asks ends = leads-removed number asks status printed ends
       leads-does input told status printed (Some Help) asks ends = absurd (only-commands words Help asked asks)
       leads-does input told status printed (Some Version) asks ends = absurd (only-commands words Version asked asks)
+      leads-does input told status printed (Some Reindex) asks ends = absurd (only-commands words Reindex asked asks)
       leads-does input told status printed (Some Check) asks ends = absurd (only-commands words Check asked asks)
       leads-does input told status printed (Some (Replay config)) asks ends = absurd (only-commands words (Replay config) asked asks)
       leads-does input told status printed (Some (Serve turns port)) asks ends = absurd (only-commands words (Serve turns port) asked asks)
@@ -205,6 +210,7 @@ module _ (words : List (List ℕ)) (asked : AsksForInit words) (i j : Edges) (k 
       let disk = subst (λ (c : Option Content). WhereTold (λ (m : Content). (v : View) × IsDiskOf v (empty_archive (made_at config born)) m) c) told makes.2 in
       record { config = config; asked = asks; born = born; is_born = first; view = disk.0; disk = disk.1 }
   made-by config asks born first Exists makes done = absurd (cc done)
+  made-by config asks born first (Reindexed live) makes done = absurd makes
   made-by config asks born first (Checked entries live next) makes done = absurd makes
   made-by config asks born first (Unopened why) makes done = absurd makes
   made-by config asks born first (Answered answer.DiskFault) makes done = absurd (cc done)

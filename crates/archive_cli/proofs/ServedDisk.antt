@@ -10,7 +10,7 @@ use Rattle.arch_model.specs.Archives.{Archive, live}
 use Rattle.arch_model.specs.Following.{FollowsItself}
 use Rattle.arch_model.specs.Keeping.{HasDoubt, Has, HasAll, Passes, Fits}
 use Rattle.arch_model.specs.Laws.{CommandFollows}
-use Rattle.arch_model.specs.Listings.{rows_of}
+use Rattle.view_set.specs.Viewed.{views_of}
 use Rattle.arch_model.specs.Standing.{Standing, standing, one_of}
 use Rattle.arch_model.specs.declared.opening.OpenRefusal.{OpenRefusal}
 use Rattle.arch_model.specs.declared.opening.OpenRefusal.TheVariants as opening
@@ -111,7 +111,7 @@ module _ {D : Type 0} (content : D → Option Content) (moment : D → ℕ) (lef
   -- An archive was opened, and events were served by a node without sessions.
   pub served-on : FollowsItself → CommandFollows → (may : List (Option Archive)) (old : D) (e : Owning D) (node new : Serving (Owning D)) (arrivals : List Arrival) (i j : Hosted) (o : Outer) → node.keep ≡ e → ((c : ℕ) → (places_in node).session c ≡ None) → (places_in node).count ≡ 0 → o ≡ i.out
       → WhereTold (λ (k : Content). Opens (as_read k) (Ok e.view)) (content old) → ((a : Archive) (cache : List ℕ) → ReadsWith cache a (content old) → IsStoreWith e.view cache a (content e.disk))
-      → ((a : Archive) (cache : List ℕ) → ReadsWith cache a (content old) → e.rows ≡ rows_of (live a.entries))
+      → ((a : Archive) (cache : List ℕ) → ReadsWith cache a (content old) → e.views ≡ views_of (live a.entries))
       → ((may : List (Option Archive)) (cache : List ℕ) → AllRecoverWith cache may (content old) → LeavesOnly moment left_since old e.disk (RecoversOfWith cache may)) → SyncsFirst content moment left_since old e.disk
       → ((t : Standing) → Fits (Holds content) is_ready (Leaves moment left_since) node.keep t → RunsTo (Holds content) is_ready (Leaves moment left_since) arrivals t node o new j.out)
       → AllRecoverOf may (content old) → ServedOn content moment left_since may old new.keep.disk arrivals i j

@@ -22,7 +22,9 @@ use Rattle.control_door.specs.Door.{Waiting}
 use Rattle.control_door.specs.Requests.{Request, Delivers, Shows, Removes, Threads, Lists, Quits, Mistakes, Exceeds, Ahead, Asked, Unfinished, ahead}
 use Rattle.nntp_reader.specs.Door as news
 use Rattle.nntp_reader.specs.Door.{Reader}
-use Rattle.node_serve.specs.Doors.{Held, Came, AtControl, AtNews, said, is_asked, unopened_words, with_piece}
+use Rattle.http_front.specs.Reading.{asked_in}
+use Rattle.http_front.proofs.Staying.{archive-stays}
+use Rattle.node_serve.specs.Doors.{Held, Came, AtControl, AtNews, AtHttp, said, is_asked, unopened_words, with_piece}
 use Rattle.node_serve.specs.Turns.{Turn, CameTo, TurnedBy, Turned, Served, passed_in}
 use Rattle.node_serve.specs.World.{World}
 use Rattle.node_serve.specs.declared.session.Session.{Session}
@@ -129,10 +131,12 @@ module _ (itself : FollowsItself) (commands : CommandFollows) where
 
   -- All doors.
   said-follows : (moment : ℕ) (s : Standing) (h : Held) (way : Way) → DoubtFollows s → FollowsIn s.archive (said moment s h way).after
-  said-follows moment s (Came start piece) way kept = reopened (unopened_words start) s (with_piece start piece) way kept
+  said-follows moment s (Came start piece) way kept = reopened (unopened_words moment start) s (with_piece start piece) way kept
   said-follows moment s (AtControl w) way kept = front-follows moment s w (ahead w.bytes) way kept
   said-follows moment s (AtNews r) way kept =
       subst (λ (a : Archive). FollowsIn s.archive (standing a s.doubt)) (sym (read-after moment s.archive r (skipping_front longest_line r.bytes) way)) (stays s kept)
+  said-follows moment s (AtHttp bytes) way kept =
+      subst (λ (a : Archive). FollowsIn s.archive (standing a s.doubt)) (sym (archive-stays asked_in moment s.archive bytes way)) (stays s kept)
 
   -- An act.
   acts-follow : {H : Type 0} (words : Way → Said H Standing) (a : Archive) (i : Outside) (held : Option H) (t : Standing) (j : Outside) → ((way : Way) → FollowsIn a (words way).after) → Acts words i held t j → FollowsIn a t
@@ -193,7 +197,7 @@ module _ (itself : FollowsItself) (commands : CommandFollows) where
           (piece-follows e.0.moment (talk (Some (Came start e.1)) w.standing _) came.acts came.before (talk came.held v.standing _) rest came.each came.last kept later)
 
       by : (x : What) → TurnedBy x e.0.moment e.1 w passed v → FollowOn w.standing.archive (passed ++ rest)
-      by (what.Opened c at) t = same-follows w v passed rest (acts-after _ w.standing _ _ v.standing _ (λ way. making-after at _ w.standing way) t.0.acts) t.1 kept later
+      by (what.Opened c at) t = same-follows w v passed rest (acts-after _ w.standing _ _ v.standing _ (λ way. making-after _ at _ w.standing way) t.0.acts) t.1 kept later
       by (what.Bytes c len) t = fed c (w.session c) t
       by (what.Ended c) t = same-follows w v passed rest t.0.standing t.1 kept later
       by what.Quiet t = same-follows w v passed rest t.0.standing t.1 kept later
@@ -207,7 +211,7 @@ module _ (itself : FollowsItself) (commands : CommandFollows) where
       fed c (Some start) came = piece-kept e.0.moment (talk (Some (Came start e.1)) w.standing _) came.acts came.before (talk came.held v.standing _) came.each came.last kept
 
       by : (x : What) → TurnedBy x e.0.moment e.1 w passed v → DoubtFollows v.standing
-      by (what.Opened c at) t = same-kept w v (acts-after _ w.standing _ _ v.standing _ (λ way. making-after at _ w.standing way) t.0.acts) kept
+      by (what.Opened c at) t = same-kept w v (acts-after _ w.standing _ _ v.standing _ (λ way. making-after _ at _ w.standing way) t.0.acts) kept
       by (what.Bytes c len) t = fed c (w.session c) t
       by (what.Ended c) t = same-kept w v t.0.standing kept
       by what.Quiet t = same-kept w v t.0.standing kept

@@ -1,5 +1,5 @@
--- What `init`, `check` and a command on an archive do to a disk, and how they end. `deliver` and
--- `remove` are such commands.
+-- What `init`, `reindex`, `check` and a command on an archive do to a disk, and how they end.
+-- `deliver` and `remove` are such commands.
 use Rattle.std.specs.Prelude.{◌≡◌, ◌⊎◌, ℕ, true, List, length, Option, Some, None, Ok, Err}
 use Rattle.std.specs.List.{Contains}
 use Rattle.arch_base.specs.declared.config.Config.{Config}
@@ -21,7 +21,7 @@ use Rattle.epoch_store.specs.Opens.{IsOnlySynced, Opens, ReadsAs, RecoversOf, Al
 use Rattle.epoch_store.specs.Stores.{View, IsStoreOf, IsDiskOf, RecoversEither}
 use Rattle.archive_core.specs.Openings.{LeavesKindly}
 use Rattle.archive_cli.specs.declared.outcome.Outcome.{Outcome}
-use Rattle.archive_cli.specs.declared.outcome.Outcome.TheVariants.{Made, Exists, Checked, Answered, Unopened}
+use Rattle.archive_cli.specs.declared.outcome.Outcome.TheVariants.{Made, Exists, Reindexed, Checked, Answered, Unopened}
 
 -- A disk that is told is an archive's own: each crash leaves files that stand for the archive, and
 -- the files are exactly those of the archive.
@@ -48,6 +48,7 @@ Makes config (Answered (answer.NotLive number)) old new = ⊥
 Makes config (Answered (answer.NoText number)) old new = ⊥
 Makes config (Answered answer.IsMirror) old new = ⊥
 Makes config (Answered (answer.Damaged file at)) old new = ⊥
+Makes config (Reindexed live) old new = ⊥
 Makes config (Checked entries live next) old new = ⊥
 Makes config (Unopened why) old new = ⊥
 
@@ -100,10 +101,24 @@ TakesTo a wanted (Unopened refusal.NoArchive) new = ⊥
 TakesTo a wanted (Unopened (refusal.Damaged file at)) new = ⊥
 TakesTo a wanted (Made name) new = ⊥
 TakesTo a wanted Exists new = ⊥
+TakesTo a wanted (Reindexed live) new = ⊥
 TakesTo a wanted (Checked entries live next) new = ⊥
+
+-- How `reindex` ends on the disk of an archive.
+abbrev pub ReindexesTo : Archive → Outcome → Option Content → Type 0
+ReindexesTo a (Reindexed live) new = (live ≡ length (live_entries a.entries)) × IsOwn a new
+ReindexesTo a (Unopened refusal.DiskFault) new = Unit {0}
+ReindexesTo a (Unopened refusal.NoMemory) new = ReadsAs a new
+ReindexesTo a (Unopened refusal.NoArchive) new = ⊥
+ReindexesTo a (Unopened (refusal.Damaged file at)) new = ⊥
+ReindexesTo a (Made name) new = ⊥
+ReindexesTo a Exists new = ⊥
+ReindexesTo a (Checked entries live next) new = ⊥
+ReindexesTo a (Answered reply) new = ⊥
 
 -- How `check` ends on the disk of an archive.
 abbrev pub ChecksTo : Archive → Outcome → Option Content → Type 0
+ChecksTo a (Reindexed live) new = ⊥
 ChecksTo a (Checked entries live next) new = (entries ≡ length a.entries)
     × (live ≡ length (live_entries a.entries)) × (next ≡ a.next) × IsOwn a new
 ChecksTo a (Unopened refusal.DiskFault) new = Unit {0}
@@ -118,6 +133,7 @@ ChecksTo a (Answered reply) new = ⊥
 -- open them, or with what was done with what was found.
 abbrev pub IsOpenedAs : Files → Outcome → Type 0
 IsOpenedAs files (Unopened why) = Opens files (Err why)
+IsOpenedAs files (Reindexed live) = (v : View) × Opens files (Ok v)
 IsOpenedAs files (Checked entries live next) = (v : View) × Opens files (Ok v)
     × (entries ≡ length v.entries) × (next ≡ v.root.next)
 IsOpenedAs files (Answered reply) = (v : View) × Opens files (Ok v)
@@ -129,6 +145,7 @@ IsOpenedAs files Exists = ⊥
 -- nothing of any other outcome.
 abbrev pub LeavesUnopened : Outcome → Option Content → Option Content → Type 0
 LeavesUnopened (Unopened why) old new = LeavesKindly why old new
+LeavesUnopened (Reindexed live) old new = Unit {0}
 LeavesUnopened (Checked entries live next) old new = Unit {0}
 LeavesUnopened (Answered reply) old new = Unit {0}
 LeavesUnopened (Made name) old new = Unit {0}
@@ -138,14 +155,25 @@ LeavesUnopened Exists old new = Unit {0}
 abbrev pub IsReply : Outcome → Type 0
 IsReply (Made name) = ⊥
 IsReply Exists = ⊥
+IsReply (Reindexed live) = ⊥
 IsReply (Checked entries live next) = ⊥
 IsReply (Answered reply) = Unit {0}
 IsReply (Unopened why) = Unit {0}
+
+-- A reindexing counts what it built, or the archive wasn't opened.
+abbrev pub IsReindex : Outcome → Type 0
+IsReindex (Made name) = ⊥
+IsReindex Exists = ⊥
+IsReindex (Reindexed live) = Unit {0}
+IsReindex (Checked entries live next) = ⊥
+IsReindex (Answered reply) = ⊥
+IsReindex (Unopened why) = Unit {0}
 
 -- A check counts, or the archive wasn't opened.
 abbrev pub IsCheck : Outcome → Type 0
 IsCheck (Made name) = ⊥
 IsCheck Exists = ⊥
+IsCheck (Reindexed live) = ⊥
 IsCheck (Checked entries live next) = Unit {0}
 IsCheck (Answered reply) = ⊥
 IsCheck (Unopened why) = Unit {0}
@@ -177,10 +205,21 @@ TakesOn s old wanted (Answered reply) t = TakenOn s old wanted reply t
 TakesOn s old wanted (Unopened why) t = StaysUnopened s old why t
 TakesOn s old wanted (Made name) t = ⊥
 TakesOn s old wanted Exists t = ⊥
+TakesOn s old wanted (Reindexed live) t = ⊥
 TakesOn s old wanted (Checked entries live next) t = ⊥
+
+-- How `reindex` leaves a disk that stood so.
+abbrev pub ReindexesOn : Standing → Option Content → Outcome → Standing → Type 0
+ReindexesOn s old (Reindexed live) t = Settles s t × ReadsAs t.archive old
+ReindexesOn s old (Unopened why) t = StaysUnopened s old why t
+ReindexesOn s old (Made name) t = ⊥
+ReindexesOn s old Exists t = ⊥
+ReindexesOn s old (Checked entries live next) t = ⊥
+ReindexesOn s old (Answered reply) t = ⊥
 
 -- How `check` leaves a disk that stood so.
 abbrev pub ChecksOn : Standing → Option Content → Outcome → Standing → Type 0
+ChecksOn s old (Reindexed live) t = ⊥
 ChecksOn s old (Checked entries live next) t = Settles s t × ReadsAs t.archive old
 ChecksOn s old (Unopened why) t = StaysUnopened s old why t
 ChecksOn s old (Made name) t = ⊥

@@ -6,9 +6,13 @@ use Rattle.arch_model.specs.declared.answer.Answer.TheVariants as answer
 use Rattle.arch_model.specs.declared.opening.OpenRefusal.{OpenRefusal}
 use Rattle.arch_model.specs.declared.opening.OpenRefusal.TheVariants as refusal
 use Rattle.archive_cli.specs.declared.outcome.Outcome.{Outcome}
-use Rattle.archive_cli.specs.declared.outcome.Outcome.TheVariants.{Made, Exists, Checked, Answered, Unopened}
+use Rattle.archive_cli.specs.declared.outcome.Outcome.TheVariants.{Made, Exists, Reindexed, Checked, Answered, Unopened}
 use Rattle.archive_cli.specs.declared.status.Status.{Status}
 use Rattle.archive_cli.specs.declared.status.Status.TheVariants as exit
+
+-- The line of a reindexing of an archive.
+abbrev pub reindexed_line : ℕ → List ℕ
+reindexed_line live = codes "reindexed " ++ decimal live
 
 -- The line of a check of an archive.
 abbrev pub checked_line : ℕ → ℕ → ℕ → List ℕ
@@ -26,6 +30,7 @@ refusal_line refusal.NoMemory = answer_line answer.NoMemory
 abbrev pub outcome_line : Outcome → List ℕ
 outcome_line (Made name) = codes "made " ++ name
 outcome_line Exists = codes "exists"
+outcome_line (Reindexed live) = reindexed_line live
 outcome_line (Checked entries live next) = checked_line entries live next
 outcome_line (Answered reply) = answer_line reply
 outcome_line (Unopened why) = refusal_line why
@@ -56,6 +61,7 @@ refusal_status refusal.NoMemory = exit.Memory
 abbrev pub status_of : Outcome → Status
 status_of (Made name) = exit.Done
 status_of Exists = exit.Archive
+status_of (Reindexed live) = exit.Done
 status_of (Checked entries live next) = exit.Done
 status_of (Answered reply) = answer_status reply
 status_of (Unopened why) = refusal_status why

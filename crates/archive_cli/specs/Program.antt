@@ -16,14 +16,14 @@ use Rattle.epoch_store.specs.Files.{as_read}
 use Rattle.epoch_store.specs.First.{MakingLeaves}
 use Rattle.epoch_store.specs.Opens.{ReadsAs, RecoversOf}
 use Rattle.answer_lines.specs.Lines.{whole_line}
-use Rattle.archive_cli.specs.DiskCommands.{Makes, TakesTo, ChecksTo, IsOpenedAs, IsFault, IsReply, IsCheck, StandsAs, TakesOn, ChecksOn, CommandRuns, CommandRunsAmong, LeavesUnopened, delivering, removing}
+use Rattle.archive_cli.specs.DiskCommands.{Makes, TakesTo, ReindexesTo, ChecksTo, IsOpenedAs, IsFault, IsReply, IsReindex, IsCheck, StandsAs, TakesOn, ReindexesOn, ChecksOn, CommandRuns, CommandRunsAmong, LeavesUnopened, delivering, removing}
 use Rattle.archive_cli.specs.Outcomes.{outcome_line, status_of}
 use Rattle.archive_cli.specs.Statuses.{code_of}
 use Rattle.archive_cli.specs.Words.{IsJob, AsksFor}
 use Rattle.archive_cli.specs.Serving.{ServeRun, Shut, run_status, run_line}
 use Rattle.archive_cli.specs.Turns.{Transcript, TranscriptFront}
 use Rattle.archive_cli.specs.declared.words.Job.{Job}
-use Rattle.archive_cli.specs.declared.words.Job.TheVariants.{Help, Version, Replay, Init, Deliver, Remove, Check, Serve}
+use Rattle.archive_cli.specs.declared.words.Job.TheVariants.{Help, Version, Replay, Init, Deliver, Remove, Reindex, Check, Serve}
 use Rattle.archive_cli.specs.declared.outcome.Outcome.{Outcome}
 use Rattle.archive_cli.specs.declared.outcome.Outcome.TheVariants.{Answered}
 use Rattle.archive_cli.specs.declared.status.Status.{Status}
@@ -150,6 +150,16 @@ pub record DeliverActs (bytes : List ℕ) (moment : ℕ) (old new : Option Conte
   pub acts : CommandActs (delivering bytes) moment old new o
   pub lives : (a : Archive) → ReadsAs a old → (number : ℕ) → o ≢ Answered (answer.NotLive number)
 
+-- How `reindex` ended, at whatever moment. Whatever the disk stood for, it stands for what is
+-- counted.
+pub record ReindexActs (moment : ℕ) (old new : Option Content) (o : Outcome) : Type 0 where
+  pub kind : IsReindex o
+  pub done : (a : Archive) → ReadsAs a old → ReindexesTo a o new
+  pub stands : (s : Standing) → StandsAs s old → (t : Standing) × StandsAs t new
+      × ReindexesOn s old o t
+  pub answer : WhereTold (λ k. IsOpenedAs (as_read k) o) old
+  pub unopened : LeavesUnopened o old new
+
 -- How `check` ended, at whatever moment. Whatever the disk stood for, it stands for what is counted.
 pub record CheckActs (moment : ℕ) (old new : Option Content) (o : Outcome) : Type 0 where
   pub kind : IsCheck o
@@ -203,6 +213,7 @@ Ends (Some Deliver) input i j status printed =
     EndsBy (DeliverActs (message_of input)) i j status printed
 Ends (Some (Remove number)) input i j status printed =
     EndsBy (CommandActs (removing number)) i j status printed
+Ends (Some Reindex) input i j status printed = EndsBy ReindexActs i j status printed
 Ends (Some Check) input i j status printed = EndsBy CheckActs i j status printed
 Ends (Some (Serve turns port)) input i j status printed = ServeEnds i j status printed
 
@@ -378,4 +389,5 @@ RunLeavesAmong content moment left_since old new may coming wanted =
 abbrev pub LeavesDisk : List (List ℕ) → Type 0
 LeavesDisk words = ((config : Config) → AsksFor words (Init config) → ⊥)
     × (AsksFor words Deliver → ⊥) × ((number : ℕ) → AsksFor words (Remove number) → ⊥)
-    × (AsksFor words Check → ⊥) × ((turns port : ℕ) → AsksFor words (Serve turns port) → ⊥)
+    × (AsksFor words Reindex → ⊥) × (AsksFor words Check → ⊥)
+    × ((turns port : ℕ) → AsksFor words (Serve turns port) → ⊥)

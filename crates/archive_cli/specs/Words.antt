@@ -5,7 +5,7 @@ use Rattle.std.specs.Borrow.{Bor}
 use Rattle.arch_base.specs.Names.{IsName}
 use Rattle.arch_base.specs.declared.config.Config.{Config}
 use Rattle.archive_cli.specs.declared.words.Job.{Job}
-use Rattle.archive_cli.specs.declared.words.Job.TheVariants.{Help, Version, Replay, Init, Deliver, Remove, Check, Serve}
+use Rattle.archive_cli.specs.declared.words.Job.TheVariants.{Help, Version, Replay, Init, Deliver, Remove, Reindex, Check, Serve}
 use Rattle.archive_cli.specs.declared.words.ServeOption.{ServeOption}
 use Rattle.archive_cli.specs.declared.words.ServeOption.TheVariants as serving
 use Rattle.archive_cli.specs.declared.words.Setting.{Setting}
@@ -186,6 +186,7 @@ AsksFor words (Replay config) = IsReplay words config
 AsksFor words (Init config) = IsInit words config
 AsksFor words Deliver = words ≡ codes "deliver" ∷ []
 AsksFor words (Remove number) = IsRemove words number
+AsksFor words Reindex = words ≡ codes "reindex" ∷ []
 AsksFor words Check = words ≡ codes "check" ∷ []
 AsksFor words (Serve turns port) = IsServe words turns port
 

@@ -1,4 +1,4 @@
-//! The work of `init`, `check` and a command on the archive on a disk.
+//! The work of `init`, `reindex`, `check` and a command on the archive on a disk.
 //!
 //! Each takes the disk, and hands it back.
 ghost use Rattle.std.specs.Prelude.{◌≡◌, ◌≤◌, List, Option};
@@ -11,7 +11,7 @@ ghost use Rattle.arch_model.specs.Standing.{Standing};
 ghost use Rattle.epoch_store.specs.Files.{as_read};
 ghost use Rattle.epoch_store.specs.First.{MakingLeaves};
 ghost use Rattle.epoch_store.specs.Opens.{AllRecoverOf, ReadsAs, RecoversOf};
-ghost use Rattle.archive_cli.specs.DiskCommands.{Makes, unmade, TakesTo, ChecksTo, IsOpenedAs, LeavesUnopened, IsReply, IsCheck, StandsAs, TakesOn, ChecksOn, CommandLeaves, CommandLeavesAmong, IsFault, taking};
+ghost use Rattle.archive_cli.specs.DiskCommands.{Makes, unmade, TakesTo, ReindexesTo, ChecksTo, IsOpenedAs, LeavesUnopened, IsReply, IsReindex, IsCheck, StandsAs, TakesOn, ReindexesOn, ChecksOn, CommandLeaves, CommandLeavesAmong, IsFault, taking};
 
 use crate::outcome::Outcome;
 use arch_base::Config;
@@ -74,6 +74,32 @@ pub(crate) fn take<D: Disk>(
             let mut engine = engine;
             let answer = engine.take(command, moment);
             (Outcome::Answered(answer), engine.into_disk())
+        }
+        Err(NotOpened { disk, why }) => (Outcome::Unopened(why), disk),
+    }
+}
+
+/// Builds anew what is kept beside the files of the archive on a disk: the rows of its live messages,
+/// their threads and their words. Counts the live messages.
+///
+/// Opening the archive rebuilds all of these from the number map and the epochs, and nothing of them
+/// outlives a run, so it is opened and counted.
+pub(crate) fn reindex<D: Disk>(alloc: Global, disk: D) -> (Outcome, D)
+    ensures any_moment { (may : List (Option Archive)) → AllRecoverOf may (D.content disk)
+        → LeavesOnly D.moment D.left_since disk result.1 (RecoversOf may) }
+    ensures stands { (s : Standing) → StandsAs s (D.content disk) → (t : Standing)
+        × StandsAs t (D.content result.1) × ReindexesOn s (D.content disk) result.0 t }
+    ensures done { (a : Archive) → ReadsAs a (D.content disk)
+        → ReindexesTo a result.0 (D.content result.1) }
+    ensures answer { WhereTold (λ k. IsOpenedAs (as_read k) result.0) (D.content disk) }
+    ensures unopened { LeavesUnopened result.0 (D.content disk) (D.content result.1) }
+    ensures kind { IsReindex result.0 }
+    ensures cause { RoseIf (IsFault result.0) (D.faults disk) (D.faults result.1) }
+{
+    match Engine::open(alloc, disk) {
+        Ok(engine) => {
+            let live = engine.message_count();
+            (Outcome::Reindexed { live }, engine.into_disk())
         }
         Err(NotOpened { disk, why }) => (Outcome::Unopened(why), disk),
     }

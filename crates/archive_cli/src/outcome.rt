@@ -2,7 +2,7 @@
 ghost use Rattle.std.specs.Prelude.{◌≡◌, ◌++◌, codes, decimal};
 ghost use Rattle.edge_io.specs.Phrases.{Says};
 ghost use Rattle.answer_lines.specs.Lines.{whole_line};
-ghost use Rattle.archive_cli.specs.Outcomes.{outcome_line, refusal_line, checked_line, status_of, answer_status, refusal_status};
+ghost use Rattle.archive_cli.specs.Outcomes.{outcome_line, refusal_line, reindexed_line, checked_line, status_of, answer_status, refusal_status};
 
 use crate::status::Status;
 use answer_lines::{say_answer, say_damage, say_number};
@@ -18,6 +18,8 @@ pub(crate) enum Outcome {
     Made(Name),
     /// There is an archive already.
     Exists,
+    /// What is kept beside the files was built anew. So many messages are live.
+    Reindexed { live: u32 },
     /// The whole archive was read. It has these counts of entries and live messages, and this next
     /// number.
     Checked { entries: u64, live: u32, next: u32 },
@@ -33,7 +35,7 @@ impl Outcome {
         ensures { result ≡ status_of self.now }
     {
         match self {
-            Outcome::Made(_) | Outcome::Checked { .. } => Status::Done,
+            Outcome::Made(_) | Outcome::Reindexed { .. } | Outcome::Checked { .. } => Status::Done,
             Outcome::Exists => Status::Archive,
             Outcome::Answered(answer) => status_of_answer(answer),
             Outcome::Unopened(refusal) => status_of_refusal(refusal),
@@ -49,6 +51,7 @@ impl Outcome {
         match self {
             Outcome::Made(name) => say_made(name, out),
             Outcome::Exists => say_line(b"exists", out),
+            Outcome::Reindexed { live } => say_reindexed(*live, out),
             Outcome::Checked {
                 entries,
                 live,
@@ -92,6 +95,15 @@ fn say_made<O: Sink>(name: &Name, out: &mut O) -> Result<(), SinkFault>
 {
     say(b"made ", out)?;
     say_line(name.as_slice(), out)
+}
+
+/// Writes how many messages are live after a reindexing.
+fn say_reindexed<O: Sink>(live: u32, out: &mut O) -> Result<(), SinkFault>
+    ensures said { Says (whole_line (reindexed_line live)) (O.taken out.old) (O.faults out.old)
+        (O.taken out.new) (O.faults out.new) result }
+    ensures sink { O.alike out.old out.new }
+{
+    say_number(b"reindexed ", u64::from(live), out)
 }
 
 /// Writes the counts of an archive's entries and messages, and its next number.

@@ -5,7 +5,7 @@ ghost use Rattle.arch_model.specs.Archives.{Archive};
 ghost use Rattle.epoch_store.specs.Opens.{AllRecoverOf, RecoversOf};
 ghost use Rattle.answer_lines.specs.Lines.{whole_line};
 ghost use Rattle.archive_cli.specs.Words.{spelled, AsksFor};
-ghost use Rattle.archive_cli.specs.declared.words.Job.TheVariants.{Deliver, Remove, Check, Serve};
+ghost use Rattle.archive_cli.specs.declared.words.Job.TheVariants.{Deliver, Remove, Reindex, Check, Serve};
 ghost use Rattle.arch_base.specs.declared.config.Config.{Config};
 ghost use Rattle.arch_model.specs.Standing.{Standing};
 ghost use Rattle.archive_cli.specs.DiskCommands.{StandsAs, delivering, removing, taking};
@@ -17,7 +17,7 @@ ghost use Rattle.archive_cli.specs.Serving.{ServeRun, ServesDisk, hosted};
 ghost use Rattle.node_serve.specs.World.{outer};
 ghost use Rattle.edge_io.specs.Scripts.{IsArrival, IsScript};
 
-use crate::disk_commands::{check, make, take};
+use crate::disk_commands::{check, make, reindex, take};
 use crate::outcome::Outcome;
 use crate::playing::play_script;
 use crate::reading::{InputRefusal, read_input, read_message};
@@ -79,6 +79,10 @@ pub fn run<D: Disk, H: Host, S: Source, O: Sink, C: Clock>(
         → AsksFor (spelled words.now) (Remove number) → AllRecoverOf may (D.content disk)
         → RunLeavesAmong D.content D.moment D.left_since disk result.1 may (C.coming clock.old)
         (removing number) }
+    // A crash while an archive is reindexed leaves one that the disk may have stood for.
+    ensures reindex { (may : List (Option Archive)) → AsksFor (spelled words.now) Reindex
+        → AllRecoverOf may (D.content disk)
+        → LeavesOnly D.moment D.left_since disk result.1 (RecoversOf may) }
     // A crash while an archive is checked leaves one that the disk may have stood for.
     ensures check { (may : List (Option Archive)) → AsksFor (spelled words.now) Check
         → AllRecoverOf may (D.content disk)
@@ -118,6 +122,10 @@ pub fn run<D: Disk, H: Host, S: Source, O: Sink, C: Clock>(
         Some(Job::Remove { number }) => {
             let (status, disk) = carry_out(alloc, disk, &Command::Remove(number), out, clock);
             (status.code(), disk)
+        }
+        Some(Job::Reindex) => {
+            let (outcome, disk) = reindex(alloc, disk);
+            (print_outcome(&outcome, out).code(), disk)
         }
         Some(Job::Check) => {
             let (outcome, disk) = check(alloc, disk);

@@ -41,6 +41,8 @@ pub enum Job {
     Deliver,
     /// `remove N`: removes the message with this number from view.
     Remove { number: u32 },
+    /// `reindex`: builds anew what is kept beside the files of the archive.
+    Reindex,
     /// `check`: reads the whole archive.
     Check,
     /// `serve` with options: serves the archive, at most so many events, from this port on.
@@ -128,9 +130,9 @@ impl Settings {
 
 /// Returns what these words ask for, or `None` if they aren't in the grammar.
 ///
-/// The grammar is `--help`, `--version`, `deliver`, `check`, `serve`, `remove` with a number from 1 to
-/// 2,147,483,647, or `init` or `replay` with the name of an archive and options. Each option comes at
-/// most once, in any order:
+/// The grammar is `--help`, `--version`, `deliver`, `reindex`, `check`, `serve`, `remove` with a number
+/// from 1 to 2,147,483,647, or `init` or `replay` with the name of an archive and options. Each option
+/// comes at most once, in any order:
 ///
 /// * `limit=N`: 1 to 1,099,511,627,776, by default 1,073,741,824;
 /// * `slice=N`: 1 to 1,000,000, by default 50,000;
@@ -247,6 +249,7 @@ fn read_one(word: &str) -> Option<Job>
         "--help" => Some(Job::Help),
         "--version" => Some(Job::Version),
         "deliver" => Some(Job::Deliver),
+        "reindex" => Some(Job::Reindex),
         "check" => Some(Job::Check),
         _ => None,
     }

@@ -1,5 +1,5 @@
 //! Runs of the program over a disk in memory: an archive is made, messages are delivered and removed,
-//! and it is checked.
+//! and it is reindexed and checked.
 use crate::absent::Absent;
 use crate::run_tests::{Due, bytes, numbers};
 use arch_base::{NoMemory, Numbers};
@@ -155,7 +155,7 @@ const DELIVERED: Due<'_> = Due {
 };
 
 /// Runs that make an archive and fill it, each way that a run may end.
-const FILLED: [Due<'_>; 9] = [
+const FILLED: [Due<'_>; 10] = [
     Due {
         words: &["check"],
         input: b"",
@@ -170,6 +170,12 @@ const FILLED: [Due<'_>; 9] = [
     },
     Due {
         words: &["remove", "1"],
+        input: b"",
+        status: 3,
+        printed: b"no archive\n",
+    },
+    Due {
+        words: &["reindex"],
         input: b"",
         status: 3,
         printed: b"no archive\n",
@@ -271,6 +277,74 @@ fn removed_and_back(alloc: Global) -> Option<MemDisk> {
 #[test]
 fn a_removed_message_is_counted_and_comes_again(rt: HostRuntime) {
     assert!(rt; removed_and_back(rt.alloc()).is_some());
+}
+
+/// A run that checks an archive of three live messages.
+const THREE: Due<'_> = Due {
+    words: &["check"],
+    input: b"",
+    status: 0,
+    printed: b"entries 3 live 3 next 4\n",
+};
+
+/// Runs on an archive without messages. Three messages come, the last of which is then removed: live
+/// messages alone are counted by a reindexing, and a check prints the same before it and after it.
+const REINDEXED: [Due<'_>; 9] = [
+    Due {
+        words: &["deliver"],
+        input: b"Message-ID: <a@x>\nDate: Mon, 01 Jan 2024 00:00:01 +0000\n",
+        status: 0,
+        printed: b"1 ok 1 b4e0c83b1b8b4dee5d86b92b5661509c4a45047e\n",
+    },
+    Due {
+        words: &["deliver"],
+        input: b"Message-ID: <b@x>\nDate: Mon, 01 Jan 2024 00:00:02 +0000\n",
+        status: 0,
+        printed: b"1 ok 2 08b7b3f59647b9ebfeac5eb015a149dc99ef25aa\n",
+    },
+    Due {
+        words: &["deliver"],
+        input: b"Message-ID: <c@x>\nDate: Mon, 01 Jan 2024 00:00:03 +0000\nReferences: <g@x> <a@x> <b@x>\n",
+        status: 0,
+        printed: b"1 ok 3 dafc0e9639a4ee7c8b86b2fd4b10c88d2ed45a74\n",
+    },
+    THREE,
+    Due {
+        words: &["reindex"],
+        input: b"",
+        status: 0,
+        printed: b"reindexed 3\n",
+    },
+    THREE,
+    Due {
+        words: &["remove", "3"],
+        input: b"",
+        status: 0,
+        printed: b"1 ok 3 dafc0e9639a4ee7c8b86b2fd4b10c88d2ed45a74\n",
+    },
+    Due {
+        words: &["reindex"],
+        input: b"",
+        status: 0,
+        printed: b"reindexed 2\n",
+    },
+    Due {
+        words: &["check"],
+        input: b"",
+        status: 0,
+        printed: b"entries 4 live 2 next 4\n",
+    },
+];
+
+/// Makes an archive, and the runs on it.
+fn reindexed(alloc: Global) -> Option<MemDisk> {
+    let disk = with_archive(alloc)?;
+    printing_all(alloc, disk, &REINDEXED)
+}
+
+#[test]
+fn a_reindexing_counts_live_messages_and_changes_no_check(rt: HostRuntime) {
+    assert!(rt; reindexed(rt.alloc()).is_some());
 }
 
 /// Runs that make a mirror, and deliver to it and remove from it.

@@ -169,6 +169,7 @@ fn asked(words: &[&str]) -> &'static str {
         Some(Job::Init { config: _ }) => "init",
         Some(Job::Deliver) => "deliver",
         Some(Job::Remove { number: _ }) => "remove",
+        Some(Job::Reindex) => "reindex",
         Some(Job::Check) => "check",
         Some(Job::Serve { turns: _, port: _ }) => "serve",
     }
@@ -182,7 +183,7 @@ struct Request<'a> {
 }
 
 /// Words in the grammar.
-const JOBS: [Request<'_>; 12] = [
+const JOBS: [Request<'_>; 13] = [
     Request {
         words: &["--help"],
         job: "help",
@@ -194,6 +195,10 @@ const JOBS: [Request<'_>; 12] = [
     Request {
         words: &["deliver"],
         job: "deliver",
+    },
+    Request {
+        words: &["reindex"],
+        job: "reindex",
     },
     Request {
         words: &["check"],
@@ -257,7 +262,7 @@ fn words_that_ask_for_a_mirror(rt: HostRuntime) {
 }
 
 /// Words without the name of an archive, or with another word after a job that has none.
-const NO_JOBS: [&[&str]; 11] = [
+const NO_JOBS: [&[&str]; 13] = [
     &[],
     &[""],
     &["init"],
@@ -265,6 +270,8 @@ const NO_JOBS: [&[&str]; 11] = [
     &["Deliver"],
     &["deliver", "x"],
     &["deliver", ""],
+    &["reindex", "x"],
+    &["Reindex"],
     &["check", "x"],
     &["check", "list", "mirror"],
     &["mirror", "init", "list"],
@@ -487,6 +494,29 @@ pub(crate) const WORKED: [Due<'_>; 5] = [
 #[test]
 fn worked_runs(rt: HostRuntime) {
     for due in &WORKED {
+        assert!(rt; is_as_due(rt.alloc(), due));
+    }
+}
+
+/// Scripts whose connections ask for pages.
+const PAGES: [Due<'_>; 2] = [
+    Due {
+        words: &["replay", "list"],
+        input: b"1706781800 o 1 http\n1706781800 b 1 52\nGET /list/zz/ HTTP/1.1\r\n\r\nGET /list/zz/ HTTP/1.1\r\n\r\n\n",
+        status: 0,
+        printed: b"1 268\nHTTP/1.1 404 Not Found\r\nDate: Thu, 01 Feb 2024 10:03:20 GMT\r\nContent-Type: text/plain; charset=utf-8\r\nContent-Length: 10\r\n\r\nnot found\nHTTP/1.1 404 Not Found\r\nDate: Thu, 01 Feb 2024 10:03:20 GMT\r\nContent-Type: text/plain; charset=utf-8\r\nContent-Length: 10\r\n\r\nnot found\n\n",
+    },
+    Due {
+        words: &["replay", "list"],
+        input: b"1706781800 o 1 control\n1706781800 b 1 115\ndeliver 103\nFrom: Ann <ann@example.org>\nDate: Thu, 1 Feb 2024 10:00:00 +0000\nSubject: first\nMessage-ID: <a@x>\n\none\n\n1706781800 o 2 http\n1706781800 b 2 53\nGET /list/ HTTP/1.1\r\n\r\nGET /list/a@x/raw HTTP/1.1\r\n\r\n\n1706781800 s\n",
+        status: 0,
+        printed: b"1 48\n1 ok 1 1d023c572ccd6f3cc82ae855343346b043adaba5\n\n2 445\nHTTP/1.1 200 OK\r\nDate: Thu, 01 Feb 2024 10:03:20 GMT\r\nContent-Type: text/html; charset=utf-8\r\nContent-Length: 122\r\n\r\n<html><head><title>list</title></head><body><pre>2024-02-01 10:00 <a href=\"/list/a@x/\">first</a> Ann\n</pre></body></html>\nHTTP/1.1 200 OK\r\nDate: Thu, 01 Feb 2024 10:03:20 GMT\r\nContent-Type: text/plain\r\nContent-Length: 103\r\n\r\nFrom: Ann <ann@example.org>\nDate: Thu, 1 Feb 2024 10:00:00 +0000\nSubject: first\nMessage-ID: <a@x>\n\none\n\n",
+    },
+];
+
+#[test]
+fn worked_pages(rt: HostRuntime) {
+    for due in &PAGES {
         assert!(rt; is_as_due(rt.alloc(), due));
     }
 }

@@ -135,6 +135,37 @@ fn what_serving_acknowledged_is_there_afterwards(rt: HostRuntime) {
     assert!(rt; is_counted(rt.alloc()));
 }
 
+/// A script that asks for the listing.
+const ASKS: &[u8] =
+    b"1706781800 o 2 http\n1706781800 b 2 23\nGET /list/ HTTP/1.1\r\n\r\n\n1706781800 s\n";
+
+/// What it gets of the archive with that message.
+const SHOWN: &[u8] =
+    b"HTTP/1.1 200 OK\r\nDate: Thu, 01 Feb 2024 10:03:20 GMT\r\nContent-Type: text/html; charset=utf-8\r\nContent-Length: 122\r\n\r\n<html><head><title>list</title></head><body><pre>2024-02-01 10:00 <a href=\"/list/a@x/\">first</a> Ann\n</pre></body></html>\n";
+
+/// Returns whether a server that is started again over the archive shows what was delivered.
+fn is_shown(alloc: Global) -> Option<bool> {
+    let disk = delivering(alloc)?;
+    let mut host = host(alloc, ASKS, &[])?;
+    let mut source = MemSource::new(alloc, bytes(alloc, b"")?, Numbers::new(alloc));
+    let mut sink = MemSink::new(alloc, Numbers::new(alloc));
+    let (status, _disk) = run(
+        alloc,
+        &["serve"],
+        disk,
+        &mut host,
+        &mut source,
+        &mut sink,
+        &mut Still,
+    );
+    Some(status == 0 && host.taken(2) == SHOWN && !host.is_closed(2))
+}
+
+#[test]
+fn what_serving_acknowledged_is_shown_on_a_page(rt: HostRuntime) {
+    assert!(rt; is_shown(rt.alloc()) == Some(true));
+}
+
 /// Returns whether serving a disk without an archive ends with the status for that.
 fn is_shut(alloc: Global) -> bool {
     match ran_alone(alloc, &["serve"], MemDisk::new(alloc, Numbers::new(alloc))) {

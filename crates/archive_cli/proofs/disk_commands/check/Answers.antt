@@ -17,7 +17,7 @@ returns-in-Ok-clause-answer g c = opened-as c.in-Ok.counted (g.D.Disk.content c.
 
 pub returns-in-Ok-clause-stands : goal.returns-in-Ok-clause-stands
 returns-in-Ok-clause-stands g c = opened-stands g.D.Disk.content g.D.Disk.moment g.D.Disk.left_since g.met.D.Disk.counts_now g.met.D.Disk.reads_fit c.args.disk
-    (record { disk = c.open.new.disk; view = c.in-Ok.counted; rows = []; stale = false }) c.in-Ok.ensures.opened.done c.in-Ok.ensures.opened.first
+    (record { disk = c.open.new.disk; view = c.in-Ok.counted; views = record { rows = []; words = [] }; stale = false }) c.in-Ok.ensures.opened.done c.in-Ok.ensures.opened.first
 
 pub returns-in-Ok-clause-cause : goal.returns-in-Ok-clause-cause
 returns-in-Ok-clause-cause g c = checked-cause (g.D.Disk.faults c.args.disk) (g.D.Disk.faults c.open.new.disk) c.entry_count.result c.message_count.result c.next_of_root.result (c.in-Ok.ensures.opened.cause.kept (λ fault. absurd (cc fault)))

@@ -10,7 +10,7 @@ use Rattle.archive_cli.specs.declared.words.Job.TheVariants.{Help, Version, Init
 use Rattle.archive_cli.specs.declared.status.Status.TheVariants as exit
 use Rattle.archive_cli.specs.declared.texts.TheConstants.{HELP, VERSION}
 use Rattle.archive_cli.proofs.Grammar.{replay-config, init-config, same_number, same-serve}
-use Rattle.archive_cli.proofs.Printed.{ran-exactly, ran-replayed, ran-made, ran-delivered, ran-removed, ran-checked, ran-served, job-moved, some-moment}
+use Rattle.archive_cli.proofs.Printed.{ran-exactly, ran-replayed, ran-made, ran-delivered, ran-removed, ran-reindexed, ran-checked, ran-served, job-moved, some-moment}
 use Rattle.archive_cli.proofs.ServedDisk.{shut-faults}
 use Rattle.archive_cli.proofs.program.run.Goals as goal
 
@@ -68,13 +68,25 @@ returns-in-Some-Init-clause-init g c = λ asked.
 pub returns-in-Some-Deliver-clause-deliver : goal.returns-in-Some-Deliver-clause-deliver
 returns-in-Some-Deliver-clause-deliver g c = λ s asked all. c.deliver_input-status.ensures.any_moment s all
 
+pub returns-in-Some-Reindex-clause-ends : goal.returns-in-Some-Reindex-clause-ends
+returns-in-Some-Reindex-clause-ends g c =
+    let some = some-moment (g.C.Clock.coming c.args.clock.now) in (
+      c.print_outcome.result,
+      c.code-in-Some-Reindex.ensures,
+      ran-reindexed (spelled c.args.words.now) _ _ _ c.reindex-outcome.result.0 (rw c.in-Some-Reindex.field-0-is at c.in-Some-Reindex.ensures)
+          (record { moment = some.0; first = some.1; acts = record { kind = c.reindex-outcome.ensures.kind; done = c.reindex-outcome.ensures.done; stands = c.reindex-outcome.ensures.stands; answer = c.reindex-outcome.ensures.answer; unopened = c.reindex-outcome.ensures.unopened }; fault = c.reindex-outcome.ensures.cause.failed; input_kept = refl; clock_kept = refl; disk_kept = c.reindex-outcome.ensures.cause.kept }) c.print_outcome.ensures.printed,
+    )
+
+pub returns-in-Some-Reindex-clause-reindex : goal.returns-in-Some-Reindex-clause-reindex
+returns-in-Some-Reindex-clause-reindex g c = λ may asked all. c.reindex-outcome.ensures.any_moment may all
+
 pub returns-in-Some-Check-clause-ends : goal.returns-in-Some-Check-clause-ends
 returns-in-Some-Check-clause-ends g c =
     let some = some-moment (g.C.Clock.coming c.args.clock.now) in (
-      c.print_outcome.result,
+      c.print_outcome-in-Some-Check.result,
       c.code-in-Some-Check.ensures,
       ran-checked (spelled c.args.words.now) _ _ _ c.check-outcome.result.0 (rw c.in-Some-Check.field-0-is at c.in-Some-Check.ensures)
-          (record { moment = some.0; first = some.1; acts = record { kind = c.check-outcome.ensures.kind; done = c.check-outcome.ensures.done; stands = c.check-outcome.ensures.stands; answer = c.check-outcome.ensures.answer; unopened = c.check-outcome.ensures.unopened }; fault = c.check-outcome.ensures.cause.failed; input_kept = refl; clock_kept = refl; disk_kept = c.check-outcome.ensures.cause.kept }) c.print_outcome.ensures.printed,
+          (record { moment = some.0; first = some.1; acts = record { kind = c.check-outcome.ensures.kind; done = c.check-outcome.ensures.done; stands = c.check-outcome.ensures.stands; answer = c.check-outcome.ensures.answer; unopened = c.check-outcome.ensures.unopened }; fault = c.check-outcome.ensures.cause.failed; input_kept = refl; clock_kept = refl; disk_kept = c.check-outcome.ensures.cause.kept }) c.print_outcome-in-Some-Check.ensures.printed,
     )
 
 pub returns-in-Some-Check-clause-check : goal.returns-in-Some-Check-clause-check

@@ -1,0 +1,33 @@
+use Rattle.std.proofs.Common.{[]}
+use Rattle.archive_cli.proofs.OnDisk.{opened-reindexes, unopened-reindexes, opened-stands, unopened-stands, reindexed-cause, refused-cause}
+use Rattle.archive_cli.proofs.disk_commands.reindex.Goals as goal
+
+pub returns-in-Ok-clause-any_moment : goal.returns-in-Ok-clause-any_moment
+returns-in-Ok-clause-any_moment g c = λ may all. rw c.into_disk.ensures (c.in-Ok.ensures.opened.any_moment may [] all)
+
+pub returns-in-Ok-clause-done : goal.returns-in-Ok-clause-done
+returns-in-Ok-clause-done g c = λ a reads.
+    let store = c.in-Ok.ensures.opened.done a [] reads in
+    rw c.into_disk.ensures
+    (opened-reindexes c.in-Ok.engine.view a (g.D.Disk.content c.in-Ok.engine.disk) c.message_count-live.result store (c.message_count-live.ensures a ([], store, c.in-Ok.ensures.rows a [] reads)))
+
+pub returns-in-Ok-clause-stands : goal.returns-in-Ok-clause-stands
+returns-in-Ok-clause-stands g c = rw c.into_disk.ensures
+    (opened-stands g.D.Disk.content g.D.Disk.moment g.D.Disk.left_since g.met.D.Disk.counts_now g.met.D.Disk.reads_fit c.args.disk c.in-Ok.engine c.in-Ok.ensures.opened.done c.in-Ok.ensures.opened.first)
+
+pub returns-in-Ok-clause-cause : goal.returns-in-Ok-clause-cause
+returns-in-Ok-clause-cause g c = rw c.into_disk.ensures
+    (reindexed-cause (g.D.Disk.faults c.args.disk) (g.D.Disk.faults c.in-Ok.engine.disk) _ (c.in-Ok.ensures.opened.cause.kept (λ fault. absurd (cc fault))))
+
+pub returns-in-Err-clause-cause : goal.returns-in-Err-clause-cause
+returns-in-Err-clause-cause g c = refused-cause (g.D.Disk.faults c.args.disk) (g.D.Disk.faults c.in-Err.field-0.disk) c.in-Err.field-0.why c.in-Err.ensures.opened.cause
+
+pub returns-in-Err-clause-any_moment : goal.returns-in-Err-clause-any_moment
+returns-in-Err-clause-any_moment g c = λ may all. c.in-Err.ensures.opened.any_moment may [] all
+
+pub returns-in-Err-clause-done : goal.returns-in-Err-clause-done
+returns-in-Err-clause-done g c = λ a reads.
+    unopened-reindexes a c.in-Err.field-0.why (g.D.Disk.content c.args.disk) (g.D.Disk.content c.in-Err.field-0.disk) reads (c.in-Err.ensures.opened.well a [] reads) c.in-Err.ensures.refused
+
+pub returns-in-Err-clause-stands : goal.returns-in-Err-clause-stands
+returns-in-Err-clause-stands g c = λ s all. unopened-stands g.D.Disk.content g.D.Disk.moment g.D.Disk.left_since g.met.D.Disk.counts_now g.met.D.Disk.reads_fit s c.args.disk c.in-Err.field-0.disk c.in-Err.field-0.why all c.in-Err.ensures.opened.any_moment c.in-Err.ensures.opened.well c.in-Err.ensures.opened.first
