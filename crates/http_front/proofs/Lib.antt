@@ -11,6 +11,7 @@ pub mod Replying
 pub mod Streaming
 pub mod Pieces
 pub mod Finding
+pub mod Counting
 pub mod Paging
 pub mod Arrivals
 pub mod Feeds

@@ -8,6 +8,7 @@ pub mod Reading
 pub mod Paging
 pub mod Replies
 pub mod Door
+pub mod Counting
 pub mod Sessions
 pub mod Feeding
 pub mod Streaming

@@ -1,10 +1,10 @@
 -- The acts of the code are acts of a session.
-use Rattle.std.specs.Prelude.{◌≡◌, ◌<◌, ◌≤◌, ◌⊎◌, ◌&&◌, not, is_ok, ℕ, Bool, true, false, List, ◌++◌, length, take, drop, reverse, Option, Some, None, Result, Ok, Err}
+use Rattle.std.specs.Prelude.{◌≡◌, ◌<◌, ◌≤◌, ◌⊎◌, ◌&&◌, not, is_ok, ℕ, Bool, true, false, List, ◌++◌, length, take, drop, reverse, Option, Some, None, Result, Ok, Err, IfOk}
 use Rattle.line_door.specs.Acts.{Outside, Way, Acts, held_if}
 use Rattle.line_door.specs.Making as door
 use Rattle.line_door.specs.Making.{in_ways}
 use Rattle.line_door.specs.Course.{talk, Fed}
-use Rattle.arch_model.specs.Archives.{Archive}
+use Rattle.arch_model.specs.Archives.{Entry, Archive, live}
 use Rattle.arch_base.specs.declared.sequence.NoMemory.{NoMemory}
 use Rattle.arch_model.specs.declared.text_refusal.TextRefusal.{TextRefusal}
 use Rattle.arch_model.specs.declared.text_refusal.TextRefusal.TheVariants as refusal
@@ -17,6 +17,7 @@ use Rattle.http_heads.specs.declared.reply.Status.TheVariants.{Done, ServerError
 use Rattle.http_front.specs.Views.{shown_row, shown_text}
 use Rattle.http_front.specs.Threads.{thread_rows, oldest_first}
 use Rattle.http_front.specs.Asking.{Reading, IsReading, Found, Gives, Streams, Missing, BadRange, message_found, text_found, thread_found, feed_found, feed_len, ReadsUpTo}
+use Rattle.http_front.specs.Counting.{thread_len, head_texts, texts_for_bytes, bytes_read_nothing, ReadsAhead}
 use Rattle.http_front.specs.Door.{Says as SaysAct, replies, said_found, said, said_head, said_asked, has_request}
 use Rattle.http_front.specs.Mailboxes.{mailbox_at, whole_mailbox}
 use Rattle.http_front.specs.Replies.{reply, word, word_of, damaged_line}
@@ -45,6 +46,15 @@ abbrev pub Takes : List ℕ → Turn → Type 0
 Takes piece (Went n) = (0 < n) × (n ≤ length piece)
 Takes piece Kept = Unit {0}
 Takes piece Closed = Unit {0}
+
+-- One act reads no more than leaves enough for the bytes after it. Other ends than a request leave no
+-- bytes for which texts are read.
+abbrev pub IsTurnReads : Reading → Archive → List ℕ → List ℕ → Turn → List ℕ → ℕ → ℕ → Type 0
+IsTurnReads reading a old piece (Went n) new before now = ReadsAhead
+    (texts_for_bytes reading a (old ++ piece)) (texts_for_bytes reading a (new ++ drop n piece)) before now
+IsTurnReads reading a old piece Kept new before now = now ≡ before
+IsTurnReads reading a old piece Closed new before now =
+    ReadsUpTo (texts_for_bytes reading a (old ++ piece)) before now
 
 -- What was found under a target, as the code has it: the body, or the numbers of a mailbox file, for
 -- which texts are read.
@@ -91,6 +101,22 @@ form_reads form.Thread = false
 form_reads form.Feed = true
 form_reads form.Mailbox = true
 
+-- How many texts are read at most while what is asked for in a form is said, if a live mail has the id.
+abbrev pub form_said : List Entry → Form → Option ℕ → ℕ
+form_said entries form.Message o = 0
+form_said entries form.Text o = 0
+form_said entries form.Thread o = 0
+form_said entries form.Feed o = 0
+form_said entries form.Mailbox o = thread_len entries o
+
+-- How many texts are still to be read for what was found, while it is said.
+abbrev pub unread : Archive → Held → ℕ
+unread a (what.Whole body bytes) = 0
+unread a what.EveryMail = length (live a.entries)
+unread a (what.Mails numbers) = length numbers
+unread a what.Nothing = 0
+unread a what.BadRange = 0
+
 -- How many texts are read at most to find what is asked for in a form.
 abbrev pub form_texts : Form → ℕ
 form_texts form.Message = 1
@@ -120,6 +146,31 @@ module _ {S : Type 0} (holds : S → Archive → Type 0) where
   -- Whichever archive is held, at most so many texts were read.
   abbrev pub ReadsIn : (Archive → ℕ) → S → ℕ → ℕ → Type 0
   ReadsIn most shelf before now = (a : Archive) → holds shelf a → ReadsUpTo (most a) before now
+
+  -- Whichever archive is held, at most so many texts are still to be read for what was found.
+  abbrev pub LeavesIn : (Archive → ℕ) → S → Result Held TextRefusal → Type 0
+  LeavesIn most shelf result = (a : Archive) → holds shelf a
+      → IfOk result (λ held. unread a held ≤ most a)
+
+  -- Whichever archive is held, a head was answered, and at most so many texts were read.
+  abbrev pub ReadsHead : List ℕ → S → ℕ → ℕ → Type 0
+  ReadsHead head shelf before now = (reading : Reading) → IsReading reading
+      → (a : Archive) → holds shelf a → ReadsUpTo (head_texts a (reading head)) before now
+
+  -- Whichever archive is held, one act reads no more than leaves enough for the bytes after it.
+  abbrev pub ReadsTurn : List ℕ → List ℕ → S → Turn → List ℕ → ℕ → ℕ → Type 0
+  ReadsTurn old piece shelf turn new before now = (reading : Reading) → IsReading reading
+      → (a : Archive) → holds shelf a → IsTurnReads reading a old piece turn new before now
+
+  -- Whichever archive is held, no more texts were read than the heads that are answered ask for.
+  abbrev pub ReadsBytes : List ℕ → S → ℕ → ℕ → Type 0
+  ReadsBytes bytes shelf before now = (reading : Reading) → IsReading reading
+      → (a : Archive) → holds shelf a → ReadsUpTo (texts_for_bytes reading a bytes) before now
+
+  -- Whichever archive is held, no text was read if none of the heads that are answered asks for one.
+  abbrev pub ReadsNothing : List ℕ → S → ℕ → ℕ → Type 0
+  ReadsNothing bytes shelf before now = (reading : Reading) → IsReading reading
+      → (a : Archive) → holds shelf a → bytes_read_nothing reading a bytes ≡ true → now ≡ before
 
   -- Whichever archive is held and whatever follows, a head is answered.
   abbrev pub AnswersHead : ℕ → List ℕ → S → Outside → Bool → Outside → Type 0

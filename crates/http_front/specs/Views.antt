@@ -34,6 +34,7 @@ IsLive entries n (Some found) = (found ≡ n) × (text_at entries n ≡ shown_te
 abbrev pub IsNext : List Entry → ℕ → Option ℕ → Type 0
 IsNext entries low None = (m : ℕ) → low ≤ m → text_at entries m ≡ None
 IsNext entries low (Some n) = (low ≤ n) × ((m : ℕ) → low ≤ m → m < n → text_at entries m ≡ None)
+    × (is_some (shown_text entries n) ≡ true)
 
 -- The live number of an id without its brackets.
 abbrev pub number_named : List Entry → List ℕ → Option ℕ

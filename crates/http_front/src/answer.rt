@@ -5,7 +5,8 @@ ghost use Rattle.arch_base.specs.Moments.{IsMoment};
 ghost use Rattle.arch_model.specs.Next.{continues};
 ghost use Rattle.arch_model.specs.Shelves.{Stays};
 ghost use Rattle.http_heads.specs.Heads.{shown};
-ghost use Rattle.http_front.specs.Sessions.{AnswersHead, Serves, SaysWhole};
+ghost use Rattle.http_front.specs.Counting.{served_texts};
+ghost use Rattle.http_front.specs.Sessions.{AnswersHead, ReadsHead, ReadsIn, Serves, SaysWhole};
 
 use crate::found::{Held, find_target};
 use crate::mailbox::{say_every_mail, say_mails};
@@ -32,6 +33,7 @@ pub(crate) fn answer_head<S: Shelf, O: Sink>(
     ensures acts { AnswersHead S.holds moment head.now shelf.old
         (outside (O.taken out.old) (S.faults shelf.old) (O.faults out.old)) (continues result)
         (outside (O.taken out.new) (S.faults shelf.new) (O.faults out.new)) }
+    ensures reads { ReadsHead S.holds head.now shelf.old (S.reads shelf.old) (S.reads shelf.new) }
     ensures shelf { Stays S.holds S.ready S.alike S.faults shelf.old shelf.new }
     ensures sink { O.alike out.old out.new }
 {
@@ -64,6 +66,8 @@ fn serve<S: Shelf, O: Sink>(
     ensures acts { Serves S.holds moment (shown request.now) sends shelf.old
         (outside (O.taken out.old) (S.faults shelf.old) (O.faults out.old)) (continues result)
         (outside (O.taken out.new) (S.faults shelf.new) (O.faults out.new)) }
+    ensures reads { ReadsIn S.holds (λ a. served_texts a request.now.target.now sends) shelf.old
+        (S.reads shelf.old) (S.reads shelf.new) }
     ensures shelf { Stays S.holds S.ready S.alike S.faults shelf.old shelf.new }
     ensures sink { O.alike out.old out.new }
 {

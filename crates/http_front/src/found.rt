@@ -1,12 +1,13 @@
 //! Finds what stands under the target of a request.
-ghost use Rattle.std.specs.Prelude.{◌≡◌, IfOk, true, take};
+ghost use Rattle.std.specs.Prelude.{◌≡◌, IfOk, Some, true, take};
 ghost use Rattle.arch_model.specs.Archives.{Archive, live};
 ghost use Rattle.arch_model.specs.Listings.{listing};
 ghost use Rattle.arch_model.specs.Shelves.{Stays, ReadCause};
 ghost use Rattle.http_heads.specs.Addresses.{shown};
 ghost use Rattle.http_front.specs.Views.{number_named};
 ghost use Rattle.http_front.specs.Asking.{named_found, target_found, feed_found, found_of, feed_len, reads_texts, target_reads, texts_for, target_texts};
-ghost use Rattle.http_front.specs.Sessions.{FindsIn, ReadsIn, form_found, form_reads, form_texts};
+ghost use Rattle.http_front.specs.Counting.{texts_said, target_said};
+ghost use Rattle.http_front.specs.Sessions.{FindsIn, ReadsIn, LeavesIn, form_found, form_reads, form_texts, form_said};
 
 use crate::feed::feed_at;
 use crate::listing::listing_at;
@@ -66,6 +67,7 @@ pub(crate) fn find_target<S: Shelf>(
     ensures cause { ReadCause (S.faults shelf.old) (S.faults shelf.new) result }
     ensures reads { ReadsIn S.holds (λ a. target_texts a target.now) shelf.old (S.reads shelf.old)
         (S.reads shelf.new) }
+    ensures left { LeavesIn S.holds (λ a. target_said a target.now) shelf.old result }
 {
     let (path, query) = split_target(target);
     match segments(alloc, path) {
@@ -91,6 +93,7 @@ fn find_address<S: Shelf>(
     ensures cause { ReadCause (S.faults shelf.old) (S.faults shelf.new) result }
     ensures reads { ReadsIn S.holds (λ a. texts_for (shown address.entry)) shelf.old (S.reads shelf.old)
         (S.reads shelf.new) }
+    ensures left { LeavesIn S.holds (λ a. texts_said a (shown address.entry)) shelf.old result }
 {
     match address {
         Address::Listing => match listing_at(alloc, query, shelf) {
@@ -116,6 +119,7 @@ fn find_newest<S: Shelf>(alloc: Global, shelf: &mut S) -> Result<Held, TextRefus
     ensures cause { ReadCause (S.faults shelf.old) (S.faults shelf.new) result }
     ensures reads { ReadsIn S.holds (λ a. feed_len) shelf.old (S.reads shelf.old)
         (S.reads shelf.new) }
+    ensures left { LeavesIn S.holds (λ a. 0) shelf.old result }
 {
     match shelf.order_page(0, FEED_LEN as u64) {
         Ok(numbers) => feed_at(alloc, numbers.as_slice(), shelf),
@@ -138,6 +142,8 @@ fn find_mail<S: Shelf>(
     ensures cause { ReadCause (S.faults shelf.old) (S.faults shelf.new) result }
     ensures reads { ReadsIn S.holds (λ a. form_texts form) shelf.old (S.reads shelf.old)
         (S.reads shelf.new) }
+    ensures left { LeavesIn S.holds
+        (λ a. form_said a.entries form (number_named a.entries id.now)) shelf.old result }
 {
     match number_of(alloc, id, shelf) {
         Ok(Some(n)) => find_number(alloc, n, form, shelf),
@@ -173,6 +179,7 @@ fn find_number<S: Shelf>(
     ensures cause { ReadCause (S.faults shelf.old) (S.faults shelf.new) result }
     ensures reads { ReadsIn S.holds (λ a. form_texts form) shelf.old (S.reads shelf.old)
         (S.reads shelf.new) }
+    ensures left { LeavesIn S.holds (λ a. form_said a.entries form (Some n)) shelf.old result }
 {
     match form {
         Form::Message => message_at(alloc, n, shelf),

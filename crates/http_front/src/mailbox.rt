@@ -4,15 +4,17 @@ ghost use Rattle.line_door.specs.Acts.{outside};
 ghost use Rattle.arch_base.specs.Moments.{IsMoment};
 ghost use Rattle.arch_model.specs.Archives.{Archive, live, text_of};
 ghost use Rattle.arch_model.specs.Next.{continues};
-ghost use Rattle.arch_model.specs.Shelves.{Stays, ReadCause};
+ghost use Rattle.arch_model.specs.Shelves.{Stays, ReadCause, ReadsOnce};
 ghost use Rattle.edge_io.specs.Phrases.{Says};
 ghost use Rattle.edge_io.specs.declared.sink.SinkFault.{SinkFault};
 ghost use Rattle.http_heads.specs.Replies.{reply_head};
 ghost use Rattle.http_front.specs.Views.{shown_text};
 ghost use Rattle.http_front.specs.Mailboxes.{piece_by, piece_at, mailbox_at, whole_mailbox};
+ghost use Rattle.http_front.specs.Asking.{ReadsUpTo};
+ghost use Rattle.http_front.specs.Counting.{body_texts};
 ghost use Rattle.http_front.specs.Feeding.{Appends};
 ghost use Rattle.http_front.specs.Replies.{word};
-ghost use Rattle.http_front.specs.Sessions.{SaysThen, ServesMailbox, StreamsOn, SaysStopped};
+ghost use Rattle.http_front.specs.Sessions.{SaysThen, ServesMailbox, StreamsOn, SaysStopped, ReadsIn};
 ghost use Rattle.http_front.specs.Streaming.{IsPart};
 
 use crate::answer::next_after;
@@ -66,6 +68,8 @@ pub(crate) fn say_every_mail<S: Shelf, O: Sink>(
     ensures acts { ServesMailbox S.holds (λ a. whole_mailbox a.entries) moment sends closes shelf.old
         (outside (O.taken out.old) (S.faults shelf.old) (O.faults out.old)) (continues result)
         (outside (O.taken out.new) (S.faults shelf.new) (O.faults out.new)) }
+    ensures reads { ReadsIn S.holds (λ a. body_texts sends (length (live a.entries))) shelf.old
+        (S.reads shelf.old) (S.reads shelf.new) }
     ensures shelf { Stays S.holds S.ready S.alike S.faults shelf.old shelf.new }
     ensures sink { O.alike out.old out.new }
 {
@@ -100,6 +104,8 @@ pub(crate) fn say_mails<S: Shelf, O: Sink>(
         shelf.old (outside (O.taken out.old) (S.faults shelf.old) (O.faults out.old))
         (continues result)
         (outside (O.taken out.new) (S.faults shelf.new) (O.faults out.new)) }
+    ensures reads { ReadsUpTo (body_texts sends (length numbers.now)) (S.reads shelf.old)
+        (S.reads shelf.new) }
     ensures shelf { Stays S.holds S.ready S.alike S.faults shelf.old shelf.new }
     ensures sink { O.alike out.old out.new }
 {
@@ -199,6 +205,8 @@ fn say_every_piece<S: Shelf, O: Sink>(
         manner.closes shelf.old
         (outside (O.taken out.old) (S.faults shelf.old) (O.faults out.old)) (continues result)
         (outside (O.taken out.new) (S.faults shelf.new) (O.faults out.new)) }
+    ensures reads { ReadsIn S.holds (λ a. length (live a.entries)) shelf.old (S.reads shelf.old)
+        (S.reads shelf.new) }
     ensures shelf { Stays S.holds S.ready S.alike S.faults shelf.old shelf.new }
     ensures sink { O.alike out.old out.new }
 {
@@ -232,6 +240,7 @@ fn say_pieces<S: Shelf, O: Sink>(
         manner.closes shelf.old
         (outside (O.taken out.old) (S.faults shelf.old) (O.faults out.old)) (continues result)
         (outside (O.taken out.new) (S.faults shelf.new) (O.faults out.new)) }
+    ensures reads { ReadsUpTo (length numbers.now) (S.reads shelf.old) (S.reads shelf.new) }
     ensures shelf { Stays S.holds S.ready S.alike S.faults shelf.old shelf.new }
     ensures sink { O.alike out.old out.new }
 {
@@ -259,6 +268,7 @@ fn say_part<S: Shelf, O: Sink>(
     ensures part { (a : Archive) → S.holds shelf.old a → IsPart (piece_at a.entries n) begun unsaid.old
         (outside (O.taken out.old) (S.faults shelf.old) (O.faults out.old)) result unsaid.new
         (outside (O.taken out.new) (S.faults shelf.new) (O.faults out.new)) }
+    ensures reads { ReadsOnce (S.reads shelf.old) (S.reads shelf.new) }
     ensures shelf { Stays S.holds S.ready S.alike S.faults shelf.old shelf.new }
     ensures sink { O.alike out.old out.new }
 {
@@ -284,6 +294,7 @@ fn say_piece<S: Shelf, O: Sink>(
         → IsPart (piece_by (shown_text a.entries n)) begun unsaid.old
         (outside (O.taken out.old) (S.faults shelf.old) (O.faults out.old)) result unsaid.new
         (outside (O.taken out.new) (S.faults shelf.new) (O.faults out.new)) }
+    ensures reads { ReadsOnce (S.reads shelf.old) (S.reads shelf.new) }
     ensures shelf { Stays S.holds S.ready S.alike S.faults shelf.old shelf.new }
     ensures sink { O.alike out.old out.new }
 {
@@ -327,6 +338,7 @@ fn push_piece<S: Shelf>(
     ensures piece { (a : Archive) → S.holds shelf.old a
         → Appends (piece_by (shown_text a.entries n)) into.old into.new result }
     ensures refused { OnErr result (into.new ≡ into.old) }
+    ensures reads { ReadsOnce (S.reads shelf.old) (S.reads shelf.new) }
     ensures shelf { Stays S.holds S.ready S.alike S.faults shelf.old shelf.new }
     ensures cause { ReadCause (S.faults shelf.old) (S.faults shelf.new) result }
 {

@@ -54,7 +54,7 @@ impl Model for HttpSession {
 impl HttpSession {
     ghost use Rattle.http_front.specs.Scans.{IsHeld};
     ghost use Rattle.http_front.specs.Asking.{Reading};
-    ghost use Rattle.http_front.specs.Sessions.{IsTurn, Takes, AnswersHead, Turns, Feeds};
+    ghost use Rattle.http_front.specs.Sessions.{IsTurn, Takes, AnswersHead, Turns, Feeds, ReadsHead, ReadsTurn, ReadsBytes, ReadsNothing};
 
     /// Returns a session without bytes. Nothing is said before the first request. Allocates nothing.
     pub fn open(alloc: Global) -> HttpSession
@@ -87,6 +87,9 @@ impl HttpSession {
     /// * if a send is lost. A prefix of the reply was taken, and the sink's count of faults rose.
     ///
     /// The contract then says nothing of what the session holds.
+    ///
+    /// No more texts are read than the answered heads ask for: one for the page of a message or for
+    /// a text, 25 for a feed, those of a mailbox file, and none for a listing, a search or a thread.
     pub fn feed<S: Shelf, O: Sink>(
         &mut self,
         piece: &[u8],
@@ -100,6 +103,10 @@ impl HttpSession {
             (outside (O.taken out.old) (S.faults shelf.old) (O.faults out.old))
             (continues result) self.new
             (outside (O.taken out.new) (S.faults shelf.new) (O.faults out.new)) }
+        ensures reads { ReadsBytes S.holds (self.old ++ piece.now) shelf.old (S.reads shelf.old)
+            (S.reads shelf.new) }
+        ensures unread { ReadsNothing S.holds (self.old ++ piece.now) shelf.old (S.reads shelf.old)
+            (S.reads shelf.new) }
         ensures shelf { Stays S.holds S.ready S.alike S.faults shelf.old shelf.new }
         ensures sink { O.alike out.old out.new }
     {
@@ -127,6 +134,8 @@ impl HttpSession {
             (outside (O.taken out.old) (S.faults shelf.old) (O.faults out.old)) result self.new
             (outside (O.taken out.new) (S.faults shelf.new) (O.faults out.new)) }
         ensures takes { Takes piece.now result }
+        ensures reads { ReadsTurn S.holds self.old piece.now shelf.old result self.new
+            (S.reads shelf.old) (S.reads shelf.new) }
         ensures shelf { Stays S.holds S.ready S.alike S.faults shelf.old shelf.new }
         ensures sink { O.alike out.old out.new }
     {
@@ -159,6 +168,8 @@ impl HttpSession {
             (continues result)
             (outside (O.taken out.new) (S.faults shelf.new) (O.faults out.new)) }
         ensures empty { self.new ≡ [] }
+        ensures reads { ReadsHead S.holds (self.old ++ last.now) shelf.old (S.reads shelf.old)
+            (S.reads shelf.new) }
         ensures shelf { Stays S.holds S.ready S.alike S.faults shelf.old shelf.new }
         ensures sink { O.alike out.old out.new }
     {

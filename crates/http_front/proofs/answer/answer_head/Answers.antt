@@ -1,4 +1,6 @@
 use Rattle.std.proofs.Common.{refl, sym, ◌∙◌}
+use Rattle.http_front.proofs.Counting.{head-served}
+use Rattle.http_front.proofs.Finding.{reads-none as no-reads}
 use Rattle.http_front.proofs.Serving.{reads-some, reads-none, acts-bad, acts-refused, acts-served}
 use Rattle.http_front.proofs.answer.answer_head.Goals as goal
 
@@ -17,3 +19,15 @@ returns-in-Refuse-clause-acts g c = λ reading is a rest held.
 pub returns-in-None-clause-acts : goal.returns-in-None-clause-acts
 returns-in-None-clause-acts g c = λ reading is a rest held.
     acts-bad c.args.moment a rest (reading c.args.head.now) _ _ _ (reads-none reading is c.args.head.now c.in-None.ensures.found) refl c.say_status-in-None.ensures.said
+
+pub returns-in-Serve-clause-reads : goal.returns-in-Serve-clause-reads
+returns-in-Serve-clause-reads g c = λ reading is a held.
+    let read = c.in-Some.ensures.some in
+    let found = reads-some reading is c.args.head.now read.0 _ read.1 read.2 in
+    head-served a (reading c.args.head.now) _ c.in-Serve.sends _ _ found (sym c.judge.ensures ∙ c.in-Serve.is) (c.serve.ensures.reads a held)
+
+pub returns-in-Refuse-clause-reads : goal.returns-in-Refuse-clause-reads
+returns-in-Refuse-clause-reads g c = λ reading is a held. no-reads _ _
+
+pub returns-in-None-clause-reads : goal.returns-in-None-clause-reads
+returns-in-None-clause-reads g c = λ reading is a held. no-reads _ _

@@ -1,7 +1,9 @@
-use Rattle.std.proofs.Common.{◌∙◌, ◌&&◌, not, List, ℕ, Bool, ap, sym, refl}
-use Rattle.http_front.specs.Asking.{Gives, Streams, target_found, target_reads}
+use Rattle.std.proofs.Common.{◌∙◌, ◌&&◌, not, List, ℕ, Bool, length, ap, sym, refl, arith}
+use Rattle.http_front.specs.Asking.{Gives, Streams, target_found, target_reads, target_texts}
+use Rattle.http_front.specs.Counting.{target_said}
 use Rattle.http_front.specs.Mailboxes.{mailbox_at}
 use Rattle.http_heads.specs.declared.reply.Body.TheVariants.{Mailbox}
+use Rattle.http_front.proofs.Counting.{reads-within, reads-then}
 use Rattle.http_front.proofs.Serving.{acts-mailbox, acts-whole, acts-missing, acts-bad_range, acts-unread}
 use Rattle.http_front.proofs.answer.serve.Goals as goal
 
@@ -37,3 +39,24 @@ returns-in-Ok-BadRange-clause-acts g c = λ a rest held.
 pub returns-in-Err-clause-acts : goal.returns-in-Err-clause-acts
 returns-in-Err-clause-acts g c = λ a rest held.
     acts-unread c.args.moment a c.args.sends c.args.request.now.closes rest (target_found a c.args.request.now.target.now) (target_reads a c.args.request.now.target.now) c.in-Err.refusal _ _ _ (c.in-Err.ensures.found a held) c.in-Err.ensures.cause c.find_target.ensures.shelf.later c.say_unread.ensures.said
+
+pub returns-in-Ok-Whole-clause-reads : goal.returns-in-Ok-Whole-clause-reads
+returns-in-Ok-Whole-clause-reads g c = λ a held. reads-within (target_texts a c.args.request.now.target.now) _ _ _ (c.in-Ok-Whole.ensures.reads a held)
+
+pub returns-in-Ok-Nothing-clause-reads : goal.returns-in-Ok-Nothing-clause-reads
+returns-in-Ok-Nothing-clause-reads g c = λ a held. reads-within (target_texts a c.args.request.now.target.now) _ _ _ (c.in-Ok-Nothing.ensures.reads a held)
+
+pub returns-in-Ok-BadRange-clause-reads : goal.returns-in-Ok-BadRange-clause-reads
+returns-in-Ok-BadRange-clause-reads g c = λ a held. reads-within (target_texts a c.args.request.now.target.now) _ _ _ (c.in-Ok-BadRange.ensures.reads a held)
+
+pub returns-in-Err-clause-reads : goal.returns-in-Err-clause-reads
+returns-in-Err-clause-reads g c = λ a held. reads-within (target_texts a c.args.request.now.target.now) _ _ _ (c.in-Err.ensures.reads a held)
+
+pub returns-in-Ok-EveryMail-clause-reads : goal.returns-in-Ok-EveryMail-clause-reads
+returns-in-Ok-EveryMail-clause-reads g c = λ a held.
+    reads-then (target_texts a c.args.request.now.target.now) (target_said a c.args.request.now.target.now) _ _ _ _ c.args.sends (c.in-Ok-EveryMail.ensures.reads a held) (rw c.in-Ok-EveryMail.field-0-is at (c.in-Ok-EveryMail.ensures.left a held)) (c.say_every_mail.ensures.reads a (c.find_target.ensures.shelf.kept a held))
+
+pub returns-in-Ok-Mails-clause-reads : goal.returns-in-Ok-Mails-clause-reads
+returns-in-Ok-Mails-clause-reads g c = λ a held.
+    let left = rw c.in-Ok-Mails.field-0-is at (c.in-Ok-Mails.ensures.left a held) in
+    reads-then (target_texts a c.args.request.now.target.now) (target_said a c.args.request.now.target.now) (length c.as_slice-in-Ok-Mails.result.now) _ _ _ c.args.sends (c.in-Ok-Mails.ensures.reads a held) (omega (arith, ap length c.as_slice-in-Ok-Mails.ensures, left)) c.say_mails.ensures.reads

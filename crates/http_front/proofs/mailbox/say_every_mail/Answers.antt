@@ -1,11 +1,15 @@
 use Rattle.std.proofs.Common.{refl}
 use Rattle.http_front.specs.Mailboxes.{whole_mailbox}
+use Rattle.http_front.proofs.Counting.{reads-sent}
 use Rattle.http_front.proofs.Streaming.{serves-body, serves-head, mailbox-memory}
 use Rattle.http_front.proofs.mailbox.say_every_mail.Goals as goal
 
 pub returns-then-sends-clause-acts : goal.returns-then-sends-clause-acts
 returns-then-sends-clause-acts g c = λ a rest held.
     serves-body c.args.moment a c.args.sends c.args.closes rest (whole_mailbox a.entries) c.in-Ok.head c.every_len-len.result c.in-Ok.ensures (c.every_len-len.ensures a held) _ _ _ c.if-sends.true (c.say_every_piece.ensures.acts a rest held)
+
+pub returns-then-sends-clause-reads : goal.returns-then-sends-clause-reads
+returns-then-sends-clause-reads g c = λ a held. reads-sent _ _ _ c.args.sends c.if-sends.true (c.say_every_piece.ensures.reads a held)
 
 pub returns-else-sends-clause-acts : goal.returns-else-sends-clause-acts
 returns-else-sends-clause-acts g c = λ a rest held.

@@ -1,13 +1,15 @@
-use Rattle.std.proofs.Common.{◌++◌, Some, None, refl, inl, inr}
+use Rattle.std.proofs.Common.{◌++◌, Some, None, refl, inl, inr, arith}
 use Rattle.line_door.specs.Course.{talk}
 use Rattle.line_door.proofs.Courses.{Going-same, Going-more, Fed-last, Last-done}
 use Rattle.arch_model.proofs.Shelving.{stays-same, stays-joined}
 use Rattle.http_front.specs.Door.{said, has_request}
+use Rattle.http_front.proofs.Counting.{ahead-none, ahead-more, ahead-kept, ahead-last, bytes-quiet}
 use Rattle.http_front.proofs.session.HttpSession.feed.Goals as goal
 
 pub loop-taken-init : goal.loop-taken-init
 loop-taken-init g c = record {
   going = λ reading is a held. Going-same (said reading c.args.moment) has_request _;
+  reads = λ reading is a held. ahead-none _ _ _ (omega arith);
   shelf = stays-same g.S.Shelf.holds g.S.Shelf.ready g.S.Shelf.alike g.S.Shelf.faults g.met.S.Shelf.alike_same c.args.shelf.now c.requires.ready;
   sink = g.met.O.Sink.alike_same _;
 }
@@ -18,6 +20,8 @@ loop-taken-preserved g c = rw c.split_at.ensures.back (record {
       let before = c.loop-taken.invariant.going reading is a held in
       let turn = c.in-Went.ensures.turn reading is a (c.loop-taken.invariant.shelf.kept a held) in
       Going-more (said reading c.args.moment) has_request _ (talk (Some (c.loop-taken.self ++ c.loop-taken.rest.now)) a _) _ (c.loop-taken.self ++ c.loop-taken.rest.now) before turn.0 (record { held = refl; acts = turn.1 });
+  reads = λ reading is a held.
+      ahead-more _ _ _ _ _ _ (c.loop-taken.invariant.reads reading is a held) (c.in-Went.ensures.reads reading is a (c.loop-taken.invariant.shelf.kept a held));
   shelf = stays-joined g.S.Shelf.holds g.S.Shelf.ready g.S.Shelf.alike g.S.Shelf.faults g.met.S.Shelf.alike_joined _ _ _ c.loop-taken.invariant.shelf c.act.ensures.shelf;
   sink = g.met.O.Sink.alike_joined _ _ _ c.loop-taken.invariant.sink c.act.ensures.sink;
 })
@@ -33,3 +37,19 @@ returns-in-Closed-clause-fed g c = λ reading is a held.
     let before = c.loop-taken.invariant.going reading is a held in
     let turn = c.in-Closed.ensures.turn reading is a (c.loop-taken.invariant.shelf.kept a held) in
     Fed-last (said reading c.args.moment) has_request _ (talk (Some (c.loop-taken.self ++ c.loop-taken.rest.now)) a _) _ before (Last-done (said reading c.args.moment) has_request (c.loop-taken.self ++ c.loop-taken.rest.now) a _ None a _ turn (inl refl))
+
+pub returns-in-Kept-clause-reads : goal.returns-in-Kept-clause-reads
+returns-in-Kept-clause-reads g c = λ reading is a held.
+    ahead-kept _ _ _ _ _ (c.loop-taken.invariant.reads reading is a held) (c.in-Kept.ensures.reads reading is a (c.loop-taken.invariant.shelf.kept a held))
+
+pub returns-in-Kept-clause-unread : goal.returns-in-Kept-clause-unread
+returns-in-Kept-clause-unread g c = λ reading is a held quiet.
+    bytes-quiet reading a (c.args.self.now ++ c.args.piece.now) _ _ (ahead-kept _ _ _ _ _ (c.loop-taken.invariant.reads reading is a held) (c.in-Kept.ensures.reads reading is a (c.loop-taken.invariant.shelf.kept a held))) quiet
+
+pub returns-in-Closed-clause-reads : goal.returns-in-Closed-clause-reads
+returns-in-Closed-clause-reads g c = λ reading is a held.
+    ahead-last _ _ _ _ _ (c.loop-taken.invariant.reads reading is a held) (c.in-Closed.ensures.reads reading is a (c.loop-taken.invariant.shelf.kept a held))
+
+pub returns-in-Closed-clause-unread : goal.returns-in-Closed-clause-unread
+returns-in-Closed-clause-unread g c = λ reading is a held quiet.
+    bytes-quiet reading a (c.args.self.now ++ c.args.piece.now) _ _ (ahead-last _ _ _ _ _ (c.loop-taken.invariant.reads reading is a held) (c.in-Closed.ensures.reads reading is a (c.loop-taken.invariant.shelf.kept a held))) quiet
