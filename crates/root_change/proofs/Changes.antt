@@ -1,5 +1,5 @@
 -- Files that are written beside the texts of a root become those of the next one.
-use Rattle.std.specs.Prelude.{◌≡◌, ◌≢◌, ◌-◌, ◌<◌, ℕ, Bool, true, false, cond, if◌then◌else◌, List, [], ◌++◌, length, Option, Some, None, refl}
+use Rattle.std.specs.Prelude.{◌≡◌, ◌≢◌, ◌⊎◌, ◌-◌, ◌<◌, ℕ, Bool, true, false, cond, if◌then◌else◌, List, [], ◌++◌, length, Option, Some, None, refl}
 use Rattle.std.proofs.Common.{◌∙◌, sym, ap, subst, inl, inr, arith, length-append}
 use Rattle.std.proofs.lemmas.Grind.{common_steps}
 use Rattle.disk_model.specs.declared.name.FileName.{FileName}
@@ -16,7 +16,7 @@ use Rattle.root_change.specs.Names.{place_of, names_file, named_end, bounds_of, 
 use Rattle.root_change.specs.Texts.{Texts, StandsFor, IsOn, OnDisk, Measures}
 use Rattle.root_change.specs.Leaving.{ready_has}
 use Rattle.root_change.specs.Replacing.{ToReplace, IsToReplace, StandsForEither}
-use Rattle.root_change.specs.Parts.{Parts, texts_of, PartsFit, RecoversEither, IsOwn}
+use Rattle.root_change.specs.Parts.{Parts, texts_of, PartsFit, RecoversBy, RecoversEither, IsOwn}
 use Rattle.root_change.specs.Changing.{ReadsAs, with_more, Becomes}
 use Rattle.root_change.proofs.Drops.{true_or_false}
 use Rattle.root_change.proofs.Phases.{front_kept, stands_beside}
@@ -107,26 +107,37 @@ writing free root texts (Some k) image on measures beside = stands_beside root t
 -- A command that writes beside the texts of its root and replaces the root then.
 module _ (free : ℕ) (old new : Root) (parts next : Parts) {D : Type 0} (content : D → Option Content) (moment : D → ℕ) (left_since : D → ℕ → Files → Type 0) (disk d1 : D) (own : IsOwn old free parts (content disk)) (run : RunsBeside content moment left_since (bounds_of old) disk d1) where
   -- Files that stand for the old texts stand for the old parts.
-  old_parts : (image : Files) → StandsFor old (texts_of old parts) image → RecoversEither parts next image
-  old_parts image stands = inl (old, record { valid = own.valid; fits = own.fits; long = own.long; stands = stands })
+  old_parts : (image : Files) → StandsFor old (texts_of old parts) image → RecoversBy old parts image
+  old_parts image stands = record { valid = own.valid; fits = own.fits; long = own.long; stands = stands }
 
   -- What a crash leaves before the root is replaced.
+  pub writing_by : LeavesOnly moment left_since disk d1 (RecoversBy old parts)
+  writing_by = weaker moment left_since disk d1 (Beside (bounds_of old) (content disk)) (RecoversBy old parts) run.moments (λ image beside. old_parts image (writing free old (texts_of old parts) (content disk) image own.on (parts_measure old parts own.long) beside))
+
   pub writing_leaves : LeavesOnly moment left_since disk d1 (RecoversEither parts next)
-  writing_leaves = weaker moment left_since disk d1 (Beside (bounds_of old) (content disk)) (RecoversEither parts next) run.moments (λ image beside. old_parts image (writing free old (texts_of old parts) (content disk) image own.on (parts_measure old parts own.long) beside))
+  writing_leaves = weaker moment left_since disk d1 (RecoversBy old parts) (RecoversEither parts next) writing_by (λ image stands. inl (old, stands))
 
   module _ (so_far : Texts) (reads : WhereTold (ReadsAs old so_far) (content d1)) (becomes : Becomes old so_far new (texts_of new next)) (valid : IsRoot new) (fits : RootFits new) (long : PartsFit new next) where
     -- What the replacement requires.
     pub to_replace : ToReplace free old (texts_of old parts) new (texts_of new next) (content d1)
     to_replace = replaceable free old (texts_of old parts) so_far new (texts_of new next) (content disk) (content d1) own.on (parts_measure old parts own.long) run.told reads becomes
 
-    -- What a crash leaves while it is replaced.
+    -- What a crash leaves while it is replaced: the parts by their own root.
+    abbrev pub ByEither : Files → Type 0
+    ByEither image = RecoversBy old parts image ⊎ RecoversBy new next image
+
+    pub changing_by : (d2 : D) → ((texts nexts : Texts) → ToReplace free old texts new nexts (content d1) → LeavesOnly moment left_since d1 d2 (StandsForEither old texts new nexts)) → LeavesOnly moment left_since disk d2 ByEither
+    changing_by d2 replaces =
+        joined moment left_since disk d1 d2 (RecoversBy old parts) (StandsForEither old (texts_of old parts) new (texts_of new next)) ByEither writing_by (replaces (texts_of old parts) (texts_of new next) to_replace) (λ image stands. inl stands)
+        (λ image either. elim either [
+          | inl stands ↦ inl (old_parts image stands)
+          | inr stands ↦ inr (record { valid = valid; fits = fits; long = long; stands = stands })
+        ])
+
     pub changing_leaves : (d2 : D) → ((texts nexts : Texts) → ToReplace free old texts new nexts (content d1) → LeavesOnly moment left_since d1 d2 (StandsForEither old texts new nexts)) → LeavesOnly moment left_since disk d2 (RecoversEither parts next)
     changing_leaves d2 replaces =
-        joined moment left_since disk d1 d2 (RecoversEither parts next) (StandsForEither old (texts_of old parts) new (texts_of new next)) (RecoversEither parts next) writing_leaves (replaces (texts_of old parts) (texts_of new next) to_replace) (λ image either. either)
-        (λ image either. elim either [
-          | inl stands ↦ old_parts image stands
-          | inr stands ↦ inr (new, record { valid = valid; fits = fits; long = long; stands = stands })
-        ])
+        weaker moment left_since disk d2 ByEither (RecoversEither parts next) (changing_by d2 replaces)
+        (λ image either. elim either [ inl stands ↦ inl (old, stands) | inr stands ↦ inr (new, stands) ])
 
     -- What the disk is then.
     pub changed : (d2 : D) → OnDisk new (1 - free) (texts_of new next) (content d2) → IsOwn new (1 - free) next (content d2)

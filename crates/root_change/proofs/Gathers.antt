@@ -31,9 +31,9 @@ same_source : (bytes : List ℕ) (source : Source) (to : FileName) (k m : Conten
 same_source bytes (Bytes offset count) to k m is others = refl
 same_source bytes (Range range) to k m is others = ap (λ (f : File). range_of (bytes_of f) range.offset range.count) (others range.file is.0)
 
--- One more source of a list.
-one_more : (sources : List Source) (i : ℕ) (source : Source) → slice_get sources i ≡ Some source → take (i + 1) sources ≡ take i sources ++ source ∷ []
-one_more sources i source here = take_more sources i source (slice_get_within sources i source here) ∙ ap (λ (s : Source). take i sources ++ s ∷ []) (get_or_from_slice_get sources i source source here)
+-- One more element of a list.
+pub one_more : {A : Type 0} (items : List A) (i : ℕ) (item : A) → slice_get items i ≡ Some item → take (i + 1) items ≡ take i items ++ item ∷ []
+one_more {A} items i item here = take_more items i item (slice_get_within items i item here) ∙ ap (λ (x : A). take i items ++ x ∷ []) (get_or_from_slice_get items i item item here)
 
 -- The bytes of one more source.
 gathered_more : (bytes : List ℕ) (k : Content) (sources : List Source) (i : ℕ) (source : Source) → slice_get sources i ≡ Some source → gathered bytes k (take i sources) ++ source_bytes bytes k source ≡ gathered bytes k (take (i + 1) sources)

@@ -8,4 +8,13 @@ pub mod Grown
 mod Remakes
 mod Tidies
 mod Copies
+pub mod Others
 mod Gathers
+pub mod Plans
+pub mod Pushes
+mod Builds
+pub mod PlanParts
+mod Placing
+mod Written
+mod Rewritten
+mod Carrying

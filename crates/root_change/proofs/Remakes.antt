@@ -22,7 +22,7 @@ use Rattle.root_change.proofs.Changes.{text_named, text_unnamed, parts_measure, 
 use Rattle.root_change.proofs.Grown.{epoch_isnt_root, epoch_is_named}
 
 -- An epoch whose file a root names has bytes.
-named_bytes : (root : Root) (n g : ℕ) → named_by root kind.Epoch n g ≡ true → 0 < (place_of root kind.Epoch n).length
+pub named_bytes : (root : Root) (n g : ℕ) → named_by root kind.Epoch n g ≡ true → 0 < (place_of root kind.Epoch n).length
 named_bytes root n g is =
     let place = place_of root kind.Epoch n in
     is_less 0 place.length (both (nat_lt 0 place.length) (place.gen_ == g) (both (nat_lt n 64) (has_place place g) is).1).0

@@ -51,7 +51,7 @@ pub set_elsewhere : (places : List Place) (e : ℕ) (place : Place) (n : ℕ) �
 set_elsewhere places e place n apart = get_or-set_other places e n place no_place apart
 
 -- A valid place stays valid for a later sequence.
-later_place : (m n : ℕ) (place : Place) → m ≤ n → PlaceIsValid m place → PlaceIsValid n place
+pub later_place : (m n : ℕ) (place : Place) → m ≤ n → PlaceIsValid m place → PlaceIsValid n place
 later_place m n place less valid = record { gen_ = (let g = valid.gen_ in omega (arith, g, less)); empty = valid.empty }
 
 later_places : (m n : ℕ) (places : List Place) → m ≤ n → All (PlaceIsValid m) places → All (PlaceIsValid n) places

@@ -7,3 +7,5 @@ pub mod Changing
 pub mod Tidying
 pub mod Copying
 pub mod Gathering
+pub mod Rewriting
+pub mod Writing

@@ -69,6 +69,12 @@ pub record HasSizes (root : Root) (k : Content) : Type 0 where
   pub root_file : HasRootSize k
   pub lengths : HasLengths root k
 
+-- The same, but for a cache.
+pub record HasPartSizes (root : Root) (k : Content) : Type 0 where
+  pub root_file : HasRootSize k
+  pub lengths : (name : FileName) → name ≢ root_name → name.kind ≢ kind.Cache
+      → named_end root name ≤ length (bytes_of (k name).seen)
+
 -- The files that a root names read as before, and the root file has its size.
 pub record KeepsNamed (root : Root) (old new : Content) : Type 0 where
   pub root_file : HasRootSize new

@@ -1,9 +1,9 @@
 //! Copies ranges of files into another file, without memory.
-ghost use Rattle.std.specs.Prelude.{◌≡◌, ◌≢◌, ◌+◌, ◌-◌, ◌^◌, ◌<◌, min, true, length, IfOk};
+ghost use Rattle.std.specs.Prelude.{◌≡◌, ◌≢◌, ◌+◌, ◌-◌, ◌^◌, ◌<◌, ◌≤◌, min, true, length, IfOk};
 ghost use Rattle.arch_base.specs.Counts.{HasCause};
 ghost use Rattle.disk_model.specs.Beside.{Bounds, Respects, RunsBeside};
 ghost use Rattle.disk_model.specs.Disk.{Told, WhereTold, IsAtMostLength};
-ghost use Rattle.root_change.specs.Copying.{Copied, HasRange};
+ghost use Rattle.root_change.specs.Copying.{Copied, HasRange, OthersStay};
 
 use disk_model::{Disk, DiskFault, FileName};
 
@@ -11,7 +11,7 @@ use disk_model::{Disk, DiskFault, FileName};
 const WINDOW: u64 = 4096;
 
 /// A range of a file's bytes.
-#[derive(Clone, Copy, Debug, PartialEq, Eq)]
+#[derive(Clone, Copy, Debug, PartialEq, Eq, Drop)]
 pub struct FileRange {
     /// The file.
     pub file: FileName,
@@ -58,6 +58,8 @@ fn copy_window<D: Disk>(
         (D.content disk.new)) }
     ensures whole { HasRange range.file range.offset range.count (D.content disk.old)
         → IfOk result (λ whole. whole ≡ true) }
+    ensures others { Told (OthersStay to) (D.content disk.old) (D.content disk.new) }
+    ensures fewest { D.reads disk.old ≤ D.reads disk.new }
     ensures cause { HasCause (D.faults disk.old) (D.faults disk.new) result }
 {
     let count = disk.read(range.file, range.offset, window)?;
@@ -90,6 +92,8 @@ pub fn copy_range<D: Disk>(
         (D.content disk.new)) }
     ensures whole { HasRange range.file range.offset range.count (D.content disk.old)
         → IfOk result (λ whole. whole ≡ true) }
+    ensures others { Told (OthersStay to) (D.content disk.old) (D.content disk.new) }
+    ensures fewest { D.reads disk.old ≤ D.reads disk.new }
     ensures cause { HasCause (D.faults disk.old) (D.faults disk.new) result }
 {
     let mut window = [0; WINDOW as usize];

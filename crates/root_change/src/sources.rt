@@ -4,14 +4,14 @@ ghost use Rattle.std.specs.List.{sum_by};
 ghost use Rattle.arch_base.specs.Counts.{HasCause};
 ghost use Rattle.disk_model.specs.Beside.{Bounds, Respects, RunsBeside};
 ghost use Rattle.disk_model.specs.Disk.{Told, WhereTold, IsAtMostLength};
-ghost use Rattle.root_change.specs.Copying.{range_of, Put};
+ghost use Rattle.root_change.specs.Copying.{range_of, OthersStay, Put};
 ghost use Rattle.root_change.specs.Gathering.{source_count, IsSource, AreSources, HasSource, HasSources, PutSource, PutSources};
 
 use crate::copying::{FileRange, copy_range};
 use disk_model::{Disk, DiskFault, FileName};
 
 /// Where bytes come from.
-#[derive(Clone, Copy, Debug, PartialEq, Eq)]
+#[derive(Clone, Copy, Debug, PartialEq, Eq, Drop)]
 pub enum Source {
     /// A range of the bytes that are passed beside the sources.
     Bytes {
@@ -52,6 +52,8 @@ fn put_bytes<D: Disk>(
     ensures put { IfOk result (λ whole. whole ≡ true → Told (Put (range_of bytes.now offset count)
         count to end) (D.content disk.old) (D.content disk.new)) }
     ensures whole { offset + count ≤ length bytes.now → IfOk result (λ whole. whole ≡ true) }
+    ensures others { Told (OthersStay to) (D.content disk.old) (D.content disk.new) }
+    ensures fewest { D.reads disk.old ≤ D.reads disk.new }
     ensures cause { HasCause (D.faults disk.old) (D.faults disk.new) result }
 {
     if offset > bytes.len() {
@@ -85,6 +87,8 @@ fn put_source<D: Disk>(
         (D.content disk.old) (D.content disk.new)) }
     ensures whole { HasSource bytes.now (D.content disk.old) source
         → IfOk result (λ whole. whole ≡ true) }
+    ensures others { Told (OthersStay to) (D.content disk.old) (D.content disk.new) }
+    ensures fewest { D.reads disk.old ≤ D.reads disk.new }
     ensures cause { HasCause (D.faults disk.old) (D.faults disk.new) result }
 {
     match source {
@@ -115,6 +119,8 @@ pub fn put_sources<D: Disk>(
         (D.content disk.new)) }
     ensures whole { HasSources bytes.now (D.content disk.old) sources.now
         → IfOk result (λ whole. whole ≡ true) }
+    ensures others { Told (OthersStay to) (D.content disk.old) (D.content disk.new) }
+    ensures fewest { D.reads disk.old ≤ D.reads disk.new }
     ensures cause { HasCause (D.faults disk.old) (D.faults disk.new) result }
 {
     let mut next = end;

@@ -8,6 +8,7 @@ use Rattle.disk_model.specs.BesideLaws.{run_started, run_joined}
 use Rattle.root_change.specs.Copying.{Copied, HasRange}
 use Rattle.root_change.proofs.Drops.{not_both}
 use Rattle.root_change.proofs.Copies.{next_told, first_copied, copied_inside, range_left, respects_more}
+use Rattle.root_change.proofs.Others.{others_first, others_then}
 use Rattle.root_change.proofs.copying.copy_range.Goals as goal
 
 pub loop-done-init : goal.loop-done-init
@@ -19,6 +20,8 @@ loop-done-init g c =
       beside = λ bounds far. run_started content g.D.Disk.moment g.D.Disk.left_since bounds disk (g.met.D.Disk.only_now disk);
       copied = first_copied c.args.range.file c.args.range.offset c.args.to c.args.end (content disk) c.requires.inside;
       inside = simp unary_clauses c.requires.inside;
+      others = others_first c.args.to (content disk);
+      fewest = omega arith;
       kept = refl;
     }
 
@@ -59,6 +62,8 @@ loop-done-preserved g c =
       beside = λ bounds far. run_joined content g.D.Disk.moment g.D.Disk.left_since bounds c.args.disk.now c.loop-done.disk c.copy_window.new.disk (before.beside bounds far) (c.copy_window.ensures.beside bounds (respects_more (bounds c.args.to) c.args.end (c.args.end + done) (omega arith) far));
       copied = copied;
       inside = copied_inside range.file range.offset (done + next.count) c.args.to c.args.end (c.args.end + (done + next.count)) k o refl copied;
+      others = others_then c.args.to k m o before.others c.in_ok-whole.ensures.others;
+      fewest = (let earlier = before.fewest in let now = c.in_ok-whole.ensures.fewest in omega (arith, earlier, now));
       kept = omega (arith, before.kept, c.in_ok-whole.ensures.cause.kept);
     }
 
@@ -68,3 +73,13 @@ returns-clause-copied g c = λ is.
     let bound = c.loop-done.invariant.bound in
     let all : c.loop-done.done ≡ range.count = omega (arith, bound) in
     subst (λ (n : ℕ). Told (Copied range.file range.offset n c.args.to c.args.end) (g.D.Disk.content c.args.disk.now) (g.D.Disk.content c.loop-done.disk)) all c.loop-done.invariant.copied
+
+pub returns-in_err-whole-clause-others : goal.returns-in_err-whole-clause-others
+returns-in_err-whole-clause-others g c =
+    let content = g.D.Disk.content in
+    others_then c.args.to (content c.args.disk.now) (content c.loop-done.disk) (content c.copy_window.new.disk) c.loop-done.invariant.others c.copy_window.ensures.others
+
+pub returns-then-not-whole-clause-others : goal.returns-then-not-whole-clause-others
+returns-then-not-whole-clause-others g c =
+    let content = g.D.Disk.content in
+    others_then c.args.to (content c.args.disk.now) (content c.loop-done.disk) (content c.copy_window.new.disk) c.loop-done.invariant.others c.copy_window.ensures.others

@@ -4,6 +4,7 @@ use Rattle.disk_model.specs.Disk.{Told, OneFile, Wrote}
 use Rattle.disk_model.specs.BesideLaws.{write_told, run_started, run_call}
 use Rattle.root_change.specs.Copying.{range_of}
 use Rattle.root_change.proofs.Gathers.{wrote_put, none_put}
+use Rattle.root_change.proofs.Others.{others_first, others_wrote}
 use Rattle.root_change.proofs.sources.put_bytes.Goals as goal
 
 pub returns-then-offset-bytes-clause-beside : goal.returns-then-offset-bytes-clause-beside
@@ -44,3 +45,20 @@ returns-clause-put g c = λ is.
     let part : c.split_at-2.result.0.now ≡ range_of bytes c.args.offset count = c.split_at-2.ensures.front ∙ ap (take count) c.split_at.ensures.back in
     let written = subst (λ (b : List ℕ). Told (OneFile c.args.to (Wrote c.args.end b)) (content c.args.disk.now) (content c.write_at.new.self)) part c.in_ok-write_at.ensures.written in
     wrote_put (range_of bytes c.args.offset count) count c.args.to c.args.end (content c.args.disk.now) (content c.write_at.new.self) (omega (arith, length-take {A = ℕ} count (drop c.args.offset bytes), length-drop {A = ℕ} c.args.offset bytes)) (omega arith) c.requires.inside written
+
+pub returns-then-offset-bytes-clause-others : goal.returns-then-offset-bytes-clause-others
+returns-then-offset-bytes-clause-others g c = others_first c.args.to (g.D.Disk.content c.args.disk.now)
+
+pub returns-then-count-rest-clause-others : goal.returns-then-count-rest-clause-others
+returns-then-count-rest-clause-others g c = others_first c.args.to (g.D.Disk.content c.args.disk.now)
+
+pub returns-then-count-eq0-clause-others : goal.returns-then-count-eq0-clause-others
+returns-then-count-eq0-clause-others g c = others_first c.args.to (g.D.Disk.content c.args.disk.now)
+
+pub returns-in_err-write_at-clause-others : goal.returns-in_err-write_at-clause-others
+returns-in_err-write_at-clause-others g c =
+    others_wrote c.write_at.result c.args.to c.args.end c.split_at-2.result.0.now (g.D.Disk.content c.args.disk.now) (g.D.Disk.content c.write_at.new.self) c.write_at.ensures.written c.write_at.ensures.torn
+
+pub returns-clause-others : goal.returns-clause-others
+returns-clause-others g c =
+    others_wrote c.write_at.result c.args.to c.args.end c.split_at-2.result.0.now (g.D.Disk.content c.args.disk.now) (g.D.Disk.content c.write_at.new.self) c.write_at.ensures.written c.write_at.ensures.torn

@@ -9,6 +9,7 @@ use Rattle.root_change.specs.Gathering.{source_count, PutSources}
 use Rattle.root_change.proofs.Drops.{not_both}
 use Rattle.root_change.proofs.Copies.{respects_more}
 use Rattle.root_change.proofs.Gathers.{next_after, next_below, more_put, first_put, put_inside, source_left}
+use Rattle.root_change.proofs.Others.{others_first, others_then}
 use Rattle.root_change.proofs.sources.put_sources.Goals as goal
 
 pub loop-source-init : goal.loop-source-init
@@ -20,6 +21,8 @@ loop-source-init g c =
       beside = λ bounds far. run_started content g.D.Disk.moment g.D.Disk.left_since bounds disk (g.met.D.Disk.only_now disk);
       put = first_put c.args.bytes.now c.args.sources.now c.args.to c.args.end (content disk) c.requires.inside;
       inside = c.requires.inside;
+      others = others_first c.args.to (content disk);
+      fewest = omega arith;
       kept = refl;
     }
 
@@ -67,6 +70,8 @@ loop-source-preserved g c =
       beside = λ bounds far. run_joined content g.D.Disk.moment g.D.Disk.left_since bounds c.args.disk.now c.loop-source.disk c.put_source.new.disk (before.beside bounds far) (c.put_source.ensures.beside bounds (respects_more (bounds c.args.to) c.args.end next (omega (arith, before.next_is)) far));
       put = put;
       inside = put_inside c.args.bytes.now (take (i + 1) sources) c.args.to c.args.end (next + c.count_of-next.result) k o after put;
+      others = others_then c.args.to k m o before.others c.in_ok-whole.ensures.others;
+      fewest = (let earlier = before.fewest in let now = c.in_ok-whole.ensures.fewest in omega (arith, earlier, now));
       kept = omega (arith, before.kept, c.in_ok-whole.ensures.cause.kept);
     }
 
@@ -76,3 +81,13 @@ returns-clause-put g c = λ is.
     let i = c.loop-source.source-index in
     let all : take i sources ≡ sources = take_all i sources (omega arith) in
     subst (λ (ss : List Source). Told (PutSources c.args.bytes.now ss c.args.to c.args.end) (g.D.Disk.content c.args.disk.now) (g.D.Disk.content c.loop-source.disk)) all c.loop-source.invariant.put
+
+pub returns-in_err-whole-clause-others : goal.returns-in_err-whole-clause-others
+returns-in_err-whole-clause-others g c =
+    let content = g.D.Disk.content in
+    others_then c.args.to (content c.args.disk.now) (content c.loop-source.disk) (content c.put_source.new.disk) c.loop-source.invariant.others c.put_source.ensures.others
+
+pub returns-then-not-whole-clause-others : goal.returns-then-not-whole-clause-others
+returns-then-not-whole-clause-others g c =
+    let content = g.D.Disk.content in
+    others_then c.args.to (content c.args.disk.now) (content c.loop-source.disk) (content c.put_source.new.disk) c.loop-source.invariant.others c.put_source.ensures.others
