@@ -12,3 +12,5 @@ mod Turning
 mod Bringing
 mod Finding
 mod Apart
+mod Planned
+mod Rewritten

@@ -6,3 +6,4 @@ pub mod Sights
 pub mod Reading
 pub mod Runs
 pub mod Steps
+pub mod Planning

@@ -59,7 +59,13 @@ pub fn append_entry<D: Disk>(
 }
 
 /// Returns the bytes of an entry at an offset, and the ids of its blob and its commit.
-fn entry_piece(alloc: Global, at: u64, entry: &NewEntry<'_>) -> Result<(Bytes, EntryIds), NoMemory>
+///
+/// At offset 0 the magic comes before them.
+pub fn entry_piece(
+    alloc: Global,
+    at: u64,
+    entry: &NewEntry<'_>,
+) -> Result<(Bytes, EntryIds), NoMemory>
     ensures piece { IfOk result (λ made. made.0 ≡ appended at entry.now) }
     ensures blob { IfOk result (λ made. made.1.blob ≡ blob_id_of entry.now.text.now) }
     ensures commit { IfOk result (λ made.

@@ -1,4 +1,6 @@
 mod Apart
+pub mod Planned
+mod Rewritten
 mod Spelled
 mod Standing
 mod Walking

@@ -3,3 +3,4 @@ pub mod Sizes
 pub mod Walks
 pub mod Pieces
 pub mod Laws
+pub mod Rewriting

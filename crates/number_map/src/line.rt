@@ -6,7 +6,7 @@ use arch_base::{Duplicate, NoMemory, ObjectId, Sequence};
 use disk_model::LAST_EPOCH;
 
 /// The epoch in the record of a number without a message.
-const NO_EPOCH: u32 = 4_294_967_295;
+pub(crate) const NO_EPOCH: u32 = 4_294_967_295;
 
 /// The record of a number: where its message is, if it has one.
 #[derive(Clone, Copy, Debug, PartialEq, Eq, Drop)]

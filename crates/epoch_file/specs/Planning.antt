@@ -1,0 +1,222 @@
+-- How an epoch's file is written anew without some of its entries.
+use Rattle.std.specs.Prelude.{◌≡◌, ◌+◌, ℕ, Bool, true, ◌==◌, List, [], ◌∷◌, ◌++◌, length, Option, Some, None, is_some, Result, Ok, Err, if◌then◌else◌}
+use Rattle.std.specs.List.{list_any}
+use Rattle.arch_base.specs.declared.ids.Id20.{Id20}
+use Rattle.disk_model.specs.declared.name.FileName.{FileName}
+use Rattle.disk_model.specs.declared.name.FileKind.TheVariants.{Epoch}
+use Rattle.disk_model.specs.declared.refusal.WalkRefusal.{WalkRefusal}
+use Rattle.disk_model.specs.declared.refusal.WalkRefusal.TheVariants.{DiskFault, NoMemory, Damaged}
+use Rattle.disk_model.specs.Disk.{Content, Unchanged, bytes_of}
+use Rattle.root_change.specs.declared.plan.Target.TheVariants.{Anew}
+use Rattle.root_change.specs.Rewriting.{Plan, IsPlan, IsPlanFrom, IsPlanWhole, with_bytes, with_range, written_by}
+use Rattle.root_change.specs.Copying.{file_range}
+use Rattle.root_change.specs.Texts.{Texts}
+use Rattle.git_objects.specs.Objects.{blob_id_of}
+use Rattle.mail_commits.specs.Entries.{commit_id, commit_text}
+use Rattle.epoch_file.specs.declared.planning.NewCommit.{NewCommit}
+use Rattle.epoch_file.specs.declared.entry.Seen.{Seen}
+use Rattle.epoch_file.specs.Entries.{EpochEntry, IsEpochEntry, epoch_of, last_of}
+use Rattle.epoch_file.specs.Walking.{IsDamagedAt, IsEpoch, seen_at}
+
+-- What is planned of an epoch's file so far: the plan of the new file if an entry was left out, the
+-- offset of the next entry in the new file, and the last commit there.
+pub record Planned : Type 0 where
+  pub file : FileName
+  pub changed : Option Plan
+  pub end_ : ℕ
+  pub parent : Option Id20
+
+-- The texts of files, as reads give them.
+abbrev pub texts_in : Content → Texts
+texts_in k name = bytes_of (k name).seen
+
+-- A plan of the new file: it writes an epoch of the entries that stay, and ends here.
+pub record IsAnew (texts : Texts) (kept : List EpochEntry) (end_ : ℕ) (plan : Plan) : Type 0 where
+  pub target : plan.target ≡ Anew
+  pub whole : IsPlanWhole texts plan
+  pub written : written_by texts plan ≡ epoch_of kept
+  pub ends : end_ ≡ length (epoch_of kept)
+
+-- The same, if an entry was left out. Otherwise all entries stay.
+abbrev pub IsPlanOf : Texts → List EpochEntry → List EpochEntry → ℕ → Option Plan → Type 0
+IsPlanOf texts es kept end_ None = kept ≡ es
+IsPlanOf texts es kept end_ (Some plan) = IsAnew texts kept end_ plan
+
+-- Of the entries of an epoch's file so far these stay, and so it is planned. The plan is one of the
+-- file's epoch, and the last commit is that of the entries that stay.
+pub record IsPlanned (texts : Texts) (es kept : List EpochEntry) (p : Planned) : Type 0 where
+  pub plan : IsPlanOf texts es kept p.end_ p.changed
+  pub parent : p.parent ≡ last_of None kept
+
+-- A file has these entries, and then this one.
+pub record HasNext (texts : Texts) (file : FileName) (es : List EpochEntry) (e : EpochEntry)
+    : Type 0 where
+  pub valid : IsEpochEntry e
+  pub rest : List ℕ
+  pub is : texts file ≡ epoch_of (es ++ e ∷ []) ++ rest
+
+-- What is recorded of an entry after others.
+abbrev pub seen_after : List EpochEntry → EpochEntry → Seen
+seen_after es e = seen_at (length (epoch_of es)) (last_of None es) e
+
+-- An entry stays, and what is recorded of it in the new file is given. Nothing is damaged.
+abbrev pub Stays : Texts → List EpochEntry → List EpochEntry → EpochEntry → Planned
+    → Result Seen WalkRefusal → Type 0
+Stays texts es kept e new (Ok seen) = (seen ≡ seen_after kept e)
+    × IsPlanned texts (es ++ e ∷ []) (kept ++ e ∷ []) new
+Stays texts es kept e new (Err DiskFault) = Unit {0}
+Stays texts es kept e new (Err NoMemory) = Unit {0}
+Stays texts es kept e new (Err (Damaged at)) = ⊥
+
+-- Where the entries of a file are planned so, and it has another one, that stays.
+abbrev pub KeepsNext : Planned → Seen → Planned → Result Seen WalkRefusal → Content → Type 0
+KeepsNext old seen new result k = (es kept : List EpochEntry) (e : EpochEntry)
+    → IsPlanned (texts_in k) es kept old → HasNext (texts_in k) old.file es e
+    → seen ≡ seen_after es e → Stays (texts_in k) es kept e new result
+
+-- Where the entries of a file are planned so, and it has another one, that is left out.
+abbrev pub LeavesNext : Planned → Seen → Planned → Type 0
+LeavesNext old seen new = (texts : Texts) (es kept : List EpochEntry) (e : EpochEntry)
+    → IsPlanned texts es kept old → HasNext texts old.file es e
+    → seen ≡ seen_after es e → IsPlanned texts (es ++ e ∷ []) kept new
+
+-- The bytes of an epoch's file: none without an entry.
+abbrev pub file_of : List EpochEntry → List ℕ
+file_of [] = []
+file_of (e ∷ es) = epoch_of (e ∷ es)
+
+-- The plan of the whole file, or none if all entries stay. Without an entry it writes nothing.
+abbrev pub IsFinished : Texts → List EpochEntry → List EpochEntry → Option Plan → Type 0
+IsFinished texts es kept None = kept ≡ es
+IsFinished texts es kept (Some plan) = (plan.target ≡ Anew) × IsPlanWhole texts plan
+    × (written_by texts plan ≡ file_of kept)
+
+abbrev pub Finishes : Planned → Option Plan → Type 0
+Finishes old result = (texts : Texts) (es kept : List EpochEntry) → IsPlanned texts es kept old
+    → IsFinished texts es kept result
+
+-- A plan writes the epoch of a file anew, from bytes and ranges of that file.
+pub record IsAnewOf (file : FileName) (plan : Plan) : Type 0 where
+  pub kind : plan.kind ≡ Epoch
+  pub number : plan.number ≡ file.number
+  pub target : plan.target ≡ Anew
+  pub valid : IsPlan plan
+  pub from : IsPlanFrom file plan
+
+-- The same, if there is a plan.
+abbrev pub IsOfEpoch : FileName → Option Plan → Type 0
+IsOfEpoch file None = Unit {0}
+IsOfEpoch file (Some plan) = IsAnewOf file plan
+
+-- An index is one of these.
+abbrev pub is_among : List ℕ → ℕ → Bool
+is_among gone n = list_any (λ m. m == n) gone
+
+-- The entries whose indexes, from this one on, are not among these.
+abbrev pub kept_from : List ℕ → ℕ → List EpochEntry → List EpochEntry
+kept_from gone n [] = []
+kept_from gone n (e ∷ es) = if is_among gone n then kept_from gone (n + 1) es
+    else e ∷ kept_from gone (n + 1) es
+
+-- The plan of an epoch's file without the entries that have these indexes, where its records are those
+-- of entries. Nothing is damaged.
+abbrev pub GivesPlan : Texts → List EpochEntry → List ℕ → Result (Option Plan) WalkRefusal → Type 0
+GivesPlan texts es gone (Ok plan) = IsFinished texts es (kept_from gone 0 es) plan
+GivesPlan texts es gone (Err DiskFault) = Unit {0}
+GivesPlan texts es gone (Err NoMemory) = Unit {0}
+GivesPlan texts es gone (Err (Damaged at)) = ⊥
+
+abbrev pub PlansWhole : FileName → List Seen → List ℕ → Result (Option Plan) WalkRefusal → Content
+    → Type 0
+PlansWhole file seen gone result k = (n : ℕ) (is : IsEpoch n (bytes_of (k file).seen) seen)
+    → GivesPlan (texts_in k) is.entries gone result
+
+-- The entries that stay after one more, which is left out or not.
+abbrev pub kept_with : Bool → List EpochEntry → EpochEntry → List EpochEntry
+kept_with leaves kept e = if leaves then kept else kept ++ e ∷ []
+
+-- The next entry of a file is planned. Nothing is damaged.
+abbrev pub IsTaken : Texts → List EpochEntry → List EpochEntry → Planned → Result Unit WalkRefusal
+    → Type 0
+IsTaken texts es kept new (Ok _) = IsPlanned texts es kept new
+IsTaken texts es kept new (Err DiskFault) = Unit {0}
+IsTaken texts es kept new (Err NoMemory) = Unit {0}
+IsTaken texts es kept new (Err (Damaged at)) = ⊥
+
+abbrev pub TakesNext : Planned → Seen → Bool → Planned → Result Unit WalkRefusal → Content → Type 0
+TakesNext old seen leaves new result k = (es kept : List EpochEntry) (e : EpochEntry)
+    → IsPlanned (texts_in k) es kept old → HasNext (texts_in k) old.file es e
+    → seen ≡ seen_after es e
+    → IsTaken (texts_in k) (es ++ e ∷ []) (kept_with leaves kept e) new result
+
+-- The plan of the whole new file, where the records are those of an epoch. Nothing is damaged.
+abbrev pub PlansFile : FileName → ℕ → List Seen → List ℕ → Result Plan WalkRefusal → Content → Type 0
+PlansFile file n seen gone (Ok plan) k = (is : IsEpoch n (bytes_of (k file).seen) seen)
+    → IsPlanWhole (texts_in k) plan
+    × (written_by (texts_in k) plan ≡ file_of (kept_from gone 0 is.entries))
+PlansFile file n seen gone (Err DiskFault) k = Unit {0}
+PlansFile file n seen gone (Err NoMemory) k = Unit {0}
+PlansFile file n seen gone (Err (Damaged at)) k = IsEpoch n (bytes_of (k file).seen) seen → ⊥
+
+-- The results of a rewriting: the old file is an epoch, and the new one, if it wasn't there, has its
+-- entries but those with these indexes, and is so long; or the old file is damaged, or memory ran out,
+-- and nothing was done; or nothing is told.
+abbrev pub Rewrites : FileName → ℕ → FileName → List ℕ → Content → Content → Result ℕ WalkRefusal
+    → Type 0
+Rewrites from n to gone k m (Ok long) = (seen : List Seen)
+    × (is : IsEpoch n (bytes_of (k from).seen) seen)
+    × (long ≡ length (file_of (kept_from gone 0 is.entries)))
+    × (bytes_of (k to).seen ≡ []
+    → bytes_of (m to).seen ≡ file_of (kept_from gone 0 is.entries))
+Rewrites from n to gone k m (Err (Damaged at)) =
+    IsDamagedAt n (bytes_of (k from).seen) at × Unchanged k m
+Rewrites from n to gone k m (Err DiskFault) = Unit {0}
+Rewrites from n to gone k m (Err NoMemory) = Unchanged k m
+
+-- An entry is recorded at another offset, with another commit.
+pub record IsMoved (seen : Seen) (at : ℕ) (commit : Id20) (made : Seen) : Type 0 where
+  pub kind : made.kind ≡ seen.kind
+  pub at_is : made.at ≡ at
+  pub text_at : made.text_at + seen.at ≡ at + seen.text_at
+  pub size : made.size ≡ seen.size
+  pub blob : made.blob ≡ seen.blob
+  pub commit_is : made.commit ≡ commit
+  pub moment : made.moment ≡ seen.moment
+  pub id : made.id ≡ seen.id
+  pub content : made.content ≡ seen.content
+
+-- The blob and the tree of an entry were added to a plan, and then these bytes.
+abbrev pub CopiesEntry : FileName → Seen → List ℕ → Plan → Plan → Type 0
+CopiesEntry file seen bytes old new = (n : ℕ) × (seen.at + n ≡ seen.text_at + seen.size + 37)
+    × IsPlan (with_range old file seen.at n)
+    × (new ≡ with_bytes (with_range old file seen.at n) bytes)
+
+-- A commit that an entry gets after a parent is that of the bytes where the file is to have its text.
+-- They have the text's size and its blob id, or the entry is damaged.
+abbrev pub GivesCommit : Seen → Option Id20 → List ℕ → Result NewCommit WalkRefusal → Type 0
+GivesCommit seen parent text (Ok made) = (length text ≡ seen.size) × (blob_id_of text ≡ seen.blob)
+    × (made.bytes ≡ commit_text seen.kind text seen.moment parent)
+    × (made.id ≡ commit_id seen.kind text seen.moment parent)
+GivesCommit seen parent text (Err DiskFault) = Unit {0}
+GivesCommit seen parent text (Err NoMemory) = Unit {0}
+GivesCommit seen parent text (Err (Damaged at)) =
+    (at ≡ seen.at) × (length text ≡ seen.size → blob_id_of text ≡ seen.blob → ⊥)
+
+abbrev pub CommitsAnew : FileName → Seen → Option Id20 → Result NewCommit WalkRefusal → Content
+    → Type 0
+CommitsAnew file seen parent result k =
+    GivesCommit seen parent (file_range k file seen.text_at seen.size) result
+
+-- A text that is copied has its size and its blob id. One that is damaged hasn't.
+abbrev pub ChecksText : FileName → Seen → Result Seen WalkRefusal → Content → Type 0
+ChecksText file seen (Ok made) k = (length (file_range k file seen.text_at seen.size) ≡ seen.size)
+    × (blob_id_of (file_range k file seen.text_at seen.size) ≡ seen.blob)
+ChecksText file seen (Err DiskFault) k = Unit {0}
+ChecksText file seen (Err NoMemory) k = Unit {0}
+ChecksText file seen (Err (Damaged at)) k = (at ≡ seen.at)
+    × (length (file_range k file seen.text_at seen.size) ≡ seen.size
+    → blob_id_of (file_range k file seen.text_at seen.size) ≡ seen.blob → ⊥)
+
+-- So it is where an entry was left out before.
+abbrev pub Checks : Planned → Seen → Result Seen WalkRefusal → Content → Type 0
+Checks old seen result k = is_some old.changed ≡ true → ChecksText old.file seen result k

@@ -1,0 +1,108 @@
+//! Writes a map anew, without the messages of some numbers.
+ghost use Rattle.std.specs.Prelude.{◌≡◌, ◌≢◌, ◌+◌, ◌*◌, ◌<◌, Err, IfOk, OnOk, OnErr};
+ghost use Rattle.arch_base.specs.Counts.{RoseIf};
+ghost use Rattle.disk_model.specs.Beside.{Bounds, Respects, RunsBeside};
+ghost use Rattle.disk_model.specs.Disk.{Told};
+ghost use Rattle.root_change.specs.Copying.{OthersStay};
+ghost use Rattle.root_change.specs.Rewriting.{IsPlan, PushesBytes};
+ghost use Rattle.number_map.specs.Records.{record_bytes};
+ghost use Rattle.number_map.specs.Rewriting.{PlansMap, PushesGone, Rewrites, RisesUpTo, none_record};
+
+use crate::line::{NO_EPOCH, Record};
+use crate::whole::walk;
+use crate::writing::spell;
+use arch_base::{Id20, NoMemory, Numbers};
+use disk_model::{Disk, FileKind, FileName, RECORD_SIZE, WalkRefusal};
+use root_change::{PartPlan, Target, put_sources};
+use std::alloc::Global;
+
+/// Returns the record of a number without a message.
+fn without_message(number: u32) -> Record
+    ensures { result ≡ none_record number }
+{
+    Record {
+        number,
+        epoch: NO_EPOCH,
+        blob: Id20([0; 20]),
+    }
+}
+
+/// Appends a record to a plan.
+pub fn push_record(plan: &mut PartPlan, line: &Record) -> Result<(), NoMemory>
+    ensures ok { OnOk result (PushesBytes plan.old (record_bytes line.now) plan.new) }
+    ensures valid { OnOk result (IsPlan plan.new) }
+    ensures err { OnErr result (plan.new ≡ plan.old) }
+{
+    plan.push_bytes(&spell(line))
+}
+
+/// Appends the records after the first `done` ones, up to that of a number, to a plan, and then that
+/// of the number without its message.
+fn push_gone(plan: &mut PartPlan, file: FileName, done: u32, number: u32) -> Result<(), NoMemory>
+    requires { done < number }
+    ensures { OnOk result (PushesGone file done number plan.old plan.new) }
+{
+    let kept = number - done - 1;
+    let offset = RECORD_SIZE as u64 * u64::from(done);
+    plan.push_range(file, offset, RECORD_SIZE as u64 * u64::from(kept))?;
+    push_record(plan, &without_message(number))
+}
+
+/// Plans the first `count` records of a map, where some numbers, which rise, have no message.
+///
+/// The plan takes ranges of the old file, and a record for each of these numbers. `NoMemory` comes only
+/// if an allocation fails.
+pub fn plan_without(
+    alloc: Global,
+    file: FileName,
+    count: u32,
+    gone: &Numbers,
+) -> Result<PartPlan, NoMemory>
+    requires gone { RisesUpTo 1 count gone.now }
+    ensures { IfOk result (PlansMap file count gone.now) }
+{
+    let mut plan = PartPlan::new(alloc, FileKind::Map, 0, Target::Anew);
+    let mut done = 0;
+    for number in gone.as_slice() {
+        let number = *number as u32;
+        push_gone(&mut plan, file, done, number)?;
+        done = number;
+    }
+    let offset = RECORD_SIZE as u64 * u64::from(done);
+    plan.push_range(file, offset, RECORD_SIZE as u64 * u64::from(count - done))?;
+    Ok(plan)
+}
+
+/// Copies the first `count` records of a map to another file, where some numbers, which rise, have no
+/// message.
+///
+/// The other file isn't there before. Reads the records first: the map is `Damaged` at the offset of
+/// the first of them that isn't whole in the file or isn't a valid one of its number. All memory is
+/// taken before the first write, and bounded by the records; they are copied through one buffer.
+/// `DiskFault` comes only if the count of faults rose.
+pub fn rewrite<D: Disk>(
+    alloc: Global,
+    disk: &mut D,
+    from: FileName,
+    count: u32,
+    to: FileName,
+    gone: &Numbers,
+) -> Result<(), WalkRefusal>
+    requires apart { from ≢ to }
+    requires gone { RisesUpTo 1 count gone.now }
+    ensures rewritten { Told (λ k m. Rewrites from count to gone.now k m result) (D.content disk.old)
+        (D.content disk.new) }
+    ensures others { Told (OthersStay to) (D.content disk.old) (D.content disk.new) }
+    ensures beside { (bounds : Bounds) → Respects (bounds to) 0
+        → RunsBeside D.content D.moment D.left_since bounds disk.old disk.new }
+    ensures cause { RoseIf (result ≡ Err WalkRefusal.DiskFault) (D.faults disk.old) (D.faults disk.new) }
+{
+    walk(alloc, disk, from, count)?;
+    let plan = plan_without(alloc, from, count, gone)?;
+    let whole = put_sources(disk, plan.bytes(), plan.sources(), to, 0)?;
+    if !whole {
+        // The records were whole when they were read.
+        return Err(WalkRefusal::NoMemory);
+    }
+    Ok(())
+}
