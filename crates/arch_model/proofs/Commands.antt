@@ -8,8 +8,8 @@ use Rattle.std.proofs.lemmas.Slice.Eq.{bytes_eq-Decides}
 use Rattle.arch_base.specs.declared.ids.Id20.{Id20}
 use Rattle.git_objects.specs.Objects.{blob_id_of}
 use Rattle.mail_reader.specs.Ids.{own_id}
-use Rattle.arch_model.specs.Archives.{Entry, Archive, owner, is_id, is_message, is_ended, live, in_epoch}
-use Rattle.arch_model.specs.Delivery.{Done, last_epoch, new_epoch, collision, delivered, removed}
+use Rattle.arch_model.specs.Archives.{Entry, Archive, without_entries, owner, is_id, is_message, is_ended, live, in_epoch}
+use Rattle.arch_model.specs.Delivery.{Done, last_epoch, new_epoch, collision, delivered, removed, purged, edited}
 use Rattle.arch_model.specs.Epochs.{epoch_bytes}
 use Rattle.arch_model.specs.Following.{Follows}
 use Rattle.arch_model.specs.Laws.{TakenAreStorage, KeepsValid, CommandFollows}
@@ -18,10 +18,12 @@ use Rattle.git_objects.specs.declared.entry_kind.EntryKind.{EntryKind}
 use Rattle.git_objects.specs.declared.entry_kind.EntryKind.TheVariants.{Message, Deletion}
 use Rattle.mail_reader.specs.StorageTexts.{IsStorageText}
 use Rattle.arch_base.specs.Moments.{last_moment}
-use Rattle.arch_model.specs.declared.command.Command.TheVariants.{Deliver, Remove}
+use Rattle.arch_model.specs.declared.command.Command.TheVariants.{Deliver, Remove, Purge, Edit}
 use Rattle.arch_model.proofs.Deliveries.{Comes, Refused, Accepted, comes, Ends, Still, Ended, ends}
 use Rattle.arch_model.proofs.ValidArchives.{all_weaker, not_before, Agrees, archive_grows, archive_ends}
-use Rattle.arch_model.proofs.Following.{follows_itself, follows_with_entry, follows_with_deletion, number_below}
+use Rattle.arch_model.proofs.Following.{follows_itself, follows_through, follows_with_entry, follows_with_deletion, follows_without_text, number_below}
+use Rattle.arch_model.proofs.Purging.{valid_without}
+use Rattle.arch_model.proofs.Rewrites.{Purges, Spared, Dropped, purges, Edits, Unedited, Redelivered, edits}
 use Rattle.arch_model.proofs.LiveEntries.{live-all, found-has, live-has, all-text}
 use Rattle.arch_model.proofs.Owners.{bytes_eq-refl, front_free}
 use Rattle.arch_model.proofs.TakenTexts.{taken}
@@ -77,6 +79,10 @@ new_small a all = by (last_epoch a.entries) (nat_lt (length (epoch_bytes (in_epo
   by last true small = grind (arith, nat_tests, small)
   by last false small = grind (arith, nat_tests, small)
 
+purged_by : (a : Archive) (number : ℕ) (d : Done) → IsArchive a → Purges a number d → IsArchive d.archive
+purged_by a number d valid (Spared answer other) = valid
+purged_by a number d valid (Dropped text is) = valid_without a text valid
+
 module _ (law : TakenAreStorage) where
   valid_by : (a : Archive) (bytes : List ℕ) (moment : ℕ) (d : Done) → moment ≤ last_moment → IsArchive a → Comes a bytes moment d → IsArchive d.archive
   valid_by a bytes moment d in_time valid (Refused answer other) = valid
@@ -98,10 +104,18 @@ module _ (law : TakenAreStorage) where
       (record { text = all-text IsStorageText a.entries text storage has; epoch = new_small a valid.entries; moment = in_time })
       (not_before a) is
 
+  edited_by : (a : Archive) (number : ℕ) (bytes : List ℕ) (moment : ℕ) (d : Done) → moment ≤ last_moment → IsArchive a → Edits a number bytes moment d → IsArchive d.archive
+  edited_by a number bytes moment d in_time valid (Unedited answer other) = valid
+  edited_by a number bytes moment d in_time valid (Redelivered text is accepted) =
+      let rest : Archive = without_entries a text in
+      valid_by rest bytes moment (delivered rest bytes moment) in_time (valid_without a text valid) (comes rest bytes moment)
+
   -- A command leaves a valid archive valid.
   pub keeps_valid : KeepsValid
   keeps_valid a (Deliver bytes) moment in_time valid = valid_by a bytes.now moment (delivered a bytes.now moment) in_time valid (comes a bytes.now moment)
   keeps_valid a (Remove number) moment in_time valid = ended_by a number moment (removed a number moment) in_time valid (ends a number moment)
+  keeps_valid a (Purge number) moment in_time valid = purged_by a number (purged a number) valid (purges a number)
+  keeps_valid a (Edit number bytes) moment in_time valid = edited_by a number bytes.now moment (edited a number bytes.now moment) in_time valid (edits a number bytes.now moment)
 
 follows_by : (a : Archive) (bytes : List ℕ) (moment : ℕ) (d : Done) → Comes a bytes moment d → Follows a d.archive
 follows_by a bytes moment d (Refused answer other) = follows_itself a
@@ -111,7 +125,19 @@ follows_ended : (a : Archive) (number moment : ℕ) (d : Done) → Ends a number
 follows_ended a number moment d (Still answer other) = follows_itself a
 follows_ended a number moment d (Ended text is) = follows_with_deletion a number (new_epoch a) text moment
 
+follows_purged : (a : Archive) (number : ℕ) (d : Done) → Purges a number d → Follows a d.archive
+follows_purged a number d (Spared answer other) = follows_itself a
+follows_purged a number d (Dropped text is) = follows_without_text a text
+
+follows_edited : (a : Archive) (number : ℕ) (bytes : List ℕ) (moment : ℕ) (d : Done) → Edits a number bytes moment d → Follows a d.archive
+follows_edited a number bytes moment d (Unedited answer other) = follows_itself a
+follows_edited a number bytes moment d (Redelivered text is accepted) =
+    let rest : Archive = without_entries a text in
+    follows_through a rest d.archive (follows_without_text a text) (follows_by rest bytes moment (delivered rest bytes moment) (comes rest bytes moment))
+
 -- The archive after a command follows the one before it.
 pub command_follows : CommandFollows
 command_follows a (Deliver bytes) moment = follows_by a bytes.now moment (delivered a bytes.now moment) (comes a bytes.now moment)
 command_follows a (Remove number) moment = follows_ended a number moment (removed a number moment) (ends a number moment)
+command_follows a (Purge number) moment = follows_purged a number (purged a number) (purges a number)
+command_follows a (Edit number bytes) moment = follows_edited a number bytes.now moment (edited a number bytes.now moment) (edits a number bytes.now moment)

@@ -9,5 +9,7 @@ pub mod ValidArchives
 pub mod Keepers
 pub mod Shelving
 mod Following
+pub mod Purging
+pub mod Rewrites
 mod TakenTexts
 pub mod Commands

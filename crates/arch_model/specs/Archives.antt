@@ -54,6 +54,19 @@ with_deletion a number epoch text moment = record {
   next = a.next;
 }
 
+-- The entries whose text is another one than this.
+abbrev pub without_text : List Entry → List ℕ → List Entry
+without_text entries text = filter (λ (e : Entry). not (bytes_eq text e.text)) entries
+
+-- The archive without the entries of a text: its messages and their deletions, in all epochs. No
+-- number is taken, and none is given back.
+abbrev pub without_entries : Archive → List ℕ → Archive
+without_entries a text = record {
+  config = a.config;
+  entries = without_text a.entries text;
+  next = a.next;
+}
+
 -- The kind of an entry is that of a message.
 abbrev pub is_message : EntryKind → Bool
 is_message Message = true

@@ -1,5 +1,5 @@
--- What a delivery and a removal do to an archive, and their answers.
-use Rattle.std.specs.Prelude.{◌≡◌, ◌+◌, ℕ, Bool, not, ◌&&◌, ◌||◌, ◌==◌, nat_lt, List, [], ◌∷◌, ◌++◌, length, codes, decimal, Option, Some, None, Result, Ok, Err, if◌then◌else◌}
+-- What the commands do to an archive, and their answers.
+use Rattle.std.specs.Prelude.{◌≡◌, ◌+◌, ℕ, Bool, true, false, not, ◌&&◌, ◌||◌, ◌==◌, nat_lt, List, [], ◌∷◌, ◌++◌, length, codes, decimal, Option, Some, None, Result, Ok, Err, if◌then◌else◌}
 use Rattle.std.specs.Str.{bytes_eq}
 use Rattle.hex.specs.Hex.{encode_lower}
 use Rattle.mail_reader.specs.Stored.{stored}
@@ -10,13 +10,13 @@ use Rattle.disk_model.specs.declared.name.FileKind.{FileKind}
 use Rattle.disk_model.specs.declared.name.FileKind.TheVariants.{Root, Map, Epoch, Cache}
 use Rattle.disk_model.specs.declared.name.FileName.{FileName}
 use Rattle.disk_model.specs.Sizes.{greatest_epoch}
-use Rattle.arch_model.specs.Archives.{Entry, Archive, with_entry, with_deletion, live, text_of, in_epoch}
+use Rattle.arch_model.specs.Archives.{Entry, Archive, with_entry, with_deletion, without_entries, live, messages, text_of, in_epoch}
 use Rattle.arch_model.specs.Epochs.{epoch_bytes}
 use Rattle.arch_model.specs.Candidates.{choice_of}
 use Rattle.arch_model.specs.declared.choice.Choice.{Choice}
 use Rattle.arch_model.specs.declared.choice.Choice.TheVariants.{Take, Repeat}
 use Rattle.arch_model.specs.declared.command.Command.{Command}
-use Rattle.arch_model.specs.declared.command.Command.TheVariants.{Deliver, Remove}
+use Rattle.arch_model.specs.declared.command.Command.TheVariants.{Deliver, Remove, Purge, Edit}
 use Rattle.arch_model.specs.declared.answer.Answer.{Answer}
 use Rattle.arch_model.specs.declared.answer.Answer.TheVariants as answer
 
@@ -107,10 +107,66 @@ removed a number moment =
     if a.config.mirror then refused a answer.IsMirror
     else removed_text a number moment (text_of (live a.entries) number)
 
+-- The entries with this text are dropped, or the number has no message.
+abbrev pub purged_text : Archive → ℕ → Option (List ℕ) → Done
+purged_text a number None = refused a (answer.NoText number)
+purged_text a number (Some text) = record {
+  archive = without_entries a text;
+  answer = answer.Ok number (blob_id_of text);
+}
+
+-- The purge of a number. A mirror takes none. It drops each entry with the text of the number's
+-- message, live or not, whatever the entry's own number.
+abbrev pub purged : Archive → ℕ → Done
+purged a number =
+    if a.config.mirror then refused a answer.IsMirror
+    else purged_text a number (text_of (messages a.entries) number)
+
+-- The answer is that a command was carried out.
+abbrev pub is_accepted : Answer → Bool
+is_accepted (answer.Ok number id) = true
+is_accepted (answer.Duplicate number) = false
+is_accepted answer.NoFields = false
+is_accepted (answer.TooLarge len) = false
+is_accepted (answer.Full max) = false
+is_accepted (answer.Collision number) = false
+is_accepted (answer.NotLive number) = false
+is_accepted (answer.NoText number) = false
+is_accepted answer.IsMirror = false
+is_accepted answer.DiskFault = false
+is_accepted (answer.Damaged file offset) = false
+is_accepted answer.NoMemory = false
+
+-- What was done on another archive, if that was accepted. A refusal leaves this archive unchanged.
+abbrev pub unless_refused : Archive → Done → Done
+unless_refused a done = if is_accepted done.answer then done else refused a done.answer
+
+-- The storage form of bytes is this text.
+abbrev pub is_form : List ℕ → Result (List ℕ) StoredRefusal → Bool
+is_form text (Ok form) = bytes_eq form text
+is_form text (Err why) = false
+
+-- The live message with this text is purged and the bytes are delivered on the archive without it, as
+-- one command; or the number is not live. If the storage form of the bytes is the text itself, the
+-- message is the same.
+abbrev pub edited_text : Archive → ℕ → List ℕ → ℕ → Option (List ℕ) → Done
+edited_text a number bytes moment None = refused a (answer.NotLive number)
+edited_text a number bytes moment (Some text) =
+    if is_form text (stored bytes) then refused a (answer.Duplicate number)
+    else unless_refused a (delivered (without_entries a text) bytes moment)
+
+-- The edit of a number at a moment. A mirror takes none.
+abbrev pub edited : Archive → ℕ → List ℕ → ℕ → Done
+edited a number bytes moment =
+    if a.config.mirror then refused a answer.IsMirror
+    else edited_text a number bytes moment (text_of (live a.entries) number)
+
 -- A command at a moment.
 abbrev pub applied : Archive → Command → ℕ → Done
 applied a (Deliver bytes) moment = delivered a bytes.now moment
 applied a (Remove number) moment = removed a number moment
+applied a (Purge number) moment = purged a number
+applied a (Edit number bytes) moment = edited a number bytes.now moment
 
 -- The answer of a call and the archive after it are what is wanted. `NoMemory` leaves the archive
 -- unchanged. An archive without a disk never answers that the disk failed or that a file is

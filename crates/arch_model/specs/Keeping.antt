@@ -1,5 +1,5 @@
 -- What the calls of a keeper leave and answer, and what crashes leave of it.
-use Rattle.std.specs.Prelude.{◌≡◌, ◌⊎◌, ℕ, Bool, true, false, List, [], ◌∷◌, Option, Some, None, is_some, Result, Ok, Err}
+use Rattle.std.specs.Prelude.{◌≡◌, ◌⊎◌, ◌≤◌, ℕ, Bool, true, false, List, [], ◌∷◌, Option, Some, None, is_some, Result, Ok, Err}
 use Rattle.std.specs.List.{Contains}
 use Rattle.arch_base.specs.Counts.{Rose}
 use Rattle.mail_reader.specs.Stored.{stored}
@@ -10,11 +10,12 @@ use Rattle.disk_model.specs.declared.name.FileName.{FileName}
 use Rattle.arch_model.specs.Archives.{Entry, Archive, blob_number}
 use Rattle.arch_model.specs.Candidates.{choice_of}
 use Rattle.arch_model.specs.Delivery.{Done}
+use Rattle.arch_model.specs.Shelves.{ReadsOnce}
 use Rattle.arch_model.specs.Standing.{Standing, standing, IsFound}
 use Rattle.arch_model.specs.declared.choice.Choice.{Choice}
 use Rattle.arch_model.specs.declared.choice.Choice.TheVariants.{Take, Repeat}
 use Rattle.arch_model.specs.declared.command.Command.{Command}
-use Rattle.arch_model.specs.declared.command.Command.TheVariants.{Deliver, Remove}
+use Rattle.arch_model.specs.declared.command.Command.TheVariants.{Deliver, Remove, Purge, Edit}
 use Rattle.arch_model.specs.declared.answer.Answer.{Answer}
 use Rattle.arch_model.specs.declared.answer.Answer.TheVariants as answer
 use Rattle.arch_model.specs.declared.opening.OpenRefusal.{OpenRefusal}
@@ -199,7 +200,18 @@ abbrev pub form_known : Archive → Result (List ℕ) StoredRefusal → Bool
 form_known a (Ok text) = keeps_known a.entries (choice_of a text)
 form_known a (Err why) = false
 
--- An entry has the blob id of the text of a command: the new text, or the one that is removed.
+-- A delivery and a removal read the disk at most once. Nothing bounds how often a purge and an edit
+-- read it: they read what they write anew.
+abbrev pub ReadsFor : Command → ℕ → ℕ → Type 0
+ReadsFor (Deliver bytes) before now = ReadsOnce before now
+ReadsFor (Remove number) before now = ReadsOnce before now
+ReadsFor (Purge number) before now = before ≤ now
+ReadsFor (Edit number bytes) before now = before ≤ now
+
+-- An entry has the blob id of the text of a command: the new text of a delivery, or the one that is
+-- removed, purged or edited.
 abbrev pub text_known : Archive → Command → Bool
 text_known a (Deliver bytes) = form_known a (stored bytes.now)
 text_known a (Remove number) = true
+text_known a (Purge number) = true
+text_known a (Edit number bytes) = true

@@ -1,14 +1,14 @@
--- The laws of deliveries and removals.
-use Rattle.std.specs.Prelude.{◌≡◌, ◌≢◌, ◌<◌, ◌≤◌, ◌^◌, ℕ, zero, suc, List, Option, Some, None, IsSome, Result, Ok, length}
+-- The laws of commands.
+use Rattle.std.specs.Prelude.{◌≡◌, ◌≢◌, ◌<◌, ◌≤◌, ◌^◌, ℕ, false, zero, suc, List, Option, Some, None, IsSome, Result, Ok, length}
 use Rattle.arch_base.specs.declared.ids.Id20.{Id20}
 use Rattle.arch_base.specs.Names.{IsName}
 use Rattle.mail_reader.specs.StorageTexts.{IsStorageText}
 use Rattle.mail_reader.specs.Stored.{stored}
 use Rattle.mail_reader.specs.Ids.{own_id}
 use Rattle.mail_reader.specs.Content.{content_id_of}
-use Rattle.arch_model.specs.Archives.{Archive, owner, live, text_of}
+use Rattle.arch_model.specs.Archives.{Archive, without_entries, owner, live, messages, text_of}
 use Rattle.arch_model.specs.Candidates.{made_id, with_made, met, choice_of}
-use Rattle.arch_model.specs.Delivery.{delivered, removed, applied}
+use Rattle.arch_model.specs.Delivery.{delivered, removed, purged, is_accepted, edited, applied}
 use Rattle.arch_model.specs.Following.{Follows}
 use Rattle.arch_model.specs.Validity.{IsArchive}
 use Rattle.arch_model.specs.Standing.{Standing, standing}
@@ -43,10 +43,29 @@ TakesFromView = (a : Archive) (number moment : ℕ)
     × ((id : Id20) → (removed a number moment).answer ≡ answer.Ok number id
     → text_of (live (removed a number moment).archive.entries) number ≡ None)
 
--- A command leaves each live number below the next one.
+-- After a command on a valid archive each live number is below the next one.
 abbrev pub StaysNumbered : Type 0
-StaysNumbered = (a : Archive) (command : Command) (moment : ℕ) → 1 ≤ a.next → IsNumbered a
+StaysNumbered = (a : Archive) (command : Command) (moment : ℕ) → IsArchive a
     → (1 ≤ (applied a command moment).archive.next) × IsNumbered (applied a command moment).archive
+
+-- A purge that is accepted leaves no entry with the text of its number, and leaves every other entry
+-- as it was, in order. Any other purge leaves the archive unchanged.
+abbrev pub DropsText : Type 0
+DropsText = (a : Archive) (number : ℕ)
+    → ((n : ℕ) (id : Id20) → (purged a number).answer ≡ answer.Ok n id →
+    (text : List ℕ) × (text_of (messages a.entries) number ≡ Some text)
+    × ((purged a number).archive ≡ without_entries a text))
+    × (is_accepted (purged a number).answer ≡ false → (purged a number).archive ≡ a)
+
+-- An edit that is accepted is the delivery on the archive without the text of its number. Any other
+-- edit leaves the archive unchanged.
+abbrev pub EditsWhole : Type 0
+EditsWhole = (a : Archive) (number moment : ℕ) (bytes : List ℕ)
+    → ((n : ℕ) (id : Id20) → (edited a number bytes moment).answer ≡ answer.Ok n id →
+    (text : List ℕ) × (text_of (live a.entries) number ≡ Some text)
+    × (edited a number bytes moment ≡ delivered (without_entries a text) bytes moment))
+    × (is_accepted (edited a number bytes moment).answer ≡ false
+    → (edited a number bytes moment).archive ≡ a)
 
 -- The storage form of bytes is a storage text if it has an own id, and it is one with a made id at
 -- the front.
@@ -61,7 +80,8 @@ abbrev pub KeepsValid : Type 0
 KeepsValid = (a : Archive) (command : Command) (moment : ℕ) → moment ≤ last_moment → IsArchive a
     → IsArchive (applied a command moment).archive
 
--- The archive after a command follows the one before it.
+-- The archive after a command follows the one before it: over all commands, a number that named a text
+-- never names another one, nor comes back once it was purged.
 abbrev pub CommandFollows : Type 0
 CommandFollows = (a : Archive) (command : Command) (moment : ℕ)
     → Follows a (applied a command moment).archive

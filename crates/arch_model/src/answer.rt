@@ -9,7 +9,8 @@ use disk_model::FileName;
 /// the archive unchanged.
 #[derive(Clone, Copy, Debug, PartialEq, Eq, Drop)]
 pub enum Answer {
-    /// The message was kept with this number, or it was removed. Its text has this blob id.
+    /// The message was kept with this number, or it was removed or purged. Its text has this blob
+    /// id.
     Ok {
         number: u32,
         id: ObjectId,
@@ -26,7 +27,7 @@ pub enum Answer {
     Collision(u32),
     /// This number is not live.
     NotLive(u32),
-    /// This number has no text.
+    /// No entry is the message with this number, live or not.
     NoText(u32),
     /// The archive mirrors another one, and takes no commands.
     IsMirror,

@@ -4,7 +4,7 @@ ghost use Rattle.std.specs.List.{Contains};
 ghost use Rattle.arch_base.specs.Moments.{last_moment};
 ghost use Rattle.arch_model.specs.Archives.{Archive, in_epoch, live};
 ghost use Rattle.arch_model.specs.Delivery.{applied};
-ghost use Rattle.arch_model.specs.Keeping.{Passes, Fits, Moves, OnlyRead, Reopens, Comes, StaysReady, AnswerCause, OpeningCause, text_known};
+ghost use Rattle.arch_model.specs.Keeping.{Passes, Fits, Moves, OnlyRead, Reopens, Comes, StaysReady, AnswerCause, OpeningCause, ReadsFor, text_known};
 ghost use Rattle.arch_model.specs.Shelves.{AppendsTo, Stays, ReadCause, ReadsOnce};
 ghost use Rattle.arch_model.specs.Standing.{Standing, GivesEpochIn, KeepsUnlessFound};
 
@@ -74,8 +74,8 @@ pub trait Keep: Shelf {
     /// an allocation fails, or `DiskFault` if the disk failed and the count of faults rose. Any other
     /// answer leaves the count. A refusal to reopen leaves all as it was. After any other `DiskFault`
     /// the command is in doubt. A crash leaves an archive of the standing before the call or of the
-    /// one after it. A ready keeper reads the disk at most once, and not at all at a delivery of no
-    /// text or of one with a blob id that no entry has.
+    /// one after it. At a delivery and a removal a ready keeper reads the disk at most once, and not
+    /// at all at a delivery of no text or of one with a blob id that no entry has.
     fn command(&mut self, command: &Command<'_>, moment: u64) -> Answer
         requires moment { moment ≤ last_moment }
         ensures done { (s : Standing) → Fits Self.holds Self.ready leaves self.old s
@@ -85,7 +85,7 @@ pub trait Keep: Shelf {
         ensures later { Self.faults self.old ≤ Self.faults self.new }
         ensures cause { AnswerCause (Self.faults self.old) (Self.faults self.new) result }
         ensures reads { Self.ready self.old ≡ true
-            → ReadsOnce (Self.reads self.old) (Self.reads self.new) }
+            → ReadsFor command.now (Self.reads self.old) (Self.reads self.new) }
         ensures unread { (a : Archive) → Self.holds self.old a → Self.ready self.old ≡ true
             → text_known a command.now ≡ false → Self.reads self.new ≡ Self.reads self.old };
 

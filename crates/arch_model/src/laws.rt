@@ -1,8 +1,8 @@
 //! The laws of commands, for every archive, message and moment, of archives that follow one another,
 //! and of epochs that grow.
 ghost use Rattle.arch_model.specs.Epochs.{EpochGrows};
-ghost use Rattle.arch_model.specs.Following.{FollowsItself, FollowsThrough, FollowsWithEntry, FollowsWithDeletion, NumbersStay, ShownStay};
-ghost use Rattle.arch_model.specs.Laws.{CommandFollows, FirstDecides, KeepsNumbers, KeepsValid, ReindexStays, StaysNumbered, ShowsDelivered, TakenAreStorage, TakesFromView};
+ghost use Rattle.arch_model.specs.Following.{FollowsItself, FollowsThrough, FollowsWithEntry, FollowsWithDeletion, FollowsWithoutText, NumbersStay, ShownStay};
+ghost use Rattle.arch_model.specs.Laws.{CommandFollows, DropsText, EditsWhole, FirstDecides, KeepsNumbers, KeepsValid, ReindexStays, StaysNumbered, ShowsDelivered, TakenAreStorage, TakesFromView};
 
 use mail_reader::{field_in_front, forms_are_short, id_line_is_kept, stored_once};
 
@@ -13,12 +13,16 @@ pub fn numbers_keep_their_texts()
     ensures removed { TakesFromView }
 {}
 
-/// Shows that a command leaves each live number below the next number.
-///
-/// If the next number is at least 1, and each live number is at least 1 and below it, a command
-/// leaves this so.
+/// Shows that after a command on a valid archive each live number is below the next number.
 pub fn numbers_stay_below_the_next()
     ensures { StaysNumbered }
+{}
+
+/// Shows that a purge drops the entries of a text and nothing else, that an edit is a purge and a
+/// delivery, and that one that is refused leaves the archive unchanged.
+pub fn purges_and_edits_are_whole()
+    ensures purged { DropsText }
+    ensures edited { EditsWhole }
 {}
 
 /// Shows that the number of an accepted message has the text that the candidates for its id decided
@@ -36,14 +40,16 @@ pub fn first_candidate_decides()
 
 /// Shows that no number of an archive ever names a second message.
 ///
-/// An archive with one more message follows, and so does one with one more deletion. What follows has
-/// under an old number the same text, or none, and shows the same text, or none.
+/// An archive with one more message follows, so does one with one more deletion, and so does one
+/// without the entries of a text. What follows has under an old number the same text, or none,
+/// and shows the same text, or none.
 #[tactic(auto, using(crate::proofs::Following::follows_itself, crate::proofs::Following::follows_through))]
 pub fn law_of_numbers()
     ensures itself { FollowsItself }
     ensures through { FollowsThrough }
     ensures with_entry { FollowsWithEntry }
     ensures with_deletion { FollowsWithDeletion }
+    ensures without_text { FollowsWithoutText }
     ensures stay { NumbersStay }
     ensures shown { ShownStay }
 {}
