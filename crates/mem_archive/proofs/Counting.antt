@@ -1,5 +1,5 @@
 -- How many live messages the archive in memory has.
-use Rattle.std.specs.Prelude.{◌≡◌, ◌+◌, ◌<◌, ◌≤◌, ◌&&◌, ℕ, Bool, true, false, nat_le, List, [], ◌∷◌, length, min, if◌then◌else◌, refl}
+use Rattle.std.specs.Prelude.{◌≡◌, ◌+◌, ◌<◌, ◌≤◌, ◌&&◌, ℕ, Bool, true, false, nat_le, List, [], ◌∷◌, Option, length, min, if◌then◌else◌, refl}
 use Rattle.std.specs.List.{AllByRecursion, filter}
 use Rattle.std.proofs.Common.{subst, arith}
 use Rattle.std.proofs.lemmas.Bool.Decides.{nat_tests}
@@ -37,7 +37,7 @@ all_between (e ∷ es) next most below =
     keep_step (nat_le 0 e.number && nat_le e.number 4294967295) e (filter (is_between 0 4294967295) es) es hit (all_between es next most below.1)
 
 -- So they are counted with 32 bits.
-pub counted : (config : Config) (ks : List Kept) (places : List Place) (index : Index) (end_ : End) (a : Archive) → archive_of config ks places ≡ a → IsKept config ks places index end_ → min (live_between (live a.entries) 0 4294967295) 4294967295 ≡ length (live a.entries)
+pub counted : (config : Config) (ks : List Kept) (places : List (Option Place)) (index : Index) (end_ : End) (a : Archive) → archive_of config ks places ≡ a → IsKept config ks places index end_ → min (live_between (live a.entries) 0 4294967295) 4294967295 ≡ length (live a.entries)
 counted config ks places index end_ a is kept =
     subst (λ (b : Archive). min (live_between (live b.entries) 0 4294967295) 4294967295 ≡ length (live b.entries)) is
     (let all = all_between (live (entries_of ks)) (length places + 1) small shown in let bound = few 1 (length places + 1) (live (entries_of ks)) (omega arith) (live-ascend 1 0 (entries_of ks) kept.order) shown in omega (arith, all, bound, small))

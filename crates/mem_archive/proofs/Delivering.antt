@@ -6,7 +6,7 @@ use Rattle.arch_base.specs.declared.ids.Id20.{Id20}
 use Rattle.mail_reader.specs.Ids.{own_id}
 use Rattle.git_objects.specs.Objects.{blob_id_of}
 use Rattle.arch_model.specs.Archives.{Archive, live, messages, text_of, owner, blob_number, with_deletion, IsFree}
-use Rattle.arch_model.specs.Delivery.{Delivers, delivered, delivered_kept, removed, removed_text, refused, collision, new_epoch}
+use Rattle.arch_model.specs.Delivery.{Done, Delivers, delivered, delivered_kept, removed, removed_text, purged, purged_text, edited, edited_text, unless_refused, refused, collision, new_epoch}
 use Rattle.arch_model.specs.Shelves.{blob_text}
 use Rattle.arch_model.specs.Validity.{BlobsAgree}
 use Rattle.arch_model.proofs.Owners.{bytes_eq-refl, collision-alone, collision-first}
@@ -26,11 +26,11 @@ use Rattle.mem_archive.specs.declared.kept.Kept.{Kept}
 use Rattle.mem_archive.specs.declared.kept.Place.{Place}
 use Rattle.mem_archive.proofs.Lines.{length-entries_of, blob_in-some}
 
-some-of : {X : Type 0} (o : Option X) → IsSome o → (x : X) × (o ≡ Some x)
+pub some-of : {X : Type 0} (o : Option X) → IsSome o → (x : X) × (o ≡ Some x)
 some-of None some = absurd (let wrong : false ≡ true = some in cc)
 some-of (Some x) some = (x, refl)
 
-module _ (config : Config) (ks : List Kept) (places : List Place) (index : Index) (end_ : End) (a : Archive) (is : archive_of config ks places ≡ a) (kept : IsKept config ks places index end_) where
+module _ (config : Config) (ks : List Kept) (places : List (Option Place)) (index : Index) (end_ : End) (a : Archive) (is : archive_of config ks places ≡ a) (kept : IsKept config ks places index end_) where
   config_is : a.config ≡ config
   config_is = sym (ap (λ (b : Archive). b.config) is)
 
@@ -104,6 +104,17 @@ removed-some a new number moment text read id writable is id_is read_is new_is =
     by_text a number moment (Some text) writable is
     ∙ ap (λ (b : Archive). record { archive = b; answer = answer.Ok number (blob_id_of text) }) (sym new_is)
     ∙ ap (λ (i : Id20). record { archive = new; answer = answer.Ok number i }) (sym (id_is ∙ ap blob_id_of read_is))
+
+-- The answer of a mirror to a purge, and to an edit.
+pub purged-mirror : (a : Archive) (number : ℕ) → a.config.mirror ≡ true → purged a number ≡ record { archive = a; answer = answer.IsMirror }
+purged-mirror a number mirror = ap (λ (t : Bool). if t then refused a answer.IsMirror else purged_text a number (text_of (messages a.entries) number)) mirror
+
+pub edited-mirror : (a : Archive) (number : ℕ) (bytes : List ℕ) (moment : ℕ) → a.config.mirror ≡ true → edited a number bytes moment ≡ record { archive = a; answer = answer.IsMirror }
+edited-mirror a number bytes moment mirror = ap (λ (t : Bool). if t then refused a answer.IsMirror else edited_text a number bytes moment (text_of (live a.entries) number)) mirror
+
+-- What was done on another archive counts if it was accepted.
+pub unless-ok : (a other new : Archive) (number : ℕ) (id : Id20) (done : Done) → Delivers other (answer.Ok number id) new done → Delivers a (answer.Ok number id) new (unless_refused a done)
+unless-ok a other new number id done is = ap (unless_refused a) is
 
 -- A refusal is delivered as it is.
 pub refuses : (a : Archive) (bytes : List ℕ) (moment : ℕ) (reply : Answer) → RefusesBy a bytes reply → Delivers a reply a (delivered a bytes moment)

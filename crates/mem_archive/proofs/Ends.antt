@@ -1,5 +1,5 @@
 -- The end of an archive, after one more entry.
-use Rattle.std.proofs.Common.{◌≡◌, ◌+◌, ◌-◌, ◌≤◌, ◌<◌, ◌==◌, ◌||◌, nat_lt, ℕ, Bool, true, false, List, [], ◌∷◌, ◌++◌, length, Option, Some, None, refl, sym, ◌∙◌, ap, arith, length-append, if◌then◌else◌}
+use Rattle.std.proofs.Common.{◌≡◌, ◌+◌, ◌-◌, ◌≤◌, ◌<◌, ◌==◌, ◌||◌, nat_lt, ℕ, Bool, true, false, List, [], ◌∷◌, ◌++◌, length, Option, Some, None, refl, sym, ◌∙◌, ap, subst, arith, length-append, if◌then◌else◌}
 use Rattle.std.proofs.lemmas.List.{append-nil, append_assoc}
 use Rattle.std.proofs.lemmas.List.Elements.{filter-append}
 use Rattle.std.proofs.lemmas.Bool.Decides.{nat_tests}
@@ -8,7 +8,7 @@ use Rattle.arch_model.specs.Archives.{Entry, Archive, in_epoch}
 use Rattle.arch_model.specs.Delivery.{last_epoch, greater, takes_more, new_epoch}
 use Rattle.arch_model.specs.Epochs.{epoch_bytes, entries_bytes, last_commit}
 use Rattle.mail_commits.specs.Entries.{entry_bytes, commit_id, magic}
-use Rattle.mem_archive.specs.Memory.{IsEnd, end_for_new, end_after, front_bytes}
+use Rattle.mem_archive.specs.Memory.{IsEnd, IsEndAfter, end_for_new, end_in_epoch, end_after, front_bytes}
 use Rattle.mem_archive.specs.declared.kept.End.{End}
 use Rattle.arch_model.proofs.EpochLemmas.{entries_bytes-push, last_commit-push}
 
@@ -43,7 +43,7 @@ greater_low m n k h = by_test (nat_lt m n) refl h where
   by_test true is h = (let less : m < n = grind (arith, nat_tests, is) in omega (arith, less, h), h)
   by_test false is h = (h, let less : n ≤ m = grind (arith, nat_tests, is) in omega (arith, less, h))
 
-greater_end : (m n : ℕ) → m ≤ n → greater m n ≡ n
+pub greater_end : (m n : ℕ) → m ≤ n → greater m n ≡ n
 greater_end m n h = by_test (nat_lt m n) refl where
   by_test : (t : Bool) → nat_lt m n ≡ t → (if t then n else m) ≡ n
   by_test true is = refl
@@ -86,21 +86,26 @@ IsEnd-push limit es e end_ is at =
 abbrev pub NewEnd : ℕ → List Entry → ℕ → End → Type 0
 NewEnd limit es epoch end_ = IsEnd limit es end_ × (end_.epoch ≡ epoch) × (last_epoch es ≤ end_.epoch)
 
+-- A new epoch has no entry.
+new_end : (limit epoch : ℕ) (es : List Entry) → last_epoch es < epoch → epoch ≤ 63 → NewEnd limit es epoch (record { epoch = epoch; room = limit; parent = None })
+new_end limit epoch es later small =
+    let none : in_epoch es epoch ≡ [] = none_above es epoch later in (
+      record {
+        room = let all : limit ≡ limit - 0 = omega arith in all ∙ sym (ap (λ (xs : List Entry). limit - length (epoch_bytes xs)) none);
+        parent = sym (ap (last_commit None) none);
+        small = small;
+      },
+      refl,
+      omega (arith, later),
+    )
+
 new_step : (limit len : ℕ) (es : List Entry) (end_ : End) (t u : Bool) → IsEnd limit es end_ → end_.epoch ≡ last_epoch es → t ≡ u → (t ≡ false → end_.epoch < 63)
     → NewEnd limit es (if u then last_epoch es else last_epoch es + 1) (if t then end_ else record { epoch = end_.epoch + 1; room = limit; parent = None })
 new_step limit len es end_ true true is last same below = (is, last, omega (arith, last))
 new_step limit len es end_ true false is last same below = absurd (cc)
 new_step limit len es end_ false true is last same below = absurd (cc)
 new_step limit len es end_ false false is last same below =
-    let none : in_epoch es (end_.epoch + 1) ≡ [] = none_above es (end_.epoch + 1) (omega (arith, last)) in (
-      record {
-        room = let all : limit ≡ limit - 0 = omega arith in all ∙ sym (ap (λ (xs : List Entry). limit - length (epoch_bytes xs)) none);
-        parent = sym (ap (last_commit None) none);
-        small = omega (arith, below refl);
-      },
-      omega (arith, last),
-      omega (arith, last),
-    )
+    subst (λ (n : ℕ). NewEnd limit es (n + 1) (record { epoch = end_.epoch + 1; room = limit; parent = None })) last (new_end limit (end_.epoch + 1) es (omega (arith, last)) (omega (arith, below refl)))
 
 pub IsEnd-new : (a : Archive) (end_ : End) → IsEnd a.config.limit a.entries end_ → end_.epoch ≡ last_epoch a.entries → NewEnd a.config.limit a.entries (new_epoch a) (end_for_new a.config.limit end_)
 IsEnd-new a end_ is last =
@@ -112,3 +117,25 @@ IsEnd-new a end_ is last =
   where
     below : (k : ℕ) (t : Bool) → k ≤ 63 → (k == 63 || t) ≡ false → k < 63
     below k t small closed = grind (arith, nat_tests, small, closed)
+
+-- The end to which an entry of an epoch is appended that isn't before the last one.
+in_step : (limit epoch : ℕ) (es : List Entry) (end_ : End) (t : Bool) → (end_.epoch == epoch) ≡ t → IsEnd limit es end_ → end_.epoch ≡ last_epoch es → last_epoch es ≤ epoch → epoch ≤ 63 → NewEnd limit es epoch (if t then end_ else record { epoch = epoch; room = limit; parent = None })
+in_step limit epoch es end_ true test is last low small = (is, grind (arith, nat_tests, test), omega (arith, last))
+in_step limit epoch es end_ false test is last low small = new_end limit epoch es (grind (arith, nat_tests, test, last, low)) small
+
+pub IsEnd-in : (limit epoch : ℕ) (es : List Entry) (end_ : End) → IsEnd limit es end_ → end_.epoch ≡ last_epoch es → last_epoch es ≤ epoch → epoch ≤ 63 → NewEnd limit es epoch (end_in_epoch epoch limit end_)
+IsEnd-in limit epoch es end_ is last low small = in_step limit epoch es end_ (end_.epoch == epoch) refl is last low small
+
+only : {X : Type 0} (x y : X) → Some x ≡ Some y → x ≡ y
+only x y is = cc
+
+-- The end and the commit after an entry that is appended there.
+pub end-after : (a : Archive) (e : Entry) (begin next : End) (commit : Id20) → NewEnd a.config.limit a.entries e.epoch begin → next ≡ end_after begin e.kind e.text e.moment → next.parent ≡ Some commit → IsEndAfter a e commit next
+end-after a e begin next commit new next_is commit_is =
+    let parent : begin.parent ≡ last_commit None (in_epoch a.entries e.epoch) = new.0.parent ∙ ap (λ (n : ℕ). last_commit None (in_epoch a.entries n)) new.1 in
+    let some : Some commit ≡ Some (commit_id e.kind e.text e.moment begin.parent) = sym commit_is ∙ ap (λ (n : End). n.parent) next_is in
+    record {
+      ends = subst (λ (n : End). IsEnd a.config.limit (a.entries ++ e ∷ []) n) (sym next_is) (IsEnd-push a.config.limit a.entries e begin new.0 (sym new.1));
+      epoch = ap (λ (n : End). n.epoch) next_is ∙ new.1;
+      commit_is = only commit (commit_id e.kind e.text e.moment begin.parent) some ∙ ap (commit_id e.kind e.text e.moment) parent;
+    }

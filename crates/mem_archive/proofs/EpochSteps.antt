@@ -67,7 +67,7 @@ take-whole (x ∷ items) zero l = absurd (omega arith)
 take-whole (x ∷ items) (suc i) l = ap (λ ks. x ∷ ks) (take-whole items i (omega arith))
 
 -- All entries are appended.
-pub pushed-all : (a : Archive) (config : Config) (items : List Kept) (places : List Place) (epoch : ℕ) (old : List ℕ) (i : ℕ) (into : List ℕ) (parent : Option Id20) → archive_of config items places ≡ a → length items ≤ i → HasPushed items epoch old i into parent
+pub pushed-all : (a : Archive) (config : Config) (items : List Kept) (places : List (Option Place)) (epoch : ℕ) (old : List ℕ) (i : ℕ) (into : List ℕ) (parent : Option Id20) → archive_of config items places ≡ a → length items ≤ i → HasPushed items epoch old i into parent
     → (into ≡ old ++ epoch_bytes (in_epoch a.entries epoch)) × (is_some parent ≡ has_entry (in_epoch a.entries epoch))
 pushed-all a config items places epoch old i into parent is whole has =
     let all : of_first items i epoch ≡ in_epoch a.entries epoch = ap (λ (ks : List Kept). in_epoch (entries_of ks) epoch) (take-whole items i whole) ∙ ap (λ (b : Archive). in_epoch b.entries epoch) is in

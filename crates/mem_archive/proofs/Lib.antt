@@ -3,6 +3,8 @@ mod Places
 mod Numbers
 mod Ends
 mod Keeping
+mod Appending
+mod Copying
 mod EpochSteps
 mod Delivering
 mod Commanding

@@ -1,6 +1,7 @@
 -- Kept entries without their texts, and their texts by blob ids.
 use Rattle.std.proofs.Common.{◌≡◌, ◌<◌, ◌≤◌, ℕ, zero, suc, List, [], ◌∷◌, ◌++◌, length, get_or, slice_get, Option, Some, None, refl, sym, ap, ◌∙◌, arith}
 use Rattle.arch_base.specs.declared.config.Config.{Config}
+use Rattle.git_objects.specs.declared.entry_kind.EntryKind.{EntryKind}
 use Rattle.arch_model.specs.Archives.{Archive, Entry, messages, text_of, blob_number}
 use Rattle.arch_model.specs.Shelves.{line_at, blob_text}
 use Rattle.arch_model.specs.declared.line.EntryLine.{EntryLine}
@@ -16,6 +17,10 @@ use Rattle.mem_archive.specs.declared.kept.Place.{Place}
 pub entries_of-push : (ks : List Kept) (k : Kept) → entries_of (ks ++ k ∷ []) ≡ entries_of ks ++ entry_of k ∷ []
 entries_of-push [] k = refl
 entries_of-push (x ∷ ks) k = ap (λ (es : List Entry). entry_of x ∷ es) (entries_of-push ks k)
+
+-- The entry of a kind.
+pub of-kind : (k : Kept) (kind : EntryKind) → k.kind ≡ kind → entry_of k ≡ record { kind = kind; number = k.number; epoch = k.epoch; text = k.text; moment = k.moment }
+of-kind k kind is = ap (λ (l : EntryKind). record { kind = l; number = k.number; epoch = k.epoch; text = k.text; moment = k.moment }) is
 
 pub length-entries_of : (ks : List Kept) → length (entries_of ks) ≡ length ks
 length-entries_of [] = refl
@@ -37,7 +42,7 @@ lines_of-past i [] h = refl
 lines_of-past zero (x ∷ ks) h = absurd (omega arith)
 lines_of-past (suc i) (x ∷ ks) h = lines_of-past i ks (omega arith)
 
-module _ (config : Config) (ks : List Kept) (places : List Place) (index : Index) (end_ : End) (a : Archive) (is : archive_of config ks places ≡ a) (kept : IsKept config ks places index end_) where
+module _ (config : Config) (ks : List Kept) (places : List (Option Place)) (index : Index) (end_ : End) (a : Archive) (is : archive_of config ks places ≡ a) (kept : IsKept config ks places index end_) where
   same_lines : (i : ℕ) → slice_get (lines_of ks) i ≡ line_at a.entries i
   same_lines i = ap (λ (ls : List EntryLine). slice_get ls i) kept.lines ∙ ap (λ (b : Archive). line_at b.entries i) is
 

@@ -26,7 +26,7 @@ by_owner : (found : Option Entry) (held : Option Owner) → held ≡ option_map 
 by_owner None held is = ap (option_map (λ (o : Owner). o.number)) is
 by_owner (Some e) held is = ap (option_map (λ (o : Owner). o.number)) is
 
-module _ (config : Config) (ks : List Kept) (places : List Place) (index : Index) (end_ : End) (a : Archive) (is : archive_of config ks places ≡ a) (kept : IsKept config ks places index end_) (id : List ℕ) where
+module _ (config : Config) (ks : List Kept) (places : List (Option Place)) (index : Index) (end_ : End) (a : Archive) (is : archive_of config ks places ≡ a) (kept : IsKept config ks places index end_) (id : List ℕ) where
   held : option_map (λ (o : Owner). o.number) (owner_in index.owners id) ≡ number_of_id (live a.entries) id
   held =
       by_owner (owner (live (entries_of ks)) id) (owner_in index.owners id) (kept.indexed.owners id)

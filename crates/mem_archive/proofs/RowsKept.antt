@@ -1,10 +1,9 @@
 -- The views of the archive in memory after one more entry.
-use Rattle.std.specs.Prelude.{◌≡◌, ◌==◌, ◌+◌, ◌<◌, ◌≤◌, ℕ, Bool, true, false, List, [], ◌∷◌, ◌++◌, length, Some, None, refl, if◌then◌else◌}
+use Rattle.std.specs.Prelude.{◌≡◌, ◌==◌, ◌+◌, ◌<◌, ◌≤◌, ℕ, Bool, true, false, List, [], ◌∷◌, ◌++◌, Option, length, Some, None, refl, if◌then◌else◌}
 use Rattle.std.specs.List.{AllByRecursion}
 use Rattle.std.proofs.Common.{◌∙◌, sym, ap, subst, arith}
 use Rattle.std.proofs.lemmas.Bool.{eqb-true}
 use Rattle.arch_base.specs.declared.config.Config.{Config}
-use Rattle.arch_base.specs.declared.ids.Id20.{Id20}
 use Rattle.git_objects.specs.declared.entry_kind.EntryKind.TheVariants.{Message}
 use Rattle.mime_parts.specs.Words.{mail_words}
 use Rattle.arch_model.specs.Archives.{Archive, Entry, message, deletion, live}
@@ -24,11 +23,11 @@ use Rattle.view_set.proofs.MailLists.{mails-added, mails-taken, mail-back, are-w
 use Rattle.view_set.proofs.Searching.{searched-is}
 use Rattle.arch_model.specs.Searching.{search}
 use Rattle.query_lang.specs.declared.query.Query.{Query}
-use Rattle.mem_archive.specs.Memory.{archive_of, entries_of, IsKept, IsUpTo}
+use Rattle.mem_archive.specs.Memory.{archive_of, entry_of, entries_of, IsKept, IsUpTo}
 use Rattle.mem_archive.specs.declared.kept.End.{End}
 use Rattle.mem_archive.specs.declared.kept.Kept.{Kept}
 use Rattle.mem_archive.specs.declared.kept.Place.{Place}
-use Rattle.mem_archive.proofs.Lines.{entries_of-push}
+use Rattle.mem_archive.proofs.Lines.{entries_of-push, of-kind}
 
 -- A number above those of all messages has no row.
 other_front : (m n : ℕ) → m < n → (m == n) ≡ false
@@ -65,16 +64,17 @@ views-deletion es more n epoch text moment old new more_is rise old_is new_is =
 
 -- The same of what is kept, with the number that was made for the message. Where it is not kept, all
 -- is as before.
-module _ (config : Config) (ks : List Kept) (places : List Place) (index : Index) (end_ : End) (a : Archive) (is : archive_of config ks places ≡ a) (kept : IsKept config ks places index end_) (views : Viewed) (views_are : views ≡ views_of (live (entries_of ks))) (number : ℕ) (number_is : number ≡ a.next) (read : List ℕ) (moment : ℕ) (mid : Viewed) (mid_is : mid ≡ with_mail views (row_of number read moment) (mail_words read)) where
+module _ (config : Config) (ks : List Kept) (places : List (Option Place)) (index : Index) (end_ : End) (a : Archive) (is : archive_of config ks places ≡ a) (kept : IsKept config ks places index end_) (views : Viewed) (views_are : views ≡ views_of (live (entries_of ks))) (number : ℕ) (number_is : number ≡ a.next) (read : List ℕ) (moment : ℕ) (mid : Viewed) (mid_is : mid ≡ with_mail views (row_of number read moment) (mail_words read)) where
   last : number ≡ length places + 1
   last = number_is ∙ ap (λ (b : Archive). b.next) (sym is)
 
   below : AllByRecursion (λ (e : Entry). e.number < number) (entries_of ks)
   below = all_weaker (IsUpTo (length places)) (λ (e : Entry). e.number < number) (entries_of ks) (λ e up. let most = up.1 in omega (arith, most, last)) kept.numbered
 
-  pub row-kept : (epoch : ℕ) (text : List ℕ) (commit : Id20) → read ≡ text → (held : List Kept) → held ≡ ks ++ record { kind = Message; number = number; epoch = epoch; text = text; moment = moment; commit = commit } ∷ [] → mid ≡ views_of (live (entries_of held))
-  row-kept epoch text commit read_is held held_is =
-      views_message (entries_of ks) (entries_of held) number epoch text moment views mid (ap entries_of held_is ∙ entries_of-push ks (record { kind = Message; number = number; epoch = epoch; text = text; moment = moment; commit = commit })) below views_are
+  pub row-kept : (k : Kept) → k.kind ≡ Message → k.number ≡ number → k.moment ≡ moment → read ≡ k.text → (held : List Kept) → held ≡ ks ++ k ∷ [] → mid ≡ views_of (live (entries_of held))
+  row-kept k kind_is numbered moment_is read_is held held_is =
+      let entry_is : entry_of k ≡ message number k.epoch k.text moment = of-kind k Message kind_is ∙ ap (λ n. message n k.epoch k.text k.moment) numbered ∙ ap (λ m. message number k.epoch k.text m) moment_is in
+      views_message (entries_of ks) (entries_of held) number k.epoch k.text moment views mid (ap entries_of held_is ∙ entries_of-push ks k ∙ ap (λ (e : Entry). entries_of ks ++ e ∷ []) entry_is) below views_are
       (mid_is ∙ ap (λ t. with_mail views (row_of number t moment) (mail_words t)) read_is)
 
   free : row_in views.rows (row_of number read moment).number ≡ None
@@ -91,10 +91,10 @@ module _ (config : Config) (ks : List Kept) (places : List Place) (index : Index
       ∙ ap (λ (v : Viewed). without_mail v number) mid_is
       ∙ mail-back views (row_of number read moment) (mail_words read) number (sym (row-number number read moment)) worded free
 
-  pub row-left : (held : List Kept) → held ≡ ks → (spots : List Place) → spots ≡ places → (other : Index) → HasSame index other → (new : Viewed) → new ≡ without_mail mid number → IsKept config held spots other end_ × (new ≡ views_of (live (entries_of held)))
+  pub row-left : (held : List Kept) → held ≡ ks → (spots : List (Option Place)) → spots ≡ places → (other : Index) → HasSame index other → (new : Viewed) → new ≡ without_mail mid number → IsKept config held spots other end_ × (new ≡ views_of (live (entries_of held)))
   row-left held held_is spots spots_are other same new new_is = (
     subst (λ (ks2 : List Kept). IsKept config ks2 spots other end_) (sym held_is)
-        (subst (λ (places2 : List Place). IsKept config ks places2 other end_) (sym spots_are) (record {
+        (subst (λ (places2 : List (Option Place)). IsKept config ks places2 other end_) (sym spots_are) (record {
           settings = kept.settings;
           numbers = kept.numbers;
           placed = kept.placed;
@@ -113,7 +113,7 @@ module _ (config : Config) (ks : List Kept) (places : List Place) (index : Index
   )
 
 -- A search among what is kept.
-pub found-kept : (config : Config) (ks : List Kept) (places : List Place) (index : Index) (end_ : End) (a : Archive) (is : archive_of config ks places ≡ a) (kept : IsKept config ks places index end_) (query : Query) → searched query (views_of (live a.entries)) ≡ search query (live a.entries)
+pub found-kept : (config : Config) (ks : List Kept) (places : List (Option Place)) (index : Index) (end_ : End) (a : Archive) (is : archive_of config ks places ≡ a) (kept : IsKept config ks places index end_) (query : Query) → searched query (views_of (live a.entries)) ≡ search query (live a.entries)
 found-kept config ks places index end_ a is kept query =
     subst (λ (b : Archive). searched query (views_of (live b.entries)) ≡ search query (live b.entries)) is
     (searched-is query (length places + 1) (live (entries_of ks)) small (live-all (λ (e : Entry). e.number < length places + 1) (entries_of ks) below) (ascends-of 1 (live (entries_of ks)) (live-ascend 1 0 (entries_of ks) kept.order)))

@@ -5,9 +5,9 @@ use Rattle.arch_base.specs.declared.config.Config.{Config}
 use Rattle.arch_base.specs.declared.ids.Id20.{Id20}
 use Rattle.disk_model.specs.Sizes.{greatest_epoch}
 use Rattle.arch_model.specs.Archives.{Entry, Archive, live, messages, text_of, in_epoch, has_entry, IsFree}
-use Rattle.arch_model.specs.Validity.{Rise, AtEachPlace, EndsLive, IdsDiffer, BlobsAgree}
+use Rattle.arch_model.specs.Validity.{number_after, Rise, AtEachPlace, EndsLive, LiveDiffer, BlobsAgree}
 use Rattle.std.specs.List.{AllByRecursion}
-use Rattle.arch_model.specs.Delivery.{last_epoch, collision}
+use Rattle.arch_model.specs.Delivery.{greater, last_epoch, collision}
 use Rattle.arch_model.specs.Epochs.{epoch_bytes, last_commit}
 use Rattle.arch_model.specs.Shelves.{lines_after}
 use Rattle.arch_model.specs.declared.line.EntryLine.{EntryLine}
@@ -15,6 +15,7 @@ use Rattle.git_objects.specs.Objects.{blob_id_of}
 use Rattle.mail_reader.specs.Ids.{own_id}
 use Rattle.mail_commits.specs.Entries.{commit_id, entry_bytes, magic}
 use Rattle.git_objects.specs.declared.entry_kind.EntryKind.{EntryKind}
+use Rattle.git_objects.specs.declared.entry_kind.EntryKind.TheVariants.{Message, Deletion}
 use Rattle.mem_archive.specs.declared.kept.Kept.{Kept}
 use Rattle.mem_archive.specs.declared.kept.Place.{Place}
 use Rattle.mem_archive.specs.declared.kept.End.{End}
@@ -57,14 +58,19 @@ lines_of [] = []
 lines_of (k ∷ ks) = line_of k ∷ lines_of ks
 
 -- The archive of kept entries, whose messages have the places of the numbers from 1 on.
-abbrev pub archive_of : Config → List Kept → List Place → Archive
+abbrev pub archive_of : Config → List Kept → List (Option Place) → Archive
 archive_of config kept places =
     record { config = config; entries = entries_of kept; next = length places + 1 }
 
--- The place of a number, from 1 on.
-abbrev pub place_in : List Place → ℕ → Option Place
+-- A place that may be there, of what may be there.
+abbrev pub joined : Option (Option Place) → Option Place
+joined None = None
+joined (Some found) = found
+
+-- The place of a number, from 1 on, if it has a message.
+abbrev pub place_in : List (Option Place) → ℕ → Option Place
 place_in places zero = None
-place_in places (suc index) = slice_get places index
+place_in places (suc index) = joined (slice_get places index)
 
 -- The text of the kept entry at an index.
 abbrev pub text_in : List Kept → ℕ → Option (List ℕ)
@@ -86,26 +92,26 @@ is_live_place None = false
 is_live_place (Some place) = place.live
 
 -- The place of a number is live.
-abbrev pub live_at : List Place → ℕ → Bool
+abbrev pub live_at : List (Option Place) → ℕ → Bool
 live_at places number = is_live_place (place_in places number)
 
 -- The least number from one on whose place is live, or none.
-abbrev pub IsLeastAt : List Place → ℕ → Option ℕ → Type 0
+abbrev pub IsLeastAt : List (Option Place) → ℕ → Option ℕ → Type 0
 IsLeastAt places n None = (m : ℕ) → n ≤ m → live_at places m ≡ false
 IsLeastAt places n (Some found) = (n ≤ found) × (live_at places found ≡ true)
     × ((m : ℕ) → n ≤ m → m < found → live_at places m ≡ false)
 
 -- The greatest number up to one whose place is live, or none.
-abbrev pub IsGreatestAt : List Place → ℕ → Option ℕ → Type 0
+abbrev pub IsGreatestAt : List (Option Place) → ℕ → Option ℕ → Type 0
 IsGreatestAt places n None = (m : ℕ) → m ≤ n → live_at places m ≡ false
 IsGreatestAt places n (Some found) = (found ≤ n) × (live_at places found ≡ true)
     × ((m : ℕ) → found < m → m ≤ n → live_at places m ≡ false)
 
 -- How many of the places of the numbers from `n` on are live, of those between two numbers.
-abbrev pub count_from : ℕ → ℕ → ℕ → List Place → ℕ
+abbrev pub count_from : ℕ → ℕ → ℕ → List (Option Place) → ℕ
 count_from n low high [] = 0
-count_from n low high (place ∷ places) =
-    if place.live && (nat_le low n && nat_le n high) then suc (count_from (n + 1) low high places)
+count_from n low high (found ∷ places) =
+    if is_live_place found && (nat_le low n && nat_le n high) then suc (count_from (n + 1) low high places)
     else count_from (n + 1) low high places
 
 -- The place has the index of a number's message, and tells whether the number is live.
@@ -115,16 +121,26 @@ pub record IsPlace (kept : List Kept) (number : ℕ) (place : Place) : Type 0 wh
   pub once : text_of (messages (entries_of kept)) number ≡ Some text
   pub shown : text_of (live (entries_of kept)) number ≡ (if place.live then Some text else None)
 
--- Each number from 1 on has its place.
-abbrev pub ArePlaces : List Kept → List Place → Type 0
+-- A number has its place, or no message.
+abbrev pub IsPlaceOf : List Kept → ℕ → Option Place → Type 0
+IsPlaceOf kept number None = text_of (messages (entries_of kept)) number ≡ None
+IsPlaceOf kept number (Some place) = IsPlace kept number place
+
+-- Each number from 1 on has its place, or no message.
+abbrev pub ArePlaces : List Kept → List (Option Place) → Type 0
 ArePlaces kept places =
-    (i : ℕ) (place : Place) → slice_get places i ≡ Some place → IsPlace kept (i + 1) place
+    (i : ℕ) (found : Option Place) → slice_get places i ≡ Some found → IsPlaceOf kept (i + 1) found
+
+-- The place, if there is one, no longer live.
+abbrev pub hidden_place : Option Place → Option Place
+hidden_place None = None
+hidden_place (Some place) = Some (record { entry = place.entry; live = false })
 
 -- The place at an index is no longer live, and each other place stays.
-pub record Hides (old new : List Place) (at : ℕ) : Type 0 where
+pub record Hides (old new : List (Option Place)) (at : ℕ) : Type 0 where
   pub size : length new ≡ length old
-  pub here : (place : Place) → slice_get old at ≡ Some place
-      → slice_get new at ≡ Some (record { entry = place.entry; live = false })
+  pub here : (found : Option Place) → slice_get old at ≡ Some found
+      → slice_get new at ≡ Some (hidden_place found)
   pub kept : (i : ℕ) → i ≢ at → slice_get new i ≡ slice_get old i
 
 -- The number of an entry is at least one and at most so many.
@@ -150,10 +166,10 @@ pub record IsEnd (limit : ℕ) (entries : List Entry) (end_ : End) : Type 0 wher
   pub small : end_.epoch ≤ greatest_epoch
 
 -- What is kept is sound: the settings are valid, no number is above the greatest, each has its
--- place, numbers are from 1 to the last and rise, deletions end live messages, each text has an own
--- id, live ids differ, each blob id has one text, the index is that of the entries, each has the id
--- of its commit, and the end is that of the last epoch.
-pub record IsKept (config : Config) (kept : List Kept) (places : List Place) (index : Index)
+-- place or no message, numbers are from 1 to the last and rise, deletions end live messages, each
+-- text has an own id, live ids differ at each place, each blob id has one text, the index is that of
+-- the entries, each has the id of its commit, and the end is that of the last epoch.
+pub record IsKept (config : Config) (kept : List Kept) (places : List (Option Place)) (index : Index)
     (end_ : End) : Type 0 where
   pub settings : IsConfig config
   pub numbers : length places ≤ config.max
@@ -162,7 +178,7 @@ pub record IsKept (config : Config) (kept : List Kept) (places : List Place) (in
   pub order : Rise 1 0 (entries_of kept)
   pub deletions : AtEachPlace (λ (before : List Entry) (e : Entry). EndsLive e.kind before e) []
       (entries_of kept)
-  pub ids : IdsDiffer (live (entries_of kept))
+  pub ids : AtEachPlace LiveDiffer [] (entries_of kept)
   pub blobs : BlobsAgree (entries_of kept)
   pub named : AllByRecursion HasId (entries_of kept)
   pub indexed : IsIndex (entries_of kept) index
@@ -184,6 +200,11 @@ end_by_room room limit end_ = if end_.epoch == greatest_epoch || nat_lt 0 room t
 abbrev pub end_for_new : ℕ → End → End
 end_for_new limit end_ = end_by_room end_.room limit end_
 
+-- The end to which an entry of an epoch is appended.
+abbrev pub end_in_epoch : ℕ → ℕ → End → End
+end_in_epoch epoch limit end_ = if end_.epoch == epoch then end_
+    else record { epoch = epoch; room = limit; parent = None }
+
 -- The end after one more entry.
 abbrev pub end_after : End → EntryKind → List ℕ → ℕ → End
 end_after end_ kind text moment = record {
@@ -202,3 +223,40 @@ abbrev pub GivesEpoch : List ℕ → List ℕ → Result Bool NoMemory → List 
 GivesEpoch old new (Ok found) entries = (new ≡ old ++ epoch_bytes entries)
     × (found ≡ has_entry entries)
 GivesEpoch old new (Err refused) entries = new ≡ old
+
+-- The number of a message isn't below the next one, and its own id is free. A deletion has the number
+-- and the text of a live message.
+abbrev pub IsNumberedAfter : EntryKind → Archive → Entry → Type 0
+IsNumberedAfter Message a e = (a.next ≤ e.number) × (e.number ≤ a.config.max)
+    × IsFree (live a.entries) e.text
+IsNumberedAfter Deletion a e = text_of (live a.entries) e.number ≡ Some e.text
+
+-- An entry may be appended again, in its epoch and under its number, where a text was left out: its
+-- epoch isn't before the last one, and a message has a new number and a free own id, no other text has
+-- its blob id, and a deletion ends a live message.
+pub record MayFollow (a : Archive) (e : Entry) : Type 0 where
+  pub epoch : last_epoch a.entries ≤ e.epoch
+  pub small : e.epoch ≤ greatest_epoch
+  pub named : HasId e
+  pub alone : collision a.entries e.text ≡ None
+  pub numbered : IsNumberedAfter e.kind a e
+
+-- The archive with an entry appended as it is. A message's number may leave out others, which then
+-- have no message.
+abbrev pub appended_as : Archive → Entry → Archive
+appended_as a e = record {
+  config = a.config;
+  entries = a.entries ++ e ∷ [];
+  next = number_after e.kind a.next e.number;
+}
+
+-- The archive with another next number, if that is greater.
+abbrev pub numbered_to : Archive → ℕ → Archive
+numbered_to a next = record { config = a.config; entries = a.entries; next = greater a.next next }
+
+-- The end and the commit after an entry that is appended so.
+pub record IsEndAfter (a : Archive) (e : Entry) (commit : Id20) (end_ : End) : Type 0 where
+  pub ends : IsEnd a.config.limit (a.entries ++ e ∷ []) end_
+  pub epoch : end_.epoch ≡ e.epoch
+  pub commit_is : commit
+      ≡ commit_id e.kind e.text e.moment (last_commit None (in_epoch a.entries e.epoch))

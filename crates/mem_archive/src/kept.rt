@@ -2,7 +2,7 @@
 ghost use Rattle.std.specs.Prelude.{◌≡◌, ◌+◌, ◌-◌, ◌++◌, ◌≤◌, IfOk, OnOk, OnErr, is_ok, if◌then◌else◌};
 ghost use Rattle.disk_model.specs.Sizes.{greatest_epoch};
 ghost use Rattle.mail_commits.specs.Entries.{commit_id, entry_bytes};
-ghost use Rattle.mem_archive.specs.Memory.{line_of, front_bytes, end_for_new, end_by_room, end_after, Grows};
+ghost use Rattle.mem_archive.specs.Memory.{entry_of, line_of, front_bytes, end_for_new, end_by_room, end_in_epoch, end_after, Grows};
 
 use arch_base::{Bytes, NoMemory, ObjectId};
 use arch_model::EntryLine;
@@ -45,7 +45,26 @@ impl Kept {
     }
 }
 
-/// Where the message of a number is kept.
+impl Kept {
+    /// Returns the same entry with another commit.
+    pub(crate) fn copy(&self, alloc: Global, commit: ObjectId) -> Result<Kept, NoMemory>
+        ensures entry { IfOk result (λ made. entry_of made ≡ entry_of self.now) }
+        ensures commit { IfOk result (λ made. made.commit ≡ commit) }
+    {
+        let mut text = Bytes::new(alloc);
+        text.push_slice(self.text.as_slice())?;
+        Ok(Kept {
+            kind: self.kind,
+            number: self.number,
+            epoch: self.epoch,
+            text,
+            moment: self.moment,
+            commit,
+        })
+    }
+}
+
+/// Where the message of a number is kept. A number whose message was purged has none.
 #[derive(Clone, Copy, Drop)]
 pub(crate) struct Place {
     /// The index of its entry.
@@ -103,8 +122,24 @@ impl End {
         }
     }
 
+    /// Returns the end to which an entry of an epoch from the last one on is appended.
+    pub(crate) fn in_epoch(self, epoch: u32, limit: u64) -> End
+        requires { self.epoch ≤ epoch }
+        ensures { result ≡ end_in_epoch epoch limit self }
+    {
+        if self.epoch == epoch {
+            self
+        } else {
+            End {
+                epoch,
+                room: limit,
+                parent: None,
+            }
+        }
+    }
+
     /// Returns the end after one more entry.
-    fn after(
+    pub(crate) fn after(
         self,
         alloc: Global,
         kind: EntryKind,

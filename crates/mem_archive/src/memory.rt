@@ -1,20 +1,23 @@
 //! A plain archive in memory, which does what the definitions say, call by call.
-ghost use Rattle.std.specs.Prelude.{◌≡◌, ◌++◌, ◌≤◌, false, take, drop, length, option_copied, IfOk, OnOk, OnErr, IsSome, Some, None};
+ghost use Rattle.std.specs.Prelude.{◌≡◌, ◌+◌, ◌++◌, ◌≤◌, false, not, take, drop, length, option_copied, IfOk, OnOk, OnErr, IsSome, Some, None};
+ghost use Rattle.std.specs.Str.{bytes_eq};
 ghost use Rattle.arch_base.specs.Configs.{IsConfig};
 ghost use Rattle.mail_reader.specs.Content.{content_id_of};
+ghost use Rattle.mail_reader.specs.Stored.{stored as stored_of};
 ghost use Rattle.mail_reader.specs.Ids.{own_id as own_id_of};
 ghost use Rattle.git_objects.specs.Objects.{blob_id_of};
-ghost use Rattle.arch_model.specs.Archives.{empty_archive, with_entry, with_deletion, live, messages, text_of, in_epoch, IsFree, has_entry};
-ghost use Rattle.arch_model.specs.Delivery.{Delivers, applied, delivered, removed, collision, new_epoch};
+ghost use Rattle.arch_model.specs.Archives.{empty_archive, with_entry, with_deletion, without_entries, live, messages, text_of, in_epoch, IsFree, has_entry};
+ghost use Rattle.arch_model.specs.Delivery.{Delivers, applied, delivered, removed, purged, edited, unless_refused, is_form, collision, new_epoch};
 ghost use Rattle.arch_judge.specs.Judging.{Judges};
 ghost use Rattle.arch_model.specs.Epochs.{epoch_bytes};
-ghost use Rattle.mem_archive.specs.Memory.{GivesEpoch, Grows, MayKeep};
+ghost use Rattle.mem_archive.specs.Memory.{GivesEpoch, Grows, MayKeep, MayFollow, IsEndAfter, entry_of, appended_as, numbered_to};
 ghost use Rattle.arch_model.specs.Listings.{row_in, number_of_id, listing};
 ghost use Rattle.arch_model.specs.Shelves.{IsGreatestLive, live_between, line_at, blob_text};
 ghost use Rattle.arch_model.specs.Standing.{IsLeastLive, IsUntouched};
 ghost use Rattle.arch_model.specs.Searching.{search};
 ghost use Rattle.arch_model.specs.Threading.{thread_in};
 ghost use Rattle.arch_model.specs.declared.answer.Answer.{Answer};
+ghost use Rattle.git_objects.specs.declared.entry_kind.EntryKind.{EntryKind};
 
 use crate::kept::{End, Kept, Place, push_after};
 use crate::placing::{count_live, greatest_live, hide, least_live, once_at, place_of, shown_at};
@@ -22,7 +25,7 @@ use arch_base::{Bytes, Config, NoMemory, Numbers, ObjectId};
 use arch_judge::{Index, Owner, Verdict, compared, judge};
 use arch_model::{Answer, Command, EntryLine, Query, Row};
 use git_objects::{EntryKind, blob_id};
-use mail_reader::{content_id, own_id};
+use mail_reader::{StoredRefusal, content_id, own_id, stored};
 use std::alloc::Global;
 use std::marker::Model;
 use view_set::{Views, add_if_stored};
@@ -33,7 +36,7 @@ pub struct MemArchive {
     alloc: Global,
     config: Config,
     kept: Vec<Kept>,
-    places: Vec<Place>,
+    places: Vec<Option<Place>>,
     index: Index,
     views: Views,
     end: End,
@@ -235,8 +238,10 @@ impl MemArchive {
     /// `Deliver` keeps the message under the next number, or refuses it. The first cause decides:
     /// the archive is a mirror, the message has no field, it has too many bytes, it is there
     /// already, another text has its blob id, no number is left. `Remove` ends the message with a
-    /// number, or refuses: the archive is a mirror, or the number is not live. A refusal, and
-    /// `NoMemory`, leave the archive unchanged.
+    /// number, or refuses: the archive is a mirror, or the number is not live. `Purge` drops each entry
+    /// with the text of a number, or refuses: the archive is a mirror, or the number has no message.
+    /// `Edit` purges a live number and delivers a message in its place, or refuses as a removal and a
+    /// delivery do. A refusal, and `NoMemory`, leave the archive unchanged.
     pub fn command(&mut self, command: &Command<'_>, moment: u64) -> Answer
         ensures done { Delivers self.old result self.new (applied self.old command.now moment) }
         ensures untouched { IsUntouched result self.old self.new }
@@ -244,6 +249,8 @@ impl MemArchive {
         match command {
             Command::Deliver(bytes) => self.deliver(bytes, moment),
             Command::Remove(number) => self.remove(*number, moment),
+            Command::Purge(number) => self.purge(*number),
+            Command::Edit(number, bytes) => self.edit(*number, bytes, moment),
         }
     }
 
@@ -290,7 +297,7 @@ impl MemArchive {
         }) }
         ensures untouched { IsUntouched result self.old self.new }
     {
-        match self.keep(text, blob, moment) {
+        match self.keep(text, moment) {
             Ok(()) => Answer::Ok { number, id: blob },
             Err(NoMemory) => Answer::NoMemory,
         }
@@ -351,20 +358,188 @@ impl MemArchive {
         let kind = EntryKind::Deletion;
         let end = self.end.with(self.alloc, self.config.limit, kind, text.as_slice(), moment)?;
         let commit = end.parent.unwrap();
-        let id = own_id_bytes(self.alloc, text.as_slice())?;
-        self.kept.push(Kept {
+        let entry = Kept {
             kind,
             number,
             epoch: end.epoch,
             text,
             moment,
             commit,
-        })?;
+        };
+        self.append_deletion(entry, end)
+    }
+
+    /// Drops each entry with the text of a number, or refuses.
+    fn purge(&mut self, number: u32) -> Answer
+        ensures done { Delivers self.old result self.new (purged self.old number) }
+        ensures untouched { IsUntouched result self.old self.new }
+    {
+        if self.config.mirror {
+            return Answer::IsMirror;
+        }
+        let Some(text) = self.text_once(number) else {
+            return Answer::NoText(number);
+        };
+        let id = blob_id(text);
+        match self.without_text(text) {
+            Ok(without) => {
+                *self = without;
+                Answer::Ok { number, id }
+            }
+            Err(NoMemory) => Answer::NoMemory,
+        }
+    }
+
+    /// Purges a live message and delivers another one in its place, or refuses.
+    fn edit(&mut self, number: u32, bytes: &[u8], moment: u64) -> Answer
+        ensures done { Delivers self.old result self.new (edited self.old number bytes.now moment) }
+        ensures untouched { IsUntouched result self.old self.new }
+    {
+        if self.config.mirror {
+            return Answer::IsMirror;
+        }
+        let Some(text) = self.text(number) else {
+            return Answer::NotLive(number);
+        };
+        match stores_as(self.alloc, bytes, text) {
+            Err(NoMemory) => Answer::NoMemory,
+            Ok(true) => Answer::Duplicate(number),
+            Ok(false) => match self.without_text(text) {
+                Ok(without) => self.deliver_on(without, bytes, moment),
+                Err(NoMemory) => Answer::NoMemory,
+            },
+        }
+    }
+
+    /// Delivers a message on another archive, and takes that in place of this one if the message was
+    /// kept.
+    fn deliver_on(&mut self, other: MemArchive, bytes: &[u8], moment: u64) -> Answer
+        ensures done { Delivers self.old result self.new
+            (unless_refused self.old (delivered other bytes.now moment)) }
+        ensures untouched { IsUntouched result self.old self.new }
+    {
+        let mut other = other;
+        match other.deliver(bytes, moment) {
+            Answer::Ok { number, id } => {
+                *self = other;
+                Answer::Ok { number, id }
+            }
+            refusal => refusal,
+        }
+    }
+
+    /// Returns the archive without the entries of a text.
+    ///
+    /// The other entries keep their epochs, numbers and moments. Commits change where one before them
+    /// in their epoch is left out.
+    fn without_text(&self, text: &[u8]) -> Result<MemArchive, NoMemory>
+        ensures { IfOk result (λ made. made ≡ without_entries self.now text.now) }
+    {
+        let mut made = MemArchive::new(self.alloc, self.config.copy());
+        for kept in self.kept.as_slice() {
+            if has_other_text(kept, text) {
+                made.append_again(kept)?;
+            }
+        }
+        let next = self.next();
+        made.number_to_next(next)?;
+        Ok(made)
+    }
+
+    /// Appends an entry of another archive, in its own epoch and under its own number. Numbers that a
+    /// message leaves out have no message.
+    ///
+    /// `NoMemory` may leave these numbers given.
+    fn append_again(&mut self, kept: &Kept) -> Result<(), NoMemory>
+        requires { MayFollow self.old (entry_of kept.now) }
+        ensures { OnOk result (self.new ≡ appended_as self.old (entry_of kept.now)) }
+    {
+        let begin = self.end.in_epoch(kept.epoch, self.config.limit);
+        let text = kept.text.as_slice();
+        let end = begin.after(self.alloc, kept.kind, text, kept.moment)?;
+        let commit = end.parent.unwrap();
+        let entry = kept.copy(self.alloc, commit)?;
+        match kept.kind {
+            EntryKind::Message => {
+                self.number_to_next(kept.number)?;
+                self.append_message(entry, end)
+            }
+            EntryKind::Deletion => self.append_deletion(entry, end),
+        }
+    }
+
+    /// Appends a message with the next number.
+    ///
+    /// `NoMemory` leaves the archive unchanged.
+    fn append_message(&mut self, entry: Kept, end: End) -> Result<(), NoMemory>
+        requires follows { MayFollow self.old (entry_of entry) }
+        requires number { entry.number ≡ self.old.next }
+        requires ends { IsEndAfter self.old (entry_of entry) entry.commit end }
+        ensures ok { OnOk result (self.new ≡ appended_as self.old (entry_of entry)) }
+        ensures err { OnErr result (self.new ≡ self.old) }
+    {
+        let id = own_id_bytes(self.alloc, entry.text.as_slice())?;
+        let owner = self.owner_of(entry.text.as_slice());
+        let blob = blob_id(entry.text.as_slice());
+        let index = self.kept.len();
+        self.places.reserve(1)?;
+        self.kept.reserve(1)?;
+        let number = owner.number;
+        add_if_stored(
+            self.alloc,
+            &mut self.views,
+            number,
+            &blob,
+            entry.text.as_slice(),
+            entry.moment,
+        )?;
+        if let Err(NoMemory) = self.index.insert(id, blob, owner) {
+            let _ = self.views.take(number);
+            return Err(NoMemory);
+        }
+        self.kept.push(entry)?;
+        self.places.push(Some(Place {
+            entry: index,
+            live: true,
+        }))?;
+        self.end = end;
+        Ok(())
+    }
+
+    /// Appends the deletion of a live message.
+    ///
+    /// `NoMemory` leaves the archive unchanged.
+    fn append_deletion(&mut self, entry: Kept, end: End) -> Result<(), NoMemory>
+        requires follows { MayFollow self.old (entry_of entry) }
+        requires kind { entry.kind ≡ EntryKind.Deletion }
+        requires ends { IsEndAfter self.old (entry_of entry) entry.commit end }
+        ensures ok { OnOk result (self.new ≡ appended_as self.old (entry_of entry)) }
+        ensures err { OnErr result (self.new ≡ self.old) }
+    {
+        let id = own_id_bytes(self.alloc, entry.text.as_slice())?;
+        let number = entry.number;
+        self.kept.push(entry)?;
         self.index.remove(id.as_slice());
         // The row and the words are taken, even if memory runs out for the threads.
         let _ = self.views.take(number);
         hide(&mut self.places, number as usize - 1);
         self.end = end;
+        Ok(())
+    }
+
+    /// Gives the numbers from the next one on, up to the one before this, no message.
+    ///
+    /// `NoMemory` leaves the archive unchanged.
+    fn number_to_next(&mut self, next: u32) -> Result<(), NoMemory>
+        requires { next ≤ self.old.config.max + 1 }
+        ensures ok { OnOk result (self.new ≡ numbered_to self.old next) }
+        ensures err { OnErr result (self.new ≡ self.old) }
+    {
+        let now = self.next();
+        if next <= now {
+            return Ok(());
+        }
+        self.places.resize(next as usize - 1, None)?;
         Ok(())
     }
 
@@ -388,9 +563,8 @@ impl MemArchive {
     /// Appends a message.
     ///
     /// `NoMemory` leaves the archive unchanged.
-    fn keep(&mut self, text: Bytes, blob: ObjectId, moment: u64) -> Result<(), NoMemory>
+    fn keep(&mut self, text: Bytes, moment: u64) -> Result<(), NoMemory>
         requires free { IsFree (live self.old.entries) text }
-        requires blob { blob ≡ blob_id_of text }
         requires alone { collision self.old.entries text ≡ None }
         requires room { self.old.next ≤ self.old.config.max }
         ensures ok { OnOk result (self.new ≡ with_entry self.old (new_epoch self.old) text moment) }
@@ -399,36 +573,35 @@ impl MemArchive {
         let kind = EntryKind::Message;
         let end = self.end.with(self.alloc, self.config.limit, kind, text.as_slice(), moment)?;
         let commit = end.parent.unwrap();
-        let id = own_id_bytes(self.alloc, text.as_slice())?;
-        let owner = self.owner_of(text.as_slice());
-        let entry = self.kept.len();
-        self.places.reserve(1)?;
-        self.kept.reserve(1)?;
-        let number = owner.number;
-        add_if_stored(
-            self.alloc,
-            &mut self.views,
-            number,
-            &blob,
-            text.as_slice(),
-            moment,
-        )?;
-        if let Err(NoMemory) = self.index.insert(id, blob, owner) {
-            let _ = self.views.take(number);
-            return Err(NoMemory);
-        }
-        self.kept.push(Kept {
+        let number = self.next();
+        let entry = Kept {
             kind,
             number,
             epoch: end.epoch,
             text,
             moment,
             commit,
-        })?;
-        self.places.push(Place { entry, live: true })?;
-        self.end = end;
-        Ok(())
+        };
+        self.append_message(entry, end)
     }
+}
+
+/// Returns whether the storage form of bytes is a text.
+fn stores_as(alloc: Global, bytes: &[u8], text: &[u8]) -> Result<bool, NoMemory>
+    ensures { IfOk result (λ same. same ≡ is_form text.now (stored_of bytes.now)) }
+{
+    match stored(alloc, bytes) {
+        Ok(form) => Ok(form.as_slice() == text),
+        Err(StoredRefusal::NoMemory) => Err(NoMemory),
+        Err(_refused) => Ok(false),
+    }
+}
+
+/// Returns whether an entry has another text than this.
+fn has_other_text(kept: &Kept, text: &[u8]) -> bool
+    ensures { result ≡ not (bytes_eq text.now kept.now.text) }
+{
+    text != kept.text.as_slice()
 }
 
 /// Returns a copy of the own id of a text that has one.

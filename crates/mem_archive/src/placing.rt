@@ -1,11 +1,11 @@
 //! Places of numbers, and what they tell.
 ghost use Rattle.std.specs.Prelude.{◌≡◌, ◌≤◌, ◌&&◌, nat_le, length, option_copied, if◌then◌else◌};
-ghost use Rattle.mem_archive.specs.Memory.{place_in, text_in, shown_in, once_in, live_at, IsLeastAt, IsGreatestAt, count_from, Hides};
+ghost use Rattle.mem_archive.specs.Memory.{place_in, text_in, shown_in, once_in, live_at, is_live_place, IsLeastAt, IsGreatestAt, count_from, Hides, hidden_place};
 
 use crate::kept::{Kept, Place};
 
-/// Returns the place of a number, or `None` if there is none.
-pub(crate) fn place_of(places: &[Place], number: u32) -> Option<Place>
+/// Returns the place of a number, or `None` if it has no message.
+pub(crate) fn place_of(places: &[Option<Place>], number: u32) -> Option<Place>
     ensures { result ≡ place_in places.now number }
 {
     if number == 0 {
@@ -13,7 +13,7 @@ pub(crate) fn place_of(places: &[Place], number: u32) -> Option<Place>
     }
     match places.get(number as usize - 1) {
         None => None,
-        Some(place) => Some(*place),
+        Some(found) => *found,
     }
 }
 
@@ -54,17 +54,14 @@ pub(crate) fn once_at(kept: &[Kept], found: Option<Place>) -> Option<&[u8]>
 }
 
 /// Returns whether the place of a number is live.
-fn is_live_at(places: &[Place], number: u32) -> bool
+fn is_live_at(places: &[Option<Place>], number: u32) -> bool
     ensures { result ≡ live_at places.now number }
 {
-    match place_of(places, number) {
-        None => false,
-        Some(place) => place.live,
-    }
+    is_live(place_of(places, number))
 }
 
 /// Returns the least number from this one on whose place is live, or `None` if there is none.
-pub(crate) fn least_live(places: &[Place], number: u32) -> Option<u32>
+pub(crate) fn least_live(places: &[Option<Place>], number: u32) -> Option<u32>
     requires few { length places.now ≤ 2147483647 }
     ensures { IsLeastAt places.now number result }
 {
@@ -78,7 +75,7 @@ pub(crate) fn least_live(places: &[Place], number: u32) -> Option<u32>
 }
 
 /// Returns the greatest number up to this one whose place is live, or `None` if there is none.
-pub(crate) fn greatest_live(places: &[Place], number: u32) -> Option<u32>
+pub(crate) fn greatest_live(places: &[Option<Place>], number: u32) -> Option<u32>
     requires few { length places.now ≤ 2147483647 }
     ensures { IsGreatestAt places.now number result }
 {
@@ -92,24 +89,35 @@ pub(crate) fn greatest_live(places: &[Place], number: u32) -> Option<u32>
 }
 
 /// Returns how many places of the numbers from `low` to `high` are live.
-pub(crate) fn count_live(places: &[Place], low: u32, high: u32) -> u64
+pub(crate) fn count_live(places: &[Option<Place>], low: u32, high: u32) -> u64
     requires few { length places.now ≤ 2147483647 }
     ensures { result ≡ count_from 1 low high places.now }
 {
     let mut count = 0;
     let mut number = 1;
-    for place in places {
-        count += one_if(*place, number, low, high);
+    for found in places {
+        count += one_if(*found, number, low, high);
         number += 1;
     }
     count
 }
 
-/// Returns 1 if the place of a number is live and the number is between two others, otherwise 0.
-fn one_if(place: Place, number: u32, low: u32, high: u32) -> u64
-    ensures { result ≡ (if place.live && (nat_le low number && nat_le number high) then 1 else 0) }
+/// Returns whether there is a place, and it is live.
+fn is_live(found: Option<Place>) -> bool
+    ensures { result ≡ is_live_place found }
 {
-    if place.live && low <= number && number <= high {
+    match found {
+        None => false,
+        Some(place) => place.live,
+    }
+}
+
+/// Returns 1 if the place of a number is live and the number is between two others, otherwise 0.
+fn one_if(found: Option<Place>, number: u32, low: u32, high: u32) -> u64
+    ensures { result ≡ (if is_live_place found && (nat_le low number && nat_le number high) then 1
+        else 0) }
+{
+    if is_live(found) && low <= number && number <= high {
         1
     } else {
         0
@@ -117,10 +125,23 @@ fn one_if(place: Place, number: u32, low: u32, high: u32) -> u64
 }
 
 /// Makes the place at an index no longer live.
-pub(crate) fn hide(places: &mut Vec<Place>, at: usize)
+pub(crate) fn hide(places: &mut Vec<Option<Place>>, at: usize)
     ensures { Hides places.old.items places.new.items at }
 {
-    if let Some(place) = places.get_mut(at) {
-        place.live = false;
+    if let Some(found) = places.get_mut(at) {
+        *found = hidden(*found);
+    }
+}
+
+/// Returns a place that is no longer live, if there is one.
+fn hidden(found: Option<Place>) -> Option<Place>
+    ensures { result ≡ hidden_place found }
+{
+    match found {
+        None => None,
+        Some(place) => Some(Place {
+            entry: place.entry,
+            live: false,
+        }),
     }
 }
