@@ -106,21 +106,24 @@ gen_new v a epoch keeps small none =
     rw (same_number (get_or v.root.epochs epoch no_place).length 0 (is ∙ ap length none)) refl
 
 -- The end of an archive without entries.
-pub end_of_none : (v : View) (a : Archive) → Keeps v a → v.entries ≡ [] → IsEnd a (record { epoch = 0; parent = None })
-end_of_none v a keeps none = let empty : a.entries ≡ [] = of_none a.entries (sym keeps.kept ∙ none) in record { epoch = sym (ap last_epoch empty); parent = sym (ap (λ (es : List Entry). last_commit None (in_epoch es (last_epoch es))) empty) } where
+pub end_none : (kept : List StoredEntry) (a : Archive) → kept ≡ stored_after [] a.entries → kept ≡ [] → IsEnd a (record { epoch = 0; parent = None })
+end_none kept a is none = let empty : a.entries ≡ [] = of_none a.entries (sym is ∙ none) in record { epoch = sym (ap last_epoch empty); parent = sym (ap (λ (es : List Entry). last_commit None (in_epoch es (last_epoch es))) empty) } where
   of_none : (es : List Entry) → stored_after [] es ≡ [] → es ≡ []
   of_none [] is = refl
   of_none (e ∷ es) is = let wrong : length (stored_after [] (e ∷ es)) ≡ 0 = ap length is in absurd (omega (arith, wrong))
 
+pub end_of_none : (v : View) (a : Archive) → Keeps v a → v.entries ≡ [] → IsEnd a (record { epoch = 0; parent = None })
+end_of_none v a keeps none = end_none v.entries a keeps.kept none
+
 -- The end of an archive with entries.
-pub end_of_last : (v : View) (a : Archive) → Keeps v a → (last : StoredEntry) → slice_get v.entries (length v.entries - 1) ≡ Some last → IsEnd a (record { epoch = last.epoch; parent = Some last.seen.commit })
-end_of_last v a keeps last is = elim (last_of a.entries) [
+pub end_last : (kept : List StoredEntry) (a : Archive) → Rise 1 0 a.entries → kept ≡ stored_after [] a.entries → (last : StoredEntry) → slice_get kept (length kept - 1) ≡ Some last → IsEnd a (record { epoch = last.epoch; parent = Some last.seen.commit })
+end_last kept_ a rise kept_is last is = elim (last_of a.entries) [
   | inl none ↦ absurd (nothing none)
   | inr some ↦ ends some
 ] where
   nothing : a.entries ≡ [] → ⊥
   nothing none =
-      let empty : v.entries ≡ [] = keeps.kept ∙ ap (stored_after []) none in
+      let empty : kept_ ≡ [] = kept_is ∙ ap (stored_after []) none in
       let wrong : None ≡ Some last = sym (ap (λ (es : List StoredEntry). slice_get es (length es - 1)) empty) ∙ is in
       cc
 
@@ -128,16 +131,31 @@ end_of_last v a keeps last is = elim (last_of a.entries) [
   ends some =
       let es = some.front in
       let e = some.item in
-      let kept : v.entries ≡ stored_after [] es ++ stored_at es e ∷ [] = keeps.kept ∙ (ap (stored_after []) some.is ∙ stored_more [] es e) in
-      let found : slice_get v.entries (length v.entries - 1) ≡ Some (stored_at es e) = ap (λ (l : List StoredEntry). slice_get l (length l - 1)) kept ∙ last_item (stored_after [] es) (stored_at es e) in
+      let kept : kept_ ≡ stored_after [] es ++ stored_at es e ∷ [] = kept_is ∙ (ap (stored_after []) some.is ∙ stored_more [] es e) in
+      let found : slice_get kept_ (length kept_ - 1) ≡ Some (stored_at es e) = ap (λ (l : List StoredEntry). slice_get l (length l - 1)) kept ∙ last_item (stored_after [] es) (stored_at es e) in
       let same : last ≡ stored_at es e = of_some (sym is ∙ found) in
-      let greatest = last_is_greatest 1 0 es e (subst (Rise 1 0) some.is keeps.valid.order) in
+      let greatest = last_is_greatest 1 0 es e (subst (Rise 1 0) some.is rise) in
       let top : last_epoch a.entries ≡ e.epoch = ap last_epoch some.is ∙ greatest.0 in
       let here : in_epoch a.entries (last_epoch a.entries) ≡ in_epoch es e.epoch ++ e ∷ [] = ap (in_epoch a.entries) top ∙ (ap (λ (l : List Entry). in_epoch l e.epoch) some.is ∙ in_epoch-here es e e.epoch refl) in
       record {
         epoch = ap (λ (s : StoredEntry). s.epoch) same ∙ sym top;
         parent = ap (λ (s : StoredEntry). Some s.seen.commit) same ∙ sym (ap (last_commit None) here ∙ last_commit_is None (in_epoch es e.epoch) e);
       }
+
+pub end_of_last : (v : View) (a : Archive) → Keeps v a → (last : StoredEntry) → slice_get v.entries (length v.entries - 1) ≡ Some last → IsEnd a (record { epoch = last.epoch; parent = Some last.seen.commit })
+end_of_last v a keeps last is = end_last v.entries a keeps.valid.order keeps.kept last is
+
+-- The epoch of the next entry.
+pub epoch_here : (a : Archive) → (last_epoch a.entries ≡ 63) ⊎ (length (bytes_in a (last_epoch a.entries)) < a.config.limit) → new_epoch a ≡ last_epoch a.entries
+epoch_here a (inl is63) = rw (test63 (last_epoch a.entries) (length (bytes_in a (last_epoch a.entries))) a.config.limit is63) refl
+epoch_here a (inr less) = rw (shorter (last_epoch a.entries) (length (bytes_in a (last_epoch a.entries))) a.config.limit less) refl
+
+pub epoch_after : (a : Archive) → last_epoch a.entries < 63 → a.config.limit ≤ length (bytes_in a (last_epoch a.entries)) → new_epoch a ≡ last_epoch a.entries + 1
+epoch_after a top long = rw (longer (last_epoch a.entries) (length (bytes_in a (last_epoch a.entries))) a.config.limit top long) refl
+
+-- No entry is in it then.
+pub none_after : (a : Archive) → in_epoch a.entries (last_epoch a.entries + 1) ≡ []
+none_after a = none_in a.entries (last_epoch a.entries + 1) (all_weaker (λ (e : Entry). e.epoch ≤ last_epoch a.entries) (λ (e : Entry). e.epoch < last_epoch a.entries + 1) a.entries (λ e less. omega (arith, less)) (none_later a.entries))
 
 -- Where the next entry is written if it is in the last epoch.
 pub next_here : (v : View) (a : Archive) (end_ : End) → Keeps v a → IsEnd a end_ → end_.epoch ≤ 63 → (end_.epoch ≡ 63) ⊎ ((get_or v.root.epochs end_.epoch no_place).length < v.root.config.limit)
@@ -150,11 +168,11 @@ next_here v a end_ keeps is small takes = record {
   parent = is.parent ∙ ap (λ (e : ℕ). last_commit None (in_epoch a.entries e)) (sym is.epoch);
 } where
   taken : (last_epoch a.entries ≡ 63) ⊎ ((get_or v.root.epochs (last_epoch a.entries) no_place).length < v.root.config.limit) → new_epoch a ≡ last_epoch a.entries
-  taken (inl is63) = rw (test63 (last_epoch a.entries) (length (bytes_in a (last_epoch a.entries))) a.config.limit is63) refl
+  taken (inl is63) = epoch_here a (inl is63)
   taken (inr less) =
       let low : last_epoch a.entries < 64 = omega (arith, small, is.epoch) in
       let short : length (bytes_in a (last_epoch a.entries)) < a.config.limit = subst (λ (n : ℕ). n < a.config.limit) (keeps.names.epochs (last_epoch a.entries) low) (subst (λ (c : Config). (get_or v.root.epochs (last_epoch a.entries) no_place).length < c.limit) keeps.names.config less) in
-      rw (shorter (last_epoch a.entries) (length (bytes_in a (last_epoch a.entries))) a.config.limit short) refl
+      epoch_here a (inr short)
 
 -- Where the next entry is written if it is in a new epoch.
 pub next_after : (v : View) (a : Archive) (end_ : End) → Keeps v a → IsEnd a end_ → end_.epoch < 63 → v.root.config.limit ≤ (get_or v.root.epochs end_.epoch no_place).length
@@ -165,9 +183,9 @@ next_after v a end_ keeps is small full =
     let long : a.config.limit ≤ length (bytes_in a (last_epoch a.entries)) =
     subst (λ (n : ℕ). a.config.limit ≤ n) (keeps.names.epochs (last_epoch a.entries) (omega (arith, top)))
     (subst (λ (e : ℕ). a.config.limit ≤ (get_or v.root.epochs e no_place).length) is.epoch (subst (λ (c : Config). c.limit ≤ (get_or v.root.epochs end_.epoch no_place).length) keeps.names.config full)) in
-    let none : in_epoch a.entries (end_.epoch + 1) ≡ [] = none_in a.entries (end_.epoch + 1) (all_weaker (λ (e : Entry). e.epoch ≤ last_epoch a.entries) (λ (e : Entry). e.epoch < end_.epoch + 1) a.entries (λ e less. (let i = is.epoch in omega (arith, i, less))) (none_later a.entries)) in
+    let none : in_epoch a.entries (end_.epoch + 1) ≡ [] = ap (λ (e : ℕ). in_epoch a.entries (e + 1)) is.epoch ∙ none_after a in
     record {
-      epoch = ap (λ (e : ℕ). e + 1) is.epoch ∙ sym (rw (longer (last_epoch a.entries) (length (bytes_in a (last_epoch a.entries))) a.config.limit top long) refl);
+      epoch = ap (λ (e : ℕ). e + 1) is.epoch ∙ sym (epoch_after a top long);
       length_is = keeps.names.epochs (end_.epoch + 1) (omega (arith, small));
       old = λ some. gen_old v a (end_.epoch + 1) keeps below some;
       new = λ empty. gen_new v a (end_.epoch + 1) keeps below empty;

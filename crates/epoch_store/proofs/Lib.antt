@@ -32,3 +32,16 @@ mod Reopening
 mod WholeEpochs
 mod Settles
 mod Comparing
+mod Carrying
+mod Planned
+mod Taking
+mod Finished
+mod Messaged
+mod MessagedArchive
+mod Indexed
+mod Placed
+mod Purged
+mod Finishing
+mod Ranges
+mod CarriedOut
+mod Edited

@@ -12,3 +12,4 @@ pub mod Finding
 pub mod Reads
 pub mod Opens
 pub mod Promises
+pub mod Planning

@@ -1,5 +1,5 @@
 -- The results of opening an archive, and what they leave.
-use Rattle.std.specs.Prelude.{◌≡◌, ℕ, List, [], Option, Some, None, Result, Ok, Err}
+use Rattle.std.specs.Prelude.{◌≡◌, ◌⊎◌, ℕ, List, [], Option, Some, None, Result, Ok, Err}
 use Rattle.std.specs.List.{Contains}
 use Rattle.disk_model.specs.declared.name.FileName.{FileName}
 use Rattle.disk_model.specs.Disk.{Files, Content, Image, Told, LeavesOnly}
@@ -104,6 +104,12 @@ pub record SyncsFirst {D : Type 0} (content : D → Option Content) (moment : D 
   pub before : LeavesOnly moment left_since old synced (Image (content old))
   pub after : (a : Archive) (cache : List ℕ) → ReadsWith cache a (content old)
       → LeavesOnly moment left_since synced new (λ (image : Files). RecoversWith cache image a)
+
+-- Nothing was done but to sync the disk, or it was synced first.
+abbrev pub SyncsAtMost : {D : Type 0} → (D → Option Content) → (D → ℕ) → (D → ℕ → Files → Type 0) → D
+    → D → Type 0
+SyncsAtMost content moment left_since old new = LeavesOnly moment left_since old new (Image (content old))
+    ⊎ SyncsFirst content moment left_since old new
 
 -- What holds after any result but a fault of the disk, which may come before the sync.
 abbrev pub OnSynced : {T : Type 0} → Result T OpenRefusal → Type 0 → Type 0

@@ -11,7 +11,7 @@ use Rattle.epoch_store.specs.declared.refusal.InitRefusal.{InitRefusal}
 use Rattle.epoch_store.specs.declared.refusal.InitRefusal.TheVariants as making
 use Rattle.epoch_store.specs.Files.{as_read}
 use Rattle.epoch_store.specs.First.{MakingLeaves, MakingAnswers, RefusesToMake}
-use Rattle.epoch_store.specs.Opens.{RecoversOfWith, AllRecoverWith, ReadsWith, Opens, OpensWell, SyncsFirst, OnSynced}
+use Rattle.epoch_store.specs.Opens.{RecoversOfWith, AllRecoverWith, ReadsWith, Opens, OpensWell, SyncsFirst, SyncsAtMost, OnSynced}
 use Rattle.epoch_store.specs.Settling.{IsSettledBy}
 use Rattle.epoch_store.specs.Stores.{View, IsDiskOf, IsStoreWith, HasSizes}
 
@@ -52,6 +52,7 @@ pub record OpensArchive {D : Type 0} (content : D → Option Content) (moment : 
       → IfOk result (λ (v : View). IsStoreWith v cache a (content new))
   pub well : (a : Archive) (cache : List ℕ) → ReadsWith cache a (content old) → OpensWell result
   pub first : OnSynced result (SyncsFirst content moment left_since old new)
+  pub before : SyncsAtMost content moment left_since old new
   pub settled : OnOk result (WhereTold IsSettled (content new))
   pub kept : IfOk result (λ (v : View). Told (IsSettledBy v.root v.slot) (content old) (content new))
   pub sizes : IfOk result (λ (v : View). WhereTold (HasSizes v) (content new))

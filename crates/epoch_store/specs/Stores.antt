@@ -1,15 +1,16 @@
 -- What a store keeps in memory of an archive, and which disk is its own.
 use Rattle.std.specs.Prelude.{◌-◌, ◌^◌, min, set, slice_get, Bool, not, ◌&&◌, ◌||◌, ◌≡◌, ◌≢◌, ◌⊎◌, ◌+◌, ◌<◌, ◌≤◌, ◌==◌, ℕ, false, List, [], ◌∷◌, ◌++◌, length, get_or, Option, Some, None, if◌then◌else◌, Result, Ok, Err}
-use Rattle.std.specs.List.{Contains}
+use Rattle.std.specs.List.{AllZip, Contains, filter}
+use Rattle.std.specs.Str.{bytes_eq}
 use Rattle.arch_base.specs.declared.ids.Id20.{Id20}
 use Rattle.disk_model.specs.Disk.{Files, Content, bytes_of}
 use Rattle.disk_model.specs.Sizes.{epoch_count, greatest_epoch, record_size}
 use Rattle.mail_reader.specs.StorageTexts.{IsStorageText}
 use Rattle.mail_reader.specs.Ids.{own_id}
 use Rattle.git_objects.specs.Objects.{blob_id_of}
-use Rattle.arch_model.specs.Archives.{Entry, Archive, message, deletion, is_message, with_entry, with_deletion, live, text_of, IsFree, in_epoch}
+use Rattle.arch_model.specs.Archives.{Entry, Archive, message, deletion, is_message, with_entry, with_deletion, without_text, live, messages, text_of, IsFree, in_epoch}
 use Rattle.arch_model.specs.Delivery.{last_epoch, new_epoch, collision}
-use Rattle.arch_model.specs.Epochs.{entries_bytes, last_commit}
+use Rattle.arch_model.specs.Epochs.{entries_bytes, epoch_bytes, last_commit}
 use Rattle.git_objects.specs.declared.entry_kind.EntryKind.TheVariants.{Message, Deletion}
 use Rattle.epoch_file.specs.declared.entry.NewEntry.{NewEntry}
 use Rattle.epoch_file.specs.Entries.{EpochEntry}
@@ -79,9 +80,13 @@ IsDiskOf v a k = IsDiskWith v [] a k
 abbrev pub IsStoreOf : View → Archive → Option Content → Type 0
 IsStoreOf v a content = IsStoreWith v [] a content
 
+-- Files stand for one archive, with a cache of these bytes, or for another one with one of those.
+abbrev pub RecoversOneOf : List ℕ → Archive → List ℕ → Archive → Files → Type 0
+RecoversOneOf cache a left b image = RecoversWith cache image a ⊎ RecoversWith left image b
+
 -- Files stand for one archive or the other, with a cache of these bytes.
 abbrev pub RecoversEitherWith : List ℕ → Archive → Archive → Files → Type 0
-RecoversEitherWith cache a b image = RecoversWith cache image a ⊎ RecoversWith cache image b
+RecoversEitherWith cache a b image = RecoversOneOf cache a cache b image
 
 -- The same without a cache.
 abbrev pub RecoversEither : Archive → Archive → Files → Type 0
@@ -143,6 +148,11 @@ pub record IsNextPlace (root : Root) (a : Archive) (new_gen : ℕ) (p : NextPlac
   pub old : bytes_in a p.epoch ≢ [] → p.gen_ ≡ (get_or root.epochs p.epoch no_place).gen_
   pub new : bytes_in a p.epoch ≡ [] → p.gen_ ≡ new_gen
   pub parent : p.parent ≡ last_commit None (in_epoch a.entries p.epoch)
+
+-- Entries end at this place: the bytes of its epoch are so long, and this is its last commit.
+pub record EndsAt (before : List Entry) (p : NextPlace) : Type 0 where
+  pub length_is : p.length ≡ length (epoch_bytes (in_epoch before p.epoch))
+  pub parent : p.parent ≡ last_commit None (in_epoch before p.epoch)
 
 -- One more, up to 2^64 - 1.
 abbrev pub next_sequence : ℕ → ℕ
@@ -266,6 +276,13 @@ SeesNoDamage (Err DiskFault) = Unit {0}
 SeesNoDamage (Err NoMemory) = Unit {0}
 SeesNoDamage (Err (Damaged file offset)) = ⊥
 
+-- What holds of an error, unless the disk failed.
+abbrev pub UnlessFailed : {T : Type 0} → Result T StoreRefusal → Type 0 → Type 0
+UnlessFailed (Ok given) P = Unit {0}
+UnlessFailed (Err DiskFault) P = Unit {0}
+UnlessFailed (Err NoMemory) P = P
+UnlessFailed (Err (Damaged file offset)) P = P
+
 -- A root goes on from another one. Its sequence is one more. The map and the cache stay in their
 -- files. Each epoch stays in its file, or has its first bytes in a file whose generation is the new
 -- sequence.
@@ -279,3 +296,72 @@ pub record GoesOn (old new : Root) : Type 0 where
       × ((get_or new.epochs e no_place).gen_ ≡ (get_or old.epochs e no_place).gen_))
       ⊎ (((get_or old.epochs e no_place).length ≡ 0)
       × ((get_or new.epochs e no_place).gen_ ≡ new.sequence)))
+
+-- A purge would be accepted by what is kept: the archive is no mirror, and an entry is the message
+-- with the number and has this blob id.
+pub record MayPurge (v : View) (number : ℕ) (blob : Id20) : Type 0 where
+  pub writable : v.root.config.mirror ≡ false
+  pub entry : StoredEntry
+  pub is_there : Contains v.entries entry
+  pub kind : entry.seen.kind ≡ Message
+  pub number_is : entry.number ≡ number
+  pub blob_is : entry.seen.blob ≡ blob
+
+-- What is kept of an edit that would be accepted: a purge would be, a number is left, the new text is a
+-- storage text, and no live message of the archive without the old text has its own id.
+pub record MayEdit (v : View) (number : ℕ) (blob : Id20) (text : List ℕ) : Type 0 where
+  pub purge : MayPurge v number blob
+  pub number_left : v.root.next ≤ v.root.config.max
+  pub storage : IsStorageText text
+  pub id : (a : Archive) (n : ℕ) (old : List ℕ) → Keeps v a
+      → text_of (messages a.entries) n ≡ Some old → blob_id_of old ≡ blob
+      → IsFree (live (without_text a.entries old)) text
+
+-- The entries that are kept but those with a blob id.
+abbrev pub without_blob : List StoredEntry → List ℕ → List StoredEntry
+without_blob entries blob = filter (λ (e : StoredEntry). not (bytes_eq blob e.seen.blob.0)) entries
+
+-- An entry was kept of the one before: in the same epoch, under its number, with the ids of its text.
+-- Its offset and its commit may be others.
+pub record KeptOf (old new : StoredEntry) : Type 0 where
+  pub number : new.number ≡ old.number
+  pub epoch : new.epoch ≡ old.epoch
+  pub kind : new.seen.kind ≡ old.seen.kind
+  pub size : new.seen.size ≡ old.seen.size
+  pub blob : new.seen.blob ≡ old.seen.blob
+  pub moment : new.seen.moment ≡ old.seen.moment
+  pub id : new.seen.id ≡ old.seen.id
+  pub content : new.seen.content ≡ old.seen.content
+
+-- What a purge leaves of what is kept: the entries but those with a blob id, in order. The next number
+-- and the settings stay.
+pub record DropsEntries (old new : View) (blob : Id20) : Type 0 where
+  pub entries : AllZip KeptOf (without_blob old.entries blob.0) new.entries
+  pub next : new.root.next ≡ old.root.next
+  pub config : new.root.config ≡ old.root.config
+
+-- What an edit leaves of what is kept: the entries but those with a blob id, and one more message with
+-- the next number and the ids of a text.
+pub record EditsEntries (old new : View) (blob : Id20) (text : List ℕ) : Type 0 where
+  pub front : List StoredEntry
+  pub entry : StoredEntry
+  pub entries : new.entries ≡ front ++ entry ∷ []
+  pub kept : AllZip KeptOf (without_blob old.entries blob.0) front
+  pub kind : entry.seen.kind ≡ Message
+  pub number : entry.number ≡ old.root.next
+  pub id : own_id text ≡ Some entry.seen.id
+  pub blob_is : entry.seen.blob ≡ blob_id_of text
+  pub content : entry.seen.content ≡ content_id_of text
+  pub next : new.root.next ≡ old.root.next + 1
+  pub config : new.root.config ≡ old.root.config
+
+-- A root goes on from another one whose parts were written anew. Its sequence is one more, and there is
+-- no cache. Each part stays in its file, or is in one whose generation is the new sequence.
+pub record Rewrites (old new : Root) : Type 0 where
+  pub sequence : new.sequence ≡ old.sequence + 1
+  pub map : new.map.gen_ ≡ new.sequence
+  pub cache : new.cache ≡ no_place
+  pub epochs : (e : ℕ) → e < epoch_count
+      → ((get_or new.epochs e no_place).gen_ ≡ (get_or old.epochs e no_place).gen_)
+      ⊎ (((get_or new.epochs e no_place).gen_ ≡ new.sequence)
+      ⊎ (get_or new.epochs e no_place ≡ no_place))

@@ -7,7 +7,7 @@ ghost use Rattle.disk_model.specs.Synced.{IsSettled};
 ghost use Rattle.mail_reader.specs.Ids.{own_id as own_id_in};
 ghost use Rattle.mail_reader.specs.Content.{content_id_of};
 ghost use Rattle.git_objects.specs.Objects.{blob_id_of};
-ghost use Rattle.arch_model.specs.Archives.{Archive, with_entry, with_deletion, live, text_of, empty_archive};
+ghost use Rattle.arch_model.specs.Archives.{Archive, Entry, with_entry, with_deletion, live, text_of, empty_archive};
 ghost use Rattle.arch_model.specs.Delivery.{new_epoch, collision};
 ghost use Rattle.arch_base.specs.Moments.{last_moment};
 ghost use Rattle.epoch_file.specs.Appending.{written_of};
@@ -15,7 +15,7 @@ ghost use Rattle.root_slots.specs.Valid.{IsRoot};
 ghost use Rattle.arch_base.specs.Configs.{IsConfig};
 ghost use Rattle.epoch_store.specs.First.{MakingLeaves, MakingAnswers, RefusesToMake};
 ghost use Rattle.epoch_store.specs.declared.refusal.InitRefusal.{InitRefusal};
-ghost use Rattle.epoch_store.specs.Stores.{IsDiskOf, IsStoreWith, Keeps, IsEnd, IsNextPlace, next_sequence, place_of, root_after, RecoversEitherWith, HasSizes, GoesOn, Accepts, MayEnd, IsMessage, IsDeletion, GoesNext, EndsNext, with_message, with_ending, view_after, view_ended, root_ended, stored_at, AddsEntry, EndsEntry, SeesNoDamage};
+ghost use Rattle.epoch_store.specs.Stores.{IsDiskOf, IsStoreWith, Keeps, IsEnd, IsNextPlace, next_sequence, place_of, root_after, RecoversEitherWith, HasSizes, GoesOn, Accepts, MayEnd, IsMessage, IsDeletion, GoesNext, EndsNext, with_message, with_ending, view_after, view_ended, root_ended, stored_at, AddsEntry, EndsAt, EndsEntry, SeesNoDamage};
 
 use crate::entries::StoredEntry;
 use crate::first::{all_names, first_root, make, no_archive};
@@ -34,7 +34,7 @@ use std::alloc::Global;
 use std::marker::Model;
 
 /// The length from which on a file takes no further entry. The result is then `NoMemory`.
-const MOST: u64 = 1 << 62;
+pub(crate) const MOST: u64 = 1 << 62;
 
 /// The archive on a disk.
 ///
@@ -297,7 +297,7 @@ impl Store {
     }
 
     /// Returns what is kept of a new entry that was written.
-    fn new_entry(
+    pub(crate) fn new_entry(
         &self,
         place: &NextPlace,
         number: u32,
@@ -318,6 +318,15 @@ impl Store {
         ensures stored { (a : Archive) → Keeps self.now a
             → IsNextPlace self.now.root a (next_sequence self.now.root.sequence) place.now
             → result ≡ stored_at a.entries (record {
+              kind = entry.now.kind;
+              number = number;
+              epoch = place.now.epoch;
+              text = entry.now.text.now;
+              moment = entry.now.moment;
+            }) }
+        // The same after any entries that end where it is written.
+        ensures after { (before : List Entry) → EndsAt before place.now
+            → result ≡ stored_at before (record {
               kind = entry.now.kind;
               number = number;
               epoch = place.now.epoch;
@@ -496,7 +505,7 @@ fn blob_front_len(size: usize) -> u64
 }
 
 /// Returns a copy of the own id of a text that has one.
-fn own_id_of(alloc: Global, text: &[u8]) -> Result<Bytes, NoMemory>
+pub(crate) fn own_id_of(alloc: Global, text: &[u8]) -> Result<Bytes, NoMemory>
     requires { IsSome (own_id_in text.now) }
     ensures { IfOk result (λ id. own_id_in text.now ≡ Some id) }
 {

@@ -17,7 +17,7 @@ ghost use Rattle.epoch_store.specs.Joined.{AreBefore};
 ghost use Rattle.epoch_store.specs.Settling.{FoundOn, IsSettledBy};
 ghost use Rattle.epoch_store.specs.Reads.{HasTexts};
 ghost use Rattle.epoch_store.specs.Stores.{IsStoreWith, HasSizes};
-ghost use Rattle.epoch_store.specs.Opens.{RecoversOfWith, AllRecoverWith, ReadsWith, Opens, OpensWell, SyncsBy, RefusesBefore, SyncsFirst, OnSynced};
+ghost use Rattle.epoch_store.specs.Opens.{RecoversOfWith, AllRecoverWith, ReadsWith, Opens, OpensWell, SyncsBy, RefusesBefore, SyncsFirst, SyncsAtMost, OnSynced};
 
 use crate::finding::{Found, find};
 use crate::laws::law_of_recovery;
@@ -112,6 +112,8 @@ impl Store {
         // Once it is synced, only the archive as which the files read is left.
         ensures first { OnSynced result
             (SyncsFirst D.content D.moment D.left_since disk.old disk.new) }
+        // Until then a crash leaves what it might have left before, whatever the answer.
+        ensures before { SyncsAtMost D.content D.moment D.left_since disk.old disk.new }
         ensures settled { OnOk result (WhereTold IsSettled (D.content disk.new)) }
         // Whatever the files are: all bytes that count stay, those of a cache too, no other file is
         // left, and no root is committed.

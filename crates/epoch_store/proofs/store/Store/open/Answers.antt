@@ -1,4 +1,5 @@
 -- What is left while the archive is opened, and what is there then.
+use Rattle.std.proofs.Common.{inl, inr}
 use Rattle.disk_model.specs.Disk.{Files, Image}
 use Rattle.disk_model.specs.Moments.{started, joined, weaker}
 use Rattle.root_change.specs.Texts.{StandsFor}
@@ -97,3 +98,34 @@ returns-in-Err-settle-clause-first g c =
 pub returns-in-Ok-settle-clause-texts : goal.returns-in-Ok-settle-clause-texts
 returns-in-Ok-settle-clause-texts g c =
     opened_texts c.in-Ok.found (g.D.Disk.content c.args.disk.now) (g.D.Disk.content c.find_synced.new.disk) (g.D.Disk.content c.settle.new.disk) c.in-Ok.ensures.found c.in-Ok.ensures.synced c.in-Ok-settle.ensures.kept
+
+pub returns-in-Err-clause-before : goal.returns-in-Err-clause-before
+returns-in-Err-clause-before g c = inl c.find_synced.ensures.any_moment
+
+pub returns-in-Ok-settle-clause-before : goal.returns-in-Ok-settle-clause-before
+returns-in-Ok-settle-clause-before g c =
+    let disk = c.args.disk.now in
+    let d1 = c.find_synced.new.disk in
+    let found = c.in-Ok.found in
+    inr (record {
+      synced = d1;
+      only = c.in-Ok.ensures.synced;
+      before = c.find_synced.ensures.any_moment;
+      after = λ a cache reads.
+          let so = reading_stands c.law_of_spellings.ensures.differ found cache a (g.D.Disk.content disk) (g.D.Disk.content d1) c.in-Ok.ensures.found reads c.in-Ok.ensures.synced in
+          weaker g.D.Disk.moment g.D.Disk.left_since d1 c.settle.new.disk (StandsFor found.root (texts_found found cache a)) (λ (image : Files). RecoversWith cache image a) (c.settle.ensures.any_moment (texts_found found cache a) so.0) so.1;
+    })
+
+pub returns-in-Err-settle-clause-before : goal.returns-in-Err-settle-clause-before
+returns-in-Err-settle-clause-before g c =
+    let disk = c.args.disk.now in
+    let d1 = c.find_synced.new.disk in
+    let found = c.in-Ok.found in
+    inr (record {
+      synced = d1;
+      only = c.in-Ok.ensures.synced;
+      before = c.find_synced.ensures.any_moment;
+      after = λ a cache reads.
+          let so = reading_stands c.law_of_spellings.ensures.differ found cache a (g.D.Disk.content disk) (g.D.Disk.content d1) c.in-Ok.ensures.found reads c.in-Ok.ensures.synced in
+          weaker g.D.Disk.moment g.D.Disk.left_since d1 c.settle.new.disk (StandsFor found.root (texts_found found cache a)) (λ (image : Files). RecoversWith cache image a) (c.settle.ensures.any_moment (texts_found found cache a) so.0) so.1;
+    })

@@ -1,0 +1,139 @@
+-- A purge and an edit: what is planned, and then carried out.
+use Rattle.std.specs.Prelude.{◌≡◌, ◌≢◌, ◌⊎◌, ◌+◌, ◌-◌, ◌^◌, ◌<◌, ◌≤◌, ◌==◌, ◌||◌, nat_lt, not, ℕ, zero, suc, Bool, true, false, if◌then◌else◌, List, [], ◌∷◌, ◌++◌, length, slice_get, Option, Some, None, Result, Ok, Err, refl}
+use Rattle.std.specs.List.{AllZip, filter}
+use Rattle.std.specs.Str.{bytes_eq}
+use Rattle.std.proofs.Common.{◌∙◌, sym, ap, subst, inl, inr, arith}
+use Rattle.std.proofs.lemmas.Bool.Decides.{nat_tests}
+use Rattle.std.proofs.lemmas.Option.{same_Some}
+use Rattle.arch_base.specs.declared.ids.Id20.{Id20}
+use Rattle.arch_base.specs.Moments.{last_moment}
+use Rattle.disk_model.specs.Disk.{Content, Files, Image, LeavesOnly, Told, Unchanged, WhereTold}
+use Rattle.disk_model.specs.Moments.{joined, weaker}
+use Rattle.mail_reader.specs.StorageTexts.{IsStorageText}
+use Rattle.arch_model.specs.Archives.{Entry, Archive, IsFree, in_epoch, live, message, messages, text_of, with_entry, without_entries, without_text}
+use Rattle.arch_model.specs.Delivery.{collision, last_epoch, new_epoch, takes_more}
+use Rattle.arch_model.specs.Epochs.{epoch_bytes}
+use Rattle.arch_model.specs.Validity.{IsArchive, IsEntry}
+use Rattle.arch_model.proofs.Commands.{apart_ids, agrees-alone}
+use Rattle.arch_model.proofs.Purging.{valid_without}
+use Rattle.arch_model.proofs.ValidArchives.{all_weaker, archive_grows, not_before}
+use Rattle.epoch_file.specs.Runs.{OnlyReads}
+use Rattle.epoch_file.specs.declared.refusal.StoreRefusal.{StoreRefusal}
+use Rattle.epoch_file.specs.declared.refusal.StoreRefusal.TheVariants.{DiskFault, NoMemory, Damaged}
+use Rattle.epoch_store.specs.declared.entries.StoredEntry.{StoredEntry}
+use Rattle.epoch_store.specs.Leaving.{disk_recovers}
+use Rattle.epoch_store.specs.Planning.{KeepsPlanned, Planning, PlansArchive, PlansPurge, PlansUndamaged, PlansWithout}
+use Rattle.epoch_store.specs.Stores.{DropsEntries, HasSizes, InEpochs, IsDiskWith, IsStoreWith, Keeps, KeptOf, RecoversOneOf, SeesNoDamage, UnlessFailed, View, stored_after, without_blob}
+use Rattle.epoch_store.proofs.Delivering.{store_keeps}
+use Rattle.epoch_store.proofs.FindingTold.{reads_both}
+use Rattle.epoch_store.proofs.Planned.{last_at_most}
+use Rattle.epoch_store.proofs.Purged.{one_content}
+
+-- The archive on the store's own disk.
+stands_one : (v : View) (cache : List ℕ) (a b : Archive) (k : Option Content) (image : Files) → IsStoreWith v cache a k → Image k image → RecoversOneOf cache a [] b image
+stands_one v cache a b None image store left = absurd store
+stands_one v cache a b (Some k) image store left = inl (disk_recovers v cache a k image store left)
+
+-- A disk that reads as before is the same store's.
+pub store_same : (v : View) (cache : List ℕ) (a : Archive) (k m : Option Content) → Told Unchanged k m → IsStoreWith v cache a k → IsStoreWith v cache a m
+store_same v cache a None m same store = absurd store
+store_same v cache a (Some k) None same store = absurd same
+store_same v cache a (Some k) (Some m) same store = subst (IsDiskWith v cache a) (sym (one_content k m same)) store
+
+pub sizes_same : (v : View) (k m : Option Content) → Told Unchanged k m → WhereTold (HasSizes v) k → WhereTold (HasSizes v) m
+sizes_same v None None same sizes = tt
+sizes_same v None (Some m) same sizes = absurd same
+sizes_same v (Some k) None same sizes = absurd same
+sizes_same v (Some k) (Some m) same sizes = subst (HasSizes v) (sym (one_content k m same)) sizes
+
+-- No damage was found where the disk told its content.
+pub undamaged_then : {T : Type 0} (v : View) (result : Result T StoreRefusal) (k m : Option Content) → Told Unchanged k m → WhereTold (λ (c : Content). SeesNoDamage result) m → PlansUndamaged v result k
+undamaged_then v result None m same sees = λ a cache store. absurd store
+undamaged_then v result (Some k) None same sees = absurd same
+undamaged_then v result (Some k) (Some m) same sees = λ a cache store. sees
+
+pub undamaged_as : (S T : Type 0) (v : View) (refusal : StoreRefusal) (k : Option Content) → PlansUndamaged {T = S} v (Err refusal) k → PlansUndamaged {T = T} v (Err refusal) k
+undamaged_as S T v DiskFault k sees = λ a cache store. tt
+undamaged_as S T v NoMemory k sees = λ a cache store. tt
+undamaged_as S T v (Damaged file at) k sees = sees
+
+-- An error of any kind.
+pub unless_any : (T : Type 0) (P : Type 0) (refusal : StoreRefusal) → P → UnlessFailed {T = T} (Err refusal) P
+unless_any T P DiskFault p = tt
+unless_any T P NoMemory p = p
+unless_any T P (Damaged file at) p = p
+
+unless_weaker : {T : Type 0} (P Q : Type 0) (result : Result T StoreRefusal) → (P → Q) → UnlessFailed result P → UnlessFailed result Q
+unless_weaker P Q (Ok given) less p = tt
+unless_weaker P Q (Err DiskFault) less p = tt
+unless_weaker P Q (Err NoMemory) less p = less p
+unless_weaker P Q (Err (Damaged file at)) less p = less p
+
+-- A disk that was only read, and then what is carried out.
+module _ {D : Type 0} (content : D → Option Content) (moment : D → ℕ) (left_since : D → ℕ → Files → Type 0) (faults : D → ℕ) where
+  pub read_leaves : (v : View) (cache : List ℕ) (a b : Archive) (old mid : D) → IsStoreWith v cache a (content old) → OnlyReads content moment left_since faults old mid → LeavesOnly moment left_since old mid (RecoversOneOf cache a [] b)
+  read_leaves v cache a b old mid store reads = weaker moment left_since old mid (Image (content old)) (RecoversOneOf cache a [] b) reads.any_moment (λ image left. stands_one v cache a b (content old) image store left)
+
+  pub then_leaves : (v : View) (cache : List ℕ) (a b : Archive) (old mid new : D) → IsStoreWith v cache a (content old) → OnlyReads content moment left_since faults old mid → LeavesOnly moment left_since mid new (RecoversOneOf cache a [] b) → LeavesOnly moment left_since old new (RecoversOneOf cache a [] b)
+  then_leaves v cache a b old mid new store reads run =
+      let P = RecoversOneOf cache a [] b in
+      joined moment left_since old mid new P P P (read_leaves v cache a b old mid store reads) run (λ image r. r) (λ image r. r)
+
+  pub reads_then : {T : Type 0} (result : Result T StoreRefusal) (old mid new : D) → OnlyReads content moment left_since faults old mid → UnlessFailed result (OnlyReads content moment left_since faults mid new) → UnlessFailed result (OnlyReads content moment left_since faults old new)
+  reads_then result old mid new first then_ = unless_weaker (OnlyReads content moment left_since faults mid new) (OnlyReads content moment left_since faults old new) result (λ more. reads_both content moment left_since faults old mid new first more) then_
+
+-- The archive without a text is planned.
+pub purged_archive : (v : View) (cache : List ℕ) (a : Archive) (text : List ℕ) (p : Planning) → Keeps v a → PlansWithout v.root cache a text p.plans × (p.entries ≡ stored_after [] (without_text a.entries text)) → PlansArchive v.root cache a (without_entries a text) p v.root.next
+purged_archive v cache a text p keeps plans = record {
+  valid = valid_without a text keeps.valid;
+  config = refl;
+  next_is = sym keeps.names.next;
+  entries = plans.1;
+  parts = plans.0.parts;
+  whole = plans.0.whole;
+}
+
+-- The entries that are kept are in epochs.
+first_low : (e : StoredEntry) (es : List StoredEntry) → InEpochs (e ∷ es) → e.epoch ≤ 63
+first_low e es all = all 0 e refl
+
+rest_low : (e : StoredEntry) (es : List StoredEntry) → InEpochs (e ∷ es) → InEpochs es
+rest_low e es all = λ i f here. all (suc i) f here
+
+low_step : (t : Bool) (e : StoredEntry) (ws fs : List StoredEntry) → e.epoch ≤ 63 → ((gs : List StoredEntry) → AllZip KeptOf ws gs → InEpochs gs) → AllZip KeptOf (if t then e ∷ ws else ws) fs → InEpochs fs
+low_step false e ws fs low rest all = rest fs all
+low_step true e ws [] low rest all = absurd all
+low_step true e ws (f ∷ fs) low rest all = at where
+  at : InEpochs (f ∷ fs)
+  at zero g here = (let same = ap (λ (s : StoredEntry). s.epoch) (same_Some f g here) in let kept = all.0.epoch in omega (arith, same, kept, low))
+  at (suc i) g here = rest fs all.1 i g here
+
+pub kept_low : (es fs : List StoredEntry) (blob : List ℕ) → InEpochs es → AllZip KeptOf (without_blob es blob) fs → InEpochs fs
+kept_low [] [] blob low all = low
+kept_low [] (f ∷ fs) blob low all = absurd all
+kept_low (e ∷ es) fs blob low all = low_step (not (bytes_eq blob e.seen.blob.0)) e (without_blob es blob) fs (first_low e es low) (λ gs more. kept_low es gs blob (rest_low e es low) more) all
+
+-- What is kept after a purge.
+pub purge_drops : (v new : View) (blob : Id20) (p : Planning) → PlansPurge v blob p.entries p.plans → KeepsPlanned v p v.root.next new → DropsEntries v new blob
+purge_drops v new blob p plans kept = record {
+  entries = subst (AllZip KeptOf (without_blob v.entries blob.0)) (sym kept.entries) plans.kept;
+  next = kept.root.next;
+  config = kept.root.config;
+}
+
+-- The epoch of the next entry is one of the 64.
+new_low : (last limit len : ℕ) → last ≤ 63 → (if takes_more limit last len then last else last + 1) ≤ 63
+new_low last limit len low = by (last == 63) refl (nat_lt len limit) where
+  by : (t : Bool) → (last == 63) ≡ t → (u : Bool) → (if t || u then last else last + 1) ≤ 63
+  by true is u = low
+  by false is true = low
+  by false is false = (let apart : last ≢ 63 = (λ same. (let hit : (last == 63) ≡ true = grind (arith, nat_tests, same) in let wrong : true ≡ false = sym hit ∙ is in cc)) in omega (arith, low, apart))
+
+pub epoch_low : (b : Archive) → IsArchive b → new_epoch b ≤ 63
+epoch_low b valid = new_low (last_epoch b.entries) b.config.limit (length (epoch_bytes (in_epoch b.entries (last_epoch b.entries)))) (last_at_most b.entries 63 (all_weaker IsEntry (λ (f : Entry). f.epoch ≤ 63) b.entries (λ f entry. entry.epoch) valid.entries))
+
+-- The archive with one more message is valid.
+pub edited_valid : (b : Archive) (text : List ℕ) (moment : ℕ) → IsArchive b → b.next ≤ b.config.max → IsStorageText text → IsFree (live b.entries) text → collision b.entries text ≡ None → moment ≤ last_moment → IsArchive (with_entry b (new_epoch b) text moment)
+edited_valid b text moment valid left storage free alone in_time =
+    let high = valid.config.max_high in
+    archive_grows b (new_epoch b) text moment valid (omega (arith, left, high)) (record { text = storage; epoch = epoch_low b valid; moment = in_time }) (not_before b) (apart_ids (live b.entries) text free.0 free.1 free.2) (agrees-alone b.entries text alone)

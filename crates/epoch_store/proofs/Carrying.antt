@@ -1,0 +1,157 @@
+-- Plans that are carried out: the archive that they leave, and what the store then keeps.
+use Rattle.std.specs.Prelude.{◌≡◌, ◌≢◌, ◌⊎◌, ◌+◌, ◌-◌, ◌<◌, ◌≤◌, nat_lt, ℕ, Bool, true, false, if◌then◌else◌, List, [], length, get_or, Option, Some, None, Result, Ok, Err, refl}
+use Rattle.std.proofs.Common.{◌∙◌, sym, ap, subst, inl, inr, arith}
+use Rattle.std.proofs.lemmas.Bool.{cases_lt}
+use Rattle.disk_model.specs.declared.name.FileKind.{FileKind}
+use Rattle.disk_model.specs.declared.name.FileKind.TheVariants as kind
+use Rattle.disk_model.specs.declared.name.FileName.{FileName}
+use Rattle.disk_model.specs.Disk.{Files, Content, WhereTold, LeavesOnly, bytes_of}
+use Rattle.disk_model.specs.Moments.{weaker}
+use Rattle.root_slots.specs.declared.root.Place.{Place}
+use Rattle.root_slots.specs.declared.root.Root.{Root}
+use Rattle.root_slots.specs.RootName.{root_name}
+use Rattle.root_slots.specs.Valid.{IsRoot, RootFits, no_place}
+use Rattle.root_change.specs.declared.plan.Target.{Target}
+use Rattle.root_change.specs.declared.plan.Target.TheVariants.{Anew, Behind}
+use Rattle.root_change.specs.Names.{map_name, named_by, names_file, named_end, named_some, named_none, place_of}
+use Rattle.root_change.specs.Parts.{Parts, PartsFit, IsOwn, RecoversBy as RecoversParts, texts_of}
+use Rattle.root_change.specs.Rewriting.{IsRootAfter, Plan, RecoversPlanned, map_by, map_planned, place_anew, place_by, place_planned, plan_count, plan_of, rewritten}
+use Rattle.root_change.specs.Texts.{HasPartSizes, HasSizes as HasAllSizes, IsOn, StandsFor}
+use Rattle.root_change.proofs.Drops.{named, named_root, named_map, named_number, named_epoch, true_or_false}
+use Rattle.root_change.proofs.Grown.{epoch_isnt_root, map_isnt_root, epoch_is_named, map_is_named}
+use Rattle.root_change.proofs.Sizes.{end_at_most}
+use Rattle.arch_model.specs.Archives.{Archive}
+use Rattle.epoch_store.specs.declared.entries.StoredEntry.{StoredEntry}
+use Rattle.epoch_store.specs.Files.{map_file_of, epoch_file_of}
+use Rattle.epoch_store.specs.Planning.{IsReady, Planning, PlansArchive}
+use Rattle.epoch_store.specs.Recovery.{Names, parts_of, RecoversWith}
+use Rattle.epoch_store.specs.Stores.{HasSizes, IsStoreWith, Keeps, RecoversOneOf, Rewrites, View}
+use Rattle.epoch_store.proofs.Delivering.{store_keeps, store_cache}
+use Rattle.epoch_store.proofs.Parted.{store_owns}
+
+-- The archive after plans.
+module _ (old : Root) (cache : List ℕ) (a b : Archive) (p : Planning) (next : ℕ) (made : PlansArchive old cache a b p next) where
+  planned_parts : rewritten old p.plans (parts_of a cache) ≡ parts_of b []
+  planned_parts = λ i. λ (k : FileKind) (n : ℕ). made.parts k n i
+
+  module _ (config : old.config ≡ a.config) (new : Root) (after : IsRootAfter old p.plans next new) where
+    names_next : IsRoot new → RootFits new → PartsFit new (rewritten old p.plans (parts_of a cache)) → Names new b
+    names_next valid fits long = record {
+      is_root = valid;
+      fits = fits;
+      config = after.config ∙ (config ∙ sym made.config);
+      next = after.next ∙ sym made.next_is;
+      epochs = λ e below. sym (subst (λ (parts : Parts). length (parts kind.Epoch e) ≡ (place_of new kind.Epoch e).length) planned_parts (long kind.Epoch e));
+    }
+
+    no_cache : new.cache.length ≡ 0
+    no_cache = ap (λ (q : Place). q.length) after.cache
+
+    recovers_next : (image : Files) → RecoversParts new (rewritten old p.plans (parts_of a cache)) image → RecoversWith [] image b
+    recovers_next image by = (
+      new,
+      record {
+        valid = made.valid;
+        names = names_next by.valid by.fits by.long;
+        cache_long = no_cache;
+        stands = subst (λ (parts : Parts). StandsFor new (texts_of new parts) image) planned_parts by.stands;
+      },
+    )
+
+    store_next : (free : ℕ) (k : Option Content) → IsOwn new (1 - free) (rewritten old p.plans (parts_of a cache)) k → IsStoreWith (record { root = new; slot = free; entries = p.entries }) [] b k
+    store_next free None own = absurd own.on
+    store_next free (Some k) own = record {
+      keeps = record { valid = made.valid; names = names_next own.valid own.fits own.long; kept = made.entries };
+      cache_long = no_cache;
+      on = subst (λ (parts : Parts). IsOn new (1 - free) (texts_of new parts) k) planned_parts own.on;
+    }
+
+-- Plans of a store's own disk.
+module _ {D : Type 0} (content : D → Option Content) (moment : D → ℕ) (left_since : D → ℕ → Files → Type 0) (v : View) (cache : List ℕ) (a b : Archive) (p : Planning) (next : ℕ) (disk : D) (store : IsStoreWith v cache a (content disk)) (made : PlansArchive v.root cache a b p next) (free : ℕ) (free_is : free ≡ 1 - v.slot) where
+  pub carried_own : IsOwn v.root free (parts_of a cache) (content disk)
+  carried_own = subst (λ (f : ℕ). IsOwn v.root f (parts_of a cache) (content disk)) (sym free_is) (store_owns v cache a (content disk) store)
+
+  keeps : Keeps v a
+  keeps = store_keeps v cache a (content disk) store
+
+  -- What a crash leaves.
+  pub carried_leaves : (new : D) → ((parts : Parts) → IsOwn v.root free parts (content disk) → LeavesOnly moment left_since disk new (RecoversPlanned v.root p.plans next parts)) → LeavesOnly moment left_since disk new (RecoversOneOf cache a [] b)
+  carried_leaves new leaves =
+      weaker moment left_since disk new (RecoversPlanned v.root p.plans next (parts_of a cache)) (RecoversOneOf cache a [] b) (leaves (parts_of a cache) carried_own)
+      (λ image either. elim either [
+        | inl by ↦ inl (v.root, record { valid = keeps.valid; names = keeps.names; cache_long = store_cache v cache a (content disk) store; stands = by.stands })
+        | inr r ↦ inr (recovers_next v.root cache a b p next made keeps.names.config r.0 r.1 image r.2)
+      ])
+
+  -- What the store has then.
+  pub carried_store : (root : Root) (k : Option Content) → IsRootAfter v.root p.plans next root → ((parts : Parts) → IsOwn v.root free parts (content disk) → IsOwn root (1 - free) (rewritten v.root p.plans parts) k) → IsStoreWith (record { root = root; slot = free; entries = p.entries }) [] b k
+  carried_store root k after done = store_next v.root cache a b p next made keeps.names.config root after free k (done (parts_of a cache) carried_own)
+
+-- The files that a store names have at least their sizes, but for the cache.
+pub part_sizes : (v : View) (k : Option Content) → WhereTold (HasSizes v) k → WhereTold (HasPartSizes v.root) k
+part_sizes v None sizes = tt
+part_sizes v (Some k) sizes = record {
+  root_file = sizes.root;
+  lengths = λ name apart other.
+      elim (true_or_false (names_file v.root name)) [
+        | inl is ↦ (let at_most = end_at_most v.root name in let enough = by name.kind name.number name.gen_ apart other is in omega (arith, at_most, enough))
+        | inr isnt ↦ (let none = named_none v.root name isnt in omega (arith, none))
+      ];
+} where
+  by : (t : FileKind) (n g : ℕ) → named t n g ≢ root_name → t ≢ kind.Cache → named_by v.root t n g ≡ true → (place_of v.root t n).length ≤ length (bytes_of (k (named t n g)).seen)
+  by kind.Root n g apart other is = absurd (apart (named_root v.root n g is))
+  by kind.Map n g apart other is =
+      subst (λ (f : FileName). (place_of v.root kind.Map f.number).length ≤ length (bytes_of (k f).seen)) (sym (named_map v.root n g is)) sizes.map_long
+  by kind.Cache n g apart other is = absurd (other refl)
+  by kind.Epoch n g apart other is =
+      subst (λ (h : ℕ). (place_of v.root kind.Epoch n).length ≤ length (bytes_of (k (named kind.Epoch n h)).seen)) (sym (named_epoch v.root n g is)) (sizes.epochs_long n (named_number v.root n g is))
+
+-- So have those that a root names after plans.
+pub sizes_carried : (root : Root) (slot : ℕ) (entries : List StoredEntry) (k : Option Content) → WhereTold (HasAllSizes root) k → WhereTold (HasSizes (record { root = root; slot = slot; entries = entries })) k
+sizes_carried root slot entries None sizes = tt
+sizes_carried root slot entries (Some k) sizes = record {
+  root = sizes.root_file;
+  map_long = subst (λ (n : ℕ). n ≤ length (bytes_of (k (map_file_of root)).seen)) (named_some root (map_file_of root) (map_is_named root root.map.gen_ refl)) (sizes.lengths (map_file_of root) (map_isnt_root root.map.gen_));
+  epochs_long = λ e below. elim (cases_lt 0 (get_or root.epochs e no_place).length) [
+    | inl some ↦
+        subst (λ (n : ℕ). n ≤ length (bytes_of (k (epoch_file_of root e)).seen)) (named_some root (epoch_file_of root e) (epoch_is_named root e (get_or root.epochs e no_place).gen_ below some refl))
+        (sizes.lengths (epoch_file_of root e) (epoch_isnt_root e (get_or root.epochs e no_place).gen_))
+    | inr none ↦ omega (arith, none)
+  ];
+}
+
+-- A part stays in its file, or is in one of the new generation, or has no bytes.
+anew_goes : (n count : ℕ) → ((place_anew n count).gen_ ≡ n) ⊎ (place_anew n count ≡ no_place)
+anew_goes n count = by (nat_lt 0 count) where
+  by : (t : Bool) → ((if t then record { gen_ = n; length = count } else no_place).gen_ ≡ n) ⊎ ((if t then record { gen_ = n; length = count } else no_place) ≡ no_place)
+  by true = inl refl
+  by false = inr refl
+
+target_goes : (n : ℕ) (target : Target) (place : Place) (count : ℕ) → ((place_by n target place count).gen_ ≡ place.gen_) ⊎ (((place_by n target place count).gen_ ≡ n) ⊎ (place_by n target place count ≡ no_place))
+target_goes n Anew place count = inr (anew_goes n count)
+target_goes n Behind place count = by (nat_lt 0 place.length) where
+  after : Place
+  after = record { gen_ = place.gen_; length = place.length + count }
+
+  by : (t : Bool) → ((if t then after else place_anew n count).gen_ ≡ place.gen_) ⊎ (((if t then after else place_anew n count).gen_ ≡ n) ⊎ ((if t then after else place_anew n count) ≡ no_place))
+  by true = inl refl
+  by false = inr (anew_goes n count)
+
+plan_goes : (n : ℕ) (plan : Option Plan) (place : Place) → ((place_planned n plan place).gen_ ≡ place.gen_) ⊎ (((place_planned n plan place).gen_ ≡ n) ⊎ (place_planned n plan place ≡ no_place))
+plan_goes n None place = inl refl
+plan_goes n (Some plan) place = target_goes n plan.target place (plan_count plan)
+
+-- The new root goes on from the old one.
+pub carried_on : (old new : Root) (plans : List Plan) (next : ℕ) → IsReady old plans next → IsRootAfter old plans next new → Rewrites old new
+carried_on old new plans next ready after = record {
+  sequence = after.sequence;
+  map =
+      ap (λ (q : Place). q.gen_) after.map
+      ∙ (ap (λ (o : Option Plan). (map_planned (old.sequence + 1) o old.map).gen_) ready.map_is
+      ∙ (ap (λ (t : Target). (map_by (old.sequence + 1) t old.map (plan_count ready.map_plan)).gen_) ready.map_anew ∙ sym after.sequence));
+  cache = after.cache;
+  epochs = λ e below.
+      subst (λ (q : Place). (q.gen_ ≡ (get_or old.epochs e no_place).gen_) ⊎ ((q.gen_ ≡ new.sequence) ⊎ (q ≡ no_place))) (sym (after.epochs e below))
+      (subst (λ (n : ℕ). ((place_planned (old.sequence + 1) (plan_of plans kind.Epoch e) (get_or old.epochs e no_place)).gen_ ≡ (get_or old.epochs e no_place).gen_) ⊎ (((place_planned (old.sequence + 1) (plan_of plans kind.Epoch e) (get_or old.epochs e no_place)).gen_ ≡ n) ⊎ (place_planned (old.sequence + 1) (plan_of plans kind.Epoch e) (get_or old.epochs e no_place) ≡ no_place))) (sym after.sequence)
+      (plan_goes (old.sequence + 1) (plan_of plans kind.Epoch e) (get_or old.epochs e no_place)));
+}

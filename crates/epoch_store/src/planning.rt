@@ -1,0 +1,333 @@
+//! Plans an archive without the entries of a text.
+ghost use Rattle.std.specs.Prelude.{◌≡◌, ◌+◌, ◌≤◌, [], Err, IfErr, IfOk, OnOk};
+ghost use Rattle.std.specs.Str.{bytes_eq};
+ghost use Rattle.arch_base.specs.Counts.{RoseIf};
+ghost use Rattle.disk_model.specs.Sizes.{greatest_epoch};
+ghost use Rattle.root_slots.specs.declared.root.Root.{Root};
+ghost use Rattle.root_slots.specs.Valid.{IsRoot};
+ghost use Rattle.root_change.specs.Rewriting.{IsPlan};
+ghost use Rattle.arch_model.specs.Archives.{Archive};
+ghost use Rattle.arch_model.specs.Validity.{IsArchive};
+ghost use Rattle.epoch_file.specs.Runs.{OnlyReads};
+ghost use Rattle.epoch_store.specs.Files.{epoch_file_of, map_file_of};
+ghost use Rattle.epoch_store.specs.Planning.{AppendsRecord, AreAnew, AreFrom, ArePlansIn, AreValid, AreWithin, Closes, ClosesLast, FinishesPlans, IsIndexOf, IsReady, KeepsBut, KeepsEntry, LeavesOut, Opens, Pushes, RefusesEntry, TakesNext, no_planning, plans_with, refusal_in, with_gone};
+ghost use Rattle.epoch_store.specs.Stores.{InEpochs, IsEnd, stored_after};
+
+use crate::entries::StoredEntry;
+use crate::next::End;
+use arch_base::{NoMemory, Numbers, ObjectId};
+use disk_model::{Disk, FileKind, FileName, WalkRefusal};
+use epoch_file::{EpochPlan, StoreRefusal};
+use git_objects::EntryKind;
+use number_map::{Record, plan_without, push_record};
+use root_change::{PartPlan, Target};
+use std::alloc::Global;
+use std::marker::Model;
+
+/// What is planned of the entries of an archive so far, without those of a text.
+#[derive(Drop)]
+pub(crate) struct Planner {
+    alloc: Global,
+    /// The plans of the epochs that lose an entry, up to the one before the current, and at the end
+    /// the plan of the map.
+    pub(crate) plans: Vec<PartPlan>,
+    /// What is kept of the entries that stay.
+    pub(crate) entries: Vec<StoredEntry>,
+    /// The numbers of the messages that don't stay, which rise.
+    gone: Numbers,
+    /// The last of these numbers, or 0.
+    top: u32,
+    /// The plan of the current epoch.
+    current: Option<EpochPlan>,
+}
+
+impl Model for Planner {
+    ghost use Rattle.std.specs.Prelude.{◌≡◌};
+    ghost use Rattle.epoch_store.specs.Planning.{Planning, IsPlanning};
+
+    ghost Value = { Planning };
+
+    ghost view = { λ p. record {
+      plans = p.plans.items;
+      entries = p.entries.items;
+      gone = p.gone;
+      current = p.current;
+    } };
+
+    ghost invariant = { λ p. IsPlanning p.top (record {
+      plans = p.plans.items;
+      entries = p.entries.items;
+      gone = p.gone;
+      current = p.current;
+    }) };
+}
+
+impl Planner {
+    /// Returns the plan of no entries.
+    pub(crate) fn new(alloc: Global) -> Planner
+        ensures { result ≡ no_planning }
+    {
+        Planner {
+            alloc,
+            plans: Vec::new(alloc),
+            entries: Vec::new(alloc),
+            gone: Numbers::new(alloc),
+            top: 0,
+            current: None,
+        }
+    }
+
+    /// Takes the next entry, which stays unless it has this blob id. `file` is that of its epoch.
+    ///
+    /// `Damaged` if the text of an entry that gets another commit has another blob id. The plan is of
+    /// no more use after an error.
+    pub(crate) fn take<D: Disk>(
+        &mut self,
+        disk: &mut D,
+        file: FileName,
+        entry: &StoredEntry,
+        blob: &ObjectId,
+    ) -> Result<(), StoreRefusal>
+        requires epoch { entry.now.epoch ≤ greatest_epoch }
+        ensures taken { TakesNext self.old file entry.now blob.now (D.content disk.old) self.new
+            result }
+        // Whatever the disk holds.
+        ensures kept { OnOk result (KeepsBut (bytes_eq blob.now.0 entry.now.seen.blob.0)
+            self.old.entries entry.now self.new.entries) }
+        ensures plans { (root : Root) → file ≡ epoch_file_of root entry.now.epoch
+            → ArePlansIn root self.old → OnOk result (ArePlansIn root self.new) }
+        ensures reads { OnlyReads D.content D.moment D.left_since D.faults disk.old disk.new }
+        ensures fewest { D.reads disk.old ≤ D.reads disk.new }
+        ensures cause { RoseIf (result ≡ Err StoreRefusal.DiskFault) (D.faults disk.old)
+            (D.faults disk.new) }
+    {
+        let plan = self.open(file)?;
+        if *blob == entry.seen.blob {
+            self.leave_out(plan, entry)?;
+            return Ok(());
+        }
+        match self.keep(disk, plan, entry) {
+            Ok(()) => Ok(()),
+            Err(refusal) => Err(damaged_in(file, &refusal)),
+        }
+    }
+
+    /// Leaves an entry out of the current epoch, which is planned so far.
+    fn leave_out(&mut self, plan: EpochPlan, entry: &StoredEntry) -> Result<(), NoMemory>
+        ensures { OnOk result (LeavesOut self.old plan entry.now self.new) }
+    {
+        let mut plan = plan;
+        plan.leave_out(self.alloc, &entry.seen)?;
+        self.drop_number(entry)?;
+        self.current = Some(plan);
+        Ok(())
+    }
+
+    /// Keeps an entry of the current epoch, which is planned so far.
+    fn keep<D: Disk>(
+        &mut self,
+        disk: &mut D,
+        plan: EpochPlan,
+        entry: &StoredEntry,
+    ) -> Result<(), WalkRefusal>
+        ensures kept { OnOk result (KeepsEntry self.old plan entry.now (D.content disk.old) self.new) }
+        ensures refused { IfErr result (λ refusal.
+            RefusesEntry plan entry.now (D.content disk.old) refusal) }
+        ensures reads { OnlyReads D.content D.moment D.left_since D.faults disk.old disk.new }
+        ensures fewest { D.reads disk.old ≤ D.reads disk.new }
+        ensures cause { RoseIf (result ≡ Err WalkRefusal.DiskFault) (D.faults disk.old)
+            (D.faults disk.new) }
+    {
+        let mut plan = plan;
+        let seen = match plan.keep(self.alloc, disk, &entry.seen) {
+            Ok(seen) => seen,
+            Err(refusal) => return Err(refusal),
+        };
+        let kept = StoredEntry {
+            number: entry.number,
+            epoch: entry.epoch,
+            seen,
+        };
+        let Ok(()) = self.entries.push(kept) else {
+            return Err(WalkRefusal::NoMemory);
+        };
+        self.current = Some(plan);
+        Ok(())
+    }
+
+    /// Returns the plan of a file, which is the current one or a new one. Closes the current one if it
+    /// is of another file.
+    fn open(&mut self, file: FileName) -> Result<EpochPlan, NoMemory>
+        ensures opened { IfOk result (Opens self.old file self.new) }
+    {
+        let Some(plan) = self.current.take() else {
+            return Ok(EpochPlan::new(file));
+        };
+        if plan.file() == file {
+            return Ok(plan);
+        }
+        self.close(plan)?;
+        Ok(EpochPlan::new(file))
+    }
+
+    /// Keeps the plan of an epoch whose entries have all been taken, if it loses one.
+    fn close(&mut self, plan: EpochPlan) -> Result<(), NoMemory>
+        ensures { OnOk result (Closes self.old plan self.new) }
+    {
+        match plan.finish(self.alloc) {
+            Some(plan) => self.push(plan),
+            None => Ok(()),
+        }
+    }
+
+    /// Keeps a plan. No part of an archive is planned twice.
+    fn push(&mut self, plan: PartPlan) -> Result<(), NoMemory>
+        requires { IsPlan plan }
+        ensures { OnOk result (Pushes self.old plan self.new) }
+    {
+        let None = self.find(plan.kind(), plan.number()) else {
+            return Err(NoMemory);
+        };
+        let Ok(()) = self.plans.push(plan) else {
+            return Err(NoMemory);
+        };
+        Ok(())
+    }
+
+    /// Returns the index of the plan of a part, if there is one.
+    pub(crate) fn find(&self, kind: FileKind, number: u32) -> Option<usize>
+        ensures { IsIndexOf self.now.plans kind number result }
+    {
+        for at in 0..self.plans.len() {
+            let plan = &self.plans[at];
+            if plan.kind() == kind && plan.number() == number {
+                return Some(at);
+            }
+        }
+        None
+    }
+
+    /// Returns the epoch of the last entry that stays, and its commit.
+    pub(crate) fn end(&self) -> End
+        requires { InEpochs self.now.entries }
+        ensures small { result.epoch ≤ greatest_epoch }
+        ensures end { (b : Archive) → IsArchive b → self.now.entries ≡ stored_after [] b.entries
+            → IsEnd b result }
+    {
+        match self.entries.last() {
+            None => End {
+                epoch: 0,
+                parent: None,
+            },
+            Some(entry) => End {
+                epoch: entry.epoch,
+                parent: Some(entry.seen.commit),
+            },
+        }
+    }
+
+    /// Keeps the number of an entry that is left out, if that is a message. The numbers of an
+    /// archive's messages rise.
+    fn drop_number(&mut self, entry: &StoredEntry) -> Result<(), NoMemory>
+        ensures { OnOk result (self.new ≡ with_gone self.old entry.now) }
+    {
+        match entry.seen.kind {
+            EntryKind::Deletion => Ok(()),
+            EntryKind::Message => {
+                if entry.number <= self.top {
+                    return Err(NoMemory);
+                }
+                self.gone.push(u64::from(entry.number))?;
+                self.top = entry.number;
+                Ok(())
+            }
+        }
+    }
+
+    /// Closes the current epoch, and plans the map of `count` records without the messages that are
+    /// gone.
+    pub(crate) fn finish(&mut self, map: FileName, count: u32) -> Result<(), NoMemory>
+        ensures finished { OnOk result (FinishesPlans self.old map count self.new) }
+        // Whatever the disk holds.
+        ensures ready { (root : Root) → IsRoot root → map ≡ map_file_of root
+            → ArePlansIn root self.old → OnOk result
+            (AreFrom root self.new.plans × AreAnew self.new.plans
+            × (AreWithin root self.new.plans → IsReady root self.new.plans (count + 1))) }
+    {
+        self.close_last()?;
+        if self.top > count {
+            return Err(NoMemory);
+        }
+        let plan = plan_without(self.alloc, map, count, &self.gone)?;
+        self.push(plan)?;
+        Ok(())
+    }
+
+    /// Closes the current epoch, if there is one.
+    fn close_last(&mut self) -> Result<(), NoMemory>
+        ensures { OnOk result (ClosesLast self.old self.old.current self.new) }
+    {
+        match self.current.take() {
+            Some(plan) => self.close(plan),
+            None => Ok(()),
+        }
+    }
+
+    /// Appends bytes to those of an epoch, after what is planned of it.
+    pub(crate) fn append(&mut self, epoch: u32, bytes: &[u8]) -> Result<(), NoMemory>
+        ensures appended { OnOk result (self.new ≡ record {
+          plans = plans_with self.old.plans epoch bytes.now;
+          entries = self.old.entries;
+          gone = self.old.gone;
+          current = self.old.current;
+        }) }
+        ensures valid { OnOk result (AreValid self.old.plans × AreValid self.new.plans) }
+    {
+        match self.find(FileKind::Epoch, epoch) {
+            Some(at) => self.plans[at].push_bytes(bytes),
+            None => {
+                let mut plan = PartPlan::new(self.alloc, FileKind::Epoch, epoch, Target::Behind);
+                plan.push_bytes(bytes)?;
+                self.push(plan)
+            }
+        }
+    }
+
+    /// Appends a record to the plan of the map.
+    pub(crate) fn append_record(&mut self, line: &Record) -> Result<(), NoMemory>
+        ensures appended { OnOk result (AppendsRecord self.old line.now self.new) }
+        ensures valid { OnOk result (AreValid self.old.plans × AreValid self.new.plans) }
+    {
+        match self.find(FileKind::Map, 0) {
+            Some(at) => push_record(&mut self.plans[at], line),
+            // The map is planned.
+            None => Err(NoMemory),
+        }
+    }
+
+    /// Returns what is kept of the entries that stay.
+    pub(crate) fn into_entries(self) -> Vec<StoredEntry>
+        ensures { result.items ≡ self.entries }
+    {
+        let Planner {
+            alloc: _,
+            plans: _,
+            entries,
+            gone: _,
+            top: _,
+            current: _,
+        } = self;
+        entries
+    }
+}
+
+/// Returns the error of a file's reading.
+fn damaged_in(file: FileName, refusal: &WalkRefusal) -> StoreRefusal
+    ensures { result ≡ refusal_in file refusal.now }
+{
+    match refusal {
+        WalkRefusal::DiskFault => StoreRefusal::DiskFault,
+        WalkRefusal::NoMemory => StoreRefusal::NoMemory,
+        WalkRefusal::Damaged { at } => StoreRefusal::Damaged { file, at: *at },
+    }
+}

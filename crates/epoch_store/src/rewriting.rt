@@ -1,0 +1,393 @@
+//! Purges and edits of the archive on a disk.
+ghost use Rattle.std.specs.Prelude.{◌≡◌, ◌+◌, ◌-◌, ◌^◌, ◌<◌, ◌≤◌, ℕ, List, [], Err, Some, None, IfOk, OnOk, OnErr, length};
+ghost use Rattle.std.specs.List.{AllZip, Contains};
+ghost use Rattle.arch_base.specs.Counts.{RoseIf};
+ghost use Rattle.arch_base.specs.Moments.{last_moment};
+ghost use Rattle.disk_model.specs.Disk.{WhereTold, LeavesOnly};
+ghost use Rattle.disk_model.specs.Sizes.{greatest_epoch};
+ghost use Rattle.disk_model.specs.Synced.{IsSettled};
+ghost use Rattle.root_change.specs.Rewriting.{IsPlanWhole};
+ghost use Rattle.root_change.specs.Texts.{Measures, Texts};
+ghost use Rattle.mail_reader.specs.StorageTexts.{IsStorageText};
+ghost use Rattle.git_objects.specs.Objects.{blob_id_of};
+ghost use Rattle.arch_model.specs.Archives.{Archive, live, messages, text_of, with_entry, without_entries};
+ghost use Rattle.arch_model.specs.Delivery.{collision, new_epoch};
+ghost use Rattle.epoch_store.specs.declared.entries.StoredEntry.{StoredEntry};
+ghost use Rattle.epoch_store.specs.Planning.{AreFrom, ArePlansIn, AreUpTo, AreWhole, AreWithin, IsFrom, IsPlaceAfter, IsPlanWithin, IsReady, IsUpTo, Says, KeepsPlanned, PlansArchive, PlansEdit, PlansFirst, PlansOwn, PlansPurge, PlansUndamaged, length_after, no_planning};
+ghost use Rattle.epoch_file.specs.Runs.{OnlyReads};
+ghost use Rattle.epoch_store.specs.Stores.{DropsEntries, EditsEntries, HasSizes, InEpochs, IsStoreWith, KeptOf, MayEdit, MayPurge, RecoversOneOf, Rewrites, SeesNoDamage, UnlessFailed, without_blob};
+
+use crate::next::NextPlace;
+use crate::planning::Planner;
+use crate::store::{MOST, Store, own_id_of};
+use arch_base::ObjectId;
+use disk_model::{Disk, FileKind, FileName, LAST_EPOCH};
+use epoch_file::{NewEntry, StoreRefusal, Written, entry_piece};
+use git_objects::EntryKind;
+use number_map::Record;
+use root_change::{PartPlan, RewriteRefusal, Source, map_file, place_at, rewrite};
+use root_slots::Root;
+use std::alloc::Global;
+
+impl Store {
+    /// Drops each entry with the blob id of a message, in all epochs.
+    ///
+    /// Plans all that is written first, with memory for the entries and one text at a time. Then each
+    /// epoch that loses an entry, and the map, go to files of a new generation, and the root is
+    /// replaced by the one that names them. After `Ok` the old files are gone, and no file has an entry
+    /// with the text.
+    ///
+    /// At each moment a crash leaves the archive before or the one without the text, and after `Ok` the
+    /// latter. `DiskFault` comes only if the disk's count of faults rose: one of the two archives is
+    /// then there, and the store has to be reopened. `NoMemory` and `Damaged` come before the first
+    /// write: the former if memory runs out, if a file would have 2^62 bytes or more, or if what is kept
+    /// isn't of an archive; the latter if a text that is read has another blob id than its entry, or a
+    /// file is too short. `Damaged` never comes on the disk of an archive.
+    pub fn purge_text<D: Disk>(
+        &mut self,
+        alloc: Global,
+        disk: &mut D,
+        blob: &ObjectId,
+    ) -> Result<(), StoreRefusal>
+        requires may { (number : ℕ) × MayPurge self.old number blob.now }
+        requires sizes { WhereTold (HasSizes self.old) (D.content disk.old) }
+        ensures any_moment { (number : ℕ) (a : Archive) (cache text : List ℕ)
+            → IsStoreWith self.old cache a (D.content disk.old)
+            → self.old.root.sequence + 1 < 2 ^ 64
+            → text_of (messages a.entries) number ≡ Some text → blob_id_of text ≡ blob.now
+            → LeavesOnly D.moment D.left_since disk.old disk.new
+            (RecoversOneOf cache a [] (without_entries a text)) }
+        ensures done { (number : ℕ) (a : Archive) (cache text : List ℕ)
+            → IsStoreWith self.old cache a (D.content disk.old)
+            → self.old.root.sequence + 1 < 2 ^ 64
+            → text_of (messages a.entries) number ≡ Some text → blob_id_of text ≡ blob.now
+            → OnOk result (IsStoreWith self.new [] (without_entries a text) (D.content disk.new)) }
+        ensures settled { OnOk result (WhereTold IsSettled (D.content disk.new)) }
+        ensures sizes { OnOk result (WhereTold (HasSizes self.new) (D.content disk.new)) }
+        ensures goes_on { OnOk result (Rewrites self.old.root self.new.root) }
+        ensures slot { OnOk result (self.new.slot ≡ 1 - self.old.slot) }
+        ensures dropped { OnOk result (DropsEntries self.old self.new blob.now) }
+        ensures same { OnErr result (self.new ≡ self.old) }
+        // Memory runs out, and damage is found, before the first write: nothing changes on the disk.
+        ensures untouched { UnlessFailed result (OnlyReads D.content D.moment D.left_since D.faults
+            disk.old disk.new) }
+        ensures undamaged { PlansUndamaged self.old result (D.content disk.old) }
+        ensures cause { RoseIf (result ≡ Err StoreRefusal.DiskFault) (D.faults disk.old)
+            (D.faults disk.new) }
+        ensures fewest { D.reads disk.old ≤ D.reads disk.new }
+    {
+        let next = self.root.next;
+        let planned = match self.plan_without(alloc, disk, blob) {
+            Ok(planned) => planned,
+            Err(refusal) => return Err(refusal),
+        };
+        self.carry_out(disk, planned, next)
+    }
+
+    /// Drops each entry with the blob id of a live message, and appends a message in the same step: its
+    /// text takes the next number, at a moment in seconds since 1970.
+    ///
+    /// All is as at a purge. At each moment a crash leaves the archive before or the one after both.
+    pub fn edit_text<D: Disk>(
+        &mut self,
+        alloc: Global,
+        disk: &mut D,
+        old: &ObjectId,
+        text: &[u8],
+        moment: u64,
+    ) -> Result<(), StoreRefusal>
+        requires may { (number : ℕ) × MayEdit self.old number old.now text.now }
+        requires moment { moment ≤ last_moment }
+        requires sizes { WhereTold (HasSizes self.old) (D.content disk.old) }
+        ensures any_moment { (number : ℕ) (a : Archive) (cache gone : List ℕ)
+            → IsStoreWith self.old cache a (D.content disk.old)
+            → self.old.root.sequence + 1 < 2 ^ 64
+            → text_of (live a.entries) number ≡ Some gone → blob_id_of gone ≡ old.now
+            → collision (without_entries a gone).entries text.now ≡ None
+            → LeavesOnly D.moment D.left_since disk.old disk.new
+            (RecoversOneOf cache a [] (with_entry (without_entries a gone)
+            (new_epoch (without_entries a gone)) text.now moment)) }
+        ensures done { (number : ℕ) (a : Archive) (cache gone : List ℕ)
+            → IsStoreWith self.old cache a (D.content disk.old)
+            → self.old.root.sequence + 1 < 2 ^ 64
+            → text_of (live a.entries) number ≡ Some gone → blob_id_of gone ≡ old.now
+            → collision (without_entries a gone).entries text.now ≡ None
+            → OnOk result (IsStoreWith self.new [] (with_entry (without_entries a gone)
+            (new_epoch (without_entries a gone)) text.now moment) (D.content disk.new)) }
+        ensures settled { OnOk result (WhereTold IsSettled (D.content disk.new)) }
+        ensures sizes { OnOk result (WhereTold (HasSizes self.new) (D.content disk.new)) }
+        ensures goes_on { OnOk result (Rewrites self.old.root self.new.root) }
+        ensures slot { OnOk result (self.new.slot ≡ 1 - self.old.slot) }
+        ensures edited { OnOk result (EditsEntries self.old self.new old.now text.now) }
+        ensures same { OnErr result (self.new ≡ self.old) }
+        // Memory runs out, and damage is found, before the first write: nothing changes on the disk.
+        ensures untouched { UnlessFailed result (OnlyReads D.content D.moment D.left_since D.faults
+            disk.old disk.new) }
+        ensures undamaged { PlansUndamaged self.old result (D.content disk.old) }
+        ensures cause { RoseIf (result ≡ Err StoreRefusal.DiskFault) (D.faults disk.old)
+            (D.faults disk.new) }
+        ensures fewest { D.reads disk.old ≤ D.reads disk.new }
+    {
+        let next = self.root.next + 1;
+        let mut planned = self.plan_without(alloc, disk, old)?;
+        self.plan_message(alloc, &mut planned, text, moment)?;
+        self.carry_out(disk, planned, next)
+    }
+
+    /// Plans the archive without the entries with a blob id.
+    fn plan_without<D: Disk>(
+        &self,
+        alloc: Global,
+        disk: &mut D,
+        blob: &ObjectId,
+    ) -> Result<Planner, StoreRefusal>
+        requires there { (e : StoredEntry) × Contains self.now.entries e × (e.seen.blob ≡ blob.now) }
+        ensures planned { IfOk result (λ p. PlansPurge self.now blob.now p.entries p.plans) }
+        ensures own { IfOk result (λ p.
+            PlansOwn self.now blob.now p.entries p.plans (D.content disk.old)) }
+        ensures undamaged { PlansUndamaged self.now result (D.content disk.old) }
+        ensures reads { OnlyReads D.content D.moment D.left_since D.faults disk.old disk.new }
+        ensures fewest { D.reads disk.old ≤ D.reads disk.new }
+        ensures cause { RoseIf (result ≡ Err StoreRefusal.DiskFault) (D.faults disk.old)
+            (D.faults disk.new) }
+    {
+        let mut planned = Planner::new(alloc);
+        match self.plan_entries(disk, &mut planned, blob) {
+            Ok(()) => {}
+            Err(refusal) => return Err(refusal),
+        }
+        planned.finish(map_file(self.root.map.gen_), self.root.next - 1)?;
+        match check_ranges(&self.root, planned.plans.as_slice()) {
+            Ok(()) => Ok(planned),
+            Err(refusal) => Err(refusal),
+        }
+    }
+
+    /// Lets a planner take each entry.
+    fn plan_entries<D: Disk>(
+        &self,
+        disk: &mut D,
+        planned: &mut Planner,
+        blob: &ObjectId,
+    ) -> Result<(), StoreRefusal>
+        requires none { planned.old ≡ no_planning }
+        requires there { (e : StoredEntry) × Contains self.now.entries e × (e.seen.blob ≡ blob.now) }
+        ensures kept { OnOk result (AllZip KeptOf (without_blob self.now.entries blob.now.0)
+            planned.new.entries) }
+        ensures plans { OnOk result (ArePlansIn self.now.root planned.new) }
+        ensures all { OnOk result (WhereTold
+            (PlansFirst self.now blob.now (length self.now.entries) planned.new) (D.content disk.old)) }
+        ensures undamaged { PlansUndamaged self.now result (D.content disk.old) }
+        ensures reads { OnlyReads D.content D.moment D.left_since D.faults disk.old disk.new }
+        ensures fewest { D.reads disk.old ≤ D.reads disk.new }
+        ensures cause { RoseIf (result ≡ Err StoreRefusal.DiskFault) (D.faults disk.old)
+            (D.faults disk.new) }
+    {
+        for entry in self.entries.as_slice() {
+            match planned.take(disk, self.file_of(entry.epoch), entry, blob) {
+                Ok(()) => {}
+                Err(refusal) => return Err(refusal),
+            }
+        }
+        Ok(())
+    }
+
+    /// Returns the number of bytes of an epoch after what is planned.
+    fn planned_length(&self, planned: &Planner, epoch: u32) -> u64
+        requires { epoch ≤ greatest_epoch }
+        ensures { result ≡ length_after self.now.root planned.now.plans epoch }
+    {
+        match planned.find(FileKind::Epoch, epoch) {
+            Some(at) => planned.plans[at].count(),
+            None => self.root.epochs[epoch as usize].length,
+        }
+    }
+
+    /// Returns where the next entry after what is planned is written.
+    fn place_after(&self, planned: &Planner) -> NextPlace
+        requires { InEpochs planned.now.entries }
+        ensures small { result.epoch ≤ greatest_epoch }
+        ensures length { result.length
+            ≡ length_after self.now.root planned.now.plans result.epoch }
+        ensures place { IsPlaceAfter self.now.root planned.now result }
+    {
+        let end = planned.end();
+        let length = self.planned_length(planned, end.epoch);
+        if end.epoch == LAST_EPOCH || length < self.root.config.limit {
+            return NextPlace {
+                epoch: end.epoch,
+                gen_: 0,
+                length,
+                parent: end.parent,
+            };
+        }
+        let epoch = end.epoch + 1;
+        NextPlace {
+            epoch,
+            gen_: 0,
+            length: self.planned_length(planned, epoch),
+            parent: None,
+        }
+    }
+
+    /// Plans one more message, with the next number.
+    fn plan_message(
+        &self,
+        alloc: Global,
+        planned: &mut Planner,
+        text: &[u8],
+        moment: u64,
+    ) -> Result<(), StoreRefusal>
+        requires epochs { InEpochs planned.old.entries }
+        requires storage { IsStorageText text.now }
+        requires moment { moment ≤ last_moment }
+        requires left { self.now.root.next ≤ self.now.root.config.max }
+        ensures planned { OnOk result (PlansEdit self.now planned.old text.now moment planned.new) }
+        ensures refused { OnErr result (result ≡ Err StoreRefusal.NoMemory) }
+    {
+        let place = self.place_after(planned);
+        if place.length >= MOST {
+            return Err(StoreRefusal::NoMemory);
+        }
+        let id = own_id_of(alloc, text)?;
+        let entry = NewEntry {
+            kind: EntryKind::Message,
+            text,
+            moment,
+            parent: place.parent,
+        };
+        let (piece, ids) = entry_piece(alloc, place.length, &entry)?;
+        planned.append(place.epoch, piece.as_slice())?;
+        let line = Record {
+            number: self.root.next,
+            epoch: place.epoch,
+            blob: ids.blob,
+        };
+        planned.append_record(&line)?;
+        let written = Written {
+            end: place.length + piece.as_slice().len() as u64,
+            blob: ids.blob,
+            commit: ids.commit,
+        };
+        let stored = self.new_entry(&place, self.root.next, &entry, &written, id);
+        let Ok(()) = planned.entries.push(stored) else {
+            return Err(StoreRefusal::NoMemory);
+        };
+        Ok(())
+    }
+
+    /// Carries out what is planned, and keeps what it leaves. Allocates nothing.
+    fn carry_out<D: Disk>(
+        &mut self,
+        disk: &mut D,
+        planned: Planner,
+        next: u32,
+    ) -> Result<(), StoreRefusal>
+        requires ready { IsReady self.old.root planned.plans next }
+        requires next { (1 ≤ next) × (next ≤ 2147483648) }
+        requires epochs { InEpochs planned.entries }
+        requires sizes { WhereTold (HasSizes self.old) (D.content disk.old) }
+        ensures any_moment { (a b : Archive) (cache : List ℕ)
+            → IsStoreWith self.old cache a (D.content disk.old)
+            → self.old.root.sequence + 1 < 2 ^ 64
+            → PlansArchive self.old.root cache a b planned next
+            → LeavesOnly D.moment D.left_since disk.old disk.new (RecoversOneOf cache a [] b) }
+        ensures done { (a b : Archive) (cache : List ℕ)
+            → IsStoreWith self.old cache a (D.content disk.old)
+            → self.old.root.sequence + 1 < 2 ^ 64
+            → PlansArchive self.old.root cache a b planned next
+            → OnOk result (IsStoreWith self.new [] b (D.content disk.new)) }
+        ensures settled { OnOk result (WhereTold IsSettled (D.content disk.new)) }
+        ensures sizes { OnOk result (WhereTold (HasSizes self.new) (D.content disk.new)) }
+        ensures goes_on { OnOk result (Rewrites self.old.root self.new.root) }
+        ensures kept { OnOk result (KeepsPlanned self.old planned next self.new) }
+        ensures same { OnErr result (self.new ≡ self.old) }
+        ensures untouched { UnlessFailed result (OnlyReads D.content D.moment D.left_since D.faults
+            disk.old disk.new) }
+        ensures undamaged { WhereTold (λ _. SeesNoDamage result) (D.content disk.old) }
+        ensures cause { RoseIf (result ≡ Err StoreRefusal.DiskFault) (D.faults disk.old)
+            (D.faults disk.new) }
+        ensures fewest { D.reads disk.old ≤ D.reads disk.new }
+    {
+        // After the last sequence of 64 bits nothing is done. No archive takes so many commands.
+        if self.root.sequence == u64::MAX {
+            return Err(StoreRefusal::NoMemory);
+        }
+        let slot = self.slot.other();
+        match rewrite(disk, slot, &self.root, planned.plans.as_slice(), next) {
+            Ok(root) => {
+                self.root = root;
+                self.slot = slot;
+                self.entries = planned.into_entries();
+                Ok(())
+            }
+            Err(RewriteRefusal::DiskFault) => Err(StoreRefusal::DiskFault),
+            Err(RewriteRefusal::Short) => Err(StoreRefusal::Damaged {
+                file: map_file(self.root.map.gen_),
+                at: 0,
+            }),
+        }
+    }
+}
+
+/// Refuses plans with a range that ends past the bytes of its part, which the disk of an archive never
+/// has.
+fn check_ranges(root: &Root, plans: &[PartPlan]) -> Result<(), StoreRefusal>
+    requires { AreFrom root.now plans.now }
+    ensures within { OnOk result (AreWithin root.now plans.now) }
+    ensures undamaged { (texts : Texts) → Measures root.now texts → AreWhole texts plans.now
+        → SeesNoDamage result }
+    ensures failed { result ≡ Err StoreRefusal.DiskFault → ⊥ }
+{
+    for plan in plans {
+        check_plan(root, plan)?;
+    }
+    Ok(())
+}
+
+/// Refuses a plan with such a range.
+fn check_plan(root: &Root, plan: &PartPlan) -> Result<(), StoreRefusal>
+    requires { IsFrom root.now plan.now }
+    ensures within { OnOk result (IsPlanWithin root.now plan.now) }
+    ensures undamaged { (texts : Texts) → Measures root.now texts → IsPlanWhole texts plan.now
+        → SeesNoDamage result }
+    ensures failed { result ≡ Err StoreRefusal.DiskFault → ⊥ }
+{
+    let kind = plan.kind();
+    let number = plan.number();
+    let place = place_at(root, kind, number);
+    if ends_by(plan.sources(), place.length) {
+        return Ok(());
+    }
+    let file = FileName {
+        kind,
+        number,
+        gen_: place.gen_,
+    };
+    Err(StoreRefusal::Damaged {
+        file,
+        at: place.length,
+    })
+}
+
+/// Returns whether each range among sources ends up to this offset.
+fn ends_by(sources: &[Source], end: u64) -> bool
+    ensures { AreUpTo sources.now end result }
+{
+    for source in sources {
+        if !ends_up_to(source, end) {
+            return false;
+        }
+    }
+    true
+}
+
+/// Returns whether a source isn't a range that ends past this offset.
+fn ends_up_to(source: &Source, end: u64) -> bool
+    ensures { Says result (IsUpTo end source.now) }
+{
+    match source {
+        Source::Bytes { .. } => true,
+        Source::Range(range) => range.offset <= end && range.count <= end - range.offset,
+    }
+}
