@@ -6,7 +6,7 @@ use Rattle.std.proofs.lemmas.Bool.{false≢true}
 use Rattle.arch_base.specs.Counts.{RoseIf}
 use Rattle.arch_base.specs.declared.ids.Id20.{Id20}
 use Rattle.disk_model.specs.Disk.{Files, Content, Image, Told, Unchanged, ReadsFit, LeavesOnly}
-use Rattle.disk_model.specs.Moments.{started}
+use Rattle.disk_model.specs.Moments.{started, joined, weaker}
 use Rattle.arch_model.specs.Archives.{Archive, live}
 use Rattle.view_set.specs.Viewed.{views_of}
 use Rattle.arch_model.specs.Delivery.{Done, applied}
@@ -16,21 +16,21 @@ use Rattle.arch_model.specs.Standing.{Standing, standing, with_doubt, one_of, Is
 use Rattle.arch_model.specs.declared.answer.Answer.{Answer}
 use Rattle.arch_model.specs.declared.answer.Answer.TheVariants as answer
 use Rattle.arch_model.specs.declared.command.Command.{Command}
-use Rattle.arch_model.specs.declared.command.Command.TheVariants.{Deliver, Remove}
+use Rattle.arch_model.specs.declared.command.Command.TheVariants.{Deliver, Remove, Purge, Edit}
 use Rattle.arch_model.specs.declared.opening.OpenRefusal.{OpenRefusal}
 use Rattle.arch_model.specs.declared.opening.OpenRefusal.TheVariants as refusal
 use Rattle.arch_model.specs.declared.text_refusal.TextRefusal.{TextRefusal}
 use Rattle.arch_model.specs.declared.text_refusal.TextRefusal.TheVariants as reading
 use Rattle.arch_model.proofs.Keepers.{has-own, moves-stale, moves-on, comes-by, unopened-comes, unopened-ready, unopened-cause}
 use Rattle.epoch_store.specs.Files.{as_read}
-use Rattle.epoch_store.specs.Laws.{CachesOne}
+use Rattle.epoch_store.specs.Laws.{CachesOne, RecoversSomeOne}
 use Rattle.epoch_store.specs.Leaving.{disk_recovers}
-use Rattle.epoch_store.specs.Opens.{RecoversOfWith, AllRecoverWith, ReadsWith, IsWant}
+use Rattle.epoch_store.specs.Opens.{RecoversOfWith, AllRecoverWith, ReadsWith, IsWant, SyncsAtMost}
 use Rattle.epoch_store.specs.Reads.{AnswersQuietly}
 use Rattle.epoch_store.specs.Recovery.{RecoversWith, RecoversSomeWith}
-use Rattle.epoch_store.specs.Stores.{View, Keeps, IsStoreWith, RecoversEitherWith}
-use Rattle.archive_core.specs.Commands.{DoneBy, OnDone, OnRefusal, UnlessFault, IfUnread, IfRemoval, OnlyLooks, is_delivery}
-use Rattle.archive_core.specs.Engines.{Owning, needs_opening, Holds, ViewsKeepUp, IfRefused, is_ready, Leaves, ReadsOn, reading-same, store-left, now-left, reading-kept}
+use Rattle.epoch_store.specs.Stores.{View, Keeps, IsStoreWith, RecoversOneOf}
+use Rattle.archive_core.specs.Commands.{DoneBy, OnDone, OnRefusal, UnlessFault, IfUnread, IfUnreadEdit, IfUnreadFor, IfDelivery, IfRemoval, IsGone, KeepsTextFor, OnlyLooks, cache_left, is_delivery}
+use Rattle.archive_core.specs.Engines.{Owning, needs_opening, RecoversOrBare, AllRecoverOrBare, Holds, ViewsKeepUp, IfRefused, is_ready, Leaves, ReadsOn, reading-same, store-left, now-left, reading-kept}
 use Rattle.archive_core.specs.Numbers.{GivesBlobKept, TellsOther}
 use Rattle.archive_core.specs.Walks.{ViewsAfter}
 use Rattle.archive_core.proofs.KeepingUp.{done-views}
@@ -61,15 +61,58 @@ pub all_recover : (s : Standing) (cache : List ℕ) (k : Option Content) → ((i
 all_recover s cache None each = let none : Files = λ name. None in absurd ((recovers_either s cache none (each none tt)).2.1.stands.current)
 all_recover s cache (Some k) each = each
 
--- A disk that tells its content is covered by whatever list covers its images.
-told_covers : (c d : List ℕ) (others may : List (Option Archive)) (k : Option Content) → AllRecoverWith c others k → ((image : Files) → Image k image → RecoversOfWith d may image) → AllRecoverWith d may k
-told_covers c d others may None all each = absurd all
-told_covers c d others may (Some k) all each = each
+-- The same, where an image may have no cache.
+bare_either : (s : Standing) (cache : List ℕ) (image : Files) → RecoversOrBare cache (one_of s) image → (b : Archive) × (c : List ℕ) × IsFound s b × RecoversSomeWith c image (Some b)
+bare_either s cache image (inl one) = let found = recovers_either s cache image one in (found.0, cache, found.1, found.2)
+bare_either s cache image (inr bare) = let found = recovers_either s [] image bare in (found.0, [], found.1, found.2)
+
+pub all_or_bare : (s : Standing) (cache : List ℕ) (k : Option Content) → ((image : Files) → Image k image → RecoversOrBare cache (one_of s) image) → AllRecoverOrBare cache (one_of s) k
+all_or_bare s cache None each = let none : Files = λ name. None in absurd ((bare_either s cache none (each none tt)).3.1.stands.current)
+all_or_bare s cache (Some k) each = each
 
 -- So the disk reads as the archive or as the one in doubt.
 pub reads_one : (s : Standing) (cache : List ℕ) (k : Option Content) → ReadsFit k → AllRecoverWith cache (one_of s) k → (b : Archive) × IsFound s b × ReadsWith cache b k
 reads_one s cache None fit all = absurd all
 reads_one s cache (Some k) fit all = recovers_either s cache (as_read k) (all (as_read k) (λ name. fit k refl name))
+
+reads_bare : (s : Standing) (cache : List ℕ) (k : Option Content) → ReadsFit k → AllRecoverOrBare cache (one_of s) k → (b : Archive) × (c : List ℕ) × IsFound s b × ReadsWith c b k
+reads_bare s cache None fit all = absurd all
+reads_bare s cache (Some k) fit all = bare_either s cache (as_read k) (all (as_read k) (λ name. fit k refl name))
+
+-- The archive as which the disk reads is among those that its images stand for, with their cache or
+-- with none.
+read_in : RecoversSomeOne → (k : Option Content) (b : Archive) (own cache : List ℕ) (may : List (Option Archive)) → ReadsFit k → ReadsWith own b k → ((image : Files) → Image k image → RecoversOrBare cache may image)
+    → (c : List ℕ) × ReadsWith c b k × ((image : Files) → RecoversWith c image b → RecoversOrBare cache may image)
+read_in one None b own cache may fit reads each = absurd reads
+read_in one (Some k) b own cache may fit reads each = by (each (as_read k) (λ name. fit k refl name)) where
+  by : RecoversOrBare cache may (as_read k) → (c : List ℕ) × RecoversWith c (as_read k) b × ((image : Files) → RecoversWith c image b → RecoversOrBare cache may image)
+  by (inl there) =
+      let same : there.0 ≡ Some b = one (as_read k) there.0 (Some b) cache own there.2 reads in
+      (cache, subst (λ (o : Option Archive). RecoversSomeWith cache (as_read k) o) same there.2, λ image stands. inl (Some b, subst (λ (o : Option Archive). Contains may o) same there.1, stands))
+  by (inr there) =
+      let same : there.0 ≡ Some b = one (as_read k) there.0 (Some b) [] own there.2 reads in
+      ([], subst (λ (o : Option Archive). RecoversSomeWith [] (as_read k) o) same there.2, λ image stands. inr (Some b, subst (λ (o : Option Archive). Contains may o) same there.1, stands))
+
+-- What follows where no text is read follows so for each command.
+unread-edit : (reply : Answer) (P Q : Type 0) → (IfUnread reply P → IfUnread reply Q) → IfUnreadEdit reply P → IfUnreadEdit reply Q
+unread-edit (answer.Duplicate number) P Q more is = tt
+unread-edit (answer.Ok number id) P Q more is = more is
+unread-edit answer.NoFields P Q more is = more is
+unread-edit (answer.TooLarge len) P Q more is = more is
+unread-edit (answer.Full max) P Q more is = more is
+unread-edit (answer.Collision number) P Q more is = more is
+unread-edit (answer.NotLive number) P Q more is = more is
+unread-edit (answer.NoText number) P Q more is = more is
+unread-edit answer.IsMirror P Q more is = more is
+unread-edit answer.DiskFault P Q more is = more is
+unread-edit (answer.Damaged file at) P Q more is = more is
+unread-edit answer.NoMemory P Q more is = more is
+
+unread-for : (command : Command) (reply : Answer) (P Q : Type 0) → (IfUnread reply P → IfUnread reply Q) → IfUnreadFor command reply P → IfUnreadFor command reply Q
+unread-for (Deliver bytes) reply P Q more is = more is
+unread-for (Remove number) reply P Q more is = more is
+unread-for (Purge number) reply P Q more is = more is
+unread-for (Edit number bytes) reply P Q more is = unread-edit reply P Q more is
 
 -- A flag.
 pub not_true : (b : Bool) → not b ≡ true → b ≡ false
@@ -85,18 +128,38 @@ pub stands_for : (v : View) (cache : List ℕ) (a : Archive) (k : Option Content
 stands_for v cache a None image store left = absurd store
 stands_for v cache a (Some k) image store left = disk_recovers v cache a k image store left
 
+-- Files that stand for one of these archives do so with that cache, or with none.
+with_cache : (own cache : List ℕ) (may : List (Option Archive)) (b : Archive) (image : Files) → (own ≡ cache) ⊎ (own ≡ []) → Contains may (Some b) → RecoversWith own image b → RecoversOrBare cache may image
+with_cache own cache may b image (inl same) has recovers = inl (Some b, has, subst (λ (c : List ℕ). RecoversWith c image b) same recovers)
+with_cache own cache may b image (inr none) has recovers = inr (Some b, has, subst (λ (c : List ℕ). RecoversWith c image b) none recovers)
+
+left_is : (own left cache : List ℕ) → (own ≡ cache) ⊎ (own ≡ []) → (left ≡ own) ⊎ (left ≡ []) → (left ≡ cache) ⊎ (left ≡ [])
+left_is own left cache (inl same) (inl kept) = inl (kept ∙ same)
+left_is own left cache (inr none) (inl kept) = inr (kept ∙ none)
+left_is own left cache was (inr gone) = inr gone
+
 -- The archive `b` is among the archives of two standings.
-either_of : (cache : List ℕ) (may : List (Option Archive)) (a b : Archive) (image : Files) → Contains may (Some a) → Contains may (Some b) → RecoversEitherWith cache a b image → RecoversOfWith cache may image
-either_of cache may a b image has_a has_b (inl before) = (Some a, has_a, before)
-either_of cache may a b image has_a has_b (inr after) = (Some b, has_b, after)
+either_of : (own left cache : List ℕ) (may : List (Option Archive)) (a b : Archive) (image : Files) → (own ≡ cache) ⊎ (own ≡ []) → (left ≡ own) ⊎ (left ≡ []) → Contains may (Some a) → Contains may (Some b) → RecoversOneOf own a left b image → RecoversOrBare cache may image
+either_of own left cache may a b image is kept has_a has_b (inl before) = with_cache own cache may a image is has_a before
+either_of own left cache may a b image is kept has_a has_b (inr after) = with_cache left cache may b image (left_is own left cache is kept) has_b after
 
 -- Files of a store's own disk stand for archives with its cache alone.
-cache_is : CachesOne → (v : View) (cache : List ℕ) (a : Archive) (k : Option Content) → ReadsFit k → IsStoreWith v cache a k → (d : List ℕ) (may : List (Option Archive)) → ((image : Files) → Image k image → RecoversOfWith d may image) → cache ≡ d
-cache_is caches v cache a None fit store d may each = absurd store
-cache_is caches v cache a (Some k) fit store d may each =
-    let there : Image (Some k) (as_read k) = λ name. fit k refl name in
-    let one = each (as_read k) there in
-    caches (as_read k) a one.0 cache d (disk_recovers v cache a k (as_read k) store there) one.2
+cache_is : CachesOne → (v : View) (own : List ℕ) (a : Archive) (k : Option Content) → ReadsFit k → IsStoreWith v own a k → (cache : List ℕ) (may : List (Option Archive)) → ((image : Files) → Image k image → RecoversOrBare cache may image) → (own ≡ cache) ⊎ (own ≡ [])
+cache_is caches v own a None fit store cache may each = absurd store
+cache_is caches v own a (Some k) fit store cache may each = by (each (as_read k) (λ name. fit k refl name)) where
+  stand : RecoversWith own (as_read k) a
+  stand = disk_recovers v own a k (as_read k) store (λ name. fit k refl name)
+
+  by : RecoversOrBare cache may (as_read k) → (own ≡ cache) ⊎ (own ≡ [])
+  by (inl one) = inl (caches (as_read k) a one.0 own cache stand one.2)
+  by (inr bare) = inr (caches (as_read k) a bare.0 own [] stand bare.2)
+
+-- The cache after a command is the one before it, or none.
+pub kept-or-none : (command : Command) (cache : List ℕ) → (cache_left command cache ≡ cache) ⊎ (cache_left command cache ≡ [])
+kept-or-none (Deliver bytes) cache = inl refl
+kept-or-none (Remove number) cache = inl refl
+kept-or-none (Purge number) cache = inr refl
+kept-or-none (Edit number bytes) cache = inr refl
 
 -- The causes of refusals.
 pub opening-why : {T : Type 0} (before now : ℕ) (why : OpenRefusal) (r : Result T OpenRefusal) → r ≡ Err why → RoseIf (r ≡ Err refusal.DiskFault) before now → OpeningWhy before now why
@@ -155,53 +218,68 @@ module _ {D : Type 0} (content : D → Option Content) (moment : D → ℕ) (lef
   left_after old new P run image left = run.each image (counts_now new (moment old) image run.later (only_now new image left))
 
   -- Each crash of an archive that stands so leaves one of the archives that are there.
-  fits_all : (e : Owning D) (s : Standing) → Stands e s → (cache : List ℕ) × AllRecoverWith cache (one_of s) (content e.disk)
+  fits_all : (e : Owning D) (s : Standing) → Stands e s → (cache : List ℕ) × AllRecoverOrBare cache (one_of s) (content e.disk)
   fits_all e s fits =
       let left = fits.left (one_of s) (has-own s) in
-      (left.1, all_recover s left.1 (content e.disk) (λ image now. left.2 image (counts_now e.disk (moment e.disk) image (omega arith) now)))
+      (left.1, all_or_bare s left.1 (content e.disk) (λ image now. left.2 image (counts_now e.disk (moment e.disk) image (omega arith) now)))
+
+  -- The archive as which the disk of one reads.
+  found_in : (e : Owning D) (s : Standing) → Stands e s → (b : Archive) × (c : List ℕ) × IsFound s b × ReadsWith c b (content e.disk)
+  found_in e s fits = let all = fits_all e s fits in reads_bare s all.0 (content e.disk) (reads_fit e.disk) all.1
 
   -- What reopening leaves at each moment.
   abbrev pub Reopening : Owning D → D → Type 0
-  Reopening e disk = (may : List (Option Archive)) (cache : List ℕ) → AllRecoverWith cache may (content e.disk) → LeavesOnly moment left_since e.disk disk (RecoversOfWith cache may)
+  Reopening e disk = SyncsAtMost content moment left_since e.disk disk
+
+  -- That is what it might have left before, or the archive as which the disk reads.
+  reopened : (e : Owning D) (disk : D) (b : Archive) (cache : List ℕ) → ReadsWith cache b (content e.disk) → Reopening e disk → LeavesOnly moment left_since e.disk disk (λ (image : Files). Image (content e.disk) image ⊎ RecoversWith cache image b)
+  reopened e disk b cache reads (inl only) = weaker moment left_since e.disk disk (Image (content e.disk)) (λ (image : Files). Image (content e.disk) image ⊎ RecoversWith cache image b) only (λ image now. inl now)
+  reopened e disk b cache reads (inr first) =
+      joined moment left_since e.disk first.synced disk (Image (content e.disk)) (λ (image : Files). RecoversWith cache image b) (λ (image : Files). Image (content e.disk) image ⊎ RecoversWith cache image b) first.before (first.after b cache reads)
+      (λ image now. inl now) (λ image stands. inr stands)
 
   -- It leaves nothing that could not have been left before.
-  pub reopening-passes : (e new : Owning D) → Reopening e new.disk → (s : Standing) → Stands e s → Passes (Leaves moment left_since) e new []
-  reopening-passes e new run s fits = λ start may has left.
-      let own = fits_all e s fits in
-      let all = told_covers own.0 left.1 (one_of s) may (content e.disk) own.1 (λ image now. left.2 image (counts_now e.disk (moment start.disk) image left.0 now)) in
-      let ran = run may left.1 all in (
+  pub reopening-passes : RecoversSomeOne → (e new : Owning D) → Reopening e new.disk → (s : Standing) → Stands e s → Passes (Leaves moment left_since) e new []
+  reopening-passes one e new run s fits = λ start may has left.
+      let found = found_in e s fits in
+      let before = λ (image : Files) (now : Image (content e.disk) image). left.2 image (counts_now e.disk (moment start.disk) image left.0 now) in
+      let there = read_in one (content e.disk) found.0 found.1 left.1 may (reads_fit e.disk) found.3 before in
+      let ran = reopened e new.disk found.0 there.0 there.1 run in (
         omega (arith, left.0, ran.later),
         left.1,
         λ image since. elim (ran.before (moment start.disk) image left.0 since) [
           | inl past
               ↦ left.2 image past
-          | inr stands ↦ stands
+          | inr either ↦
+              elim either [
+                | inl now
+                    ↦ before image now
+                | inr stands ↦ there.2 image stands
+              ]
         ],
       )
 
   -- A reopening found the archive or the one in doubt.
-  pub opened-at : (e new : Owning D) → Reopening e new.disk → ((a : Archive) (cache : List ℕ) → ReadsWith cache a (content e.disk) → IsStoreWith new.view cache a (content new.disk) × (new.views ≡ views_of (live a.entries))) → (s : Standing) → Stands e s → (t : Standing) × Going e s new t × Settles s t
-  opened-at e new run opened s fits =
-      let own = fits_all e s fits in
-      let found = reads_one s own.0 (content e.disk) (reads_fit e.disk) own.1 in
-      let both = opened found.0 own.0 found.2 in
-      let store : Holds content new found.0 = (own.0, both.0, both.1) in (
+  pub opened-at : RecoversSomeOne → (e new : Owning D) → Reopening e new.disk → ((a : Archive) (cache : List ℕ) → ReadsWith cache a (content e.disk) → IsStoreWith new.view cache a (content new.disk) × (new.views ≡ views_of (live a.entries))) → (s : Standing) → Stands e s → (t : Standing) × Going e s new t × Settles s t
+  opened-at one e new run opened s fits =
+      let found = found_in e s fits in
+      let both = opened found.0 found.1 found.3 in
+      let store : Holds content new found.0 = (found.1, both.0, both.1) in (
         standing found.0 None,
         record {
           fits = record { settled = λ ready. (store, refl); left = λ may has. store-left content moment left_since counts_now only_now new found.0 may (store.0, store.1) has.archive };
-          passes = λ start may has left. reopening-passes e new run s fits start may tt left;
+          passes = λ start may has left. reopening-passes one e new run s fits start may tt left;
         },
-        record { found = found.1; sure = refl },
+        record { found = found.2; sure = refl },
       )
 
   -- A reopening was refused, and all stands as before.
-  pub unopened-at : (e new : Owning D) (why : OpenRefusal) → Reopening e new.disk → ((a : Archive) (cache : List ℕ) → ReadsWith cache a (content e.disk) → IsWant why) → is_ready new ≡ false → (s : Standing) → Stands e s → (t : Standing) × Going e s new t × StaysShut s why t
-  unopened-at e new why run well unready s fits =
-      let own = fits_all e s fits in
-      let found = reads_one s own.0 (content e.disk) (reads_fit e.disk) own.1 in (
+  pub unopened-at : RecoversSomeOne → (e new : Owning D) (why : OpenRefusal) → Reopening e new.disk → ((a : Archive) (cache : List ℕ) → ReadsWith cache a (content e.disk) → IsWant why) → is_ready new ≡ false → (s : Standing) → Stands e s → (t : Standing) × Going e s new t × StaysShut s why t
+  unopened-at one e new why run well unready s fits =
+      let found = found_in e s fits in (
         s,
-        moves-stale (Holds content) is_ready (Leaves moment left_since) (now-left content moment left_since counts_now only_now) e s new s fits unready (λ may has. has) (λ start may has left. reopening-passes e new run s fits start may tt left),
-        of_why why (well found.0 own.0 found.2),
+        moves-stale (Holds content) is_ready (Leaves moment left_since) (now-left content moment left_since counts_now only_now) e s new s fits unready (λ may has. has) (λ start may has left. reopening-passes one e new run s fits start may tt left),
+        of_why why (well found.0 found.1 found.3),
       )
     where
       of_why : (w : OpenRefusal) → IsWant w → StaysShut s w s
@@ -223,9 +301,9 @@ module _ {D : Type 0} (content : D → Option Content) (moment : D → ℕ) (lef
       )
 
   -- A command on the archive that is held.
-  module _ (caches : CachesOne) (e new : Owning D) (a : Archive) (cache : List ℕ) (store : IsStoreWith e.view cache a (content e.disk)) (wanted : Archive → Done) (run : LeavesOnly moment left_since e.disk new.disk (RecoversEitherWith cache a (wanted a).archive)) where
-    -- The cache of what a crash before may have left is the same.
-    one-cache : (start : Owning D) (may : List (Option Archive)) (left : Leaves moment left_since start e may) → cache ≡ left.1
+  module _ (caches : CachesOne) (e new : Owning D) (a : Archive) (cache left_cache : List ℕ) (kept : (left_cache ≡ cache) ⊎ (left_cache ≡ [])) (store : IsStoreWith e.view cache a (content e.disk)) (wanted : Archive → Done) (run : LeavesOnly moment left_since e.disk new.disk (RecoversOneOf cache a left_cache (wanted a).archive)) where
+    -- The cache of what a crash before may have left is the same, or there is none.
+    one-cache : (start : Owning D) (may : List (Option Archive)) (left : Leaves moment left_since start e may) → (cache ≡ left.1) ⊎ (cache ≡ [])
     one-cache start may left = cache_is caches e.view cache a (content e.disk) (reads_fit e.disk) store left.1 may (λ image now. left.2 image (counts_now e.disk (moment start.disk) image left.0 now))
 
     -- What a crash in it leaves.
@@ -236,15 +314,14 @@ module _ {D : Type 0} (content : D → Option Content) (moment : D → ℕ) (lef
       λ image since. elim (run.before (moment start.disk) image left.0 since) [
         | inl past
             ↦ left.2 image past
-        | inr either ↦
-            either_of left.1 may a (wanted a).archive image has_a has_b (subst (λ (c : List ℕ). RecoversEitherWith c a (wanted a).archive image) (one-cache start may left) either)
+        | inr either ↦ either_of cache left_cache left.1 may a (wanted a).archive image (one-cache start may left) kept has_a has_b either
       ],
     )
 
     -- It was carried out, or refused.
-    taken-done : (reply : Answer) → (wanted a).answer ≡ reply → IsStoreWith new.view cache (wanted a).archive (content new.disk) → (is_ready new ≡ true → new.views ≡ views_of (live (wanted a).archive.entries)) → Going e (standing a None) new (standing (wanted a).archive None)
-    taken-done reply answer_is own rows = record {
-      fits = record { settled = λ ready. ((cache, own, rows ready), refl); left = λ may has. store-left content moment left_since counts_now only_now new (wanted a).archive may (cache, own) has.archive };
+    taken-done : (now : List ℕ) → IsStoreWith new.view now (wanted a).archive (content new.disk) → (is_ready new ≡ true → new.views ≡ views_of (live (wanted a).archive.entries)) → Going e (standing a None) new (standing (wanted a).archive None)
+    taken-done now own rows = record {
+      fits = record { settled = λ ready. ((now, own, rows ready), refl); left = λ may has. store-left content moment left_since counts_now only_now new (wanted a).archive may (now, own) has.archive };
       passes = λ start may has left. taken-passes start may has.0.archive has.1.0.archive left;
     }
 
@@ -268,64 +345,69 @@ module _ {D : Type 0} (content : D → Option Content) (moment : D → ℕ) (lef
     taken-failed unready = record {
       fits = record {
         settled = λ ready. absurd (false≢true (sym unready ∙ ready));
-        left = λ may has. (omega arith, cache, λ image left. either_of cache may a (wanted a).archive image has.archive has.doubt (left_after e.disk new.disk (RecoversEitherWith cache a (wanted a).archive) run image left));
+        left = λ may has. (omega arith, cache, λ image left. either_of cache left_cache cache may a (wanted a).archive image (inl refl) kept has.archive has.doubt (left_after e.disk new.disk (RecoversOneOf cache a left_cache (wanted a).archive) run image left));
       };
       passes = λ start may has left. taken-passes start may has.1.0.archive has.1.0.doubt left;
     }
 
-    pub taken-at : (reply : Answer) → (needs_opening reply ≡ true → new.stale ≡ true) → DoneBy new.view cache a (wanted a) reply (content new.disk) → ViewsKeepUp reply (is_ready new) new.views a (wanted a).archive
+    pub taken-at : (reply : Answer) → (needs_opening reply ≡ true → new.stale ≡ true) → DoneBy new.view cache left_cache a (wanted a) reply (content new.disk) → ViewsKeepUp reply (is_ready new) new.views a (wanted a).archive
         → OnRefusal reply (UnlessFault reply (OnlyLooks content moment left_since e.disk new.disk)) → (t : Standing) × Going e (standing a None) new t × Comes true (standing a None) wanted reply t
     taken-at answer.NoMemory stale done rows untouched = (standing a None, taken-none untouched done rows, inr (record { found = inl refl; sure = refl }))
     taken-at answer.DiskFault stale done rows untouched = (standing a (Some (wanted a).archive), taken-failed (ap not (stale refl)), inr (record { found = a; is_found = inl refl; stands = refl }))
     taken-at (answer.Ok number id) stale done rows untouched =
-        (standing (wanted a).archive None, taken-done (answer.Ok number id) done.answer_is done.store rows, record { found = a; is_found = inl refl; answer_is = done.answer_is; stands = refl })
+        (standing (wanted a).archive None, taken-done left_cache done.store rows, record { found = a; is_found = inl refl; answer_is = done.answer_is; stands = refl })
     taken-at (answer.Duplicate number) stale done rows untouched =
-        (standing (wanted a).archive None, taken-done (answer.Duplicate number) done.answer_is done.store (λ ready. rows), record { found = a; is_found = inl refl; answer_is = done.answer_is; stands = refl })
+        (standing (wanted a).archive None, taken-done cache done.store (λ ready. rows), record { found = a; is_found = inl refl; answer_is = done.answer_is; stands = refl })
     taken-at answer.NoFields stale done rows untouched =
-        (standing (wanted a).archive None, taken-done answer.NoFields done.answer_is done.store (λ ready. rows), record { found = a; is_found = inl refl; answer_is = done.answer_is; stands = refl })
+        (standing (wanted a).archive None, taken-done cache done.store (λ ready. rows), record { found = a; is_found = inl refl; answer_is = done.answer_is; stands = refl })
     taken-at (answer.TooLarge len) stale done rows untouched =
-        (standing (wanted a).archive None, taken-done (answer.TooLarge len) done.answer_is done.store (λ ready. rows), record { found = a; is_found = inl refl; answer_is = done.answer_is; stands = refl })
+        (standing (wanted a).archive None, taken-done cache done.store (λ ready. rows), record { found = a; is_found = inl refl; answer_is = done.answer_is; stands = refl })
     taken-at (answer.Full max) stale done rows untouched =
-        (standing (wanted a).archive None, taken-done (answer.Full max) done.answer_is done.store (λ ready. rows), record { found = a; is_found = inl refl; answer_is = done.answer_is; stands = refl })
+        (standing (wanted a).archive None, taken-done cache done.store (λ ready. rows), record { found = a; is_found = inl refl; answer_is = done.answer_is; stands = refl })
     taken-at (answer.Collision number) stale done rows untouched =
-        (standing (wanted a).archive None, taken-done (answer.Collision number) done.answer_is done.store (λ ready. rows), record { found = a; is_found = inl refl; answer_is = done.answer_is; stands = refl })
+        (standing (wanted a).archive None, taken-done cache done.store (λ ready. rows), record { found = a; is_found = inl refl; answer_is = done.answer_is; stands = refl })
     taken-at answer.IsMirror stale done rows untouched =
-        (standing (wanted a).archive None, taken-done answer.IsMirror done.answer_is done.store (λ ready. rows), record { found = a; is_found = inl refl; answer_is = done.answer_is; stands = refl })
+        (standing (wanted a).archive None, taken-done cache done.store (λ ready. rows), record { found = a; is_found = inl refl; answer_is = done.answer_is; stands = refl })
     taken-at (answer.NotLive number) stale done rows untouched =
-        (standing (wanted a).archive None, taken-done (answer.NotLive number) done.answer_is done.store (λ ready. rows), record { found = a; is_found = inl refl; answer_is = done.answer_is; stands = refl })
-    taken-at (answer.NoText number) stale never rows untouched = absurd never
+        (standing (wanted a).archive None, taken-done cache done.store (λ ready. rows), record { found = a; is_found = inl refl; answer_is = done.answer_is; stands = refl })
+    taken-at (answer.NoText number) stale done rows untouched =
+        (standing (wanted a).archive None, taken-done cache done.store (λ ready. rows), record { found = a; is_found = inl refl; answer_is = done.answer_is; stands = refl })
     taken-at (answer.Damaged file at) stale never rows untouched = absurd never
 
-  -- A removal that was done leaves the archive after it held.
-  removed_by : (e new : Owning D) (a : Archive) (n arrived : ℕ) (text : List ℕ) (reply : Answer) → (held : Holds content e a) → DoneBy new.view held.0 a (applied a (Remove n) arrived) reply (content new.disk) → ViewsAfter (Remove n) reply text arrived e.views new.views
-      → OnDone reply (Holds content new (applied a (Remove n) arrived).archive)
-  removed_by e new a n arrived text (answer.Ok number id) held done rows = (held.0, done.store, done-views a (Remove n) arrived number id text e.views new.views (store_keeps e.view held.0 a (content e.disk) held.1).valid done.answer_is tt held.2 rows)
-  removed_by e new a n arrived text answer.NoMemory held done rows = tt
-  removed_by e new a n arrived text (answer.Duplicate number) held done rows = tt
-  removed_by e new a n arrived text answer.NoFields held done rows = tt
-  removed_by e new a n arrived text (answer.TooLarge len) held done rows = tt
-  removed_by e new a n arrived text (answer.Full max) held done rows = tt
-  removed_by e new a n arrived text (answer.Collision number) held done rows = tt
-  removed_by e new a n arrived text (answer.NotLive number) held done rows = tt
-  removed_by e new a n arrived text (answer.NoText number) held done rows = tt
-  removed_by e new a n arrived text answer.IsMirror held done rows = tt
-  removed_by e new a n arrived text answer.DiskFault held done rows = tt
-  removed_by e new a n arrived text (answer.Damaged file at) held done rows = tt
+  -- A removal or a purge that was done leaves the archive after it held.
+  removed_by : (e new : Owning D) (a : Archive) (command : Command) (arrived : ℕ) (text : List ℕ) (lost : Option ℕ) (left_cache : List ℕ) (reply : Answer) → (held : Holds content e a) → DoneBy new.view held.0 left_cache a (applied a command arrived) reply (content new.disk)
+      → IfDelivery (is_delivery command) (KeepsTextFor command a (applied a command arrived) arrived text) → OnDone reply (IsGone a command lost) → ViewsAfter command lost reply text arrived e.views new.views → OnDone reply (Holds content new (applied a command arrived).archive)
+  removed_by e new a command arrived text lost left_cache (answer.Ok number id) held done kept taken rows =
+      (left_cache, done.store, done-views a command arrived number id text lost e.views new.views (store_keeps e.view held.0 a (content e.disk) held.1).valid done.answer_is kept taken held.2 rows)
+  removed_by e new a command arrived text lost left_cache answer.NoMemory held done kept taken rows = tt
+  removed_by e new a command arrived text lost left_cache (answer.Duplicate number) held done kept taken rows = tt
+  removed_by e new a command arrived text lost left_cache answer.NoFields held done kept taken rows = tt
+  removed_by e new a command arrived text lost left_cache (answer.TooLarge len) held done kept taken rows = tt
+  removed_by e new a command arrived text lost left_cache (answer.Full max) held done kept taken rows = tt
+  removed_by e new a command arrived text lost left_cache (answer.Collision number) held done kept taken rows = tt
+  removed_by e new a command arrived text lost left_cache (answer.NotLive number) held done kept taken rows = tt
+  removed_by e new a command arrived text lost left_cache (answer.NoText number) held done kept taken rows = tt
+  removed_by e new a command arrived text lost left_cache answer.IsMirror held done kept taken rows = tt
+  removed_by e new a command arrived text lost left_cache answer.DiskFault held done kept taken rows = tt
+  removed_by e new a command arrived text lost left_cache (answer.Damaged file at) held done kept taken rows = tt
 
-  pub removed-at : (e new : Owning D) (command : Command) (arrived : ℕ) (text : List ℕ) (reply : Answer) → ((a : Archive) (cache : List ℕ) → IsStoreWith e.view cache a (content e.disk) → DoneBy new.view cache a (applied a command arrived) reply (content new.disk))
-      → IfRemoval (is_delivery command) (ViewsAfter command reply text arrived e.views new.views) → IfRemoval (is_delivery command) ((a : Archive) → Holds content e a → OnDone reply (Holds content new (applied a command arrived).archive))
-  removed-at e new (Deliver bytes) arrived text reply done rows = tt
-  removed-at e new (Remove n) arrived text reply done rows = λ a held. removed_by e new a n arrived text reply held (done a held.0 held.1) rows
+  pub removed-at : (e new : Owning D) (command : Command) (arrived : ℕ) (text : List ℕ) (lost : Option ℕ) (reply : Answer) → ((a : Archive) (cache : List ℕ) → IsStoreWith e.view cache a (content e.disk) → DoneBy new.view cache (cache_left command cache) a (applied a command arrived) reply (content new.disk))
+      → ((a : Archive) (cache : List ℕ) → IsStoreWith e.view cache a (content e.disk) → OnDone reply (IsGone a command lost))
+      → IfRemoval (is_delivery command) (ViewsAfter command lost reply text arrived e.views new.views) → IfRemoval (is_delivery command) ((a : Archive) → Holds content e a → OnDone reply (Holds content new (applied a command arrived).archive))
+  removed-at e new (Deliver bytes) arrived text lost reply done taken rows = tt
+  removed-at e new (Remove n) arrived text lost reply done taken rows = λ a held. removed_by e new a (Remove n) arrived text lost held.0 reply held (done a held.0 held.1) tt (taken a held.0 held.1) rows
+  removed-at e new (Purge n) arrived text lost reply done taken rows = λ a held. removed_by e new a (Purge n) arrived text lost [] reply held (done a held.0 held.1) tt (taken a held.0 held.1) rows
+  removed-at e new (Edit n bytes) arrived text lost reply done taken rows = tt
 
   -- A refusal leaves all but the disk as it was, and the disk was only read.
-  module _ (e new : Owning D) (ok : Bool) (command : Command) (text : List ℕ) (arrived : ℕ) where
+  module _ (e new : Owning D) (ok : Bool) (command : Command) (gone : Option ℕ) (text : List ℕ) (arrived : ℕ) where
     only-reads : new.view ≡ e.view → new.views ≡ e.views → new.stale ≡ e.stale → OnlyLooks content moment left_since e.disk new.disk → ReadsOn content moment left_since e new
     only-reads view views stale looks = record { view_is = view; views_are = views; stale_is = stale; files = looks.same; run = looks.any_moment }
 
     same-owning : new.disk ≡ e.disk → new.view ≡ e.view → new.views ≡ e.views → new.stale ≡ e.stale → new ≡ e
     same-owning disk view views stale = λ i. record { disk = disk i; view = view i; views = views i; stale = stale i }
 
-    pub refused-at : (reply : Answer) → e.stale ≡ false → new.stale ≡ (needs_opening reply || not ok) → OnRefusal reply (ok ≡ true) → OnRefusal reply (new.view ≡ e.view) → (ok ≡ true → ViewsAfter command reply text arrived e.views new.views)
+    pub refused-at : (reply : Answer) → e.stale ≡ false → new.stale ≡ (needs_opening reply || not ok) → OnRefusal reply (ok ≡ true) → OnRefusal reply (new.view ≡ e.view) → (ok ≡ true → ViewsAfter command gone reply text arrived e.views new.views)
         → OnRefusal reply (UnlessFault reply (OnlyLooks content moment left_since e.disk new.disk)) → IfRefused reply (ReadsOn content moment left_since e new)
     refused-at answer.NoMemory ready stale followed view rows looks = only-reads view (rows followed) (stale ∙ ap not followed ∙ sym ready) looks
     refused-at (answer.Duplicate n) ready stale followed view rows looks = only-reads view (rows followed) (stale ∙ ap not followed ∙ sym ready) looks
@@ -340,20 +422,24 @@ module _ {D : Type 0} (content : D → Option Content) (moment : D → ℕ) (lef
     refused-at answer.DiskFault ready stale followed view rows looks = tt
     refused-at (answer.Damaged file at) ready stale followed view rows looks = tt
 
-    pub unmoved-at : (reply : Answer) → e.stale ≡ false → new.stale ≡ (needs_opening reply || not ok) → OnRefusal reply (ok ≡ true) → OnRefusal reply (new.view ≡ e.view) → (ok ≡ true → ViewsAfter command reply text arrived e.views new.views) → IfUnread reply (new.disk ≡ e.disk)
+    unmoved : (reply : Answer) → e.stale ≡ false → new.stale ≡ (needs_opening reply || not ok) → OnRefusal reply (ok ≡ true) → OnRefusal reply (new.view ≡ e.view) → (ok ≡ true → ViewsAfter command gone reply text arrived e.views new.views) → IfUnread reply (new.disk ≡ e.disk)
         → IfUnread reply (new ≡ e)
-    unmoved-at answer.NoMemory ready stale followed view rows disk = tt
-    unmoved-at (answer.Duplicate n) ready stale followed view rows disk = same-owning disk view (rows followed) (stale ∙ ap not followed ∙ sym ready)
-    unmoved-at answer.NoFields ready stale followed view rows disk = same-owning disk view (rows followed) (stale ∙ ap not followed ∙ sym ready)
-    unmoved-at (answer.TooLarge len) ready stale followed view rows disk = same-owning disk view (rows followed) (stale ∙ ap not followed ∙ sym ready)
-    unmoved-at (answer.Full max) ready stale followed view rows disk = tt
-    unmoved-at (answer.Collision n) ready stale followed view rows disk = tt
-    unmoved-at (answer.NotLive n) ready stale followed view rows disk = same-owning disk view (rows followed) (stale ∙ ap not followed ∙ sym ready)
-    unmoved-at (answer.NoText n) ready stale followed view rows disk = same-owning disk view (rows followed) (stale ∙ ap not followed ∙ sym ready)
-    unmoved-at answer.IsMirror ready stale followed view rows disk = same-owning disk view (rows followed) (stale ∙ ap not followed ∙ sym ready)
-    unmoved-at (answer.Ok n id) ready stale followed view rows disk = tt
-    unmoved-at answer.DiskFault ready stale followed view rows disk = tt
-    unmoved-at (answer.Damaged file at) ready stale followed view rows disk = tt
+    unmoved answer.NoMemory ready stale followed view rows disk = tt
+    unmoved (answer.Duplicate n) ready stale followed view rows disk = same-owning disk view (rows followed) (stale ∙ ap not followed ∙ sym ready)
+    unmoved answer.NoFields ready stale followed view rows disk = same-owning disk view (rows followed) (stale ∙ ap not followed ∙ sym ready)
+    unmoved (answer.TooLarge len) ready stale followed view rows disk = same-owning disk view (rows followed) (stale ∙ ap not followed ∙ sym ready)
+    unmoved (answer.Full max) ready stale followed view rows disk = tt
+    unmoved (answer.Collision n) ready stale followed view rows disk = tt
+    unmoved (answer.NotLive n) ready stale followed view rows disk = same-owning disk view (rows followed) (stale ∙ ap not followed ∙ sym ready)
+    unmoved (answer.NoText n) ready stale followed view rows disk = same-owning disk view (rows followed) (stale ∙ ap not followed ∙ sym ready)
+    unmoved answer.IsMirror ready stale followed view rows disk = same-owning disk view (rows followed) (stale ∙ ap not followed ∙ sym ready)
+    unmoved (answer.Ok n id) ready stale followed view rows disk = tt
+    unmoved answer.DiskFault ready stale followed view rows disk = tt
+    unmoved (answer.Damaged file at) ready stale followed view rows disk = tt
+
+    pub unmoved-at : (reply : Answer) → e.stale ≡ false → new.stale ≡ (needs_opening reply || not ok) → OnRefusal reply (ok ≡ true) → OnRefusal reply (new.view ≡ e.view) → (ok ≡ true → ViewsAfter command gone reply text arrived e.views new.views)
+        → IfUnreadFor command reply (new.disk ≡ e.disk) → IfUnreadFor command reply (new ≡ e)
+    unmoved-at reply ready stale followed view rows disk = unread-for command reply (new.disk ≡ e.disk) (new ≡ e) (unmoved reply ready stale followed view rows) disk
 
   -- Memory ran out, and nothing was done on the archive that is held.
   pub starved-at : (e : Owning D) (a : Archive) (wanted : Archive → Done) → Holds content e a → (t : Standing) × Going e (standing a None) e t × Comes true (standing a None) wanted answer.NoMemory t
@@ -395,8 +481,8 @@ module _ {D : Type 0} (content : D → Option Content) (moment : D → ℕ) (lef
   stays-still faults e ready = record { same = reading-same content moment left_since counts_now only_now e; kept = λ a store. store; at_hand = ready; later = omega arith }
 
   -- Nothing is done, and a crash leaves the archive that is held.
-  pub still-left : (e : Owning D) (a b : Archive) (cache : List ℕ) → IsStoreWith e.view cache a (content e.disk) → LeavesOnly moment left_since e.disk e.disk (RecoversEitherWith cache a b)
-  still-left e a b cache store = started moment left_since e.disk (RecoversEitherWith cache a b) (λ image left. inl (stands_for e.view cache a (content e.disk) image store (only_now e.disk image left)))
+  pub still-left : (e : Owning D) (a b : Archive) (cache left_cache : List ℕ) → IsStoreWith e.view cache a (content e.disk) → LeavesOnly moment left_since e.disk e.disk (RecoversOneOf cache a left_cache b)
+  still-left e a b cache left_cache store = started moment left_since e.disk (RecoversOneOf cache a left_cache b) (λ image left. inl (stands_for e.view cache a (content e.disk) image store (only_now e.disk image left)))
 
   -- Here `inside` is the value by its parts.
   module _ (inside old : Owning D) (is : inside ≡ old) where
@@ -416,17 +502,18 @@ module _ {D : Type 0} (content : D → Option Content) (moment : D → ℕ) (lef
     pub kept-inside : (a : Archive) → Holds content old a → Keeps inside.view a
     kept-inside a held = let own = held-inside a held in store_keeps inside.view own.0 a (content inside.disk) own.1
 
-    pub left-from : (disk : D) (wanted : Archive → Archive) → ((a : Archive) (cache : List ℕ) → IsStoreWith inside.view cache a (content inside.disk) → LeavesOnly moment left_since inside.disk disk (RecoversEitherWith cache a (wanted a)))
-        → (a : Archive) (cache : List ℕ) → IsStoreWith old.view cache a (content old.disk) → LeavesOnly moment left_since old.disk disk (RecoversEitherWith cache a (wanted a))
-    left-from disk wanted run = subst (λ (o : Owning D). (a : Archive) (cache : List ℕ) → IsStoreWith o.view cache a (content o.disk) → LeavesOnly moment left_since o.disk disk (RecoversEitherWith cache a (wanted a))) is run
+    pub left-from : (disk : D) (wanted : Archive → Archive) (left : List ℕ → List ℕ) → ((a : Archive) (cache : List ℕ) → IsStoreWith inside.view cache a (content inside.disk) → LeavesOnly moment left_since inside.disk disk (RecoversOneOf cache a (left cache) (wanted a)))
+        → (a : Archive) (cache : List ℕ) → IsStoreWith old.view cache a (content old.disk) → LeavesOnly moment left_since old.disk disk (RecoversOneOf cache a (left cache) (wanted a))
+    left-from disk wanted left run = subst (λ (o : Owning D). (a : Archive) (cache : List ℕ) → IsStoreWith o.view cache a (content o.disk) → LeavesOnly moment left_since o.disk disk (RecoversOneOf cache a (left cache) (wanted a))) is run
 
-    pub removed-from : (new : Owning D) (command : Command) (arrived : ℕ) (text : List ℕ) (reply : Answer) → ((a : Archive) (cache : List ℕ) → IsStoreWith inside.view cache a (content inside.disk) → DoneBy new.view cache a (applied a command arrived) reply (content new.disk))
-        → IfRemoval (is_delivery command) (ViewsAfter command reply text arrived inside.views new.views) → IfRemoval (is_delivery command) ((a : Archive) → Holds content old a → OnDone reply (Holds content new (applied a command arrived).archive))
-    removed-from new command arrived text reply done rows = subst (λ (o : Owning D). IfRemoval (is_delivery command) ((a : Archive) → Holds content o a → OnDone reply (Holds content new (applied a command arrived).archive))) is (removed-at inside new command arrived text reply done rows)
+    pub removed-from : (new : Owning D) (command : Command) (arrived : ℕ) (text : List ℕ) (gone : Option ℕ) (reply : Answer) → ((a : Archive) (cache : List ℕ) → IsStoreWith inside.view cache a (content inside.disk) → DoneBy new.view cache (cache_left command cache) a (applied a command arrived) reply (content new.disk))
+        → ((a : Archive) (cache : List ℕ) → IsStoreWith inside.view cache a (content inside.disk) → OnDone reply (IsGone a command gone))
+        → IfRemoval (is_delivery command) (ViewsAfter command gone reply text arrived inside.views new.views) → IfRemoval (is_delivery command) ((a : Archive) → Holds content old a → OnDone reply (Holds content new (applied a command arrived).archive))
+    removed-from new command arrived text gone reply done taken rows = subst (λ (o : Owning D). IfRemoval (is_delivery command) ((a : Archive) → Holds content o a → OnDone reply (Holds content new (applied a command arrived).archive))) is (removed-at inside new command arrived text gone reply done taken rows)
 
-    pub done-from : (view : View) (disk : D) (wanted : Archive → Done) (reply : Answer) → ((a : Archive) (cache : List ℕ) → IsStoreWith inside.view cache a (content inside.disk) → DoneBy view cache a (wanted a) reply (content disk))
-        → (a : Archive) (cache : List ℕ) → IsStoreWith old.view cache a (content old.disk) → DoneBy view cache a (wanted a) reply (content disk)
-    done-from view disk wanted reply done = subst (λ (o : Owning D). (a : Archive) (cache : List ℕ) → IsStoreWith o.view cache a (content o.disk) → DoneBy view cache a (wanted a) reply (content disk)) is done
+    pub done-from : (view : View) (disk : D) (wanted : Archive → Done) (left : List ℕ → List ℕ) (reply : Answer) → ((a : Archive) (cache : List ℕ) → IsStoreWith inside.view cache a (content inside.disk) → DoneBy view cache (left cache) a (wanted a) reply (content disk))
+        → (a : Archive) (cache : List ℕ) → IsStoreWith old.view cache a (content old.disk) → DoneBy view cache (left cache) a (wanted a) reply (content disk)
+    done-from view disk wanted left reply done = subst (λ (o : Owning D). (a : Archive) (cache : List ℕ) → IsStoreWith o.view cache a (content o.disk) → DoneBy view cache (left cache) a (wanted a) reply (content disk)) is done
 
     pub cause-from : {T : Type 0} (faults : D → ℕ) (disk : D) (r : Result T TextRefusal) → RoseIf (r ≡ Err reading.DiskFault) (faults inside.disk) (faults disk) → TellsOther r → ReadCause (faults old.disk) (faults disk) r
     cause-from faults disk r rose other = subst (λ (o : Owning D). ReadCause (faults o.disk) (faults disk) r) is (read-cause (faults inside.disk) (faults disk) r rose other)
@@ -449,14 +536,14 @@ module _ {D : Type 0} (content : D → Option Content) (moment : D → ℕ) (lef
     pub answer-cause-from : (faults : D → ℕ) (disk : D) (reply : Answer) → RoseIf (reply ≡ answer.DiskFault) (faults inside.disk) (faults disk) → AnswerCause (faults old.disk) (faults disk) reply
     answer-cause-from faults disk reply rose = subst (λ (o : Owning D). AnswerCause (faults o.disk) (faults disk) reply) is (answer-cause (faults inside.disk) (faults disk) reply rose)
 
-    pub opened-from : (new : Owning D) → Reopening inside new.disk → ((a : Archive) (cache : List ℕ) → ReadsWith cache a (content inside.disk) → IsStoreWith new.view cache a (content new.disk) × (new.views ≡ views_of (live a.entries))) → (s : Standing) → Stands old s → (t : Standing) × Going old s new t × Settles s t
-    opened-from new run opened = subst (λ (o : Owning D). (s : Standing) → Stands o s → (t : Standing) × Going o s new t × Settles s t) is (opened-at inside new run opened)
+    pub opened-from : RecoversSomeOne → (new : Owning D) → Reopening inside new.disk → ((a : Archive) (cache : List ℕ) → ReadsWith cache a (content inside.disk) → IsStoreWith new.view cache a (content new.disk) × (new.views ≡ views_of (live a.entries))) → (s : Standing) → Stands old s → (t : Standing) × Going old s new t × Settles s t
+    opened-from one new run opened = subst (λ (o : Owning D). (s : Standing) → Stands o s → (t : Standing) × Going o s new t × Settles s t) is (opened-at one inside new run opened)
 
-    pub unopened-from : (new : Owning D) (why : OpenRefusal) → Reopening inside new.disk → ((a : Archive) (cache : List ℕ) → ReadsWith cache a (content inside.disk) → IsWant why) → is_ready new ≡ false → (s : Standing) → Stands old s → (t : Standing) × Going old s new t × StaysShut s why t
-    unopened-from new why run well unready = subst (λ (o : Owning D). (s : Standing) → Stands o s → (t : Standing) × Going o s new t × StaysShut s why t) is (unopened-at inside new why run well unready)
+    pub unopened-from : RecoversSomeOne → (new : Owning D) (why : OpenRefusal) → Reopening inside new.disk → ((a : Archive) (cache : List ℕ) → ReadsWith cache a (content inside.disk) → IsWant why) → is_ready new ≡ false → (s : Standing) → Stands old s → (t : Standing) × Going old s new t × StaysShut s why t
+    unopened-from one new why run well unready = subst (λ (o : Owning D). (s : Standing) → Stands o s → (t : Standing) × Going o s new t × StaysShut s why t) is (unopened-at one inside new why run well unready)
 
-    pub passes-from : (new : Owning D) → Reopening inside new.disk → (s : Standing) → Stands old s → Passes (Leaves moment left_since) old new []
-    passes-from new run = subst (λ (o : Owning D). (s : Standing) → Stands o s → Passes (Leaves moment left_since) o new []) is (reopening-passes inside new run)
+    pub passes-from : RecoversSomeOne → (new : Owning D) → Reopening inside new.disk → (s : Standing) → Stands old s → Passes (Leaves moment left_since) old new []
+    passes-from one new run = subst (λ (o : Owning D). (s : Standing) → Stands o s → Passes (Leaves moment left_since) o new []) is (reopening-passes one inside new run)
 
     -- Out of use, it fits what it did, since a crash leaves of its disk alone.
     abbrev pub shelved : Owning D
@@ -490,13 +577,13 @@ module _ {D : Type 0} (content : D → Option Content) (moment : D → ℕ) (lef
     pub reread-passes : (new : Owning D) → ((s : Standing) → Stands shelved s → Passes (Leaves moment left_since) shelved new []) → (s : Standing) → Stands old s → Passes (Leaves moment left_since) old new []
     reread-passes new passes s fits = shelved-passes new [] (passes s (shelved-fits s fits))
 
-    pub taken-from : CachesOne → (new : Owning D) (wanted : Archive → Done) (reply : Answer) → (needs_opening reply ≡ true → new.stale ≡ true) → ((a : Archive) (cache : List ℕ) → IsStoreWith inside.view cache a (content inside.disk) → LeavesOnly moment left_since inside.disk new.disk (RecoversEitherWith cache a (wanted a).archive))
-        → ((a : Archive) (cache : List ℕ) → IsStoreWith inside.view cache a (content inside.disk) → DoneBy new.view cache a (wanted a) reply (content new.disk))
+    pub taken-from : CachesOne → (new : Owning D) (wanted : Archive → Done) (left : List ℕ → List ℕ) (reply : Answer) → ((cache : List ℕ) → (left cache ≡ cache) ⊎ (left cache ≡ [])) → (needs_opening reply ≡ true → new.stale ≡ true) → ((a : Archive) (cache : List ℕ) → IsStoreWith inside.view cache a (content inside.disk) → LeavesOnly moment left_since inside.disk new.disk (RecoversOneOf cache a (left cache) (wanted a).archive))
+        → ((a : Archive) (cache : List ℕ) → IsStoreWith inside.view cache a (content inside.disk) → DoneBy new.view cache (left cache) a (wanted a) reply (content new.disk))
         → ((a : Archive) (cache : List ℕ) → IsStoreWith inside.view cache a (content inside.disk) → inside.views ≡ views_of (live a.entries) → ViewsKeepUp reply (is_ready new) new.views a (wanted a).archive)
         → OnRefusal reply (UnlessFault reply (OnlyLooks content moment left_since inside.disk new.disk)) → (a : Archive) → Holds content old a → (t : Standing) × Going old (standing a None) new t × Comes true (standing a None) wanted reply t
-    taken-from caches new wanted reply stale run done rows untouched =
+    taken-from caches new wanted left reply kept stale run done rows untouched =
         subst (λ (o : Owning D). (a : Archive) → Holds content o a → (t : Standing) × Going o (standing a None) new t × Comes true (standing a None) wanted reply t) is
-        (λ a held. taken-at caches inside new a held.0 held.1 wanted (run a held.0 held.1) reply stale (done a held.0 held.1) (rows a held.0 held.1 held.2) untouched)
+        (λ a held. taken-at caches inside new a held.0 (left held.0) (kept held.0) held.1 wanted (run a held.0 held.1) reply stale (done a held.0 held.1) (rows a held.0 held.1 held.2) untouched)
 
     pub stays-from : (faults : D → ℕ) (disk : D) → is_ready old ≡ true → Told Unchanged (content inside.disk) (content disk) → LeavesOnly moment left_since inside.disk disk (Image (content inside.disk)) → faults inside.disk ≤ faults disk
         → Stays (Holds content) is_ready (ReadsOn content moment left_since) (λ (o : Owning D). faults o.disk) old (record { disk = disk; view = inside.view; views = inside.views; stale = inside.stale })
@@ -504,15 +591,15 @@ module _ {D : Type 0} (content : D → Option Content) (moment : D → ℕ) (lef
         subst (λ (o : Owning D). is_ready o ≡ true → Stays (Holds content) is_ready (ReadsOn content moment left_since) (λ (p : Owning D). faults p.disk) o (record { disk = disk; view = inside.view; views = inside.views; stale = inside.stale })) is
         (λ at_hand. stays-at faults inside disk at_hand files run later) ready
 
-    pub refused-from : (new : Owning D) (ok : Bool) (command : Command) (text : List ℕ) (arrived : ℕ) (reply : Answer) → old.stale ≡ false → new.stale ≡ (needs_opening reply || not ok) → OnRefusal reply (ok ≡ true) → OnRefusal reply (new.view ≡ inside.view)
-        → (ok ≡ true → ViewsAfter command reply text arrived inside.views new.views) → OnRefusal reply (UnlessFault reply (OnlyLooks content moment left_since inside.disk new.disk)) → IfRefused reply (ReadsOn content moment left_since old new)
-    refused-from new ok command text arrived reply ready stale followed view rows looks =
-        subst (λ (o : Owning D). o.stale ≡ false → IfRefused reply (ReadsOn content moment left_since o new)) is (λ at_hand. refused-at inside new ok command text arrived reply at_hand stale followed view rows looks) ready
+    pub refused-from : (new : Owning D) (ok : Bool) (command : Command) (gone : Option ℕ) (text : List ℕ) (arrived : ℕ) (reply : Answer) → old.stale ≡ false → new.stale ≡ (needs_opening reply || not ok) → OnRefusal reply (ok ≡ true) → OnRefusal reply (new.view ≡ inside.view)
+        → (ok ≡ true → ViewsAfter command gone reply text arrived inside.views new.views) → OnRefusal reply (UnlessFault reply (OnlyLooks content moment left_since inside.disk new.disk)) → IfRefused reply (ReadsOn content moment left_since old new)
+    refused-from new ok command gone text arrived reply ready stale followed view rows looks =
+        subst (λ (o : Owning D). o.stale ≡ false → IfRefused reply (ReadsOn content moment left_since o new)) is (λ at_hand. refused-at inside new ok command gone text arrived reply at_hand stale followed view rows looks) ready
 
-    pub unmoved-from : (new : Owning D) (ok : Bool) (command : Command) (text : List ℕ) (arrived : ℕ) (reply : Answer) → old.stale ≡ false → new.stale ≡ (needs_opening reply || not ok) → OnRefusal reply (ok ≡ true) → OnRefusal reply (new.view ≡ inside.view)
-        → (ok ≡ true → ViewsAfter command reply text arrived inside.views new.views) → IfUnread reply (new.disk ≡ inside.disk) → IfUnread reply (new ≡ old)
-    unmoved-from new ok command text arrived reply ready stale followed view rows disk =
-        subst (λ (o : Owning D). o.stale ≡ false → IfUnread reply (new ≡ o)) is (λ at_hand. unmoved-at inside new ok command text arrived reply at_hand stale followed view rows disk) ready
+    pub unmoved-from : (new : Owning D) (ok : Bool) (command : Command) (gone : Option ℕ) (text : List ℕ) (arrived : ℕ) (reply : Answer) → old.stale ≡ false → new.stale ≡ (needs_opening reply || not ok) → OnRefusal reply (ok ≡ true) → OnRefusal reply (new.view ≡ inside.view)
+        → (ok ≡ true → ViewsAfter command gone reply text arrived inside.views new.views) → IfUnreadFor command reply (new.disk ≡ inside.disk) → IfUnreadFor command reply (new ≡ old)
+    unmoved-from new ok command gone text arrived reply ready stale followed view rows disk =
+        subst (λ (o : Owning D). o.stale ≡ false → IfUnreadFor command reply (new ≡ o)) is (λ at_hand. unmoved-at inside new ok command gone text arrived reply at_hand stale followed view rows disk) ready
 
 -- The answer to a command whose archive wasn't reopened, which was stale then.
 pub refused-comes : (was : Bool) (s t : Standing) (wanted : Archive → Done) (why : OpenRefusal) (reply : Answer) → reply ≡ opening_answer why → (was ≡ true → false ≡ true) → StaysShut s why t → Comes was s wanted reply t

@@ -1,5 +1,5 @@
 -- The views of live messages after a command.
-use Rattle.std.specs.Prelude.{◌≡◌, ◌||◌, ◌<◌, ◌+◌, ℕ, Bool, true, false, not, nat_lt, List, [], ◌∷◌, Option, Some, None, Result, Ok, Err, OnOk, is_ok, if◌then◌else◌, refl}
+use Rattle.std.specs.Prelude.{◌≡◌, ◌||◌, ◌<◌, ◌+◌, ℕ, Bool, true, false, not, nat_lt, List, [], ◌∷◌, Option, Some, None, Result, Ok, Err, OnOk, is_ok, unwrap_or, if◌then◌else◌, refl}
 use Rattle.std.specs.List.{AllByRecursion}
 use Rattle.std.proofs.Common.{◌∙◌, sym, ap}
 use Rattle.arch_base.specs.declared.ids.Id20.{Id20}
@@ -9,9 +9,9 @@ use Rattle.mime_parts.specs.Words.{mail_words}
 use Rattle.mail_reader.specs.Stored.{stored}
 use Rattle.mail_reader.specs.declared.storing.StoredRefusal.{StoredRefusal}
 use Rattle.mail_reader.specs.declared.storing.StoredRefusal.TheVariants as storing
-use Rattle.arch_model.specs.Archives.{Entry, Archive, message, with_entry, live, text_of}
+use Rattle.arch_model.specs.Archives.{Entry, Archive, message, with_entry, without_entries, live, messages, text_of}
 use Rattle.arch_model.specs.Candidates.{choice_of}
-use Rattle.arch_model.specs.Delivery.{Done, applied, delivered, delivered_form, delivered_choice, delivered_kept, removed_text, refused, new_epoch, collision}
+use Rattle.arch_model.specs.Delivery.{Done, applied, delivered, delivered_form, delivered_choice, delivered_kept, removed_text, purged, edited, purged_text, edited_text, is_accepted, is_form, unless_refused, refused, new_epoch, collision}
 use Rattle.arch_model.specs.Keeping.{StaysReady}
 use Rattle.arch_model.specs.Listings.{row_at}
 use Rattle.arch_model.specs.Rows.{row_of}
@@ -21,17 +21,19 @@ use Rattle.arch_model.specs.declared.answer.Answer.TheVariants as answer
 use Rattle.arch_model.specs.declared.choice.Choice.{Choice}
 use Rattle.arch_model.specs.declared.choice.Choice.TheVariants as choice
 use Rattle.arch_model.specs.declared.command.Command.{Command}
-use Rattle.arch_model.specs.declared.command.Command.TheVariants.{Deliver, Remove}
-use Rattle.arch_model.proofs.LiveEntries.{live-message, live-deletion, live-all, without as without_number}
+use Rattle.arch_model.specs.declared.command.Command.TheVariants.{Deliver, Remove, Purge, Edit}
+use Rattle.arch_model.proofs.LiveEntries.{live-message, live-deletion, live-all, ids-now, without as without_number}
 use Rattle.arch_model.proofs.ValidArchives.{all_weaker}
+use Rattle.arch_model.proofs.Purging.{live_climbs, live_without, none_gone, text_gone, valid_without}
+use Rattle.arch_model.proofs.Rewrites.{purged_is, edited_is}
 use Rattle.arch_judge.proofs.Endings.{Ascend, live-ascend}
 use Rattle.epoch_store.specs.Stores.{View}
 use Rattle.view_set.specs.Viewed.{Viewed, with_mail, without_mail, views_of}
 use Rattle.view_set.proofs.MailLists.{mails-added, mails-taken}
 use Rattle.overview_index.proofs.Messages.{HasId, AllBelow, Ascends}
-use Rattle.archive_core.specs.Commands.{DoneBy, OnRefusal, KeepsText, is_delivery, IfDelivery, OnDone}
+use Rattle.archive_core.specs.Commands.{DoneBy, OnRefusal, KeepsText, KeepsTextFor, is_delivery, IfDelivery, IsGone, IsLiveOf, OnDone}
 use Rattle.archive_core.specs.Engines.{needs_opening, ViewsKeepUp}
-use Rattle.archive_core.specs.Walks.{ViewsDone, ViewsAfter}
+use Rattle.archive_core.specs.Walks.{ViewsDone, ViewsAfter, without_gone}
 
 -- A command that isn't accepted keeps the archive.
 abbrev pub KeepsUnlessOk : Archive → Done → Type 0
@@ -67,9 +69,52 @@ removed_keeps : (t : Bool) (a : Archive) (number moment : ℕ) → KeepsUnlessOk
 removed_keeps true a number moment never = refl
 removed_keeps false a number moment never = text_keeps a number moment (text_of (live a.entries) number) never
 
+found_keeps : (a : Archive) (number : ℕ) (found : Option (List ℕ)) → KeepsUnlessOk a (purged_text a number found)
+found_keeps a number None never = refl
+found_keeps a number (Some text) never = absurd (never number (blob_id_of text) refl)
+
+purged_keeps : (t : Bool) (a : Archive) (number : ℕ) → KeepsUnlessOk a (if t then refused a answer.IsMirror else purged_text a number (text_of (messages a.entries) number))
+purged_keeps true a number never = refl
+purged_keeps false a number never = found_keeps a number (text_of (messages a.entries) number) never
+
+-- An answer that a command was carried out has a number and an id.
+never_accepted : (reply : Answer) → ((n : ℕ) (id : Id20) → reply ≡ answer.Ok n id → ⊥) → is_accepted reply ≡ false
+never_accepted (answer.Ok n id) never = absurd (never n id refl)
+never_accepted (answer.Duplicate n) never = refl
+never_accepted answer.NoFields never = refl
+never_accepted (answer.TooLarge len) never = refl
+never_accepted (answer.Full max) never = refl
+never_accepted (answer.Collision n) never = refl
+never_accepted (answer.NotLive n) never = refl
+never_accepted (answer.NoText n) never = refl
+never_accepted answer.IsMirror never = refl
+never_accepted answer.DiskFault never = refl
+never_accepted (answer.Damaged file at) never = refl
+never_accepted answer.NoMemory never = refl
+
+unless_keeps : (a : Archive) (d : Done) (t : Bool) → is_accepted d.answer ≡ t → KeepsUnlessOk a (if t then d else refused a d.answer)
+unless_keeps a d true accepted never = absurd (let none : is_accepted d.answer ≡ false = never_accepted d.answer never in let wrong : true ≡ false = sym accepted ∙ none in cc)
+unless_keeps a d false accepted never = refl
+
+form_unless : (a : Archive) (number : ℕ) (bytes text : List ℕ) (moment : ℕ) (t : Bool) → KeepsUnlessOk a (if t then refused a (answer.Duplicate number) else unless_refused a (delivered (without_entries a text) bytes moment))
+form_unless a number bytes text moment true never = refl
+form_unless a number bytes text moment false never =
+    let d : Done = delivered (without_entries a text) bytes moment in
+    unless_keeps a d (is_accepted d.answer) refl never
+
+edit_keeps : (a : Archive) (number : ℕ) (bytes : List ℕ) (moment : ℕ) (found : Option (List ℕ)) → KeepsUnlessOk a (edited_text a number bytes moment found)
+edit_keeps a number bytes moment None never = refl
+edit_keeps a number bytes moment (Some text) never = form_unless a number bytes text moment (is_form text (stored bytes)) never
+
+edited_keeps : (t : Bool) (a : Archive) (number : ℕ) (bytes : List ℕ) (moment : ℕ) → KeepsUnlessOk a (if t then refused a answer.IsMirror else edited_text a number bytes moment (text_of (live a.entries) number))
+edited_keeps true a number bytes moment never = refl
+edited_keeps false a number bytes moment never = edit_keeps a number bytes moment (text_of (live a.entries) number) never
+
 pub applied-keeps : (a : Archive) (command : Command) (moment : ℕ) → KeepsUnlessOk a (applied a command moment)
 applied-keeps a (Deliver bytes) moment never = mirror_keeps a.config.mirror a bytes.now moment never
 applied-keeps a (Remove number) moment never = removed_keeps a.config.mirror a number moment never
+applied-keeps a (Purge number) moment never = purged_keeps a.config.mirror a number never
+applied-keeps a (Edit number bytes) moment never = edited_keeps a.config.mirror a number bytes.now moment never
 
 -- An accepted delivery takes the next number.
 new_next : (t : Bool) (a : Archive) (text : List ℕ) (moment n : ℕ) (id : Id20) → (if t then refused a (answer.Full a.config.max) else record { archive = with_entry a (new_epoch a) text moment; answer = answer.Ok a.next (blob_id_of text) }).answer ≡ answer.Ok n id → n ≡ a.next
@@ -95,14 +140,14 @@ mirror_next true a bytes moment n id is = absurd (cc)
 mirror_next false a bytes moment n id is = form_next a moment n id (stored bytes) is
 
 -- An accepted removal takes its number from the live messages.
-text_gone : (a : Archive) (number moment n : ℕ) (id : Id20) (found : Option (List ℕ)) → (removed_text a number moment found).answer ≡ answer.Ok n id → live (removed_text a number moment found).archive.entries ≡ without_number number (live a.entries)
-text_gone a number moment n id None is = absurd (cc)
-text_gone a number moment n id (Some text) is = live-deletion a.entries number (new_epoch a) text moment
+removal_gone : (a : Archive) (number moment n : ℕ) (id : Id20) (found : Option (List ℕ)) → (removed_text a number moment found).answer ≡ answer.Ok n id → live (removed_text a number moment found).archive.entries ≡ without_number number (live a.entries)
+removal_gone a number moment n id None is = absurd (cc)
+removal_gone a number moment n id (Some text) is = live-deletion a.entries number (new_epoch a) text moment
 
 removed_gone : (t : Bool) (a : Archive) (number moment n : ℕ) (id : Id20) → (if t then refused a answer.IsMirror else removed_text a number moment (text_of (live a.entries) number)).answer ≡ answer.Ok n id
     → live (if t then refused a answer.IsMirror else removed_text a number moment (text_of (live a.entries) number)).archive.entries ≡ without_number number (live a.entries)
 removed_gone true a number moment n id is = absurd (cc)
-removed_gone false a number moment n id is = text_gone a number moment n id (text_of (live a.entries) number) is
+removed_gone false a number moment n id is = removal_gone a number moment n id (text_of (live a.entries) number) is
 
 -- What a valid archive says of its live messages.
 pub live-ids : (a : Archive) → IsArchive a → AllByRecursion HasId (live a.entries)
@@ -129,14 +174,47 @@ with_kept a b text moment n old new valid old_is n_is b_is new_is =
     ∙ ap views_of (sym (live-message a.entries a.next (new_epoch a) text moment))
     ∙ ap (λ (c : Archive). views_of (live c.entries)) (sym b_is)
 
-pub done-views : (a : Archive) (command : Command) (moment n : ℕ) (id : Id20) (text : List ℕ) (old new : Viewed) → IsArchive a → (applied a command moment).answer ≡ answer.Ok n id → IfDelivery (is_delivery command) (KeepsText a (applied a command moment) moment text)
-    → old ≡ views_of (live a.entries) → ViewsDone command n text moment old new → new ≡ views_of (live (applied a command moment).archive.entries)
-done-views a (Deliver bytes) moment n id text old new valid is kept old_is new_is = with_kept a (delivered a bytes.now moment).archive text moment n old new valid old_is (mirror_next a.config.mirror a bytes.now moment n id is) kept new_is
-done-views a (Remove number) moment n id text old new valid is kept old_is new_is =
+-- The views without the live number of a text are those of the archive without the text.
+pub views_gone : (a : Archive) (text : List ℕ) (gone : Option ℕ) → IsArchive a → IsLiveOf (live a.entries) text gone → without_gone (views_of (live a.entries)) gone ≡ views_of (live (without_entries a text).entries)
+views_gone a text None valid none = ap views_of (sym (live_without a text valid ∙ none_gone 1 (live a.entries) text (live_climbs 1 0 a.entries valid.order) none))
+views_gone a text (Some m) valid is =
+    mails-taken (live a.entries) 1 m (live-ascends a valid)
+    ∙ ap views_of (sym (live_without a text valid ∙ text_gone 1 (live a.entries) m text (live_climbs 1 0 a.entries valid.order) (ids-now a.entries valid.ids) is))
+
+one_text : (found : Option (List ℕ)) (text other : List ℕ) → found ≡ Some text → found ≡ Some other → text ≡ other
+one_text found text other is was = ap (λ (o : Option (List ℕ)). unwrap_or o text) (sym is ∙ was)
+
+purge_views : (a : Archive) (number n : ℕ) (id : Id20) (gone : Option ℕ) (old new : Viewed) → IsArchive a → (purged a number).answer ≡ answer.Ok n id → IsGone a (Purge number) gone → old ≡ views_of (live a.entries) → new ≡ without_gone old gone → new ≡ views_of (live (purged a number).archive.entries)
+purge_views a number n id gone old new valid is taken old_is new_is =
+    let dropped = purged_is a number n id is in
+    let same : taken.0 ≡ dropped.0 = one_text (text_of (messages a.entries) number) taken.0 dropped.0 taken.1 dropped.1 in
+    new_is
+    ∙ ap (λ (v : Viewed). without_gone v gone) old_is
+    ∙ views_gone a taken.0 gone valid taken.2
+    ∙ ap (λ (t : List ℕ). views_of (live (without_entries a t).entries)) same
+    ∙ ap (λ (b : Archive). views_of (live b.entries)) (sym dropped.2)
+
+edit_views : (a : Archive) (number : ℕ) (bytes : List ℕ) (moment n : ℕ) (id : Id20) (text : List ℕ) (gone : Option ℕ) (old new : Viewed) → IsArchive a → (edited a number bytes moment).answer ≡ answer.Ok n id
+    → (was : List ℕ) × (text_of (live a.entries) number ≡ Some was) × KeepsText (without_entries a was) (edited a number bytes moment) moment text → gone ≡ Some number
+    → old ≡ views_of (live a.entries) → new ≡ with_mail (without_gone old gone) (row_of n text moment) (mail_words text) → new ≡ views_of (live (edited a number bytes moment).archive.entries)
+edit_views a number bytes moment n id text gone old new valid is kept gone_is old_is new_is =
+    let redone = edited_is a number bytes moment n id is in
+    let same : kept.0 ≡ redone.0 = one_text (text_of (live a.entries) number) kept.0 redone.0 kept.1 redone.1 in
+    let rest : Archive = without_entries a kept.0 in
+    let answer_is : (delivered rest bytes moment).answer ≡ answer.Ok n id = ap (λ (t : List ℕ). (delivered (without_entries a t) bytes moment).answer) same ∙ sym (ap (λ (d : Done). d.answer) redone.2) ∙ is in
+    let views_are : without_gone old gone ≡ views_of (live rest.entries) = ap (λ (g : Option ℕ). without_gone old g) gone_is ∙ ap (λ (v : Viewed). without_gone v (Some number)) old_is ∙ views_gone a kept.0 (Some number) valid kept.1 in
+    with_kept rest (edited a number bytes moment).archive text moment n (without_gone old gone) new (valid_without a kept.0 valid) views_are (mirror_next rest.config.mirror rest bytes moment n id answer_is) kept.2 new_is
+
+pub done-views : (a : Archive) (command : Command) (moment n : ℕ) (id : Id20) (text : List ℕ) (lost : Option ℕ) (old new : Viewed) → IsArchive a → (applied a command moment).answer ≡ answer.Ok n id → IfDelivery (is_delivery command) (KeepsTextFor command a (applied a command moment) moment text)
+    → IsGone a command lost → old ≡ views_of (live a.entries) → ViewsDone command lost n text moment old new → new ≡ views_of (live (applied a command moment).archive.entries)
+done-views a (Deliver bytes) moment n id text lost old new valid is kept taken old_is new_is = with_kept a (delivered a bytes.now moment).archive text moment n old new valid old_is (mirror_next a.config.mirror a bytes.now moment n id is) kept new_is
+done-views a (Remove number) moment n id text lost old new valid is kept taken old_is new_is =
     new_is
     ∙ ap (λ (v : Viewed). without_mail v number) old_is
     ∙ mails-taken (live a.entries) 1 number (live-ascends a valid)
     ∙ ap views_of (sym (removed_gone a.config.mirror a number moment n id is))
+done-views a (Purge number) moment n id text lost old new valid is kept taken old_is new_is = purge_views a number n id lost old new valid is taken old_is new_is
+done-views a (Edit number bytes) moment n id text lost old new valid is kept taken old_is new_is = edit_views a number bytes.now moment n id text lost old new valid is kept taken old_is new_is
 
 -- What holds if a result is Ok.
 pub on-ok : {T E : Type 0} (r : Result T E) (P : Type 0) → OnOk r P → is_ok r ≡ true → P
@@ -157,21 +235,21 @@ same-views : (a : Archive) (command : Command) (moment : ℕ) (old new : Viewed)
 same-views a command moment old new old_is same never = same ∙ old_is ∙ ap (λ (b : Archive). views_of (live b.entries)) (sym (applied-keeps a command moment never))
 
 -- The views keep up with a command, however it was answered.
-pub kept-up : (a : Archive) (command : Command) (moment : ℕ) (text : List ℕ) (v : View) (cache : List ℕ) (content : Option Content) (old new : Viewed) (ready ok : Bool) (reply : Answer) → IsArchive a → old ≡ views_of (live a.entries)
-    → DoneBy v cache a (applied a command moment) reply content → IfDelivery (is_delivery command) (OnDone reply (KeepsText a (applied a command moment) moment text)) → (ready ≡ true → ok ≡ true) → OnRefusal reply (ok ≡ true)
-    → (ok ≡ true → ViewsAfter command reply text moment old new) → ViewsKeepUp reply ready new a (applied a command moment).archive
-kept-up a command moment text v cache content old new ready ok (answer.Ok number id) valid old_is done kept followed refused rows = λ now. done-views a command moment number id text old new valid done.answer_is kept old_is (rows (followed now))
-kept-up a command moment text v cache content old new ready ok answer.NoMemory valid old_is done kept followed refused rows = rows refused ∙ old_is
-kept-up a command moment text v cache content old new ready ok answer.DiskFault valid old_is done kept followed refused rows = tt
-kept-up a command moment text v cache content old new ready ok (answer.Damaged file at) valid old_is done kept followed refused rows = tt
-kept-up a command moment text v cache content old new ready ok (answer.Duplicate number) valid old_is done kept followed refused rows = same-views a command moment old new old_is (rows refused) (λ n id is. (let wrong : (answer.Duplicate number) ≡ answer.Ok n id = sym done.answer_is ∙ is in cc))
-kept-up a command moment text v cache content old new ready ok answer.NoFields valid old_is done kept followed refused rows = same-views a command moment old new old_is (rows refused) (λ n id is. (let wrong : answer.NoFields ≡ answer.Ok n id = sym done.answer_is ∙ is in cc))
-kept-up a command moment text v cache content old new ready ok (answer.TooLarge len) valid old_is done kept followed refused rows = same-views a command moment old new old_is (rows refused) (λ n id is. (let wrong : (answer.TooLarge len) ≡ answer.Ok n id = sym done.answer_is ∙ is in cc))
-kept-up a command moment text v cache content old new ready ok (answer.Full max) valid old_is done kept followed refused rows = same-views a command moment old new old_is (rows refused) (λ n id is. (let wrong : (answer.Full max) ≡ answer.Ok n id = sym done.answer_is ∙ is in cc))
-kept-up a command moment text v cache content old new ready ok (answer.Collision number) valid old_is done kept followed refused rows = same-views a command moment old new old_is (rows refused) (λ n id is. (let wrong : (answer.Collision number) ≡ answer.Ok n id = sym done.answer_is ∙ is in cc))
-kept-up a command moment text v cache content old new ready ok (answer.NotLive number) valid old_is done kept followed refused rows = same-views a command moment old new old_is (rows refused) (λ n id is. (let wrong : (answer.NotLive number) ≡ answer.Ok n id = sym done.answer_is ∙ is in cc))
-kept-up a command moment text v cache content old new ready ok answer.IsMirror valid old_is done kept followed refused rows = same-views a command moment old new old_is (rows refused) (λ n id is. (let wrong : answer.IsMirror ≡ answer.Ok n id = sym done.answer_is ∙ is in cc))
-kept-up a command moment text v cache content old new ready ok (answer.NoText number) valid old_is done kept followed refused rows = absurd done
+pub kept-up : (a : Archive) (command : Command) (moment : ℕ) (text : List ℕ) (lost : Option ℕ) (v : View) (cache left : List ℕ) (content : Option Content) (old new : Viewed) (ready ok : Bool) (reply : Answer) → IsArchive a → old ≡ views_of (live a.entries)
+    → DoneBy v cache left a (applied a command moment) reply content → IfDelivery (is_delivery command) (OnDone reply (KeepsTextFor command a (applied a command moment) moment text)) → OnDone reply (IsGone a command lost) → (ready ≡ true → ok ≡ true) → OnRefusal reply (ok ≡ true)
+    → (ok ≡ true → ViewsAfter command lost reply text moment old new) → ViewsKeepUp reply ready new a (applied a command moment).archive
+kept-up a command moment text lost v cache left content old new ready ok (answer.Ok number id) valid old_is done kept taken followed refused rows = λ now. done-views a command moment number id text lost old new valid done.answer_is kept taken old_is (rows (followed now))
+kept-up a command moment text lost v cache left content old new ready ok answer.NoMemory valid old_is done kept taken followed refused rows = rows refused ∙ old_is
+kept-up a command moment text lost v cache left content old new ready ok answer.DiskFault valid old_is done kept taken followed refused rows = tt
+kept-up a command moment text lost v cache left content old new ready ok (answer.Damaged file at) valid old_is done kept taken followed refused rows = tt
+kept-up a command moment text lost v cache left content old new ready ok (answer.Duplicate number) valid old_is done kept taken followed refused rows = same-views a command moment old new old_is (rows refused) (λ n id is. (let wrong : (answer.Duplicate number) ≡ answer.Ok n id = sym done.answer_is ∙ is in cc))
+kept-up a command moment text lost v cache left content old new ready ok answer.NoFields valid old_is done kept taken followed refused rows = same-views a command moment old new old_is (rows refused) (λ n id is. (let wrong : answer.NoFields ≡ answer.Ok n id = sym done.answer_is ∙ is in cc))
+kept-up a command moment text lost v cache left content old new ready ok (answer.TooLarge len) valid old_is done kept taken followed refused rows = same-views a command moment old new old_is (rows refused) (λ n id is. (let wrong : (answer.TooLarge len) ≡ answer.Ok n id = sym done.answer_is ∙ is in cc))
+kept-up a command moment text lost v cache left content old new ready ok (answer.Full max) valid old_is done kept taken followed refused rows = same-views a command moment old new old_is (rows refused) (λ n id is. (let wrong : (answer.Full max) ≡ answer.Ok n id = sym done.answer_is ∙ is in cc))
+kept-up a command moment text lost v cache left content old new ready ok (answer.Collision number) valid old_is done kept taken followed refused rows = same-views a command moment old new old_is (rows refused) (λ n id is. (let wrong : (answer.Collision number) ≡ answer.Ok n id = sym done.answer_is ∙ is in cc))
+kept-up a command moment text lost v cache left content old new ready ok (answer.NotLive number) valid old_is done kept taken followed refused rows = same-views a command moment old new old_is (rows refused) (λ n id is. (let wrong : (answer.NotLive number) ≡ answer.Ok n id = sym done.answer_is ∙ is in cc))
+kept-up a command moment text lost v cache left content old new ready ok answer.IsMirror valid old_is done kept taken followed refused rows = same-views a command moment old new old_is (rows refused) (λ n id is. (let wrong : answer.IsMirror ≡ answer.Ok n id = sym done.answer_is ∙ is in cc))
+kept-up a command moment text lost v cache left content old new ready ok (answer.NoText number) valid old_is done kept taken followed refused rows = same-views a command moment old new old_is (rows refused) (λ n id is. (let wrong : (answer.NoText number) ≡ answer.Ok n id = sym done.answer_is ∙ is in cc))
 
 -- It needn't be reopened after a refusal by the rules, and must be after a fault.
 pub stays-ready : (stale ok : Bool) (reply : Answer) → stale ≡ (needs_opening reply || not ok) → OnRefusal reply (ok ≡ true) → StaysReady true reply (not stale)

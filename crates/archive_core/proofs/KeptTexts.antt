@@ -4,12 +4,12 @@ use Rattle.std.proofs.Common.{sym, subst}
 use Rattle.arch_model.specs.declared.answer.Answer.{Answer}
 use Rattle.arch_model.specs.declared.answer.Answer.TheVariants as answer
 use Rattle.arch_model.specs.declared.command.Command.{Command}
-use Rattle.arch_model.specs.declared.command.Command.TheVariants.{Deliver, Remove}
+use Rattle.arch_model.specs.declared.command.Command.TheVariants.{Deliver, Remove, Purge, Edit}
 use Rattle.arch_judge.specs.declared.judging.Verdict.TheVariants.{Refuse}
 use Rattle.epoch_file.specs.declared.refusal.StoreRefusal.{StoreRefusal}
 use Rattle.epoch_file.specs.declared.refusal.StoreRefusal.TheVariants as refusal
 use Rattle.epoch_store.specs.Stores.{View}
-use Rattle.archive_core.specs.Commands.{AnswersDelivery, IsForCommand, OnDone, TellsText, is_delivery, refusal_answer}
+use Rattle.archive_core.specs.Commands.{AnswersDelivery, AnswersEdit, IsForCommand, OnDone, TellsText, is_delivery, refusal_answer}
 use Rattle.archive_core.specs.Kept.{TakesWhatMay}
 
 pub refuse-tells : (v : View) (reply : Answer) (text : List ℕ) → TakesWhatMay v (Refuse reply) → TellsText reply text
@@ -56,7 +56,39 @@ error_done (refusal.Damaged file at) P = tt
 pub error-done : (why : StoreRefusal) (reply : Answer) (P : Type 0) → reply ≡ refusal_answer why → OnDone reply P
 error-done why reply P is = subst (λ (r : Answer). OnDone r P) (sym is) (error_done why P)
 
--- An answer to a delivery is one to the command.
+-- An answer to a delivery is one to an edit.
+pub delivery-edit : (number : ℕ) (reply : Answer) → AnswersDelivery reply → AnswersEdit number reply
+delivery-edit number (answer.Ok n id) is = is
+delivery-edit number (answer.Duplicate n) is = is
+delivery-edit number answer.NoFields is = is
+delivery-edit number (answer.TooLarge len) is = is
+delivery-edit number (answer.Full max) is = is
+delivery-edit number (answer.Collision n) is = is
+delivery-edit number (answer.NotLive n) is = absurd is
+delivery-edit number (answer.NoText n) is = is
+delivery-edit number answer.IsMirror is = is
+delivery-edit number answer.DiskFault is = is
+delivery-edit number (answer.Damaged file at) is = is
+delivery-edit number answer.NoMemory is = is
+
+-- An answer to a delivery is one to a command that delivers.
 pub for-delivery : (m : Command) (reply : Answer) → is_delivery m ≡ true → AnswersDelivery reply → IsForCommand m reply
 for-delivery (Deliver bytes) reply delivers is = is
 for-delivery (Remove number) reply delivers is = absurd (cc)
+for-delivery (Purge number) reply delivers is = absurd (cc)
+for-delivery (Edit number bytes) reply delivers is = delivery-edit number reply is
+
+-- What holds in any case holds after Ok.
+pub when-done : (reply : Answer) (P : Type 0) → P → OnDone reply P
+when-done (answer.Ok number id) P is = is
+when-done (answer.Duplicate number) P is = tt
+when-done answer.NoFields P is = tt
+when-done (answer.TooLarge len) P is = tt
+when-done (answer.Full max) P is = tt
+when-done (answer.Collision number) P is = tt
+when-done (answer.NotLive number) P is = tt
+when-done (answer.NoText number) P is = tt
+when-done answer.IsMirror P is = tt
+when-done answer.DiskFault P is = tt
+when-done (answer.Damaged file at) P is = tt
+when-done answer.NoMemory P is = tt

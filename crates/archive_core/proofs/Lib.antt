@@ -15,5 +15,11 @@ mod KeepingUp
 mod KeptTexts
 mod OpeningRows
 mod Unmoved
+mod Dropping
+mod WithoutText
+mod EditCompares
+mod EditDone
+mod EditKept
+mod Redone
 mod Walking
 pub mod Engines

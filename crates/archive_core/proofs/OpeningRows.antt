@@ -1,6 +1,6 @@
 -- An archive that was opened, and then read for its rows.
 use Rattle.std.specs.Prelude.{◌≡◌, ◌≤◌, ℕ, List, Option, Some, None, Result, Ok, Err, refl}
-use Rattle.std.proofs.Common.{sym, ap, subst}
+use Rattle.std.proofs.Common.{sym, ap, subst, inl, inr}
 use Rattle.arch_base.specs.Counts.{RoseIf}
 use Rattle.disk_model.specs.Disk.{Files, Content, Image, Told, WhereTold, Unchanged, LeavesOnly}
 use Rattle.disk_model.specs.Moments.{joined}
@@ -13,7 +13,7 @@ use Rattle.arch_model.specs.declared.text_refusal.TextRefusal.{TextRefusal}
 use Rattle.arch_model.specs.declared.text_refusal.TextRefusal.TheVariants as reading
 use Rattle.epoch_store.specs.declared.entries.StoredEntry.{StoredEntry}
 use Rattle.epoch_store.specs.Files.{as_read}
-use Rattle.epoch_store.specs.Opens.{RecoversOfWith, Opens, OpensWell, SyncsFirst, OnSynced}
+use Rattle.epoch_store.specs.Opens.{RecoversOfWith, Opens, OpensWell, SyncsFirst, SyncsAtMost, OnSynced}
 use Rattle.epoch_store.specs.Promises.{OpensArchive}
 use Rattle.epoch_store.specs.Reads.{HasTexts}
 use Rattle.epoch_store.specs.Recovery.{RecoversWith}
@@ -39,6 +39,10 @@ module _ {D : Type 0} (content : D → Option Content) (moment : D → ℕ) (lef
     after = λ a cache reads. run-read first.synced mid new (λ (image : Files). RecoversWith cache image a) (first.after a cache reads) looks;
   }
 
+  before-read : (old mid new : D) → SyncsAtMost content moment left_since old mid → OnlyLooks content moment left_since mid new → SyncsAtMost content moment left_since old new
+  before-read old mid new (inl only) looks = inl (run-read old mid new (Image (content old)) only looks)
+  before-read old mid new (inr first) looks = inr (first-read old mid new first looks)
+
   module _ (old mid new : D) (v : View) (opened : OpensArchive content moment left_since faults old mid (Ok v)) (looks : OnlyLooks content moment left_since mid new) where
     same : content new ≡ content mid
     same = unchanged-is (content mid) (content new) looks.same
@@ -51,6 +55,7 @@ module _ {D : Type 0} (content : D → Option Content) (moment : D → ℕ) (lef
       done = λ a cache reads. still_own v cache a (content mid) (content new) looks.same (opened.done a cache reads);
       well = opened.well;
       first = first-read old mid new opened.first looks;
+      before = before-read old mid new opened.before looks;
       settled = subst (WhereTold IsSettled) (sym same) opened.settled;
       kept = subst (λ (k : Option Content). Told (IsSettledBy v.root v.slot) (content old) k) (sym same) opened.kept;
       sizes = subst (WhereTold (HasSizes v)) (sym same) opened.sizes;
@@ -66,6 +71,7 @@ module _ {D : Type 0} (content : D → Option Content) (moment : D → ℕ) (lef
       done = λ a cache reads. tt;
       well = λ a cache reads. well a cache (opened.done a cache reads);
       first = by_why why;
+      before = before-read old mid new opened.before looks;
       settled = tt;
       kept = tt;
       sizes = tt;

@@ -42,7 +42,7 @@ named-no seen entries i e text own id r same id_is own_is r_is miss named =
     let hit : true ≡ false = sym ((bytes_eq-Decides id own).1 equal) ∙ sym r_is ∙ miss in
     absurd (cc)
 
-all_at : (P : Entry → Type 0) (es : List Entry) (i : ℕ) (e : Entry) → AllByRecursion P es → slice_get es i ≡ Some e → P e
+pub all_at : (P : Entry → Type 0) (es : List Entry) (i : ℕ) (e : Entry) → AllByRecursion P es → slice_get es i ≡ Some e → P e
 all_at P [] i e all there = absurd (cc)
 all_at P (x ∷ es) zero e all there = subst P (only x e there) all.0
 all_at P (x ∷ es) (suc i) e all there = all_at P es i e all.1 there

@@ -13,7 +13,8 @@ use Rattle.arch_model.proofs.Owners.{collision-alone, collision-first}
 use Rattle.arch_model.specs.declared.text_refusal.TextRefusal.{TextRefusal}
 use Rattle.arch_model.specs.declared.text_refusal.TextRefusal.TheVariants as reading
 use Rattle.arch_judge.specs.Judging.{IsKnownBy, Judges, Compares, unless_same, MayCome, MayBeKept, TakesThis, TakesSame, IsForDelivery}
-use Rattle.arch_judge.specs.Indexes.{number_in}
+use Rattle.arch_model.specs.Validity.{BlobsAgree}
+use Rattle.arch_judge.specs.Indexes.{IsIndex, number_in}
 use Rattle.arch_judge.proofs.Endings.{live-few}
 use Rattle.arch_judge.specs.declared.index.Index.{Index}
 use Rattle.arch_judge.specs.declared.judging.Verdict.{Verdict}
@@ -88,19 +89,19 @@ judges-read a bytes (Refuse answer.DiskFault) is = tt
 judges-read a bytes (Refuse (answer.Damaged file at)) is = is
 
 -- A text that wasn't read decides nothing.
-pub unread-judges : (a : Archive) (bytes : List ℕ) (number : ℕ) (reply : Answer) → ReadsMessage a number (Err reply) → JudgesRead a bytes (Refuse reply)
-unread-judges a bytes number answer.NoMemory is = tt
-unread-judges a bytes number answer.DiskFault is = tt
-unread-judges a bytes number (answer.Duplicate n) is = absurd is
-unread-judges a bytes number answer.NoFields is = absurd is
-unread-judges a bytes number (answer.TooLarge len) is = absurd is
-unread-judges a bytes number (answer.Full max) is = absurd is
-unread-judges a bytes number (answer.Collision n) is = absurd is
-unread-judges a bytes number answer.IsMirror is = absurd is
-unread-judges a bytes number (answer.Ok n id) is = absurd is
-unread-judges a bytes number (answer.NotLive n) is = absurd is
-unread-judges a bytes number (answer.NoText n) is = absurd is
-unread-judges a bytes number (answer.Damaged file at) is = absurd is
+pub unread-judges : (a b : Archive) (bytes : List ℕ) (number : ℕ) (reply : Answer) → ReadsMessage a number (Err reply) → JudgesRead b bytes (Refuse reply)
+unread-judges a b bytes number answer.NoMemory is = tt
+unread-judges a b bytes number answer.DiskFault is = tt
+unread-judges a b bytes number (answer.Duplicate n) is = absurd is
+unread-judges a b bytes number answer.NoFields is = absurd is
+unread-judges a b bytes number (answer.TooLarge len) is = absurd is
+unread-judges a b bytes number (answer.Full max) is = absurd is
+unread-judges a b bytes number (answer.Collision n) is = absurd is
+unread-judges a b bytes number answer.IsMirror is = absurd is
+unread-judges a b bytes number (answer.Ok n id) is = absurd is
+unread-judges a b bytes number (answer.NotLive n) is = absurd is
+unread-judges a b bytes number (answer.NoText n) is = absurd is
+unread-judges a b bytes number (answer.Damaged file at) is = absurd is
 
 -- The text that was read is that of the blob ids of its message, and an error isn't damage.
 pub reads-message : (v : View) (a : Archive) (number index : ℕ) (text : List ℕ) → Keeps v a → IsMessageAt v.entries number index → GivesTextOf a index [] text (Ok tt) → ReadsMessage a number (Ok text)
@@ -112,27 +113,27 @@ refuses-message v a number index old new reading.NoMemory reply is given = subst
 refuses-message v a number index old new (reading.Damaged named found) reply is given = absurd given
 
 -- The texts are compared as the definition has it.
-pub compares : (v : View) (a : Archive) (bytes text kept : List ℕ) (blob : Id20) (number : ℕ) → Keeps v a → Compares a bytes text blob number → ReadsMessage a number (Ok kept) → (moment : ℕ) → delivered a bytes moment ≡ delivered_kept a text moment (unless_same text kept number)
-compares v a bytes text kept blob number keeps decides reads moment = decides.decides keeps.valid.blobs kept (reads blob.0 decides.first) moment
+pub compares : (a : Archive) (bytes text kept : List ℕ) (blob : Id20) (number : ℕ) → BlobsAgree a.entries → Compares a bytes text blob number → ReadsMessage a number (Ok kept) → (moment : ℕ) → delivered a bytes moment ≡ delivered_kept a text moment (unless_same text kept number)
+compares a bytes text kept blob number agree decides reads moment = decides.decides agree kept (reads blob.0 decides.first) moment
 
 -- No other text has the blob id of one that is taken: no entry has it, or the first that has it has the
 -- same text.
-pub alone-new : (v : View) (a : Archive) (index : Index) (text : List ℕ) (blob : Id20) → Keeps v a → IndexesStored v.entries index → blob ≡ blob_id_of text → number_in index.blobs blob.0 ≡ None → collision a.entries text ≡ None
-alone-new v a index text blob keeps indexed blob_is none =
+pub alone-new : (a : Archive) (index : Index) (text : List ℕ) (blob : Id20) → IsIndex a.entries index → blob ≡ blob_id_of text → number_in index.blobs blob.0 ≡ None → collision a.entries text ≡ None
+alone-new a index text blob indexed blob_is none =
     collision-alone a.entries text
-    (subst (λ (i : Id20). blob_number a.entries i.0 ≡ None) blob_is (sym ((index-of_kept v a index keeps indexed).blobs blob.0) ∙ none))
+    (subst (λ (i : Id20). blob_number a.entries i.0 ≡ None) blob_is (sym (indexed.blobs blob.0) ∙ none))
 
-pub alone-same : (v : View) (a : Archive) (config : Config) (index : Index) (next : ℕ) (text kept : List ℕ) (blob : Id20) (number : ℕ) (verdict : Verdict) → Keeps v a → IndexesStored v.entries index → blob ≡ blob_id_of text → number_in index.blobs blob.0 ≡ Some number → ReadsMessage a number (Ok kept)
+pub alone-same : (a : Archive) (config : Config) (index : Index) (next : ℕ) (text kept : List ℕ) (blob : Id20) (number : ℕ) (verdict : Verdict) → BlobsAgree a.entries → IsIndex a.entries index → blob ≡ blob_id_of text → number_in index.blobs blob.0 ≡ Some number → ReadsMessage a number (Ok kept)
     → TakesThis config next text blob verdict → TakesSame text kept verdict → IsAlone a verdict
-alone-same v a config index next text kept blob number (Take taken named n) keeps indexed blob_is known reads this same =
-    let first : blob_number a.entries blob.0 ≡ Some number = sym ((index-of_kept v a index keeps indexed).blobs blob.0) ∙ known in
+alone-same a config index next text kept blob number (Take taken named n) agree indexed blob_is known reads this same =
+    let first : blob_number a.entries blob.0 ≡ Some number = sym (indexed.blobs blob.0) ∙ known in
     let at_text : blob_number a.entries (blob_id_of text).0 ≡ Some number = subst (λ (i : Id20). blob_number a.entries i.0 ≡ Some number) blob_is first in
     let read : blob_text a.entries (blob_id_of text).0 ≡ Some kept = reads (blob_id_of text).0 at_text in
     let equal : bytes_eq text kept ≡ true = (bytes_eq-Decides text kept).1 (sym same) in
     subst (λ (t : List ℕ). collision a.entries t ≡ None) (sym this.0)
-    (collision-first a.entries text kept number keeps.valid.blobs at_text read ∙ ap (λ (t : Bool). if t then None else Some number) equal)
-alone-same v a config index next text kept blob number (Compare other named n) keeps indexed blob_is known reads this same = absurd this
-alone-same v a config index next text kept blob number (Refuse reply) keeps indexed blob_is known reads this same = tt
+    (collision-first a.entries text kept number agree at_text read ∙ ap (λ (t : Bool). if t then None else Some number) equal)
+alone-same a config index next text kept blob number (Compare other named n) agree indexed blob_is known reads this same = absurd this
+alone-same a config index next text kept blob number (Refuse reply) agree indexed blob_is known reads this same = tt
 
 -- A text that was compared may go in.
 pub compared-taken : (v : View) (config : Config) (index : Index) (next : ℕ) (text : List ℕ) (blob : Id20) (verdict : Verdict) → IndexesStored v.entries index → config ≡ v.root.config → next ≡ v.root.next → MayCome config index text blob → TakesThis config next text blob verdict → TakesWhatMay v verdict

@@ -1,5 +1,5 @@
 -- The answers to a command on an archive on a disk, and what the disk then holds.
-use Rattle.std.specs.Prelude.{◌≡◌, ◌+◌, ◌-◌, ◌<◌, ◌^◌, ℕ, Bool, true, false, List, slice_get, Option, Some, None, Result, Ok, Err}
+use Rattle.std.specs.Prelude.{◌≡◌, ◌+◌, ◌-◌, ◌<◌, ◌≤◌, ◌^◌, ℕ, Bool, true, false, List, [], slice_get, Option, Some, None, Result, Ok, Err}
 use Rattle.arch_base.specs.Counts.{RoseIf}
 use Rattle.disk_model.specs.Disk.{Files, Content, WhereTold, LeavesOnly, Told, Unchanged, Image}
 use Rattle.mail_reader.specs.Ids.{own_id}
@@ -12,17 +12,19 @@ use Rattle.arch_judge.specs.declared.judging.Verdict.{Verdict}
 use Rattle.arch_judge.specs.declared.judging.Verdict.TheVariants.{Take, Compare, Refuse}
 use Rattle.epoch_store.specs.declared.entries.StoredEntry.{StoredEntry}
 use Rattle.epoch_store.specs.Files.{epoch_file_of}
-use Rattle.arch_model.specs.Shelves.{ReadsOnce, blob_text}
+use Rattle.arch_model.specs.Keeping.{ReadsFor}
+use Rattle.arch_model.specs.Shelves.{blob_text}
 use Rattle.disk_model.specs.Synced.{IsSettled}
-use Rattle.arch_model.specs.Archives.{Archive, blob_number, with_entry}
+use Rattle.arch_model.specs.Archives.{Archive, Entry, blob_number, live, messages, text_of, with_entry, without_entries}
 use Rattle.arch_model.specs.Delivery.{Done, collision, new_epoch}
 use Rattle.arch_model.specs.declared.command.Command.{Command}
-use Rattle.arch_model.specs.declared.command.Command.TheVariants.{Deliver, Remove}
+use Rattle.arch_model.specs.declared.command.Command.TheVariants.{Deliver, Remove, Purge, Edit}
 use Rattle.arch_model.specs.declared.answer.Answer.{Answer}
 use Rattle.arch_model.specs.declared.answer.Answer.TheVariants as answer
+use Rattle.root_slots.specs.declared.root.Root.{Root}
 use Rattle.epoch_file.specs.declared.refusal.StoreRefusal.{StoreRefusal}
 use Rattle.epoch_file.specs.declared.refusal.StoreRefusal.TheVariants as refusal
-use Rattle.epoch_store.specs.Stores.{View, IsStoreWith, HasSizes, RecoversEitherWith, GoesOn}
+use Rattle.epoch_store.specs.Stores.{View, IsStoreWith, HasSizes, RecoversOneOf, GoesOn, Rewrites}
 use Rattle.epoch_store.specs.Reads.{IsTextOf}
 
 -- The definition's answer was given, and the disk is the own one of a store that keeps the
@@ -34,25 +36,26 @@ pub record IsDone (v : View) (cache : List ℕ) (wanted : Done) (reply : Answer)
 
 -- The answer of a call and the archive after it are the wanted ones of this archive. After
 -- `NoMemory` all is as before. After `DiskFault` the archive has to be reopened. No file is ever
--- damaged.
-abbrev pub DoneBy : View → List ℕ → Archive → Done → Answer → Option Content → Type 0
-DoneBy v cache a wanted answer.NoMemory content = IsStoreWith v cache a content
-DoneBy v cache a wanted answer.DiskFault content = Unit {0}
-DoneBy v cache a wanted (answer.Ok number id) content =
-    IsDone v cache wanted (answer.Ok number id) content
-DoneBy v cache a wanted (answer.Duplicate number) content =
+-- damaged. A command that is carried out leaves a cache of these other bytes.
+abbrev pub DoneBy : View → List ℕ → List ℕ → Archive → Done → Answer → Option Content → Type 0
+DoneBy v cache left a wanted answer.NoMemory content = IsStoreWith v cache a content
+DoneBy v cache left a wanted answer.DiskFault content = Unit {0}
+DoneBy v cache left a wanted (answer.Ok number id) content =
+    IsDone v left wanted (answer.Ok number id) content
+DoneBy v cache left a wanted (answer.Duplicate number) content =
     IsDone v cache wanted (answer.Duplicate number) content
-DoneBy v cache a wanted answer.NoFields content = IsDone v cache wanted answer.NoFields content
-DoneBy v cache a wanted (answer.TooLarge len) content =
+DoneBy v cache left a wanted answer.NoFields content = IsDone v cache wanted answer.NoFields content
+DoneBy v cache left a wanted (answer.TooLarge len) content =
     IsDone v cache wanted (answer.TooLarge len) content
-DoneBy v cache a wanted (answer.Full max) content = IsDone v cache wanted (answer.Full max) content
-DoneBy v cache a wanted (answer.Collision number) content =
+DoneBy v cache left a wanted (answer.Full max) content = IsDone v cache wanted (answer.Full max) content
+DoneBy v cache left a wanted (answer.Collision number) content =
     IsDone v cache wanted (answer.Collision number) content
-DoneBy v cache a wanted answer.IsMirror content = IsDone v cache wanted answer.IsMirror content
-DoneBy v cache a wanted (answer.NotLive number) content =
+DoneBy v cache left a wanted answer.IsMirror content = IsDone v cache wanted answer.IsMirror content
+DoneBy v cache left a wanted (answer.NotLive number) content =
     IsDone v cache wanted (answer.NotLive number) content
-DoneBy v cache a wanted (answer.NoText number) content = ⊥
-DoneBy v cache a wanted (answer.Damaged file offset) content = ⊥
+DoneBy v cache left a wanted (answer.NoText number) content =
+    IsDone v cache wanted (answer.NoText number) content
+DoneBy v cache left a wanted (answer.Damaged file offset) content = ⊥
 
 -- What holds after the answer `Ok`.
 abbrev pub OnDone : Answer → Type 0 → Type 0
@@ -120,7 +123,7 @@ IfRefusedUnread (Take text blob number) P = Unit {0}
 IfRefusedUnread (Compare text blob number) P = Unit {0}
 IfRefusedUnread (Refuse reply) P = IfUnread reply P
 
--- The answers to a delivery. As long as no command purges or edits, no number is without a text.
+-- The answers to a delivery.
 abbrev pub AnswersDelivery : Answer → Type 0
 AnswersDelivery (answer.Ok number id) = Unit {0}
 AnswersDelivery (answer.Duplicate number) = Unit {0}
@@ -150,10 +153,83 @@ AnswersRemoval n (answer.NotLive number) = number ≡ n
 AnswersRemoval n (answer.NoText number) = ⊥
 AnswersRemoval n (answer.Damaged file offset) = Unit {0}
 
+-- The answers to the purge of a number. `Ok` and `NoText` have this number.
+abbrev pub AnswersPurge : ℕ → Answer → Type 0
+AnswersPurge n (answer.Ok number id) = number ≡ n
+AnswersPurge n (answer.Duplicate number) = ⊥
+AnswersPurge n answer.NoFields = ⊥
+AnswersPurge n (answer.TooLarge len) = ⊥
+AnswersPurge n (answer.Full max) = ⊥
+AnswersPurge n (answer.Collision number) = ⊥
+AnswersPurge n answer.IsMirror = Unit {0}
+AnswersPurge n answer.DiskFault = Unit {0}
+AnswersPurge n answer.NoMemory = Unit {0}
+AnswersPurge n (answer.NotLive number) = ⊥
+AnswersPurge n (answer.NoText number) = number ≡ n
+AnswersPurge n (answer.Damaged file offset) = Unit {0}
+
+-- The answers to the edit of a number: those to a delivery, and that this number isn't live.
+abbrev pub AnswersEdit : ℕ → Answer → Type 0
+AnswersEdit n (answer.NotLive number) = number ≡ n
+AnswersEdit n (answer.Ok number id) = AnswersDelivery (answer.Ok number id)
+AnswersEdit n (answer.Duplicate number) = AnswersDelivery (answer.Duplicate number)
+AnswersEdit n answer.NoFields = AnswersDelivery answer.NoFields
+AnswersEdit n (answer.TooLarge len) = AnswersDelivery (answer.TooLarge len)
+AnswersEdit n (answer.Full max) = AnswersDelivery (answer.Full max)
+AnswersEdit n (answer.Collision number) = AnswersDelivery (answer.Collision number)
+AnswersEdit n answer.IsMirror = AnswersDelivery answer.IsMirror
+AnswersEdit n answer.DiskFault = AnswersDelivery answer.DiskFault
+AnswersEdit n answer.NoMemory = AnswersDelivery answer.NoMemory
+AnswersEdit n (answer.NoText number) = ⊥
+AnswersEdit n (answer.Damaged file offset) = AnswersDelivery (answer.Damaged file offset)
+
 -- The answers to a command.
 abbrev pub IsForCommand : Command → Answer → Type 0
 IsForCommand (Deliver bytes) reply = AnswersDelivery reply
 IsForCommand (Remove number) reply = AnswersRemoval number reply
+IsForCommand (Purge number) reply = AnswersPurge number reply
+IsForCommand (Edit number bytes) reply = AnswersEdit number reply
+
+-- What holds of a refusal of an edit before which no text is read. Whether the message is the same is
+-- known by its text, if the blob ids are the same.
+abbrev pub IfUnreadEdit : Answer → Type 0 → Type 0
+IfUnreadEdit (answer.Duplicate number) P = Unit {0}
+IfUnreadEdit reply P = IfUnread reply P
+
+-- What holds of a refusal of a command before which no text is read.
+abbrev pub IfUnreadFor : Command → Answer → Type 0 → Type 0
+IfUnreadFor (Deliver bytes) reply P = IfUnread reply P
+IfUnreadFor (Remove number) reply P = IfUnread reply P
+IfUnreadFor (Purge number) reply P = IfUnread reply P
+IfUnreadFor (Edit number bytes) reply P = IfUnreadEdit reply P
+
+-- The cache after a command that was carried out. A purge and an edit leave none.
+abbrev pub cache_left : Command → List ℕ → List ℕ
+cache_left (Deliver bytes) cache = cache
+cache_left (Remove number) cache = cache
+cache_left (Purge number) cache = []
+cache_left (Edit number bytes) cache = []
+
+-- How the root goes on from one to the next at a command: a delivery and a removal append, and a purge
+-- and an edit write anew.
+abbrev pub GoesOnFor : Command → Root → Root → Type 0
+GoesOnFor (Deliver bytes) old new = GoesOn old new
+GoesOnFor (Remove number) old new = GoesOn old new
+GoesOnFor (Purge number) old new = Rewrites old new
+GoesOnFor (Edit number bytes) old new = Rewrites old new
+
+-- A live number has a text, or none has it.
+abbrev pub IsLiveOf : List Entry → List ℕ → Option ℕ → Type 0
+IsLiveOf entries text None = (n : ℕ) → text_of entries n ≡ Some text → ⊥
+IsLiveOf entries text (Some n) = text_of entries n ≡ Some text
+
+-- The live number that a command takes with the text that it drops, if there is one.
+abbrev pub IsGone : Archive → Command → Option ℕ → Type 0
+IsGone a (Deliver bytes) gone = gone ≡ None
+IsGone a (Remove number) gone = gone ≡ None
+IsGone a (Purge number) gone = (text : List ℕ)
+    × (text_of (messages a.entries) number ≡ Some text) × IsLiveOf (live a.entries) text gone
+IsGone a (Edit number bytes) gone = gone ≡ Some number
 
 -- The answer for an error of the store.
 abbrev pub refusal_answer : StoreRefusal → Answer
@@ -228,39 +304,42 @@ pub record OnlyLooks {D : Type 0} (content : D → Option Content) (moment : D �
 -- give is on the disk, and the root, in the other slot, goes on from the one before. Any other
 -- answer leaves what is kept in memory, and, but for a fault, the content of the disk; one before
 -- which no text is read leaves the disk as it was. The command fails only if the count of faults
--- rose, and reads at most once.
+-- rose, and reads as often as the command may.
 pub record TakesCommand {D : Type 0} (content : D → Option Content) (moment : D → ℕ)
     (left_since : D → ℕ → Files → Type 0) (faults reads : D → ℕ) (old new : D)
     (before after : View) (command : Command) (wanted : Archive → Done) (reply : Answer)
     : Type 0 where
   pub any_moment : (a : Archive) (cache : List ℕ) → IsStoreWith before cache a (content old)
       → before.root.sequence + 1 < 2 ^ 64
-      → LeavesOnly moment left_since old new (RecoversEitherWith cache a (wanted a).archive)
+      → LeavesOnly moment left_since old new
+      (RecoversOneOf cache a (cache_left command cache) (wanted a).archive)
   pub done : (a : Archive) (cache : List ℕ) → IsStoreWith before cache a (content old)
       → before.root.sequence + 1 < 2 ^ 64
-      → DoneBy after cache a (wanted a) reply (content new)
+      → DoneBy after cache (cache_left command cache) a (wanted a) reply (content new)
   pub settled : OnDone reply (WhereTold IsSettled (content new))
-  pub goes_on : OnDone reply (GoesOn before.root after.root)
+  pub goes_on : OnDone reply (GoesOnFor command before.root after.root)
   pub slot : OnDone reply (after.slot ≡ 1 - before.slot)
   pub same : OnRefusal reply (after ≡ before)
   pub untouched : OnRefusal reply (UnlessFault reply (OnlyLooks content moment left_since old new))
-  pub unmoved : IfUnread reply (new ≡ old)
+  pub unmoved : IfUnreadFor command reply (new ≡ old)
   pub sizes : UnlessFault reply (WhereTold (HasSizes after) (content new))
   pub cause : RoseIf (reply ≡ answer.DiskFault) (faults old) (faults new)
   pub for_command : IsForCommand command reply
-  pub count : ReadsOnce (reads old) (reads new)
+  pub count : ReadsFor command (reads old) (reads new)
 
--- The command is a delivery.
+-- The command delivers a message: it is a delivery or an edit.
 abbrev pub is_delivery : Command → Bool
 is_delivery (Deliver bytes) = true
 is_delivery (Remove number) = false
+is_delivery (Purge number) = false
+is_delivery (Edit number bytes) = true
 
--- What holds of a delivery.
+-- What holds of a command that delivers.
 abbrev pub IfDelivery : Bool → Type 0 → Type 0
 IfDelivery true P = P
 IfDelivery false P = Unit {0}
 
--- What holds of a removal.
+-- What holds of a removal and a purge.
 abbrev pub IfRemoval : Bool → Type 0 → Type 0
 IfRemoval true P = Unit {0}
 IfRemoval false P = P
@@ -280,6 +359,15 @@ TellsText answer.DiskFault text = Unit {0}
 TellsText (answer.Damaged file offset) text = Unit {0}
 TellsText answer.NoMemory text = Unit {0}
 
--- An accepted delivery kept this text, as the last message of the archive before.
+-- An accepted delivery kept this text, as the last message after the archive before.
 abbrev pub KeepsText : Archive → Done → ℕ → List ℕ → Type 0
 KeepsText a wanted moment text = wanted.archive ≡ with_entry a (new_epoch a) text moment
+
+-- The same of a command: an edit keeps it after the archive without the text that it drops.
+abbrev pub KeepsTextFor : Command → Archive → Done → ℕ → List ℕ → Type 0
+KeepsTextFor (Deliver bytes) a wanted moment text = KeepsText a wanted moment text
+KeepsTextFor (Remove number) a wanted moment text = Unit {0}
+KeepsTextFor (Purge number) a wanted moment text = Unit {0}
+KeepsTextFor (Edit number bytes) a wanted moment text = (old : List ℕ)
+    × (text_of (live a.entries) number ≡ Some old)
+    × KeepsText (without_entries a old) wanted moment text

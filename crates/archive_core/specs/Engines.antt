@@ -1,5 +1,5 @@
 -- An archive that owns its disk, as a keeper.
-use Rattle.std.specs.Prelude.{◌≡◌, ◌≤◌, ℕ, Bool, true, false, not, List, Option, Some, None, refl}
+use Rattle.std.specs.Prelude.{◌≡◌, ◌⊎◌, ◌≤◌, ℕ, Bool, true, false, not, List, [], Option, Some, None, refl}
 use Rattle.std.specs.List.{Contains}
 use Rattle.std.proofs.Common.{◌∙◌, sym, ap, subst, inl, inr}
 use native.Mathlib.Omega.{arith}
@@ -56,13 +56,24 @@ Owns content e a = (cache : List ℕ) × IsStoreWith e.view cache a (content e.d
 abbrev pub is_ready : {D : Type 0} → Owning D → Bool
 is_ready e = not e.stale
 
+-- Files stand for one of these archives, with a cache of these bytes or with none, or for no archive if
+-- that is one of these. A purge drops the cache.
+abbrev pub RecoversOrBare : List ℕ → List (Option Archive) → Files → Type 0
+RecoversOrBare cache may image = RecoversOfWith cache may image ⊎ RecoversOfWith [] may image
+
+-- Each crash of a disk that tells its content leaves such files.
+abbrev pub AllRecoverOrBare : List ℕ → List (Option Archive) → Option Content → Type 0
+AllRecoverOrBare cache may None = ⊥
+AllRecoverOrBare cache may (Some k) = (image : Files) → Image (Some k) image
+    → RecoversOrBare cache may image
+
 -- The second state comes no earlier, and each crash since the first has left files that stand for one
--- of these archives, with one cache.
+-- of these archives, with one cache or with none.
 abbrev pub Leaves : {D : Type 0} → (D → ℕ) → (D → ℕ → Files → Type 0) → Owning D → Owning D
     → List (Option Archive) → Type 0
 Leaves moment left_since start e may = (moment start.disk ≤ moment e.disk) × (cache : List ℕ)
     × ((image : Files) → left_since e.disk (moment start.disk) image
-    → RecoversOfWith cache may image)
+    → RecoversOrBare cache may image)
 
 -- The views keep up with a command that was answered so: they are those of the archive after it, unless
 -- the engine has to be reopened after `Ok`. After a fault they say nothing.
@@ -163,8 +174,8 @@ module _ {D : Type 0} (content : D → Option Content) (moment : D → ℕ)
   store-left e a may store has = (
     omega arith,
     store.0,
-    λ image left. store-recovers e.view store.0 a (content e.disk) may image store.1 has
-        (only_now e.disk image left),
+    λ image left. inl (store-recovers e.view store.0 a (content e.disk) may image store.1 has
+        (only_now e.disk image left)),
   )
 
   pub now-left : (start e : Owning D) (may : List (Option Archive))

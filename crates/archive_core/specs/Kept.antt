@@ -1,7 +1,7 @@
 -- What an archive on a disk keeps beside its store: its messages by their ids and by their blob
 -- ids.
 use Rattle.std.specs.Prelude.{◌≡◌, ℕ, List, [], Option, Some, None}
-use Rattle.std.specs.List.{AllByRecursion}
+use Rattle.std.specs.List.{AllByRecursion, AllZip}
 use Rattle.git_objects.specs.Objects.{blob_id_of}
 use Rattle.arch_base.specs.declared.ids.Id20.{Id20}
 use Rattle.git_objects.specs.declared.entry_kind.EntryKind.{EntryKind}
@@ -18,7 +18,7 @@ use Rattle.arch_judge.specs.declared.judging.Verdict.{Verdict}
 use Rattle.arch_judge.specs.declared.judging.Verdict.TheVariants.{Take, Compare, Refuse}
 use Rattle.arch_judge.specs.declared.index.Owner.{Owner}
 use Rattle.epoch_store.specs.declared.entries.StoredEntry.{StoredEntry}
-use Rattle.epoch_store.specs.Stores.{View, Accepts, stored_after}
+use Rattle.epoch_store.specs.Stores.{View, Accepts, KeptOf, stored_after}
 
 -- The message of an entry that is kept, as the owner of its id.
 abbrev pub owner_kept : StoredEntry → Owner
@@ -40,6 +40,11 @@ pub record AreOf (kept : List StoredEntry) (entries : List Entry) : Type 0 where
 -- An index is that of the entries of which this is kept.
 abbrev pub IndexesStored : List StoredEntry → Index → Type 0
 IndexesStored kept index = (entries : List Entry) → AreOf kept entries → IsIndex entries index
+
+-- An index is that of entries, wherever in their epochs they are kept.
+abbrev pub IndexesKept : List StoredEntry → Index → Type 0
+IndexesKept entries index = (kept : List StoredEntry) → AllZip KeptOf entries kept
+    → IndexesStored kept index
 
 -- An entry was taken into an index: a message was put there, or the own id of the one that it ends was
 -- removed.

@@ -6,3 +6,4 @@ pub mod Engines
 pub mod HandedBack
 pub mod Placing
 pub mod Walks
+pub mod Rewriting

@@ -1,6 +1,8 @@
 -- Where the messages among the entries of a store are.
 use Rattle.std.specs.Prelude.{◌≡◌, ◌≢◌, ◌+◌, ◌≤◌, ◌==◌, ◌&&◌, ◌||◌, ℕ, Bool, true, false, not, List, [], ◌∷◌, ◌++◌, slice_get, Option, Some, None, if◌then◌else◌}
 use Rattle.std.specs.List.{list_any}
+use Rattle.std.specs.Str.{bytes_eq}
+use Rattle.arch_base.specs.declared.ids.Id20.{Id20}
 use Rattle.std.specs.Ordering.{nat_cmp}
 use Rattle.std.specs.BTreeSet.{BTreeSet, contains}
 use Rattle.git_objects.specs.declared.entry_kind.EntryKind.{EntryKind}
@@ -75,3 +77,19 @@ IsPlaceOf places number (Some index) =
     (p : MessagePlace) × (slice_get places index ≡ Some p) × (p.number ≡ number)
 IsPlaceOf places number None = PlacesRise places
     → (index : ℕ) (p : MessagePlace) → slice_get places index ≡ Some p → p.number ≢ number
+
+-- The entry at an index has a blob id.
+abbrev pub found_blob : Option StoredEntry → Id20 → Bool
+found_blob None blob = false
+found_blob (Some e) blob = bytes_eq blob.0 e.seen.blob.0
+
+abbrev pub has_blob_at : List StoredEntry → ℕ → Id20 → Bool
+has_blob_at entries index blob = found_blob (slice_get entries index) blob
+
+-- The number of a live place whose entry has a blob id, or none has.
+abbrev pub IsLiveWith : List MessagePlace → List StoredEntry → Id20 → Option ℕ → Type 0
+IsLiveWith places entries blob None = (i : ℕ) (p : MessagePlace) → slice_get places i ≡ Some p
+    → p.live ≡ true → has_blob_at entries p.entry blob ≡ false
+IsLiveWith places entries blob (Some number) = (i : ℕ) × (p : MessagePlace)
+    × (slice_get places i ≡ Some p) × (p.number ≡ number) × (p.live ≡ true)
+    × (has_blob_at entries p.entry blob ≡ true)

@@ -11,7 +11,7 @@ use Rattle.arch_model.specs.Validity.{IsArchive}
 use Rattle.arch_model.specs.declared.answer.Answer.{Answer}
 use Rattle.arch_model.specs.declared.answer.Answer.TheVariants as answer
 use Rattle.arch_model.specs.declared.command.Command.{Command}
-use Rattle.arch_model.specs.declared.command.Command.TheVariants.{Deliver, Remove}
+use Rattle.arch_model.specs.declared.command.Command.TheVariants.{Deliver, Remove, Purge, Edit}
 use Rattle.arch_model.specs.declared.line.EntryLine.{EntryLine}
 use Rattle.arch_model.specs.declared.opening.OpenRefusal.{OpenRefusal}
 use Rattle.arch_model.specs.declared.opening.OpenRefusal.TheVariants as opening
@@ -43,28 +43,37 @@ unread_opening v None (reading.Damaged named other) = opening.NoMemory
 unread_opening v (Some e) (reading.Damaged named other) =
     opening.Damaged (epoch_file_of v.root e.epoch) e.seen.at
 
+-- Views without the message of a number, if there is one.
+abbrev pub without_gone : Viewed → Option ℕ → Viewed
+without_gone views None = views
+without_gone views (Some n) = without_mail views n
+
 -- What an accepted command does to the views of live messages: a delivery adds the row and the words of
--- its text, and a removal takes those of its number.
-abbrev pub ViewsDone : Command → ℕ → List ℕ → ℕ → Viewed → Viewed → Type 0
-ViewsDone (Deliver bytes) number text moment old new = new
-    ≡ with_mail old (row_of number text moment) (mail_words text)
-ViewsDone (Remove n) number text moment old new = new ≡ without_mail old n
+-- its text, a removal takes those of its number, a purge takes those of the number that is lost, and an
+-- edit does both.
+abbrev pub ViewsDone : Command → Option ℕ → ℕ → List ℕ → ℕ → Viewed → Viewed → Type 0
+ViewsDone (Deliver bytes) lost number text moment old new =
+    new ≡ with_mail old (row_of number text moment) (mail_words text)
+ViewsDone (Remove n) lost number text moment old new = new ≡ without_mail old n
+ViewsDone (Purge n) lost number text moment old new = new ≡ without_gone old lost
+ViewsDone (Edit n bytes) lost number text moment old new =
+    new ≡ with_mail (without_gone old lost) (row_of number text moment) (mail_words text)
 
 -- What a command that was answered so does to them. A refusal leaves them.
-abbrev pub ViewsAfter : Command → Answer → List ℕ → ℕ → Viewed → Viewed → Type 0
-ViewsAfter command (answer.Ok number id) text moment old new =
-    ViewsDone command number text moment old new
-ViewsAfter command (answer.Duplicate number) text moment old new = new ≡ old
-ViewsAfter command answer.NoFields text moment old new = new ≡ old
-ViewsAfter command (answer.TooLarge len) text moment old new = new ≡ old
-ViewsAfter command (answer.Full max) text moment old new = new ≡ old
-ViewsAfter command (answer.Collision number) text moment old new = new ≡ old
-ViewsAfter command (answer.NotLive number) text moment old new = new ≡ old
-ViewsAfter command (answer.NoText number) text moment old new = new ≡ old
-ViewsAfter command answer.IsMirror text moment old new = new ≡ old
-ViewsAfter command answer.DiskFault text moment old new = new ≡ old
-ViewsAfter command (answer.Damaged file offset) text moment old new = new ≡ old
-ViewsAfter command answer.NoMemory text moment old new = new ≡ old
+abbrev pub ViewsAfter : Command → Option ℕ → Answer → List ℕ → ℕ → Viewed → Viewed → Type 0
+ViewsAfter command lost (answer.Ok number id) text moment old new =
+    ViewsDone command lost number text moment old new
+ViewsAfter command lost (answer.Duplicate number) text moment old new = new ≡ old
+ViewsAfter command lost answer.NoFields text moment old new = new ≡ old
+ViewsAfter command lost (answer.TooLarge len) text moment old new = new ≡ old
+ViewsAfter command lost (answer.Full max) text moment old new = new ≡ old
+ViewsAfter command lost (answer.Collision number) text moment old new = new ≡ old
+ViewsAfter command lost (answer.NotLive number) text moment old new = new ≡ old
+ViewsAfter command lost (answer.NoText number) text moment old new = new ≡ old
+ViewsAfter command lost answer.IsMirror text moment old new = new ≡ old
+ViewsAfter command lost answer.DiskFault text moment old new = new ≡ old
+ViewsAfter command lost (answer.Damaged file offset) text moment old new = new ≡ old
+ViewsAfter command lost answer.NoMemory text moment old new = new ≡ old
 
 -- An archive whose own disk is there is valid.
 pub store-valid : (v : View) (cache : List ℕ) (a : Archive) (k : Option Content)

@@ -18,7 +18,7 @@ ghost use Rattle.archive_core.specs.Openings.{RefusesKindly};
 ghost use Rattle.epoch_store.specs.Promises.{MakesArchive, OpensArchive};
 ghost use Rattle.epoch_store.specs.Reads.{HasTexts};
 ghost use Rattle.epoch_store.specs.Stores.{IsStoreWith, Keeps, HasSizes, RecoversEitherWith, SeesNoDamage, GoesOn};
-ghost use Rattle.archive_core.specs.Commands.{DoneBy, OnDone, OnRefusal, UnlessFault, OnlyLooks, AnswersDelivery, AnswersRemoval, IfUnread, IfRefusedUnread, IsFaultRead, JudgesRead, IsAlone, TakesCommand, refusal_answer, unread_answer, damaged_place, IsNamed, IsTextAt, ReadsMessage, IsUnread, is_delivery, IfDelivery, TellsText, KeepsText};
+ghost use Rattle.archive_core.specs.Commands.{DoneBy, OnDone, OnRefusal, UnlessFault, OnlyLooks, AnswersDelivery, AnswersRemoval, IfUnread, IfRefusedUnread, IsFaultRead, JudgesRead, IsAlone, TakesCommand, refusal_answer, unread_answer, damaged_place, IsNamed, IsTextAt, ReadsMessage, IsUnread, is_delivery, IfDelivery, TellsText, KeepsText, KeepsTextFor, IsGone};
 
 use crate::entries::index_of;
 use crate::placing::{MessagePlace, are_rising, end_place, may_follow, places_of};
@@ -39,7 +39,7 @@ use std::marker::Model;
 /// Its contract view is what the store keeps.
 #[derive(Drop)]
 pub struct DiskArchive {
-    alloc: Global,
+    pub(crate) alloc: Global,
     pub(crate) store: Store,
     pub(crate) index: Index,
     pub(crate) places: Vec<MessagePlace>,
@@ -142,7 +142,8 @@ impl DiskArchive {
             → D.reads disk.new ≡ D.reads disk.old }
     {
         let mut kept = Bytes::new(self.alloc);
-        self.command_keeping(disk, command, moment, &mut kept)
+        let mut gone = None;
+        self.command_keeping(disk, command, moment, &mut kept, &mut gone)
     }
 
     /// Takes a command at a moment, in seconds since 1970.
@@ -150,21 +151,26 @@ impl DiskArchive {
     /// `Deliver`: the message takes the next number, or is refused by the first cause of these: a
     /// mirror, no field, too many bytes, the same message, another text with its blob id, and no
     /// number left. `Remove`: the message with a number is ended, or the archive is a mirror, or the
-    /// number is not live. A refusal leaves all as it was.
+    /// number is not live. `Purge`: each entry with the text of a number is dropped, or the archive is a
+    /// mirror, or the number has no message. `Edit`: a live number is purged and a message delivered in
+    /// one step, or refused as both are. A refusal leaves all as it was.
     ///
     /// At each moment a crash leaves the archive before the command or the one after it, and after
     /// `Ok` the latter. `DiskFault` comes only if the disk's count of faults rose: one of the two
     /// archives is then there, and the archive has to be reopened. `NoMemory` comes only if memory
     /// runs out, or if the epoch's file has 2^62 bytes or more; then nothing was done.
     ///
-    /// `kept` is left with the text that an accepted delivery kept.
+    /// `kept` is left with the text that an accepted delivery or edit kept, and `gone` with the live
+    /// number that a purge or an edit took with its text, if there is one.
     pub fn command_keeping<D: Disk>(
         &mut self,
         disk: &mut D,
         command: &Command<'_>,
         moment: u64,
         kept: &mut Bytes,
+        gone: &mut Option<u32>,
     ) -> Answer
+        requires none { gone.old ≡ None }
         requires moment { moment ≤ last_moment }
         requires sizes { WhereTold (HasSizes self.old) (D.content disk.old) }
         ensures taken { TakesCommand D.content D.moment D.left_since D.faults D.reads disk.old
@@ -177,11 +183,16 @@ impl DiskArchive {
         ensures kept { (a : Archive) (cache : List ℕ)
             → IsStoreWith self.old cache a (D.content disk.old)
             → IfDelivery (is_delivery command.now)
-            (OnDone result (KeepsText a (applied a command.now moment) moment kept.new)) }
+            (OnDone result (KeepsTextFor command.now a (applied a command.now moment) moment kept.new)) }
+        ensures gone { (a : Archive) (cache : List ℕ)
+            → IsStoreWith self.old cache a (D.content disk.old)
+            → OnDone result (IsGone a command.now gone.new) }
     {
         match command {
             Command::Deliver(bytes) => self.deliver(disk, bytes, moment, kept),
             Command::Remove(number) => self.remove(disk, *number, moment),
+            Command::Purge(number) => self.purge(disk, *number, gone),
+            Command::Edit(number, bytes) => self.edit(disk, *number, bytes, moment, kept, gone),
         }
     }
 
@@ -203,7 +214,7 @@ impl DiskArchive {
         ensures done { (a : Archive) (cache : List ℕ)
             → IsStoreWith self.old cache a (D.content disk.old)
             → self.old.root.sequence + 1 < 2 ^ 64
-            → DoneBy self.new cache a (delivered a bytes.now moment) result (D.content disk.new) }
+            → DoneBy self.new cache cache a (delivered a bytes.now moment) result (D.content disk.new) }
         ensures settled { OnDone result (WhereTold IsSettled (D.content disk.new)) }
         ensures goes_on { OnDone result (GoesOn self.old.root self.new.root) }
         ensures slot { OnDone result (self.new.slot ≡ 1 - self.old.slot) }
@@ -284,7 +295,7 @@ impl DiskArchive {
     }
 
     /// Returns the text of the message with a number, live or not, or the answer if it wasn't read.
-    fn message_text<D: Disk>(&self, disk: &mut D, number: u32) -> Result<Bytes, Answer>
+    pub(crate) fn message_text<D: Disk>(&self, disk: &mut D, number: u32) -> Result<Bytes, Answer>
         ensures text { (a : Archive) (cache : List ℕ)
             → IsStoreWith self.now cache a (D.content disk.old) → ReadsMessage a number result }
         ensures unread { IfErr result IsUnread }
@@ -304,7 +315,7 @@ impl DiskArchive {
     }
 
     /// Returns the answer where the text of the entry at an index wasn't read.
-    fn unread(&self, index: u64, refusal: &TextRefusal) -> Answer
+    pub(crate) fn unread(&self, index: u64, refusal: &TextRefusal) -> Answer
         ensures { result ≡ unread_answer self.now index refusal.now }
     {
         match refusal {
@@ -348,7 +359,7 @@ impl DiskArchive {
         ensures done { (a : Archive) (cache : List ℕ)
             → IsStoreWith self.old cache a (D.content disk.old)
             → self.old.root.sequence + 1 < 2 ^ 64
-            → DoneBy self.new cache a (removed a number moment) result (D.content disk.new) }
+            → DoneBy self.new cache cache a (removed a number moment) result (D.content disk.new) }
         ensures settled { OnDone result (WhereTold IsSettled (D.content disk.new)) }
         ensures goes_on { OnDone result (GoesOn self.old.root self.new.root) }
         ensures slot { OnDone result (self.new.slot ≡ 1 - self.old.slot) }
@@ -402,7 +413,7 @@ impl DiskArchive {
             → IsStoreWith self.old cache a (D.content disk.old)
             → self.old.root.sequence + 1 < 2 ^ 64
             → text_of (live a.entries) number ≡ Some text.now
-            → DoneBy self.new cache a (removed a number moment) result (D.content disk.new) }
+            → DoneBy self.new cache cache a (removed a number moment) result (D.content disk.new) }
         ensures settled { OnDone result (WhereTold IsSettled (D.content disk.new)) }
         ensures goes_on { OnDone result (GoesOn self.old.root self.new.root) }
         ensures slot { OnDone result (self.new.slot ≡ 1 - self.old.slot) }
@@ -518,7 +529,7 @@ impl DiskArchive {
 }
 
 /// Returns the answer for an error of the store.
-fn answer_of(refusal: &StoreRefusal) -> Answer
+pub(crate) fn answer_of(refusal: &StoreRefusal) -> Answer
     ensures { result ≡ refusal_answer refusal.now }
 {
     match refusal {

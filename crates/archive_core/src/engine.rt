@@ -5,14 +5,14 @@ ghost use Rattle.arch_base.specs.Moments.{last_moment};
 ghost use Rattle.disk_model.specs.Disk.{LeavesOnly};
 ghost use Rattle.arch_model.specs.Archives.{Archive, live, text_of};
 ghost use Rattle.arch_model.specs.Delivery.{applied};
-ghost use Rattle.arch_model.specs.Keeping.{Moves, Comes, StaysReady, AnswerCause, text_known};
+ghost use Rattle.arch_model.specs.Keeping.{Moves, Comes, StaysReady, AnswerCause, ReadsFor, text_known};
 ghost use Rattle.arch_model.specs.Shelves.{GivesBlobIn, AppendsTo, Stays, ReadCause, ReadsOnce};
 ghost use Rattle.arch_model.specs.Standing.{Standing, standing, GivesTextIn, KeepsUnlessFound};
 ghost use Rattle.arch_model.specs.declared.answer.Answer.{Answer};
 ghost use Rattle.epoch_store.specs.Opens.{ReadsWith};
 ghost use Rattle.epoch_store.specs.Promises.{MakesArchive, OpensArchive};
-ghost use Rattle.epoch_store.specs.Stores.{IsStoreWith, RecoversEitherWith};
-ghost use Rattle.archive_core.specs.Commands.{DoneBy, OnDone, IfUnread, IfRemoval, IsForCommand, is_delivery};
+ghost use Rattle.epoch_store.specs.Stores.{IsStoreWith, RecoversOneOf};
+ghost use Rattle.archive_core.specs.Commands.{DoneBy, OnDone, IfUnreadFor, IfRemoval, cache_left, IsForCommand, is_delivery};
 ghost use Rattle.archive_core.specs.Engines.{Holds, IfRefused, Leaves, ReadsOn, is_ready, needs_opening as needs_opening_after, reading-same, reading-joined, store-left, now-left, reading-kept};
 ghost use Rattle.archive_core.specs.HandedBack.{disk_made, made_or_why, disk_opened, opened_or_why};
 ghost use Rattle.archive_core.specs.Numbers.{GivesTextKept, GivesBlobKept, Names};
@@ -171,9 +171,9 @@ impl<D: Disk> Engine<D> {
     /// Carries out a command on an archive that needn't be reopened.
     ///
     /// The archive has to be reopened after the answers `DiskFault` and `Damaged`, and after an `Ok`
-    /// for whose row, words or threads there was no memory: then nothing is in doubt. It needn't be after any
-    /// other answer. After a removal the rows are right in any case, and memory may have run out for
-    /// the threads alone. `Damaged` never comes while an archive is held.
+    /// for whose row, words or threads there was no memory: then nothing is in doubt. It needn't be after
+    /// any other answer. After a removal and a purge the rows are right in any case, and memory may have
+    /// run out for the threads alone. `Damaged` never comes while an archive is held.
     pub fn take(&mut self, command: &Command<'_>, moment: u64) -> Answer
         requires ready { self.old.stale ≡ false }
         requires moment { moment ≤ last_moment }
@@ -181,10 +181,11 @@ impl<D: Disk> Engine<D> {
         ensures any_moment { (a : Archive) (cache : List ℕ)
             → IsStoreWith self.old.view cache a (D.content self.old.disk)
             → LeavesOnly D.moment D.left_since self.old.disk self.new.disk
-            (RecoversEitherWith cache a (applied a command.now moment).archive) }
+            (RecoversOneOf cache a (cache_left command.now cache) (applied a command.now moment).archive) }
         ensures done { (a : Archive) (cache : List ℕ)
             → IsStoreWith self.old.view cache a (D.content self.old.disk)
-            → DoneBy self.new.view cache a (applied a command.now moment) result
+            → DoneBy self.new.view cache (cache_left command.now cache) a
+            (applied a command.now moment) result
             (D.content self.new.disk) }
         // As a keeper's.
         ensures stands { (a : Archive) → Holds D.content self.old a → (t : Standing)
@@ -192,7 +193,7 @@ impl<D: Disk> Engine<D> {
             (standing a None) self.new t
             × Comes true (standing a None) (λ (b : Archive). applied b command.now moment) result t }
         ensures ready { StaysReady true result (is_ready self.new) }
-        // After a removal that was done the archive after it is held, rows included, even if the
+        // After a removal or a purge that was done the archive after it is held, rows included, even if the
         // engine has to be reopened for its threads.
         ensures removed { IfRemoval (is_delivery command.now)
             ((a : Archive) → Holds D.content self.old a
@@ -201,14 +202,14 @@ impl<D: Disk> Engine<D> {
         // refusal before which no text is read changes nothing at all.
         ensures untouched { IfRefused result (ReadsOn D.content D.moment D.left_since self.old
             self.new) }
-        ensures unmoved { IfUnread result (self.new ≡ self.old) }
+        ensures unmoved { IfUnreadFor command.now result (self.new ≡ self.old) }
         ensures for_command { IsForCommand command.now result }
         ensures later { D.faults self.old.disk ≤ D.faults self.new.disk }
         ensures cause { AnswerCause (D.faults self.old.disk) (D.faults self.new.disk) result }
         // Each fault of the disk is told.
         ensures steady { result ≢ Answer.DiskFault
             → D.faults self.new.disk ≡ D.faults self.old.disk }
-        ensures reads { ReadsOnce (D.reads self.old.disk) (D.reads self.new.disk) }
+        ensures reads { ReadsFor command.now (D.reads self.old.disk) (D.reads self.new.disk) }
         // A delivery whose blob id no entry has reads nothing.
         ensures unread { (a : Archive) (cache : List ℕ)
             → IsStoreWith self.old.view cache a (D.content self.old.disk)
@@ -221,11 +222,20 @@ impl<D: Disk> Engine<D> {
             return Answer::NoMemory;
         }
         let mut text = Bytes::new(self.alloc);
+        let mut gone = None;
         let answer = self
             .archive
-            .command_keeping(&mut self.disk, command, moment, &mut text);
+            .command_keeping(&mut self.disk, command, moment, &mut text, &mut gone);
         let kept = text.as_slice();
-        let followed = follow(self.alloc, &mut self.views, command, &answer, kept, moment);
+        let followed = follow(
+            self.alloc,
+            &mut self.views,
+            command,
+            &answer,
+            gone,
+            kept,
+            moment,
+        );
         self.stale = is_left_stale(&answer, &followed);
         answer
     }
@@ -342,6 +352,7 @@ impl<D: Disk> Keep for Engine<D> {
     }
 
     fn fresh(&mut self) -> Result<(), OpenRefusal> {
+        law_of_recovery();
         if !self.stale {
             return Ok(());
         }

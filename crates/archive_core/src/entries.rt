@@ -1,9 +1,10 @@
 //! The index of the entries that an opened store keeps.
 ghost use Rattle.std.specs.Prelude.{IfOk, OnOk};
 ghost use Rattle.arch_judge.specs.Indexes.{Puts};
-ghost use Rattle.archive_core.specs.Kept.{IndexesStored, Takes, owner_kept};
+ghost use Rattle.archive_core.specs.Kept.{IndexesStored, IndexesKept, Takes, owner_kept};
+ghost use Rattle.epoch_store.specs.Stores.{without_blob};
 
-use arch_base::NoMemory;
+use arch_base::{NoMemory, ObjectId};
 use arch_judge::{Index, Owner};
 use epoch_store::StoredEntry;
 use git_objects::EntryKind;
@@ -16,6 +17,23 @@ pub(crate) fn index_of(alloc: Global, entries: &[StoredEntry]) -> Result<Index, 
     let mut index = Index::new(alloc);
     for entry in entries {
         take_entry(alloc, &mut index, entry)?;
+    }
+    Ok(index)
+}
+
+/// Returns the index of the entries but those with a blob id, wherever they are kept.
+pub(crate) fn index_without(
+    alloc: Global,
+    entries: &[StoredEntry],
+    blob: &ObjectId,
+) -> Result<Index, NoMemory>
+    ensures { IfOk result (λ index. IndexesKept (without_blob entries.now blob.now.0) index) }
+{
+    let mut index = Index::new(alloc);
+    for entry in entries {
+        if entry.seen.blob != *blob {
+            take_entry(alloc, &mut index, entry)?;
+        }
     }
     Ok(index)
 }

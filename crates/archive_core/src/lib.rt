@@ -10,6 +10,7 @@ mod not_made;
 mod opened;
 mod placing;
 mod reading;
+mod rewriting;
 mod rows;
 mod texts;
 mod walk;

@@ -1,8 +1,9 @@
 //! Where the messages of an archive on a disk are, by their numbers.
 ghost use Rattle.std.specs.Prelude.{◌≡◌, true, IfOk, OnOk, length};
-ghost use Rattle.archive_core.specs.Placing.{message_places, PlacesBy, PlacesRise, MayFollow, IsPlaceOf, ends_place};
+ghost use Rattle.archive_core.specs.Placing.{message_places, PlacesBy, PlacesRise, MayFollow, IsPlaceOf, IsLiveWith, ends_place, has_blob_at};
+ghost use Rattle.epoch_store.specs.Stores.{without_blob};
 
-use arch_base::NoMemory;
+use arch_base::{NoMemory, ObjectId};
 use epoch_store::StoredEntry;
 use git_objects::EntryKind;
 use std::alloc::Global;
@@ -34,6 +35,66 @@ pub(crate) fn places_of(
     }
     places.reverse();
     Ok(places)
+}
+
+/// Returns the number of the entries without a blob id.
+pub(crate) fn count_without(entries: &[StoredEntry], blob: &ObjectId) -> usize
+    ensures { result ≡ length (without_blob entries.now blob.now.0) }
+{
+    entries
+        .iter()
+        .filter(|entry| entry.seen.blob != *blob)
+        .count()
+}
+
+/// Returns the places of the messages among the entries but those with a blob id, by their indexes
+/// among these.
+pub(crate) fn places_without(
+    alloc: Global,
+    entries: &[StoredEntry],
+    blob: &ObjectId,
+) -> Result<Vec<MessagePlace>, NoMemory>
+    ensures { IfOk result (λ places.
+        places.items ≡ message_places 0 (without_blob entries.now blob.now.0)) }
+{
+    let mut places = Vec::new(alloc);
+    let mut ended = BTreeSet::new(alloc);
+    let mut left = count_without(entries, blob);
+    for index in (0..entries.len()).rev() {
+        let entry = &entries[index];
+        if entry.seen.blob != *blob {
+            left -= 1;
+            place_entry(&mut places, &mut ended, entry, left)?;
+        }
+    }
+    places.reverse();
+    Ok(places)
+}
+
+/// Returns the number of the live place whose entry has a blob id, if there is one.
+pub(crate) fn live_with(
+    places: &[MessagePlace],
+    entries: &[StoredEntry],
+    blob: &ObjectId,
+) -> Option<u32>
+    ensures { IsLiveWith places.now entries.now blob.now result }
+{
+    for place in places {
+        if place.live && has_blob(entries, place.entry, blob) {
+            return Some(place.number);
+        }
+    }
+    None
+}
+
+/// Returns whether the entry at an index has a blob id.
+fn has_blob(entries: &[StoredEntry], index: usize, blob: &ObjectId) -> bool
+    ensures { result ≡ has_blob_at entries.now index blob.now }
+{
+    match entries.get(index) {
+        None => false,
+        Some(entry) => entry.seen.blob == *blob,
+    }
 }
 
 /// Adds the place of a message to those of later ones, or the number that a deletion ends.

@@ -10,7 +10,7 @@ use Rattle.archive_core.proofs.archive.DiskArchive.deliver.Goals as goal
 
 pub returns-in-Refuse-clause-any_moment : goal.returns-in-Refuse-clause-any_moment
 returns-in-Refuse-clause-any_moment g c = λ a cache store room.
-    only-read g.D.Disk.moment g.D.Disk.left_since c.law_of_stores.ensures.recovers c.args.self.now cache a (delivered a c.args.bytes.now c.args.moment).archive (g.D.Disk.content c.args.disk.now) c.args.disk.now c.verdict.new.disk store c.verdict.ensures.looks.any_moment
+    only-read g.D.Disk.moment g.D.Disk.left_since c.law_of_stores.ensures.recovers c.args.self.now cache cache a (delivered a c.args.bytes.now c.args.moment).archive (g.D.Disk.content c.args.disk.now) c.args.disk.now c.verdict.new.disk store c.verdict.ensures.looks.any_moment
 
 pub returns-in-Refuse-clause-done : goal.returns-in-Refuse-clause-done
 returns-in-Refuse-clause-done g c = λ a cache store room.
@@ -25,7 +25,7 @@ returns-in-Ok-clause-any_moment g c = λ a cache store room.
     let same = archive_taken a c.in-Take.text c.as_slice.result.now c.args.moment (delivered a c.args.bytes.now c.args.moment) _ c.as_slice.ensures judged in
     let own = still_own c.args.self.now cache a k (g.D.Disk.content c.verdict.new.disk) c.in-Take.ensures.looks.same store in
     let lone = subst (λ (t : List ℕ). collision a.entries t ≡ None) (sym c.as_slice.ensures) alone in
-    read-first g.D.Disk.moment g.D.Disk.left_since c.law_of_stores.ensures.recovers c.args.self.now cache a (delivered a c.args.bytes.now c.args.moment).archive k c.args.disk.now c.verdict.new.disk c.keep.new.disk store c.in-Take.ensures.looks.any_moment
+    read-first g.D.Disk.moment g.D.Disk.left_since c.law_of_stores.ensures.recovers c.args.self.now cache cache a (delivered a c.args.bytes.now c.args.moment).archive k c.args.disk.now c.verdict.new.disk c.keep.new.disk store c.in-Take.ensures.looks.any_moment
     (subst (λ (b : Archive). LeavesOnly g.D.Disk.moment g.D.Disk.left_since c.verdict.new.disk c.keep.new.disk (RecoversEitherWith cache a b)) same (c.keep.ensures.any_moment a cache own room lone))
 
 pub returns-in-Ok-clause-done : goal.returns-in-Ok-clause-done
@@ -49,7 +49,7 @@ returns-clause-any_moment g c = λ a cache store room.
     let same = archive_taken a c.in-Take.text c.as_slice.result.now c.args.moment (delivered a c.args.bytes.now c.args.moment) _ c.as_slice.ensures judged in
     let own = still_own c.args.self.now cache a k (g.D.Disk.content c.verdict.new.disk) c.in-Take.ensures.looks.same store in
     let lone = subst (λ (t : List ℕ). collision a.entries t ≡ None) (sym c.as_slice.ensures) alone in
-    read-first g.D.Disk.moment g.D.Disk.left_since c.law_of_stores.ensures.recovers c.args.self.now cache a (delivered a c.args.bytes.now c.args.moment).archive k c.args.disk.now c.verdict.new.disk c.keep.new.disk store c.in-Take.ensures.looks.any_moment
+    read-first g.D.Disk.moment g.D.Disk.left_since c.law_of_stores.ensures.recovers c.args.self.now cache cache a (delivered a c.args.bytes.now c.args.moment).archive k c.args.disk.now c.verdict.new.disk c.keep.new.disk store c.in-Take.ensures.looks.any_moment
     (subst (λ (b : Archive). LeavesOnly g.D.Disk.moment g.D.Disk.left_since c.verdict.new.disk c.keep.new.disk (RecoversEitherWith cache a b)) same (c.keep.ensures.any_moment a cache own room lone))
 
 pub returns-in-Ok-clause-unread : goal.returns-in-Ok-clause-unread

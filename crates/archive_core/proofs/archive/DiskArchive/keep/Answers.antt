@@ -17,21 +17,21 @@ returns-in_default-clause-any_moment g c = λ a cache store room alone.
     let disk = c.args.disk.now in
     let b = with_entry a (new_epoch a) c.args.text.now c.args.moment in
     started g.D.Disk.moment g.D.Disk.left_since disk (RecoversEitherWith cache a b)
-    (λ image left. stands c.law_of_stores.ensures.recovers c.args.self.now cache a b (g.D.Disk.content disk) image store (g.met.D.Disk.only_now disk image left))
+    (λ image left. stands c.law_of_stores.ensures.recovers c.args.self.now cache cache a b (g.D.Disk.content disk) image store (g.met.D.Disk.only_now disk image left))
 
 pub returns-then-not-may_follow-clause-any_moment : goal.returns-then-not-may_follow-clause-any_moment
 returns-then-not-may_follow-clause-any_moment g c = λ a cache store room alone.
     let disk = c.args.disk.now in
     let b = with_entry a (new_epoch a) c.args.text.now c.args.moment in
     started g.D.Disk.moment g.D.Disk.left_since disk (RecoversEitherWith cache a b)
-    (λ image left. stands c.law_of_stores.ensures.recovers c.args.self.now cache a b (g.D.Disk.content disk) image store (g.met.D.Disk.only_now disk image left))
+    (λ image left. stands c.law_of_stores.ensures.recovers c.args.self.now cache cache a b (g.D.Disk.content disk) image store (g.met.D.Disk.only_now disk image left))
 
 pub returns-in_err-put_text-clause-any_moment : goal.returns-in_err-put_text-clause-any_moment
 returns-in_err-put_text-clause-any_moment g c = λ a cache store room alone.
     let disk = c.args.disk.now in
     let b = with_entry a (new_epoch a) c.args.text.now c.args.moment in
     started g.D.Disk.moment g.D.Disk.left_since disk (RecoversEitherWith cache a b)
-    (λ image left. stands c.law_of_stores.ensures.recovers c.args.self.now cache a b (g.D.Disk.content disk) image store (g.met.D.Disk.only_now disk image left))
+    (λ image left. stands c.law_of_stores.ensures.recovers c.args.self.now cache cache a b (g.D.Disk.content disk) image store (g.met.D.Disk.only_now disk image left))
 
 pub invariant_of-self-2 : goal.invariant_of-self-2
 invariant_of-self-2 g c =

@@ -1,17 +1,17 @@
 use Rattle.std.proofs.Common.{◌≡◌, ◌∙◌, ◌||◌, ℕ, List, false, not, is_ok, ap, sym, subst}
 use Rattle.arch_model.specs.Keeping.{text_known}
-use Rattle.archive_core.specs.Commands.{is_delivery}
+use Rattle.archive_core.specs.Commands.{cache_left, is_delivery}
 use Rattle.epoch_store.specs.Stores.{IsStoreWith}
 use Rattle.archive_core.specs.Engines.{Owning, needs_opening, reading-same}
 use Rattle.arch_model.specs.Archives.{Archive}
 use Rattle.arch_model.specs.Delivery.{applied}
-use Rattle.archive_core.proofs.Engines.{starved-at, still-left, left-from, done-from, taken-from, answer-cause-from, steady-from, refused-from, unmoved-from, removed-from, of-removal}
+use Rattle.archive_core.proofs.Engines.{starved-at, still-left, left-from, done-from, taken-from, answer-cause-from, steady-from, refused-from, unmoved-from, removed-from, of-removal, kept-or-none}
 use Rattle.archive_core.proofs.KeepingUp.{kept-up, followed-ready, needs-stale, on-ok, stays-ready}
 use Rattle.archive_core.proofs.Standing.{store_keeps}
 use Rattle.archive_core.proofs.engine.Engine.take.Goals as goal
 
 pub returns-then-not-has_next_root-clause-any_moment : goal.returns-then-not-has_next_root-clause-any_moment
-returns-then-not-has_next_root-clause-any_moment g c = λ a cache store. still-left g.D.Disk.content g.D.Disk.moment g.D.Disk.left_since g.met.D.Disk.counts_now g.met.D.Disk.only_now g.met.D.Disk.reads_fit c.args.self.now a (applied a c.args.command.now c.args.moment).archive cache store
+returns-then-not-has_next_root-clause-any_moment g c = λ a cache store. still-left g.D.Disk.content g.D.Disk.moment g.D.Disk.left_since g.met.D.Disk.counts_now g.met.D.Disk.only_now g.met.D.Disk.reads_fit c.args.self.now a (applied a c.args.command.now c.args.moment).archive cache (cache_left c.args.command.now cache) store
 
 pub returns-then-not-has_next_root-clause-done : goal.returns-then-not-has_next_root-clause-done
 returns-then-not-has_next_root-clause-done g c = λ a cache store. store
@@ -25,14 +25,14 @@ returns-clause-any_moment g c =
     let room = c.has_next_root.ensures.0 c.if-not-has_next_root.false in
     left-from g.D.Disk.content g.D.Disk.moment g.D.Disk.left_since g.met.D.Disk.counts_now g.met.D.Disk.only_now g.met.D.Disk.reads_fit
     (record { disk = c.self.inside.disk; view = c.self.inside.archive; views = c.self.inside.views; stale = c.self.inside.stale }) c.args.self.now c.self.view_is c.command_keeping-answer.new.disk
-    (λ (a : Archive). (applied a c.args.command.now c.args.moment).archive) (λ a cache store. c.command_keeping-answer.ensures.taken.any_moment a cache store room)
+    (λ (a : Archive). (applied a c.args.command.now c.args.moment).archive) (cache_left c.args.command.now) (λ a cache store. c.command_keeping-answer.ensures.taken.any_moment a cache store room)
 
 pub returns-clause-done : goal.returns-clause-done
 returns-clause-done g c =
     let room = c.has_next_root.ensures.0 c.if-not-has_next_root.false in
     done-from g.D.Disk.content g.D.Disk.moment g.D.Disk.left_since g.met.D.Disk.counts_now g.met.D.Disk.only_now g.met.D.Disk.reads_fit
     (record { disk = c.self.inside.disk; view = c.self.inside.archive; views = c.self.inside.views; stale = c.self.inside.stale }) c.args.self.now c.self.view_is c.command_keeping-answer.new.self c.command_keeping-answer.new.disk
-    (λ (a : Archive). applied a c.args.command.now c.args.moment) c.command_keeping-answer.result (λ a cache store. c.command_keeping-answer.ensures.taken.done a cache store room)
+    (λ (a : Archive). applied a c.args.command.now c.args.moment) (cache_left c.args.command.now) c.command_keeping-answer.result (λ a cache store. c.command_keeping-answer.ensures.taken.done a cache store room)
 
 pub returns-clause-stands : goal.returns-clause-stands
 returns-clause-stands g c =
@@ -44,12 +44,12 @@ returns-clause-stands g c =
     taken-from g.D.Disk.content g.D.Disk.moment g.D.Disk.left_since g.met.D.Disk.counts_now g.met.D.Disk.only_now g.met.D.Disk.reads_fit
     (record { disk = c.self.inside.disk; view = c.self.inside.archive; views = c.self.inside.views; stale = c.self.inside.stale }) c.args.self.now c.self.view_is c.law_of_recovery.ensures.caches
     (record { disk = c.command_keeping-answer.new.disk; view = c.command_keeping-answer.new.self; views = c.follow-followed.new.views; stale = c.is_left_stale-self-inside.result })
-    wanted reply (λ needs. stale_is ∙ needs-stale (needs_opening reply) ok needs)
+    wanted (cache_left c.args.command.now) reply (kept-or-none c.args.command.now) (λ needs. stale_is ∙ needs-stale (needs_opening reply) ok needs)
     (λ a cache store. c.command_keeping-answer.ensures.taken.any_moment a cache store room) (λ a cache store. c.command_keeping-answer.ensures.taken.done a cache store room)
     (λ a cache store old_is.
-    kept-up a c.args.command.now c.args.moment c.as_slice-kept.result.now c.command_keeping-answer.new.self cache (g.D.Disk.content c.command_keeping-answer.new.disk) c.self.inside.views c.follow-followed.new.views (not c.is_left_stale-self-inside.result) ok reply
+    kept-up a c.args.command.now c.args.moment c.as_slice-kept.result.now c.command_keeping-answer.new.gone c.command_keeping-answer.new.self cache (cache_left c.args.command.now cache) (g.D.Disk.content c.command_keeping-answer.new.disk) c.self.inside.views c.follow-followed.new.views (not c.is_left_stale-self-inside.result) ok reply
     (store_keeps c.self.inside.archive cache a (g.D.Disk.content c.self.inside.disk) store).valid old_is (c.command_keeping-answer.ensures.taken.done a cache store room)
-    (rw c.as_slice-kept.ensures (c.command_keeping-answer.ensures.kept a cache store)) (λ ready. followed-ready (needs_opening reply) ok (ap not (sym stale_is) ∙ ready)) c.follow-followed.ensures.refused
+    (rw c.as_slice-kept.ensures (c.command_keeping-answer.ensures.kept a cache store)) (c.command_keeping-answer.ensures.gone a cache store) (λ ready. followed-ready (needs_opening reply) ok (ap not (sym stale_is) ∙ ready)) c.follow-followed.ensures.refused
     (λ went. on-ok c.follow-followed.result _ c.follow-followed.ensures.rows went))
     c.command_keeping-answer.ensures.taken.untouched
 
@@ -81,14 +81,14 @@ pub returns-clause-untouched : goal.returns-clause-untouched
 returns-clause-untouched g c = refused-from g.D.Disk.content g.D.Disk.moment g.D.Disk.left_since g.met.D.Disk.counts_now g.met.D.Disk.only_now g.met.D.Disk.reads_fit
     (record { disk = c.self.inside.disk; view = c.self.inside.archive; views = c.self.inside.views; stale = c.self.inside.stale }) c.args.self.now c.self.view_is
     (record { disk = c.command_keeping-answer.new.disk; view = c.command_keeping-answer.new.self; views = c.follow-followed.new.views; stale = c.is_left_stale-self-inside.result })
-    (is_ok c.follow-followed.result) c.args.command.now c.as_slice-kept.result.now c.args.moment c.command_keeping-answer.result c.requires.ready c.is_left_stale-self-inside.ensures c.follow-followed.ensures.refused c.command_keeping-answer.ensures.taken.same
+    (is_ok c.follow-followed.result) c.args.command.now c.command_keeping-answer.new.gone c.as_slice-kept.result.now c.args.moment c.command_keeping-answer.result c.requires.ready c.is_left_stale-self-inside.ensures c.follow-followed.ensures.refused c.command_keeping-answer.ensures.taken.same
     (λ went. on-ok c.follow-followed.result _ c.follow-followed.ensures.rows went) c.command_keeping-answer.ensures.taken.untouched
 
 pub returns-clause-unmoved : goal.returns-clause-unmoved
 returns-clause-unmoved g c = unmoved-from g.D.Disk.content g.D.Disk.moment g.D.Disk.left_since g.met.D.Disk.counts_now g.met.D.Disk.only_now g.met.D.Disk.reads_fit
     (record { disk = c.self.inside.disk; view = c.self.inside.archive; views = c.self.inside.views; stale = c.self.inside.stale }) c.args.self.now c.self.view_is
     (record { disk = c.command_keeping-answer.new.disk; view = c.command_keeping-answer.new.self; views = c.follow-followed.new.views; stale = c.is_left_stale-self-inside.result })
-    (is_ok c.follow-followed.result) c.args.command.now c.as_slice-kept.result.now c.args.moment c.command_keeping-answer.result c.requires.ready c.is_left_stale-self-inside.ensures c.follow-followed.ensures.refused c.command_keeping-answer.ensures.taken.same
+    (is_ok c.follow-followed.result) c.args.command.now c.command_keeping-answer.new.gone c.as_slice-kept.result.now c.args.moment c.command_keeping-answer.result c.requires.ready c.is_left_stale-self-inside.ensures c.follow-followed.ensures.refused c.command_keeping-answer.ensures.taken.same
     (λ went. on-ok c.follow-followed.result _ c.follow-followed.ensures.rows went) c.command_keeping-answer.ensures.taken.unmoved
 
 pub returns-then-not-has_next_root-clause-removed : goal.returns-then-not-has_next_root-clause-removed
@@ -100,4 +100,4 @@ returns-clause-removed g c =
     removed-from g.D.Disk.content g.D.Disk.moment g.D.Disk.left_since g.met.D.Disk.counts_now g.met.D.Disk.only_now g.met.D.Disk.reads_fit
     (record { disk = c.self.inside.disk; view = c.self.inside.archive; views = c.self.inside.views; stale = c.self.inside.stale }) c.args.self.now c.self.view_is
     (record { disk = c.command_keeping-answer.new.disk; view = c.command_keeping-answer.new.self; views = c.follow-followed.new.views; stale = c.is_left_stale-self-inside.result })
-    c.args.command.now c.args.moment c.as_slice-kept.result.now c.command_keeping-answer.result (λ a cache store. c.command_keeping-answer.ensures.taken.done a cache store room) c.follow-followed.ensures.removed
+    c.args.command.now c.args.moment c.as_slice-kept.result.now c.command_keeping-answer.new.gone c.command_keeping-answer.result (λ a cache store. c.command_keeping-answer.ensures.taken.done a cache store room) c.command_keeping-answer.ensures.gone c.follow-followed.ensures.removed

@@ -2,10 +2,9 @@ use Rattle.std.proofs.Common.{◌∙◌, sym, ap, subst}
 use Rattle.std.proofs.lemmas.Bool.{false≢true}
 use Rattle.arch_model.specs.Archives.{Archive}
 use Rattle.arch_model.specs.Delivery.{applied}
-use Rattle.arch_model.specs.Keeping.{ending}
+use Rattle.arch_model.specs.Keeping.{ReadsFor, ending}
 use Rattle.arch_model.proofs.Keepers.{cause-earlier}
 use Rattle.archive_core.proofs.Engines.{not_true, commanded-after, refused-comes, refused-ready, refused-cause, ready-after}
-use Rattle.arch_model.specs.Shelves.{ReadsOnce}
 use Rattle.archive_core.specs.Engines.{Owning, Holds, is_ready}
 use Rattle.archive_core.proofs.engine.EngineKeep.command.Goals as goal
 
@@ -27,7 +26,7 @@ returns-in-Ok-clause-cause g c =
 
 pub returns-in-Ok-clause-reads : goal.returns-in-Ok-clause-reads
 returns-in-Ok-clause-reads g c = λ ready.
-    subst (λ (o : Owning g.row.D.Denot). ReadsOnce (g.D.Disk.reads o.disk) (g.D.Disk.reads c.take.new.self.disk)) (c.in-Ok.ensures.nothing ready).1 c.take.ensures.reads
+    subst (λ (o : Owning g.row.D.Denot). ReadsFor c.args.command.now (g.D.Disk.reads o.disk) (g.D.Disk.reads c.take.new.self.disk)) (c.in-Ok.ensures.nothing ready).1 c.take.ensures.reads
 
 pub returns-in-Ok-clause-unread : goal.returns-in-Ok-clause-unread
 returns-in-Ok-clause-unread g c = λ a store ready unknown.

@@ -1,0 +1,408 @@
+-- An archive without the entries of a text, by what a store keeps of it; and what purges and edits give.
+use Rattle.std.specs.Prelude.{◌≡◌, ◌≢◌, ◌+◌, ◌<◌, ◌≤◌, ◌==◌, ◌^◌, ℕ, zero, suc, Bool, true, false, not, cond, List, [], ◌∷◌, ◌++◌, length, get_or, slice_get, slice_index_or, count_by, Option, Some, None, is_some, IsSome, unwrap_or, Result, Ok, Err, if◌then◌else◌, refl}
+use Rattle.std.specs.List.{AllByRecursion, AllZip, Contains, filter}
+use Rattle.std.specs.Str.{bytes_eq}
+use Rattle.std.proofs.Common.{◌⊎◌, ◌∙◌, sym, ap, subst, inl, inr, arith}
+use Rattle.std.proofs.lemmas.List.Sums.{length-filter, count_by-le-length}
+use Rattle.std.proofs.lemmas.Option.{slice_get_within, slice_get-get_or}
+use Rattle.std.proofs.lemmas.Slice.Eq.{bytes_eq-Decides}
+use Rattle.arch_base.specs.declared.config.Config.{Config}
+use Rattle.arch_base.specs.declared.ids.Id20.{Id20}
+use Rattle.disk_model.specs.Disk.{Content}
+use Rattle.git_objects.specs.Objects.{blob_id_of}
+use Rattle.git_objects.specs.declared.entry_kind.EntryKind.{EntryKind}
+use Rattle.git_objects.specs.declared.entry_kind.EntryKind.TheVariants.{Message, Deletion}
+use Rattle.mail_reader.specs.Ids.{own_id}
+use Rattle.mail_reader.specs.Stored.{stored}
+use Rattle.mail_reader.specs.declared.storing.StoredRefusal.{StoredRefusal}
+use Rattle.mail_reader.specs.declared.storing.StoredRefusal.TheVariants as storing
+use Rattle.arch_model.specs.Archives.{Entry, Archive, is_message, live, messages, text_of, blob_number, with_entry, without_text, without_entries, IsFree}
+use Rattle.arch_model.specs.Delivery.{Done, collision, delivered, delivered_form, purged, purged_text, edited, edited_text, is_accepted, is_form, new_epoch, refused, unless_refused}
+use Rattle.arch_model.specs.Shelves.{blob_text}
+use Rattle.arch_model.specs.Validity.{BlobsAgree, IsArchive}
+use Rattle.arch_model.specs.declared.answer.Answer.{Answer}
+use Rattle.arch_model.specs.declared.answer.Answer.TheVariants as answer
+use Rattle.arch_model.proofs.LiveEntries.{HasText, found-has, live-has, all-text, live-one}
+use Rattle.arch_model.proofs.Owners.{collision-alone, collision-first}
+use Rattle.arch_model.proofs.Purging.{valid_without}
+use Rattle.arch_judge.specs.Indexes.{IsIndex}
+use Rattle.arch_judge.specs.Judging.{IsForDelivery, IsKnownBy, MayBeKept, MayCome, TakesThis}
+use Rattle.arch_judge.specs.declared.index.Index.{Index}
+use Rattle.arch_judge.specs.declared.judging.Verdict.{Verdict}
+use Rattle.arch_judge.specs.declared.judging.Verdict.TheVariants.{Take, Compare, Refuse}
+use Rattle.arch_judge.proofs.Endings.{live-few}
+use Rattle.arch_judge.proofs.Indexes.{unowned}
+use Rattle.epoch_store.specs.declared.entries.StoredEntry.{StoredEntry}
+use Rattle.epoch_store.specs.Reads.{text_if}
+use Rattle.epoch_store.specs.Stores.{View, Keeps, IsStoreWith, KeptOf, MayPurge, stored_at, stored_after, without_blob}
+use Rattle.archive_core.specs.Commands.{DoneBy, IsLiveOf, IsUnread, JudgesRead, ReadsMessage}
+use Rattle.archive_core.specs.Kept.{IndexesKept}
+use Rattle.archive_core.specs.Numbers.{IsLiveAt, IsMessageAt}
+use Rattle.archive_core.specs.Rewriting.{MayReplace, TakesBy}
+use Rattle.archive_core.specs.Placing.{message_places, found_blob, has_blob_at, IsLiveWith}
+use Rattle.archive_core.specs.declared.placing.MessagePlace.{MessagePlace}
+use Rattle.archive_core.proofs.ByBlob.{message-of}
+use Rattle.archive_core.proofs.ByNumber.{live-at, live-found, live-shown, entry-text}
+use Rattle.archive_core.proofs.Dropping.{first-stays, first-goes}
+use Rattle.archive_core.proofs.Indexes.{in-order}
+use Rattle.archive_core.proofs.Removing.{all_at}
+use Rattle.archive_core.proofs.Stored.{stored-length}
+
+only : {X : Type 0} (x y : X) → Some x ≡ Some y → x ≡ y
+only x y is = cc
+
+-- Each of some entries with the blob id of a text has that text.
+abbrev pub AgreesWith : List ℕ → List Entry → Type 0
+AgreesWith text es = AllByRecursion (λ (e : Entry). blob_id_of e.text ≡ blob_id_of text → e.text ≡ text) es
+
+-- So it is of a text that one of them has.
+pub texts-agree : (es : List Entry) (text : List ℕ) → BlobsAgree es → HasText text es → AgreesWith text es
+texts-agree [] text agree has = tt
+texts-agree (e ∷ es) text agree (inl is) = (λ same. is, subst (λ (t : List ℕ). AgreesWith t es) is agree.0)
+texts-agree (e ∷ es) text agree (inr more) =
+    (λ same. sym (all-text (λ (t : List ℕ). blob_id_of t ≡ blob_id_of e.text → t ≡ e.text) es text agree.0 more (sym same)), texts-agree es text agree.1 more)
+
+messages_step : (k : EntryKind) (e : Entry) (es ms : List Entry) (text : List ℕ) → (HasText text ms → HasText text es) → HasText text (if is_message k then e ∷ ms else ms) → HasText text (e ∷ es)
+messages_step Message e es ms text rest (inl is) = inl is
+messages_step Message e es ms text rest (inr more) = inr (rest more)
+messages_step Deletion e es ms text rest more = inr (rest more)
+
+messages_have : (es : List Entry) (text : List ℕ) → HasText text (messages es) → HasText text es
+messages_have [] text has = has
+messages_have (e ∷ es) text has = messages_step e.kind e es (messages es) text (messages_have es text) has
+
+pub message-agrees : (a : Archive) (n : ℕ) (text : List ℕ) → IsArchive a → text_of (messages a.entries) n ≡ Some text → AgreesWith text a.entries
+message-agrees a n text valid is = texts-agree a.entries text valid.blobs (messages_have a.entries text (found-has (messages a.entries) n text is))
+
+pub live-message-is : (a : Archive) (n : ℕ) (text : List ℕ) → IsArchive a → text_of (live a.entries) n ≡ Some text → text_of (messages a.entries) n ≡ Some text
+live-message-is a n text valid shown = (live-one 1 0 a.entries n text valid.order shown).is
+
+-- Then the test of blob ids is the test of texts.
+tests_same : (text other : List ℕ) → (blob_id_of other ≡ blob_id_of text → other ≡ text) → bytes_eq (blob_id_of text).0 (blob_id_of other).0 ≡ bytes_eq text other
+tests_same text other agree = by (bytes_eq (blob_id_of text).0 (blob_id_of other).0) (bytes_eq text other) refl refl where
+  by : (t u : Bool) → bytes_eq (blob_id_of text).0 (blob_id_of other).0 ≡ t → bytes_eq text other ≡ u → t ≡ u
+  by true true a b = refl
+  by false false a b = refl
+  by true false a b =
+      absurd (let ids : (blob_id_of text).0 ≡ (blob_id_of other).0 = (bytes_eq-Decides (blob_id_of text).0 (blob_id_of other).0).0 a in
+      let same : other ≡ text = agree (ap (λ (bytes : List ℕ). let id : Id20 = record { 0 = bytes } in id) (sym ids)) in
+      let hit : bytes_eq text other ≡ true = (bytes_eq-Decides text other).1 (sym same) in
+      let wrong : true ≡ false = sym hit ∙ b in cc)
+  by false true a b =
+      absurd (let same : text ≡ other = (bytes_eq-Decides text other).0 b in
+      let hit : bytes_eq (blob_id_of text).0 (blob_id_of other).0 ≡ true = (bytes_eq-Decides (blob_id_of text).0 (blob_id_of other).0).1 (ap (λ (t : List ℕ). (blob_id_of t).0) same) in
+      let wrong : true ≡ false = sym hit ∙ a in cc)
+
+-- The front entry stays, or it goes.
+text-stays : (text : List ℕ) (e : Entry) (es : List Entry) → bytes_eq text e.text ≡ false → without_text (e ∷ es) text ≡ e ∷ without_text es text
+text-stays text e es other = ap (λ (t : Bool). if not t then e ∷ without_text es text else without_text es text) other
+
+text-goes : (text : List ℕ) (e : Entry) (es : List Entry) → bytes_eq text e.text ≡ true → without_text (e ∷ es) text ≡ without_text es text
+text-goes text e es same = ap (λ (t : Bool). if not t then e ∷ without_text es text else without_text es text) same
+
+-- What is kept of the entries without a text is what is kept without its blob id, but for places and
+-- commits.
+pub stored-without : (before rest es : List Entry) (text : List ℕ) → AgreesWith text es → AllZip KeptOf (without_blob (stored_after before es) (blob_id_of text).0) (stored_after rest (without_text es text))
+stored-without before rest [] text agree = tt
+stored-without before rest (e ∷ es) text agree = by (bytes_eq text e.text) refl (stored-without (before ++ e ∷ []) rest es text agree.1) (stored-without (before ++ e ∷ []) (rest ++ e ∷ []) es text agree.1) where
+  blob : List ℕ
+  blob = (blob_id_of text).0
+
+  more : List StoredEntry
+  more = stored_after (before ++ e ∷ []) es
+
+  by : (t : Bool) → bytes_eq text e.text ≡ t → AllZip KeptOf (without_blob (stored_after (before ++ e ∷ []) es) (blob_id_of text).0) (stored_after rest (without_text es text))
+      → AllZip KeptOf (without_blob (stored_after (before ++ e ∷ []) es) (blob_id_of text).0) (stored_after (rest ++ e ∷ []) (without_text es text))
+      → AllZip KeptOf (without_blob (stored_after before (e ∷ es)) (blob_id_of text).0) (stored_after rest (without_text (e ∷ es) text))
+  by true same gone stays =
+      subst (λ (l : List StoredEntry). AllZip KeptOf l (stored_after rest (without_text (e ∷ es) text))) (sym (first-goes blob (stored_at before e) more (tests_same text e.text agree.0 ∙ same)))
+      (subst (λ (l : List Entry). AllZip KeptOf (without_blob more blob) (stored_after rest l)) (sym (text-goes text e es same)) gone)
+  by false other gone stays =
+      subst (λ (l : List StoredEntry). AllZip KeptOf l (stored_after rest (without_text (e ∷ es) text))) (sym (first-stays blob (stored_at before e) more (tests_same text e.text agree.0 ∙ other)))
+      (subst (λ (l : List Entry). AllZip KeptOf (stored_at before e ∷ without_blob more blob) (stored_after rest l)) (sym (text-stays text e es other))
+      (record { number = refl; epoch = refl; kind = refl; size = refl; blob = refl; moment = refl; id = refl; content = refl }, stays))
+
+-- The index of what is kept without a blob id is that of the archive without the text.
+pub index-without : (v : View) (a : Archive) (index : Index) (blob : Id20) (text : List ℕ) → Keeps v a → AgreesWith text a.entries → blob_id_of text ≡ blob → IndexesKept (without_blob v.entries blob.0) index → IsIndex (without_entries a text).entries index
+index-without v a index blob text keeps agree blob_is indexed =
+    indexed (stored_after [] (without_text a.entries text))
+    (subst (λ (i : Id20). AllZip KeptOf (without_blob v.entries i.0) (stored_after [] (without_text a.entries text))) blob_is
+    (subst (λ (l : List StoredEntry). AllZip KeptOf (without_blob l (blob_id_of text).0) (stored_after [] (without_text a.entries text))) (sym keeps.kept) (stored-without [] [] a.entries text agree)))
+    (without_text a.entries text) (record { ordered = in-order (without_entries a text) (valid_without a text keeps.valid); is = refl })
+
+-- The blob id of a message that may be purged is that of its text.
+pub purge-blob : (v : View) (a : Archive) (n : ℕ) (blob : Id20) (text : List ℕ) → Keeps v a → MayPurge v n blob → text_of (messages a.entries) n ≡ Some text → blob_id_of text ≡ blob
+purge-blob v a n blob text keeps may is =
+    let at : IsMessageAt v.entries n may.is_there.0 = record {
+      entry = may.entry;
+      there = slice_get-get_or v.entries may.is_there.0 may.entry may.is_there.1 ∙ ap Some (get_is v.entries may.is_there.0 may.entry may.is_there.1 may.is_there.2);
+      number_is = may.number_is;
+      is_one = ap is_message may.kind;
+    } in
+    let own = message-of v a n may.is_there.0 keeps at in
+    ap blob_id_of (only text own.entry.text (sym is ∙ own.once)) ∙ sym own.blob ∙ may.blob_is
+  where
+    get_is : (es : List StoredEntry) (i : ℕ) (e : StoredEntry) → i < length es → slice_index_or es i e ≡ e → get_or es i e ≡ e
+    get_is es i e less is = is
+
+-- The live number whose entry has the blob id of a text is the one with the text.
+pub lost-live : (v : View) (a : Archive) (places : List MessagePlace) (lost : Option ℕ) (blob : Id20) (text : List ℕ) → Keeps v a → places ≡ message_places 0 v.entries → AgreesWith text a.entries → blob_id_of text ≡ blob → IsLiveWith places v.entries blob lost → IsLiveOf (live a.entries) text lost
+lost-live v a places (Some n) blob text keeps placed agree blob_is found =
+    let at : IsLiveAt v.entries n found.1.entry = live-found v places placed found.0 n found.1 found.2 found.3 found.4 in
+    let own = message-of v a n found.1.entry keeps at.message in
+    let hit : bytes_eq blob.0 at.message.entry.seen.blob.0 ≡ true = sym (ap (λ (o : Option StoredEntry). found_blob o blob) at.message.there) ∙ found.5 in
+    let ids : blob.0 ≡ at.message.entry.seen.blob.0 = (bytes_eq-Decides blob.0 at.message.entry.seen.blob.0).0 hit in
+    let same : blob_id_of own.entry.text ≡ blob_id_of text = sym own.blob ∙ ap (λ (bytes : List ℕ). let id : Id20 = record { 0 = bytes } in id) (sym ids) ∙ sym blob_is in
+    let is : own.entry.text ≡ text = all_at (λ (e : Entry). blob_id_of e.text ≡ blob_id_of text → e.text ≡ text) a.entries found.1.entry own.entry agree own.there same in
+    entry-text v a keeps n found.1.entry at own.entry.text (ap text_if own.there) ∙ ap Some is
+lost-live v a places None blob text keeps placed agree blob_is none = λ n shown.
+    let is_live = live-at places n (live-shown v places placed a keeps n ∙ ap is_some shown) in
+    let at : IsLiveAt v.entries n is_live.place.entry = live-found v places placed is_live.index n is_live.place is_live.there is_live.number_is is_live.live_is in
+    let own = message-of v a n is_live.place.entry keeps at.message in
+    let read : text_of (live a.entries) n ≡ Some own.entry.text = entry-text v a keeps n is_live.place.entry at own.entry.text (ap text_if own.there) in
+    let same : own.entry.text ≡ text = only own.entry.text text (sym read ∙ shown) in
+    let ids : blob.0 ≡ at.message.entry.seen.blob.0 = ap (λ (i : Id20). i.0) (sym blob_is ∙ ap blob_id_of (sym same) ∙ sym own.blob) in
+    let hit : has_blob_at v.entries is_live.place.entry blob ≡ true = ap (λ (o : Option StoredEntry). found_blob o blob) at.message.there ∙ (bytes_eq-Decides blob.0 at.message.entry.seen.blob.0).1 ids in
+    let wrong : true ≡ false = sym hit ∙ none is_live.index is_live.place is_live.there is_live.live_is in
+    cc
+
+-- What a purge gives.
+purged_by : (a : Archive) (n : ℕ) (found : Option (List ℕ)) → a.config.mirror ≡ false → text_of (messages a.entries) n ≡ found → purged a n ≡ purged_text a n found
+purged_by a n found writable is =
+    ap (λ (t : Bool). if t then refused a answer.IsMirror else purged_text a n (text_of (messages a.entries) n)) writable
+    ∙ ap (purged_text a n) is
+
+pub purged-text-is : (a : Archive) (n : ℕ) (text : List ℕ) → a.config.mirror ≡ false → text_of (messages a.entries) n ≡ Some text → purged a n ≡ record { archive = without_entries a text; answer = answer.Ok n (blob_id_of text) }
+purged-text-is a n text writable is = purged_by a n (Some text) writable is
+
+-- What was done on another archive, and accepted, is what is done.
+pub unless-taken : (a b : Archive) (d : Done) (n : ℕ) (id : Id20) → d ≡ record { archive = b; answer = answer.Ok n id } → unless_refused a d ≡ record { archive = b; answer = answer.Ok n id }
+unless-taken a b d n id is = ap (unless_refused a) is
+
+-- A refusal there is one here.
+pub unless-refused : (a b : Archive) (d : Done) (reply : Answer) → is_accepted reply ≡ false → d ≡ refused b reply → unless_refused a d ≡ refused a reply
+unless-refused a b d reply never is = ap (unless_refused a) is ∙ ap (λ (t : Bool). if t then refused b reply else refused a reply) never
+
+-- What an edit gives.
+edited_by : (a : Archive) (n : ℕ) (bytes : List ℕ) (moment : ℕ) (text : List ℕ) → a.config.mirror ≡ false → text_of (live a.entries) n ≡ Some text → edited a n bytes moment ≡ edited_text a n bytes moment (Some text)
+edited_by a n bytes moment text writable is =
+    ap (λ (t : Bool). if t then refused a answer.IsMirror else edited_text a n bytes moment (text_of (live a.entries) n)) writable
+    ∙ ap (edited_text a n bytes moment) is
+
+edited_test : (a : Archive) (n : ℕ) (bytes : List ℕ) (moment : ℕ) (text : List ℕ) (t : Bool) → a.config.mirror ≡ false → text_of (live a.entries) n ≡ Some text → is_form text (stored bytes) ≡ t
+    → edited a n bytes moment ≡ (if t then refused a (answer.Duplicate n) else unless_refused a (delivered (without_entries a text) bytes moment))
+edited_test a n bytes moment text t writable is test =
+    edited_by a n bytes moment text writable is
+    ∙ ap (λ (u : Bool). if u then refused a (answer.Duplicate n) else unless_refused a (delivered (without_entries a text) bytes moment)) test
+
+pub edited-same : (a : Archive) (n : ℕ) (bytes : List ℕ) (moment : ℕ) (text : List ℕ) → a.config.mirror ≡ false → text_of (live a.entries) n ≡ Some text → is_form text (stored bytes) ≡ true → edited a n bytes moment ≡ refused a (answer.Duplicate n)
+edited-same a n bytes moment text writable is test = edited_test a n bytes moment text true writable is test
+
+pub edited-other : (a : Archive) (n : ℕ) (bytes : List ℕ) (moment : ℕ) (text : List ℕ) → a.config.mirror ≡ false → text_of (live a.entries) n ≡ Some text → is_form text (stored bytes) ≡ false → edited a n bytes moment ≡ unless_refused a (delivered (without_entries a text) bytes moment)
+edited-other a n bytes moment text writable is test = edited_test a n bytes moment text false writable is test
+
+-- The delivery of what has no form.
+formless : (b : Archive) (bytes : List ℕ) (moment : ℕ) (form : Result (List ℕ) StoredRefusal) → b.config.mirror ≡ false → stored bytes ≡ form → delivered b bytes moment ≡ delivered_form b moment form
+formless b bytes moment form writable is =
+    ap (λ (t : Bool). if t then refused b answer.IsMirror else delivered_form b moment (stored bytes)) writable
+    ∙ ap (delivered_form b moment) is
+
+pub edited-formless : (a : Archive) (n : ℕ) (bytes : List ℕ) (moment : ℕ) (text : List ℕ) → a.config.mirror ≡ false → text_of (live a.entries) n ≡ Some text → stored bytes ≡ Err storing.NoFields → edited a n bytes moment ≡ refused a answer.NoFields
+edited-formless a n bytes moment text writable is form =
+    edited-other a n bytes moment text writable is (ap (is_form text) form)
+    ∙ unless-refused a (without_entries a text) (delivered (without_entries a text) bytes moment) answer.NoFields refl (formless (without_entries a text) bytes moment (Err storing.NoFields) writable form)
+
+pub edited-large : (a : Archive) (n : ℕ) (bytes : List ℕ) (moment len : ℕ) (text : List ℕ) → a.config.mirror ≡ false → text_of (live a.entries) n ≡ Some text → stored bytes ≡ Err (storing.TooLarge len) → edited a n bytes moment ≡ refused a (answer.TooLarge len)
+edited-large a n bytes moment len text writable is form =
+    edited-other a n bytes moment text writable is (ap (is_form text) form)
+    ∙ unless-refused a (without_entries a text) (delivered (without_entries a text) bytes moment) (answer.TooLarge len) refl (formless (without_entries a text) bytes moment (Err (storing.TooLarge len)) writable form)
+
+-- The answer tells of damage.
+abbrev pub is_damage : Answer → Bool
+is_damage (answer.Damaged file at) = true
+is_damage other = false
+
+-- A refusal leaves the archive.
+pub left-done : (v : View) (cache left : List ℕ) (a : Archive) (d : Done) (k : Option Content) (reply : Answer) → IsStoreWith v cache a k → is_accepted reply ≡ false → is_damage reply ≡ false → d ≡ refused a reply → DoneBy v cache left a d reply k
+left-done v cache left a d k answer.NoMemory store never fine is = store
+left-done v cache left a d k answer.DiskFault store never fine is = tt
+left-done v cache left a d k (answer.Duplicate n) store never fine is = record { answer_is = ap (λ (x : Done). x.answer) is; store = subst (λ (b : Archive). IsStoreWith v cache b k) (sym (ap (λ (x : Done). x.archive) is)) store }
+left-done v cache left a d k answer.NoFields store never fine is = record { answer_is = ap (λ (x : Done). x.answer) is; store = subst (λ (b : Archive). IsStoreWith v cache b k) (sym (ap (λ (x : Done). x.archive) is)) store }
+left-done v cache left a d k (answer.TooLarge len) store never fine is = record { answer_is = ap (λ (x : Done). x.answer) is; store = subst (λ (b : Archive). IsStoreWith v cache b k) (sym (ap (λ (x : Done). x.archive) is)) store }
+left-done v cache left a d k (answer.Full max) store never fine is = record { answer_is = ap (λ (x : Done). x.answer) is; store = subst (λ (b : Archive). IsStoreWith v cache b k) (sym (ap (λ (x : Done). x.archive) is)) store }
+left-done v cache left a d k (answer.Collision n) store never fine is = record { answer_is = ap (λ (x : Done). x.answer) is; store = subst (λ (b : Archive). IsStoreWith v cache b k) (sym (ap (λ (x : Done). x.archive) is)) store }
+left-done v cache left a d k (answer.NotLive n) store never fine is = record { answer_is = ap (λ (x : Done). x.answer) is; store = subst (λ (b : Archive). IsStoreWith v cache b k) (sym (ap (λ (x : Done). x.archive) is)) store }
+left-done v cache left a d k (answer.NoText n) store never fine is = record { answer_is = ap (λ (x : Done). x.answer) is; store = subst (λ (b : Archive). IsStoreWith v cache b k) (sym (ap (λ (x : Done). x.archive) is)) store }
+left-done v cache left a d k answer.IsMirror store never fine is = record { answer_is = ap (λ (x : Done). x.answer) is; store = subst (λ (b : Archive). IsStoreWith v cache b k) (sym (ap (λ (x : Done). x.archive) is)) store }
+left-done v cache left a d k (answer.Ok n id) store never fine is = absurd (cc)
+left-done v cache left a d k (answer.Damaged file at) store never fine is = absurd (cc)
+
+-- What an index of the archive without a text knows of it.
+pub known-without : (v : View) (a : Archive) (config : Config) (index : Index) (count next : ℕ) (text : List ℕ) → Keeps v a → config ≡ v.root.config → next ≡ v.root.next → count ≡ length v.entries → IsIndex (without_entries a text).entries index → IsKnownBy config index count next (without_entries a text)
+known-without v a config index count next text keeps config_is next_is count_is indexed = record {
+  config_is = sym (config_is ∙ keeps.names.config);
+  next_is = sym (next_is ∙ keeps.names.next);
+  few = (let same : count ≡ length a.entries = count_is ∙ ap length keeps.kept ∙ stored-length [] a.entries in
+      let test : Entry → Bool = λ (e : Entry). not (bytes_eq text e.text) in
+      let lives : length (live (without_text a.entries text)) ≤ length (without_text a.entries text) = live-few (without_text a.entries text) in
+      let counted : length (without_text a.entries text) ≡ count_by test a.entries = length-filter test a.entries in
+      let fewer : count_by test a.entries ≤ length a.entries = count_by-le-length test a.entries in
+      omega (arith, same, lives, counted, fewer));
+  indexed = indexed;
+}
+
+-- No entry has the blob id of a text without which all with that blob id are gone.
+none_left : (es : List Entry) (text blob : List ℕ) → blob ≡ (blob_id_of text).0 → AgreesWith text es → blob_number (without_text es text) blob ≡ None
+none_left [] text blob is agree = refl
+none_left (e ∷ es) text blob is agree = by (bytes_eq text e.text) refl (none_left es text blob is agree.1) where
+  by : (t : Bool) → bytes_eq text e.text ≡ t → blob_number (without_text es text) blob ≡ None → blob_number (without_text (e ∷ es) text) blob ≡ None
+  by true same rest = ap (λ (l : List Entry). blob_number l blob) (text-goes text e es same) ∙ rest
+  by false other rest =
+      let miss : bytes_eq blob (blob_id_of e.text).0 ≡ false = ap (λ (b : List ℕ). bytes_eq b (blob_id_of e.text).0) is ∙ tests_same text e.text agree.0 ∙ other in
+      ap (λ (l : List Entry). blob_number l blob) (text-stays text e es other)
+      ∙ ap (λ (t : Bool). if t then Some e.number else blob_number (without_text es text) blob) miss
+      ∙ rest
+
+-- A number that has a blob id first without a text had it first before, with the same text.
+abbrev pub StaysFirst : List Entry → List ℕ → List ℕ → ℕ → Type 0
+StaysFirst es text blob n = (blob_number es blob ≡ Some n) × (blob_text es blob ≡ blob_text (without_text es text) blob)
+
+first_still : (es : List Entry) (text blob : List ℕ) (n : ℕ) → BlobsAgree es → blob_number (without_text es text) blob ≡ Some n → StaysFirst es text blob n
+first_still [] text blob n agree is = absurd (cc)
+first_still (e ∷ es) text blob n agree is = by (bytes_eq text e.text) (bytes_eq blob (blob_id_of e.text).0) refl refl (first_still es text blob n agree.1) where
+  by : (t u : Bool) → bytes_eq text e.text ≡ t → bytes_eq blob (blob_id_of e.text).0 ≡ u → (blob_number (without_text es text) blob ≡ Some n → StaysFirst es text blob n) → StaysFirst (e ∷ es) text blob n
+  by true true same hit rest =
+      let is_text : text ≡ e.text = (bytes_eq-Decides text e.text).0 same in
+      let its : blob ≡ (blob_id_of text).0 = (bytes_eq-Decides blob (blob_id_of e.text).0).0 hit ∙ ap (λ (t : List ℕ). (blob_id_of t).0) (sym is_text) in
+      let none : blob_number (without_text es text) blob ≡ None = none_left es text blob its (subst (λ (t : List ℕ). AgreesWith t es) (sym is_text) agree.0) in
+      let found : blob_number (without_text es text) blob ≡ Some n = sym (ap (λ (l : List Entry). blob_number l blob) (text-goes text e es same)) ∙ is in
+      absurd (let wrong : None ≡ Some n = sym none ∙ found in cc)
+  by true false same miss rest =
+      let both = rest (sym (ap (λ (l : List Entry). blob_number l blob) (text-goes text e es same)) ∙ is) in (
+        ap (λ (t : Bool). if t then Some e.number else blob_number es blob) miss ∙ both.0,
+        ap (λ (t : Bool). if t then Some e.text else blob_text es blob) miss ∙ both.1 ∙ sym (ap (λ (l : List Entry). blob_text l blob) (text-goes text e es same)),
+      )
+  by false true other hit rest =
+      let found : blob_number (e ∷ without_text es text) blob ≡ Some n = sym (ap (λ (l : List Entry). blob_number l blob) (text-stays text e es other)) ∙ is in (
+        ap (λ (t : Bool). if t then Some e.number else blob_number es blob) hit ∙ sym (ap (λ (t : Bool). if t then Some e.number else blob_number (without_text es text) blob) hit) ∙ found,
+        ap (λ (t : Bool). if t then Some e.text else blob_text es blob) hit
+            ∙ sym (ap (λ (t : Bool). if t then Some e.text else blob_text (without_text es text) blob) hit)
+            ∙ sym (ap (λ (l : List Entry). blob_text l blob) (text-stays text e es other)),
+      )
+  by false false other miss rest =
+      let found : blob_number (e ∷ without_text es text) blob ≡ Some n = sym (ap (λ (l : List Entry). blob_number l blob) (text-stays text e es other)) ∙ is in
+      let both = rest (sym (ap (λ (t : Bool). if t then Some e.number else blob_number (without_text es text) blob) miss) ∙ found) in (
+        ap (λ (t : Bool). if t then Some e.number else blob_number es blob) miss ∙ both.0,
+        ap (λ (t : Bool). if t then Some e.text else blob_text es blob) miss
+            ∙ both.1
+            ∙ sym (ap (λ (t : Bool). if t then Some e.text else blob_text (without_text es text) blob) miss)
+            ∙ sym (ap (λ (l : List Entry). blob_text l blob) (text-stays text e es other)),
+      )
+
+-- So the text that is read of it is the same.
+pub reads-without : (a : Archive) (text : List ℕ) (number : ℕ) (kept : List ℕ) → BlobsAgree a.entries → ReadsMessage a number (Ok kept) → ReadsMessage (without_entries a text) number (Ok kept)
+reads-without a text number kept agree reads blob first = let both = first_still a.entries text blob number agree first in sym both.1 ∙ reads blob both.0
+
+-- The verdict on a delivery in place of a text.
+pub refuses-by : (v : View) (index : Index) (reply : Answer) → IsForDelivery reply → TakesBy v index (Refuse reply)
+refuses-by v index answer.NoMemory is = is
+refuses-by v index (answer.Duplicate number) is = is
+refuses-by v index answer.NoFields is = is
+refuses-by v index (answer.TooLarge len) is = is
+refuses-by v index (answer.Full max) is = is
+refuses-by v index (answer.Collision number) is = is
+refuses-by v index answer.IsMirror is = is
+refuses-by v index (answer.Ok number id) is = absurd is
+refuses-by v index (answer.NotLive number) is = absurd is
+refuses-by v index (answer.NoText number) is = absurd is
+refuses-by v index answer.DiskFault is = tt
+refuses-by v index (answer.Damaged file at) is = tt
+
+-- A text that wasn't read.
+pub unread-by : (v : View) (index : Index) (reply : Answer) → IsUnread reply → TakesBy v index (Refuse reply)
+unread-by v index answer.NoMemory is = is
+unread-by v index answer.DiskFault is = is
+unread-by v index (answer.Damaged file at) is = is
+unread-by v index (answer.Duplicate number) is = absurd is
+unread-by v index answer.NoFields is = absurd is
+unread-by v index (answer.TooLarge len) is = absurd is
+unread-by v index (answer.Full max) is = absurd is
+unread-by v index (answer.Collision number) is = absurd is
+unread-by v index answer.IsMirror is = absurd is
+unread-by v index (answer.Ok number id) is = absurd is
+unread-by v index (answer.NotLive number) is = absurd is
+unread-by v index (answer.NoText number) is = absurd is
+
+pub taken-by : (v : View) (config : Config) (index : Index) (next : ℕ) (text : List ℕ) (blob : Id20) (number : ℕ) → config ≡ v.root.config → next ≡ v.root.next → MayBeKept config index next text blob number → TakesBy v index (Take text blob number)
+taken-by v config index next text blob number config_is next_is may =
+    subst (λ (c : Config). MayBeKept c index v.root.next text blob number) config_is (subst (λ (n : ℕ). MayBeKept config index n text blob number) next_is may)
+
+pub compared-by : (v : View) (config : Config) (index : Index) (next : ℕ) (text : List ℕ) (blob : Id20) (verdict : Verdict) → config ≡ v.root.config → next ≡ v.root.next → MayCome config index text blob → TakesThis config next text blob verdict → TakesBy v index verdict
+compared-by v config index next text blob (Take took named number) config_is next_is may this =
+    subst (λ (t : List ℕ). TakesBy v index (Take t named number)) (sym this.0) (subst (λ (i : Id20). TakesBy v index (Take text i number)) (sym this.1) (taken-by v config index next text blob number config_is next_is (this.2 index may)))
+compared-by v config index next text blob (Compare other named number) config_is next_is may this = absurd this
+compared-by v config index next text blob (Refuse reply) config_is next_is may this = refuses-by v index reply this
+
+-- A text that is taken may be kept in place of the one that goes.
+id_of : (o : Option (List ℕ)) → IsSome o → o ≡ Some (unwrap_or o [])
+id_of None some = absurd (let wrong : false ≡ true = some in cc)
+id_of (Some id) some = refl
+
+pub may-replace : (v : View) (index : Index) (old blob : Id20) (n number : ℕ) (text : List ℕ) → MayPurge v n old → IndexesKept (without_blob v.entries old.0) index → MayBeKept v.root.config index v.root.next text blob number → MayReplace v old text blob
+may-replace v index old blob n number text purge indexed kept = record {
+  number = n;
+  edit = record {
+    purge = purge;
+    number_left = kept.number_left;
+    storage = kept.comes.storage;
+    id = λ a m gone keeps is blob_is. (
+        let id = unwrap_or (own_id text) [] in
+        let own = id_of (own_id text) kept.comes.storage.id in
+        let is_index : IsIndex (without_entries a gone).entries index = index-without v a index old gone keeps (message-agrees a m gone keeps.valid is) blob_is indexed in
+        (id, own, unowned (without_text a.entries gone) index id is_index (kept.comes.new_id id own)));
+  };
+  blob_is = kept.comes.blob_is;
+}
+
+-- What is done where the delivery on the archive without a text is refused, or isn't.
+pub refused-edit : (v : View) (cache left : List ℕ) (a b : Archive) (bytes : List ℕ) (moment : ℕ) (k : Option Content) (reply : Answer) → IsStoreWith v cache a k → JudgesRead b bytes (Refuse reply) → DoneBy v cache left a (unless_refused a (delivered b bytes moment)) reply k
+refused-edit v cache left a b bytes moment k answer.NoMemory store judged = store
+refused-edit v cache left a b bytes moment k answer.DiskFault store judged = tt
+refused-edit v cache left a b bytes moment k (answer.Duplicate n) store judged = left-done v cache left a (unless_refused a (delivered b bytes moment)) k (answer.Duplicate n) store refl refl (unless-refused a b (delivered b bytes moment) (answer.Duplicate n) refl (judged moment))
+refused-edit v cache left a b bytes moment k answer.NoFields store judged = left-done v cache left a (unless_refused a (delivered b bytes moment)) k answer.NoFields store refl refl (unless-refused a b (delivered b bytes moment) answer.NoFields refl (judged moment))
+refused-edit v cache left a b bytes moment k (answer.TooLarge len) store judged = left-done v cache left a (unless_refused a (delivered b bytes moment)) k (answer.TooLarge len) store refl refl (unless-refused a b (delivered b bytes moment) (answer.TooLarge len) refl (judged moment))
+refused-edit v cache left a b bytes moment k (answer.Full max) store judged = left-done v cache left a (unless_refused a (delivered b bytes moment)) k (answer.Full max) store refl refl (unless-refused a b (delivered b bytes moment) (answer.Full max) refl (judged moment))
+refused-edit v cache left a b bytes moment k (answer.Collision n) store judged = left-done v cache left a (unless_refused a (delivered b bytes moment)) k (answer.Collision n) store refl refl (unless-refused a b (delivered b bytes moment) (answer.Collision n) refl (judged moment))
+refused-edit v cache left a b bytes moment k answer.IsMirror store judged = left-done v cache left a (unless_refused a (delivered b bytes moment)) k answer.IsMirror store refl refl (unless-refused a b (delivered b bytes moment) answer.IsMirror refl (judged moment))
+refused-edit v cache left a b bytes moment k (answer.Ok n id) store judged = absurd judged
+refused-edit v cache left a b bytes moment k (answer.NotLive n) store judged = absurd judged
+refused-edit v cache left a b bytes moment k (answer.NoText n) store judged = absurd judged
+refused-edit v cache left a b bytes moment k (answer.Damaged file at) store judged = absurd judged
+
+-- The archive of a store that takes commands takes them.
+pub writable-of : (v : View) (a : Archive) → Keeps v a → v.root.config.mirror ≡ false → a.config.mirror ≡ false
+writable-of v a keeps writable = ap (λ (c : Config). c.mirror) (sym keeps.names.config) ∙ writable
+
+-- The text of the message at an index, by its number and its blob id.
+pub purge-at : (v : View) (a : Archive) (n i : ℕ) (s : StoredEntry) → Keeps v a → IsMessageAt v.entries n i → slice_get v.entries i ≡ Some s → (text : List ℕ) × (text_of (messages a.entries) n ≡ Some text) × (blob_id_of text ≡ s.seen.blob)
+purge-at v a n i s keeps at there =
+    let own = message-of v a n i keeps at in
+    let same : at.entry ≡ s = (let both : Some at.entry ≡ Some s = sym at.there ∙ there in cc) in
+    (own.entry.text, own.once, sym own.blob ∙ ap (λ (e : StoredEntry). e.seen.blob) same)
+
+pub may-purge : (v : View) (n i : ℕ) (s : StoredEntry) → v.root.config.mirror ≡ false → IsMessageAt v.entries n i → slice_get v.entries i ≡ Some s → MayPurge v n s.seen.blob
+may-purge v n i s writable at there =
+    let less : i < length v.entries = slice_get_within v.entries i s there in
+    let same : at.entry ≡ s = (let both : Some at.entry ≡ Some s = sym at.there ∙ there in cc) in
+    record {
+      writable = writable;
+      entry = s;
+      is_there = (i, less, only (get_or v.entries i s) s (sym (slice_get-get_or v.entries i s less) ∙ there));
+      kind = ap (λ (e : StoredEntry). e.seen.kind) (sym same) ∙ message_kind at.entry.seen.kind at.is_one;
+      number_is = ap (λ (e : StoredEntry). e.number) (sym same) ∙ at.number_is;
+      blob_is = refl;
+    }
+  where
+    message_kind : (k : EntryKind) → is_message k ≡ true → k ≡ Message
+    message_kind Message is = refl
+    message_kind Deletion is = absurd (cc)

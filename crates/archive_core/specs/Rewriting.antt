@@ -1,0 +1,150 @@
+-- Purges and edits of an archive on a disk.
+use Rattle.std.specs.Prelude.{◌≡◌, ◌+◌, ◌-◌, ◌<◌, ◌^◌, ℕ, Bool, false, List, [], Option, Some, None, Result, Ok, Err, OnOk, OnErr, IfOk}
+use Rattle.arch_base.specs.Counts.{RoseIf}
+use Rattle.arch_base.specs.declared.ids.Id20.{Id20}
+use Rattle.disk_model.specs.Disk.{Files, Content, WhereTold, LeavesOnly}
+use Rattle.disk_model.specs.Synced.{IsSettled}
+use Rattle.mail_reader.specs.declared.storing.StoredRefusal.{StoredRefusal}
+use Rattle.mail_reader.specs.declared.storing.StoredRefusal.TheVariants as storing
+use Rattle.git_objects.specs.Objects.{blob_id_of}
+use Rattle.arch_model.specs.Archives.{Archive, live, messages, text_of, with_entry, without_entries}
+use Rattle.arch_model.specs.Delivery.{collision, delivered, is_form, new_epoch, unless_refused}
+use Rattle.arch_model.specs.declared.answer.Answer.{Answer}
+use Rattle.arch_model.specs.declared.answer.Answer.TheVariants as answer
+use Rattle.arch_judge.specs.Indexes.{IsIndex}
+use Rattle.arch_judge.specs.declared.index.Index.{Index}
+use Rattle.arch_judge.specs.Judging.{IsForDelivery, MayBeKept}
+use Rattle.arch_judge.specs.declared.judging.Verdict.{Verdict}
+use Rattle.arch_judge.specs.declared.judging.Verdict.TheVariants.{Take, Compare, Refuse}
+use Rattle.epoch_file.specs.declared.refusal.StoreRefusal.{StoreRefusal}
+use Rattle.epoch_file.specs.declared.refusal.StoreRefusal.TheVariants as refusal
+use Rattle.epoch_store.specs.Planning.{PlansUndamaged}
+use Rattle.epoch_store.specs.Stores.{View, HasSizes, IsStoreWith, MayEdit, RecoversOneOf, Rewrites, UnlessFailed}
+use Rattle.archive_core.specs.Commands.{AnswersDelivery, DoneBy, IfUnreadEdit, IsAlone, IsLiveOf, JudgesRead, OnDone, OnRefusal, OnlyLooks, UnlessFault}
+
+-- The answers where there is no storage form to compare, or a text wasn't read.
+abbrev pub IsUnformed : Answer → Type 0
+IsUnformed answer.NoFields = Unit {0}
+IsUnformed (answer.TooLarge len) = Unit {0}
+IsUnformed answer.NoMemory = Unit {0}
+IsUnformed answer.DiskFault = Unit {0}
+IsUnformed (answer.Damaged file at) = Unit {0}
+IsUnformed other = ⊥
+
+-- Whether a storage form is the text of a live number. If there is none, why. Nothing is damaged.
+abbrev pub ComparesForm : Archive → ℕ → Result (List ℕ) StoredRefusal → Result Bool Answer → Type 0
+ComparesForm a number form (Ok same) = (text : List ℕ) → text_of (live a.entries) number ≡ Some text
+    → same ≡ is_form text form
+ComparesForm a number form (Err answer.NoFields) = form ≡ Err storing.NoFields
+ComparesForm a number form (Err (answer.TooLarge len)) = form ≡ Err (storing.TooLarge len)
+ComparesForm a number form (Err answer.NoMemory) = Unit {0}
+ComparesForm a number form (Err answer.DiskFault) = Unit {0}
+ComparesForm a number form (Err other) = ⊥
+
+-- The verdict on a delivery on the archive of an index is what the definition says of it, unless a read
+-- failed.
+abbrev pub JudgesEdit : {D : Type 0} → (D → Option Content) → D → View → Index → List ℕ → Verdict
+    → Type 0
+JudgesEdit content disk v index bytes verdict = (a : Archive) (cache text : List ℕ)
+    → IsStoreWith v cache a (content disk)
+    → IsIndex (without_entries a text).entries index
+    → JudgesRead (without_entries a text) bytes verdict × IsAlone (without_entries a text) verdict
+
+-- A text that is taken by another index may be kept, and none is still to be compared. A refusal is an
+-- answer to a delivery, or tells of a read that failed.
+abbrev pub TakesBy : View → Index → Verdict → Type 0
+TakesBy v index (Take text blob number) =
+    MayBeKept v.root.config index v.root.next text blob number
+TakesBy v index (Compare text blob number) = ⊥
+TakesBy v index (Refuse answer.DiskFault) = Unit {0}
+TakesBy v index (Refuse (answer.Damaged file at)) = Unit {0}
+TakesBy v index (Refuse reply) = IsForDelivery reply
+
+-- A refusal of a delivery whose form was found before, on an archive that takes deliveries. The other
+-- refusals, which never come then, are answered as if memory ran out.
+abbrev pub late_answer : Answer → Answer
+late_answer (answer.Duplicate number) = answer.Duplicate number
+late_answer (answer.Full max) = answer.Full max
+late_answer (answer.Collision number) = answer.Collision number
+late_answer answer.DiskFault = answer.DiskFault
+late_answer (answer.Damaged file at) = answer.Damaged file at
+late_answer other = answer.NoMemory
+
+-- A message may be kept in place of a text: an edit would be accepted, and this is its blob id.
+pub record MayReplace (v : View) (old : Id20) (text : List ℕ) (blob : Id20) : Type 0 where
+  pub number : ℕ
+  pub edit : MayEdit v number old text
+  pub blob_is : blob ≡ blob_id_of text
+
+-- What dropping the entries with a blob id promises, for each archive that the disk holds.
+pub record DropsAs {D : Type 0} (content : D → Option Content) (moment : D → ℕ)
+    (left_since : D → ℕ → Files → Type 0) (faults : D → ℕ) (old new : D) (before after : View)
+    (blob : Id20) (result : Result (Option ℕ) StoreRefusal) : Type 0 where
+  pub any_moment : (number : ℕ) (a : Archive) (cache text : List ℕ)
+      → IsStoreWith before cache a (content old) → before.root.sequence + 1 < 2 ^ 64
+      → text_of (messages a.entries) number ≡ Some text → blob_id_of text ≡ blob
+      → LeavesOnly moment left_since old new (RecoversOneOf cache a [] (without_entries a text))
+  pub done : (number : ℕ) (a : Archive) (cache text : List ℕ)
+      → IsStoreWith before cache a (content old) → before.root.sequence + 1 < 2 ^ 64
+      → text_of (messages a.entries) number ≡ Some text → blob_id_of text ≡ blob
+      → OnOk result (IsStoreWith after [] (without_entries a text) (content new))
+  pub lives : (number : ℕ) (a : Archive) (cache text : List ℕ)
+      → IsStoreWith before cache a (content old)
+      → text_of (messages a.entries) number ≡ Some text → blob_id_of text ≡ blob
+      → IfOk result (IsLiveOf (live a.entries) text)
+  pub settled : OnOk result (WhereTold IsSettled (content new))
+  pub sizes : OnOk result (WhereTold (HasSizes after) (content new))
+  pub goes_on : OnOk result (Rewrites before.root after.root)
+  pub slot : OnOk result (after.slot ≡ 1 - before.slot)
+  pub same : OnErr result (after ≡ before)
+  pub looks : UnlessFailed result (OnlyLooks content moment left_since old new)
+  pub undamaged : PlansUndamaged before result (content old)
+  pub cause : RoseIf (result ≡ Err refusal.DiskFault) (faults old) (faults new)
+
+-- What keeping a message in place of a text promises.
+pub record ReplacesAs {D : Type 0} (content : D → Option Content) (moment : D → ℕ)
+    (left_since : D → ℕ → Files → Type 0) (faults : D → ℕ) (old new : D) (before after : View)
+    (blob : Id20) (text : List ℕ) (arrived : ℕ) (result : Result Unit StoreRefusal) : Type 0 where
+  pub any_moment : (number : ℕ) (a : Archive) (cache gone : List ℕ)
+      → IsStoreWith before cache a (content old) → before.root.sequence + 1 < 2 ^ 64
+      → text_of (live a.entries) number ≡ Some gone → blob_id_of gone ≡ blob
+      → collision (without_entries a gone).entries text ≡ None
+      → LeavesOnly moment left_since old new (RecoversOneOf cache a []
+      (with_entry (without_entries a gone) (new_epoch (without_entries a gone)) text arrived))
+  pub done : (number : ℕ) (a : Archive) (cache gone : List ℕ)
+      → IsStoreWith before cache a (content old) → before.root.sequence + 1 < 2 ^ 64
+      → text_of (live a.entries) number ≡ Some gone → blob_id_of gone ≡ blob
+      → collision (without_entries a gone).entries text ≡ None
+      → OnOk result (IsStoreWith after [] (with_entry (without_entries a gone)
+      (new_epoch (without_entries a gone)) text arrived) (content new))
+  pub settled : OnOk result (WhereTold IsSettled (content new))
+  pub sizes : OnOk result (WhereTold (HasSizes after) (content new))
+  pub goes_on : OnOk result (Rewrites before.root after.root)
+  pub slot : OnOk result (after.slot ≡ 1 - before.slot)
+  pub same : OnErr result (after ≡ before)
+  pub looks : UnlessFailed result (OnlyLooks content moment left_since old new)
+  pub undamaged : PlansUndamaged before result (content old)
+  pub cause : RoseIf (result ≡ Err refusal.DiskFault) (faults old) (faults new)
+
+-- What a delivery in place of a text promises: the answer is that of the delivery on the archive
+-- without it, and a refusal leaves all as it was. Its answers come after the form was found.
+pub record EditsAs {D : Type 0} (content : D → Option Content) (moment : D → ℕ)
+    (left_since : D → ℕ → Files → Type 0) (faults : D → ℕ) (old new : D) (before after : View)
+    (number : ℕ) (bytes : List ℕ) (arrived : ℕ) (reply : Answer) : Type 0 where
+  pub any_moment : (a : Archive) (cache gone : List ℕ) → IsStoreWith before cache a (content old)
+      → before.root.sequence + 1 < 2 ^ 64 → text_of (live a.entries) number ≡ Some gone
+      → LeavesOnly moment left_since old new (RecoversOneOf cache a []
+      (unless_refused a (delivered (without_entries a gone) bytes arrived)).archive)
+  pub done : (a : Archive) (cache gone : List ℕ) → IsStoreWith before cache a (content old)
+      → before.root.sequence + 1 < 2 ^ 64 → text_of (live a.entries) number ≡ Some gone
+      → DoneBy after cache [] a (unless_refused a (delivered (without_entries a gone) bytes arrived))
+      reply (content new)
+  pub settled : OnDone reply (WhereTold IsSettled (content new))
+  pub goes_on : OnDone reply (Rewrites before.root after.root)
+  pub slot : OnDone reply (after.slot ≡ 1 - before.slot)
+  pub same : OnRefusal reply (after ≡ before)
+  pub untouched : OnRefusal reply (UnlessFault reply (OnlyLooks content moment left_since old new))
+  pub late : IfUnreadEdit reply ⊥
+  pub sizes : UnlessFault reply (WhereTold (HasSizes after) (content new))
+  pub cause : RoseIf (reply ≡ answer.DiskFault) (faults old) (faults new)
+  pub for_command : AnswersDelivery reply

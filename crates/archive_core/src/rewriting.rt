@@ -1,0 +1,346 @@
+//! Purges and edits of an archive on a disk.
+ghost use Rattle.std.specs.Prelude.{Some, None, ◌≡◌, ◌≤◌, ◌<◌, ◌+◌, ◌-◌, ◌^◌, ℕ, [], Err, IfErr, List};
+ghost use Rattle.arch_base.specs.Counts.{RoseIf};
+ghost use Rattle.arch_base.specs.Moments.{last_moment};
+ghost use Rattle.disk_model.specs.Disk.{WhereTold, LeavesOnly};
+ghost use Rattle.disk_model.specs.Synced.{IsSettled};
+ghost use Rattle.mail_reader.specs.Stored.{stored as stored_of};
+ghost use Rattle.arch_model.specs.Archives.{Archive, live, text_of, without_entries};
+ghost use Rattle.arch_model.specs.Delivery.{delivered, edited, purged, unless_refused};
+ghost use Rattle.epoch_store.specs.Stores.{HasSizes, IsStoreWith, MayPurge, RecoversOneOf, Rewrites, without_blob};
+ghost use Rattle.archive_core.specs.Commands.{AnswersEdit, IsFaultRead, AnswersPurge, DoneBy, IfUnread, IfUnreadEdit, IsGone, KeepsText, KeepsTextFor, OnDone, OnRefusal, OnlyLooks, TellsText, UnlessFault};
+ghost use Rattle.archive_core.specs.Numbers.{IsLiveAt};
+ghost use Rattle.archive_core.specs.Kept.{IndexesKept};
+ghost use Rattle.archive_core.specs.Rewriting.{ComparesForm, DropsAs, EditsAs, IsUnformed, JudgesEdit, MayReplace, ReplacesAs, TakesBy, late_answer};
+ghost use Rattle.arch_model.specs.declared.command.Command.TheVariants as command;
+
+use crate::archive::{DiskArchive, answer_of};
+use crate::entries::index_without;
+use crate::placing::{MessagePlace, count_without, live_with, may_follow, places_without};
+use crate::texts::put_text;
+use arch_base::{Bytes, ObjectId};
+use arch_judge::{Index, Verdict, compared, judge};
+use arch_model::Answer;
+use disk_model::Disk;
+use epoch_file::StoreRefusal;
+use epoch_store::law_of_stores;
+use git_objects::blob_id;
+use mail_reader::{StoredRefusal, stored};
+
+impl DiskArchive {
+    /// Drops each entry with the text of a number, or refuses. `gone` is left with the live number that
+    /// had the text, if there is one.
+    pub(crate) fn purge<D: Disk>(
+        &mut self,
+        disk: &mut D,
+        number: u32,
+        gone: &mut Option<u32>,
+    ) -> Answer
+        requires none { gone.old ≡ None }
+        requires sizes { WhereTold (HasSizes self.old) (D.content disk.old) }
+        ensures any_moment { (a : Archive) (cache : List ℕ)
+            → IsStoreWith self.old cache a (D.content disk.old)
+            → self.old.root.sequence + 1 < 2 ^ 64
+            → LeavesOnly D.moment D.left_since disk.old disk.new
+            (RecoversOneOf cache a [] (purged a number).archive) }
+        ensures done { (a : Archive) (cache : List ℕ)
+            → IsStoreWith self.old cache a (D.content disk.old)
+            → self.old.root.sequence + 1 < 2 ^ 64
+            → DoneBy self.new cache [] a (purged a number) result (D.content disk.new) }
+        ensures settled { OnDone result (WhereTold IsSettled (D.content disk.new)) }
+        ensures goes_on { OnDone result (Rewrites self.old.root self.new.root) }
+        ensures slot { OnDone result (self.new.slot ≡ 1 - self.old.slot) }
+        ensures same { OnRefusal result (self.new ≡ self.old) }
+        ensures untouched { OnRefusal result (UnlessFault result (OnlyLooks D.content D.moment
+            D.left_since disk.old disk.new)) }
+        ensures unmoved { IfUnread result (disk.new ≡ disk.old) }
+        ensures sizes { UnlessFault result (WhereTold (HasSizes self.new) (D.content disk.new)) }
+        ensures cause { RoseIf (result ≡ Answer.DiskFault) (D.faults disk.old) (D.faults disk.new) }
+        ensures for_command { AnswersPurge number result }
+        ensures gone { (a : Archive) (cache : List ℕ)
+            → IsStoreWith self.old cache a (D.content disk.old)
+            → OnDone result (IsGone a (command.Purge number) gone.new) }
+        ensures fewest { D.reads disk.old ≤ D.reads disk.new }
+    {
+        law_of_stores();
+        if self.config().mirror {
+            return Answer::IsMirror;
+        }
+        let Some(index) = self.message_index(number) else {
+            return Answer::NoText(number);
+        };
+        let blob = self.store.stored()[index as usize].seen.blob;
+        match self.drop_text(disk, &blob) {
+            Ok(live) => {
+                *gone = live;
+                Answer::Ok { number, id: blob }
+            }
+            Err(refusal) => answer_of(&refusal),
+        }
+    }
+
+    /// Drops each entry with the blob id of a message. Returns the live number that had it, if there is
+    /// one.
+    ///
+    /// What is kept in memory is made before the first write. An error leaves it unchanged.
+    fn drop_text<D: Disk>(
+        &mut self,
+        disk: &mut D,
+        blob: &ObjectId,
+    ) -> Result<Option<u32>, StoreRefusal>
+        requires may { (number : ℕ) × MayPurge self.old number blob.now }
+        requires sizes { WhereTold (HasSizes self.old) (D.content disk.old) }
+        ensures drops { DropsAs D.content D.moment D.left_since D.faults disk.old disk.new self.old
+            self.new blob.now result }
+        ensures fewest { D.reads disk.old ≤ D.reads disk.new }
+    {
+        law_of_stores();
+        let Ok(index) = index_without(self.alloc, self.store.stored(), blob) else {
+            return Err(StoreRefusal::NoMemory);
+        };
+        let Ok(places) = places_without(self.alloc, self.store.stored(), blob) else {
+            return Err(StoreRefusal::NoMemory);
+        };
+        let live = live_with(self.places.as_slice(), self.store.stored(), blob);
+        match self.store.purge_text(self.alloc, disk, blob) {
+            Ok(()) => {
+                self.index = index;
+                self.places = places;
+                Ok(live)
+            }
+            Err(refusal) => Err(refusal),
+        }
+    }
+
+    /// Purges a live number and delivers a message in one step, or refuses. `kept` is left with the text
+    /// that was kept, and `gone` with the number.
+    pub(crate) fn edit<D: Disk>(
+        &mut self,
+        disk: &mut D,
+        number: u32,
+        bytes: &[u8],
+        moment: u64,
+        kept: &mut Bytes,
+        gone: &mut Option<u32>,
+    ) -> Answer
+        requires none { gone.old ≡ None }
+        requires moment { moment ≤ last_moment }
+        requires sizes { WhereTold (HasSizes self.old) (D.content disk.old) }
+        ensures any_moment { (a : Archive) (cache : List ℕ)
+            → IsStoreWith self.old cache a (D.content disk.old)
+            → self.old.root.sequence + 1 < 2 ^ 64
+            → LeavesOnly D.moment D.left_since disk.old disk.new
+            (RecoversOneOf cache a [] (edited a number bytes.now moment).archive) }
+        ensures done { (a : Archive) (cache : List ℕ)
+            → IsStoreWith self.old cache a (D.content disk.old)
+            → self.old.root.sequence + 1 < 2 ^ 64
+            → DoneBy self.new cache [] a (edited a number bytes.now moment) result
+            (D.content disk.new) }
+        ensures settled { OnDone result (WhereTold IsSettled (D.content disk.new)) }
+        ensures goes_on { OnDone result (Rewrites self.old.root self.new.root) }
+        ensures slot { OnDone result (self.new.slot ≡ 1 - self.old.slot) }
+        ensures same { OnRefusal result (self.new ≡ self.old) }
+        ensures untouched { OnRefusal result (UnlessFault result (OnlyLooks D.content D.moment
+            D.left_since disk.old disk.new)) }
+        ensures unmoved { IfUnreadEdit result (disk.new ≡ disk.old) }
+        ensures sizes { UnlessFault result (WhereTold (HasSizes self.new) (D.content disk.new)) }
+        ensures cause { RoseIf (result ≡ Answer.DiskFault) (D.faults disk.old) (D.faults disk.new) }
+        ensures for_command { AnswersEdit number result }
+        ensures text { TellsText result kept.new }
+        ensures kept { (a : Archive) (cache : List ℕ)
+            → IsStoreWith self.old cache a (D.content disk.old)
+            → OnDone result (KeepsTextFor (command.Edit number bytes.entry) a
+            (edited a number bytes.now moment) moment kept.new) }
+        ensures gone { OnDone result (gone.new ≡ Some number) }
+        ensures fewest { D.reads disk.old ≤ D.reads disk.new }
+    {
+        law_of_stores();
+        if self.config().mirror {
+            return Answer::IsMirror;
+        }
+        let Some(index) = self.live_index(number) else {
+            return Answer::NotLive(number);
+        };
+        match self.is_same(disk, number, index, bytes) {
+            Err(answer) => answer,
+            Ok(true) => Answer::Duplicate(number),
+            Ok(false) => {
+                let blob = self.store.stored()[index as usize].seen.blob;
+                self.replace(disk, number, &blob, bytes, moment, kept, gone)
+            }
+        }
+    }
+
+    /// Returns whether the storage form of bytes is the text of a live number, which has this index, or
+    /// the answer if there is no such form or the text wasn't read.
+    ///
+    /// The text is read only if it has the blob id of the form.
+    fn is_same<D: Disk>(
+        &self,
+        disk: &mut D,
+        number: u32,
+        index: u64,
+        bytes: &[u8],
+    ) -> Result<bool, Answer>
+        requires live { IsLiveAt self.now.entries number index }
+        ensures compared { (a : Archive) (cache : List ℕ)
+            → IsStoreWith self.now cache a (D.content disk.old)
+            → ComparesForm a number (stored_of bytes.now) result }
+        ensures refused { IfErr result IsUnformed }
+        ensures looks { OnlyLooks D.content D.moment D.left_since disk.old disk.new }
+        ensures unmoved { IfErr result (λ reply. IfUnread reply (disk.new ≡ disk.old)) }
+        ensures cause { RoseIf (result ≡ Err Answer.DiskFault) (D.faults disk.old) (D.faults disk.new) }
+        ensures fewest { D.reads disk.old ≤ D.reads disk.new }
+    {
+        let form = match stored(self.alloc, bytes) {
+            Err(StoredRefusal::NoFields) => return Err(Answer::NoFields),
+            Err(StoredRefusal::TooLarge(len)) => return Err(Answer::TooLarge(len)),
+            Err(StoredRefusal::NoMemory) => return Err(Answer::NoMemory),
+            Ok(form) => form,
+        };
+        if blob_id(form.as_slice()) != self.store.stored()[index as usize].seen.blob {
+            return Ok(false);
+        }
+        let mut text = Bytes::new(self.alloc);
+        match self.store.text(disk, index, &mut text) {
+            Ok(()) => Ok(form.as_slice() == text.as_slice()),
+            Err(refusal) => Err(self.unread(index, &refusal)),
+        }
+    }
+
+    /// Delivers a message on the archive without the entries with a blob id, in one step, or refuses.
+    fn replace<D: Disk>(
+        &mut self,
+        disk: &mut D,
+        number: u32,
+        blob: &ObjectId,
+        bytes: &[u8],
+        moment: u64,
+        kept: &mut Bytes,
+        gone: &mut Option<u32>,
+    ) -> Answer
+        requires may { MayPurge self.old number blob.now }
+        requires moment { moment ≤ last_moment }
+        requires sizes { WhereTold (HasSizes self.old) (D.content disk.old) }
+        ensures edits { EditsAs D.content D.moment D.left_since D.faults disk.old disk.new self.old
+            self.new number bytes.now moment result }
+        ensures text { TellsText result kept.new }
+        ensures kept { (a : Archive) (cache gone : List ℕ)
+            → IsStoreWith self.old cache a (D.content disk.old)
+            → text_of (live a.entries) number ≡ Some gone
+            → OnDone result (KeepsText (without_entries a gone)
+            (unless_refused a (delivered (without_entries a gone) bytes.now moment)) moment kept.new) }
+        ensures gone { OnDone result (gone.new ≡ Some number) }
+        ensures fewest { D.reads disk.old ≤ D.reads disk.new }
+    {
+        law_of_stores();
+        let Ok(index) = index_without(self.alloc, self.store.stored(), blob) else {
+            return Answer::NoMemory;
+        };
+        match self.verdict_on(disk, &index, bytes) {
+            Verdict::Refuse(answer) => late_refusal(answer),
+            // The texts were compared before.
+            Verdict::Compare { .. } => Answer::NoMemory,
+            Verdict::Take {
+                text,
+                blob: id,
+                number: new,
+            } => match self.keep_instead(disk, blob, index, text.as_slice(), id, moment) {
+                Ok(()) => {
+                    *kept = text;
+                    *gone = Some(number);
+                    Answer::Ok { number: new, id }
+                }
+                Err(refusal) => answer_of(&refusal),
+            },
+        }
+    }
+
+    /// Returns the verdict on the delivery of a message on the archive of another index, which is that
+    /// of some of its entries. Texts are compared.
+    fn verdict_on<D: Disk>(&self, disk: &mut D, index: &Index, bytes: &[u8]) -> Verdict
+        ensures judged { JudgesEdit D.content disk.old self.now index.now bytes.now result }
+        // For any index: a text that is taken may be kept.
+        ensures taken { TakesBy self.now index.now result }
+        ensures looks { OnlyLooks D.content D.moment D.left_since disk.old disk.new }
+        ensures cause { RoseIf (IsFaultRead result) (D.faults disk.old) (D.faults disk.new) }
+        ensures fewest { D.reads disk.old ≤ D.reads disk.new }
+    {
+        let count = self.store.stored().len();
+        let next = self.store.next_number();
+        let config = self.store.config();
+        match judge(self.alloc, config, index, count, next, bytes) {
+            Verdict::Refuse(answer) => Verdict::Refuse(answer),
+            Verdict::Take { text, blob, number } => Verdict::Take { text, blob, number },
+            Verdict::Compare { text, blob, number } => match self.message_text(disk, number) {
+                Ok(kept) => compared(config, next, text, blob, number, kept.as_slice()),
+                Err(answer) => Verdict::Refuse(answer),
+            },
+        }
+    }
+
+    /// Drops each entry with a blob id and appends a message in one step: its text takes the next
+    /// number. `index` is that of the entries that stay.
+    ///
+    /// What is kept in memory is made before the first write. An error leaves it unchanged.
+    fn keep_instead<D: Disk>(
+        &mut self,
+        disk: &mut D,
+        old: &ObjectId,
+        index: Index,
+        text: &[u8],
+        blob: ObjectId,
+        moment: u64,
+    ) -> Result<(), StoreRefusal>
+        requires may { MayReplace self.old old.now text.now blob }
+        requires index { IndexesKept (without_blob self.old.entries old.now.0) index }
+        requires moment { moment ≤ last_moment }
+        requires sizes { WhereTold (HasSizes self.old) (D.content disk.old) }
+        ensures keeps { ReplacesAs D.content D.moment D.left_since D.faults disk.old disk.new self.old
+            self.new old.now text.now moment result }
+        ensures fewest { D.reads disk.old ≤ D.reads disk.new }
+    {
+        law_of_stores();
+        let new = self.store.next_number();
+        let mut index = index;
+        let Ok(()) = put_text(self.alloc, &mut index, text, blob, new) else {
+            return Err(StoreRefusal::NoMemory);
+        };
+        let Ok(mut places) = places_without(self.alloc, self.store.stored(), old) else {
+            return Err(StoreRefusal::NoMemory);
+        };
+        // The next number of an archive is above those of its messages.
+        if !may_follow(places.as_slice(), new) {
+            return Err(StoreRefusal::NoMemory);
+        }
+        let entry = count_without(self.store.stored(), old);
+        let Ok(()) = places.push(MessagePlace {
+            number: new,
+            entry,
+            live: true,
+        }) else {
+            return Err(StoreRefusal::NoMemory);
+        };
+        match self.store.edit_text(self.alloc, disk, old, text, moment) {
+            Ok(()) => {
+                self.index = index;
+                self.places = places;
+                Ok(())
+            }
+            Err(refusal) => Err(refusal),
+        }
+    }
+}
+
+/// Returns a refusal of a delivery whose form was found before, on an archive that takes deliveries.
+///
+/// The other refusals, which never come then, are answered as if memory ran out.
+fn late_refusal(answer: Answer) -> Answer
+    ensures { result ≡ late_answer answer }
+{
+    match answer {
+        Answer::Duplicate(_) | Answer::Full(_) | Answer::Collision(_) => answer,
+        Answer::DiskFault | Answer::Damaged { .. } => answer,
+        _never => Answer::NoMemory,
+    }
+}
