@@ -1,5 +1,5 @@
 -- What the calls of a keeper mean at the control door.
-use Rattle.std.proofs.Common.{◌≡◌, ◌≤◌, ℕ, Bool, true, false, List, [], ◌++◌, drop, Option, Some, None, is_some, is_ok, OnOk, Result, Ok, Err, refl, sym, subst, arith, if◌then◌else◌}
+use Rattle.std.proofs.Common.{◌≡◌, ◌≤◌, ℕ, Bool, true, false, List, [], ◌++◌, length, drop, Option, Some, None, is_some, is_ok, OnOk, Result, Ok, Err, refl, sym, ap, ◌∙◌, subst, arith, if◌then◌else◌}
 use Rattle.std.specs.List.{Contains}
 use Rattle.line_door.specs.Acts.{Outside, Plain, Memory, Disk, Acts, held_if}
 use Rattle.line_door.specs.Making.{closes}
@@ -8,21 +8,24 @@ use Rattle.edge_io.specs.declared.sink.SinkFault.{SinkFault}
 use Rattle.line_door.proofs.Acting.{acts-by_held, acts-closing, acts-silent}
 use Rattle.arch_model.specs.Archives.{Archive, live, text_of}
 use Rattle.arch_model.specs.Delivery.{applied, answer_line}
-use Rattle.arch_model.specs.Keeping.{Moves, OnlyRead, Comes, AnswerCause}
+use Rattle.arch_model.specs.Keeping.{Moves, OnlyRead, Comes, AnswerCause, Settles, StaysShut, OpeningWhy}
 use Rattle.arch_model.specs.Shelves.{IsUndamaged, ReadingWhy}
 use Rattle.arch_model.specs.Standing.{Standing, standing}
 use Rattle.arch_model.specs.declared.command.Command.{Command}
-use Rattle.arch_model.specs.declared.command.Command.TheVariants.{Deliver, Remove}
+use Rattle.arch_model.specs.declared.command.Command.TheVariants.{Deliver, Remove, Purge, Edit}
 use Rattle.arch_model.specs.declared.answer.Answer.{Answer}
+use Rattle.arch_model.specs.declared.opening.OpenRefusal.{OpenRefusal}
+use Rattle.arch_model.specs.declared.opening.OpenRefusal.TheVariants as opening
 use Rattle.arch_model.specs.declared.text_refusal.TextRefusal.{TextRefusal}
 use Rattle.arch_model.specs.declared.text_refusal.TextRefusal.TheVariants as reading
-use Rattle.arch_model.proofs.Keepers.{settled-is, moves-same, moves-read, fits-held}
+use Rattle.arch_model.proofs.Keepers.{settled-is, reopens-sure, moves-same, moves-read, fits-held}
 use Rattle.keep_course.proofs.Commands.{commanded}
-use Rattle.answer_lines.specs.Lines.{whole_line, memory_word, disk_word, unread_words}
-use Rattle.control_door.specs.Requests as requests
-use Rattle.control_door.specs.Requests.{Request, Shows, Threads, Lists, Quits, Mistakes, Exceeds, Asked, ahead}
-use Rattle.control_door.specs.Door.{waiting, said_to, goes_on, carries_out, doubts, answered, refused_memory, refused_disk, epochs_words, shown, threaded, bad_word}
-use Rattle.control_door.specs.Sessions.{request_for, IsTurn, Answers, Opens, Turns}
+use Rattle.answer_lines.specs.Lines.{whole_line, memory_word, disk_word, unread_words, unopened_words}
+use Rattle.control_door.specs.Requests.{Request, Shows, Threads, Lists, Reindexes, Quits, Mistakes, Exceeds, Asked, ahead}
+use Rattle.control_door.specs.Door.{waiting, said_to, goes_on, carries_out, doubts, answered, refused_memory, refused_disk, epochs_words, shown, threaded, reindexed_words, bad_word}
+use Rattle.control_door.specs.Sessions.{request_for, request_with, IsTurn, Answers, Opens, Turns}
+use Rattle.control_door.specs.declared.front.Aim.{Aim}
+use Rattle.control_door.specs.declared.front.Aim.TheVariants.{New, InPlaceOf}
 use Rattle.control_door.specs.declared.session.Turn.{Turn}
 use Rattle.control_door.specs.declared.session.Turn.TheVariants.{Opened, Went, Closed}
 use Rattle.control_door.proofs.Holding.{turn-went, turn-opened}
@@ -102,23 +105,53 @@ pub acts-quitting : (moment : ℕ) (s : Standing) (rest : List ℕ) (i : Outside
 acts-quitting moment s rest i = acts-silent (said_to moment s Quits rest) (closes s []) i i None s refl refl refl refl refl refl refl
 
 -- Out of memory for a message.
-pub acts-refusing : (moment : ℕ) (s : Standing) (message rest : List ℕ) (i j : Outside) (sent : Result Unit SinkFault) → j.disk ≡ i.disk → Says memory_word i.out i.lost j.out j.lost sent
-    → Acts (said_to moment s (requests.Delivers message) rest) i (held_if (is_ok sent) (waiting rest false)) s j
-acts-refusing moment s message rest i j sent same words =
-    acts-by_held (said_to moment s (requests.Delivers message) rest) Memory (goes_on rest memory_word s) i j (waiting rest false) s sent refl refl same (omega (arith, same)) words refl
+memory-with : (moment : ℕ) (s : Standing) (aim : Aim) (message rest : List ℕ) → refused_memory moment s (request_with aim message) rest ≡ goes_on rest memory_word s
+memory-with moment s New message rest = refl
+memory-with moment s (InPlaceOf number) message rest = refl
+
+pub acts-refusing : (moment : ℕ) (s : Standing) (aim : Aim) (message rest : List ℕ) (i j : Outside) (sent : Result Unit SinkFault) → j.disk ≡ i.disk → Says memory_word i.out i.lost j.out j.lost sent
+    → Acts (said_to moment s (request_with aim message) rest) i (held_if (is_ok sent) (waiting rest false)) s j
+acts-refusing moment s aim message rest i j sent same words =
+    acts-by_held (said_to moment s (request_with aim message) rest) Memory (goes_on rest memory_word s) i j (waiting rest false) s sent (memory-with moment s aim message rest) refl same (omega (arith, same)) words refl
+
+-- The archive was reindexed.
+pub acts-reindexed : (moment : ℕ) (a : Archive) (rest : List ℕ) (t : Standing) (count : ℕ) (i j : Outside) (sent : Result Unit SinkFault) → Settles (standing a None) t → count ≡ length (live t.archive.entries) → j.disk ≡ i.disk
+    → Says (reindexed_words count) i.out i.lost j.out j.lost sent → Acts (said_to moment (standing a None) Reindexes rest) i (held_if (is_ok sent) (waiting rest false)) t j
+acts-reindexed moment a rest t count i j sent settles counts kept words =
+    let s : Standing = standing a None in
+    let same : t ≡ s = reopens-sure a t (Ok count) settles in
+    let live_in : count ≡ length (live a.entries) = counts ∙ ap (λ (x : Standing). length (live x.archive.entries)) same in
+    acts-by_held (said_to moment s Reindexes rest) Plain (goes_on rest (reindexed_words (length (live a.entries))) s) i j (waiting rest false) t sent refl refl kept (omega (arith, kept))
+    (subst (λ (n : ℕ). Says (reindexed_words n) i.out i.lost j.out j.lost sent) live_in words) same
+
+-- A reindexing was refused.
+pub acts-unindexed : (moment : ℕ) (a : Archive) (rest : List ℕ) (t : Standing) (why : OpenRefusal) (i j : Outside) (sent : Result Unit SinkFault) → StaysShut (standing a None) why t → OpeningWhy i.disk j.disk why → i.disk ≤ j.disk
+    → Says (unopened_words why) i.out i.lost j.out j.lost sent → Acts (said_to moment (standing a None) Reindexes rest) i (held_if (is_ok sent) (waiting rest false)) t j
+acts-unindexed moment a rest t opening.DiskFault i j sent same cause later words =
+    acts-by_held (said_to moment (standing a None) Reindexes rest) Disk (goes_on rest disk_word (standing a None)) i j (waiting rest false) t sent refl refl cause later words same
+acts-unindexed moment a rest t opening.NoMemory i j sent same cause later words =
+    acts-by_held (said_to moment (standing a None) Reindexes rest) Memory (goes_on rest memory_word (standing a None)) i j (waiting rest false) t sent refl refl cause later words same
+acts-unindexed moment a rest t opening.NoArchive i j sent never cause later words = absurd never
+acts-unindexed moment a rest t (opening.Damaged file at) i j sent never cause later words = absurd never
 
 -- What is said to the request for a command.
 command-plain : (moment : ℕ) (s : Standing) (command : Command) (rest : List ℕ) → answered moment s (request_for command) rest ≡ carries_out (applied s.archive command moment) rest
 command-plain moment s (Deliver bytes) rest = refl
 command-plain moment s (Remove number) rest = refl
+command-plain moment s (Purge number) rest = refl
+command-plain moment s (Edit number bytes) rest = refl
 
 command-memory : (moment : ℕ) (s : Standing) (command : Command) (rest : List ℕ) → refused_memory moment s (request_for command) rest ≡ goes_on rest memory_word s
 command-memory moment s (Deliver bytes) rest = refl
 command-memory moment s (Remove number) rest = refl
+command-memory moment s (Purge number) rest = refl
+command-memory moment s (Edit number bytes) rest = refl
 
 command-disk : (moment : ℕ) (s : Standing) (command : Command) (rest : List ℕ) → refused_disk moment s (request_for command) rest ≡ doubts s (applied s.archive command moment) rest
 command-disk moment s (Deliver bytes) rest = refl
 command-disk moment s (Remove number) rest = refl
+command-disk moment s (Purge number) rest = refl
+command-disk moment s (Edit number bytes) rest = refl
 
 -- A command was answered, and the line of the answer was said.
 pub acts-commanded : (moment : ℕ) (a : Archive) (command : Command) (rest : List ℕ) (t : Standing) (reply : Answer) (i j : Outside) (sent : Result Unit SinkFault) → Comes true (standing a None) (λ (b : Archive). applied b command moment) reply t → AnswerCause i.disk j.disk reply → i.disk ≤ j.disk

@@ -8,7 +8,7 @@ use Rattle.line_door.proofs.Acting.{acts-words}
 use Rattle.line_door.proofs.Cutting.{calls, door_laws}
 use Rattle.arch_model.specs.Archives.{Archive}
 use Rattle.arch_model.specs.Standing.{Standing, standing}
-use Rattle.control_door.specs.Requests.{Request, Delivers, Shows, Removes, Threads, Lists, Quits, Mistakes, Exceeds, Ahead, Asked, Unfinished, ahead, is_asked}
+use Rattle.control_door.specs.Requests.{Request, Delivers, Shows, Removes, Purges, Edits, Threads, Lists, Reindexes, Quits, Mistakes, Exceeds, Ahead, Asked, Unfinished, ahead, is_asked}
 use Rattle.control_door.specs.Door.{Waiting, waiting, said, said_at, said_to, said_opening, answered, refused_memory, refused_disk, unkept, has_request, with_piece, left}
 use Rattle.control_door.specs.Laws.{ControlLaws, OpeningIsSilent, OpeningJoins, TwoCalls, SaysTheSame, bytes_of}
 use Rattle.control_door.proofs.Aheads.{Goes, Same, Over, Open, ahead-goes, ahead-shorter, unfinished}
@@ -22,8 +22,11 @@ answered_after : (moment : ℕ) (s : Standing) (q rest : List ℕ) (request : Re
 answered_after moment s q rest (Delivers message) = refl
 answered_after moment s q rest (Shows number) = refl
 answered_after moment s q rest (Removes number) = refl
+answered_after moment s q rest (Purges number) = refl
+answered_after moment s q rest (Edits number message) = refl
 answered_after moment s q rest (Threads number) = refl
 answered_after moment s q rest Lists = refl
+answered_after moment s q rest Reindexes = refl
 answered_after moment s q rest Quits = refl
 answered_after moment s q rest Mistakes = refl
 answered_after moment s q rest Exceeds = refl
@@ -32,8 +35,11 @@ memory_after : (moment : ℕ) (s : Standing) (q rest : List ℕ) (request : Requ
 memory_after moment s q rest (Delivers message) = refl
 memory_after moment s q rest (Shows number) = refl
 memory_after moment s q rest (Removes number) = refl
+memory_after moment s q rest (Purges number) = refl
+memory_after moment s q rest (Edits number message) = refl
 memory_after moment s q rest (Threads number) = refl
 memory_after moment s q rest Lists = refl
+memory_after moment s q rest Reindexes = refl
 memory_after moment s q rest Quits = refl
 memory_after moment s q rest Mistakes = refl
 memory_after moment s q rest Exceeds = refl
@@ -42,8 +48,11 @@ disk_after : (moment : ℕ) (s : Standing) (q rest : List ℕ) (request : Reques
 disk_after moment s q rest (Delivers message) = refl
 disk_after moment s q rest (Shows number) = refl
 disk_after moment s q rest (Removes number) = refl
+disk_after moment s q rest (Purges number) = refl
+disk_after moment s q rest (Edits number message) = refl
 disk_after moment s q rest (Threads number) = refl
 disk_after moment s q rest Lists = refl
+disk_after moment s q rest Reindexes = refl
 disk_after moment s q rest Quits = refl
 disk_after moment s q rest Mistakes = refl
 disk_after moment s q rest Exceeds = refl
@@ -91,8 +100,11 @@ left_open : (moment : ℕ) (s : Standing) (request : Request) (rest : List ℕ) 
 left_open moment s (Delivers message) rest k h = (cc, λ e. cc)
 left_open moment s (Shows number) rest k h = (cc, λ e. cc)
 left_open moment s (Removes number) rest k h = (cc, λ e. cc)
+left_open moment s (Purges number) rest k h = (cc, λ e. cc)
+left_open moment s (Edits number message) rest k h = (cc, λ e. cc)
 left_open moment s (Threads number) rest k h = (cc, λ e. cc)
 left_open moment s Lists rest k h = (cc, λ e. cc)
+left_open moment s Reindexes rest k h = (cc, λ e. cc)
 left_open moment s Quits rest k h = absurd (cc h)
 left_open moment s Mistakes rest k h = (cc, λ e. cc)
 left_open moment s Exceeds rest k h = absurd (cc h)

@@ -1,7 +1,7 @@
 -- What a session holds is the beginning of a request, and the acts of the code are acts of a
 -- session.
 use Rattle.std.proofs.Common.{◌≡◌, ◌+◌, ◌-◌, ◌<◌, ◌≤◌, ℕ, Bool, true, false, List, [], ◌∷◌, ◌++◌, length, take, drop, Option, Some, None, Result, refl, sym, ◌∙◌, ap, subst, arith, if◌then◌else◌, length-append, append_assoc}
-use Rattle.std.proofs.lemmas.List.{append-nil}
+use Rattle.std.proofs.lemmas.List.{append-nil, drop-drop}
 use Rattle.std.proofs.Math.Seq.{take-append-add, drop-append-add}
 use Rattle.line_door.specs.Lines as line
 use Rattle.line_door.specs.Acts.{Outside, Memory, Acts, held_if}
@@ -13,35 +13,40 @@ use Rattle.line_door.proofs.Acting.{acts-closing, acts-silent, acts-words}
 use Rattle.line_door.proofs.Fronts.{front-joined, front-goes_on}
 use Rattle.arch_model.specs.Standing.{Standing}
 use Rattle.control_door.specs.declared.order.Order.{Order}
-use Rattle.control_door.specs.declared.order.Order.TheVariants.{Deliver}
 use Rattle.control_door.specs.declared.front.Payload.{Payload}
 use Rattle.control_door.specs.declared.session.Turn.TheVariants.{Opened, Went, Closed}
 use Rattle.control_door.specs.Orders.{order_of}
 use Rattle.answer_lines.specs.Lines.{memory_word}
-use Rattle.control_door.specs.Requests as requests
 use Rattle.control_door.specs.Requests.{Request, Ahead, Asked, Unfinished, asked_by, ahead, is_asked, is_request, line_limit}
 use Rattle.control_door.specs.Door.{Waiting, waiting, said, said_to, said_at, said_opening, unkept}
-use Rattle.control_door.specs.Sessions.{IsHeld, IsPayload, IsTurn}
+use Rattle.control_door.specs.Sessions.{IsHeld, IsPayload, IsTurn, order_with, request_with}
+use Rattle.control_door.specs.declared.front.Aim.{Aim}
 use Rattle.control_door.proofs.Aheads.{asked_by-whole, asked_by-part}
 
 -- The front of a line and the bytes after it.
 pub ahead-line : (bytes text rest : List ℕ) (order : Order) → line.front line_limit bytes ≡ line.Whole text rest → order_of (line.content text) ≡ order → ahead bytes ≡ asked_by order rest
 ahead-line bytes text rest order f o = rw f (ap (λ (x : Order). asked_by x rest) o)
 
+-- A line and the message after it make a whole request.
+pub message-whole : (bytes text piece : List ℕ) (aim : Aim) (size n : ℕ) → line.front line_limit bytes ≡ line.Whole text (drop n piece) → order_of (line.content text) ≡ order_with aim size → size ≤ length (drop n piece)
+    → ahead bytes ≡ Asked (request_with aim (take size (drop n piece))) (drop (n + size) piece)
+message-whole bytes text piece aim size n f o fits =
+    ahead-line bytes text (drop n piece) (order_with aim size) f o ∙ asked_by-whole aim size (drop n piece) fits ∙ ap (Asked (request_with aim (take size (drop n piece)))) (drop-drop size n piece)
+
 -- The lengths of a line and of the bytes after it.
 line-length : (bytes text rest : List ℕ) → line.front line_limit bytes ≡ line.Whole text rest → length bytes ≡ length text + 1 + length rest
 line-length bytes text rest f = let e = ap length (front-joined line_limit bytes text rest f) in omega (arith, e, length-append text (10 ∷ rest))
 
 -- The beginning of a delivery is no whole request.
-payload-unfinished : (bytes : List ℕ) (start end : ℕ) → IsPayload bytes start end → ahead bytes ≡ Unfinished
-payload-unfinished bytes start end h =
-    ahead-line bytes h.text h.rest (Deliver h.size) h.front h.order
-    ∙ asked_by-part h.size h.rest (omega (arith, line-length bytes h.text h.rest h.front, h.starts, h.ends, h.missing))
+payload-unfinished : (bytes : List ℕ) (aim : Aim) (start end : ℕ) → IsPayload bytes aim start end → ahead bytes ≡ Unfinished
+payload-unfinished bytes aim start end h =
+    ahead-line bytes h.text h.rest (order_with aim h.size) h.front h.order
+    ∙ asked_by-part aim h.size h.rest (omega (arith, line-length bytes h.text h.rest h.front, h.starts, h.ends, h.missing))
 
 -- Nothing that is held is a whole request.
 pub held-unfinished : (bytes : List ℕ) (payload : Option Payload) → IsHeld bytes payload → ahead bytes ≡ Unfinished
 held-unfinished bytes None h = rw h refl
-held-unfinished bytes (Some payload) h = payload-unfinished bytes payload.start payload.end h
+held-unfinished bytes (Some payload) h = payload-unfinished bytes payload.aim payload.start payload.end h
 
 -- The beginning of a request is kept.
 pub keeps : (moment : ℕ) (opened : Bool) (s : Standing) (bytes : List ℕ) (payload : Option Payload) (i : Outside) → IsHeld bytes payload → (is_request bytes ≡ false) × (i.disk ≡ i.disk) × Acts (said moment s (waiting bytes opened)) i (Some (waiting bytes opened)) s i
@@ -97,8 +102,8 @@ turn-opened moment s old piece request n i t j true is acts = (ap is_asked is, a
 turn-opened moment s old piece request n i t j false is acts = acts-opening moment s (old ++ piece) request (drop n piece) i None t j is acts
 
 -- A piece that doesn't complete a delivery continues its beginning.
-pub payload-more : (old piece : List ℕ) (start end : ℕ) → IsPayload old start end → length piece < end - length old → IsPayload (old ++ piece) start end
-payload-more old piece start end h short = record {
+pub payload-more : (old piece : List ℕ) (aim : Aim) (start end : ℕ) → IsPayload old aim start end → length piece < end - length old → IsPayload (old ++ piece) aim start end
+payload-more old piece aim start end h short = record {
   text = h.text;
   rest = h.rest ++ piece;
   size = h.size;
@@ -114,20 +119,20 @@ after-line : (text rest more : List ℕ) → drop (length text + 1) ((text ++ 10
 after-line text rest more = ap (drop (length text + 1)) (append_assoc text (10 ∷ rest) more) ∙ drop-append-add text (10 ∷ rest ++ more) 1
 
 -- A piece that completes a delivery makes it a whole request.
-pub payload-whole : (old piece : List ℕ) (start end : ℕ) → IsPayload old start end → end - length old ≤ length piece
-    → ahead (old ++ piece) ≡ Asked (requests.Delivers (drop start (old ++ take (end - length old) piece))) (drop (end - length old) piece)
-payload-whole old piece start end h long =
+pub payload-whole : (old piece : List ℕ) (aim : Aim) (start end : ℕ) → IsPayload old aim start end → end - length old ≤ length piece
+    → ahead (old ++ piece) ≡ Asked (request_with aim (drop start (old ++ take (end - length old) piece))) (drop (end - length old) piece)
+payload-whole old piece aim start end h long =
     let n : ℕ = end - length old in
     let lengths = line-length old h.text h.rest h.front in
     let size_is : h.size ≡ length h.rest + n = omega (arith, lengths, h.starts, h.ends, h.missing) in
     let fits : h.size ≤ length (h.rest ++ piece) = omega (arith, length-append h.rest piece, size_is, long) in
-    let at : ahead (old ++ piece) ≡ asked_by (Deliver h.size) (h.rest ++ piece) = ahead-line (old ++ piece) h.text (h.rest ++ piece) (Deliver h.size) (front-goes_on line_limit old piece h.text h.rest h.front) h.order in
+    let at : ahead (old ++ piece) ≡ asked_by (order_with aim h.size) (h.rest ++ piece) = ahead-line (old ++ piece) h.text (h.rest ++ piece) (order_with aim h.size) (front-goes_on line_limit old piece h.text h.rest h.front) h.order in
     let message : take h.size (h.rest ++ piece) ≡ drop start (old ++ take n piece) =
     ap (λ s. take s (h.rest ++ piece)) size_is ∙ take-append-add h.rest piece n
     ∙ sym (ap (λ s. drop s (old ++ take n piece)) h.starts ∙ ap (λ t. drop (length h.text + 1) (t ++ take n piece)) (front-joined line_limit old h.text h.rest h.front) ∙ after-line h.text h.rest (take n piece)) in
     let after : drop h.size (h.rest ++ piece) ≡ drop n piece = ap (λ s. drop s (h.rest ++ piece)) size_is ∙ drop-append-add h.rest piece n in
-    at ∙ asked_by-whole h.size (h.rest ++ piece) fits ∙ ap (λ m. Asked (requests.Delivers m) (drop h.size (h.rest ++ piece))) message ∙ ap (Asked (requests.Delivers (drop start (old ++ take n piece)))) after
+    at ∙ asked_by-whole aim h.size (h.rest ++ piece) fits ∙ ap (λ m. Asked (request_with aim m) (drop h.size (h.rest ++ piece))) message ∙ ap (Asked (request_with aim (drop start (old ++ take n piece)))) after
 
 -- The message of a delivery starts within what is held.
-pub payload-start : (old : List ℕ) (start end : ℕ) → IsPayload old start end → start ≤ length old
-payload-start old start end h = omega (arith, line-length old h.text h.rest h.front, h.starts)
+pub payload-start : (old : List ℕ) (aim : Aim) (start end : ℕ) → IsPayload old aim start end → start ≤ length old
+payload-start old aim start end h = omega (arith, line-length old h.text h.rest h.front, h.starts)

@@ -1,3 +1,4 @@
+pub mod Orders
 pub mod Aheads
 pub mod Holding
 pub mod Answering

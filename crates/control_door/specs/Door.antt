@@ -7,14 +7,14 @@ use Rattle.line_door.specs.Plain.{silent}
 use Rattle.disk_model.specs.Sizes.{epoch_count}
 use Rattle.arch_model.specs.Archives.{Entry, live, text_of, in_epoch}
 use Rattle.arch_model.specs.Epochs.{epoch_bytes}
-use Rattle.arch_model.specs.Delivery.{Done, delivered, removed, answer_line}
+use Rattle.arch_model.specs.Delivery.{Done, delivered, removed, purged, edited, answer_line}
 use Rattle.arch_model.specs.Standing.{Standing, standing}
 use Rattle.answer_lines.specs.Lines.{whole_line, memory_word, disk_word, unopened_words}
 use Rattle.keep_course.specs.Answering.{said_reopening}
 use Rattle.shelf_trees.specs.Twigs.{thread_twigs}
 use Rattle.thread_tree.specs.Laid.{tree_lines}
 use Rattle.control_door.specs.Threads.{tree_words}
-use Rattle.control_door.specs.Requests.{Request, Delivers, Shows, Removes, Threads, Lists, Quits, Mistakes, Exceeds, Ahead, Asked, Unfinished, ahead, is_request}
+use Rattle.control_door.specs.Requests.{Request, Delivers, Shows, Removes, Purges, Edits, Threads, Lists, Reindexes, Quits, Mistakes, Exceeds, Ahead, Asked, Unfinished, ahead, is_request}
 
 -- The word for a line that is not an order, or that is too long.
 abbrev pub bad_word : List ℕ
@@ -54,6 +54,10 @@ listed_below (suc epoch) entries =
 abbrev pub epochs_words : List Entry → List ℕ
 epochs_words entries = listed_below epoch_count entries ++ whole_line (codes "end")
 
+-- The line of a reindexing: how many messages are live.
+abbrev pub reindexed_words : ℕ → List ℕ
+reindexed_words live = whole_line (codes "reindexed " ++ decimal live)
+
 -- A session: its bytes that are not answered yet, and whether the archive was reopened since the
 -- last request. It is reopened before a request, which does nothing while no command is in doubt.
 pub record Waiting : Type 0 where
@@ -87,34 +91,47 @@ answered moment s (Delivers message) rest = carries_out (delivered s.archive mes
 answered moment s (Shows number) rest =
     goes_on rest (shown number (text_of (live s.archive.entries) number)) s
 answered moment s (Removes number) rest = carries_out (removed s.archive number moment) rest
+answered moment s (Purges number) rest = carries_out (purged s.archive number) rest
+answered moment s (Edits number message) rest =
+    carries_out (edited s.archive number message moment) rest
 answered moment s (Threads number) rest = goes_on rest
     (threaded (live s.archive.entries) number (text_of (live s.archive.entries) number)) s
 answered moment s Lists rest = goes_on rest (epochs_words s.archive.entries) s
+answered moment s Reindexes rest =
+    goes_on rest (reindexed_words (length (live s.archive.entries))) s
 answered moment s Quits rest = closes s []
 answered moment s Mistakes rest = goes_on rest bad_word s
 answered moment s Exceeds rest = closes s bad_word
 
--- The answer to a request that runs out of memory. A command leaves the archive unchanged, and a
--- text, a tree or a list of epochs is said whole or not at all. Other requests need no memory.
+-- The answer to a request that runs out of memory. A command and a reindexing leave the archive
+-- unchanged, and a text, a tree or a list of epochs is said whole or not at all. Other requests need
+-- no memory.
 abbrev pub refused_memory : ℕ → Standing → Request → List ℕ → Says
 refused_memory moment s (Delivers message) rest = goes_on rest memory_word s
 refused_memory moment s (Shows number) rest = goes_on rest memory_word s
 refused_memory moment s (Removes number) rest = goes_on rest memory_word s
+refused_memory moment s (Purges number) rest = goes_on rest memory_word s
+refused_memory moment s (Edits number message) rest = goes_on rest memory_word s
 refused_memory moment s (Threads number) rest = goes_on rest memory_word s
 refused_memory moment s Lists rest = goes_on rest memory_word s
+refused_memory moment s Reindexes rest = goes_on rest memory_word s
 refused_memory moment s Quits rest = answered moment s Quits rest
 refused_memory moment s Mistakes rest = answered moment s Mistakes rest
 refused_memory moment s Exceeds rest = answered moment s Exceeds rest
 
 -- The answer to a request at which the disk fails. It is then in doubt whether a command was
--- carried out. A text or a list of epochs is said whole or not at all. Other requests don't use the
--- disk.
+-- carried out. A text or a list of epochs is said whole or not at all, and a reindexing leaves the
+-- archive unchanged. Other requests don't use the disk.
 abbrev pub refused_disk : ℕ → Standing → Request → List ℕ → Says
 refused_disk moment s (Delivers message) rest = doubts s (delivered s.archive message moment) rest
 refused_disk moment s (Shows number) rest = goes_on rest disk_word s
 refused_disk moment s (Removes number) rest = doubts s (removed s.archive number moment) rest
+refused_disk moment s (Purges number) rest = doubts s (purged s.archive number) rest
+refused_disk moment s (Edits number message) rest =
+    doubts s (edited s.archive number message moment) rest
 refused_disk moment s (Threads number) rest = answered moment s (Threads number) rest
 refused_disk moment s Lists rest = goes_on rest disk_word s
+refused_disk moment s Reindexes rest = goes_on rest disk_word s
 refused_disk moment s Quits rest = answered moment s Quits rest
 refused_disk moment s Mistakes rest = answered moment s Mistakes rest
 refused_disk moment s Exceeds rest = answered moment s Exceeds rest

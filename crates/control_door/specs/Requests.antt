@@ -3,17 +3,20 @@ use Rattle.std.specs.Prelude.{ℕ, Bool, true, false, nat_le, List, [], length, 
 use Rattle.line_door.specs.Lines as line
 use Rattle.control_door.specs.Orders.{order_of}
 use Rattle.control_door.specs.declared.order.Order.{Order}
-use Rattle.control_door.specs.declared.order.Order.TheVariants.{Deliver, TooMuch, Show, Remove, Thread, Epochs, Quit, Bad}
+use Rattle.control_door.specs.declared.order.Order.TheVariants.{Deliver, TooMuch, Show, Remove, Purge, Edit, Thread, Epochs, Reindex, Quit, Bad}
 
--- A whole request: a message to deliver, a number to show or to remove, a number whose thread to show,
--- the list of epochs, the end, a line that is not an order, or a line that is too long or announces
--- too much, after which the door closes.
+-- A whole request: a message to deliver, a number to show, to remove or to purge, a number and the message
+-- in its place, a number whose thread to show, the list of epochs, a reindexing, the end, a line that
+-- is not an order, or a line that is too long or announces too much, after which the door closes.
 pub data Request : Type 0 where
   Delivers : List ℕ → Request
   Shows : ℕ → Request
   Removes : ℕ → Request
+  Purges : ℕ → Request
+  Edits : ℕ → List ℕ → Request
   Threads : ℕ → Request
   Lists : Request
+  Reindexes : Request
   Quits : Request
   Mistakes : Request
   Exceeds : Request
@@ -23,16 +26,20 @@ pub data Ahead : Type 0 where
   Asked : Request → List ℕ → Ahead
   Unfinished : Ahead
 
--- The request of an order that these bytes follow. `deliver SIZE` is whole once its SIZE bytes are
--- there.
+-- The request of an order that these bytes follow. `deliver SIZE` and `edit N SIZE` are whole once their
+-- SIZE bytes are there.
 abbrev pub asked_by : Order → List ℕ → Ahead
 asked_by (Deliver size) rest = if nat_le size (length rest)
     then Asked (Delivers (take size rest)) (drop size rest) else Unfinished
 asked_by TooMuch rest = Asked Exceeds rest
 asked_by (Show number) rest = Asked (Shows number) rest
 asked_by (Remove number) rest = Asked (Removes number) rest
+asked_by (Purge number) rest = Asked (Purges number) rest
+asked_by (Edit number size) rest = if nat_le size (length rest)
+    then Asked (Edits number (take size rest)) (drop size rest) else Unfinished
 asked_by (Thread number) rest = Asked (Threads number) rest
 asked_by Epochs rest = Asked Lists rest
+asked_by Reindex rest = Asked Reindexes rest
 asked_by Quit rest = Asked Quits rest
 asked_by Bad rest = Asked Mistakes rest
 

@@ -9,11 +9,14 @@ use Rattle.arch_model.specs.Archives.{Archive}
 use Rattle.arch_model.specs.Keeping.{Fits, Moves}
 use Rattle.arch_model.specs.Standing.{Standing, standing}
 use Rattle.arch_model.specs.declared.command.Command.{Command}
-use Rattle.arch_model.specs.declared.command.Command.TheVariants.{Deliver, Remove}
+use Rattle.arch_model.specs.declared.command.Command.TheVariants.{Deliver, Remove, Purge, Edit}
 use Rattle.control_door.specs.Orders.{order_of}
-use Rattle.control_door.specs.Requests.{Request, Delivers, Shows, Removes, Threads, Lists, Quits, Mistakes, Exceeds, Asked, ahead, line_limit, is_request}
+use Rattle.control_door.specs.Requests.{Request, Delivers, Shows, Removes, Purges, Edits, Threads, Lists, Reindexes, Quits, Mistakes, Exceeds, Asked, ahead, line_limit, is_request}
 use Rattle.control_door.specs.Door.{waiting, said, said_to, said_opening, has_request}
+use Rattle.control_door.specs.declared.order.Order.{Order}
 use Rattle.control_door.specs.declared.order.Order.TheVariants as order
+use Rattle.control_door.specs.declared.front.Aim.{Aim}
+use Rattle.control_door.specs.declared.front.Aim.TheVariants.{New, InPlaceOf}
 use Rattle.control_door.specs.declared.front.Payload.{Payload}
 use Rattle.control_door.specs.declared.front.Requested.{Requested}
 use Rattle.control_door.specs.declared.front.Requested.TheVariants as requested
@@ -22,13 +25,19 @@ use Rattle.control_door.specs.declared.front.Front.TheVariants as found
 use Rattle.control_door.specs.declared.session.Turn.{Turn}
 use Rattle.control_door.specs.declared.session.Turn.TheVariants.{Opened, Went, Kept, Closed}
 
--- The bytes are the beginning of a delivery whose message starts at `start` and ends at `end`.
-pub record IsPayload (bytes : List ℕ) (start end : ℕ) : Type 0 where
+-- The order that announces a message with an aim, of this size.
+abbrev pub order_with : Aim → ℕ → Order
+order_with New size = order.Deliver size
+order_with (InPlaceOf number) size = order.Edit number size
+
+-- The bytes are the beginning of a delivery or an edit whose message starts at `start` and ends at
+-- `end`.
+pub record IsPayload (bytes : List ℕ) (aim : Aim) (start end : ℕ) : Type 0 where
   pub text : List ℕ
   pub rest : List ℕ
   pub size : ℕ
   pub front : line.front line_limit bytes ≡ line.Whole text rest
-  pub order : order_of (line.content text) ≡ order.Deliver size
+  pub order : order_of (line.content text) ≡ order_with aim size
   pub starts : start ≡ length text + 1
   pub ends : end ≡ start + size
   pub missing : length bytes < end
@@ -36,33 +45,45 @@ pub record IsPayload (bytes : List ℕ) (start end : ℕ) : Type 0 where
 -- What is held is a part of a line, or the beginning of a delivery.
 abbrev pub IsHeld : List ℕ → Option Payload → Type 0
 IsHeld bytes None = line.front line_limit bytes ≡ line.Partial
-IsHeld bytes (Some payload) = IsPayload bytes payload.start payload.end
+IsHeld bytes (Some payload) = IsPayload bytes payload.aim payload.start payload.end
 
 -- The request for a command.
 abbrev pub request_for : Command → Request
 request_for (Deliver bytes) = Delivers bytes.now
 request_for (Remove number) = Removes number
+request_for (Purge number) = Purges number
+request_for (Edit number bytes) = Edits number bytes.now
+
+-- The request of a message with an aim.
+abbrev pub request_with : Aim → List ℕ → Request
+request_with New message = Delivers message
+request_with (InPlaceOf number) message = Edits number message
 
 -- The request that was found, given what is held.
 abbrev pub request_of : List ℕ → Requested → Request
-request_of held (requested.Message message) = Delivers message.now
-request_of held (requested.Joined start last) = Delivers (drop start (held ++ last.now))
+request_of held (requested.Message aim message) = request_with aim message.now
+request_of held (requested.Joined aim start last) =
+    request_with aim (drop start (held ++ last.now))
 request_of held (requested.Text number) = Shows number
 request_of held (requested.Removal number) = Removes number
+request_of held (requested.Purge number) = Purges number
 request_of held (requested.Thread number) = Threads number
 request_of held requested.Epochs = Lists
+request_of held requested.Reindexing = Reindexes
 request_of held requested.Quit = Quits
 request_of held requested.Mistake = Mistakes
 request_of held requested.Excess = Exceeds
 
 -- A message of which a part is held starts within what is held.
 abbrev pub StartsWithin : List ℕ → Requested → Type 0
-StartsWithin held (requested.Message message) = Unit {0}
-StartsWithin held (requested.Joined start last) = start ≤ length held
+StartsWithin held (requested.Message aim message) = Unit {0}
+StartsWithin held (requested.Joined aim start last) = start ≤ length held
 StartsWithin held (requested.Text number) = Unit {0}
 StartsWithin held (requested.Removal number) = Unit {0}
+StartsWithin held (requested.Purge number) = Unit {0}
 StartsWithin held (requested.Thread number) = Unit {0}
 StartsWithin held requested.Epochs = Unit {0}
+StartsWithin held requested.Reindexing = Unit {0}
 StartsWithin held requested.Quit = Unit {0}
 StartsWithin held requested.Mistake = Unit {0}
 StartsWithin held requested.Excess = Unit {0}

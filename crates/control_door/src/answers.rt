@@ -7,12 +7,12 @@ ghost use Rattle.arch_model.specs.Next.{continues};
 ghost use Rattle.arch_model.specs.Shelves.{Stays};
 ghost use Rattle.arch_model.specs.Standing.{standing};
 ghost use Rattle.control_door.specs.Door.{waiting, said_to};
-ghost use Rattle.control_door.specs.Requests.{Delivers, Shows, Threads, Lists};
-ghost use Rattle.control_door.specs.Sessions.{request_of, request_for, StartsWithin, Answers, Opens};
+ghost use Rattle.control_door.specs.Requests.{Shows, Threads, Lists, Reindexes};
+ghost use Rattle.control_door.specs.Sessions.{request_of, request_for, request_with, StartsWithin, Answers, Opens};
 
 use crate::epochs::epochs_of;
-use crate::front::Requested;
-use crate::replies::{say_bad, say_not_live, say_text};
+use crate::front::{Aim, Requested};
+use crate::replies::{say_bad, say_not_live, say_reindexed, say_text};
 use crate::thread::thread_words;
 use answer_lines::{say_answer, say_memory, say_unopened, say_unread};
 use arch_base::{Bytes, NoMemory};
@@ -64,24 +64,38 @@ pub(crate) fn say_requested<K: Keep, O: Sink>(
     ensures sink { O.alike out.old out.new }
 {
     match request {
-        Requested::Message(message) => {
-            Next::after(say_commanded(&Command::Deliver(message), moment, keep, out))
+        Requested::Message(aim, message) => {
+            Next::after(say_commanded(&command_of(aim, message), moment, keep, out))
         }
-        Requested::Joined(start, last) => {
-            Next::after(say_joined(held, start, last, moment, keep, out))
+        Requested::Joined(aim, start, last) => {
+            Next::after(say_joined(held, aim, start, last, moment, keep, out))
         }
         Requested::Text(number) => Next::after(say_message(alloc, number, keep, out)),
         Requested::Removal(number) => {
             Next::after(say_commanded(&Command::Remove(number), moment, keep, out))
         }
+        Requested::Purge(number) => {
+            Next::after(say_commanded(&Command::Purge(number), moment, keep, out))
+        }
         Requested::Thread(number) => Next::after(say_thread(alloc, number, keep, out)),
         Requested::Epochs => Next::after(say_epochs(alloc, keep, out)),
+        Requested::Reindexing => Next::after(say_reindexing(keep, out)),
         Requested::Quit => Next::Close,
         Requested::Mistake => Next::after(say_bad(out)),
         Requested::Excess => {
             let _ = say_bad(out);
             Next::Close
         }
+    }
+}
+
+/// Returns the command of a message with an aim.
+fn command_of(aim: Aim, message: &[u8]) -> Command<'_>
+    ensures { request_for result ≡ request_with aim message.now }
+{
+    match aim {
+        Aim::New => Command::Deliver(message),
+        Aim::InPlaceOf(number) => Command::Edit(number, message),
     }
 }
 
@@ -111,6 +125,7 @@ fn say_commanded<K: Keep, O: Sink>(
 /// Out of memory, writes `12 no memory` and delivers nothing.
 fn say_joined<K: Keep, O: Sink>(
     held: &mut Bytes,
+    aim: Aim,
     start: usize,
     last: &[u8],
     moment: u64,
@@ -121,7 +136,7 @@ fn say_joined<K: Keep, O: Sink>(
     requires moment { moment ≤ last_moment }
     requires starts { start ≤ length held.old }
     ensures acts { Answers K.holds K.ready K.leaves moment
-        (Delivers (drop start (held.old ++ last.now))) keep.old
+        (request_with aim (drop start (held.old ++ last.now))) keep.old
         (outside (O.taken out.old) (K.faults keep.old) (O.faults out.old))
         (is_ok result) keep.new
         (outside (O.taken out.new) (K.faults keep.new) (O.faults out.new)) }
@@ -132,7 +147,7 @@ fn say_joined<K: Keep, O: Sink>(
         return say_memory(out);
     }
     let message = held.as_slice().split_at(start).1;
-    say_commanded(&Command::Deliver(message), moment, keep, out)
+    say_commanded(&command_of(aim, message), moment, keep, out)
 }
 
 /// Writes the text of a number, or why there is none to write.
@@ -201,5 +216,23 @@ fn say_epochs<K: Keep, O: Sink>(alloc: Global, keep: &mut K, out: &mut O) -> Res
     match epochs_of(alloc, keep) {
         Ok(words) => say(words.as_slice(), out),
         Err(refusal) => say_unread(refusal, out),
+    }
+}
+
+/// Reindexes the archive, and writes the number of live messages, or why that was refused.
+///
+/// A refusal leaves the keeper stale.
+fn say_reindexing<K: Keep, O: Sink>(keep: &mut K, out: &mut O) -> Result<(), SinkFault>
+    requires { K.ready keep.old ≡ true }
+    ensures acts { (moment : ℕ) → Answers K.holds K.ready K.leaves moment Reindexes keep.old
+        (outside (O.taken out.old) (K.faults keep.old) (O.faults out.old))
+        (is_ok result) keep.new
+        (outside (O.taken out.new) (K.faults keep.new) (O.faults out.new)) }
+    ensures later { K.faults keep.old ≤ K.faults keep.new }
+    ensures sink { O.alike out.old out.new }
+{
+    match keep.reindex() {
+        Ok(live) => say_reindexed(live, out),
+        Err(refusal) => say_unopened(refusal, out),
     }
 }

@@ -1,5 +1,5 @@
-//! The control door: a connection that delivers, shows and removes messages, shows threads and lists
-//! epochs.
+//! The control door: a connection that delivers, shows, removes, purges and edits messages, shows
+//! threads and lists epochs.
 #![tactic(auto)]
 
 mod answers;

@@ -1,7 +1,7 @@
 //! Writes the replies that only the control door has.
 ghost use Rattle.std.specs.Prelude.{Some, None};
 ghost use Rattle.edge_io.specs.Phrases.{Says};
-ghost use Rattle.control_door.specs.Door.{bad_word, busy_word, shown};
+ghost use Rattle.control_door.specs.Door.{bad_word, busy_word, shown, reindexed_words};
 
 use answer_lines::say_number;
 use edge_io::{Sink, SinkFault, say, say_line};
@@ -41,4 +41,13 @@ pub(crate) fn say_text<O: Sink>(text: &[u8], out: &mut O) -> Result<(), SinkFaul
 {
     say_number(b"text ", text.len() as u64, out)?;
     say(text, out)
+}
+
+/// Writes how many messages are live after a reindexing.
+pub(crate) fn say_reindexed<O: Sink>(live: u32, out: &mut O) -> Result<(), SinkFault>
+    ensures said { Says (reindexed_words live) (O.taken out.old) (O.faults out.old) (O.taken out.new)
+        (O.faults out.new) result }
+    ensures sink { O.alike out.old out.new }
+{
+    say_number(b"reindexed ", u64::from(live), out)
 }

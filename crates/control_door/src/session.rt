@@ -9,7 +9,7 @@ ghost use Rattle.control_door.specs.Orders.{order_of};
 ghost use Rattle.control_door.specs.Requests.{line_limit};
 
 use crate::answers::{reopen, say_requested};
-use crate::front::{Front, Payload, Requested};
+use crate::front::{Aim, Front, Payload, Requested};
 use crate::order::{Order, read_order};
 use answer_lines::say_memory;
 use arch_base::Bytes;
@@ -57,7 +57,7 @@ impl Model for Session {
 }
 
 impl Session {
-    ghost use Rattle.control_door.specs.Sessions.{IsTurn, IsHeld, IsPayload, IsFront, Turns, Takes, Feeds};
+    ghost use Rattle.control_door.specs.Sessions.{IsTurn, IsHeld, IsPayload, order_with, IsFront, Turns, Takes, Feeds};
 
     /// Returns a session without bytes. The control door has no greeting.
     pub fn open(alloc: Global) -> Session
@@ -79,8 +79,8 @@ impl Session {
     /// The session ends, and the remaining bytes are dropped:
     ///
     /// * at `quit`, which writes nothing;
-    /// * at a line of more than 512 octets with its line end, and at `deliver` with a SIZE above
-    ///   9,000,000, which write `13 bad line`;
+    /// * at a line of more than 512 octets with its line end, and at `deliver` and `edit` with a SIZE
+    ///   above 9,000,000, which write `13 bad line`;
     /// * if out of memory for a rest that isn't empty, which writes `12 no memory`;
     /// * if reopening fails, which writes `12 no memory` or `10 disk fault`. It writes `11 damaged`
     ///   and a file only if the keeper keeps no archive;
@@ -92,11 +92,11 @@ impl Session {
     /// A crash since the call began leaves an archive that stood between two of these acts, or one
     /// that was in doubt there.
     ///
-    /// A command, a text, a thread or a list of epochs that runs out of memory writes `12 no memory`,
-    /// and the archive is unchanged. If the disk fails at one, it writes `10 disk fault`, and the keeper's
-    /// count of faults rose. It stays at each act that doesn't write so. The session continues in
-    /// both cases. After a fault, only reopening the archive shows whether a command was carried
-    /// out.
+    /// A command, a text, a thread, a list of epochs or a reindexing that runs out of memory writes
+    /// `12 no memory`, and the archive is unchanged. If the disk fails at one, it writes
+    /// `10 disk fault`, and the keeper's count of faults rose. It stays at each act that doesn't write
+    /// so. The session continues in both cases. After a fault, only reopening the archive shows
+    /// whether a command was carried out.
     pub fn feed<K: Keep, O: Sink>(
         &mut self,
         piece: &[u8],
@@ -201,9 +201,9 @@ impl Session {
         }
     }
 
-    /// Returns the front, if the beginning of a delivery is held.
+    /// Returns the front, if the beginning of a delivery or an edit is held.
     fn joined<'a>(&self, payload: Payload, piece: &'a [u8]) -> Front<'a>
-        requires { IsPayload self.now payload.start payload.end }
+        requires { IsPayload self.now payload.aim payload.start payload.end }
         ensures { IsFront self.now piece.now result }
     {
         let missing = payload.end - self.held.as_slice().len();
@@ -211,7 +211,7 @@ impl Session {
             return Front::Rest(Some(payload));
         }
         let last = piece.split_at(missing).0;
-        Front::Whole(Requested::Joined(payload.start, last), missing)
+        Front::Whole(Requested::Joined(payload.aim, payload.start, last), missing)
     }
 
     /// Returns the front, if a line ends at this offset of the piece.
@@ -223,35 +223,38 @@ impl Session {
         ensures { IsFront self.now piece.now result }
     {
         match line_order(self.held.as_slice(), &piece[..len]) {
-            Order::Deliver(size) => self.message(size, len, piece),
+            Order::Deliver(size) => self.message(Aim::New, size, len, piece),
+            Order::Edit(number, size) => self.message(Aim::InPlaceOf(number), size, len, piece),
             Order::TooMuch => Front::Whole(Requested::Excess, len + 1),
             Order::Show(number) => Front::Whole(Requested::Text(number), len + 1),
             Order::Remove(number) => Front::Whole(Requested::Removal(number), len + 1),
+            Order::Purge(number) => Front::Whole(Requested::Purge(number), len + 1),
             Order::Thread(number) => Front::Whole(Requested::Thread(number), len + 1),
             Order::Epochs => Front::Whole(Requested::Epochs, len + 1),
+            Order::Reindex => Front::Whole(Requested::Reindexing, len + 1),
             Order::Quit => Front::Whole(Requested::Quit, len + 1),
             Order::Bad => Front::Whole(Requested::Mistake, len + 1),
         }
     }
 
     /// Returns the front, if the line that ends at this offset of the piece announces a message.
-    fn message<'a>(&self, size: u32, len: usize, piece: &'a [u8]) -> Front<'a>
+    fn message<'a>(&self, aim: Aim, size: u32, len: usize, piece: &'a [u8]) -> Front<'a>
         requires within { len < length piece.now }
         requires short { length self.now + len < line_limit }
         requires line { front line_limit (self.now ++ piece.now)
             ≡ Whole (self.now ++ take len piece.now) (drop (len + 1) piece.now) }
-        requires order { order_of (content (self.now ++ take len piece.now)) ≡ Order.Deliver size }
+        requires order { order_of (content (self.now ++ take len piece.now)) ≡ order_with aim size }
         ensures { IsFront self.now piece.now result }
     {
         let size = size as usize;
         let (_line, after) = piece.split_at(len + 1);
         if size <= after.len() {
             let message = after.split_at(size).0;
-            return Front::Whole(Requested::Message(message), len + 1 + size);
+            return Front::Whole(Requested::Message(aim, message), len + 1 + size);
         }
         let start = self.held.as_slice().len() + len + 1;
         let end = start + size;
-        Front::Rest(Some(Payload { start, end }))
+        Front::Rest(Some(Payload { aim, start, end }))
     }
 }
 

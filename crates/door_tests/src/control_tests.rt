@@ -146,29 +146,29 @@ const LINES: [Stream; 32] = [
         next: Next::Go,
     },
     Stream {
-        bytes: b"epochs \nreindex\n",
+        bytes: b"epochs \nreindex \n",
         answers: b"13 bad line\n13 bad line\n",
         next: Next::Go,
     },
     Stream {
         bytes: b"reindex\nthread 1\n",
-        answers: b"13 bad line\n7 not live 1\n",
+        answers: b"reindexed 0\n7 not live 1\n",
         next: Next::Go,
     },
     Stream {
         bytes: b"purge 1\nshow 2\n",
-        answers: b"13 bad line\n7 not live 2\n",
+        answers: b"8 no text 1\n7 not live 2\n",
         next: Next::Go,
     },
     Stream {
         bytes: b"edit 1 5\nquit\nshow 1\n",
-        answers: b"13 bad line\n",
-        next: Next::Close,
+        answers: b"7 not live 1\n7 not live 1\n",
+        next: Next::Go,
     },
     Stream {
         bytes: b"edit 1 9000001\nabc\n",
-        answers: b"13 bad line\n13 bad line\n",
-        next: Next::Go,
+        answers: b"13 bad line\n",
+        next: Next::Close,
     },
     Stream {
         bytes: b"show 1\nshow 2\r\nsh",
@@ -427,7 +427,7 @@ fn a_mirror_takes_no_command(rt: HostRuntime) {
 }
 
 /// Lines without their line end, and their orders.
-const ORDERS: [(&[u8], Order); 17] = [
+const ORDERS: [(&[u8], Order); 29] = [
     (b"deliver 0", Order::Deliver(0)),
     (b"dELIVER 9000000", Order::Deliver(9_000_000)),
     (b"deliver 9000001", Order::TooMuch),
@@ -439,10 +439,25 @@ const ORDERS: [(&[u8], Order); 17] = [
     (b"REMOVE 2147483647", Order::Remove(2_147_483_647)),
     (b"remove 2147483648", Order::Bad),
     (b"remove", Order::Bad),
+    (b"purge 1", Order::Purge(1)),
+    (b"pURGE 2147483648", Order::Bad),
+    (b"edit 1 0", Order::Edit(1, 0)),
+    (
+        b"EDIT 2147483647 9000000",
+        Order::Edit(2_147_483_647, 9_000_000),
+    ),
+    (b"edit 7 9000001", Order::TooMuch),
+    (b"edit 0 9000001", Order::Bad),
+    (b"edit 7 18446744073709551616", Order::Bad),
+    (b"edit 7", Order::Bad),
+    (b"edit 7  1", Order::Bad),
     (b"thread 1", Order::Thread(1)),
     (b"tHREAD 2147483647", Order::Thread(2_147_483_647)),
     (b"thread 0", Order::Bad),
     (b"Epochs", Order::Epochs),
+    (b"reindex", Order::Reindex),
+    (b"REINDEX", Order::Reindex),
+    (b"reindex 1", Order::Bad),
     (b"Quit", Order::Quit),
     (b"quit\r", Order::Bad),
 ];

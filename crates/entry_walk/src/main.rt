@@ -1,8 +1,9 @@
-//! Carries out deliveries and removals, and prints the answers and the epochs: `tests/git` and
-//! `tests/epochs` have git judge what it prints.
+//! Carries out deliveries, removals, purges and edits, and prints the answers and the epochs: `tests/git`
+//! and `tests/epochs` have git judge what it prints.
 //!
 //! The first line of the standard input is the limit of an epoch, in bytes. After it come lines
-//! `deliver MOMENT LENGTH`, each before a message of LENGTH bytes, and lines `remove MOMENT NUMBER`.
+//! `deliver MOMENT LENGTH` and `edit MOMENT NUMBER LENGTH`, each before a message of LENGTH bytes, and
+//! lines `remove MOMENT NUMBER` and `purge MOMENT NUMBER`.
 //! Printed are the line of each answer and then, for each epoch that has an entry, the line
 //! `epoch NUMBER LENGTH`, its bytes, and a line feed. What can't be read ends the input.
 #![tactic(auto)]
@@ -80,12 +81,13 @@ fn next_event(input: &[u8]) -> Option<(Event<'_>, &[u8])>
 {
     let (line, rest) = next_line(input)?;
     let (word, numbers) = split_word(line)?;
-    let (moment, number) = split_word(numbers)?;
+    let (moment, after) = split_word(numbers)?;
     let moment = read_decimal(moment)?;
-    let number = read_decimal(number)?;
     match word {
-        b"deliver" => delivery(moment, number, rest),
-        b"remove" => removal(moment, number, rest),
+        b"deliver" => delivery(moment, read_decimal(after)?, rest),
+        b"remove" => removal(moment, read_decimal(after)?, rest),
+        b"purge" => purge(moment, read_decimal(after)?, rest),
+        b"edit" => edit(moment, after, rest),
         _ => None,
     }
 }
@@ -108,6 +110,32 @@ fn removal(moment: u64, number: u64, rest: &[u8]) -> Option<(Event<'_>, &[u8])>
 {
     let number = u32::try_from(number).ok()?;
     let command = Command::Remove(number);
+    Some((Event { moment, command }, rest))
+}
+
+/// Returns the purge of a number, and the rest, or `None` if no message has such a number.
+fn purge(moment: u64, number: u64, rest: &[u8]) -> Option<(Event<'_>, &[u8])>
+    ensures { IfSome result (λ found. length found.1.now ≤ length rest.now) }
+{
+    let number = u32::try_from(number).ok()?;
+    let command = Command::Purge(number);
+    Some((Event { moment, command }, rest))
+}
+
+/// Returns the edit of a number with the first bytes, and the rest, or `None` if there aren't so many.
+///
+/// The words are the number and the count of bytes.
+fn edit<'a>(moment: u64, words: &[u8], bytes: &'a [u8]) -> Option<(Event<'a>, &'a [u8])>
+    ensures { IfSome result (λ found. length found.1.now ≤ length bytes.now) }
+{
+    let (number, count) = split_word(words)?;
+    let number = u32::try_from(read_decimal(number)?).ok()?;
+    let count = read_decimal(count)?;
+    if count > bytes.len() as u64 {
+        return None;
+    }
+    let (message, rest) = bytes.split_at(count as usize);
+    let command = Command::Edit(number, message);
     Some((Event { moment, command }, rest))
 }
 

@@ -5,7 +5,7 @@ use Rattle.control_door.proofs.Answering.{answers-read, answers-held, acts-quitt
 use Rattle.control_door.proofs.answers.say_requested.Goals as goal
 
 pub returns-in-Message-clause-acts : goal.returns-in-Message-clause-acts
-returns-in-Message-clause-acts g c = rw (c.in-Message.is, c.after.ensures) c.say_commanded.ensures.acts
+returns-in-Message-clause-acts g c = rw (c.in-Message.is, c.after.ensures) (rw c.command_of.ensures at c.say_commanded.ensures.acts)
 
 pub returns-in-Joined-clause-acts : goal.returns-in-Joined-clause-acts
 returns-in-Joined-clause-acts g c = rw (c.in-Joined.is, c.after-in-Joined.ensures) c.say_joined.ensures.acts
@@ -17,6 +17,9 @@ returns-in-Text-clause-acts g c = rw (c.in-Text.is, c.after-in-Text.ensures)
 pub returns-in-Removal-clause-acts : goal.returns-in-Removal-clause-acts
 returns-in-Removal-clause-acts g c = rw (c.in-Removal.is, c.after-in-Removal.ensures) c.say_commanded-in-Removal.ensures.acts
 
+pub returns-in-Purge-clause-acts : goal.returns-in-Purge-clause-acts
+returns-in-Purge-clause-acts g c = rw (c.in-Purge.is, c.after-in-Purge.ensures) c.say_commanded-in-Purge.ensures.acts
+
 pub returns-in-Thread-clause-acts : goal.returns-in-Thread-clause-acts
 returns-in-Thread-clause-acts g c = rw (c.in-Thread.is, c.after-in-Thread.ensures)
     (answers-read g.K.Shelf.holds g.K.Shelf.ready g.K.Keep.leaves g.met.K.Keep.holds_left c.args.moment (Threads c.in-Thread.number) c.args.keep.now c.args.keep.now _ _ _ (g.met.K.Keep.alike_kept _ _ (g.met.K.Shelf.alike_same c.args.keep.now)) (c.say_thread.ensures.acts c.args.moment))
@@ -24,6 +27,9 @@ returns-in-Thread-clause-acts g c = rw (c.in-Thread.is, c.after-in-Thread.ensure
 pub returns-in-Epochs-clause-acts : goal.returns-in-Epochs-clause-acts
 returns-in-Epochs-clause-acts g c = rw (c.in-Epochs.is, c.after-in-Epochs.ensures)
     (answers-read g.K.Shelf.holds g.K.Shelf.ready g.K.Keep.leaves g.met.K.Keep.holds_left c.args.moment Lists c.args.keep.now _ _ _ _ (g.met.K.Keep.alike_kept _ _ c.say_epochs.ensures.shelf.same) (c.say_epochs.ensures.acts c.args.moment))
+
+pub returns-in-Reindexing-clause-acts : goal.returns-in-Reindexing-clause-acts
+returns-in-Reindexing-clause-acts g c = rw (c.in-Reindexing.is, c.after-in-Reindexing.ensures) (c.say_reindexing.ensures.acts c.args.moment)
 
 pub returns-in-Quit-clause-acts : goal.returns-in-Quit-clause-acts
 returns-in-Quit-clause-acts g c = rw c.in-Quit.is

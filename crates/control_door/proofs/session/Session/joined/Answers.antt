@@ -5,7 +5,7 @@ use Rattle.control_door.proofs.session.Session.joined.Goals as goal
 pub returns-then-piece-missing : goal.returns-then-piece-missing
 returns-then-piece-missing c =
     let held : c.as_slice.result.now ≡ c.args.self.now = c.as_slice.ensures ∙ c.self.view_is in
-    payload-more c.args.self.now c.args.piece.now c.args.payload.start c.args.payload.end c.requires (rw held at c.if-piece-missing.true)
+    payload-more c.args.self.now c.args.piece.now c.args.payload.aim c.args.payload.start c.args.payload.end c.requires (rw held at c.if-piece-missing.true)
 
 pub returns : goal.returns
 returns c =
@@ -19,6 +19,6 @@ returns c =
     record {
       some = omega (arith, c.requires.missing, taken);
       within = omega (arith, long, taken);
-      starts = payload-start old c.args.payload.start c.args.payload.end c.requires;
-      stands = rw (taken, last) (payload-whole old piece c.args.payload.start c.args.payload.end c.requires long);
+      starts = payload-start old c.args.payload.aim c.args.payload.start c.args.payload.end c.requires;
+      stands = rw (taken, last) (payload-whole old piece c.args.payload.aim c.args.payload.start c.args.payload.end c.requires long);
     }
