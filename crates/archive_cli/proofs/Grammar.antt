@@ -1,4 +1,4 @@
--- The words of `init` and `replay`, and their options; and the words of `remove`.
+-- The words of `init` and `replay`, and their options; and those of commands with a number.
 use Rattle.std.proofs.Common.{Bool, not, true, false, ◌≡◌, ◌≢◌, ◌≤◌, ◌<◌, ◌+◌, inl, inr, ◌⊎◌, ℕ, List, [], ◌∷◌, ◌++◌, map, length, get_or, drop, All, Option, Some, None, codes, decimal, refl, sym, ◌∙◌, ap, subst, append_assoc, arith, length-append, drop-cons, add-one}
 use Rattle.std.proofs.lemmas.Bool.{not-false}
 use Rattle.std.specs.Borrow.{Bor}
@@ -9,11 +9,12 @@ use Rattle.std.proofs.lemmas.Grind.{flat_map-append}
 use Rattle.std.proofs.lemmas.List.{append-nil, length-map, map-append}
 use Rattle.std.proofs.lemmas.List.Elements.{All-nil, All-cons, All-push, All-head, All-tail}
 use Rattle.arch_base.specs.Configs.{IsConfig}
+use Rattle.edge_io.specs.Parsing.{Spells}
 use Rattle.arch_base.specs.declared.config.Config.{Config}
-use Rattle.archive_cli.specs.Words.{IsMade, IsInit, IsReplay, IsRemove, IsServe, IsServeOption, Gives, serve_word, IsJob, AsksFor, IsSetting, IsUpTo, EachOnce, setting_word, limit_of, slice_of, max_of, mirror_of, limits, slices, maxes, mirrors, spelled, limit_in, slice_in, max_in, mirror_in}
+use Rattle.archive_cli.specs.Words.{IsMade, IsInit, IsReplay, IsNumbered, IsLone, IsServe, IsServeOption, Gives, serve_word, IsJob, AsksFor, IsSetting, IsUpTo, EachOnce, setting_word, limit_of, slice_of, max_of, mirror_of, limits, slices, maxes, mirrors, spelled, limit_in, slice_in, max_in, mirror_in}
 use Rattle.archive_cli.specs.Options.{IsServing, Holds, HoldsMore, HoldsTwo, marks}
 use Rattle.archive_cli.specs.declared.words.Job.{Job}
-use Rattle.archive_cli.specs.declared.words.Job.TheVariants.{Help, Version, Replay, Init, Deliver, Remove, Reindex, Check, Serve}
+use Rattle.archive_cli.specs.declared.words.Job.TheVariants.{Help, Version, Replay, Init, Deliver, Remove, Purge, Edit, Reindex, Check, Serve}
 use Rattle.archive_cli.specs.declared.words.ServeOption.{ServeOption}
 use Rattle.archive_cli.specs.declared.words.ServeOption.TheVariants as serving
 use Rattle.archive_cli.specs.declared.words.Setting.{Setting}
@@ -177,105 +178,149 @@ remove-init e = apart 114 105 (codes "emove") (codes "nit") (omega arith) e
 remove-replay : codes "remove" ≢ codes "replay"
 remove-replay e = apart 109 112 (codes "ove") (codes "lay") (omega arith) (ap (drop 2) e)
 
--- Equal words have equal first and second words and equal rests.
-module _ (v w x y : List ℕ) (xs ys : List (List ℕ)) where
-  first-word : v ∷ xs ≡ w ∷ ys → v ≡ w
-  first-word e = cc e
-
-  second-word : v ∷ x ∷ xs ≡ w ∷ y ∷ ys → x ≡ y
-  second-word e = cc e
-
-  third-words : v ∷ x ∷ xs ≡ w ∷ y ∷ ys → xs ≡ ys
-  third-words e = cc e
-
-  not-alone : v ∷ x ∷ xs ≡ w ∷ [] → ⊥
-  not-alone e = cc e
-
+-- Equal words have equal first words and equal rests.
 head-word : (v w : List ℕ) (xs ys : List (List ℕ)) → v ∷ xs ≡ w ∷ ys → v ≡ w
 head-word v w xs ys e = cc e
 
--- Words that start with `remove` and one more word, and that ask for a job, ask for a removal.
-module _ (word : List ℕ) (more : List (List ℕ)) where
-  remove_only : (job : Job) → AsksFor (codes "remove" ∷ word ∷ more) job → (number : ℕ) × (job ≡ Remove number) × IsRemove (codes "remove" ∷ word ∷ more) number
-  remove_only Help e = absurd (not-alone (codes "remove") (codes "--help") word [] more [] e)
-  remove_only Version e = absurd (not-alone (codes "remove") (codes "--version") word [] more [] e)
-  remove_only Deliver e = absurd (not-alone (codes "remove") (codes "deliver") word [] more [] e)
-  remove_only Reindex e = absurd (not-alone (codes "remove") (codes "reindex") word [] more [] e)
-  remove_only Check e = absurd (not-alone (codes "remove") (codes "check") word [] more [] e)
-  remove_only (Remove number) r = (number, refl, r)
-  remove_only (Init config) i = absurd (remove-init (first-word (codes "remove") (codes "init") [] [] (word ∷ more) i.after i.is))
-  remove_only (Replay config) r = absurd (remove-replay (first-word (codes "remove") (codes "replay") [] [] (word ∷ more) r.after r.is))
-  remove_only (Serve turns port) s = absurd (apart 114 115 (codes "emove") (codes "erve") (omega arith) (first-word (codes "remove") (codes "serve") [] [] (word ∷ more) (map serve_word s.options) s.is))
+tail-words : (v w : List ℕ) (xs ys : List (List ℕ)) → v ∷ xs ≡ w ∷ ys → xs ≡ ys
+tail-words v w xs ys e = cc e
 
-  -- More words after the number ask for no job.
-  pub removal_long : more ≢ [] → (job : Job) → AsksFor (codes "remove" ∷ word ∷ more) job → ⊥
-  removal_long some job asked =
-      let removal = remove_only job asked in
-      some (third-words (codes "remove") (codes "remove") word (decimal removal.0) more [] removal.2.is)
+-- Two words are not one.
+not-alone : (v w x : List ℕ) (xs : List (List ℕ)) → v ∷ x ∷ xs ≡ w ∷ [] → ⊥
+not-alone v w x xs e = cc e
 
-  -- Nor does a word that spells no number.
-  pub removal_unread : ((number : ℕ) → IsUpTo 2147483647 number → word ≢ decimal number) → (job : Job) → AsksFor (codes "remove" ∷ word ∷ more) job → ⊥
-  removal_unread none job asked =
-      let removal = remove_only job asked in
-      none removal.0 removal.2.range (second-word (codes "remove") (codes "remove") word (decimal removal.0) more [] removal.2.is)
+-- The commands whose words are one word and a number.
+pub data Numbered : Type 0 where
+  Removal : Numbered
+  Purging : Numbered
+  Editing : Numbered
 
-  -- A number alone.
-  pub removal_read : (number : ℕ) → more ≡ [] → IsUpTo 2147483647 number → word ≡ decimal number → IsRemove (codes "remove" ∷ word ∷ more) number
-  removal_read number none range spelling = record { is = cc (none, spelling); range = range }
+abbrev pub word_of : Numbered → List ℕ
+word_of Removal = codes "remove"
+word_of Purging = codes "purge"
+word_of Editing = codes "edit"
 
--- Words ask for the removal of at most one number.
-pub same_number : (words : List (List ℕ)) (m n : ℕ) → IsRemove words m → IsRemove words n → m ≡ n
-same_number words m n a b =
-    let spelling : decimal m ≡ decimal n = second-word (codes "remove") (codes "remove") (decimal m) (decimal n) [] [] (sym a.is ∙ b.is) in
-    decimal_injective m n (omega (arith, a.range.1)) (omega (arith, b.range.1)) spelling
+abbrev pub job_of : Numbered → ℕ → Job
+job_of Removal number = Remove number
+job_of Purging number = Purge number
+job_of Editing number = Edit number
 
--- Words that ask for a removal ask for nothing else.
-pub only_removes : (words : List (List ℕ)) (number : ℕ) (job : Job) → IsRemove words number → AsksFor words job → job ≡ Remove number
-only_removes words number job asked also =
-    let removal = remove_only (decimal number) [] job (subst (λ (ws : List (List ℕ)). AsksFor ws job) asked.is also) in
-    removal.1 ∙ ap Remove (same_number (codes "remove" ∷ decimal number ∷ []) removal.0 number removal.2 (subst (λ (ws : List (List ℕ)). IsRemove ws number) asked.is asked))
+-- They are apart, and apart from the words before settings and options.
+same-kind : (k l : Numbered) → word_of k ≡ word_of l → k ≡ l
+same-kind Removal Removal e = refl
+same-kind Removal Purging e = absurd (apart 114 112 (codes "emove") (codes "urge") (omega arith) e)
+same-kind Removal Editing e = absurd (apart 114 101 (codes "emove") (codes "dit") (omega arith) e)
+same-kind Purging Removal e = absurd (apart 112 114 (codes "urge") (codes "emove") (omega arith) e)
+same-kind Purging Purging e = refl
+same-kind Purging Editing e = absurd (apart 112 101 (codes "urge") (codes "dit") (omega arith) e)
+same-kind Editing Removal e = absurd (apart 101 114 (codes "dit") (codes "emove") (omega arith) e)
+same-kind Editing Purging e = absurd (apart 101 112 (codes "dit") (codes "urge") (omega arith) e)
+same-kind Editing Editing e = refl
+
+no-init : (k : Numbered) → word_of k ≡ codes "init" → ⊥
+no-init Removal e = remove-init e
+no-init Purging e = apart 112 105 (codes "urge") (codes "nit") (omega arith) e
+no-init Editing e = apart 101 105 (codes "dit") (codes "nit") (omega arith) e
+
+no-replay : (k : Numbered) → word_of k ≡ codes "replay" → ⊥
+no-replay Removal e = remove-replay e
+no-replay Purging e = apart 112 114 (codes "urge") (codes "eplay") (omega arith) e
+no-replay Editing e = apart 101 114 (codes "dit") (codes "eplay") (omega arith) e
+
+no-serve : (k : Numbered) → word_of k ≡ codes "serve" → ⊥
+no-serve Removal e = apart 114 115 (codes "emove") (codes "erve") (omega arith) e
+no-serve Purging e = apart 112 115 (codes "urge") (codes "erve") (omega arith) e
+no-serve Editing e = apart 101 115 (codes "dit") (codes "erve") (omega arith) e
+
+as-kind : (k l : Numbered) (words : List (List ℕ)) (number : ℕ) → word_of l ≡ word_of k → IsNumbered (word_of l) words number → (n : ℕ) × (job_of l number ≡ job_of k n) × IsNumbered (word_of k) words n
+as-kind k l words number e found = subst (λ (x : Numbered). (n : ℕ) × (job_of l number ≡ job_of x n) × IsNumbered (word_of x) words n) (same-kind l k e) (number, refl, found)
+
+-- Words that start with one of them and one more word, and that ask for a job, ask for that command.
+module _ (k : Numbered) (word : List ℕ) (more : List (List ℕ)) where
+  numbered_only : (job : Job) → AsksFor (word_of k ∷ word ∷ more) job → (number : ℕ) × (job ≡ job_of k number) × IsNumbered (word_of k) (word_of k ∷ word ∷ more) number
+  numbered_only Help e = absurd (not-alone (word_of k) (codes "--help") word more e)
+  numbered_only Version e = absurd (not-alone (word_of k) (codes "--version") word more e)
+  numbered_only Deliver e = absurd (not-alone (word_of k) (codes "deliver") word more e)
+  numbered_only Reindex e = absurd (not-alone (word_of k) (codes "reindex") word more e)
+  numbered_only Check e = absurd (not-alone (word_of k) (codes "check") word more e)
+  numbered_only (Remove number) r = as-kind k Removal (word_of k ∷ word ∷ more) number (sym (head-word (word_of k) (codes "remove") (word ∷ more) (decimal number ∷ []) r.is)) r
+  numbered_only (Purge number) r = as-kind k Purging (word_of k ∷ word ∷ more) number (sym (head-word (word_of k) (codes "purge") (word ∷ more) (decimal number ∷ []) r.is)) r
+  numbered_only (Edit number) r = as-kind k Editing (word_of k ∷ word ∷ more) number (sym (head-word (word_of k) (codes "edit") (word ∷ more) (decimal number ∷ []) r.is)) r
+  numbered_only (Init config) i = absurd (no-init k (head-word (word_of k) (codes "init") (word ∷ more) i.after i.is))
+  numbered_only (Replay config) r = absurd (no-replay k (head-word (word_of k) (codes "replay") (word ∷ more) r.after r.is))
+  numbered_only (Serve turns port) s = absurd (no-serve k (head-word (word_of k) (codes "serve") (word ∷ more) (map serve_word s.options) s.is))
+
+  -- A number alone after it.
+  pub numbered_read : (number : ℕ) → IsLone (word ∷ more) (Some number) → IsNumbered (word_of k) (word_of k ∷ word ∷ more) number
+  numbered_read number lone = record { is = ap (λ (words : List (List ℕ)). word_of k ∷ words) lone.0; range = lone.1 }
+
+  -- Anything else asks for no job.
+  pub numbered_unread : IsLone (word ∷ more) None → (job : Job) → AsksFor (word_of k ∷ word ∷ more) job → ⊥
+  numbered_unread none job asked =
+      let found = numbered_only job asked in
+      none found.0 found.2.range (tail-words (word_of k) (word_of k) (word ∷ more) (decimal found.0 ∷ []) found.2.is)
+
+-- Whether words are a number alone.
+pub lone-more : (word : List ℕ) (more : List (List ℕ)) → more ≢ [] → IsLone (word ∷ more) None
+lone-more word more some number range is = some (tail-words word (decimal number) more [] is)
+
+pub lone-read : (word : List ℕ) (more : List (List ℕ)) (found : Option ℕ) → more ≡ [] → Spells (IsUpTo 2147483647) decimal word found → IsLone (word ∷ more) found
+lone-read word more None none unread = λ number range is. unread number range (head-word word (decimal number) more [] is)
+lone-read word more (Some number) none read = (cc (none, read.1), read.0)
 
 -- The words of no words.
 pub spelled-none : (words : List (Bor (List ℕ))) → spelled words ≡ [] → words ≡ []
 spelled-none [] e = refl
 spelled-none (w ∷ ws) e = absurd (cc e)
 
--- What is asked for by `remove` is asked for by a word that is `remove`.
-pub removal_named : (word : List ℕ) (after : List (List ℕ)) (found : Option Job) → word ≡ codes "remove" → IsJob (codes "remove" ∷ after) found → IsJob (word ∷ after) found
-removal_named word after found is asked = subst (λ (w : List ℕ). IsJob (w ∷ after) found) (sym is) asked
+-- What is asked for by a word is asked for by another that is the same.
+named : (word other : List ℕ) (after : List (List ℕ)) (found : Option Job) → word ≡ other → IsJob (other ∷ after) found → IsJob (word ∷ after) found
+named word other after found is asked = subst (λ (w : List ℕ). IsJob (w ∷ after) found) (sym is) asked
 
--- The same of `serve`.
+pub removal_named : (word : List ℕ) (after : List (List ℕ)) (found : Option Job) → word ≡ codes "remove" → IsJob (codes "remove" ∷ after) found → IsJob (word ∷ after) found
+removal_named word after found is asked = named word (codes "remove") after found is asked
+
+pub purge_named : (word : List ℕ) (after : List (List ℕ)) (found : Option Job) → word ≡ codes "purge" → IsJob (codes "purge" ∷ after) found → IsJob (word ∷ after) found
+purge_named word after found is asked = named word (codes "purge") after found is asked
+
+pub edit_named : (word : List ℕ) (after : List (List ℕ)) (found : Option Job) → word ≡ codes "edit" → IsJob (codes "edit" ∷ after) found → IsJob (word ∷ after) found
+edit_named word after found is asked = named word (codes "edit") after found is asked
+
 pub serve_named : (word : List ℕ) (after : List (List ℕ)) (found : Option Job) → word ≡ codes "serve" → IsJob (codes "serve" ∷ after) found → IsJob (word ∷ after) found
-serve_named word after found is asked = subst (λ (w : List ℕ). IsJob (w ∷ after) found) (sym is) asked
+serve_named word after found is asked = named word (codes "serve") after found is asked
 
 module _ (word name : List ℕ) (options : List (List ℕ)) where
   -- A word, and then the words that make an archive.
   after_word : (command : List ℕ) (after : List (List ℕ)) (settings : List Setting) (config : Config) → word ∷ name ∷ options ≡ command ∷ after → IsMade after settings config → IsMade (name ∷ options) settings config
   after_word command after settings config is m = subst (λ ws. IsMade ws settings config) (cc is) m
 
-  -- Words that make no archive, and whose first is neither `remove` nor `serve`, ask for no job.
-  pub not_made : word ≢ codes "remove" → word ≢ codes "serve" → ((settings : List Setting) (config : Config) → IsMade (name ∷ options) settings config → ⊥) → (job : Job) → AsksFor (word ∷ name ∷ options) job → ⊥
-  not_made o v h Help e = cc e
-  not_made o v h Version e = cc e
-  not_made o v h Deliver e = cc e
-  not_made o v h Reindex e = cc e
-  not_made o v h Check e = cc e
-  not_made o v h (Remove number) r = o (cc r.is)
-  not_made o v h (Init config) i = h i.settings config (after_word (codes "init") i.after i.settings config i.is i.made)
-  not_made o v h (Replay config) r = h r.settings config (after_word (codes "replay") r.after r.settings config r.is r.made)
-  not_made o v h (Serve turns port) s = v (cc s.is)
+  -- Words that make no archive, and whose first isn't that of another job, ask for no job.
+  pub not_made : word ≢ codes "remove" → word ≢ codes "purge" → word ≢ codes "edit" → word ≢ codes "serve" → ((settings : List Setting) (config : Config) → IsMade (name ∷ options) settings config → ⊥) → (job : Job) → AsksFor (word ∷ name ∷ options) job → ⊥
+  not_made o x y v h Help e = cc e
+  not_made o x y v h Version e = cc e
+  not_made o x y v h Deliver e = cc e
+  not_made o x y v h Reindex e = cc e
+  not_made o x y v h Check e = cc e
+  not_made o x y v h (Remove number) r = o (cc r.is)
+  not_made o x y v h (Purge number) r = x (cc r.is)
+  not_made o x y v h (Edit number) r = y (cc r.is)
+  not_made o x y v h (Init config) i = h i.settings config (after_word (codes "init") i.after i.settings config i.is i.made)
+  not_made o x y v h (Replay config) r = h r.settings config (after_word (codes "replay") r.after r.settings config r.is r.made)
+  not_made o x y v h (Serve turns port) s = v (cc s.is)
 
   -- Words whose first is another ask for no job.
-  pub other_word : word ≢ codes "remove" → word ≢ codes "init" → word ≢ codes "replay" → word ≢ codes "serve" → (job : Job) → AsksFor (word ∷ name ∷ options) job → ⊥
-  other_word o p q v Help e = cc e
-  other_word o p q v Version e = cc e
-  other_word o p q v Deliver e = cc e
-  other_word o p q v Reindex e = cc e
-  other_word o p q v Check e = cc e
-  other_word o p q v (Remove number) r = o (cc r.is)
-  other_word o p q v (Init config) i = p (cc i.is)
-  other_word o p q v (Replay config) r = q (cc r.is)
-  other_word o p q v (Serve turns port) s = v (cc s.is)
+  pub other_word : word ≢ codes "remove" → word ≢ codes "purge" → word ≢ codes "edit" → word ≢ codes "init" → word ≢ codes "replay" → word ≢ codes "serve" → (job : Job) → AsksFor (word ∷ name ∷ options) job → ⊥
+  other_word o x y p q v Help e = cc e
+  other_word o x y p q v Version e = cc e
+  other_word o x y p q v Deliver e = cc e
+  other_word o x y p q v Reindex e = cc e
+  other_word o x y p q v Check e = cc e
+  other_word o x y p q v (Remove number) r = o (cc r.is)
+  other_word o x y p q v (Purge number) r = x (cc r.is)
+  other_word o x y p q v (Edit number) r = y (cc r.is)
+  other_word o x y p q v (Init config) i = p (cc i.is)
+  other_word o x y p q v (Replay config) r = q (cc r.is)
+  other_word o x y p q v (Serve turns port) s = v (cc s.is)
 
   module _ (config : Config) (is : word ≡ codes "replay") (made : (settings : List Setting) × IsMade (name ∷ options) settings config) where
     -- `replay` and an archive that is no mirror.
@@ -295,7 +340,9 @@ module _ (word name : List ℕ) (options : List (List ℕ)) where
     not_replayed e Deliver f = cc f
     not_replayed e Reindex f = cc f
     not_replayed e Check f = cc f
-    not_replayed e (Remove number) r = remove-replay (sym (first-word word (codes "remove") [] [] (name ∷ options) (decimal number ∷ []) r.is) ∙ is)
+    not_replayed e (Remove number) r = no-replay Removal (sym (head-word word (codes "remove") (name ∷ options) (decimal number ∷ []) r.is) ∙ is)
+    not_replayed e (Purge number) r = no-replay Purging (sym (head-word word (codes "purge") (name ∷ options) (decimal number ∷ []) r.is) ∙ is)
+    not_replayed e (Edit number) r = no-replay Editing (sym (head-word word (codes "edit") (name ∷ options) (decimal number ∷ []) r.is) ∙ is)
     not_replayed e (Init other) i = apart 105 114 (codes "nit") (codes "eplay") (omega arith) (cc (i.is, is))
     not_replayed e (Serve turns port) s = apart 115 114 (codes "erve") (codes "eplay") (omega arith) (cc (s.is, is))
     not_replayed e (Replay other) r =
@@ -402,7 +449,9 @@ serve_only after Version e = absurd (apart 115 45 (codes "erve") (codes "-versio
 serve_only after Deliver e = absurd (apart 115 100 (codes "erve") (codes "eliver") (omega arith) (head-word (codes "serve") (codes "deliver") after [] e))
 serve_only after Reindex e = absurd (apart 115 114 (codes "erve") (codes "eindex") (omega arith) (head-word (codes "serve") (codes "reindex") after [] e))
 serve_only after Check e = absurd (apart 115 99 (codes "erve") (codes "heck") (omega arith) (head-word (codes "serve") (codes "check") after [] e))
-serve_only after (Remove number) r = absurd (apart 115 114 (codes "erve") (codes "emove") (omega arith) (head-word (codes "serve") (codes "remove") after (decimal number ∷ []) r.is))
+serve_only after (Remove number) r = absurd (no-serve Removal (sym (head-word (codes "serve") (codes "remove") after (decimal number ∷ []) r.is)))
+serve_only after (Purge number) r = absurd (no-serve Purging (sym (head-word (codes "serve") (codes "purge") after (decimal number ∷ []) r.is)))
+serve_only after (Edit number) r = absurd (no-serve Editing (sym (head-word (codes "serve") (codes "edit") after (decimal number ∷ []) r.is)))
 serve_only after (Init config) i = absurd (apart 115 105 (codes "erve") (codes "nit") (omega arith) (head-word (codes "serve") (codes "init") after i.after i.is))
 serve_only after (Replay config) r = absurd (apart 115 114 (codes "erve") (codes "eplay") (omega arith) (head-word (codes "serve") (codes "replay") after r.after r.is))
 serve_only after (Serve turns port) s = (turns, port, refl, s)

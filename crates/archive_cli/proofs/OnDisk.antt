@@ -15,6 +15,8 @@ use Rattle.arch_model.specs.Archives.{Archive, empty_archive, live as live_entri
 use Rattle.arch_model.specs.Delivery.{Done}
 use Rattle.arch_model.specs.Keeping.{Settles, Comes, Obeys, Doubts, AnswerCause}
 use Rattle.arch_model.specs.Standing.{Standing, standing, one_of, IsFound}
+use Rattle.arch_model.specs.declared.command.Command.{Command}
+use Rattle.arch_model.specs.declared.command.Command.TheVariants.{Deliver, Remove, Purge, Edit}
 use Rattle.arch_model.specs.declared.answer.Answer.{Answer}
 use Rattle.arch_model.specs.declared.answer.Answer.TheVariants as answer
 use Rattle.arch_model.specs.declared.opening.OpenRefusal.{OpenRefusal}
@@ -27,13 +29,13 @@ use Rattle.epoch_store.specs.Files.{as_read}
 use Rattle.epoch_store.specs.Opens.{Opens, ReadsAs, ReadsWith, RecoversOf, RecoversOfWith, AllRecoverOf, AllRecoverWith, IsWant, SyncsFirst, OnSynced}
 use Rattle.epoch_store.specs.Recovery.{Recovers, RecoversSomeWith}
 use Rattle.epoch_store.specs.Finding.{IsCurrentRoot}
-use Rattle.epoch_store.specs.Stores.{View, IsStoreOf, IsStoreWith, IsDiskOf, RecoversEither, RecoversEitherWith}
-use Rattle.archive_core.specs.Commands.{DoneBy}
+use Rattle.epoch_store.specs.Stores.{View, IsStoreOf, IsStoreWith, IsDiskOf, RecoversEither, RecoversOneOf}
+use Rattle.archive_core.specs.Commands.{DoneBy, cache_left}
 use Rattle.archive_core.specs.Engines.{Owning}
 use Rattle.archive_core.specs.Openings.{LeavesKindly}
 use Rattle.archive_core.proofs.Stored.{stored-length}
 use Rattle.archive_core.proofs.Engines.{all_recover, reads_one, stands_for}
-use Rattle.archive_cli.specs.DiskCommands.{Makes, unmade, IsFault, IsOpenedAs, Answers, TakesTo, ReindexesTo, ChecksTo, StandsAs, StaysUnopened, TakesOn, CommandLeaves, CommandLeavesAmong}
+use Rattle.archive_cli.specs.DiskCommands.{Makes, unmade, IsFault, IsOpenedAs, Answers, TakesTo, ReindexesTo, ChecksTo, StandsAs, StaysUnopened, TakesOn, RunsOrStays, LeavesSame, LeavesEither}
 use Rattle.archive_cli.specs.declared.outcome.Outcome.{Outcome}
 use Rattle.archive_cli.specs.declared.outcome.Outcome.TheVariants.{Made, Reindexed, Checked, Answered, Unopened}
 
@@ -164,8 +166,15 @@ pub opened-as : (v : View) (content : Option Content) (entries live next : ℕ) 
 opened-as v None entries live next answer count following = tt
 opened-as v (Some k) entries live next answer count following = (v, answer, count, following)
 
+-- Where there was no cache a command leaves none.
+no-cache : (command : Command) → cache_left command [] ≡ []
+no-cache (Deliver bytes) = refl
+no-cache (Remove number) = refl
+no-cache (Purge number) = refl
+no-cache (Edit number bytes) = refl
+
 -- The answer of an open archive is the answer on the disk.
-pub done-answers : (v : View) (a : Archive) (wanted : Done) (reply : Answer) (content : Option Content) → DoneBy v [] a wanted reply content → Answers a wanted reply content
+pub done-answers : (v : View) (a : Archive) (wanted : Done) (reply : Answer) (content : Option Content) → DoneBy v [] [] a wanted reply content → Answers a wanted reply content
 done-answers v a wanted answer.NoMemory content done = (v, done)
 done-answers v a wanted answer.DiskFault content done = tt
 done-answers v a wanted (answer.Ok number id) content done = record { answer_is = done.answer_is; own = (v, done.store) }
@@ -176,7 +185,7 @@ done-answers v a wanted (answer.Full max) content done = record { answer_is = do
 done-answers v a wanted (answer.Collision number) content done = record { answer_is = done.answer_is; own = (v, done.store) }
 done-answers v a wanted answer.IsMirror content done = record { answer_is = done.answer_is; own = (v, done.store) }
 done-answers v a wanted (answer.NotLive number) content done = record { answer_is = done.answer_is; own = (v, done.store) }
-done-answers v a wanted (answer.NoText number) content done = absurd done
+done-answers v a wanted (answer.NoText number) content done = record { answer_is = done.answer_is; own = (v, done.store) }
 done-answers v a wanted (answer.Damaged file at) content done = absurd done
 
 -- A disk that stands so leaves nothing else at first.
@@ -250,40 +259,38 @@ module _ {D : Type 0} (content : D → Option Content) (moment : D → ℕ) (lef
           (record { found = found.1; sure = refl }, found.2),
         )
 
+    -- What a crash leaves once it was opened, and after what is done then.
+    runs-then : (new : D) (leaves : Archive → Files → Type 0) → WhereTold (λ (k : Content). Opens (as_read k) (Ok e.view)) (content old) → ((a : Archive) → ReadsAs a (content old) → LeavesOnly moment left_since first.synced new (leaves a)) → RunsOrStays content moment left_since old new leaves
+    runs-then new leaves answer after = λ may all.
+        let found = read-among may (content old) (reads_fit old) all e.view answer in
+        inr (record {
+          found = found.0;
+          is_among = found.1;
+          reads = found.2;
+          synced = first.synced;
+          only = first.only;
+          before = weaker moment left_since old first.synced (Image (content old)) (RecoversOf may) first.before (λ image now. image-all may (content old) image all now);
+          after = after found.0 found.2;
+        })
+
+    pub opened-runs : WhereTold (λ (k : Content). Opens (as_read k) (Ok e.view)) (content old) → RunsOrStays content moment left_since old e.disk LeavesSame
+    opened-runs answer = runs-then e.disk LeavesSame answer (λ a reads. first.after a [] reads)
+
     -- A command was taken.
-    module _ (new : Owning D) (wanted : Archive → Done) (reply : Answer)
-        (taken : (a : Archive) (cache : List ℕ) → IsStoreWith e.view cache a (content e.disk) → DoneBy new.view cache a (wanted a) reply (content new.disk))
-        (left : (a : Archive) (cache : List ℕ) → IsStoreWith e.view cache a (content e.disk) → LeavesOnly moment left_since e.disk new.disk (RecoversEitherWith cache a (wanted a).archive)) where
+    module _ (new : Owning D) (command : Command) (wanted : Archive → Done) (reply : Answer)
+        (taken : (a : Archive) (cache : List ℕ) → IsStoreWith e.view cache a (content e.disk) → DoneBy new.view cache (cache_left command cache) a (wanted a) reply (content new.disk))
+        (left : (a : Archive) (cache : List ℕ) → IsStoreWith e.view cache a (content e.disk) → LeavesOnly moment left_since e.disk new.disk (RecoversOneOf cache a (cache_left command cache) (wanted a).archive)) where
+      taken-bare : (a : Archive) → IsStoreOf e.view a (content e.disk) → DoneBy new.view [] [] a (wanted a) reply (content new.disk)
+      taken-bare a store = subst (λ (cache : List ℕ). DoneBy new.view [] cache a (wanted a) reply (content new.disk)) (no-cache command) (taken a [] store)
+
+      left-bare : (a : Archive) → IsStoreOf e.view a (content e.disk) → LeavesOnly moment left_since e.disk new.disk (RecoversEither a (wanted a).archive)
+      left-bare a store = subst (λ (cache : List ℕ). LeavesOnly moment left_since e.disk new.disk (RecoversOneOf [] a cache (wanted a).archive)) (no-cache command) (left a [] store)
+
       pub taken-answers : (a : Archive) → ReadsAs a (content old) → Answers a (wanted a) reply (content new.disk)
-      taken-answers a reads = done-answers new.view a (wanted a) reply (content new.disk) (taken a [] (done a [] reads))
+      taken-answers a reads = done-answers new.view a (wanted a) reply (content new.disk) (taken-bare a (done a [] reads))
 
-      pub taken-leaves : (s : Standing) → StandsAs s (content old) → CommandLeaves content moment left_since old new.disk s wanted
-      taken-leaves s all =
-          let found = found-at s old all in
-          inr (record {
-            found = found.0;
-            is_found = found.1;
-            reads = found.2;
-            synced = first.synced;
-            only = first.only;
-            before = weaker moment left_since old first.synced (Image (content old)) (RecoversOf (one_of s)) first.before (λ image now. image-all (one_of s) (content old) image all now);
-            after = joined moment left_since first.synced e.disk new.disk (λ (i : Files). Recovers i found.0) (RecoversEither found.0 (wanted found.0).archive) (RecoversEither found.0 (wanted found.0).archive) (first.after found.0 [] found.2) (left found.0 [] (done found.0 [] found.2))
-                (λ image one. inl one) (λ image either. either);
-          })
-
-      pub taken-among : (may : List (Option Archive)) → AllRecoverOf may (content old) → WhereTold (λ (k : Content). Opens (as_read k) (Ok e.view)) (content old) → CommandLeavesAmong content moment left_since old new.disk may wanted
-      taken-among may all answer =
-          let found = read-among may (content old) (reads_fit old) all e.view answer in
-          inr (record {
-            found = found.0;
-            is_among = found.1;
-            reads = found.2;
-            synced = first.synced;
-            only = first.only;
-            before = weaker moment left_since old first.synced (Image (content old)) (RecoversOf may) first.before (λ image now. image-all may (content old) image all now);
-            after = joined moment left_since first.synced e.disk new.disk (λ (i : Files). Recovers i found.0) (RecoversEither found.0 (wanted found.0).archive) (RecoversEither found.0 (wanted found.0).archive) (first.after found.0 [] found.2) (left found.0 [] (done found.0 [] found.2))
-                (λ image one. inl one) (λ image either. either);
-          })
+      pub taken-runs : WhereTold (λ (k : Content). Opens (as_read k) (Ok e.view)) (content old) → RunsOrStays content moment left_since old new.disk (LeavesEither wanted)
+      taken-runs answer = runs-then new.disk (LeavesEither wanted) answer (λ a reads. joined moment left_since first.synced e.disk new.disk (λ (i : Files). Recovers i a) (RecoversEither a (wanted a).archive) (RecoversEither a (wanted a).archive) (first.after a [] reads) (left-bare a (done a [] reads)) (λ image one. inl one) (λ image either. either))
 
       module _ (s : Standing) (b : Archive) (found : IsFound s b) (reads : ReadsAs b (content old)) where
         -- The disk of a store's archive.
@@ -295,10 +302,10 @@ module _ {D : Type 0} (content : D → Option Content) (moment : D → ℕ) (lef
             let obeys : Obeys (standing b None) wanted r (standing (wanted b).archive None) = record { found = b; is_found = inl refl; answer_is = answer_is; stands = refl } in
             (standing (wanted b).archive None, own-stands (wanted b).archive store, record { found = b; is_found = found; reads = reads; comes = comes (standing (wanted b).archive None) obeys })
 
-        stands-by : (r : Answer) → reply ≡ r → DoneBy new.view [] b (wanted b) r (content new.disk) → (t : Standing) × StandsAs t (content new.disk) × TakesOn s (content old) wanted (Answered r) t
+        stands-by : (r : Answer) → reply ≡ r → DoneBy new.view [] [] b (wanted b) r (content new.disk) → (t : Standing) × StandsAs t (content new.disk) × TakesOn s (content old) wanted (Answered r) t
         stands-by answer.NoMemory is store = (standing b None, own-stands b store, record { found = b; is_found = found; reads = reads; comes = inr (record { found = inl refl; sure = refl }) })
         stands-by answer.DiskFault is nothing =
-            let run = left b [] (done b [] reads) in
+            let run = left-bare b (done b [] reads) in
             let doubts : Doubts (standing b None) wanted (standing b (Some (wanted b).archive)) = record { found = b; is_found = inl refl; stands = refl } in (
               standing b (Some (wanted b).archive),
               all_recover (standing b (Some (wanted b).archive)) [] (content new.disk) (λ image now. of_either image (now-left e.disk new.disk (RecoversEither b (wanted b).archive) run image now)),
@@ -316,10 +323,10 @@ module _ {D : Type 0} (content : D → Option Content) (moment : D → ℕ) (lef
         stands-by (answer.Collision number) is d = stands-done (answer.Collision number) is d.answer_is d.store (λ t obeys. obeys)
         stands-by answer.IsMirror is d = stands-done answer.IsMirror is d.answer_is d.store (λ t obeys. obeys)
         stands-by (answer.NotLive number) is d = stands-done (answer.NotLive number) is d.answer_is d.store (λ t obeys. obeys)
-        stands-by (answer.NoText number) is never = absurd never
+        stands-by (answer.NoText number) is d = stands-done (answer.NoText number) is d.answer_is d.store (λ t obeys. obeys)
         stands-by (answer.Damaged file at) is never = absurd never
 
       pub taken-stands : (s : Standing) → StandsAs s (content old) → (t : Standing) × StandsAs t (content new.disk) × TakesOn s (content old) wanted (Answered reply) t
       taken-stands s all =
           let found = found-at s old all in
-          stands-by s found.0 found.1 found.2 reply refl (taken found.0 [] (done found.0 [] found.2))
+          stands-by s found.0 found.1 found.2 reply refl (taken-bare found.0 (done found.0 [] found.2))

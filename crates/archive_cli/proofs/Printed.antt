@@ -9,9 +9,10 @@ use Rattle.std.proofs.lemmas.List.{append-nil, take_all, length-take}
 use Rattle.std.proofs.Math.Seq.{take-append_seam}
 use Rattle.answer_lines.specs.Lines.{whole_line}
 use Rattle.arch_model.specs.Archives.{Archive}
+use Rattle.arch_model.specs.Delivery.{Done}
 use Rattle.arch_model.specs.declared.answer.Answer.TheVariants as answer
 use Rattle.archive_core.proofs.Answered.{delivery-lives}
-use Rattle.archive_cli.specs.DiskCommands.{IsDone, TakesTo, delivering, removing}
+use Rattle.archive_cli.specs.DiskCommands.{IsDone, TakesTo, delivering}
 use Rattle.archive_cli.specs.Statuses.{code_of}
 use Rattle.archive_cli.specs.Words.{IsJob, AsksFor}
 use Rattle.archive_cli.specs.Turns.{Transcript}
@@ -23,14 +24,14 @@ use Rattle.edge_io.specs.Coming.{Moments, IsFirst}
 use Rattle.archive_cli.specs.Outcomes.{outcome_line, status_of}
 use Rattle.archive_cli.specs.declared.outcome.Outcome.{Outcome}
 use Rattle.archive_cli.specs.declared.outcome.Outcome.TheVariants.{Answered}
-use Rattle.archive_cli.specs.Program.{Edges, all_edges, NoneFailed, Acts, EndsBy, InitActs, CommandActs, DeliverActs, ReindexActs, CheckActs, PlaysPart, IsInput, IsDue, Ends, Ran, input_limit, message_of, TookAtMost}
+use Rattle.archive_cli.specs.Program.{Edges, all_edges, NoneFailed, Acts, EndsBy, InitActs, CommandActs, MessageActs, putting, AsksForMessage, AsksForCommand, ReindexActs, CheckActs, PlaysPart, IsInput, IsDue, Ends, Ran, input_limit, message_of, TookAtMost}
 use Rattle.archive_cli.specs.Printing.{Printed, Exactly, IsReplayDue, Replayed, IsPieceRead, JobDone, InputDone, IsUnread}
 use Rattle.archive_cli.specs.declared.status.Status.{Status}
 use Rattle.archive_cli.specs.declared.status.Status.TheVariants as exit
 use Rattle.archive_cli.specs.declared.reading.InputRefusal.{InputRefusal}
 use Rattle.archive_cli.specs.declared.reading.InputRefusal.TheVariants.{Fault, TooLong, NoMemory}
 use Rattle.archive_cli.specs.declared.words.Job.{Job}
-use Rattle.archive_cli.specs.declared.words.Job.TheVariants.{Replay, Init, Deliver, Remove, Reindex, Check, Serve}
+use Rattle.archive_cli.specs.declared.words.Job.TheVariants.{Replay, Init, Deliver, Edit, Reindex, Check, Serve}
 
 module _ (out : Option (List ℕ)) (lost : ℕ) (out' : Option (List ℕ)) (lost' : ℕ) where
   -- What is due by one rule is due by another.
@@ -115,22 +116,36 @@ ran-made words config status i j asked (inl p) =
     ran-printed words given.0 status i j (EndsBy (InitActs config) i j) given.1 (λ s printed due. inl (record { job = Some (Init config); asked = asked; ends = due })) p
 ran-made words config status i j asked (inr missed) = inr (inr (inl (record { asked = inl (config, asked); rose = missed.1; silent = missed.0 })))
 
--- A message that was to be delivered is a run.
-pub ran-delivered : (words : List (List ℕ)) (status : Status) (i j : Edges) → AsksFor words Deliver → InputDone status i j → Ran words status i j
-ran-delivered words status i j asked (inl (input, told, inl p)) =
-    ran-printed words input status i j (EndsBy (DeliverActs (message_of input)) i j) told (λ s printed due. inl (record { job = Some Deliver; asked = asked; ends = due })) p
-ran-delivered words status i j asked (inl (input, told, inr missed)) = inr (inr (inl (record { asked = inr (inl asked); rose = missed.1; silent = missed.0 })))
-ran-delivered words status i j asked (inr (inl p)) =
-    let given = some-input i.left in
-    ran-printed words given.0 status i j (IsUnread i j) given.1 (λ s printed unread. inr (inr (record { asked = asked; status_is = unread.status_is; printed_is = unread.printed_is; kept = unread.kept; spared = unread.spared }))) p
-ran-delivered words status i j asked (inr (inr failed)) = inr (inl (record { asked = inr asked; rose = failed.1; silent = failed.0 }))
+-- The job that puts the message on the input into the archive.
+abbrev pub putting_job : Option ℕ → Job
+putting_job None = Deliver
+putting_job (Some number) = Edit number
 
--- A message that was to be removed is a run.
-pub ran-removed : (words : List (List ℕ)) (number : ℕ) (status : Status) (i j : Edges) → AsksFor words (Remove number) → JobDone (CommandActs (removing number)) status i j → Ran words status i j
-ran-removed words number status i j asked (inl p) =
+asks-put : (words : List (List ℕ)) (place : Option ℕ) → AsksFor words (putting_job place) → AsksForMessage words
+asks-put words None asked = inl asked
+asks-put words (Some number) asked = inr (number, asked)
+
+ends-put : (place : Option ℕ) (input : List ℕ) (i j : Edges) (s : Status) (printed : List ℕ) → EndsBy (MessageActs place (message_of input)) i j s printed → Ends (Some (putting_job place)) input i j s printed
+ends-put None input i j s printed ends = ends
+ends-put (Some number) input i j s printed ends = ends
+
+-- A message that was to be put there is a run.
+pub ran-put : (words : List (List ℕ)) (place : Option ℕ) (status : Status) (i j : Edges) → AsksFor words (putting_job place) → InputDone place status i j → Ran words status i j
+ran-put words place status i j asked (inl (input, told, inl p)) =
+    ran-printed words input status i j (EndsBy (MessageActs place (message_of input)) i j) told (λ s printed due. inl (record { job = Some (putting_job place); asked = asked; ends = ends-put place input i j s printed due })) p
+ran-put words place status i j asked (inl (input, told, inr missed)) = inr (inr (inl (record { asked = inr (inl (asks-put words place asked)); rose = missed.1; silent = missed.0 })))
+ran-put words place status i j asked (inr (inl p)) =
     let given = some-input i.left in
-    ran-printed words given.0 status i j (EndsBy (CommandActs (removing number)) i j) given.1 (λ s printed due. inl (record { job = Some (Remove number); asked = asked; ends = due })) p
-ran-removed words number status i j asked (inr missed) = inr (inr (inl (record { asked = inr (inr (number, asked)); rose = missed.1; silent = missed.0 })))
+    ran-printed words given.0 status i j (IsUnread i j) given.1 (λ s printed unread. inr (inr (record { asked = asks-put words place asked; status_is = unread.status_is; printed_is = unread.printed_is; kept = unread.kept; spared = unread.spared }))) p
+ran-put words place status i j asked (inr (inr failed)) = inr (inl (record { asked = inr (asks-put words place asked); rose = failed.1; silent = failed.0 }))
+
+-- A command without a message is a run.
+pub ran-command : (words : List (List ℕ)) (job : Job) (wanted : ℕ → Archive → Done) (status : Status) (i j : Edges) → AsksFor words job → AsksForCommand words → ((input : List ℕ) (s : Status) (printed : List ℕ) → EndsBy (CommandActs wanted) i j s printed → Ends (Some job) input i j s printed)
+    → JobDone (CommandActs wanted) status i j → Ran words status i j
+ran-command words job wanted status i j asked command ends (inl p) =
+    let given = some-input i.left in
+    ran-printed words given.0 status i j (EndsBy (CommandActs wanted) i j) given.1 (λ s printed due. inl (record { job = Some job; asked = asked; ends = ends given.0 s printed due })) p
+ran-command words job wanted status i j asked command ends (inr missed) = inr (inr (inl (record { asked = inr command; rose = missed.1; silent = missed.0 })))
 
 -- A reindexing is a run.
 pub ran-reindexed : (words : List (List ℕ)) (status : Status) (i j : Edges) (o : Outcome) → AsksFor words Reindex → Acts ReindexActs i j o → Printed (Exactly (whole_line (outcome_line o)) (status_of o)) status i.taken i.lost j.taken j.lost → Ran words status i j
@@ -177,11 +192,14 @@ never-dead bytes moment a number o new takes is =
     let done : IsDone (delivering bytes moment a) (answer.NotLive number) new = subst (λ (p : Outcome). TakesTo a (delivering bytes moment a) p new) is takes in
     delivery-lives a bytes moment number done.answer_is
 
--- The command that delivers the message on an input did what `deliver` does.
-pub delivers-as : (bytes input : List ℕ) → bytes ≡ message_of input → (moment : ℕ) (old new : Option Content) (o : Outcome) → CommandActs (delivering bytes) moment old new o → DeliverActs (message_of input) moment old new o
-delivers-as bytes input is moment old new o acts =
-    let of_message : CommandActs (delivering (message_of input)) moment old new o = subst (λ (b : List ℕ). CommandActs (delivering b) moment old new o) is acts in
-    record { acts = of_message; lives = λ a reads number. never-dead (message_of input) moment a number o new (of_message.done a reads) }
+-- The command that puts the message on an input into the archive did what the job does.
+pub message-as : (place : Option ℕ) (bytes input : List ℕ) (wanted : ℕ → Archive → Done) → wanted ≡ putting place bytes → bytes ≡ message_of input → (moment : ℕ) (old new : Option Content) (o : Outcome) → CommandActs wanted moment old new o → MessageActs place (message_of input) moment old new o
+message-as place bytes input wanted is front moment old new o acts =
+    by place (subst (λ (b : List ℕ). CommandActs (putting place b) moment old new o) front (subst (λ (w : ℕ → Archive → Done). CommandActs w moment old new o) is acts))
+  where
+    by : (p : Option ℕ) → CommandActs (putting p (message_of input)) moment old new o → MessageActs p (message_of input) moment old new o
+    by None done = record { acts = done; lives = λ a reads number. never-dead (message_of input) moment a number o new (done.done a reads) }
+    by (Some number) done = done
 
 -- A job over the disk does not depend on the end of the input.
 pub job-moved : (did : ℕ → Option Content → Option Content → Outcome → Type 0) (status : Status) (left left' : Option (List ℕ)) (unread unread' : ℕ) (taken taken' : Option (List ℕ)) (lost lost' : ℕ) (coming coming' : Option Moments) (missed missed' : ℕ) (content content' : Option Content) (broken broken' : ℕ)

@@ -1,14 +1,17 @@
 -- Runs on one disk, in order.
-use Rattle.std.specs.Prelude.{◌≡◌, ◌≢◌, ◌⊎◌, ℕ, true, List, [], ◌∷◌, codes, decimal, get_or, Option, Some, None, refl}
+use Rattle.std.specs.Prelude.{◌≡◌, ◌≢◌, ◌⊎◌, ◌+◌, ◌*◌, ◌==◌, ◌||◌, ℕ, Bool, true, List, [], ◌∷◌, codes, decimal, get_or, Option, Some, None, refl}
 use Rattle.std.proofs.Common.{◌∙◌, map, sym, ap, subst, inl, inr, arith}
 use Rattle.std.proofs.lemmas.Bool.{false≢true}
+use Rattle.std.specs.Borrow.{Bor}
 use Rattle.arch_base.specs.declared.config.Config.{Config}
 use Rattle.disk_model.specs.Disk.{Files, Content, Image, WhereTold}
 use Rattle.edge_io.specs.Coming.{IsFirst}
 use Rattle.arch_model.specs.Archives.{Archive, empty_archive, live, text_of}
 use Rattle.arch_model.specs.Delivery.{Done}
 use Rattle.arch_model.specs.Keeping.{Settles, Comes, Obeys, Doubts}
-use Rattle.arch_model.specs.Laws.{KeepsNumbers, TakesFromView}
+use Rattle.arch_model.specs.Following.{Follows, FollowsItself}
+use Rattle.arch_model.specs.Laws.{CommandFollows, KeepsNumbers, TakesFromView}
+use Rattle.arch_model.specs.declared.command.Command.TheVariants as command
 use Rattle.arch_model.specs.Standing.{Standing, standing, one_of, IsFound}
 use Rattle.arch_model.specs.declared.answer.Answer.{Answer}
 use Rattle.arch_model.specs.declared.answer.Answer.TheVariants as answer
@@ -24,49 +27,56 @@ use Rattle.archive_cli.specs.declared.outcome.Outcome.TheVariants.{Made, Exists,
 use Rattle.archive_cli.specs.declared.status.Status.{Status}
 use Rattle.archive_cli.specs.declared.status.Status.TheVariants as exit
 use Rattle.archive_cli.specs.declared.words.Job.{Job}
-use Rattle.archive_cli.specs.declared.words.Job.TheVariants.{Help, Version, Replay, Init, Deliver, Remove, Reindex, Check, Serve}
-use Rattle.archive_cli.specs.DiskCommands.{Makes, StandsAs, StaysUnopened, TakesOn, delivering, removing}
-use Rattle.archive_cli.specs.Laws.{WithMessage, WithRemoval, Goes, RunsInARow}
+use Rattle.archive_cli.specs.declared.words.Job.TheVariants.{Help, Version, Replay, Init, Deliver, Remove, Purge, Edit, Reindex, Check, Serve}
+use Rattle.archive_cli.specs.DiskCommands.{Makes, StandsAs, StaysUnopened, TakesOn, ReindexesOn, ChecksOn, delivering, removing, purging, editing}
+use Rattle.archive_cli.specs.Laws.{WithMessage, WithRemoval, WithPurge, WithEdit, Goes, RunsInARow}
 use Rattle.archive_cli.specs.Outcomes.{status_of}
-use Rattle.archive_cli.specs.Program.{Edges, EndsBy, InitActs, CommandActs, DeliverActs, IsDue, Ends, Ran, IsInput, AsksForInit, AsksForCommand, message_of, made_at}
+use Rattle.archive_cli.specs.Program.{Edges, EndsBy, InitActs, CommandActs, DeliverActs, ReindexActs, CheckActs, IsDue, Ends, Ran, IsInput, IsOnArchive, AsksForInit, AsksOfArchive, message_of, made_at}
 use Rattle.archive_cli.specs.Statuses.{code_of}
 use Rattle.archive_cli.specs.Words.{AsksFor, IsJob, serve_word}
-use Rattle.archive_cli.proofs.Grammar.{only_removes}
 
 -- Words that start with different bytes differ.
 other-words : (c d : ℕ) (x y : List ℕ) (xs ys : List (List ℕ)) → c ≢ d → (c ∷ x) ∷ xs ≡ (d ∷ y) ∷ ys → ⊥
 other-words c d x y xs ys apart same = apart (ap (λ (words : List (List ℕ)). get_or (get_or words 0 []) 0 0) same)
 
--- Words that ask for a delivery ask for nothing else.
-only-delivers : (words : List (List ℕ)) (job : Job) → AsksFor words Deliver → AsksFor words job → job ≡ Deliver
-only-delivers words Deliver asked also = refl
-only-delivers words Help asked also = absurd (other-words 100 45 (codes "eliver") (codes "-help") [] [] (omega arith) (sym asked ∙ also))
-only-delivers words Version asked also = absurd (other-words 100 45 (codes "eliver") (codes "-version") [] [] (omega arith) (sym asked ∙ also))
-only-delivers words Reindex asked also = absurd (other-words 100 114 (codes "eliver") (codes "eindex") [] [] (omega arith) (sym asked ∙ also))
-only-delivers words Check asked also = absurd (other-words 100 99 (codes "eliver") (codes "heck") [] [] (omega arith) (sym asked ∙ also))
-only-delivers words (Remove number) asked also = absurd (other-words 100 114 (codes "eliver") (codes "emove") [] (decimal number ∷ []) (omega arith) (sym asked ∙ also.is))
-only-delivers words (Replay config) asked also = absurd (other-words 100 114 (codes "eliver") (codes "eplay") [] also.after (omega arith) (sym asked ∙ also.is))
-only-delivers words (Init config) asked also = absurd (other-words 100 105 (codes "eliver") (codes "nit") [] also.after (omega arith) (sym asked ∙ also.is))
-only-delivers words (Serve turns port) asked also = absurd (other-words 100 115 (codes "eliver") (codes "erve") [] (map serve_word also.options) (omega arith) (sym asked ∙ also.is))
+-- Whether the first word is that of a job on the archive: by its first and its third byte.
+abbrev is_on : ℕ → Bool
+is_on tag = tag == 100108 || (tag == 114109 || (tag == 112114 || (tag == 101105 || (tag == 114105 || tag == 99101))))
 
--- The job is a command on an archive.
-abbrev IsCommand : Job → Type 0
-IsCommand Deliver = Unit {0}
-IsCommand (Remove number) = Unit {0}
-IsCommand Help = ⊥
-IsCommand Version = ⊥
-IsCommand Reindex = ⊥
-IsCommand Check = ⊥
-IsCommand (Replay config) = ⊥
-IsCommand (Init config) = ⊥
-IsCommand (Serve turns port) = ⊥
+abbrev asks_on : List (List ℕ) → Bool
+asks_on words = is_on (1000 * get_or (get_or words 0 []) 0 0 + get_or (get_or words 0 []) 2 0)
 
--- Words that ask for a command ask for nothing else.
-only-commands : (words : List (List ℕ)) (job : Job) → AsksForCommand words → AsksFor words job → IsCommand job
-only-commands words job (inl asked) also = subst IsCommand (sym (only-delivers words job asked also)) tt
-only-commands words job (inr asked) also = subst IsCommand (sym (only_removes words asked.0 job asked.1 also)) tt
+on-asked : (words : List (List ℕ)) (job : Job) → IsOnArchive job → AsksFor words job → asks_on words ≡ true
+on-asked words Deliver on asked = ap asks_on asked
+on-asked words (Remove number) on asked = ap asks_on asked.is
+on-asked words (Purge number) on asked = ap asks_on asked.is
+on-asked words (Edit number) on asked = ap asks_on asked.is
+on-asked words Reindex on asked = ap asks_on asked
+on-asked words Check on asked = ap asks_on asked
+on-asked words Help never asked = absurd never
+on-asked words Version never asked = absurd never
+on-asked words (Replay config) never asked = absurd never
+on-asked words (Init config) never asked = absurd never
+on-asked words (Serve turns port) never asked = absurd never
 
--- Nor do words that ask to make an archive.
+asked-on : (words : List (List ℕ)) (job : Job) → asks_on words ≡ true → AsksFor words job → IsOnArchive job
+asked-on words Deliver on asked = tt
+asked-on words (Remove number) on asked = tt
+asked-on words (Purge number) on asked = tt
+asked-on words (Edit number) on asked = tt
+asked-on words Reindex on asked = tt
+asked-on words Check on asked = tt
+asked-on words Help on asked = false≢true (sym (ap asks_on asked) ∙ on)
+asked-on words Version on asked = false≢true (sym (ap asks_on asked) ∙ on)
+asked-on words (Replay config) on asked = false≢true (sym (ap asks_on asked.is) ∙ on)
+asked-on words (Init config) on asked = false≢true (sym (ap asks_on asked.is) ∙ on)
+asked-on words (Serve turns port) on asked = false≢true (sym (ap asks_on asked.is) ∙ on)
+
+-- Words that ask for a job on the archive ask for no other.
+only-on : (words : List (List ℕ)) (job : Job) → AsksOfArchive words → AsksFor words job → IsOnArchive job
+only-on words job asked also = asked-on words job (on-asked words asked.0 asked.1 asked.2) also
+
+-- Words that ask to make an archive ask for nothing else.
 only-makes : (words : List (List ℕ)) (job : Job) → AsksForInit words → AsksFor words job → (config : Config) × (job ≡ Init config)
 only-makes words (Init config) asked also = (config, refl)
 only-makes words Help asked also = absurd (other-words 105 45 (codes "nit") (codes "-help") asked.1.after [] (omega arith) (sym asked.1.is ∙ also))
@@ -76,11 +86,13 @@ only-makes words Check asked also = absurd (other-words 105 99 (codes "nit") (co
 only-makes words (Replay config) asked also = absurd (other-words 105 114 (codes "nit") (codes "eplay") asked.1.after also.after (omega arith) (sym asked.1.is ∙ also.is))
 only-makes words Deliver asked also = absurd (other-words 105 100 (codes "nit") (codes "eliver") asked.1.after [] (omega arith) (sym asked.1.is ∙ also))
 only-makes words (Remove number) asked also = absurd (other-words 105 114 (codes "nit") (codes "emove") asked.1.after (decimal number ∷ []) (omega arith) (sym asked.1.is ∙ also.is))
+only-makes words (Purge number) asked also = absurd (other-words 105 112 (codes "nit") (codes "urge") asked.1.after (decimal number ∷ []) (omega arith) (sym asked.1.is ∙ also.is))
+only-makes words (Edit number) asked also = absurd (other-words 105 101 (codes "nit") (codes "dit") asked.1.after (decimal number ∷ []) (omega arith) (sym asked.1.is ∙ also.is))
 only-makes words (Serve turns port) asked also = absurd (other-words 105 115 (codes "nit") (codes "erve") asked.1.after (map serve_word also.options) (omega arith) (sym asked.1.is ∙ also.is))
 
 -- The archive is the same, or what the command of the words makes of it.
 abbrev FromBy : List (List ℕ) → Edges → Archive → Archive → Type 0
-FromBy words i old new = (new ≡ old) ⊎ (WithMessage words i old new ⊎ WithRemoval words i old new)
+FromBy words i old new = (new ≡ old) ⊎ (WithMessage words i old new ⊎ (WithRemoval words i old new ⊎ (WithPurge words old new ⊎ WithEdit words i old new)))
 
 -- Each archive of one standing goes on from one of another.
 abbrev Steps : List (List ℕ) → Edges → Standing → Standing → Type 0
@@ -93,6 +105,28 @@ module _ (words : List (List ℕ)) (i : Edges) where
   steps-settled : (s t : Standing) → Settles s t → Steps words i s t
   steps-settled s t settles b (inl is) = (t.archive, settles.found, inl is)
   steps-settled s t settles b (inr doubt) = absurd (let no : None ≡ Some b = sym settles.sure ∙ doubt in cc)
+
+  steps-unopened : (s t : Standing) (old : Option Content) (why : OpenRefusal) → StaysUnopened s old why t → Steps words i s t
+  steps-unopened s t old refusal.DiskFault same = steps-same s t same
+  steps-unopened s t old refusal.NoMemory settles = steps-settled s t settles.0
+  steps-unopened s t old refusal.NoArchive never = absurd never
+  steps-unopened s t old (refusal.Damaged file offset) never = absurd never
+
+  steps-reindexed : (s t : Standing) (old : Option Content) (o : Outcome) → ReindexesOn s old o t → Steps words i s t
+  steps-reindexed s t old (Reindexed live) settles = steps-settled s t settles.0
+  steps-reindexed s t old (Unopened why) stays = steps-unopened s t old why stays
+  steps-reindexed s t old (Made name) never = absurd never
+  steps-reindexed s t old Exists never = absurd never
+  steps-reindexed s t old (Checked entries live next) never = absurd never
+  steps-reindexed s t old (Answered reply) never = absurd never
+
+  steps-checked : (s t : Standing) (old : Option Content) (o : Outcome) → ChecksOn s old o t → Steps words i s t
+  steps-checked s t old (Checked entries live next) settles = steps-settled s t settles.0
+  steps-checked s t old (Unopened why) stays = steps-unopened s t old why stays
+  steps-checked s t old (Made name) never = absurd never
+  steps-checked s t old Exists never = absurd never
+  steps-checked s t old (Reindexed live) never = absurd never
+  steps-checked s t old (Answered reply) never = absurd never
 
   module _ (wanted : Archive → Done) (goes : (a b : Archive) → b ≡ (wanted a).archive → FromBy words i a b) where
     module _ (s : Standing) (a : Archive) (found : IsFound s a) (t : Standing) where
@@ -132,12 +166,6 @@ module _ (words : List (List ℕ)) (i : Edges) where
       steps-answered answer.IsMirror obeys = steps-obeyed answer.IsMirror obeys
       steps-answered (answer.Damaged file offset) never = absurd never
 
-    steps-unopened : (s t : Standing) (old : Option Content) (why : OpenRefusal) → StaysUnopened s old why t → Steps words i s t
-    steps-unopened s t old refusal.DiskFault same = steps-same s t same
-    steps-unopened s t old refusal.NoMemory settles = steps-settled s t settles.0
-    steps-unopened s t old refusal.NoArchive never = absurd never
-    steps-unopened s t old (refusal.Damaged file offset) never = absurd never
-
     steps-done : (s t : Standing) (old : Option Content) (o : Outcome) → TakesOn s old wanted o t → Steps words i s t
     steps-done s t old (Answered reply) done = steps-answered s done.found done.is_found t reply done.comes
     steps-done s t old (Unopened why) stays = steps-unopened s t old why stays
@@ -160,33 +188,48 @@ module _ (words : List (List ℕ)) (i : Edges) where
         let t = ends.acts.acts.acts.stands s all in
         (t.0, t.1, steps-done (delivering (message_of input) at) (λ a b is. inr (inl (record { asked = asked; input = input; told = told; at = at; first = ends.acts.first; is = is }))) s t.0 i.content ends.outcome t.2)
 
+    leads-edited : (number : ℕ) → AsksFor words (Edit number) → (input : List ℕ) → IsInput i.left input → (status : Status) (printed : List ℕ) → EndsBy (CommandActs (editing number (message_of input))) i j status printed → Leads s j
+    leads-edited number asked input told status printed ends =
+        let at = ends.acts.moment in
+        let t = ends.acts.acts.stands s all in
+        (t.0, t.1, steps-done (editing number (message_of input) at) (λ a b is. inr (inr (inr (inr (record { number = number; asked = asked; input = input; told = told; at = at; first = ends.acts.first; is = is }))))) s t.0 i.content ends.outcome t.2)
+
     leads-removed : (number : ℕ) → AsksFor words (Remove number) → (status : Status) (printed : List ℕ) → EndsBy (CommandActs (removing number)) i j status printed → Leads s j
     leads-removed number asked status printed ends =
         let at = ends.acts.moment in
         let t = ends.acts.acts.stands s all in
-        (t.0, t.1, steps-done (removing number at) (λ a b is. inr (inr (record { number = number; asked = asked; at = at; first = ends.acts.first; is = is }))) s t.0 i.content ends.outcome t.2)
+        (t.0, t.1, steps-done (removing number at) (λ a b is. inr (inr (inl (record { number = number; asked = asked; at = at; first = ends.acts.first; is = is })))) s t.0 i.content ends.outcome t.2)
 
-    module _ (asked : AsksForCommand words) where
-      -- Words that ask for nothing don't ask for a command.
-      leads-none : ((job : Job) → AsksFor words job → ⊥) → AsksForCommand words → ⊥
-      leads-none none (inl one) = none Deliver one
-      leads-none none (inr one) = none (Remove one.0) one.1
+    leads-purged : (number : ℕ) → AsksFor words (Purge number) → (status : Status) (printed : List ℕ) → EndsBy (CommandActs (purging number)) i j status printed → Leads s j
+    leads-purged number asked status printed ends =
+        let at = ends.acts.moment in
+        let t = ends.acts.acts.stands s all in
+        (t.0, t.1, steps-done (purging number at) (λ a b is. inr (inr (inr (inl (record { number = number; asked = asked; is = is }))))) s t.0 i.content ends.outcome t.2)
 
+    leads-reindexed : (status : Status) (printed : List ℕ) → EndsBy ReindexActs i j status printed → Leads s j
+    leads-reindexed status printed ends = let t = ends.acts.acts.stands s all in (t.0, t.1, steps-reindexed s t.0 i.content ends.outcome t.2)
+
+    leads-checked : (status : Status) (printed : List ℕ) → EndsBy CheckActs i j status printed → Leads s j
+    leads-checked status printed ends = let t = ends.acts.acts.stands s all in (t.0, t.1, steps-checked s t.0 i.content ends.outcome t.2)
+
+    module _ (asked : AsksOfArchive words) where
       leads-does : (input : List ℕ) → IsInput i.left input → (status : Status) (printed : List ℕ) (job : Option Job) → IsJob words job → Ends job input i j status printed → Leads s j
-      leads-does input told status printed None asks ends = absurd (leads-none asks asked)
+      leads-does input told status printed None asks ends = absurd (asks asked.0 asked.2)
       leads-does input told status printed (Some Deliver) asks ends = leads-delivered asks input told status printed ends
       leads-does input told status printed (Some (Remove number)) asks ends = leads-removed number asks status printed ends
-      leads-does input told status printed (Some Help) asks ends = absurd (only-commands words Help asked asks)
-      leads-does input told status printed (Some Version) asks ends = absurd (only-commands words Version asked asks)
-      leads-does input told status printed (Some Reindex) asks ends = absurd (only-commands words Reindex asked asks)
-      leads-does input told status printed (Some Check) asks ends = absurd (only-commands words Check asked asks)
-      leads-does input told status printed (Some (Replay config)) asks ends = absurd (only-commands words (Replay config) asked asks)
-      leads-does input told status printed (Some (Serve turns port)) asks ends = absurd (only-commands words (Serve turns port) asked asks)
-      leads-does input told status printed (Some (Init config)) asks ends = absurd (only-commands words (Init config) asked asks)
+      leads-does input told status printed (Some (Purge number)) asks ends = leads-purged number asks status printed ends
+      leads-does input told status printed (Some (Edit number)) asks ends = leads-edited number asks input told status printed ends
+      leads-does input told status printed (Some Reindex) asks ends = leads-reindexed status printed ends
+      leads-does input told status printed (Some Check) asks ends = leads-checked status printed ends
+      leads-does input told status printed (Some Help) asks ends = absurd (only-on words Help asked asks)
+      leads-does input told status printed (Some Version) asks ends = absurd (only-on words Version asked asks)
+      leads-does input told status printed (Some (Replay config)) asks ends = absurd (only-on words (Replay config) asked asks)
+      leads-does input told status printed (Some (Serve turns port)) asks ends = absurd (only-on words (Serve turns port) asked asks)
+      leads-does input told status printed (Some (Init config)) asks ends = absurd (only-on words (Init config) asked asks)
 
       leads-due : (input : List ℕ) → IsInput i.left input → (status : Status) (printed : List ℕ) → IsDue words input i j status printed → Leads s j
       leads-due input told status printed (inl does) = leads-does input told status printed does.job does.asked does.ends
-      leads-due input told status printed (inr (inl out)) = absurd (only-commands words (Replay out.config) asked out.asked)
+      leads-due input told status printed (inr (inl out)) = absurd (only-on words (Replay out.config) asked out.asked)
       leads-due input told status printed (inr (inr out)) = leads-kept out.kept
 
       pub leads : (status : Status) → Ran words status i j → Leads s j
@@ -256,20 +299,31 @@ done-code exit.Memory is = absurd (omega (arith, is))
 done-code exit.Spent is = absurd (omega (arith, is))
 done-code exit.Script is = absurd (omega (arith, is))
 
--- Numbers keep their texts on the way.
-module _ (keeps : KeepsNumbers) (takes : TakesFromView) where
+-- Bytes as the message of a command.
+abbrev message : List ℕ → Bor (List ℕ)
+message bytes = record { ref_ptr = (0, 0); now = bytes }
+
+-- Numbers keep their texts on the way, and never name a second one.
+module _ (keeps : KeepsNumbers) (takes : TakesFromView) (itself : FollowsItself) (commands : CommandFollows) where
+  follows-as : (a b c : Archive) → b ≡ c → Follows a c → Follows a b
+  follows-as a b c same follows = subst (λ (x : Archive). Follows a x) (sym same) follows
+
   goes-by : (words : List (List ℕ)) (i : Edges) (a b : Archive) → FromBy words i a b → Goes words i a b
-  goes-by words i a b (inl same) = record { from = inl same; texts = λ n text spared is. subst (λ (x : Archive). text_of (live x.entries) n ≡ Some text) (sym same) is }
+  goes-by words i a b (inl same) = record { from = inl same; texts = λ n text spared unpurged unedited is. subst (λ (x : Archive). text_of (live x.entries) n ≡ Some text) (sym same) is; numbers = follows-as a b a same (itself a) }
   goes-by words i a b (inr (inl more)) = record {
     from = inr (inl more);
-    texts = λ n text spared is. subst (λ (x : Archive). text_of (live x.entries) n ≡ Some text) (sym more.is) (keeps a (message_of more.input) more.at n text is);
+    texts = λ n text spared unpurged unedited is. subst (λ (x : Archive). text_of (live x.entries) n ≡ Some text) (sym more.is) (keeps a (message_of more.input) more.at n text is);
+    numbers = follows-as a b _ more.is (commands a (command.Deliver (message (message_of more.input))) more.at);
   }
-  goes-by words i a b (inr (inr less)) = record {
-    from = inr (inr less);
-    texts = λ n text spared is.
+  goes-by words i a b (inr (inr (inl less))) = record {
+    from = inr (inr (inl less));
+    texts = λ n text spared unpurged unedited is.
         let other : n ≢ less.number = λ same. spared (subst (λ (m : ℕ). AsksFor words (Remove m)) (sym same) less.asked) in
         subst (λ (x : Archive). text_of (live x.entries) n ≡ Some text) (sym less.is) ((takes a less.number less.at).0 n other ∙ is);
+    numbers = follows-as a b _ less.is (commands a (command.Remove less.number) less.at);
   }
+  goes-by words i a b (inr (inr (inr (inl gone)))) = record { from = inr (inr (inr (inl gone))); texts = λ n text spared unpurged unedited is. absurd (unpurged (gone.number, gone.asked)); numbers = follows-as a b _ gone.is (commands a (command.Purge gone.number) 0) }
+  goes-by words i a b (inr (inr (inr (inr edit)))) = record { from = inr (inr (inr (inr edit))); texts = λ n text spared unpurged unedited is. absurd (unedited (edit.number, edit.asked)); numbers = follows-as a b _ edit.is (commands a (command.Edit edit.number (message (message_of edit.input))) edit.at) }
 
   -- The three runs.
   pub in-a-row : RunsInARow

@@ -1,5 +1,5 @@
 -- What serving the archive on a disk did there.
-use Rattle.std.proofs.Common.{◌≡◌, ◌≤◌, ℕ, Bool, List, [], ◌∷◌, ◌++◌, Option, Some, None, Result, Ok, Err, refl, sym, ap, subst, arith}
+use Rattle.std.proofs.Common.{◌≡◌, ◌≤◌, ℕ, Bool, List, [], ◌∷◌, ◌++◌, Option, Some, None, Result, Ok, Err, inl, refl, sym, ap, subst, arith}
 use Rattle.std.specs.List.{Contains}
 use Rattle.std.proofs.lemmas.List.Elements.{Contains-append_left, Contains-append_right}
 use Rattle.arch_base.specs.Counts.{Rose, RoseIf}
@@ -15,8 +15,8 @@ use Rattle.arch_model.specs.Standing.{Standing, standing, one_of}
 use Rattle.arch_model.specs.declared.opening.OpenRefusal.{OpenRefusal}
 use Rattle.arch_model.specs.declared.opening.OpenRefusal.TheVariants as opening
 use Rattle.arch_model.proofs.Keepers.{has-own, fits-held, all-split}
-use Rattle.archive_core.specs.Engines.{Owning, Holds, Leaves, is_ready}
-use Rattle.archive_core.proofs.Engines.{all_recover}
+use Rattle.archive_core.specs.Engines.{Owning, Holds, Leaves, AllRecoverOrBare, is_ready}
+use Rattle.archive_core.proofs.Engines.{all_or_bare}
 use Rattle.epoch_store.specs.Files.{as_read}
 use Rattle.epoch_store.specs.Opens.{Opens, ReadsWith, RecoversOf, RecoversOfWith, AllRecoverOf, AllRecoverWith, SyncsFirst}
 use Rattle.epoch_store.specs.Stores.{View, IsStoreWith}
@@ -83,10 +83,10 @@ module _ {D : Type 0} (content : D → Option Content) (moment : D → ℕ) (lef
     (reads_fit : (disk : D) → ReadsFit (content disk))
     (holds_left : (k : Owning D) (a : Archive) (may : List (Option Archive)) → Holds content k a → Contains may (Some a) → Leaves moment left_since k k may) where
   -- How the disk of an engine stands that fits a standing.
-  fits-stand : (k : Owning D) (s : Standing) → Fits (Holds content) is_ready (Leaves moment left_since) k s → (cache : List ℕ) × AllRecoverWith cache (one_of s) (content k.disk)
+  fits-stand : (k : Owning D) (s : Standing) → Fits (Holds content) is_ready (Leaves moment left_since) k s → (cache : List ℕ) × AllRecoverOrBare cache (one_of s) (content k.disk)
   fits-stand k s fits =
       let now = fits.left (one_of s) (has-own s) in
-      (now.1, all_recover s now.1 (content k.disk) (λ image is. now.2 image (counts_now k.disk (moment k.disk) image (omega arith) is)))
+      (now.1, all_or_bare s now.1 (content k.disk) (λ image is. now.2 image (counts_now k.disk (moment k.disk) image (omega arith) is)))
 
   -- Before some turns it stood for the archive of that moment, and a crash since then leaves that one
   -- or a later one.
@@ -128,13 +128,13 @@ module _ {D : Type 0} (content : D → Option Content) (moment : D → ℕ) (lef
       let wide = may ++ archives_of more in
       let begun : Owning D = record e { disk = old } in
       let all-from = opened wide [] (widened may (archives_of more) (content old) all) in
-      let since : Leaves moment left_since begun e wide = (all-from.later, [], all-from.each) in
+      let since : Leaves moment left_since begun e wide = (all-from.later, [], λ image is. inl (all-from.each image is)) in
       let has : HasAll wide (standing a None ∷ more) = (record { archive = Contains-append_left may (archives_of more) (Some a) found.1; doubt = tt }, all-later may (archives_of more) more (all-own more)) in
       let left = run.passes begun wide has (subst (λ (k : Owning D). Leaves moment left_since begun k wide) (sym keep) since) in
       let narrow = archives_of (standing a None ∷ more) in
       let halted : Owning D = record e { disk = sync.synced } in
       let one-from = sync.after a [] found.2 in
-      let after : Leaves moment left_since halted e narrow = (one-from.later, [], λ image is. (Some a, (0, omega arith, refl), one-from.each image is)) in
+      let after : Leaves moment left_since halted e narrow = (one-from.later, [], λ image is. inl (Some a, (0, omega arith, refl), one-from.each image is)) in
       let kept = run.passes halted narrow (all-own (standing a None ∷ more)) (subst (λ (k : Owning D). Leaves moment left_since halted k narrow) (sym keep) after) in
       record {
         found = a;

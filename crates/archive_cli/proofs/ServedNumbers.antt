@@ -8,7 +8,7 @@ use Rattle.line_door.specs.Course.{Talk, talk, Requests, Last}
 use Rattle.line_door.specs.Skipping.{Passing, Taken, Skipped, Unended, skipping_front}
 use Rattle.line_door.specs.Clipped.{longest_line}
 use Rattle.arch_model.specs.Archives.{Archive}
-use Rattle.arch_model.specs.Delivery.{delivered, removed}
+use Rattle.arch_model.specs.Delivery.{delivered, removed, purged, edited}
 use Rattle.arch_model.specs.Following.{Follows, FollowsItself}
 use Rattle.arch_model.specs.Laws.{CommandFollows}
 use Rattle.arch_model.specs.Standing.{Standing, standing}
@@ -19,7 +19,7 @@ use Rattle.keep_course.specs.Answering.{newer_of, said_reopening}
 use Rattle.keep_course.specs.Courses.{afters}
 use Rattle.control_door.specs.Door as control
 use Rattle.control_door.specs.Door.{Waiting}
-use Rattle.control_door.specs.Requests.{Request, Delivers, Shows, Removes, Threads, Lists, Quits, Mistakes, Exceeds, Ahead, Asked, Unfinished, ahead}
+use Rattle.control_door.specs.Requests.{Request, Delivers, Shows, Removes, Purges, Edits, Threads, Lists, Reindexes, Quits, Mistakes, Exceeds, Ahead, Asked, Unfinished, ahead}
 use Rattle.nntp_reader.specs.Door as news
 use Rattle.nntp_reader.specs.Door.{Reader}
 use Rattle.http_front.specs.Reading.{asked_in}
@@ -69,6 +69,12 @@ module _ (itself : FollowsItself) (commands : CommandFollows) where
   without : (a : Archive) (number moment : ℕ) → Follows a (removed a number moment).archive
   without a number moment = commands a (command.Remove number) moment
 
+  without-text : (a : Archive) (number : ℕ) → Follows a (purged a number).archive
+  without-text a number = commands a (command.Purge number) 0
+
+  with-edit : (a : Archive) (number : ℕ) (message : List ℕ) (moment : ℕ) → Follows a (edited a number message moment).archive
+  with-edit a number message moment = commands a (command.Edit number (record { ref_ptr = (0, 0); now = message })) moment
+
   newer-follows : (a : Archive) (d : Option Archive) → ((b : Archive) → d ≡ Some b → Follows a b) → Follows a (newer_of a d)
   newer-follows a None kept = itself a
   newer-follows a (Some b) kept = kept b refl
@@ -85,8 +91,11 @@ module _ (itself : FollowsItself) (commands : CommandFollows) where
   answers moment s (Delivers message) rest kept = sure s.archive _ (with-message s.archive message moment)
   answers moment s (Shows number) rest kept = stays s kept
   answers moment s (Removes number) rest kept = sure s.archive _ (without s.archive number moment)
+  answers moment s (Purges number) rest kept = sure s.archive _ (without-text s.archive number)
+  answers moment s (Edits number message) rest kept = sure s.archive _ (with-edit s.archive number message moment)
   answers moment s (Threads number) rest kept = stays s kept
   answers moment s Lists rest kept = stays s kept
+  answers moment s Reindexes rest kept = stays s kept
   answers moment s Quits rest kept = stays s kept
   answers moment s Mistakes rest kept = stays s kept
   answers moment s Exceeds rest kept = stays s kept
@@ -95,8 +104,11 @@ module _ (itself : FollowsItself) (commands : CommandFollows) where
   starves moment s (Delivers message) rest kept = stays s kept
   starves moment s (Shows number) rest kept = stays s kept
   starves moment s (Removes number) rest kept = stays s kept
+  starves moment s (Purges number) rest kept = stays s kept
+  starves moment s (Edits number message) rest kept = stays s kept
   starves moment s (Threads number) rest kept = stays s kept
   starves moment s Lists rest kept = stays s kept
+  starves moment s Reindexes rest kept = stays s kept
   starves moment s Quits rest kept = stays s kept
   starves moment s Mistakes rest kept = stays s kept
   starves moment s Exceeds rest kept = stays s kept
@@ -105,8 +117,11 @@ module _ (itself : FollowsItself) (commands : CommandFollows) where
   fails moment s (Delivers message) rest kept = doubts s.archive _ (with-message s.archive message moment)
   fails moment s (Shows number) rest kept = stays s kept
   fails moment s (Removes number) rest kept = doubts s.archive _ (without s.archive number moment)
+  fails moment s (Purges number) rest kept = doubts s.archive _ (without-text s.archive number)
+  fails moment s (Edits number message) rest kept = doubts s.archive _ (with-edit s.archive number message moment)
   fails moment s (Threads number) rest kept = stays s kept
   fails moment s Lists rest kept = stays s kept
+  fails moment s Reindexes rest kept = stays s kept
   fails moment s Quits rest kept = stays s kept
   fails moment s Mistakes rest kept = stays s kept
   fails moment s Exceeds rest kept = stays s kept

@@ -1,5 +1,5 @@
 -- What `init`, `reindex`, `check` and a command on an archive do to a disk, and how they end.
--- `deliver` and `remove` are such commands.
+-- `deliver`, `remove`, `purge` and `edit` are such commands.
 use Rattle.std.specs.Prelude.{◌≡◌, ◌⊎◌, ℕ, true, List, length, Option, Some, None, Ok, Err}
 use Rattle.std.specs.List.{Contains}
 use Rattle.arch_base.specs.declared.config.Config.{Config}
@@ -7,7 +7,7 @@ use Rattle.disk_model.specs.Disk.{Files, Content, Told, WhereTold, LeavesOnly}
 use Rattle.root_slots.specs.RootName.{root_name}
 use Rattle.root_slots.specs.Slots.{IsShutFile}
 use Rattle.arch_model.specs.Archives.{Archive, empty_archive, live as live_entries}
-use Rattle.arch_model.specs.Delivery.{Done, delivered, removed, applied}
+use Rattle.arch_model.specs.Delivery.{Done, delivered, removed, purged, edited, applied}
 use Rattle.arch_model.specs.Keeping.{Settles, Comes}
 use Rattle.arch_model.specs.Standing.{Standing, standing, one_of, IsFound}
 use Rattle.arch_model.specs.declared.command.Command.{Command}
@@ -17,6 +17,7 @@ use Rattle.arch_model.specs.declared.opening.OpenRefusal.{OpenRefusal}
 use Rattle.arch_model.specs.declared.opening.OpenRefusal.TheVariants as refusal
 use Rattle.epoch_store.specs.declared.refusal.InitRefusal.{InitRefusal}
 use Rattle.epoch_store.specs.declared.refusal.InitRefusal.TheVariants as making
+use Rattle.epoch_store.specs.Recovery.{Recovers}
 use Rattle.epoch_store.specs.Opens.{IsOnlySynced, Opens, ReadsAs, RecoversOf, AllRecoverOf}
 use Rattle.epoch_store.specs.Stores.{View, IsStoreOf, IsDiskOf, RecoversEither}
 use Rattle.archive_core.specs.Openings.{LeavesKindly}
@@ -70,14 +71,21 @@ delivering bytes moment a = delivered a bytes moment
 abbrev pub removing : ℕ → ℕ → Archive → Done
 removing number moment a = removed a number moment
 
+-- What the purge of a number makes of an archive at a moment.
+abbrev pub purging : ℕ → ℕ → Archive → Done
+purging number moment a = purged a number
+
+-- What the edit of a number with bytes makes of an archive at a moment.
+abbrev pub editing : ℕ → List ℕ → ℕ → Archive → Done
+editing number bytes moment a = edited a number bytes moment
+
 -- The answer is that of the definition, and the disk is the own disk of the definition's archive.
 pub record IsDone (wanted : Done) (reply : Answer) (new : Option Content) : Type 0 where
   pub answer_is : wanted.answer ≡ reply
   pub own : IsOwn wanted.archive new
 
 -- The answer to a command on this archive, and the disk then. Out of memory the archive is
--- unchanged, and after a fault of the disk it has to be reopened. No answer is about a number without
--- a text, or about a damaged file.
+-- unchanged, and after a fault of the disk it has to be reopened. No answer is about a damaged file.
 abbrev pub Answers : Archive → Done → Answer → Option Content → Type 0
 Answers a wanted answer.NoMemory new = IsOwn a new
 Answers a wanted answer.DiskFault new = Unit {0}
@@ -89,7 +97,7 @@ Answers a wanted (answer.Full max) new = IsDone wanted (answer.Full max) new
 Answers a wanted (answer.Collision number) new = IsDone wanted (answer.Collision number) new
 Answers a wanted answer.IsMirror new = IsDone wanted answer.IsMirror new
 Answers a wanted (answer.NotLive number) new = IsDone wanted (answer.NotLive number) new
-Answers a wanted (answer.NoText number) new = ⊥
+Answers a wanted (answer.NoText number) new = IsDone wanted (answer.NoText number) new
 Answers a wanted (answer.Damaged file at) new = ⊥
 
 -- How a command ends on the disk of an archive of which it is to make this.
@@ -226,29 +234,21 @@ ChecksOn s old (Made name) t = ⊥
 ChecksOn s old Exists t = ⊥
 ChecksOn s old (Answered reply) t = ⊥
 
+-- The files stand for the archive that was found.
+abbrev pub LeavesSame : Archive → Files → Type 0
+LeavesSame found image = Recovers image found
+
+-- They stand for it, or for what a command makes of it.
+abbrev pub LeavesEither : (Archive → Done) → Archive → Files → Type 0
+LeavesEither wanted found image = RecoversEither found (wanted found).archive image
+
 -- A disk, by its content and by what each crash since a moment may have left.
 module _ {D : Type 0} (content : D → Option Content) (moment : D → ℕ)
     (left_since : D → ℕ → Files → Type 0) where
-  -- The disk was synced first. Until then a crash leaves the archive of a standing, or the one in
-  -- doubt there; from then on, the one that was found, or what the command makes of it.
-  pub record CommandRuns (old new : D) (s : Standing) (wanted : Archive → Done) : Type 0 where
-    pub found : Archive
-    pub is_found : IsFound s found
-    pub reads : ReadsAs found (content old)
-    pub synced : D
-    pub only : Told IsOnlySynced (content old) (content synced)
-    pub before : LeavesOnly moment left_since old synced (RecoversOf (one_of s))
-    pub after : LeavesOnly moment left_since synced new (RecoversEither found (wanted found).archive)
-
-  -- The same; or nothing was done, and a crash leaves one of the two archives.
-  abbrev pub CommandLeaves : D → D → Standing → (Archive → Done) → Type 0
-  CommandLeaves old new s wanted = LeavesOnly moment left_since old new (RecoversOf (one_of s))
-      ⊎ CommandRuns old new s wanted
-
-  -- A command on one of some archives that the disk may have stood for, where it may have stood for
-  -- none. Until the sync a crash leaves one of them, or none; from then on, the archive that was found,
-  -- or what the command makes of it.
-  pub record CommandRunsAmong (old new : D) (may : List (Option Archive)) (wanted : Archive → Done)
+  -- A job ran on one of some archives that the disk may have stood for, where it may have stood for
+  -- none. The disk was synced first. Until then a crash leaves one of them, or none; from then on,
+  -- what it may leave of the archive that was found.
+  pub record Runs (old new : D) (may : List (Option Archive)) (leaves : Archive → Files → Type 0)
       : Type 0 where
     pub found : Archive
     pub is_among : Contains may (Some found)
@@ -256,12 +256,13 @@ module _ {D : Type 0} (content : D → Option Content) (moment : D → ℕ)
     pub synced : D
     pub only : Told IsOnlySynced (content old) (content synced)
     pub before : LeavesOnly moment left_since old synced (RecoversOf may)
-    pub after : LeavesOnly moment left_since synced new (RecoversEither found (wanted found).archive)
+    pub after : LeavesOnly moment left_since synced new (leaves found)
 
-  -- The same; or nothing was done, and a crash leaves what it might have left before.
-  abbrev pub CommandLeavesAmong : D → D → List (Option Archive) → (Archive → Done) → Type 0
-  CommandLeavesAmong old new may wanted = LeavesOnly moment left_since old new (RecoversOf may)
-      ⊎ CommandRunsAmong old new may wanted
+  -- Whatever the disk may have stood for, a job ran so; or nothing was done, and a crash leaves what
+  -- it might have left before.
+  abbrev pub RunsOrStays : D → D → (Archive → Files → Type 0) → Type 0
+  RunsOrStays old new leaves = (may : List (Option Archive)) → AllRecoverOf may (content old)
+      → LeavesOnly moment left_since old new (RecoversOf may) ⊎ Runs old new may leaves
 
 -- The outcome tells that the disk failed.
 abbrev pub IsFault : Outcome → Type 0

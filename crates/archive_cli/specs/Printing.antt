@@ -8,7 +8,7 @@ use Rattle.edge_io.specs.declared.sink.SinkFault.{SinkFault}
 use Rattle.disk_model.specs.Disk.{Content}
 use Rattle.answer_lines.specs.Lines.{whole_line}
 use Rattle.archive_cli.specs.declared.outcome.Outcome.{Outcome}
-use Rattle.archive_cli.specs.Program.{Edges, NoneFailed, EndsBy, DeliverActs, IsSilent, IsInput, input_limit, message_of, PlaysPart, Replays, StopsShort}
+use Rattle.archive_cli.specs.Program.{Edges, NoneFailed, EndsBy, MessageActs, IsSilent, IsInput, input_limit, message_of, PlaysPart, Replays, StopsShort}
 use Rattle.edge_io.specs.Left.{before, IsUsedUp}
 use Rattle.archive_cli.specs.Serving.{ServeRun, run_line, run_status}
 use Rattle.archive_cli.specs.Statuses.{code_of}
@@ -111,12 +111,12 @@ pub record IsUnread (i j : Edges) (status : Status) (printed : List ℕ) : Type 
   pub kept : j.content ≡ i.content
   pub spared : NoneFailed i j
 
--- The message on the input was to be delivered: what was due is printed, or the message was not
--- read, or the input failed.
-abbrev pub InputDone : Status → Edges → Edges → Type 0
-InputDone status i j =
+-- The message on the input was to be delivered, or to take the place of a number: what was due is
+-- printed, or the message was not read, or the input failed.
+abbrev pub InputDone : Option ℕ → Status → Edges → Edges → Type 0
+InputDone place status i j =
     ((input : List ℕ) × IsInput i.left input
-    × JobDone (DeliverActs (message_of input)) status i j)
+    × JobDone (MessageActs place (message_of input)) status i j)
     ⊎ (Printed (IsUnread i j) status i.taken i.lost j.taken j.lost
     ⊎ (IsSilent status i j × Rose i.unread j.unread))
 

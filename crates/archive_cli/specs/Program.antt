@@ -9,21 +9,21 @@ use Rattle.edge_io.specs.Left.{before}
 use Rattle.edge_io.specs.Scripts.{Arrival, IsScript, IsBad}
 use Rattle.arch_model.specs.Archives.{Archive, empty_archive}
 use Rattle.arch_model.specs.Delivery.{Done}
-use Rattle.arch_model.specs.Standing.{Standing, standing, one_of}
+use Rattle.arch_model.specs.Standing.{Standing}
 use Rattle.arch_model.specs.declared.answer.Answer.TheVariants as answer
 use Rattle.arch_model.specs.declared.opening.OpenRefusal.TheVariants as opening
 use Rattle.epoch_store.specs.Files.{as_read}
 use Rattle.epoch_store.specs.First.{MakingLeaves}
-use Rattle.epoch_store.specs.Opens.{ReadsAs, RecoversOf}
+use Rattle.epoch_store.specs.Opens.{ReadsAs}
 use Rattle.answer_lines.specs.Lines.{whole_line}
-use Rattle.archive_cli.specs.DiskCommands.{Makes, TakesTo, ReindexesTo, ChecksTo, IsOpenedAs, IsFault, IsReply, IsReindex, IsCheck, StandsAs, TakesOn, ReindexesOn, ChecksOn, CommandRuns, CommandRunsAmong, LeavesUnopened, delivering, removing}
+use Rattle.archive_cli.specs.DiskCommands.{Makes, TakesTo, ReindexesTo, ChecksTo, IsOpenedAs, IsFault, IsReply, IsReindex, IsCheck, StandsAs, TakesOn, ReindexesOn, ChecksOn, RunsOrStays, LeavesSame, LeavesEither, LeavesUnopened, delivering, removing, purging, editing}
 use Rattle.archive_cli.specs.Outcomes.{outcome_line, status_of}
 use Rattle.archive_cli.specs.Statuses.{code_of}
 use Rattle.archive_cli.specs.Words.{IsJob, AsksFor}
 use Rattle.archive_cli.specs.Serving.{ServeRun, Shut, run_status, run_line}
 use Rattle.archive_cli.specs.Turns.{Transcript, TranscriptFront}
 use Rattle.archive_cli.specs.declared.words.Job.{Job}
-use Rattle.archive_cli.specs.declared.words.Job.TheVariants.{Help, Version, Replay, Init, Deliver, Remove, Reindex, Check, Serve}
+use Rattle.archive_cli.specs.declared.words.Job.TheVariants.{Help, Version, Replay, Init, Deliver, Remove, Purge, Edit, Reindex, Check, Serve}
 use Rattle.archive_cli.specs.declared.outcome.Outcome.{Outcome}
 use Rattle.archive_cli.specs.declared.outcome.Outcome.TheVariants.{Answered}
 use Rattle.archive_cli.specs.declared.status.Status.{Status}
@@ -150,6 +150,17 @@ pub record DeliverActs (bytes : List ℕ) (moment : ℕ) (old new : Option Conte
   pub acts : CommandActs (delivering bytes) moment old new o
   pub lives : (a : Archive) → ReadsAs a old → (number : ℕ) → o ≢ Answered (answer.NotLive number)
 
+-- What a message is for: a new number, or the place of the one with a number.
+abbrev pub putting : Option ℕ → List ℕ → ℕ → Archive → Done
+putting None bytes = delivering bytes
+putting (Some number) bytes = editing number bytes
+
+-- How `deliver` of a message ended at a moment, or `edit` of a number with it.
+abbrev pub MessageActs : Option ℕ → List ℕ → ℕ → Option Content → Option Content → Outcome → Type 0
+MessageActs None bytes moment old new o = DeliverActs bytes moment old new o
+MessageActs (Some number) bytes moment old new o =
+    CommandActs (editing number bytes) moment old new o
+
 -- How `reindex` ended, at whatever moment. Whatever the disk stood for, it stands for what is
 -- counted.
 pub record ReindexActs (moment : ℕ) (old new : Option Content) (o : Outcome) : Type 0 where
@@ -213,6 +224,10 @@ Ends (Some Deliver) input i j status printed =
     EndsBy (DeliverActs (message_of input)) i j status printed
 Ends (Some (Remove number)) input i j status printed =
     EndsBy (CommandActs (removing number)) i j status printed
+Ends (Some (Purge number)) input i j status printed =
+    EndsBy (CommandActs (purging number)) i j status printed
+Ends (Some (Edit number)) input i j status printed =
+    EndsBy (CommandActs (editing number (message_of input))) i j status printed
 Ends (Some Reindex) input i j status printed = EndsBy ReindexActs i j status printed
 Ends (Some Check) input i j status printed = EndsBy CheckActs i j status printed
 Ends (Some (Serve turns port)) input i j status printed = ServeEnds i j status printed
@@ -249,16 +264,24 @@ pub record ReplayRunsOut (words : List (List ℕ)) (input : List ℕ) (i j : Edg
   pub stops : StopsShort config input status printed
   pub spared : NoneFailed i j
 
+-- The words ask to edit a message.
+abbrev pub AsksForEdit : List (List ℕ) → Type 0
+AsksForEdit words = (number : ℕ) × AsksFor words (Edit number)
+
+-- The words ask for a job that reads a message on the input: a delivery or an edit.
+abbrev pub AsksForMessage : List (List ℕ) → Type 0
+AsksForMessage words = AsksFor words Deliver ⊎ AsksForEdit words
+
 -- Out of memory, a message isn't read, and the disk is unchanged. No device failed.
 pub record DeliverRunsOut (words : List (List ℕ)) (i j : Edges) (status : Status) (printed : List ℕ)
     : Type 0 where
-  pub asked : AsksFor words Deliver
+  pub asked : AsksForMessage words
   pub status_is : status ≡ exit.Memory
   pub printed_is : printed ≡ whole_line (codes "12 no memory")
   pub kept : j.content ≡ i.content
   pub spared : NoneFailed i j
 
--- A replay or a delivery ran out of memory.
+-- A replay, a delivery or an edit ran out of memory.
 abbrev pub RunsOut : List (List ℕ) → List ℕ → Edges → Edges → Status → List ℕ → Type 0
 RunsOut words input i j status printed = ReplayRunsOut words input i j status printed
     ⊎ DeliverRunsOut words i j status printed
@@ -283,7 +306,7 @@ pub record IsPrinted (words : List (List ℕ)) (status : Status) (i j : Edges) :
 
 -- The words ask for a job that reads the input.
 abbrev pub AsksForInput : List (List ℕ) → Type 0
-AsksForInput words = ((config : Config) × AsksFor words (Replay config)) ⊎ AsksFor words Deliver
+AsksForInput words = ((config : Config) × AsksFor words (Replay config)) ⊎ AsksForMessage words
 
 -- The words ask to make an archive.
 abbrev pub AsksForInit : List (List ℕ) → Type 0
@@ -293,9 +316,31 @@ AsksForInit words = (config : Config) × AsksFor words (Init config)
 abbrev pub AsksForRemoval : List (List ℕ) → Type 0
 AsksForRemoval words = (number : ℕ) × AsksFor words (Remove number)
 
--- The words ask for a command on an archive: a delivery or a removal.
+-- The words ask to purge a message.
+abbrev pub AsksForPurge : List (List ℕ) → Type 0
+AsksForPurge words = (number : ℕ) × AsksFor words (Purge number)
+
+-- The words ask for a command on an archive: a delivery, a removal, a purge or an edit.
 abbrev pub AsksForCommand : List (List ℕ) → Type 0
-AsksForCommand words = AsksFor words Deliver ⊎ AsksForRemoval words
+AsksForCommand words = AsksForMessage words ⊎ (AsksForRemoval words ⊎ AsksForPurge words)
+
+-- A job on the archive that is there: a command, a reindexing or a check.
+abbrev pub IsOnArchive : Job → Type 0
+IsOnArchive Help = ⊥
+IsOnArchive Version = ⊥
+IsOnArchive (Replay config) = ⊥
+IsOnArchive (Init config) = ⊥
+IsOnArchive Deliver = Unit {0}
+IsOnArchive (Remove number) = Unit {0}
+IsOnArchive (Purge number) = Unit {0}
+IsOnArchive (Edit number) = Unit {0}
+IsOnArchive Reindex = Unit {0}
+IsOnArchive Check = Unit {0}
+IsOnArchive (Serve turns port) = ⊥
+
+-- The words ask for such a job.
+abbrev pub AsksOfArchive : List (List ℕ) → Type 0
+AsksOfArchive words = (job : Job) × IsOnArchive job × AsksFor words job
 
 -- The words ask for a job that reads the clock.
 abbrev pub AsksForMoment : List (List ℕ) → Type 0
@@ -347,47 +392,57 @@ pub record TookAtMost (most : ℕ) (old new : Option (List ℕ)) : Type 0 where
   pub taken : old ≡ before bytes new
   pub few : length bytes ≤ most
 
--- A replay reads at most one byte more than the greatest length of a script, and a delivery reads
--- at most a message. Any other words leave the input unchanged.
+-- A replay reads at most one byte more than the greatest length of a script, and a delivery and an
+-- edit read at most a message. Any other words leave the input unchanged.
 abbrev pub TakesInput : List (List ℕ) → Option (List ℕ) → ℕ → Option (List ℕ) → ℕ → Type 0
 TakesInput words left unread left' unread' =
     ((left' ≡ left) × (unread' ≡ unread))
     ⊎ (((config : Config) × AsksFor words (Replay config) × TookAtMost (input_limit + 1) left left'
     × (unread ≤ unread'))
-    ⊎ (AsksFor words Deliver × TookAtMost message_limit left left' × (unread ≤ unread')))
+    ⊎ (AsksForMessage words × TookAtMost message_limit left left' × (unread ≤ unread')))
 
 -- What a crash leaves while an archive is made at the first moment to come.
 abbrev pub InitLeaves : Config → Option Moments → Option Content → Files → Type 0
 InitLeaves config coming old image = (moment : ℕ) × IsFirst moment coming
     × MakingLeaves (empty_archive (made_at config moment)) old image
 
--- What a crash leaves while the archive that the words ask for is made.
-abbrev pub WordsLeave : List (List ℕ) → Option Moments → Option Content → Files → Type 0
-WordsLeave words coming old image = (config : Config) × AsksFor words (Init config)
-    × InitLeaves config coming old image
+-- The edges of a disk at a run of a job, which is carried out at the first moment to come.
+module _ {D : Type 0} (content : D → Option Content) (moment : D → ℕ)
+    (left_since : D → ℕ → Files → Type 0) where
+  -- What a crash leaves while a command is carried out that is to make this of an archive.
+  abbrev pub CommandLeaves : D → D → Option Moments → (ℕ → Archive → Done) → Type 0
+  CommandLeaves old new coming wanted = (at : ℕ) × IsFirst at coming
+      × RunsOrStays content moment left_since old new (LeavesEither (wanted at))
 
--- What a crash leaves while a command is carried out at the first moment to come, which is to make
--- this of an archive. Until the disk was synced, that is the archive of a standing, or the one in
--- doubt there; from then on, the one that was found, or what the command makes of it.
-abbrev pub RunLeaves : {D : Type 0} → (D → Option Content) → (D → ℕ) → (D → ℕ → Files → Type 0) → D → D
-    → Standing → Option Moments → (ℕ → Archive → Done) → Type 0
-RunLeaves content moment left_since old new s coming wanted =
-    LeavesOnly moment left_since old new (RecoversOf (one_of s))
-    ⊎ ((at : ℕ) × IsFirst at coming
-    × CommandRuns content moment left_since old new s (wanted at))
+  -- The same for a command that takes the message on the input.
+  abbrev pub MessageLeaves : D → D → Option (List ℕ) → Option Moments
+      → (List ℕ → ℕ → Archive → Done) → Type 0
+  MessageLeaves old new left coming wanted = (sent : List ℕ) × IsInput left sent
+      × CommandLeaves old new coming (wanted (message_of sent))
 
--- The same where the disk may have stood for any of these archives, or for none, as after an `init` in
--- doubt.
-abbrev pub RunLeavesAmong : {D : Type 0} → (D → Option Content) → (D → ℕ) → (D → ℕ → Files → Type 0)
-    → D → D → List (Option Archive) → Option Moments → (ℕ → Archive → Done) → Type 0
-RunLeavesAmong content moment left_since old new may coming wanted =
-    LeavesOnly moment left_since old new (RecoversOf may)
-    ⊎ ((at : ℕ) × IsFirst at coming
-    × CommandRunsAmong content moment left_since old new may (wanted at))
+  -- What a job does to the disk, and what a crash leaves at each moment of it. A reindexing and a
+  -- check change no archive. Nothing is said of `serve`, which has a clause of its own.
+  abbrev pub JobLeaves : Option Job → D → D → Option (List ℕ) → Option Moments → Type 0
+  JobLeaves None old new left coming = new ≡ old
+  JobLeaves (Some Help) old new left coming = new ≡ old
+  JobLeaves (Some Version) old new left coming = new ≡ old
+  JobLeaves (Some (Replay config)) old new left coming = new ≡ old
+  JobLeaves (Some (Init config)) old new left coming =
+      LeavesOnly moment left_since old new (InitLeaves config coming (content old))
+  JobLeaves (Some Deliver) old new left coming = MessageLeaves old new left coming delivering
+  JobLeaves (Some (Remove number)) old new left coming =
+      CommandLeaves old new coming (removing number)
+  JobLeaves (Some (Purge number)) old new left coming =
+      CommandLeaves old new coming (purging number)
+  JobLeaves (Some (Edit number)) old new left coming =
+      MessageLeaves old new left coming (editing number)
+  JobLeaves (Some Reindex) old new left coming =
+      RunsOrStays content moment left_since old new LeavesSame
+  JobLeaves (Some Check) old new left coming =
+      RunsOrStays content moment left_since old new LeavesSame
+  JobLeaves (Some (Serve turns port)) old new left coming = Unit {0}
 
--- The words ask for a job without a disk.
-abbrev pub LeavesDisk : List (List ℕ) → Type 0
-LeavesDisk words = ((config : Config) → AsksFor words (Init config) → ⊥)
-    × (AsksFor words Deliver → ⊥) × ((number : ℕ) → AsksFor words (Remove number) → ⊥)
-    × (AsksFor words Reindex → ⊥) × (AsksFor words Check → ⊥)
-    × ((turns port : ℕ) → AsksFor words (Serve turns port) → ⊥)
+  -- The words ask for a job, which does this to the disk.
+  abbrev pub WordsLeave : List (List ℕ) → D → D → Option (List ℕ) → Option Moments → Type 0
+  WordsLeave words old new left coming = (job : Option Job) × IsJob words job
+      × JobLeaves job old new left coming

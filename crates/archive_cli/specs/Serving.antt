@@ -12,8 +12,9 @@ use Rattle.arch_model.specs.Standing.{Standing, one_of}
 use Rattle.arch_model.specs.declared.opening.OpenRefusal.{OpenRefusal}
 use Rattle.arch_model.specs.declared.opening.OpenRefusal.TheVariants as opening
 use Rattle.epoch_store.specs.Files.{as_read}
-use Rattle.epoch_store.specs.Opens.{Opens, IsOnlySynced, ReadsAs, RecoversOf, RecoversOfWith, AllRecoverOf, AllRecoverWith}
+use Rattle.epoch_store.specs.Opens.{Opens, IsOnlySynced, ReadsAs, RecoversOf, AllRecoverOf}
 use Rattle.epoch_store.specs.Stores.{View}
+use Rattle.archive_core.specs.Engines.{RecoversOrBare, AllRecoverOrBare}
 use Rattle.archive_core.specs.Openings.{LeavesKindly}
 use Rattle.answer_lines.specs.Lines.{whole_line, memory_word}
 use Rattle.node_serve.specs.Ends.{EndsBy, given_after, before_all}
@@ -98,17 +99,17 @@ FollowOn a (s ∷ ss) = FollowsIn a s × FollowOn s.archive ss
 module _ {D : Type 0} (content : D → Option Content) (moment : D → ℕ)
     (left_since : D → ℕ → Files → Type 0) where
   -- A crash since the first state leaves files that stand for one of these archives, with a cache of
-  -- these bytes.
+  -- these bytes or with none.
   pub record CrashLeaves (old new : D) (cache : List ℕ) (may : List (Option Archive)) : Type 0 where
     pub later : moment old ≤ moment new
-    pub each : (image : Files) → left_since new (moment old) image → RecoversOfWith cache may image
+    pub each : (image : Files) → left_since new (moment old) image → RecoversOrBare cache may image
 
   -- The disk stood for the archive of a standing, or for the one in doubt there. A crash since then
   -- leaves one of the two, or an archive of a standing after one of the acts of later turns, or one
   -- that was in doubt there.
   pub record StoodFor (s : Standing) (later : List Turn) (new : D) : Type 0 where
     pub at : D
-    pub stood : (cache : List ℕ) × AllRecoverWith cache (one_of s) (content at)
+    pub stood : (cache : List ℕ) × AllRecoverOrBare cache (one_of s) (content at)
     pub crash : (cache : List ℕ) × CrashLeaves at new cache (archives_of (s ∷ passed_in later))
 
   -- The archive that the disk read as was found, and the events were taken to their end, one after
@@ -131,7 +132,7 @@ module _ {D : Type 0} (content : D → Option Content) (moment : D → ℕ)
     pub last : World
     pub last_out : last.out ≡ j.out
     pub served : Served arrivals first turns last
-    pub stands : (cache : List ℕ) × AllRecoverWith cache (one_of last.standing) (content new)
+    pub stands : (cache : List ℕ) × AllRecoverOrBare cache (one_of last.standing) (content new)
     pub synced : D
     pub only : Told IsOnlySynced (content old) (content synced)
     pub before : LeavesOnly moment left_since old synced (RecoversOf may)

@@ -5,7 +5,7 @@ use Rattle.std.specs.Borrow.{Bor}
 use Rattle.arch_base.specs.Names.{IsName}
 use Rattle.arch_base.specs.declared.config.Config.{Config}
 use Rattle.archive_cli.specs.declared.words.Job.{Job}
-use Rattle.archive_cli.specs.declared.words.Job.TheVariants.{Help, Version, Replay, Init, Deliver, Remove, Reindex, Check, Serve}
+use Rattle.archive_cli.specs.declared.words.Job.TheVariants.{Help, Version, Replay, Init, Deliver, Remove, Purge, Edit, Reindex, Check, Serve}
 use Rattle.archive_cli.specs.declared.words.ServeOption.{ServeOption}
 use Rattle.archive_cli.specs.declared.words.ServeOption.TheVariants as serving
 use Rattle.archive_cli.specs.declared.words.Setting.{Setting}
@@ -136,10 +136,15 @@ pub record IsReplay (words : List (List ℕ)) (config : Config) : Type 0 where
   pub made : IsMade after settings config
   pub no_mirror : mirrors settings ≡ []
 
--- The word `remove`, and then a number of a message, from 1 to 2147483647, in decimal.
-pub record IsRemove (words : List (List ℕ)) (number : ℕ) : Type 0 where
-  pub is : words ≡ codes "remove" ∷ decimal number ∷ []
+-- The word of a command, and then a number of a message, from 1 to 2147483647, in decimal.
+pub record IsNumbered (command : List ℕ) (words : List (List ℕ)) (number : ℕ) : Type 0 where
+  pub is : words ≡ command ∷ decimal number ∷ []
   pub range : IsUpTo 2147483647 number
+
+-- Words are one that spells a number of a message, or they are not.
+abbrev pub IsLone : List (List ℕ) → Option ℕ → Type 0
+IsLone words (Some number) = (words ≡ decimal number ∷ []) × IsUpTo 2147483647 number
+IsLone words None = (number : ℕ) → IsUpTo 2147483647 number → words ≡ decimal number ∷ [] → ⊥
 
 -- The word of an option of `serve`: its kind, `=`, and its number in decimal.
 abbrev pub serve_word : ServeOption → List ℕ
@@ -185,7 +190,9 @@ AsksFor words Version = words ≡ codes "--version" ∷ []
 AsksFor words (Replay config) = IsReplay words config
 AsksFor words (Init config) = IsInit words config
 AsksFor words Deliver = words ≡ codes "deliver" ∷ []
-AsksFor words (Remove number) = IsRemove words number
+AsksFor words (Remove number) = IsNumbered (codes "remove") words number
+AsksFor words (Purge number) = IsNumbered (codes "purge") words number
+AsksFor words (Edit number) = IsNumbered (codes "edit") words number
 AsksFor words Reindex = words ≡ codes "reindex" ∷ []
 AsksFor words Check = words ≡ codes "check" ∷ []
 AsksFor words (Serve turns port) = IsServe words turns port

@@ -1,7 +1,7 @@
 //! The work of `init`, `reindex`, `check` and a command on the archive on a disk.
 //!
 //! Each takes the disk, and hands it back.
-ghost use Rattle.std.specs.Prelude.{◌≡◌, ◌≤◌, List, Option};
+ghost use Rattle.std.specs.Prelude.{◌≡◌, ◌≤◌};
 ghost use Rattle.arch_base.specs.Configs.{IsConfig};
 ghost use Rattle.arch_base.specs.Counts.{RoseIf};
 ghost use Rattle.arch_base.specs.Moments.{last_moment};
@@ -10,8 +10,8 @@ ghost use Rattle.arch_model.specs.Archives.{Archive, empty_archive};
 ghost use Rattle.arch_model.specs.Standing.{Standing};
 ghost use Rattle.epoch_store.specs.Files.{as_read};
 ghost use Rattle.epoch_store.specs.First.{MakingLeaves};
-ghost use Rattle.epoch_store.specs.Opens.{AllRecoverOf, ReadsAs, RecoversOf};
-ghost use Rattle.archive_cli.specs.DiskCommands.{Makes, unmade, TakesTo, ReindexesTo, ChecksTo, IsOpenedAs, LeavesUnopened, IsReply, IsReindex, IsCheck, StandsAs, TakesOn, ReindexesOn, ChecksOn, CommandLeaves, CommandLeavesAmong, IsFault, taking};
+ghost use Rattle.epoch_store.specs.Opens.{ReadsAs};
+ghost use Rattle.archive_cli.specs.DiskCommands.{Makes, unmade, TakesTo, ReindexesTo, ChecksTo, IsOpenedAs, LeavesUnopened, IsReply, IsReindex, IsCheck, StandsAs, TakesOn, ReindexesOn, ChecksOn, RunsOrStays, LeavesSame, LeavesEither, IsFault, taking};
 
 use crate::outcome::Outcome;
 use arch_base::Config;
@@ -54,11 +54,8 @@ pub(crate) fn take<D: Disk>(
     moment: u64,
 ) -> (Outcome, D)
     requires moment { moment ≤ last_moment }
-    ensures any_moment { (s : Standing) → StandsAs s (D.content disk)
-        → CommandLeaves D.content D.moment D.left_since disk result.1 s (taking command.now moment) }
-    ensures among { (may : List (Option Archive)) → AllRecoverOf may (D.content disk)
-        → CommandLeavesAmong D.content D.moment D.left_since disk result.1 may
-        (taking command.now moment) }
+    ensures any_moment { RunsOrStays D.content D.moment D.left_since disk result.1
+        (LeavesEither (taking command.now moment)) }
     ensures stands { (s : Standing) → StandsAs s (D.content disk) → (t : Standing)
         × StandsAs t (D.content result.1)
         × TakesOn s (D.content disk) (taking command.now moment) result.0 t }
@@ -85,8 +82,7 @@ pub(crate) fn take<D: Disk>(
 /// Opening the archive rebuilds all of these from the number map and the epochs, and nothing of them
 /// outlives a run, so it is opened and counted.
 pub(crate) fn reindex<D: Disk>(alloc: Global, disk: D) -> (Outcome, D)
-    ensures any_moment { (may : List (Option Archive)) → AllRecoverOf may (D.content disk)
-        → LeavesOnly D.moment D.left_since disk result.1 (RecoversOf may) }
+    ensures any_moment { RunsOrStays D.content D.moment D.left_since disk result.1 LeavesSame }
     ensures stands { (s : Standing) → StandsAs s (D.content disk) → (t : Standing)
         × StandsAs t (D.content result.1) × ReindexesOn s (D.content disk) result.0 t }
     ensures done { (a : Archive) → ReadsAs a (D.content disk)
@@ -107,8 +103,7 @@ pub(crate) fn reindex<D: Disk>(alloc: Global, disk: D) -> (Outcome, D)
 
 /// Reads the whole archive on a disk, and counts its entries and live messages.
 pub(crate) fn check<D: Disk>(alloc: Global, disk: D) -> (Outcome, D)
-    ensures any_moment { (may : List (Option Archive)) → AllRecoverOf may (D.content disk)
-        → LeavesOnly D.moment D.left_since disk result.1 (RecoversOf may) }
+    ensures any_moment { RunsOrStays D.content D.moment D.left_since disk result.1 LeavesSame }
     ensures stands { (s : Standing) → StandsAs s (D.content disk) → (t : Standing)
         × StandsAs t (D.content result.1) × ChecksOn s (D.content disk) result.0 t }
     ensures done { (a : Archive) → ReadsAs a (D.content disk)

@@ -1,7 +1,7 @@
 //! The laws of scripts, for all events, and of runs in order, for all words, inputs and faults.
 ghost use Rattle.archive_cli.specs.Laws.{PlainIsTranscript, RunsInARow};
 
-use arch_model::numbers_keep_their_texts;
+use arch_model::{law_of_commands, law_of_numbers, numbers_keep_their_texts};
 use node_serve::plain_law;
 
 /// Shows that what the plain function prints of a script is a transcript of it: the one in which no
@@ -12,12 +12,15 @@ pub fn plain_is_transcript()
     plain_law();
 }
 
-/// Shows what a crash leaves after `init` and two commands on one disk, each `deliver` or `remove`, by
-/// the clause `ends` of `run` alone.
+/// Shows what a crash leaves after `init` and two jobs on one disk, each `deliver`, `remove`, `purge`,
+/// `edit`, `reindex` or `check`, by the clause `ends` of `run` alone.
 ///
-/// The first command may be stopped by a fault. Each live number keeps its text until it is removed.
+/// The first of them may be stopped by a fault. Each live number keeps its text until it is removed,
+/// purged or edited, and no number ever names a second message.
 pub fn runs_in_a_row()
     ensures { RunsInARow }
 {
     numbers_keep_their_texts();
+    law_of_numbers();
+    law_of_commands();
 }

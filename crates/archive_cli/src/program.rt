@@ -1,16 +1,13 @@
 //! All that the program does, over the disk, host, input, output and clock that it is given.
-ghost use Rattle.std.specs.Prelude.{◌≡◌, ◌≤◌, ◌+◌, ◌++◌, ◌⊎◌, ℕ, List, All, Option, None, length, codes, decimal};
+ghost use Rattle.std.specs.Prelude.{◌≡◌, ◌≤◌, ◌+◌, ◌++◌, ◌⊎◌, ℕ, List, All, None, length, codes, decimal};
 ghost use Rattle.disk_model.specs.Disk.{LeavesOnly};
-ghost use Rattle.arch_model.specs.Archives.{Archive};
-ghost use Rattle.epoch_store.specs.Opens.{AllRecoverOf, RecoversOf};
 ghost use Rattle.answer_lines.specs.Lines.{whole_line};
 ghost use Rattle.archive_cli.specs.Words.{spelled, AsksFor};
-ghost use Rattle.archive_cli.specs.declared.words.Job.TheVariants.{Deliver, Remove, Reindex, Check, Serve};
+ghost use Rattle.archive_cli.specs.declared.words.Job.TheVariants.{Serve};
 ghost use Rattle.arch_base.specs.declared.config.Config.{Config};
-ghost use Rattle.arch_model.specs.Standing.{Standing};
-ghost use Rattle.archive_cli.specs.DiskCommands.{StandsAs, delivering, removing, taking};
+ghost use Rattle.archive_cli.specs.DiskCommands.{taking};
 ghost use Rattle.archive_cli.specs.Outcomes.{outcome_line, status_of};
-ghost use Rattle.archive_cli.specs.Program.{RanTo, TakesInput, TookAtMost, LeavesDisk, AsksForInit, CommandActs, InitActs, IsInput, WordsLeave, InitLeaves, RunLeaves, RunLeavesAmong, all_edges, edges, input_limit, message_limit, message_of, made_at};
+ghost use Rattle.archive_cli.specs.Program.{RanTo, TakesInput, TookAtMost, CommandActs, InitActs, InitLeaves, CommandLeaves, MessageLeaves, WordsLeave, putting, all_edges, edges, input_limit, message_limit, made_at};
 ghost use Rattle.archive_cli.specs.Printing.{Printed, Exactly, IsReplayDue, Replayed, JobDone, InputDone, RunPrinted};
 ghost use Rattle.arch_base.specs.Configs.{IsConfig};
 ghost use Rattle.archive_cli.specs.Serving.{ServeRun, ServesDisk, hosted};
@@ -54,39 +51,9 @@ pub fn run<D: Disk, H: Host, S: Source, O: Sink, C: Clock>(
     ensures input { TakesInput (spelled words.now) (S.left input.old) (S.faults input.old)
         (S.left input.new) (S.faults input.new) }
     ensures sink { O.alike out.old out.new }
-    ensures disk { LeavesDisk (spelled words.now) → result.1 ≡ disk }
-    // A crash while an archive is made leaves what it might have left before, no archive, or that
-    // one.
-    ensures init { AsksForInit (spelled words.now) → LeavesOnly D.moment D.left_since disk result.1
-        (WordsLeave (spelled words.now) (C.coming clock.old) (D.content disk)) }
-    // A crash while a message is delivered leaves, until the disk was synced, the archive that was
-    // there or the one in doubt; from then on the one that was found, or that one with the message.
-    ensures deliver { (s : Standing) → AsksFor (spelled words.now) Deliver
-        → StandsAs s (D.content disk) → (sent : List ℕ) × IsInput (S.left input.old) sent
-        × RunLeaves D.content D.moment D.left_since disk result.1 s (C.coming clock.old)
-        (delivering (message_of sent)) }
-    // The same where there may be no archive, as after an `init` in doubt.
-    ensures among { (may : List (Option Archive)) → AsksFor (spelled words.now) Deliver
-        → AllRecoverOf may (D.content disk)
-        → (sent : List ℕ) × IsInput (S.left input.old) sent
-        × RunLeavesAmong D.content D.moment D.left_since disk result.1 may (C.coming clock.old)
-        (delivering (message_of sent)) }
-    // The same while a message is removed.
-    ensures remove { (s : Standing) (number : ℕ) → AsksFor (spelled words.now) (Remove number)
-        → StandsAs s (D.content disk) → RunLeaves D.content D.moment D.left_since disk result.1 s
-        (C.coming clock.old) (removing number) }
-    ensures remove_among { (may : List (Option Archive)) (number : ℕ)
-        → AsksFor (spelled words.now) (Remove number) → AllRecoverOf may (D.content disk)
-        → RunLeavesAmong D.content D.moment D.left_since disk result.1 may (C.coming clock.old)
-        (removing number) }
-    // A crash while an archive is reindexed leaves one that the disk may have stood for.
-    ensures reindex { (may : List (Option Archive)) → AsksFor (spelled words.now) Reindex
-        → AllRecoverOf may (D.content disk)
-        → LeavesOnly D.moment D.left_since disk result.1 (RecoversOf may) }
-    // A crash while an archive is checked leaves one that the disk may have stood for.
-    ensures check { (may : List (Option Archive)) → AsksFor (spelled words.now) Check
-        → AllRecoverOf may (D.content disk)
-        → LeavesOnly D.moment D.left_since disk result.1 (RecoversOf may) }
+    // What the job of the words does to the disk, and what a crash leaves at each moment of it.
+    ensures disk { WordsLeave D.content D.moment D.left_since (spelled words.now) disk result.1
+        (S.left input.old) (C.coming clock.old) }
     // What serving did: the events that it took, the replies to each over the archive of that moment,
     // the disk then, what a crash leaves, and why it ended. Its status and what is printed are those
     // of how it ended, unless the output failed.
@@ -116,11 +83,19 @@ pub fn run<D: Disk, H: Host, S: Source, O: Sink, C: Clock>(
             (status.code(), disk)
         }
         Some(Job::Deliver) => {
-            let (status, disk) = deliver_input(alloc, disk, input, out, clock);
+            let (status, disk) = put_input(alloc, None, disk, input, out, clock);
             (status.code(), disk)
         }
         Some(Job::Remove { number }) => {
             let (status, disk) = carry_out(alloc, disk, &Command::Remove(number), out, clock);
+            (status.code(), disk)
+        }
+        Some(Job::Purge { number }) => {
+            let (status, disk) = carry_out(alloc, disk, &Command::Purge(number), out, clock);
+            (status.code(), disk)
+        }
+        Some(Job::Edit { number }) => {
+            let (status, disk) = put_input(alloc, Some(number), disk, input, out, clock);
             (status.code(), disk)
         }
         Some(Job::Reindex) => {
@@ -177,29 +152,25 @@ fn config_at(config: Config, moment: u64) -> Config
     config
 }
 
-/// Delivers the message on the input to the archive on the disk, at the clock's moment.
-fn deliver_input<D: Disk, S: Source, O: Sink, C: Clock>(
+/// Delivers the message on the input to the archive on the disk, at the clock's moment: as a new one,
+/// or in the place of the one with a number.
+fn put_input<D: Disk, S: Source, O: Sink, C: Clock>(
     alloc: Global,
+    place: Option<u32>,
     disk: D,
     input: &mut S,
     out: &mut O,
     clock: &mut C,
 ) -> (Status, D)
-    ensures ends { InputDone result.0
+    ensures ends { InputDone place result.0
         (all_edges (S.left input.old) (S.faults input.old) (O.taken out.old) (O.faults out.old)
         (C.coming clock.old) (C.faults clock.old) (D.content disk) (D.faults disk))
         (all_edges (S.left input.new) (S.faults input.new) (O.taken out.new) (O.faults out.new)
         (C.coming clock.new) (C.faults clock.new) (D.content result.1) (D.faults result.1)) }
     ensures later { S.faults input.old ≤ S.faults input.new }
     ensures few { TookAtMost message_limit (S.left input.old) (S.left input.new) }
-    ensures any_moment { (s : Standing) → StandsAs s (D.content disk)
-        → (sent : List ℕ) × IsInput (S.left input.old) sent
-        × RunLeaves D.content D.moment D.left_since disk result.1 s (C.coming clock.old)
-        (delivering (message_of sent)) }
-    ensures among { (may : List (Option Archive)) → AllRecoverOf may (D.content disk)
-        → (sent : List ℕ) × IsInput (S.left input.old) sent
-        × RunLeavesAmong D.content D.moment D.left_since disk result.1 may (C.coming clock.old)
-        (delivering (message_of sent)) }
+    ensures any_moment { MessageLeaves D.content D.moment D.left_since disk result.1
+        (S.left input.old) (C.coming clock.old) (putting place) }
     ensures disk_later { D.faults disk ≤ D.faults result.1 }
     ensures clock_later { C.faults clock.old ≤ C.faults clock.new }
     ensures sink { O.alike out.old out.new }
@@ -209,7 +180,24 @@ fn deliver_input<D: Disk, S: Source, O: Sink, C: Clock>(
         Err(InputRefusal::NoMemory) => (print_no_memory(out), disk),
         // A message's front is never too long.
         Err(InputRefusal::TooLong) => (print_no_memory(out), disk),
-        Ok(bytes) => carry_out(alloc, disk, &Command::Deliver(bytes.as_slice()), out, clock),
+        Ok(bytes) => carry_out(
+            alloc,
+            disk,
+            &command_of(place, bytes.as_slice()),
+            out,
+            clock,
+        ),
+    }
+}
+
+/// Returns the command that delivers a message, as a new one or in the place of the one with a
+/// number.
+fn command_of(place: Option<u32>, message: &[u8]) -> Command<'_>
+    ensures { taking result ≡ putting place message.now }
+{
+    match place {
+        None => Command::Deliver(message),
+        Some(number) => Command::Edit(number, message),
     }
 }
 
@@ -226,12 +214,8 @@ fn carry_out<D: Disk, O: Sink, C: Clock>(
         (C.faults clock.old) (D.content disk) (D.faults disk))
         (all_edges None 0 (O.taken out.new) (O.faults out.new) (C.coming clock.new)
         (C.faults clock.new) (D.content result.1) (D.faults result.1)) }
-    ensures any_moment { (s : Standing) → StandsAs s (D.content disk)
-        → RunLeaves D.content D.moment D.left_since disk result.1 s (C.coming clock.old)
-        (taking command.now) }
-    ensures among { (may : List (Option Archive)) → AllRecoverOf may (D.content disk)
-        → RunLeavesAmong D.content D.moment D.left_since disk result.1 may (C.coming clock.old)
-        (taking command.now) }
+    ensures any_moment { CommandLeaves D.content D.moment D.left_since disk result.1
+        (C.coming clock.old) (taking command.now) }
     ensures disk_later { D.faults disk ≤ D.faults result.1 }
     ensures clock_later { C.faults clock.old ≤ C.faults clock.new }
     ensures sink { O.alike out.old out.new }

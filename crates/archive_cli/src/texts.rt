@@ -10,6 +10,8 @@ piv2: a mailing list archive
   piv2 deliver       put the message on the input into the archive in the folder piv2-store of the current folder,
                      and print the answer
   piv2 remove N      remove the message of number N from the archive there, and print the answer: it is shown no more
+  piv2 purge N       drop the text of number N from all epochs of the archive there, and print the answer
+  piv2 edit N        purge the message of number N and deliver the one on the input, in one step, and print the answer
   piv2 reindex       build the rows, threads and words of the archive there anew from its files, and print reindexed L:
                      so many messages are shown
   piv2 serve [turns=N] [port=N]

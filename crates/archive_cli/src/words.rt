@@ -1,7 +1,7 @@
 //! The words of a command line.
 ghost use Rattle.std.specs.Prelude.{◌≡◌, ◌≢◌, ◌∷◌, [], Some, codes, decimal};
 ghost use Rattle.edge_io.specs.Parsing.{Spells};
-ghost use Rattle.archive_cli.specs.Words.{IsJob, IsSetting, IsServeOption, IsUpTo, setting_word, serve_word, spelled};
+ghost use Rattle.archive_cli.specs.Words.{IsJob, IsLone, IsSetting, IsServeOption, IsUpTo, setting_word, serve_word, spelled};
 ghost use Rattle.archive_cli.specs.Options.{IsCollected, IsConfigured, IsServing, IsWith, config_by};
 
 use arch_base::{Config, Name, read_decimal};
@@ -41,6 +41,10 @@ pub enum Job {
     Deliver,
     /// `remove N`: removes the message with this number from view.
     Remove { number: u32 },
+    /// `purge N`: drops each entry with the text of the message with this number.
+    Purge { number: u32 },
+    /// `edit N`: purges the message with this number, and delivers the message on the input.
+    Edit { number: u32 },
     /// `reindex`: builds anew what is kept beside the files of the archive.
     Reindex,
     /// `check`: reads the whole archive.
@@ -130,9 +134,9 @@ impl Settings {
 
 /// Returns what these words ask for, or `None` if they aren't in the grammar.
 ///
-/// The grammar is `--help`, `--version`, `deliver`, `reindex`, `check`, `serve`, `remove` with a number
-/// from 1 to 2,147,483,647, or `init` or `replay` with the name of an archive and options. Each option
-/// comes at most once, in any order:
+/// The grammar is `--help`, `--version`, `deliver`, `reindex`, `check`, `serve`, `remove`, `purge` or
+/// `edit` with a number from 1 to 2,147,483,647, or `init` or `replay` with the name of an archive and
+/// options. Each option comes at most once, in any order:
 ///
 /// * `limit=N`: 1 to 1,099,511,627,776, by default 1,073,741,824;
 /// * `slice=N`: 1 to 1,000,000, by default 50,000;
@@ -256,13 +260,16 @@ fn read_one(word: &str) -> Option<Job>
 }
 
 /// Returns what two words and those after them ask for.
-#[tactic(auto, using(crate::proofs::Grammar::not_made, crate::proofs::Grammar::other_word, crate::proofs::Grammar::replayed, crate::proofs::Grammar::not_replayed, crate::proofs::Grammar::removal_named))]
+#[tactic(auto, using(crate::proofs::Grammar::not_made, crate::proofs::Grammar::other_word, crate::proofs::Grammar::replayed, crate::proofs::Grammar::not_replayed, crate::proofs::Grammar::removal_named, crate::proofs::Grammar::purge_named, crate::proofs::Grammar::edit_named))]
 fn read_named(word: &str, name: &str, options: &[&str]) -> Option<Job>
     requires { word.now ≢ codes "serve" }
     ensures { IsJob (word.now ∷ name.now ∷ spelled options.now) result }
 {
-    if word == "remove" {
-        return read_removal(name, options);
+    match word {
+        "remove" => return read_removal(name, options),
+        "purge" => return read_purge(name, options),
+        "edit" => return read_edit(name, options),
+        _ => {}
     }
     let config = read_config(name, options)?;
     match word {
@@ -277,11 +284,34 @@ fn read_named(word: &str, name: &str, options: &[&str]) -> Option<Job>
 fn read_removal(word: &str, more: &[&str]) -> Option<Job>
     ensures { IsJob (codes "remove" ∷ word.now ∷ spelled more.now) result }
 {
+    let number = read_lone(word, more)?;
+    Some(Job::Remove { number })
+}
+
+/// Returns the purge that `purge`, a word and those after it ask for.
+fn read_purge(word: &str, more: &[&str]) -> Option<Job>
+    ensures { IsJob (codes "purge" ∷ word.now ∷ spelled more.now) result }
+{
+    let number = read_lone(word, more)?;
+    Some(Job::Purge { number })
+}
+
+/// Returns the edit that `edit`, a word and those after it ask for.
+fn read_edit(word: &str, more: &[&str]) -> Option<Job>
+    ensures { IsJob (codes "edit" ∷ word.now ∷ spelled more.now) result }
+{
+    let number = read_lone(word, more)?;
+    Some(Job::Edit { number })
+}
+
+/// Returns the number of a message that a word spells if none comes after it.
+fn read_lone(word: &str, more: &[&str]) -> Option<u32>
+    ensures { IsLone (word.now ∷ spelled more.now) result }
+{
     if !more.is_empty() {
         return None;
     }
-    let number = read_number(word.as_bytes())?;
-    Some(Job::Remove { number })
+    read_number(word.as_bytes())
 }
 
 /// Returns the settings that a name and the options after it give.

@@ -11,7 +11,7 @@ use std::process::Abort;
 use std::test::Fail;
 
 /// A message.
-const MAIL: &[u8] =
+pub(crate) const MAIL: &[u8] =
     b"From: Ann <ann@example.org>\nDate: Thu, 1 Feb 2024 10:00:00 +0000\nSubject: first\nMessage-ID: <a@x>\n\none\n";
 
 /// What its delivery to an archive without messages is answered, and then its removal.
@@ -26,10 +26,10 @@ pub(crate) const ONE: &[u8] = b"entries 1 live 1 next 2\n";
 const GONE: &[u8] = b"entries 2 live 0 next 2\n";
 
 /// More calls than a command makes on a disk.
-const ENOUGH: u64 = 1000;
+pub(crate) const ENOUGH: u64 = 1000;
 
 /// Fewer calls than a command makes that is done: tests of stopped commands are cut in two here.
-const LATE: u64 = 15;
+pub(crate) const LATE: u64 = 15;
 
 /// A clock that stands still.
 #[derive(Drop)]
@@ -88,7 +88,7 @@ fn ran_on<D: Disk + Drop>(
 }
 
 /// Returns an empty disk.
-fn empty(alloc: Global) -> MemDisk {
+pub(crate) fn empty(alloc: Global) -> MemDisk {
     MemDisk::new(alloc, Numbers::new(alloc))
 }
 
@@ -104,7 +104,7 @@ pub(crate) fn printing(alloc: Global, disk: MemDisk, due: &Due<'_>) -> Option<Me
 }
 
 /// Makes the runs in turn over one disk. Returns the disk if each ends and prints as is due.
-fn printing_all(alloc: Global, disk: MemDisk, runs: &[Due<'_>]) -> Option<MemDisk> {
+pub(crate) fn printing_all(alloc: Global, disk: MemDisk, runs: &[Due<'_>]) -> Option<MemDisk> {
     let mut disk = disk;
     for due in runs {
         disk = printing(alloc, disk, due)?;
@@ -147,7 +147,7 @@ const CHECKED: Due<'_> = Due {
 };
 
 /// A run that delivers the message to an archive without messages.
-const DELIVERED: Due<'_> = Due {
+pub(crate) const DELIVERED: Due<'_> = Due {
     words: &["deliver"],
     input: MAIL,
     status: 0,
@@ -375,16 +375,16 @@ fn a_mirror_takes_no_command(rt: HostRuntime) {
 }
 
 /// Makes an archive without messages on a new disk.
-fn with_archive(alloc: Global) -> Option<MemDisk> {
+pub(crate) fn with_archive(alloc: Global) -> Option<MemDisk> {
     printing(alloc, empty(alloc), &MADE)
 }
 
 /// A command that may be stopped: its run, and what is read of the archive before it and after it.
 #[derive(Clone, Copy)]
-struct Stopped<'a> {
-    run: Due<'a>,
-    before: &'a [u8],
-    after: &'a [u8],
+pub(crate) struct Stopped<'a> {
+    pub(crate) run: Due<'a>,
+    pub(crate) before: &'a [u8],
+    pub(crate) after: &'a [u8],
 }
 
 /// The delivery of a message to an archive without any.
@@ -497,7 +497,7 @@ fn run_stopped(alloc: Global, disk: MemDisk, command: &Stopped<'_>, passes: u64)
 
 /// Runs a command over a disk that stops after this many calls, and checks each image since. Returns
 /// whether there was no stop.
-fn is_done_or_not(
+pub(crate) fn is_done_or_not(
     rt: &impl Abort,
     alloc: Global,
     disk: Option<MemDisk>,

@@ -53,7 +53,7 @@ pub(crate) fn ran(
 }
 
 /// Returns whether a run ends with the status that is due, and prints what is due.
-fn is_as_due(alloc: Global, due: &Due<'_>) -> bool {
+pub(crate) fn is_as_due(alloc: Global, due: &Due<'_>) -> bool {
     match ran(alloc, due.words, due.input, &[], &[]) {
         None => false,
         Some((status, sink)) => status == due.status && sink.taken() == due.printed,
@@ -169,6 +169,8 @@ fn asked(words: &[&str]) -> &'static str {
         Some(Job::Init { config: _ }) => "init",
         Some(Job::Deliver) => "deliver",
         Some(Job::Remove { number: _ }) => "remove",
+        Some(Job::Purge { number: _ }) => "purge",
+        Some(Job::Edit { number: _ }) => "edit",
         Some(Job::Reindex) => "reindex",
         Some(Job::Check) => "check",
         Some(Job::Serve { turns: _, port: _ }) => "serve",
@@ -183,7 +185,7 @@ struct Request<'a> {
 }
 
 /// Words in the grammar.
-const JOBS: [Request<'_>; 13] = [
+const JOBS: [Request<'_>; 16] = [
     Request {
         words: &["--help"],
         job: "help",
@@ -211,6 +213,18 @@ const JOBS: [Request<'_>; 13] = [
     Request {
         words: &["remove", "2147483647"],
         job: "remove",
+    },
+    Request {
+        words: &["purge", "1"],
+        job: "purge",
+    },
+    Request {
+        words: &["purge", "2147483647"],
+        job: "purge",
+    },
+    Request {
+        words: &["edit", "1"],
+        job: "edit",
     },
     Request {
         words: &["replay", "list"],
@@ -330,19 +344,42 @@ fn words_that_ask_for_no_removal(rt: HostRuntime) {
     }
 }
 
-/// Returns the number whose removal words ask for.
+/// Words that start with `purge` or `edit` and are not in the grammar.
+const NO_REWRITINGS: [&[&str]; 10] = [
+    &["purge"],
+    &["purge", "0"],
+    &["purge", "01"],
+    &["purge", "2147483648"],
+    &["purge", "1", "2"],
+    &["edit"],
+    &["edit", "0"],
+    &["edit", "x"],
+    &["edit", "2147483648"],
+    &["edit", "1", "103"],
+];
+
+#[test]
+fn words_that_ask_for_no_purge_or_edit(rt: HostRuntime) {
+    for words in &NO_REWRITINGS {
+        assert!(rt; asked(words) == "none");
+    }
+}
+
+/// Returns the number of the message that words ask to remove, to purge or to edit.
 fn number_of(words: &[&str]) -> Option<u32> {
     match read_words(words)? {
-        Job::Remove { number } => Some(number),
+        Job::Remove { number } | Job::Purge { number } | Job::Edit { number } => Some(number),
         _ => None,
     }
 }
 
 #[test]
-fn numbers_that_words_ask_to_remove(rt: HostRuntime) {
+fn numbers_that_words_ask_for(rt: HostRuntime) {
     assert!(rt; number_of(&["remove", "1"]) == Some(1));
     assert!(rt; number_of(&["remove", "10"]) == Some(10));
     assert!(rt; number_of(&["remove", "2147483647"]) == Some(2_147_483_647));
+    assert!(rt; number_of(&["purge", "7"]) == Some(7));
+    assert!(rt; number_of(&["edit", "8"]) == Some(8));
 }
 
 /// Returns the settings of the archive that words ask for.

@@ -1,10 +1,11 @@
-use Rattle.std.proofs.Common.{[], false}
+use Rattle.std.proofs.Common.{[], false, inl}
 use Rattle.archive_core.proofs.Standing.{store_keeps}
-use Rattle.archive_cli.proofs.OnDisk.{opened-checks, opened-as, unopened-checks, opened-stands, unopened-stands, checked-cause, refused-cause}
+use Rattle.archive_cli.proofs.OnDisk.{opened-checks, opened-as, unopened-checks, opened-stands, opened-runs, unopened-stands, checked-cause, refused-cause}
 use Rattle.archive_cli.proofs.disk_commands.check.Goals as goal
 
 pub returns-in-Ok-clause-any_moment : goal.returns-in-Ok-clause-any_moment
-returns-in-Ok-clause-any_moment g c = λ may all. c.in-Ok.ensures.opened.any_moment may [] all
+returns-in-Ok-clause-any_moment g c = opened-runs g.D.Disk.content g.D.Disk.moment g.D.Disk.left_since g.met.D.Disk.counts_now g.met.D.Disk.reads_fit c.args.disk
+    (record { disk = c.open.new.disk; view = c.in-Ok.counted; views = record { rows = []; words = [] }; stale = false }) c.in-Ok.ensures.opened.done c.in-Ok.ensures.opened.first c.in-Ok.ensures.opened.answer
 
 pub returns-in-Ok-clause-done : goal.returns-in-Ok-clause-done
 returns-in-Ok-clause-done g c = λ a reads.
@@ -26,7 +27,7 @@ pub returns-in-Err-clause-cause : goal.returns-in-Err-clause-cause
 returns-in-Err-clause-cause g c = refused-cause (g.D.Disk.faults c.args.disk) (g.D.Disk.faults c.open.new.disk) c.in-Err.why c.in-Err.ensures.opened.cause
 
 pub returns-in-Err-clause-any_moment : goal.returns-in-Err-clause-any_moment
-returns-in-Err-clause-any_moment g c = λ may all. c.in-Err.ensures.opened.any_moment may [] all
+returns-in-Err-clause-any_moment g c = λ may all. inl (c.in-Err.ensures.opened.any_moment may [] all)
 
 pub returns-in-Err-clause-done : goal.returns-in-Err-clause-done
 returns-in-Err-clause-done g c = λ a reads.

@@ -1,9 +1,10 @@
-use Rattle.std.proofs.Common.{[]}
-use Rattle.archive_cli.proofs.OnDisk.{opened-reindexes, unopened-reindexes, opened-stands, unopened-stands, reindexed-cause, refused-cause}
+use Rattle.std.proofs.Common.{[], inl}
+use Rattle.archive_cli.proofs.OnDisk.{opened-reindexes, unopened-reindexes, opened-stands, opened-runs, unopened-stands, reindexed-cause, refused-cause}
 use Rattle.archive_cli.proofs.disk_commands.reindex.Goals as goal
 
 pub returns-in-Ok-clause-any_moment : goal.returns-in-Ok-clause-any_moment
-returns-in-Ok-clause-any_moment g c = λ may all. rw c.into_disk.ensures (c.in-Ok.ensures.opened.any_moment may [] all)
+returns-in-Ok-clause-any_moment g c = rw c.into_disk.ensures
+    (opened-runs g.D.Disk.content g.D.Disk.moment g.D.Disk.left_since g.met.D.Disk.counts_now g.met.D.Disk.reads_fit c.args.disk c.in-Ok.engine c.in-Ok.ensures.opened.done c.in-Ok.ensures.opened.first c.in-Ok.ensures.opened.answer)
 
 pub returns-in-Ok-clause-done : goal.returns-in-Ok-clause-done
 returns-in-Ok-clause-done g c = λ a reads.
@@ -23,7 +24,7 @@ pub returns-in-Err-clause-cause : goal.returns-in-Err-clause-cause
 returns-in-Err-clause-cause g c = refused-cause (g.D.Disk.faults c.args.disk) (g.D.Disk.faults c.in-Err.field-0.disk) c.in-Err.field-0.why c.in-Err.ensures.opened.cause
 
 pub returns-in-Err-clause-any_moment : goal.returns-in-Err-clause-any_moment
-returns-in-Err-clause-any_moment g c = λ may all. c.in-Err.ensures.opened.any_moment may [] all
+returns-in-Err-clause-any_moment g c = λ may all. inl (c.in-Err.ensures.opened.any_moment may [] all)
 
 pub returns-in-Err-clause-done : goal.returns-in-Err-clause-done
 returns-in-Err-clause-done g c = λ a reads.

@@ -1,22 +1,21 @@
 use Rattle.std.proofs.Common.{[], inl}
-use Rattle.arch_model.specs.Standing.{one_of}
 use Rattle.archive_cli.specs.DiskCommands.{taking}
-use Rattle.archive_cli.proofs.OnDisk.{unopened-takes, unopened-stands, taken-stands, taken-leaves, taken-answers, taken-among, answered-cause, refused-cause}
+use Rattle.archive_cli.proofs.OnDisk.{unopened-takes, unopened-stands, taken-stands, taken-runs, taken-answers, answered-cause, refused-cause}
 use Rattle.archive_cli.proofs.disk_commands.take.Goals as goal
 
 pub returns-in-Ok-clause-any_moment : goal.returns-in-Ok-clause-any_moment
 returns-in-Ok-clause-any_moment g c = rw c.into_disk.ensures
-    (taken-leaves g.D.Disk.content g.D.Disk.moment g.D.Disk.left_since g.met.D.Disk.counts_now g.met.D.Disk.reads_fit c.args.disk c.in-Ok.engine c.in-Ok.ensures.opened.done c.in-Ok.ensures.opened.first c.take-answer.new.self (taking c.args.command.now c.args.moment) c.take-answer.result
-    c.take-answer.ensures.done c.take-answer.ensures.any_moment)
+    (taken-runs g.D.Disk.content g.D.Disk.moment g.D.Disk.left_since g.met.D.Disk.counts_now g.met.D.Disk.reads_fit c.args.disk c.in-Ok.engine c.in-Ok.ensures.opened.done c.in-Ok.ensures.opened.first c.take-answer.new.self c.args.command.now (taking c.args.command.now c.args.moment) c.take-answer.result
+    c.take-answer.ensures.done c.take-answer.ensures.any_moment c.in-Ok.ensures.opened.answer)
 
 pub returns-in-Ok-clause-stands : goal.returns-in-Ok-clause-stands
 returns-in-Ok-clause-stands g c = rw c.into_disk.ensures
-    (taken-stands g.D.Disk.content g.D.Disk.moment g.D.Disk.left_since g.met.D.Disk.counts_now g.met.D.Disk.reads_fit c.args.disk c.in-Ok.engine c.in-Ok.ensures.opened.done c.in-Ok.ensures.opened.first c.take-answer.new.self (taking c.args.command.now c.args.moment) c.take-answer.result
+    (taken-stands g.D.Disk.content g.D.Disk.moment g.D.Disk.left_since g.met.D.Disk.counts_now g.met.D.Disk.reads_fit c.args.disk c.in-Ok.engine c.in-Ok.ensures.opened.done c.in-Ok.ensures.opened.first c.take-answer.new.self c.args.command.now (taking c.args.command.now c.args.moment) c.take-answer.result
     c.take-answer.ensures.done c.take-answer.ensures.any_moment)
 
 pub returns-in-Ok-clause-done : goal.returns-in-Ok-clause-done
 returns-in-Ok-clause-done g c = rw c.into_disk.ensures
-    (taken-answers g.D.Disk.content g.D.Disk.moment g.D.Disk.left_since g.met.D.Disk.counts_now g.met.D.Disk.reads_fit c.args.disk c.in-Ok.engine c.in-Ok.ensures.opened.done c.in-Ok.ensures.opened.first c.take-answer.new.self (taking c.args.command.now c.args.moment) c.take-answer.result
+    (taken-answers g.D.Disk.content g.D.Disk.moment g.D.Disk.left_since g.met.D.Disk.counts_now g.met.D.Disk.reads_fit c.args.disk c.in-Ok.engine c.in-Ok.ensures.opened.done c.in-Ok.ensures.opened.first c.take-answer.new.self c.args.command.now (taking c.args.command.now c.args.moment) c.take-answer.result
     c.take-answer.ensures.done c.take-answer.ensures.any_moment)
 
 pub returns-in-Ok-clause-cause : goal.returns-in-Ok-clause-cause
@@ -27,15 +26,7 @@ pub returns-in-Err-clause-cause : goal.returns-in-Err-clause-cause
 returns-in-Err-clause-cause g c = refused-cause (g.D.Disk.faults c.args.disk) (g.D.Disk.faults c.in-Err.field-0.disk) c.in-Err.field-0.why c.in-Err.ensures.opened.cause
 
 pub returns-in-Err-clause-any_moment : goal.returns-in-Err-clause-any_moment
-returns-in-Err-clause-any_moment g c = λ s all. inl (c.in-Err.ensures.opened.any_moment (one_of s) [] all)
-
-pub returns-in-Ok-clause-among : goal.returns-in-Ok-clause-among
-returns-in-Ok-clause-among g c = rw c.into_disk.ensures
-    (λ may all. taken-among g.D.Disk.content g.D.Disk.moment g.D.Disk.left_since g.met.D.Disk.counts_now g.met.D.Disk.reads_fit c.args.disk c.in-Ok.engine c.in-Ok.ensures.opened.done c.in-Ok.ensures.opened.first c.take-answer.new.self (taking c.args.command.now c.args.moment) c.take-answer.result
-    c.take-answer.ensures.done c.take-answer.ensures.any_moment may all c.in-Ok.ensures.opened.answer)
-
-pub returns-in-Err-clause-among : goal.returns-in-Err-clause-among
-returns-in-Err-clause-among g c = λ may all. inl (c.in-Err.ensures.opened.any_moment may [] all)
+returns-in-Err-clause-any_moment g c = λ may all. inl (c.in-Err.ensures.opened.any_moment may [] all)
 
 pub returns-in-Err-clause-stands : goal.returns-in-Err-clause-stands
 returns-in-Err-clause-stands g c = λ s all. unopened-stands g.D.Disk.content g.D.Disk.moment g.D.Disk.left_since g.met.D.Disk.counts_now g.met.D.Disk.reads_fit s c.args.disk c.in-Err.field-0.disk c.in-Err.field-0.why all c.in-Err.ensures.opened.any_moment c.in-Err.ensures.opened.well c.in-Err.ensures.opened.first

@@ -1,23 +1,15 @@
 use Rattle.std.proofs.Common.{inl, refl}
 use Rattle.archive_cli.specs.DiskCommands.{taking}
 use Rattle.archive_cli.specs.Program.{CommandActs}
-use Rattle.archive_cli.proofs.Leaving.{run-first, run-at, among-first, among-at}
+use Rattle.archive_cli.proofs.Leaving.{command-first}
 use Rattle.archive_cli.proofs.Printed.{outcome-due}
 use Rattle.archive_cli.proofs.program.carry_out.Goals as goal
 
 pub returns-in-Err-clause-any_moment : goal.returns-in-Err-clause-any_moment
-returns-in-Err-clause-any_moment g c = λ s all. run-first g.D.Disk.content g.D.Disk.moment g.D.Disk.left_since g.met.D.Disk.only_now (g.C.Clock.coming c.args.clock.now) (taking c.args.command.now) s c.args.disk all
+returns-in-Err-clause-any_moment g c = command-first g.D.Disk.content g.D.Disk.moment g.D.Disk.left_since g.met.D.Disk.only_now (g.C.Clock.coming c.args.clock.now) (taking c.args.command.now) c.args.disk
 
 pub returns-clause-any_moment : goal.returns-clause-any_moment
-returns-clause-any_moment g c = λ s all.
-    run-at g.D.Disk.content g.D.Disk.moment g.D.Disk.left_since g.met.D.Disk.only_now (g.C.Clock.coming c.args.clock.now) (taking c.args.command.now) c.args.disk c.take-outcome.result.1 s c.in-Ok.moment c.in-Ok.ensures.first (c.take-outcome.ensures.any_moment s all)
-
-pub returns-in-Err-clause-among : goal.returns-in-Err-clause-among
-returns-in-Err-clause-among g c = λ may all. among-first g.D.Disk.content g.D.Disk.moment g.D.Disk.left_since g.met.D.Disk.only_now (g.C.Clock.coming c.args.clock.now) (taking c.args.command.now) may c.args.disk all
-
-pub returns-clause-among : goal.returns-clause-among
-returns-clause-among g c = λ may all.
-    among-at g.D.Disk.content g.D.Disk.moment g.D.Disk.left_since g.met.D.Disk.only_now (g.C.Clock.coming c.args.clock.now) (taking c.args.command.now) c.args.disk c.take-outcome.result.1 may c.in-Ok.moment c.in-Ok.ensures.first (c.take-outcome.ensures.among may all)
+returns-clause-any_moment g c = (c.in-Ok.moment, c.in-Ok.ensures.first, c.take-outcome.ensures.any_moment)
 
 pub returns-clause-ends : goal.returns-clause-ends
 returns-clause-ends g c =

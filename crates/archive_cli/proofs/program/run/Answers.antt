@@ -1,16 +1,15 @@
-use Rattle.std.proofs.Common.{Some, None, codes, refl, ℕ, subst}
-use Rattle.disk_model.specs.Moments.{weaker}
+use Rattle.std.proofs.Common.{Some, None, codes, refl, ℕ, inl, inr}
 use Rattle.answer_lines.specs.Lines.{whole_line}
 use Rattle.node_serve.specs.World.{outer}
-use Rattle.archive_cli.specs.DiskCommands.{removing}
-use Rattle.archive_cli.specs.Program.{CommandActs, InitActs, InitLeaves, RunLeaves, RunLeavesAmong, WordsLeave}
+use Rattle.archive_cli.specs.DiskCommands.{removing, purging}
+use Rattle.archive_cli.specs.Program.{CommandActs, InitActs}
 use Rattle.archive_cli.specs.Serving.{hosted}
 use Rattle.archive_cli.specs.Words.{spelled}
-use Rattle.archive_cli.specs.declared.words.Job.TheVariants.{Help, Version, Init, Deliver, Remove, Serve}
+use Rattle.archive_cli.specs.declared.words.Job.TheVariants.{Help, Version, Replay, Init, Deliver, Remove, Purge, Edit, Reindex, Check, Serve}
 use Rattle.archive_cli.specs.declared.status.Status.TheVariants as exit
 use Rattle.archive_cli.specs.declared.texts.TheConstants.{HELP, VERSION}
-use Rattle.archive_cli.proofs.Grammar.{replay-config, init-config, same_number, same-serve}
-use Rattle.archive_cli.proofs.Printed.{ran-exactly, ran-replayed, ran-made, ran-delivered, ran-removed, ran-reindexed, ran-checked, ran-served, job-moved, some-moment}
+use Rattle.archive_cli.proofs.Grammar.{replay-config, init-config, same-serve}
+use Rattle.archive_cli.proofs.Printed.{ran-exactly, ran-replayed, ran-made, ran-put, ran-command, ran-reindexed, ran-checked, ran-served, job-moved, some-moment}
 use Rattle.archive_cli.proofs.ServedDisk.{shut-faults}
 use Rattle.archive_cli.proofs.program.run.Goals as goal
 
@@ -43,30 +42,13 @@ returns-in-Some-Init-clause-ends g c = (
 
 pub returns-in-Some-Deliver-clause-ends : goal.returns-in-Some-Deliver-clause-ends
 returns-in-Some-Deliver-clause-ends g c =
-    (c.deliver_input-status.result.0, c.code-in-Some-Deliver.ensures, ran-delivered (spelled c.args.words.now) _ _ _ (rw c.in-Some-Deliver.field-0-is at c.in-Some-Deliver.ensures) c.deliver_input-status.ensures.ends)
+    (c.put_input-status.result.0, c.code-in-Some-Deliver.ensures, ran-put (spelled c.args.words.now) None _ _ _ (rw c.in-Some-Deliver.field-0-is at c.in-Some-Deliver.ensures) c.put_input-status.ensures.ends)
 
 pub init-status-requires : goal.init-status-requires
 init-status-requires g c = init-config (spelled c.args.words.now) c.in-Some-Init.config (rw c.in-Some-Init.field-0-is at c.in-Some-Init.ensures)
 
-pub returns-in-None-clause-init : goal.returns-in-None-clause-init
-returns-in-None-clause-init g c = λ asked. absurd (c.in-None.ensures (Init asked.0) asked.1)
-
-pub returns-in-None-clause-deliver : goal.returns-in-None-clause-deliver
-returns-in-None-clause-deliver g c = λ s asked all. absurd (c.in-None.ensures Deliver asked)
-
 pub returns-in-None-clause-serve : goal.returns-in-None-clause-serve
 returns-in-None-clause-serve g c = λ turns port asked. absurd (c.in-None.ensures (Serve turns port) asked)
-
-pub returns-in-Some-Init-clause-init : goal.returns-in-Some-Init-clause-init
-returns-in-Some-Init-clause-init g c = λ asked.
-    let config = c.in-Some-Init.config in
-    let coming = g.C.Clock.coming c.args.clock.now in
-    let k0 = g.D.Disk.content c.args.disk in
-    weaker g.D.Disk.moment g.D.Disk.left_since c.args.disk c.init-status.result.1 (InitLeaves config coming k0) (WordsLeave (spelled c.args.words.now) coming k0) c.init-status.ensures.any_moment
-    (λ image leaves. (config, rw c.in-Some-Init.field-0-is at c.in-Some-Init.ensures, leaves))
-
-pub returns-in-Some-Deliver-clause-deliver : goal.returns-in-Some-Deliver-clause-deliver
-returns-in-Some-Deliver-clause-deliver g c = λ s asked all. c.deliver_input-status.ensures.any_moment s all
 
 pub returns-in-Some-Reindex-clause-ends : goal.returns-in-Some-Reindex-clause-ends
 returns-in-Some-Reindex-clause-ends g c =
@@ -77,9 +59,6 @@ returns-in-Some-Reindex-clause-ends g c =
           (record { moment = some.0; first = some.1; acts = record { kind = c.reindex-outcome.ensures.kind; done = c.reindex-outcome.ensures.done; stands = c.reindex-outcome.ensures.stands; answer = c.reindex-outcome.ensures.answer; unopened = c.reindex-outcome.ensures.unopened }; fault = c.reindex-outcome.ensures.cause.failed; input_kept = refl; clock_kept = refl; disk_kept = c.reindex-outcome.ensures.cause.kept }) c.print_outcome.ensures.printed,
     )
 
-pub returns-in-Some-Reindex-clause-reindex : goal.returns-in-Some-Reindex-clause-reindex
-returns-in-Some-Reindex-clause-reindex g c = λ may asked all. c.reindex-outcome.ensures.any_moment may all
-
 pub returns-in-Some-Check-clause-ends : goal.returns-in-Some-Check-clause-ends
 returns-in-Some-Check-clause-ends g c =
     let some = some-moment (g.C.Clock.coming c.args.clock.now) in (
@@ -89,40 +68,15 @@ returns-in-Some-Check-clause-ends g c =
           (record { moment = some.0; first = some.1; acts = record { kind = c.check-outcome.ensures.kind; done = c.check-outcome.ensures.done; stands = c.check-outcome.ensures.stands; answer = c.check-outcome.ensures.answer; unopened = c.check-outcome.ensures.unopened }; fault = c.check-outcome.ensures.cause.failed; input_kept = refl; clock_kept = refl; disk_kept = c.check-outcome.ensures.cause.kept }) c.print_outcome-in-Some-Check.ensures.printed,
     )
 
-pub returns-in-Some-Check-clause-check : goal.returns-in-Some-Check-clause-check
-returns-in-Some-Check-clause-check g c = λ may asked all. c.check-outcome.ensures.any_moment may all
-
-pub returns-in-None-clause-among : goal.returns-in-None-clause-among
-returns-in-None-clause-among g c = λ may asked all. absurd (c.in-None.ensures Deliver asked)
-
-pub returns-in-Some-Deliver-clause-among : goal.returns-in-Some-Deliver-clause-among
-returns-in-Some-Deliver-clause-among g c = λ may asked all. c.deliver_input-status.ensures.among may all
-
 pub returns-in-Some-Remove-clause-ends : goal.returns-in-Some-Remove-clause-ends
-returns-in-Some-Remove-clause-ends g c = (
-  c.carry_out-status.result.0,
-  c.code-in-Some-Remove.ensures,
-  ran-removed (spelled c.args.words.now) c.in-Some-Remove.number _ _ _ (rw c.in-Some-Remove.field-0-is at c.in-Some-Remove.ensures)
-      (job-moved (CommandActs (removing c.in-Some-Remove.number)) c.carry_out-status.result.0 _ _ _ _ _ _ _ _ _ _ _ _ _ _ _ _ refl c.carry_out-status.ensures.ends),
-)
-
-pub returns-in-None-clause-remove : goal.returns-in-None-clause-remove
-returns-in-None-clause-remove g c = λ s number asked all. absurd (c.in-None.ensures (Remove number) asked)
-
-pub returns-in-Some-Remove-clause-remove : goal.returns-in-Some-Remove-clause-remove
-returns-in-Some-Remove-clause-remove g c = λ s number asked all.
-    let coming = g.C.Clock.coming c.args.clock.now in
-    let same = same_number (spelled c.args.words.now) c.in-Some-Remove.number number (rw c.in-Some-Remove.field-0-is at c.in-Some-Remove.ensures) asked in
-    subst (λ (n : ℕ). RunLeaves g.D.Disk.content g.D.Disk.moment g.D.Disk.left_since c.args.disk c.carry_out-status.result.1 s coming (removing n)) same (c.carry_out-status.ensures.any_moment s all)
-
-pub returns-in-None-clause-remove_among : goal.returns-in-None-clause-remove_among
-returns-in-None-clause-remove_among g c = λ may number asked all. absurd (c.in-None.ensures (Remove number) asked)
-
-pub returns-in-Some-Remove-clause-remove_among : goal.returns-in-Some-Remove-clause-remove_among
-returns-in-Some-Remove-clause-remove_among g c = λ may number asked all.
-    let coming = g.C.Clock.coming c.args.clock.now in
-    let same = same_number (spelled c.args.words.now) c.in-Some-Remove.number number (rw c.in-Some-Remove.field-0-is at c.in-Some-Remove.ensures) asked in
-    subst (λ (n : ℕ). RunLeavesAmong g.D.Disk.content g.D.Disk.moment g.D.Disk.left_since c.args.disk c.carry_out-status.result.1 may coming (removing n)) same (c.carry_out-status.ensures.among may all)
+returns-in-Some-Remove-clause-ends g c =
+    let asked = rw c.in-Some-Remove.field-0-is at c.in-Some-Remove.ensures in
+    let number = c.in-Some-Remove.number in (
+      c.carry_out-status.result.0,
+      c.code-in-Some-Remove.ensures,
+      ran-command (spelled c.args.words.now) (Remove number) (removing number) _ _ _ asked (inr (inl (number, asked))) (λ input s printed due. due)
+          (job-moved (CommandActs (removing number)) c.carry_out-status.result.0 _ _ _ _ _ _ _ _ _ _ _ _ _ _ _ _ refl c.carry_out-status.ensures.ends),
+    )
 
 pub returns-in-Some-Serve-clause-ends : goal.returns-in-Some-Serve-clause-ends
 returns-in-Some-Serve-clause-ends g c =
@@ -144,3 +98,53 @@ returns-in-Some-Serve-clause-serve g c = λ turns port asked.
 
 pub returns-in-Some-Serve-clause-host : goal.returns-in-Some-Serve-clause-host
 returns-in-Some-Serve-clause-host g c = λ none. absurd (none c.in-Some-Serve.turns c.in-Some-Serve._port (rw c.in-Some-Serve.field-0-is at c.in-Some-Serve.ensures))
+
+pub returns-in-Some-Edit-clause-ends : goal.returns-in-Some-Edit-clause-ends
+returns-in-Some-Edit-clause-ends g c =
+    (c.put_input-status-in-Some-Edit.result.0, c.code-in-Some-Edit.ensures, ran-put (spelled c.args.words.now) (Some c.in-Some-Edit.number) _ _ _ (rw c.in-Some-Edit.field-0-is at c.in-Some-Edit.ensures) c.put_input-status-in-Some-Edit.ensures.ends)
+
+pub returns-in-Some-Purge-clause-ends : goal.returns-in-Some-Purge-clause-ends
+returns-in-Some-Purge-clause-ends g c =
+    let asked = rw c.in-Some-Purge.field-0-is at c.in-Some-Purge.ensures in
+    let number = c.in-Some-Purge.number in (
+      c.carry_out-status-in-Some-Purge.result.0,
+      c.code-in-Some-Purge.ensures,
+      ran-command (spelled c.args.words.now) (Purge number) (purging number) _ _ _ asked (inr (inr (number, asked))) (λ input s printed due. due)
+          (job-moved (CommandActs (purging number)) c.carry_out-status-in-Some-Purge.result.0 _ _ _ _ _ _ _ _ _ _ _ _ _ _ _ _ refl c.carry_out-status-in-Some-Purge.ensures.ends),
+    )
+
+pub returns-in-Some-Init-clause-disk : goal.returns-in-Some-Init-clause-disk
+returns-in-Some-Init-clause-disk g c = ((Some (Init c.in-Some-Init.config)), rw c.in-Some-Init.field-0-is at c.in-Some-Init.ensures, c.init-status.ensures.any_moment)
+
+pub returns-in-Some-Deliver-clause-disk : goal.returns-in-Some-Deliver-clause-disk
+returns-in-Some-Deliver-clause-disk g c = ((Some Deliver), rw c.in-Some-Deliver.field-0-is at c.in-Some-Deliver.ensures, c.put_input-status.ensures.any_moment)
+
+pub returns-in-Some-Remove-clause-disk : goal.returns-in-Some-Remove-clause-disk
+returns-in-Some-Remove-clause-disk g c = ((Some (Remove c.in-Some-Remove.number)), rw c.in-Some-Remove.field-0-is at c.in-Some-Remove.ensures, c.carry_out-status.ensures.any_moment)
+
+pub returns-in-Some-Purge-clause-disk : goal.returns-in-Some-Purge-clause-disk
+returns-in-Some-Purge-clause-disk g c = ((Some (Purge c.in-Some-Purge.number)), rw c.in-Some-Purge.field-0-is at c.in-Some-Purge.ensures, c.carry_out-status-in-Some-Purge.ensures.any_moment)
+
+pub returns-in-Some-Edit-clause-disk : goal.returns-in-Some-Edit-clause-disk
+returns-in-Some-Edit-clause-disk g c = ((Some (Edit c.in-Some-Edit.number)), rw c.in-Some-Edit.field-0-is at c.in-Some-Edit.ensures, c.put_input-status-in-Some-Edit.ensures.any_moment)
+
+pub returns-in-Some-Reindex-clause-disk : goal.returns-in-Some-Reindex-clause-disk
+returns-in-Some-Reindex-clause-disk g c = ((Some Reindex), rw c.in-Some-Reindex.field-0-is at c.in-Some-Reindex.ensures, c.reindex-outcome.ensures.any_moment)
+
+pub returns-in-Some-Check-clause-disk : goal.returns-in-Some-Check-clause-disk
+returns-in-Some-Check-clause-disk g c = ((Some Check), rw c.in-Some-Check.field-0-is at c.in-Some-Check.ensures, c.check-outcome.ensures.any_moment)
+
+pub returns-in-Some-Help-clause-disk : goal.returns-in-Some-Help-clause-disk
+returns-in-Some-Help-clause-disk g c = ((Some Help), rw c.in-Some-Help.field-0-is at c.in-Some-Help.ensures, refl)
+
+pub returns-in-Some-Version-clause-disk : goal.returns-in-Some-Version-clause-disk
+returns-in-Some-Version-clause-disk g c = ((Some Version), rw c.in-Some-Version.field-0-is at c.in-Some-Version.ensures, refl)
+
+pub returns-in-Some-Replay-clause-disk : goal.returns-in-Some-Replay-clause-disk
+returns-in-Some-Replay-clause-disk g c = ((Some (Replay c.in-Some-Replay.config)), rw c.in-Some-Replay.field-0-is at c.in-Some-Replay.ensures, refl)
+
+pub returns-in-Some-Serve-clause-disk : goal.returns-in-Some-Serve-clause-disk
+returns-in-Some-Serve-clause-disk g c = ((Some (Serve c.in-Some-Serve.turns c.in-Some-Serve._port)), rw c.in-Some-Serve.field-0-is at c.in-Some-Serve.ensures, tt)
+
+pub returns-in-None-clause-disk : goal.returns-in-None-clause-disk
+returns-in-None-clause-disk g c = (None, c.in-None.ensures, refl)
