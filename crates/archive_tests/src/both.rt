@@ -1,14 +1,15 @@
 //! Checks that an archive in memory and one on a disk have to pass.
 ghost use Rattle.std.specs.Prelude.{◌≤◌};
 
-use crate::removal_tests::on_disk;
+use crate::archives::{on_disk, opened};
 use arch_model::Keep;
+use disk_model::MemDisk;
 use std::alloc::Global;
 use std::test::Fail;
 use store_tests::in_memory;
 
-/// A check of a new archive, whatever keeps it.
-pub(crate) trait Check {
+/// A check of an archive, whatever keeps it.
+pub trait Check {
     /// Returns whether the archive passes.
     fn passes<K: Keep>(alloc: Global, keep: &mut K) -> Result<bool, Fail>;
 }
@@ -32,11 +33,17 @@ fn engine_passes<C: Check>(alloc: Global, limit: u64) -> Result<bool, Fail>
 }
 
 /// Returns whether both pass, each with epochs of this least length.
-pub(crate) fn both_pass<C: Check>(alloc: Global, limit: u64) -> Result<bool, Fail>
+pub fn both_pass<C: Check>(alloc: Global, limit: u64) -> Result<bool, Fail>
     requires low { 1 ≤ limit }
     requires high { limit ≤ 1099511627776 }
 {
     let memory = memory_passes::<C>(alloc, limit)?;
     let engine = engine_passes::<C>(alloc, limit)?;
     Ok(memory && engine)
+}
+
+/// Opens the archive on a disk, and returns whether it passes.
+pub fn opened_passes<C: Check>(alloc: Global, disk: MemDisk) -> Result<bool, Fail> {
+    let mut engine = opened(alloc, disk)?;
+    C::passes(alloc, &mut engine)
 }

@@ -1,5 +1,5 @@
 //! Archives on disks that are opened to be counted.
-use crate::removal_tests::{answer, on_disk};
+use crate::archives::{answer, on_disk};
 use arch_model::{Command, OpenRefusal};
 use archive_core::{CountedArchive, Engine};
 use disk_model::MemDisk;

@@ -4,7 +4,7 @@ ghost use Rattle.disk_model.specs.Disk.{WhereTold};
 ghost use Rattle.disk_model.specs.Memory.{changes_of};
 ghost use Rattle.epoch_store.specs.Stores.{HasSizes};
 
-use crate::accepted::accepted;
+use crate::archives::accepted;
 use arch_model::{Answer, Command, OpenRefusal};
 use archive_core::DiskArchive;
 use disk_model::{Disk, DiskFault, FuseDisk, MemDisk};

@@ -1,14 +1,12 @@
 //! Removals in doubt: the disk failed in one, and the archive is reopened.
-use crate::accepted::accepted;
+use crate::archives::{accepted, made};
 use crate::removal_tests::has_both;
 use arch_model::{Answer, Command, Keep, Shelf};
-use archive_core::{Engine, NotMade};
+use archive_core::Engine;
 use disk_model::{Disk, DiskFault, FileKind, FileName, MemDisk};
-use epoch_store::InitRefusal;
 use epoch_tests::{FIRST, FIRST_ID, LATER, MOMENT, failing};
 use std::alloc::Global;
 use std::test::Fail;
-use store_tests::settings;
 
 /// The file of the first epoch, which the second root names first.
 const EPOCH: FileName = FileName {
@@ -24,17 +22,6 @@ const MAP: FileName = FileName {
     gen_: 1,
 };
 
-/// Makes an archive on a disk, whose epochs take several entries each.
-pub(crate) fn made(alloc: Global, disk: MemDisk) -> Result<Engine<MemDisk>, InitRefusal> {
-    match settings(2000, 10, false) {
-        None => Err(InitRefusal::NoMemory),
-        Some(config) => match Engine::make(alloc, disk, &config) {
-            Ok(engine) => Ok(engine),
-            Err(NotMade { disk: _, why }) => Err(why),
-        },
-    }
-}
-
 /// Delivers the first mail to an archive and removes it, and returns whether the disk failed in the
 /// removal. Exactly after a command in which it failed the archive is stale.
 fn fails_to_remove(engine: &mut Engine<MemDisk>) -> bool {
@@ -49,7 +36,7 @@ fn fails_to_remove(engine: &mut Engine<MemDisk>) -> bool {
 /// Returns the archive in doubt, or `None` if the disk fails before the removal or not at all.
 fn in_doubt(alloc: Global, ordinal: u64) -> Result<Option<Engine<MemDisk>>, Fail> {
     let disk = failing(alloc, &[ordinal])?;
-    match made(alloc, disk) {
+    match made(alloc, disk, 2000, false) {
         Ok(mut engine) => {
             let failed = fails_to_remove(&mut engine);
             Ok(failed.then_some(engine))

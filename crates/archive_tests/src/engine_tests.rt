@@ -1,6 +1,8 @@
 //! An archive that owns its disk, by the trait of keepers: what it gives, and what it does after a
 //! fault.
-use crate::accepted::accepted;
+use crate::archives::{
+    accepted, blob_is, line, live_from, made, on_disk, opened, put_blob, put_epoch, put_text,
+};
 use crate::both::{Check, both_pass};
 use arch_base::{Bytes, id_of_hex};
 use arch_model::{Answer, Command, EntryLine, Keep, OpenRefusal};
@@ -14,53 +16,10 @@ use std::process::Abort;
 use std::test::Fail;
 use store_tests::{in_memory, settings, two_in_memory};
 
-/// Makes an archive on a disk.
-fn made(alloc: Global, disk: MemDisk) -> Result<Engine<MemDisk>, InitRefusal> {
-    match settings(316, 10, false) {
-        None => Err(InitRefusal::NoMemory),
-        Some(config) => match Engine::make(alloc, disk, &config) {
-            Ok(engine) => Ok(engine),
-            Err(NotMade { disk: _, why }) => Err(why),
-        },
-    }
-}
-
-/// Opens the archive on a disk.
-pub(crate) fn opened(alloc: Global, disk: MemDisk) -> Result<Engine<MemDisk>, OpenRefusal> {
-    match Engine::open(alloc, disk) {
-        Ok(engine) => Ok(engine),
-        Err(NotOpened { disk: _, why }) => Err(why),
-    }
-}
-
 /// Returns the answer to the delivery of a message.
 fn deliver<K: Keep>(keep: &mut K, bytes: &[u8]) -> Result<Answer, OpenRefusal> {
     keep.fresh()?;
     Ok(keep.command(&Command::Deliver(bytes), MOMENT))
-}
-
-/// Returns the least number with a message that is at least this one.
-pub(crate) fn live_from<K: Keep>(keep: &mut K, n: u32) -> Result<Option<u32>, OpenRefusal> {
-    keep.fresh()?;
-    Ok(keep.live_from(n))
-}
-
-/// Appends the text of that number.
-pub(crate) fn put_text<K: Keep>(keep: &mut K, n: u32, into: &mut Bytes) -> Result<bool, Fail> {
-    keep.fresh()?;
-    match keep.live_from(n) {
-        None => Ok(false),
-        Some(number) => {
-            keep.text(number, into)?;
-            Ok(true)
-        }
-    }
-}
-
-/// Appends the bytes of an epoch.
-pub(crate) fn put_epoch<K: Keep>(keep: &mut K, epoch: u32, into: &mut Bytes) -> Result<bool, Fail> {
-    keep.fresh()?;
-    Ok(keep.epoch_bytes(epoch, into)?)
 }
 
 /// Appends both texts of two messages, and returns whether there are just these.
@@ -89,7 +48,7 @@ fn put_all<K: Keep>(keep: &mut K, into: &mut Bytes) -> Result<bool, Fail> {
 
 /// Delivers two messages to an archive without any, and returns whether each is answered as it
 /// should be.
-pub(crate) fn takes_two<K: Keep>(keep: &mut K) -> Result<bool, OpenRefusal> {
+fn takes_two<K: Keep>(keep: &mut K) -> Result<bool, OpenRefusal> {
     let none = live_from(keep, 0)?;
     let first = deliver(keep, FIRST)?;
     let second = deliver(keep, SECOND)?;
@@ -127,7 +86,7 @@ fn both_give_the_same<K: Keep>(
 
 /// Returns whether an archive of two messages gives the same as one in memory to which they were
 /// delivered, and which answered as it should.
-pub(crate) fn gives_as_memory<K: Keep>(alloc: Global, keep: &mut K) -> Result<bool, Fail> {
+fn gives_as_memory<K: Keep>(alloc: Global, keep: &mut K) -> Result<bool, Fail> {
     let mut memory = in_memory(alloc, 316, 10, false).ok_or("no settings")?;
     let taken = takes_two(&mut memory)?;
     let same = both_give_the_same(alloc, keep, &mut memory)?;
@@ -149,13 +108,18 @@ fn opened_gives_as_memory(alloc: Global, disk: MemDisk) -> Result<bool, Fail> {
     gives_as_memory(alloc, &mut engine)
 }
 
+/// Makes an archive on a disk that takes, finds and gives two messages as one in memory does, and
+/// returns the disk, or `None` if it doesn't.
+fn disk_of_two(alloc: Global) -> Result<Option<MemDisk>, Fail> {
+    let mut engine = on_disk(alloc, 316, false)?;
+    let given = takes_and_gives(alloc, &mut engine)?;
+    Ok(given.then_some(engine.into_disk()))
+}
+
 #[test]
 fn an_engine_gives_what_the_archive_in_memory_does(rt: HostRuntime) -> Result<(), Fail> {
-    let alloc = rt.alloc();
-    let mut engine = made(alloc, empty_disk(alloc))?;
-    let given = takes_and_gives(alloc, &mut engine)?;
-    let again = opened_gives_as_memory(alloc, engine.into_disk())?;
-    assert!(rt; given && again);
+    let disk = disk_of_two(rt.alloc())?.ok_or("not as in memory")?;
+    assert!(rt; opened_gives_as_memory(rt.alloc(), disk)?);
     Ok(())
 }
 
@@ -169,12 +133,6 @@ fn counts_two<K: Keep>(keep: &mut K) -> Result<bool, OpenRefusal> {
     let none = keep.live_count(3, 9) == 0 && keep.live_count(2, 1) == 0;
     let settings = keep.config().limit == 316 && keep.next_number() == 3;
     Ok(last && between && none && settings)
-}
-
-/// Returns the entry of a keeper at an index, without its text.
-pub(crate) fn line<K: Keep>(keep: &mut K, index: u64) -> Result<Option<EntryLine>, OpenRefusal> {
-    keep.fresh()?;
-    Ok(keep.entry(index))
 }
 
 /// Returns whether an entry is a message of this number, epoch and blob id, with a text of this size.
@@ -195,25 +153,6 @@ fn lists_two<K: Keep>(keep: &mut K, memory: &mut MemArchive) -> Result<bool, Ope
     let same = line(memory, 0)? == first && line(memory, 1)? == second;
     let lines = is_line(first, 1, 0, FIRST_ID, FIRST) && is_line(second, 2, 1, SECOND_ID, SECOND);
     Ok(same && lines && none)
-}
-
-/// Appends the text of a blob id, and returns whether an entry has it.
-fn put_blob<K: Keep>(keep: &mut K, hex: &[u8], into: &mut Bytes) -> Result<bool, Fail> {
-    let id = id_of_hex(hex).ok_or("no id")?;
-    keep.fresh()?;
-    Ok(keep.blob(&id, into)?)
-}
-
-/// Returns whether the text of a blob id is this one.
-pub(crate) fn blob_is<K: Keep>(
-    alloc: Global,
-    keep: &mut K,
-    hex: &[u8],
-    wanted: &[u8],
-) -> Result<bool, Fail> {
-    let mut text = Bytes::new(alloc);
-    let found = put_blob(keep, hex, &mut text)?;
-    Ok(found && text.as_slice() == wanted)
 }
 
 /// Returns whether a keeper gives two messages by their blob ids, and nothing for another one.
@@ -281,7 +220,7 @@ fn with_archive(alloc: Global, disk: MemDisk) -> Option<MemDisk> {
 
 /// Makes an archive on a disk and delivers a message to it, and returns the disk.
 fn with_message(alloc: Global, disk: MemDisk) -> Result<MemDisk, Fail> {
-    let mut engine = made(alloc, disk)?;
+    let mut engine = made(alloc, disk, 316, false)?;
     let _ = deliver(&mut engine, FIRST)?;
     Ok(engine.into_disk())
 }
@@ -352,7 +291,7 @@ fn found_over(
     alloc: Global,
     disk: MemDisk,
 ) -> Result<Option<(Option<u32>, Answer)>, OpenRefusal> {
-    match made(alloc, disk) {
+    match made(alloc, disk, 316, false) {
         Ok(mut engine) => found_if_in_doubt(rt, &mut engine),
         Err(refusal) => {
             assert!(rt; refusal == InitRefusal::DiskFault);

@@ -1,11 +1,17 @@
 //! Tests of archives in memory and on disks, by their public calls alone: `arch_model`,
-//! `arch_judge`, `mem_archive` and `archive_core`.
+//! `arch_judge`, `mem_archive` and `archive_core`; and what the tests of the crates above share with
+//! them: archives, and checks of both kinds.
 #![tactic(auto)]
 
-#[cfg(test)]
-mod accepted;
-#[cfg(test)]
+mod archives;
 mod both;
+
+pub use archives::{
+    accepted, answer, blob_is, epoch_len, give_alike, line, made, on_disk, opened, put_epoch,
+    put_text,
+};
+pub use both::{Check, both_pass, opened_passes};
+
 #[cfg(test)]
 mod core_tests;
 #[cfg(test)]
@@ -17,16 +23,8 @@ mod doubt_tests;
 #[cfg(test)]
 mod engine_tests;
 #[cfg(test)]
-mod listing_tests;
-#[cfg(test)]
 mod model_tests;
 #[cfg(test)]
 mod reading_tests;
 #[cfg(test)]
-mod reindex_tests;
-#[cfg(test)]
 mod removal_tests;
-#[cfg(test)]
-mod search_tests;
-#[cfg(test)]
-mod thread_tests;

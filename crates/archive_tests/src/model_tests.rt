@@ -1,5 +1,5 @@
 //! Deliveries in memory, answer by answer, against texts and ids worked out by hand and by git.
-use crate::accepted::accepted;
+use crate::archives::accepted;
 use arch_base::{Bytes, Config, NoMemory};
 use arch_judge::{Index, Owner, Verdict, compared, judge};
 use arch_model::{Answer, Command};

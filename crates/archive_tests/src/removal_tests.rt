@@ -1,22 +1,20 @@
 //! Removals in memory and on a disk, answer by answer, against entries whose ids git worked out.
 ghost use Rattle.std.specs.Prelude.{◌≤◌};
 
-use crate::accepted::accepted;
+use crate::archives::{
+    accepted, answer, blob_is, epoch_len, give_alike, line, live_from, on_disk, opened, put_text,
+};
 use crate::both::{Check, both_pass};
-use crate::engine_tests::{blob_is, line, live_from, opened, put_epoch, put_text};
-use arch_base::{Bytes, LAST_MOMENT, id_of_hex};
+use arch_base::{Bytes, id_of_hex};
 use arch_model::{Answer, Command, EntryLine, Keep, OpenRefusal};
-use archive_core::{Engine, NotMade};
 use disk_model::MemDisk;
-use epoch_store::InitRefusal;
 use epoch_tests::{
     FIRST, FIRST_COMMIT, FIRST_ID, LATER, MOMENT, OTHER, REMOVAL_COMMIT, SECOND, SECOND_ID,
-    empty_disk,
 };
 use git_objects::EntryKind;
 use std::alloc::Global;
 use std::test::Fail;
-use store_tests::{in_memory, settings};
+use store_tests::in_memory;
 
 /// The moment of a delivery after the removal.
 const LAST: u64 = MOMENT + 200;
@@ -26,34 +24,6 @@ const AGAIN_COMMIT: &[u8] = b"935153bbca041d2b9730dbb3b5a3c993a9b6b46c";
 
 /// The blob id of the mail with another body, as it is kept where its id is free.
 const UNCHANGED_ID: &[u8] = b"939be2d6981fbe2900b8283be5936e32bb962cef";
-
-/// Makes an archive on a disk.
-pub(crate) fn on_disk(
-    alloc: Global,
-    limit: u64,
-    mirror: bool,
-) -> Result<Engine<MemDisk>, InitRefusal>
-    requires low { 1 ≤ limit }
-    requires high { limit ≤ 1099511627776 }
-{
-    match settings(limit, 10, mirror) {
-        None => Err(InitRefusal::NoMemory),
-        Some(config) => match Engine::make(alloc, empty_disk(alloc), &config) {
-            Ok(engine) => Ok(engine),
-            Err(NotMade { disk: _, why }) => Err(why),
-        },
-    }
-}
-
-/// Returns the answer to a command.
-pub(crate) fn answer<K: Keep>(
-    keep: &mut K,
-    command: &Command<'_>,
-    moment: u64,
-) -> Result<Answer, OpenRefusal> {
-    keep.fresh()?;
-    Ok(keep.command(command, moment.min(LAST_MOMENT)))
-}
 
 /// Delivers the first mail and removes it, and returns whether both answers are those of its number
 /// and blob.
@@ -72,13 +42,6 @@ fn is_entry(entry: Option<EntryLine>, kind: EntryKind, number: u32, commit: &[u8
     let named = line.kind == kind && line.number == number;
     let kept = Some(line.blob) == id_of_hex(FIRST_ID);
     named && kept && Some(line.commit) == id_of_hex(commit)
-}
-
-/// Returns the length of an epoch in bytes, or `None` if it has no entry.
-fn epoch_len<K: Keep>(alloc: Global, keep: &mut K, epoch: u32) -> Result<Option<usize>, Fail> {
-    let mut bytes = Bytes::new(alloc);
-    let found = put_epoch(keep, epoch, &mut bytes)?;
-    Ok(found.then_some(bytes.as_slice().len()))
 }
 
 /// Returns whether the first mail and its removal are the two entries, in an epoch of 672 bytes.
@@ -284,24 +247,6 @@ fn list_alike<K: Keep, L: Keep>(keep: &mut K, other: &mut L) -> Result<bool, Ope
         alike = alike && found == line(other, index)?;
     }
     Ok(alike)
-}
-
-/// Appends the texts of live numbers, and the bytes of the first epochs.
-fn put_given<K: Keep>(keep: &mut K, into: &mut Bytes) -> Result<(), Fail> {
-    for n in 0..9 {
-        put_text(keep, n, into)?;
-        put_epoch(keep, n, into)?;
-    }
-    Ok(())
-}
-
-/// Returns whether two archives give the same texts and epochs.
-fn give_alike<K: Keep, L: Keep>(alloc: Global, keep: &mut K, other: &mut L) -> Result<bool, Fail> {
-    let mut given = Bytes::new(alloc);
-    let mut wanted = Bytes::new(alloc);
-    put_given(keep, &mut given)?;
-    put_given(other, &mut wanted)?;
-    Ok(given.as_slice() == wanted.as_slice())
 }
 
 /// Opens an archive on a disk, and returns whether it is the other one.

@@ -1,4 +1,0 @@
-use Rattle.archive_tests.proofs.engine_tests.put_text.Goals as goal
-
-pub text-requires-clause-live : goal.text-requires-clause-live
-text-requires-clause-live g c = λ a held. (c.in-Some.ensures a held).1

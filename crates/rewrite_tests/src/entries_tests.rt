@@ -1,0 +1,145 @@
+//! An epoch of two messages that is written without the first one.
+use arch_base::{NoMemory, Numbers, id_of_hex};
+use disk_model::{Disk, DiskFault, FileKind, FileName, WalkRefusal};
+use epoch_file::{EpochPlan, NewEntry, Seen, SeenList, StoreRefusal, entry_piece, rewrite, walk};
+use epoch_tests::{FIRST, MOMENT, SECOND, SECOND_ID, add_entry, empty_disk};
+use git_objects::EntryKind;
+use root_change::{PartPlan, Target};
+use std::alloc::Global;
+use std::test::Fail;
+
+/// The file of the epoch.
+const EPOCH: FileName = FileName {
+    kind: FileKind::Epoch,
+    number: 0,
+    gen_: 2,
+};
+
+/// The file to which it is written anew.
+const ANEW: FileName = FileName {
+    kind: FileKind::Epoch,
+    number: 0,
+    gen_: 4,
+};
+
+/// The bytes of an epoch that has the second mail alone, whose commit then has no parent.
+const ALONE: &[u8] =
+    b"PIV2EP1\nblob 103\0From: Ann <ann@example.org>\nDate: Thu, 1 Feb 2024 10:00:00 +0000\nSubject: first\nMessage-ID: <b@x>\n\none\ntree 29\0100644 m\0q\xba\xd9^\x97V@(\x1d\xa1|\xb5ah\x125\xcaL\x1fBcommit 148\0tree d7ac61fd9609fdcc5f73f55f952a8ff4db1cd412\nauthor Ann <ann@example.org> 1706781600 +0000\ncommitter piv2 <piv2@localhost> 1706781700 +0000\n\nfirst\n";
+
+/// The id of that commit, as git gives it.
+pub(crate) const ALONE_COMMIT: &[u8] = b"89244c18db83e15cb0acd3c02abbc10048cf2321";
+
+/// Writes the entries of both mails to the epoch.
+pub(crate) fn put_two<D: Disk>(alloc: Global, disk: &mut D) -> Result<(), StoreRefusal> {
+    let mut new = NewEntry {
+        kind: EntryKind::Message,
+        text: FIRST,
+        moment: MOMENT,
+        parent: None,
+    };
+    let first = add_entry(alloc, disk, EPOCH, 0, &new)?;
+    new.text = SECOND;
+    new.parent = Some(first.commit);
+    add_entry(alloc, disk, EPOCH, first.end, &new)?;
+    Ok(())
+}
+
+/// Returns whether the other file has the second mail alone.
+fn has_second_alone<D: Disk>(disk: &mut D) -> Result<bool, DiskFault> {
+    let mut bytes = [0; 317];
+    let count = disk.read(ANEW, 0, &mut bytes)?;
+    Ok(count == 316 && bytes.split_at(316).0 == ALONE)
+}
+
+/// Writes the epoch of both mails anew, without the first one, and returns whether that has the bytes
+/// that are due.
+fn is_rewritten<D: Disk>(alloc: Global, disk: &mut D) -> Result<bool, Fail> {
+    let mut gone = Numbers::new(alloc);
+    gone.push(0)?;
+    put_two(alloc, disk)?;
+    let count = rewrite(alloc, disk, EPOCH, 672, ANEW, &gone)?;
+    let alone = has_second_alone(disk)?;
+    Ok(count == 316 && alone)
+}
+
+#[test]
+fn an_epoch_is_written_without_an_entry(rt: HostRuntime) -> Result<(), Fail> {
+    let mut disk = empty_disk(rt.alloc());
+    assert!(rt; is_rewritten(rt.alloc(), &mut disk)?);
+    Ok(())
+}
+
+/// Returns whether what is seen is the second mail, at the front of its epoch.
+fn is_second_alone(seen: &Seen) -> bool {
+    let placed = seen.at == 8 && seen.text_at == 17 && seen.size == 103 && seen.moment == MOMENT;
+    let blob = Some(seen.blob) == id_of_hex(SECOND_ID);
+    placed && blob && Some(seen.commit) == id_of_hex(ALONE_COMMIT)
+}
+
+/// Leaves the first of two entries out and keeps the second, and returns whether that moves to the
+/// front.
+fn keeps_second<D: Disk>(
+    alloc: Global,
+    disk: &mut D,
+    plan: &mut EpochPlan,
+    seen: &SeenList,
+) -> Result<bool, WalkRefusal> {
+    let [first, second] = seen.as_slice() else {
+        return Ok(false);
+    };
+    plan.leave_out(alloc, first)?;
+    let kept = plan.keep(alloc, disk, second)?;
+    Ok(is_second_alone(&kept))
+}
+
+/// Returns whether the plan of an epoch that was gone through is that of 316 bytes of a new file.
+fn is_finished(alloc: Global, plan: EpochPlan) -> bool {
+    let named = plan.file() == EPOCH;
+    match plan.finish(alloc) {
+        None => false,
+        Some(plan) => named && is_anew(&plan),
+    }
+}
+
+/// Returns whether a plan is that of 316 bytes of a new file of the first epoch.
+fn is_anew(plan: &PartPlan) -> bool {
+    let part = plan.kind() == FileKind::Epoch && plan.number() == 0;
+    part && plan.target() == Target::Anew && plan.count() == 316
+}
+
+/// Plans the epoch of both mails without the first one, and returns whether all is as is due.
+fn is_planned<D: Disk>(alloc: Global, disk: &mut D) -> Result<bool, Fail> {
+    put_two(alloc, disk)?;
+    let seen = walk(alloc, disk, EPOCH, 672)?;
+    let mut plan = EpochPlan::new(EPOCH);
+    let kept = keeps_second(alloc, disk, &mut plan, &seen)?;
+    Ok(kept && is_finished(alloc, plan))
+}
+
+#[test]
+fn an_epoch_is_planned_without_an_entry(rt: HostRuntime) -> Result<(), Fail> {
+    let mut disk = empty_disk(rt.alloc());
+    assert!(rt; is_planned(rt.alloc(), &mut disk)?);
+    Ok(())
+}
+
+/// Returns whether the bytes of the second mail's entry at the front of an epoch, and its ids, are those
+/// that are due.
+fn has_piece(alloc: Global) -> Result<bool, NoMemory> {
+    let new = NewEntry {
+        kind: EntryKind::Message,
+        text: SECOND,
+        moment: MOMENT,
+        parent: None,
+    };
+    let (piece, ids) = entry_piece(alloc, 0, &new)?;
+    let blob = Some(ids.blob) == id_of_hex(SECOND_ID);
+    let commit = Some(ids.commit) == id_of_hex(ALONE_COMMIT);
+    Ok(blob && commit && piece.as_slice() == ALONE)
+}
+
+#[test]
+fn an_entry_has_the_bytes_of_git(rt: HostRuntime) -> Result<(), Fail> {
+    assert!(rt; has_piece(rt.alloc())?);
+    Ok(())
+}

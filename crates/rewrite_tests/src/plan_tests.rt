@@ -1,0 +1,157 @@
+//! Plans of parts, and a plan that is carried out in an archive without messages.
+ghost use Rattle.std.specs.Prelude.{IfOk, IfSome};
+ghost use Rattle.arch_base.specs.Configs.{IsConfig};
+ghost use Rattle.rewrite_tests.specs.Bare.{IsBare, IsFirst};
+
+use arch_base::{Config, Name, NoMemory};
+use disk_model::{Disk, DiskFault, EPOCHS, FileKind, FileName};
+use epoch_tests::empty_disk;
+use root_change::{FileRange, PartPlan, RewriteRefusal, Source, Target, rewrite};
+use root_slots::{Place, Root, Slot, begin, read};
+use std::alloc::Global;
+use std::test::Fail;
+
+/// The file of the root.
+pub(crate) const ROOT: FileName = FileName {
+    kind: FileKind::Root,
+    number: 0,
+    gen_: 0,
+};
+
+/// The file of an epoch.
+const EPOCH: FileName = FileName {
+    kind: FileKind::Epoch,
+    number: 5,
+    gen_: 3,
+};
+
+/// The file of the first epoch after the plan was carried out.
+const WRITTEN: FileName = FileName {
+    kind: FileKind::Epoch,
+    number: 0,
+    gen_: 2,
+};
+
+/// The sources of a plan of bytes, a range, and bytes again.
+const SOURCES: [Source; 3] = [
+    Source::Bytes {
+        offset: 0,
+        count: 3,
+    },
+    Source::Range(FileRange {
+        file: EPOCH,
+        offset: 8,
+        count: 300,
+    }),
+    Source::Bytes {
+        offset: 3,
+        count: 2,
+    },
+];
+
+/// Pushes bytes, a range, and bytes again.
+fn push_three(plan: &mut PartPlan) -> Result<(), NoMemory> {
+    plan.push_bytes(b"abc")?;
+    plan.push_range(EPOCH, 8, 300)?;
+    plan.push_bytes(b"de")
+}
+
+/// Returns whether a plan has all that was pushed, and the part that it is of.
+fn plans_three(alloc: Global) -> Result<bool, NoMemory> {
+    let mut plan = PartPlan::new(alloc, FileKind::Epoch, 5, Target::Behind);
+    push_three(&mut plan)?;
+    let part = plan.kind() == FileKind::Epoch && plan.number() == 5;
+    let all = plan.bytes() == b"abcde".as_slice() && plan.sources() == SOURCES.as_slice();
+    Ok(part && all && plan.target() == Target::Behind && plan.count() == 305)
+}
+
+#[test]
+fn a_plan_keeps_what_is_pushed(rt: HostRuntime) -> Result<(), Fail> {
+    assert!(rt; plans_three(rt.alloc())?);
+    Ok(())
+}
+
+/// Returns settings.
+fn settings() -> Option<Config>
+    ensures { IfSome result IsConfig }
+{
+    let name = Name::read(b"list")?;
+    Some(Config {
+        name,
+        limit: 316,
+        slice: 50,
+        max: 9,
+        mirror: false,
+        born: 1,
+    })
+}
+
+/// Returns the root of an archive without messages.
+fn bare() -> Option<Root>
+    ensures { IfSome result IsBare }
+{
+    let config = settings()?;
+    Some(Root {
+        config,
+        sequence: 1,
+        next: 1,
+        map: Place { gen_: 1, length: 0 },
+        epochs: [Place { gen_: 0, length: 0 }; EPOCHS as usize],
+        cache: Place { gen_: 0, length: 0 },
+    })
+}
+
+/// Plans five bytes of the first epoch.
+fn first(alloc: Global) -> Result<PartPlan, NoMemory>
+    ensures { IfOk result IsFirst }
+{
+    let mut plan = PartPlan::new(alloc, FileKind::Epoch, 0, Target::Anew);
+    plan.push_bytes(b"abcde")?;
+    Ok(plan)
+}
+
+/// Carries out the plan of the first epoch in an archive without messages.
+fn carry_out<D: Disk>(disk: &mut D, root: &Root, plan: PartPlan) -> Result<Root, RewriteRefusal>
+    requires root { IsBare root.now }
+    requires plan { IsFirst plan }
+{
+    if disk.length(ROOT)? != 4096 {
+        return Err(RewriteRefusal::Short);
+    }
+    rewrite(disk, Slot::Second, root, &[plan], 1)
+}
+
+/// Returns whether a root is the second one, and names five bytes of the first epoch.
+fn is_second(root: &Root) -> bool {
+    let place = Place { gen_: 2, length: 5 };
+    root.sequence == 2 && root.next == 1 && root.epochs[0] == place && root.map.length == 0
+}
+
+/// Returns whether the current root is the second one, in the second slot, and the file of the first
+/// epoch has the five bytes.
+fn is_written<D: Disk>(disk: &mut D) -> Result<bool, DiskFault> {
+    let mut bytes = [0; 6];
+    let count = disk.read(WRITTEN, 0, &mut bytes)?;
+    let whole = count == 5 && bytes == *b"abcde\0";
+    match read(disk) {
+        Ok(Some((Slot::Second, root))) => Ok(whole && is_second(&root)),
+        _ => Ok(false),
+    }
+}
+
+/// Carries out the plan of the first epoch on a disk without files, and returns the new root.
+fn carries<D: Disk>(alloc: Global, disk: &mut D) -> Result<Root, Fail> {
+    let root = bare().ok_or("no name")?;
+    let plan = first(alloc)?;
+    begin(disk)?;
+    Ok(carry_out(disk, &root, plan)?)
+}
+
+#[test]
+fn a_plan_is_carried_out_with_its_root(rt: HostRuntime) -> Result<(), Fail> {
+    let mut disk = empty_disk(rt.alloc());
+    let root = carries(rt.alloc(), &mut disk)?;
+    assert!(rt; is_second(&root));
+    assert!(rt; is_written(&mut disk)?);
+    Ok(())
+}
