@@ -1,0 +1,3 @@
+mod Filtered
+mod Purged
+mod Edited

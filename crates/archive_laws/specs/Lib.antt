@@ -1,0 +1,2 @@
+pub mod Purges
+pub mod Edits

@@ -1,0 +1,7 @@
+//! Laws of archives in the words of their readers: what a command changes of the entries, the numbers
+//! and the messages that are shown, and what it leaves.
+#![tactic(auto)]
+
+mod laws;
+
+pub use laws::{edit_exchanges_one_text, purge_drops_one_text};
