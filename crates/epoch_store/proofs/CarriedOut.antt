@@ -1,8 +1,8 @@
 -- A purge and an edit: what is planned, and then carried out.
-use Rattle.std.specs.Prelude.{◌≡◌, ◌≢◌, ◌⊎◌, ◌+◌, ◌-◌, ◌^◌, ◌<◌, ◌≤◌, ◌==◌, ◌||◌, nat_lt, not, ℕ, zero, suc, Bool, true, false, if◌then◌else◌, List, [], ◌∷◌, ◌++◌, length, slice_get, Option, Some, None, Result, Ok, Err, refl}
-use Rattle.std.specs.List.{AllZip, filter}
+use Rattle.std.specs.Prelude.{◌≡◌, ◌≢◌, ◌+◌, ◌≤◌, ◌==◌, ◌||◌, nat_lt, not, ℕ, zero, suc, Bool, true, false, if◌then◌else◌, List, [], ◌∷◌, length, Option, Some, None, Result, Ok, Err, refl}
+use Rattle.std.specs.List.{AllZip}
 use Rattle.std.specs.Str.{bytes_eq}
-use Rattle.std.proofs.Common.{◌∙◌, sym, ap, subst, inl, inr, arith}
+use Rattle.std.proofs.Common.{◌∙◌, sym, ap, subst, inl, arith}
 use Rattle.std.proofs.lemmas.Bool.Decides.{nat_tests}
 use Rattle.std.proofs.lemmas.Option.{same_Some}
 use Rattle.arch_base.specs.declared.ids.Id20.{Id20}
@@ -10,7 +10,7 @@ use Rattle.arch_base.specs.Moments.{last_moment}
 use Rattle.disk_model.specs.Disk.{Content, Files, Image, LeavesOnly, Told, Unchanged, WhereTold}
 use Rattle.disk_model.specs.Moments.{joined, weaker}
 use Rattle.mail_reader.specs.StorageTexts.{IsStorageText}
-use Rattle.arch_model.specs.Archives.{Entry, Archive, IsFree, in_epoch, live, message, messages, text_of, with_entry, without_entries, without_text}
+use Rattle.arch_model.specs.Archives.{Entry, Archive, IsFree, in_epoch, live, with_entry, without_entries, without_text}
 use Rattle.arch_model.specs.Delivery.{collision, last_epoch, new_epoch, takes_more}
 use Rattle.arch_model.specs.Epochs.{epoch_bytes}
 use Rattle.arch_model.specs.Validity.{IsArchive, IsEntry}
@@ -24,7 +24,6 @@ use Rattle.epoch_store.specs.declared.entries.StoredEntry.{StoredEntry}
 use Rattle.epoch_store.specs.Leaving.{disk_recovers}
 use Rattle.epoch_store.specs.Planning.{KeepsPlanned, Planning, PlansArchive, PlansPurge, PlansUndamaged, PlansWithout}
 use Rattle.epoch_store.specs.Stores.{DropsEntries, HasSizes, InEpochs, IsDiskWith, IsStoreWith, Keeps, KeptOf, RecoversOneOf, SeesNoDamage, UnlessFailed, View, stored_after, without_blob}
-use Rattle.epoch_store.proofs.Delivering.{store_keeps}
 use Rattle.epoch_store.proofs.FindingTold.{reads_both}
 use Rattle.epoch_store.proofs.Planned.{last_at_most}
 use Rattle.epoch_store.proofs.Purged.{one_content}

@@ -1,5 +1,5 @@
 -- Plans that are carried out: the archive that they leave, and what the store then keeps.
-use Rattle.std.specs.Prelude.{◌≡◌, ◌≢◌, ◌⊎◌, ◌+◌, ◌-◌, ◌<◌, ◌≤◌, nat_lt, ℕ, Bool, true, false, if◌then◌else◌, List, [], length, get_or, Option, Some, None, Result, Ok, Err, refl}
+use Rattle.std.specs.Prelude.{◌≡◌, ◌≢◌, ◌⊎◌, ◌+◌, ◌-◌, ◌≤◌, nat_lt, ℕ, Bool, true, false, if◌then◌else◌, List, [], length, get_or, Option, Some, None, refl}
 use Rattle.std.proofs.Common.{◌∙◌, sym, ap, subst, inl, inr, arith}
 use Rattle.std.proofs.lemmas.Bool.{cases_lt}
 use Rattle.disk_model.specs.declared.name.FileKind.{FileKind}
@@ -13,7 +13,7 @@ use Rattle.root_slots.specs.RootName.{root_name}
 use Rattle.root_slots.specs.Valid.{IsRoot, RootFits, no_place}
 use Rattle.root_change.specs.declared.plan.Target.{Target}
 use Rattle.root_change.specs.declared.plan.Target.TheVariants.{Anew, Behind}
-use Rattle.root_change.specs.Names.{map_name, named_by, names_file, named_end, named_some, named_none, place_of}
+use Rattle.root_change.specs.Names.{named_by, names_file, named_some, named_none, place_of}
 use Rattle.root_change.specs.Parts.{Parts, PartsFit, IsOwn, RecoversBy as RecoversParts, texts_of}
 use Rattle.root_change.specs.Rewriting.{IsRootAfter, Plan, RecoversPlanned, map_by, map_planned, place_anew, place_by, place_planned, plan_count, plan_of, rewritten}
 use Rattle.root_change.specs.Texts.{HasPartSizes, HasSizes as HasAllSizes, IsOn, StandsFor}
@@ -121,7 +121,7 @@ sizes_carried root slot entries (Some k) sizes = record {
 }
 
 -- A part stays in its file, or is in one of the new generation, or has no bytes.
-anew_goes : (n count : ℕ) → ((place_anew n count).gen_ ≡ n) ⊎ (place_anew n count ≡ no_place)
+pub anew_goes : (n count : ℕ) → ((place_anew n count).gen_ ≡ n) ⊎ (place_anew n count ≡ no_place)
 anew_goes n count = by (nat_lt 0 count) where
   by : (t : Bool) → ((if t then record { gen_ = n; length = count } else no_place).gen_ ≡ n) ⊎ ((if t then record { gen_ = n; length = count } else no_place) ≡ no_place)
   by true = inl refl

@@ -51,7 +51,7 @@ use Rattle.epoch_store.proofs.Growing.{map_grows, map_stays, bytes_here, bytes_o
 use Rattle.epoch_store.proofs.Lengthened.{root_longer}
 
 -- An entry has some bytes.
-some_bytes : (parent : Option Id20) (e : EpochEntry) → 0 < length (bytes_after parent e)
+pub some_bytes : (parent : Option Id20) (e : EpochEntry) → 0 < length (bytes_after parent e)
 unfolding entry_bytes
 some_bytes parent e = omega arith
 

@@ -1,17 +1,17 @@
 -- A message in the place of a text: what is planned of the archive, and what the store then keeps.
 use Rattle.std.specs.Prelude.{◌≡◌, ◌+◌, ◌≤◌, ℕ, List, Option, Some, None, Result, Err}
-use Rattle.std.proofs.Common.{◌∙◌, sym, ap, subst}
+use Rattle.std.proofs.Common.{◌∙◌, sym, subst}
 use Rattle.arch_base.specs.declared.config.Config.{Config}
 use Rattle.arch_base.specs.declared.ids.Id20.{Id20}
 use Rattle.arch_base.specs.Moments.{last_moment}
 use Rattle.disk_model.specs.Disk.{Content}
 use Rattle.git_objects.specs.Objects.{blob_id_of}
-use Rattle.arch_model.specs.Archives.{Archive, live, messages, text_of, with_entry, without_entries}
+use Rattle.arch_model.specs.Archives.{Archive, live, text_of, with_entry, without_entries}
 use Rattle.arch_model.specs.Delivery.{collision, new_epoch}
 use Rattle.arch_model.proofs.LiveEntries.{live-one}
 use Rattle.epoch_file.specs.declared.refusal.StoreRefusal.{StoreRefusal}
 use Rattle.epoch_file.specs.declared.refusal.StoreRefusal.TheVariants.{DiskFault, NoMemory, Damaged}
-use Rattle.epoch_store.specs.Planning.{AreAnew, KeepsPlanned, Planning, PlansArchive, PlansEdit, PlansOwn, PlansPurge, PlansUndamaged}
+use Rattle.epoch_store.specs.Planning.{KeepsPlanned, Planning, PlansArchive, PlansEdit, PlansOwn, PlansPurge, PlansUndamaged}
 use Rattle.epoch_store.specs.Stores.{EditsEntries, InEpochs, IsStoreWith, MayEdit, SeesNoDamage, View}
 use Rattle.epoch_store.proofs.CarriedOut.{edited_valid, kept_low, purged_archive}
 use Rattle.epoch_store.proofs.Delivering.{store_keeps}

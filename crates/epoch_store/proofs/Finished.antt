@@ -1,12 +1,11 @@
 -- The plans of a whole archive without the entries of a text.
-use Rattle.std.specs.Prelude.{◌≡◌, ◌≢◌, ◌⊎◌, ◌+◌, ◌-◌, ◌*◌, ◌<◌, ◌≤◌, ◌==◌, nat_lt, not, ℕ, zero, suc, Bool, true, false, ◌&&◌, ◌||◌, if◌then◌else◌, List, [], ◌∷◌, ◌++◌, length, map, take, get_or, replicate, slice_get, Option, Some, None, refl}
-use Rattle.std.specs.List.{AllByRecursion, filter, flat_map}
+use Rattle.std.specs.Prelude.{◌≡◌, ◌≢◌, ◌+◌, ◌-◌, ◌*◌, ◌<◌, ◌≤◌, ◌==◌, not, ℕ, zero, suc, Bool, true, false, ◌&&◌, ◌||◌, if◌then◌else◌, List, [], ◌∷◌, ◌++◌, length, map, take, slice_get, Option, Some, None, refl}
+use Rattle.std.specs.List.{filter, flat_map}
 use Rattle.std.specs.Str.{bytes_eq}
 use Rattle.std.proofs.Common.{◌∙◌, sym, ap, subst, inl, inr, arith}
 use Rattle.std.proofs.Math.Seq.{take-length}
 use Rattle.std.proofs.lemmas.Bool.{cases_lt}
 use Rattle.std.proofs.lemmas.Bool.Decides.{nat_tests}
-use Rattle.std.proofs.lemmas.List.{append-nil}
 use Rattle.disk_model.specs.Name.{kind_index}
 use Rattle.disk_model.specs.declared.name.FileKind.{FileKind}
 use Rattle.disk_model.specs.declared.name.FileKind.TheVariants as kind
@@ -22,11 +21,11 @@ use Rattle.root_change.specs.Parts.{texts_of}
 use Rattle.root_change.specs.Rewriting.{Plan, IsPartToPlan, IsPlanFrom, IsPlanWhole, IsSourceFrom, IsWholeIn, bytes_by, file_by, gathered_text, plan_of, planned, rewritten, source_text, written_by}
 use Rattle.root_change.specs.Texts.{Texts}
 use Rattle.root_change.proofs.Changes.{text_named}
-use Rattle.root_change.proofs.Grown.{epoch_isnt_root, map_isnt_root, map_is_named}
+use Rattle.root_change.proofs.Grown.{map_isnt_root, map_is_named}
 use Rattle.root_change.proofs.PlanParts.{found, is_of_own, of_more, of_others, other_part}
-use Rattle.root_change.proofs.Roots.{equal_or_not, other_test, same_test}
+use Rattle.root_change.proofs.Roots.{other_test, same_test}
 use Rattle.number_map.specs.Records.{record_bytes}
-use Rattle.number_map.specs.Rewriting.{PlansMap, is_among, map_without, none_record, record_without, records_without}
+use Rattle.number_map.specs.Rewriting.{PlansMap, is_among, map_without, none_record, record_without}
 use Rattle.number_map.specs.declared.line.Record.{Record}
 use Rattle.number_map.specs.Walks.{BeginsWith}
 use Rattle.git_objects.specs.declared.entry_kind.EntryKind.{EntryKind}
@@ -37,9 +36,9 @@ use Rattle.arch_model.specs.Epochs.{epoch_bytes}
 use Rattle.arch_model.specs.Validity.{IsArchive}
 use Rattle.arch_model.proofs.Purging.{Climbs, messages_climb, messages_kept}
 use Rattle.arch_model.proofs.ValidArchives.{all_weaker, none_later}
-use Rattle.epoch_file.specs.Planning.{IsOfEpoch, Planned, texts_in}
+use Rattle.epoch_file.specs.Planning.{Planned, texts_in}
 use Rattle.epoch_store.specs.Files.{map_file_of}
-use Rattle.epoch_store.specs.Planning.{AreFrom, Closes, ClosesLast, FinishesPlans, IsCurrent, IsPlannedUpTo, Planning, PlansWithout, gone_of, without_current}
+use Rattle.epoch_store.specs.Planning.{AreFrom, ClosesLast, FinishesPlans, IsCurrent, IsPlannedUpTo, Planning, PlansWithout, gone_of}
 use Rattle.epoch_store.specs.Recovery.{bytes_in, entry_of, map_bytes, parts_of, record_for, records_from, records_of}
 use Rattle.epoch_store.specs.Stores.{View, IsDiskWith, stored_after}
 use Rattle.epoch_store.proofs.Mapped.{map_length, records_few, records_valid}

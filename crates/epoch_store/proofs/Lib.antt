@@ -45,3 +45,5 @@ mod Finishing
 mod Ranges
 mod CarriedOut
 mod Edited
+mod Losing
+mod KeptFiles

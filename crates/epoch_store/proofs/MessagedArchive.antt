@@ -1,6 +1,6 @@
 -- One more message after what is planned, on the archive that is planned.
 use Rattle.std.specs.Prelude.{◌≡◌, ◌≢◌, ◌+◌, ◌^◌, ◌<◌, ◌≤◌, ◌==◌, ℕ, Bool, true, false, if◌then◌else◌, List, [], ◌∷◌, ◌++◌, length, get_or, Option, Some, None, unwrap_or, refl}
-use Rattle.std.proofs.Common.{◌∙◌, sym, ap, subst, inl, inr, arith, append_assoc}
+use Rattle.std.proofs.Common.{◌∙◌, sym, ap, subst, inl, inr, arith, append_assoc, length-append}
 use Rattle.std.proofs.lemmas.Bool.Decides.{nat_tests}
 use Rattle.disk_model.specs.declared.name.FileKind.{FileKind}
 use Rattle.disk_model.specs.declared.name.FileKind.TheVariants as kind
@@ -35,6 +35,7 @@ use Rattle.epoch_store.specs.declared.next.NextPlace.{NextPlace}
 use Rattle.epoch_store.specs.Planning.{AppendsRecord, AreAnew, AreValid, IsPlaceAfter, IsReady, Planning, PlansArchive, PlansEdit, length_after, length_by, plans_with, with_record}
 use Rattle.epoch_store.specs.Recovery.{Names, bytes_in, map_bytes, parts_of}
 use Rattle.epoch_store.specs.Stores.{EndsAt, View, stored_at}
+use Rattle.epoch_store.proofs.Delivering.{some_bytes}
 use Rattle.epoch_store.proofs.Growing.{bytes_here, bytes_other, map_grows, stored_more}
 use Rattle.epoch_store.proofs.Messaged.{each_record, each_with, epoch_isnt_map, here_record, here_with, other_record, other_with, ready_more}
 
@@ -178,6 +179,14 @@ module _ (v : View) (old : Planning) (p : NextPlace) (text : List ℕ) (moment :
             entries_are
             ∙ ap (λ (s : StoredEntry). old.entries ++ s ∷ []) (stored_is b.entries (record { length_is = at.1; parent = at.2 }) ∙ ap (λ (n : ℕ). stored_at b.entries (message n p.epoch text moment)) (sym made.next_is))
 
+-- What is written of a message isn't empty.
+piece_some : (at : ℕ) (parent : Option Id20) (e : EpochEntry) (piece : List ℕ) → piece ≡ front_at at ++ bytes_after parent e → 0 < length piece
+piece_some at parent e piece is =
+    let size = ap length is in
+    let parts = length-append (front_at at) (bytes_after parent e) in
+    let own = some_bytes parent e in
+    omega (arith, size, parts, own)
+
 -- So all of it is planned.
 pub message_planned : (v : View) (old one two : Planning) (p : NextPlace) (text : List ℕ) (moment : ℕ) (piece : List ℕ) (blob : Id20) (stored : StoredEntry) → IsPlaceAfter v.root old p → p.epoch ≤ 63 → p.length ≡ length_after v.root old.plans p.epoch → p.length < 2 ^ 62
     → piece ≡ front_at p.length ++ bytes_after p.parent (record { kind = Message; text = text; moment = moment }) → blob ≡ blob_id_of text
@@ -202,6 +211,13 @@ message_planned v old one two p text moment piece blob stored place small long s
       blob = stored_blob;
       content = content_is;
       small = omega (arith, epoch_is, small);
+      piece = piece;
+      some = piece_some p.length p.parent (record { kind = Message; text = text; moment = moment }) piece piece_is;
+      own = subst (λ (e : ℕ). plan_of plans kind.Epoch e ≡ Some (with_bytes (unwrap_or (plan_of old.plans kind.Epoch e) (no_plan kind.Epoch e Behind)) piece)) (sym epoch_is)
+          (ap (λ (l : List Plan). plan_of l kind.Epoch p.epoch) plans_are ∙ (other_record (plans_with old.plans p.epoch piece) line kind.Epoch p.epoch (λ k_is n_is. epoch_isnt_map (sym k_is)) ∙ here_with old.plans p.epoch piece));
+      others = λ e apart.
+          ap (λ (l : List Plan). plan_of l kind.Epoch e) plans_are
+          ∙ (other_record (plans_with old.plans p.epoch piece) line kind.Epoch e (λ k_is n_is. epoch_isnt_map (sym k_is)) ∙ other_with old.plans p.epoch piece kind.Epoch e (λ k_is n_is. apart (n_is ∙ sym epoch_is)));
       ready = λ ready.
           subst (λ (l : List Plan). IsReady v.root l (v.root.next + 1)) (sym plans_are)
           (message_ready v old p text moment piece blob stored valid place small long short piece_is blob_is stored_is appends.1.0 map_is (subst AreValid two_plans valid_two) ready);

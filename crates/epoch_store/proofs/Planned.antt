@@ -1,6 +1,6 @@
 -- What is planned of an archive's entries, with one more.
-use Rattle.std.specs.Prelude.{◌≡◌, ◌≢◌, ◌⊎◌, ◌+◌, ◌-◌, ◌<◌, ◌≤◌, ◌==◌, nat_lt, not, ℕ, zero, suc, Bool, true, false, ◌&&◌, if◌then◌else◌, List, [], ◌∷◌, ◌++◌, length, get_or, slice_get, Option, Some, None, Result, Ok, Err, refl}
-use Rattle.std.specs.List.{AllByRecursion, filter}
+use Rattle.std.specs.Prelude.{◌≡◌, ◌≢◌, ◌+◌, ◌<◌, ◌≤◌, ◌==◌, nat_lt, not, ℕ, zero, suc, Bool, true, false, ◌&&◌, if◌then◌else◌, List, [], ◌∷◌, ◌++◌, length, get_or, slice_get, Option, Some, None, refl}
+use Rattle.std.specs.List.{AllByRecursion}
 use Rattle.std.specs.Str.{bytes_eq}
 use Rattle.std.proofs.Common.{◌∙◌, sym, ap, subst, inl, inr, arith, append_assoc, length-append}
 use Rattle.std.proofs.lemmas.Bool.{cases_lt}
@@ -17,7 +17,6 @@ use Rattle.disk_model.specs.Disk.{Content}
 use Rattle.root_slots.specs.declared.root.Root.{Root}
 use Rattle.root_slots.specs.Valid.{no_place}
 use Rattle.root_change.specs.declared.plan.Target.{Target}
-use Rattle.root_change.specs.Parts.{texts_of}
 use Rattle.root_change.specs.Rewriting.{Plan, IsPlanWhole, bytes_by, plan_of, planned, written_by}
 use Rattle.root_change.specs.Texts.{Texts}
 use Rattle.root_change.proofs.Changes.{text_named}
@@ -35,7 +34,6 @@ use Rattle.arch_model.proofs.ValidArchives.{all_weaker, none_later}
 use Rattle.epoch_file.specs.Entries.{EpochEntry, bytes_after, chain, commit_after, epoch_of, last_of}
 use Rattle.epoch_file.specs.Planning.{Finishes, HasNext, IsFinished, IsOfEpoch, IsPlanned, Planned, file_of, seen_after, texts_in}
 use Rattle.epoch_file.specs.Walking.{seen_at}
-use Rattle.epoch_file.specs.declared.entry.Seen.{Seen}
 use Rattle.epoch_store.specs.declared.entries.StoredEntry.{StoredEntry}
 use Rattle.epoch_store.specs.Files.{epoch_file_of}
 use Rattle.epoch_store.specs.Planning.{ClosesAs, IsCurrent, IsPlannedUpTo, OpensBy, Planning, epoch_start, gone_of, gone_with, in_files, without_current}

@@ -1,14 +1,14 @@
 -- The plans of a purge: from one entry to the next, and all of them.
-use Rattle.std.specs.Prelude.{◌≡◌, ◌≢◌, ◌⊎◌, ◌+◌, ◌-◌, ◌<◌, ◌≤◌, not, ℕ, zero, suc, Bool, true, false, if◌then◌else◌, List, [], ◌∷◌, ◌++◌, length, take, drop, get_or, slice_get, Option, Some, None, Result, Ok, Err, refl}
-use Rattle.std.specs.List.{AllByRecursion, AllZip, Contains, filter}
+use Rattle.std.specs.Prelude.{◌≡◌, ◌+◌, ◌-◌, ◌<◌, ◌≤◌, not, ℕ, zero, suc, Bool, true, false, if◌then◌else◌, List, [], ◌∷◌, ◌++◌, length, take, drop, get_or, slice_get, Option, Some, None, Ok, Err, refl}
+use Rattle.std.specs.List.{AllZip, Contains}
 use Rattle.std.specs.Str.{bytes_eq}
 use Rattle.std.proofs.Common.{◌∙◌, sym, ap, subst, inl, inr, arith}
-use Rattle.std.proofs.lemmas.List.{append-nil, append_assoc, nil_from_length, take_all}
+use Rattle.std.proofs.lemmas.List.{append-nil, append_assoc, take_all}
 use Rattle.std.proofs.lemmas.List.Elements.{AllZip-push, filter-append}
 use Rattle.std.proofs.lemmas.Option.{same_Some, slice_get-get_or, slice_get_within}
 use Rattle.std.proofs.lemmas.Slice.Eq.{bytes_eq-Decides}
 use Rattle.arch_base.specs.declared.ids.Id20.{Id20}
-use Rattle.disk_model.specs.Disk.{Content, Kept, Told, Unchanged, WhereTold}
+use Rattle.disk_model.specs.Disk.{Content, Told, Unchanged, WhereTold}
 use Rattle.disk_model.specs.declared.name.FileName.{FileName}
 use Rattle.git_objects.specs.Objects.{blob_id_of}
 use Rattle.git_objects.specs.declared.entry_kind.EntryKind.{EntryKind}
@@ -21,7 +21,7 @@ use Rattle.root_slots.specs.declared.slot.Slot.{Slot}
 use Rattle.root_change.specs.Parts.{texts_of}
 use Rattle.root_change.specs.Rewriting.{Plan}
 use Rattle.root_change.specs.Texts.{Measures, Texts}
-use Rattle.arch_model.specs.Archives.{Entry, Archive, is_message, messages, text_of, without_text}
+use Rattle.arch_model.specs.Archives.{Entry, Archive, is_message, messages}
 use Rattle.arch_model.specs.Validity.{BlobsAgree}
 use Rattle.arch_model.proofs.LiveEntries.{HasText, found-has}
 use Rattle.arch_model.proofs.ValidArchives.{agrees-has, all_weaker}
@@ -30,9 +30,9 @@ use Rattle.epoch_file.specs.declared.refusal.StoreRefusal.{StoreRefusal}
 use Rattle.epoch_file.specs.declared.refusal.StoreRefusal.TheVariants.{DiskFault, NoMemory, Damaged}
 use Rattle.epoch_store.specs.declared.entries.StoredEntry.{StoredEntry}
 use Rattle.epoch_store.specs.Files.{epoch_file_of, map_file_of}
-use Rattle.epoch_store.specs.Planning.{AreAnew, AreFrom, ArePlansIn, AreWhole, AreWithin, ClosesAs, ClosesLast, FinishesPlans, GivesNext, HasMessage, IsPlannedUpTo, IsReady, KeepsBut, PicksText, Planning, PlansFirst, PlansOwn, PlansPurge, PlansUndamaged, PlansWithout, TakesNext, no_planning, without_current}
+use Rattle.epoch_store.specs.Planning.{AreAnew, AreFrom, ArePlansIn, AreWhole, AreWithin, ClosesAs, ClosesLast, FinishesPlans, GivesNext, IsPlannedUpTo, IsReady, KeepsBut, PicksText, Planning, PlansFirst, PlansLost, PlansOwn, PlansPurge, PlansUndamaged, TakesNext, no_planning, without_current}
 use Rattle.epoch_store.specs.Recovery.{parts_of}
-use Rattle.epoch_store.specs.Stores.{KeptOf, SeesNoDamage, View, IsDiskWith, IsStoreWith, stored_after, stored_at, without_blob}
+use Rattle.epoch_store.specs.Stores.{KeptOf, SeesNoDamage, View, IsDiskWith, stored_after, stored_at, without_blob}
 use Rattle.epoch_store.proofs.Finished.{entries_are, finished_without}
 use Rattle.epoch_store.proofs.Parted.{texts_measure}
 use Rattle.epoch_store.proofs.Texts.{kept_found}
@@ -127,7 +127,7 @@ test_step true false one two = absurd (let wrong : false ≡ true = one refl in 
 test_step false true one two = absurd (let wrong : false ≡ true = two refl in cc)
 test_step false false one two = refl
 
-id_is : (i j : Id20) → i.0 ≡ j.0 → i ≡ j
+pub id_is : (i j : Id20) → i.0 ≡ j.0 → i ≡ j
 id_is i j same = ap (λ (l : List ℕ). let id : Id20 = record { 0 = l } in id) same
 
 picks_one : (blob : Id20) (text : List ℕ) (e : Entry) → blob ≡ blob_id_of text → (blob_id_of text ≡ blob_id_of e.text → text ≡ e.text) → bytes_eq blob.0 (blob_id_of e.text).0 ≡ bytes_eq text e.text
@@ -172,7 +172,7 @@ first_stops v blob n p new (Some k) (Some m) stored file refusal T same here fil
     sees_none (texts_in k) v.root a (take n a.entries) at.entry text.0 new refusal T one
 
 -- The entries that are kept, with one more.
-take_one : (es : List StoredEntry) (n : ℕ) (e : StoredEntry) → slice_get es n ≡ Some e → take (suc n) es ≡ take n es ++ e ∷ []
+pub take_one : (es : List StoredEntry) (n : ℕ) (e : StoredEntry) → slice_get es n ≡ Some e → take (suc n) es ≡ take n es ++ e ∷ []
 take_one [] n e here = absurd (let less = slice_get_within {A = StoredEntry} [] n e here in omega (arith, less))
 take_one (x ∷ es) zero e here = ap (λ (y : StoredEntry). y ∷ []) (same_Some x e here)
 take_one (x ∷ es) (suc n) e here = ap (λ (l : List StoredEntry). x ∷ l) (take_one es n e here)
@@ -234,7 +234,7 @@ module _ (v : View) (blob : Id20) (p new : Planning) (map : FileName) (map_is : 
 -- What is known once a planner is finished, of a store that was looked into.
 pub record ReadyOf (T : Type 0) (v : View) (root : Root) (p new : Planning) : Type 0 where
   pub from_inside : AreFrom root new.plans
-  pub purge : (blob : Id20) → AllZip KeptOf (without_blob v.entries blob.0) p.entries → AreWithin root new.plans → PlansPurge v blob new.entries new.plans
+  pub purge : (blob : Id20) → AllZip KeptOf (without_blob v.entries blob.0) p.entries → PlansLost v.entries blob new.plans → AreWithin root new.plans → PlansPurge v blob new.entries new.plans
   pub own : (blob : Id20) (content : Option Content) → WhereTold (PlansFirst v blob (length v.entries) p) content → PlansOwn v blob new.entries new.plans content
   pub undamaged : (blob : Id20) (content : Option Content) (refusal : StoreRefusal) → (e : StoredEntry) × Contains v.entries e × (e.seen.blob ≡ blob) → WhereTold (PlansFirst v blob (length v.entries) p) content
       → (plans : List Plan) → plans ≡ new.plans → ((texts : Texts) → Measures root texts → AreWhole texts plans → SeesNoDamage {T = Unit {0}} (Err refusal)) → PlansUndamaged {T = T} v (Err refusal) content
@@ -252,10 +252,11 @@ ready_of T v root slot entries map p new view_is valid map_is are finishes ready
     let from = subst (λ (r : Root). AreFrom r new.plans) root_is so.0 in
     record {
       from_inside = so.0;
-      purge = λ blob kept within. record {
+      purge = λ blob kept lost within. record {
         kept = subst (AllZip KeptOf (without_blob v.entries blob.0)) (sym (finish_entries p map (root.next - 1) new finishes)) kept;
         ready = subst (λ (r : Root). IsReady r new.plans r.next) root_is (subst (IsReady root new.plans) count (so.2 within));
         anew = so.1;
+        lost = lost;
       };
       own = λ blob content up. plans_own v blob p new map map_so (root.next - 1) count_so finishes from content up;
       undamaged = λ blob content refusal there up plans plans_are sees. whole_own v blob p new map map_so (root.next - 1) count_so finishes from content T refusal there up

@@ -1,5 +1,5 @@
 -- Ranges of plans that end up to the bytes that count of their parts.
-use Rattle.std.specs.Prelude.{◌≡◌, ◌≢◌, ◌⊎◌, ◌+◌, ◌<◌, ◌≤◌, ℕ, zero, suc, Bool, true, false, List, [], ◌∷◌, length, get_or, slice_get, Option, Some, None, refl}
+use Rattle.std.specs.Prelude.{◌≡◌, ◌+◌, ◌<◌, ◌≤◌, ℕ, true, false, List, length, get_or, slice_get, Some, refl}
 use Rattle.std.proofs.Common.{◌∙◌, sym, ap, subst, inl, inr, arith}
 use Rattle.std.proofs.lemmas.Bool.{cases_lt}
 use Rattle.std.proofs.lemmas.Option.{same_Some, slice_get-get_or, slice_get_within}
@@ -8,12 +8,11 @@ use Rattle.disk_model.specs.declared.name.FileKind.TheVariants as kind
 use Rattle.disk_model.specs.declared.name.FileName.{FileName}
 use Rattle.root_slots.specs.declared.root.Place.{Place}
 use Rattle.root_slots.specs.declared.root.Root.{Root}
-use Rattle.root_slots.specs.RootName.{root_name}
 use Rattle.root_slots.specs.Valid.{no_place}
 use Rattle.root_change.specs.declared.sources.Source.{Source}
 use Rattle.root_change.specs.declared.sources.Source.TheVariants.{Bytes, Range}
 use Rattle.root_change.specs.Names.{map_name, named_end, named_some, place_of}
-use Rattle.root_change.specs.Rewriting.{Plan, IsPartToPlan, IsPlanFrom, IsPlanWhole, IsSourceFrom, IsWholeIn, IsWithin, file_by}
+use Rattle.root_change.specs.Rewriting.{Plan, IsPartToPlan, IsPlanWhole, IsSourceFrom, IsWholeIn, IsWithin, file_by}
 use Rattle.root_change.specs.Texts.{Measures, Texts}
 use Rattle.root_change.proofs.Grown.{epoch_is_named, map_is_named}
 use Rattle.root_change.proofs.Sizes.{end_at_most}

@@ -1,5 +1,5 @@
 -- What a planner holds once it has taken an entry.
-use Rattle.std.specs.Prelude.{◌≡◌, ◌≢◌, ◌⊎◌, ◌≤◌, ℕ, Bool, true, false, List, [], ◌∷◌, ◌++◌, slice_get, Option, Some, None, Result, Ok, Err, refl}
+use Rattle.std.specs.Prelude.{◌≡◌, ◌≤◌, ℕ, Bool, true, false, List, [], ◌∷◌, ◌++◌, slice_get, Option, Some, None, Ok, Err, refl}
 use Rattle.std.specs.List.{AllByRecursion}
 use Rattle.std.specs.Str.{bytes_eq}
 use Rattle.std.proofs.Common.{◌∙◌, sym, ap, subst, inl, inr, arith}
@@ -14,12 +14,12 @@ use Rattle.root_change.specs.Rewriting.{Plan}
 use Rattle.root_change.specs.Texts.{Texts}
 use Rattle.arch_model.specs.Archives.{Entry, Archive, in_epoch, without_text}
 use Rattle.epoch_file.specs.Entries.{EpochEntry}
-use Rattle.epoch_file.specs.Planning.{Finishes, HasNext, IsMoved, IsOfEpoch, KeepsNext, LeavesNext, Planned, Stays, texts_in}
+use Rattle.epoch_file.specs.Planning.{HasNext, IsMoved, IsOfEpoch, KeepsNext, Planned, Stays, texts_in}
 use Rattle.epoch_file.specs.declared.entry.Seen.{Seen}
 use Rattle.epoch_store.specs.declared.entries.StoredEntry.{StoredEntry}
 use Rattle.epoch_store.specs.Files.{epoch_file_of}
-use Rattle.epoch_store.specs.Planning.{ArePlansIn, ClosesAs, GivesNext, IsFileIn, IsNoDamage, IsPlanIn, IsPlannedUpTo, KeepsBut, KeepsEntry, LeavesOut, Opens, OpensBy, Planning, RefusesEntry, TakesNext, epoch_start, gone_with, in_files, kept_with, refusal_in, with_entries, without_current}
-use Rattle.epoch_store.specs.Stores.{KeptOf, View, IsDiskWith, in_file, stored_at}
+use Rattle.epoch_store.specs.Planning.{ArePlansIn, ClosesAs, GivesNext, IsFileIn, IsNoDamage, IsPlanIn, IsPlannedUpTo, KeepsBut, KeepsEntry, LeavesOut, Opens, OpensBy, Planning, RefusesEntry, TakesNext, gone_with, in_files, kept_with, refusal_in, with_entries, without_current}
+use Rattle.epoch_store.specs.Stores.{KeptOf, in_file, stored_at}
 use Rattle.epoch_store.proofs.Planned.{each_plan, has_next, opened, seen_is, up_kept, up_left}
 use Rattle.epoch_store.proofs.Texts.{one_of_all}
 

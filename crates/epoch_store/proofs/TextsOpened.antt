@@ -1,5 +1,5 @@
 -- The texts of entries that were opened are in their places.
-use Rattle.std.specs.Prelude.{◌≡◌, ◌+◌, ◌<◌, ◌≤◌, ℕ, List, [], ◌++◌, ◌∷◌, length, take, drop, slice_get, Some, None, min, refl}
+use Rattle.std.specs.Prelude.{◌≡◌, ◌+◌, ◌<◌, ℕ, List, [], ◌++◌, ◌∷◌, length, take, slice_get, Some, None, min}
 use Rattle.std.specs.List.{AllByRecursion}
 use Rattle.std.proofs.Common.{◌∙◌, sym, ap, subst, arith, length-take}
 use Rattle.disk_model.specs.Disk.{Content, File, bytes_of}
@@ -9,7 +9,6 @@ use Rattle.arch_model.specs.Epochs.{epoch_bytes, entries_bytes}
 use Rattle.arch_model.specs.Validity.{IsEntry}
 use Rattle.git_objects.specs.Objects.{blob_id_of}
 use Rattle.epoch_file.specs.Walking.{blob_front}
-use Rattle.root_slots.specs.declared.root.Root.{Root}
 use Rattle.root_change.specs.Texts.{Fronts}
 use Rattle.epoch_store.specs.Files.{epoch_file_of}
 use Rattle.epoch_store.specs.Reads.{HasText, HasTexts}

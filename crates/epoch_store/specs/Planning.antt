@@ -1,6 +1,6 @@
 -- What is planned of an archive without the entries of a text.
-use Rattle.std.specs.Prelude.{◌≡◌, ◌≢◌, ◌⊎◌, ◌+◌, ◌-◌, ◌<◌, ◌≤◌, ◌==◌, ℕ, Bool, true, false, ◌&&◌, List, [], ◌∷◌, ◌++◌, length, take, get_or, slice_get, Option, Some, None, Result, Ok, Err, if◌then◌else◌}
-use Rattle.std.specs.List.{AllByRecursion, AllZip}
+use Rattle.std.specs.Prelude.{◌≡◌, ◌≢◌, ◌⊎◌, ◌+◌, ◌-◌, ◌<◌, ◌≤◌, ◌==◌, ℕ, Bool, true, false, ◌&&◌, ◌||◌, List, [], ◌∷◌, ◌++◌, length, take, get_or, slice_get, Option, Some, None, is_some, unwrap_or, Result, Ok, Err, if◌then◌else◌}
+use Rattle.std.specs.List.{AllByRecursion, AllZip, list_any}
 use Rattle.std.specs.Str.{bytes_eq}
 use Rattle.arch_base.specs.declared.ids.Id20.{Id20}
 use Rattle.disk_model.specs.declared.name.FileKind.{FileKind}
@@ -75,6 +75,16 @@ pub record IsReady (root : Root) (plans : List Plan) (next : ℕ) : Type 0 where
   pub map_is : plan_of plans kind.Map 0 ≡ Some map_plan
   pub map_anew : map_plan.target ≡ Anew
 
+-- An entry of an epoch has a blob id.
+abbrev pub loses : List StoredEntry → List ℕ → ℕ → Bool
+loses entries blob epoch =
+    list_any (λ (e : StoredEntry). bytes_eq blob e.seen.blob.0 && e.epoch == epoch) entries
+
+-- Just the epochs with an entry that has a blob id are planned.
+abbrev pub PlansLost : List StoredEntry → Id20 → List Plan → Type 0
+PlansLost entries blob plans =
+    (e : ℕ) → is_some (plan_of plans kind.Epoch e) ≡ loses entries blob.0 e
+
 -- Each of these parts is written anew.
 abbrev pub AreAnew : List Plan → Type 0
 AreAnew plans = (i : ℕ) (plan : Plan) → slice_get plans i ≡ Some plan → plan.target ≡ Anew
@@ -87,6 +97,7 @@ pub record PlansPurge (v : View) (blob : Id20) (entries : List StoredEntry) (pla
   pub kept : AllZip KeptOf (without_blob v.entries blob.0) entries
   pub ready : IsReady v.root plans v.root.next
   pub anew : AreAnew plans
+  pub lost : PlansLost v.entries blob plans
 
 abbrev pub PlansOwn : View → Id20 → List StoredEntry → List Plan → Option Content → Type 0
 PlansOwn v blob entries plans content = (a : Archive) (cache text : List ℕ)
@@ -137,6 +148,20 @@ pub record IsPlanIn (root : Root) (plan : Plan) : Type 0 where
 abbrev pub IsFileIn : Root → Option Planned → Type 0
 IsFileIn root None = Unit {0}
 IsFileIn root (Some c) = (e : ℕ) × (e ≤ greatest_epoch) × (c.file ≡ epoch_file_of root e)
+
+-- The current epoch is this one, and loses an entry.
+abbrev pub is_changed : Option Planned → ℕ → Bool
+is_changed None epoch = false
+is_changed (Some c) epoch = is_some c.changed && c.file.number == epoch
+
+-- An epoch is to be written anew by what is planned so far.
+abbrev pub is_anew : Planning → ℕ → Bool
+is_anew p epoch = is_some (plan_of p.plans kind.Epoch epoch) || is_changed p.current epoch
+
+-- One more entry of an epoch was left out, or kept. In the former case the epoch is to be written anew.
+-- The others are as before.
+abbrev pub ChangesNext : Planning → ℕ → Bool → Planning → Type 0
+ChangesNext old number leaves new = (e : ℕ) → is_anew new e ≡ (is_anew old e || (leaves && number == e))
 
 -- All epochs that are planned, and the current one, are those of a root.
 pub record ArePlansIn (root : Root) (p : Planning) : Type 0 where
@@ -262,6 +287,7 @@ ClosesAs old (Some plan) new = Pushes old plan new
 abbrev pub Closes : Planning → Planned → Planning → Type 0
 Closes old epoch new = (finished : Option Plan) × Finishes epoch finished
     × IsOfEpoch epoch.file finished × ClosesAs old finished new
+    × (is_some finished ≡ is_some epoch.changed)
 
 -- A planner without a current epoch.
 abbrev pub without_current : Planning → Planning
@@ -303,6 +329,7 @@ abbrev pub LeavesOut : Planning → Planned → StoredEntry → Planning → Typ
 LeavesOut old plan e new = (after : Planned) × LeavesNext plan e.seen after
     × (after.file ≡ plan.file)
     × (new ≡ with_entries old old.entries (gone_with e.seen.kind old.gone e.number) after)
+    × (is_some after.changed ≡ true)
 
 -- An entry as it is kept in the new file.
 abbrev pub kept_with : StoredEntry → Seen → StoredEntry
@@ -315,6 +342,7 @@ pub record KeepsEntry (old : Planning) (plan : Planned) (e : StoredEntry)
   pub kept : WhereTold (KeepsNext plan e.seen after (Ok seen)) content
   pub moved : (at : ℕ) × (commit : Id20) × IsMoved e.seen at commit seen
   pub file : after.file ≡ plan.file
+  pub going : is_some after.changed ≡ is_some plan.changed
   pub new_is : new ≡ with_entries old (old.entries ++ kept_with e seen ∷ []) old.gone after
 
 -- It was refused: where the file has it, nothing is damaged.
@@ -373,7 +401,9 @@ pub record PlansArchive (root : Root) (cache : List ℕ) (a b : Archive) (p : Pl
   pub whole : (i : ℕ) (plan : Plan) → slice_get p.plans i ≡ Some plan
       → IsPlanWhole (texts_of root (parts_of a cache)) plan
 
--- One more message is planned: on the archive that is planned so far, it is the one with the message.
+-- One more message is planned: its epoch is written with some bytes more, in a new file if it was planned
+-- before, and otherwise after its own bytes. On the archive that is planned so far, it is the one with
+-- the message.
 pub record PlansEdit (v : View) (old : Planning) (text : List ℕ) (moment : ℕ) (new : Planning)
     : Type 0 where
   pub entry : StoredEntry
@@ -384,6 +414,13 @@ pub record PlansEdit (v : View) (old : Planning) (text : List ℕ) (moment : ℕ
   pub blob : entry.seen.blob ≡ blob_id_of text
   pub content : entry.seen.content ≡ content_id_of text
   pub small : entry.epoch ≤ greatest_epoch
+  pub piece : List ℕ
+  pub some : 0 < length piece
+  pub own : plan_of new.plans kind.Epoch entry.epoch
+      ≡ Some (with_bytes (unwrap_or (plan_of old.plans kind.Epoch entry.epoch)
+      (no_plan kind.Epoch entry.epoch Behind)) piece)
+  pub others : (e : ℕ) → e ≢ entry.epoch
+      → plan_of new.plans kind.Epoch e ≡ plan_of old.plans kind.Epoch e
   pub ready : IsReady v.root old.plans v.root.next → IsReady v.root new.plans (v.root.next + 1)
   pub archive : (cache : List ℕ) (a b : Archive) → PlansArchive v.root cache a b old v.root.next
       → Names v.root a → AreAnew old.plans → IsArchive (with_entry b (new_epoch b) text moment)

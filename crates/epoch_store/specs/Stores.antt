@@ -365,3 +365,39 @@ pub record Rewrites (old new : Root) : Type 0 where
       → ((get_or new.epochs e no_place).gen_ ≡ (get_or old.epochs e no_place).gen_)
       ⊎ (((get_or new.epochs e no_place).gen_ ≡ new.sequence)
       ⊎ (get_or new.epochs e no_place ≡ no_place))
+
+-- An epoch has an entry with a blob id.
+abbrev pub HasBlob : List StoredEntry → Id20 → ℕ → Type 0
+HasBlob entries blob epoch = (e : StoredEntry) × Contains entries e × (e.epoch ≡ epoch)
+    × (e.seen.blob ≡ blob)
+
+-- An epoch is in a file whose generation is the root's sequence, or it has no file.
+abbrev pub IsMadeAnew : Root → ℕ → Type 0
+IsMadeAnew root epoch = ((get_or root.epochs epoch no_place).gen_ ≡ root.sequence)
+    ⊎ (get_or root.epochs epoch no_place ≡ no_place)
+
+-- Which files a purge keeps. Each epoch without an entry with the blob id stays in its file, which is as
+-- long as before. Each other one is in a new file, or has none.
+pub record KeepsFiles (old new : View) (blob : Id20) : Type 0 where
+  pub kept : (e : ℕ) → e < epoch_count → (HasBlob old.entries blob e → ⊥)
+      → get_or new.root.epochs e no_place ≡ get_or old.root.epochs e no_place
+  pub anew : (e : ℕ) → e < epoch_count → HasBlob old.entries blob e → IsMadeAnew new.root e
+
+-- An epoch's file stays and is longer. If the epoch had none, it is in a new one.
+abbrev pub Grows : Root → Root → ℕ → Type 0
+Grows old new epoch = ((0 < (get_or old.epochs epoch no_place).length)
+    × ((get_or new.epochs epoch no_place).gen_ ≡ (get_or old.epochs epoch no_place).gen_)
+    × ((get_or old.epochs epoch no_place).length < (get_or new.epochs epoch no_place).length))
+    ⊎ (((get_or old.epochs epoch no_place).length ≡ 0)
+    × ((get_or new.epochs epoch no_place).gen_ ≡ new.sequence))
+
+-- Which files an edit keeps: those that a purge keeps. That of the epoch of the new entry, which is the
+-- last one, grows.
+pub record EditsFiles (old new : View) (blob : Id20) : Type 0 where
+  pub front : List StoredEntry
+  pub entry : StoredEntry
+  pub entries : new.entries ≡ front ++ entry ∷ []
+  pub kept : (e : ℕ) → e < epoch_count → e ≢ entry.epoch → (HasBlob old.entries blob e → ⊥)
+      → get_or new.root.epochs e no_place ≡ get_or old.root.epochs e no_place
+  pub grown : (HasBlob old.entries blob entry.epoch → ⊥) → Grows old.root new.root entry.epoch
+  pub anew : (e : ℕ) → e < epoch_count → HasBlob old.entries blob e → IsMadeAnew new.root e

@@ -10,7 +10,7 @@ ghost use Rattle.arch_model.specs.Archives.{Archive};
 ghost use Rattle.arch_model.specs.Validity.{IsArchive};
 ghost use Rattle.epoch_file.specs.Runs.{OnlyReads};
 ghost use Rattle.epoch_store.specs.Files.{epoch_file_of, map_file_of};
-ghost use Rattle.epoch_store.specs.Planning.{AppendsRecord, AreAnew, AreFrom, ArePlansIn, AreValid, AreWithin, Closes, ClosesLast, FinishesPlans, IsIndexOf, IsReady, KeepsBut, KeepsEntry, LeavesOut, Opens, Pushes, RefusesEntry, TakesNext, no_planning, plans_with, refusal_in, with_gone};
+ghost use Rattle.epoch_store.specs.Planning.{AppendsRecord, AreAnew, AreFrom, ArePlansIn, AreValid, AreWithin, ChangesNext, Closes, ClosesLast, FinishesPlans, IsIndexOf, IsReady, KeepsBut, KeepsEntry, LeavesOut, Opens, Pushes, RefusesEntry, TakesNext, no_planning, plans_with, refusal_in, with_gone};
 ghost use Rattle.epoch_store.specs.Stores.{InEpochs, IsEnd, stored_after};
 
 use crate::entries::StoredEntry;
@@ -96,6 +96,8 @@ impl Planner {
             self.old.entries entry.now self.new.entries) }
         ensures plans { (root : Root) → file ≡ epoch_file_of root entry.now.epoch
             → ArePlansIn root self.old → OnOk result (ArePlansIn root self.new) }
+        ensures changes { OnOk result (ChangesNext self.old file.number
+            (bytes_eq blob.now.0 entry.now.seen.blob.0) self.new) }
         ensures reads { OnlyReads D.content D.moment D.left_since D.faults disk.old disk.new }
         ensures fewest { D.reads disk.old ≤ D.reads disk.new }
         ensures cause { RoseIf (result ≡ Err StoreRefusal.DiskFault) (D.faults disk.old)

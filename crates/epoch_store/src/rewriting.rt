@@ -13,9 +13,9 @@ ghost use Rattle.git_objects.specs.Objects.{blob_id_of};
 ghost use Rattle.arch_model.specs.Archives.{Archive, live, messages, text_of, with_entry, without_entries};
 ghost use Rattle.arch_model.specs.Delivery.{collision, new_epoch};
 ghost use Rattle.epoch_store.specs.declared.entries.StoredEntry.{StoredEntry};
-ghost use Rattle.epoch_store.specs.Planning.{AreFrom, ArePlansIn, AreUpTo, AreWhole, AreWithin, IsFrom, IsPlaceAfter, IsPlanWithin, IsReady, IsUpTo, Says, KeepsPlanned, PlansArchive, PlansEdit, PlansFirst, PlansOwn, PlansPurge, PlansUndamaged, length_after, no_planning};
+ghost use Rattle.epoch_store.specs.Planning.{AreFrom, ArePlansIn, AreUpTo, AreWhole, AreWithin, IsFrom, IsPlaceAfter, IsPlanWithin, IsReady, IsUpTo, Says, KeepsPlanned, PlansArchive, PlansEdit, PlansFirst, PlansOwn, PlansPurge, PlansUndamaged, is_anew, length_after, loses, no_planning};
 ghost use Rattle.epoch_file.specs.Runs.{OnlyReads};
-ghost use Rattle.epoch_store.specs.Stores.{DropsEntries, EditsEntries, HasSizes, InEpochs, IsStoreWith, KeptOf, MayEdit, MayPurge, RecoversOneOf, Rewrites, SeesNoDamage, UnlessFailed, without_blob};
+ghost use Rattle.epoch_store.specs.Stores.{DropsEntries, EditsEntries, EditsFiles, HasSizes, InEpochs, IsStoreWith, KeepsFiles, KeptOf, MayEdit, MayPurge, RecoversOneOf, Rewrites, SeesNoDamage, UnlessFailed, without_blob};
 
 use crate::next::NextPlace;
 use crate::planning::Planner;
@@ -67,6 +67,7 @@ impl Store {
         ensures goes_on { OnOk result (Rewrites self.old.root self.new.root) }
         ensures slot { OnOk result (self.new.slot ≡ 1 - self.old.slot) }
         ensures dropped { OnOk result (DropsEntries self.old self.new blob.now) }
+        ensures kept_files { OnOk result (KeepsFiles self.old self.new blob.now) }
         ensures same { OnErr result (self.new ≡ self.old) }
         // Memory runs out, and damage is found, before the first write: nothing changes on the disk.
         ensures untouched { UnlessFailed result (OnlyReads D.content D.moment D.left_since D.faults
@@ -119,6 +120,7 @@ impl Store {
         ensures goes_on { OnOk result (Rewrites self.old.root self.new.root) }
         ensures slot { OnOk result (self.new.slot ≡ 1 - self.old.slot) }
         ensures edited { OnOk result (EditsEntries self.old self.new old.now text.now) }
+        ensures kept_files { OnOk result (EditsFiles self.old self.new old.now) }
         ensures same { OnErr result (self.new ≡ self.old) }
         // Memory runs out, and damage is found, before the first write: nothing changes on the disk.
         ensures untouched { UnlessFailed result (OnlyReads D.content D.moment D.left_since D.faults
@@ -175,6 +177,8 @@ impl Store {
         ensures kept { OnOk result (AllZip KeptOf (without_blob self.now.entries blob.now.0)
             planned.new.entries) }
         ensures plans { OnOk result (ArePlansIn self.now.root planned.new) }
+        ensures changes { OnOk result ((e : ℕ)
+            → is_anew planned.new e ≡ loses self.now.entries blob.now.0 e) }
         ensures all { OnOk result (WhereTold
             (PlansFirst self.now blob.now (length self.now.entries) planned.new) (D.content disk.old)) }
         ensures undamaged { PlansUndamaged self.now result (D.content disk.old) }

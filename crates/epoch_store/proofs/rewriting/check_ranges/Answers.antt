@@ -1,5 +1,4 @@
 -- One more plan was checked.
-use Rattle.std.proofs.Common.{◌≡◌, length}
 use Rattle.epoch_store.proofs.Ranges.{at_index, within_more, within_all}
 use Rattle.epoch_store.proofs.rewriting.check_ranges.Goals as goal
 

@@ -1,5 +1,4 @@
 -- One more source ends up to the offset, or it doesn't.
-use Rattle.std.proofs.Common.{◌≡◌, length}
 use Rattle.epoch_store.proofs.Ranges.{up_more, up_none, up_all}
 use Rattle.epoch_store.proofs.rewriting.ends_by.Goals as goal
 

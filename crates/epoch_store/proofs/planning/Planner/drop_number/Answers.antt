@@ -1,5 +1,5 @@
 -- The number that is kept is above those before.
-use Rattle.std.proofs.Common.{◌≡◌, ◌∙◌, ◌<◌, ℕ, List, [], ◌∷◌, ◌++◌, sym, ap, subst, arith}
+use Rattle.std.proofs.Common.{◌≡◌, ◌∙◌, ◌<◌, ℕ, [], ◌∷◌, ◌++◌, sym, ap, subst, arith}
 use Rattle.number_map.specs.Rewriting.{RisesUpTo}
 use Rattle.epoch_store.proofs.Finishing.{rises_more}
 use Rattle.epoch_store.proofs.planning.Planner.drop_number.Goals as goal

@@ -1,5 +1,5 @@
 -- The last epoch was closed, and the map is planned.
-use Rattle.std.proofs.Common.{◌≡◌, ◌≤◌, ℕ, List, sym, ap, subst, arith}
+use Rattle.std.proofs.Common.{ℕ, List, ap, subst, arith}
 use Rattle.number_map.specs.Rewriting.{PlansMap}
 use Rattle.root_change.specs.Rewriting.{AreApart}
 use Rattle.epoch_store.specs.Planning.{FinishesPlans, Planning}

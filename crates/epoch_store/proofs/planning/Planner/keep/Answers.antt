@@ -1,5 +1,5 @@
 -- An entry that is refused.
-use Rattle.epoch_store.proofs.Taking.{refuses_entry, refuses_any}
+use Rattle.epoch_store.proofs.Taking.{refuses_entry}
 use Rattle.epoch_store.proofs.planning.Planner.keep.Goals as goal
 
 pub returns-in-Err-clause-refused : goal.returns-in-Err-clause-refused

@@ -3,6 +3,7 @@ use Rattle.std.proofs.Common.{◌≡◌, ◌∙◌, Err, sym, subst, true, false
 use Rattle.std.specs.Str.{bytes_eq}
 use Rattle.epoch_file.specs.declared.refusal.StoreRefusal.{StoreRefusal}
 use Rattle.epoch_store.specs.Planning.{TakesNext}
+use Rattle.epoch_store.proofs.Losing.{kept_changes, left_changes}
 use Rattle.epoch_store.proofs.Taking.{take_left, take_kept, take_refused, kept_but, left_but, kept_in, left_in}
 use Rattle.epoch_store.proofs.planning.Planner.take.Goals as goal
 
@@ -20,6 +21,11 @@ pub returns-then-eq-clause-plans : goal.returns-then-eq-clause-plans
 returns-then-eq-clause-plans g c = λ root file_is are.
     left_in root c.args.self.now c.args.file c.args.entry.now c.open.new.self c.leave_out.new.self c.in_ok-plan.plan are c.in_ok-plan.ensures.opened file_is c.requires.epoch c.in_ok-leave_out.ensures
 
+pub returns-then-eq-clause-changes : goal.returns-then-eq-clause-changes
+returns-then-eq-clause-changes g c =
+    let test : bytes_eq c.args.blob.now.0 c.args.entry.now.seen.blob.0 ≡ true = sym c.eq.ensures ∙ c.if-eq.true in
+    left_changes c.args.self.now c.args.file c.args.entry.now c.args.blob.now c.open.new.self c.leave_out.new.self c.in_ok-plan.plan c.in_ok-plan.ensures.opened test c.in_ok-leave_out.ensures
+
 pub returns-in-Ok-clause-taken : goal.returns-in-Ok-clause-taken
 returns-in-Ok-clause-taken g c =
     let test : bytes_eq c.args.blob.now.0 c.args.entry.now.seen.blob.0 ≡ false = sym c.eq.ensures ∙ c.if-eq.false in
@@ -33,6 +39,11 @@ returns-in-Ok-clause-kept g c =
 pub returns-in-Ok-clause-plans : goal.returns-in-Ok-clause-plans
 returns-in-Ok-clause-plans g c = λ root file_is are.
     kept_in root c.args.self.now c.args.file c.args.entry.now (g.D.Disk.content c.args.disk.now) c.open.new.self c.keep.new.self c.in_ok-plan.plan are c.in_ok-plan.ensures.opened file_is c.requires.epoch c.in-Ok.ensures.kept
+
+pub returns-in-Ok-clause-changes : goal.returns-in-Ok-clause-changes
+returns-in-Ok-clause-changes g c =
+    let test : bytes_eq c.args.blob.now.0 c.args.entry.now.seen.blob.0 ≡ false = sym c.eq.ensures ∙ c.if-eq.false in
+    kept_changes c.args.self.now c.args.file c.args.entry.now c.args.blob.now (g.D.Disk.content c.args.disk.now) c.open.new.self c.keep.new.self c.in_ok-plan.plan c.in_ok-plan.ensures.opened test c.in-Ok.ensures.kept
 
 pub returns-in-Err-clause-taken : goal.returns-in-Err-clause-taken
 returns-in-Err-clause-taken g c =

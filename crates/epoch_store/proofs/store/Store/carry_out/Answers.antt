@@ -1,12 +1,11 @@
 -- What carrying out plans leaves, on the disk and in memory.
-use Rattle.std.proofs.Common.{◌≡◌, ◌-◌, sym, ap, subst, ◌∙◌, ℕ, List, []}
-use Rattle.disk_model.specs.Disk.{LeavesOnly}
+use Rattle.std.proofs.Common.{◌≡◌, sym, ap, subst, ◌∙◌, List, []}
 use Rattle.root_slots.specs.Slots.{slot_number}
 use Rattle.root_change.specs.Rewriting.{Plan}
 use Rattle.epoch_store.specs.declared.entries.StoredEntry.{StoredEntry}
 use Rattle.epoch_store.specs.Planning.{Planning, PlansArchive}
 use Rattle.epoch_store.specs.Stores.{View, IsStoreWith}
-use Rattle.epoch_store.proofs.Carrying.{carried_leaves, carried_store, part_sizes, sizes_carried, carried_on}
+use Rattle.epoch_store.proofs.Carrying.{carried_leaves, carried_store}
 use Rattle.epoch_store.proofs.store.Store.carry_out.Goals as goal
 
 pub returns-in-Ok-clause-any_moment : goal.returns-in-Ok-clause-any_moment

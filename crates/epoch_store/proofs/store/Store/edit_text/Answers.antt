@@ -1,11 +1,13 @@
 -- The message in the place of the text.
-use Rattle.std.proofs.Common.{rules, ◌≡◌, ◌+◌, Err, sym, subst}
+use Rattle.std.proofs.Common.{rules, ◌≡◌, ◌+◌, ℕ, Err, sym, ap, subst}
+use Rattle.std.proofs.lemmas.Result.{on_ok_weaker}
 use Rattle.arch_model.specs.Archives.{with_entry, without_entries}
 use Rattle.arch_model.specs.Delivery.{new_epoch}
-use Rattle.epoch_store.specs.Planning.{Planning, PlansArchive}
+use Rattle.epoch_store.specs.Planning.{KeepsPlanned, Planning, PlansArchive}
 use Rattle.epoch_store.specs.Stores.{InEpochs, View}
 use Rattle.epoch_store.proofs.CarriedOut.{kept_low, read_leaves, reads_then, store_same, then_leaves}
-use Rattle.epoch_store.proofs.Edited.{edit_keeps, edit_low, edited_archive, undamaged_so}
+use Rattle.epoch_store.proofs.Edited.{edit_low, edited_archive, undamaged_so}
+use Rattle.epoch_store.proofs.KeptFiles.{edit_files}
 use Rattle.epoch_store.proofs.store.Store.edit_text.Goals as goal
 
 pub returns-in_err-planned-clause-any_moment : goal.returns-in_err-planned-clause-any_moment
@@ -61,3 +63,12 @@ returns-clause-done g c = λ number a cache gone store room shown is alone.
 
 pub returns-clause-untouched : goal.returns-clause-untouched
 returns-clause-untouched g c = reads_then g.D.Disk.content g.D.Disk.moment g.D.Disk.left_since g.D.Disk.faults c.carry_out.result c.args.disk.now c.plan_without.new.disk c.carry_out.new.disk c.plan_without.ensures.reads c.carry_out.ensures.untouched
+
+pub returns-clause-kept_files : goal.returns-clause-kept_files
+returns-clause-kept_files g c =
+    let v = c.args.self.now in
+    let q = c.plan_message.new.planned in
+    let new = c.carry_out.new.self in
+    let next_is : c.self.inside.root.next ≡ v.root.next = ap (λ (u : View). u.root.next) c.self.view_is in
+    on_ok_weaker c.carry_out.result (λ kept. edit_files v c.args.old.now c.in_ok-planned.planned c.in_ok-planned.ensures.planned c.args.text.now c.args.moment q c.in_ok-plan_message.ensures.planned new (subst (λ (n : ℕ). KeepsPlanned v q (n + 1) new) next_is kept))
+    c.carry_out.ensures.kept

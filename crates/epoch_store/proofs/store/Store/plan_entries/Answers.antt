@@ -1,14 +1,14 @@
 -- One more entry was taken.
-use Rattle.std.proofs.Common.{◌≡◌, ◌∙◌, ◌≤◌, ◌<◌, ◌+◌, ℕ, List, Ok, Err, Some, length, take, slice_get, sym, ap, subst, refl, arith}
+use Rattle.std.proofs.Common.{◌≡◌, ◌∙◌, List, length, take, sym, ap, subst, refl, arith}
 use Rattle.std.specs.List.{AllZip}
 use Rattle.disk_model.specs.Disk.{WhereTold}
 use Rattle.disk_model.specs.declared.name.FileName.{FileName}
 use Rattle.std.proofs.lemmas.List.{take_all}
 use Rattle.epoch_store.specs.declared.entries.StoredEntry.{StoredEntry}
-use Rattle.epoch_store.specs.Files.{epoch_file_of}
-use Rattle.epoch_store.specs.Planning.{ArePlansIn, Planning, PlansFirst}
+use Rattle.epoch_store.specs.Planning.{ArePlansIn, Planning, PlansFirst, is_anew, loses}
 use Rattle.epoch_store.specs.Stores.{KeptOf, View, without_blob}
 use Rattle.epoch_store.proofs.FindingTold.{reads_none, reads_both}
+use Rattle.epoch_store.proofs.Losing.{lost_more}
 use Rattle.epoch_store.proofs.Purged.{entry_at, first_none, first_more, first_stops, first_whole, kept_more, plans_none, rose_later_than}
 use Rattle.epoch_store.proofs.store.Store.plan_entries.Goals as goal
 
@@ -20,6 +20,7 @@ loop-entry-init g c =
     record {
       kept = subst (λ (p : Planning). AllZip KeptOf (without_blob (take 0 v.entries) blob.0) p.entries) none tt;
       plans = subst (ArePlansIn v.root) none (plans_none v.root);
+      changes = λ e. ap (λ (p : Planning). is_anew p e) c.requires.none;
       first = subst (λ (p : Planning). WhereTold (PlansFirst v blob 0 p) (g.D.Disk.content c.args.disk.now)) none (first_none v blob (g.D.Disk.content c.args.disk.now));
       reads = reads_none g.D.Disk.content g.D.Disk.moment g.D.Disk.left_since g.D.Disk.faults c.args.disk.now (λ image. g.met.D.Disk.only_now c.args.disk.now image);
       steady = refl;
@@ -55,6 +56,7 @@ loop-entry-preserved g c =
     record {
       kept = kept_more v.entries i e blob old.entries new.entries here inv.kept c.in-Ok.ensures.kept;
       plans = c.in-Ok.ensures.plans v.root c.file_of.ensures inv.plans;
+      changes = lost_more v.entries i e blob c.file_of.result.number old new here (ap (λ (f : FileName). f.number) c.file_of.ensures) inv.changes c.in-Ok.ensures.changes;
       first = first_more v blob i old new (g.D.Disk.content c.args.disk.now) (g.D.Disk.content c.loop-entry.disk) e c.file_of.result inv.reads.same here c.file_of.ensures inv.first c.in-Ok.ensures.taken;
       reads = reads_both g.D.Disk.content g.D.Disk.moment g.D.Disk.left_since g.D.Disk.faults c.args.disk.now c.loop-entry.disk c.take.new.disk inv.reads c.in-Ok.ensures.reads;
       steady = c.in-Ok.ensures.cause.kept (λ no. absurd (cc no)) ∙ inv.steady;
@@ -67,6 +69,13 @@ returns-clause-kept g c =
     let same : c.as_slice-entry-items.result.now ≡ v.entries = c.as_slice-entry-items.ensures.value ∙ ap (λ (u : View). u.entries) c.self.view_is in
     let size : length c.as_slice-entry-items.result.now ≡ length v.entries = ap length same in
     subst (λ (es : List StoredEntry). AllZip KeptOf (without_blob es c.args.blob.now.0) c.loop-entry.planned.entries) (take_all c.loop-entry.entry-index v.entries (omega (arith, c.loop-entry-test.false, size))) c.loop-entry.invariant.kept
+
+pub returns-clause-changes : goal.returns-clause-changes
+returns-clause-changes g c = λ n.
+    let v = c.args.self.now in
+    let same : c.as_slice-entry-items.result.now ≡ v.entries = c.as_slice-entry-items.ensures.value ∙ ap (λ (u : View). u.entries) c.self.view_is in
+    let size : length c.as_slice-entry-items.result.now ≡ length v.entries = ap length same in
+    subst (λ (es : List StoredEntry). is_anew c.loop-entry.planned n ≡ loses es c.args.blob.now.0 n) (take_all c.loop-entry.entry-index v.entries (omega (arith, c.loop-entry-test.false, size))) (c.loop-entry.invariant.changes n)
 
 pub returns-clause-all : goal.returns-clause-all
 returns-clause-all g c =

@@ -1,9 +1,10 @@
 -- The plans may be carried out, and on the store's own disk they are those of the archive without the
 -- text.
-use Rattle.std.proofs.Common.{◌≡◌, ◌∙◌, List, sym, ap, subst}
+use Rattle.std.proofs.Common.{◌≡◌, ◌∙◌, ◌-◌, List, sym, ap, subst}
 use Rattle.root_slots.specs.Slots.{slot_number}
 use Rattle.root_change.specs.Rewriting.{Plan}
-use Rattle.epoch_store.specs.Planning.{AreFrom, AreWithin, Planning}
+use Rattle.epoch_store.specs.Planning.{AreFrom, AreWithin, Planning, PlansLost}
+use Rattle.epoch_store.proofs.Losing.{finished_some}
 use Rattle.epoch_store.proofs.Purged.{ready_of}
 use Rattle.epoch_store.proofs.store.Store.plan_without.Goals as goal
 
@@ -22,7 +23,8 @@ pub returns-in-Ok-check_ranges-clause-planned : goal.returns-in-Ok-check_ranges-
 returns-in-Ok-check_ranges-clause-planned g c =
     let so = ready_of Planning c.args.self.now c.self.inside.root (slot_number c.self.inside.slot) c.self.inside.entries.items c.map_file.result c.plan_entries.new.planned c.finish.new.self c.self.view_is c.self.invariant.0 c.map_file.ensures c.in-Ok.ensures.plans c.in_ok-finish.ensures.finished c.in_ok-finish.ensures.ready in
     let plans : c.as_slice.result.now ≡ c.finish.new.self.plans = c.as_slice.ensures.value ∙ ap (λ (p : Planning). p.plans) c.planned-2.view_is in
-    so.purge c.args.blob.now c.in-Ok.ensures.kept (subst (λ (l : List Plan). AreWithin c.self.inside.root l) plans c.in-Ok-check_ranges.ensures.within)
+    let lost : PlansLost c.args.self.now.entries c.args.blob.now c.finish.new.self.plans = λ e. finished_some c.plan_entries.new.planned c.map_file.result (c.self.inside.root.next - 1) c.finish.new.self c.in_ok-finish.ensures.finished e ∙ c.in-Ok.ensures.changes e in
+    so.purge c.args.blob.now c.in-Ok.ensures.kept lost (subst (λ (l : List Plan). AreWithin c.self.inside.root l) plans c.in-Ok-check_ranges.ensures.within)
 
 pub returns-in-Ok-check_ranges-clause-own : goal.returns-in-Ok-check_ranges-clause-own
 returns-in-Ok-check_ranges-clause-own g c =

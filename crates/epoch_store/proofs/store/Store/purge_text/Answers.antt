@@ -1,10 +1,12 @@
 -- What is planned is carried out.
-use Rattle.std.proofs.Common.{◌≡◌, ◌∙◌, ℕ, sym, ap, subst}
+use Rattle.std.proofs.Common.{◌≡◌, ℕ, sym, ap, subst}
+use Rattle.std.proofs.lemmas.Result.{on_ok_weaker}
 use Rattle.arch_model.specs.Archives.{without_entries}
-use Rattle.epoch_store.specs.Planning.{Planning, PlansArchive}
+use Rattle.epoch_store.specs.Planning.{KeepsPlanned, Planning, PlansArchive}
 use Rattle.epoch_store.specs.Stores.{InEpochs, View}
-use Rattle.epoch_store.proofs.CarriedOut.{kept_low, purge_drops, purged_archive, read_leaves, reads_then, sizes_same, store_same, then_leaves, undamaged_as, undamaged_then, unless_any}
+use Rattle.epoch_store.proofs.CarriedOut.{kept_low, purged_archive, read_leaves, store_same, then_leaves, undamaged_as}
 use Rattle.epoch_store.proofs.Delivering.{store_keeps}
+use Rattle.epoch_store.proofs.KeptFiles.{purge_keeps}
 use Rattle.epoch_store.proofs.store.Store.purge_text.Goals as goal
 
 pub returns-in-Err-clause-any_moment : goal.returns-in-Err-clause-any_moment
@@ -42,3 +44,11 @@ returns-clause-done g c = λ number a cache text store room shown is.
     let made = subst (λ (n : ℕ). PlansArchive v.root cache a b p n) (sym next_is) (purged_archive v cache a text p (store_keeps v cache a (content d0) store) (c.in-Ok.ensures.own a cache text store is (number, shown))) in
     let still = store_same v cache a (content d0) (content d1) c.in-Ok.ensures.reads.same store in
     c.carry_out.ensures.done a b cache still room made
+
+pub returns-clause-kept_files : goal.returns-clause-kept_files
+returns-clause-kept_files g c =
+    let v = c.args.self.now in
+    let p = c.in-Ok.planned in
+    let new = c.carry_out.new.self in
+    let next_is : c.self.inside.root.next ≡ v.root.next = ap (λ (u : View). u.root.next) c.self.view_is in
+    on_ok_weaker c.carry_out.result (λ kept. purge_keeps v c.args.blob.now p c.in-Ok.ensures.planned new (subst (λ (n : ℕ). KeepsPlanned v p n new) next_is kept)) c.carry_out.ensures.kept
