@@ -1,6 +1,7 @@
 //! The rows of mails by number, by id, and by date and number.
 #![tactic(auto)]
 
+mod held;
 mod laws;
 mod newest;
 mod overview;

@@ -2,6 +2,7 @@
 ghost use Rattle.std.specs.Prelude.{◌≡◌, [], map, take, drop, None, IfOk, OnOk, OnErr, is_some, option_copied};
 ghost use Rattle.overview_index.specs.Listings.{row_in, number_of, number_at, with_row, without, listing, rows_numbered, live_between, IsLeastFrom, IsGreatestTo};
 
+use crate::held::Held;
 use crate::newest::newest_first;
 use crate::spot::Spot;
 use crate::views::Views;
@@ -18,7 +19,7 @@ use std::marker::Model;
 /// and its id once more.
 #[derive(Drop)]
 pub struct Overview {
-    rows: BTreeMap<u32, Row>,
+    rows: BTreeMap<u32, Held>,
     views: Views,
     alloc: Global,
 }
@@ -59,7 +60,7 @@ impl Overview {
     {
         let (number, spot) = (row.number, Spot::of(&row));
         let id = row.id.copy()?.into_vec();
-        self.rows.insert(number, row)?;
+        self.rows.insert(number, Held::new(self.alloc, row)?)?;
         if let Err(refused) = self.views.add(id, spot) {
             let _ = self.rows.remove(&number);
             return Err(refused);
@@ -73,8 +74,9 @@ impl Overview {
         ensures rows { self.new ≡ without self.old n }
     {
         match self.rows.remove(&n) {
-            Some(row) => {
-                self.views.remove(row.id.as_slice(), Spot::of(&row));
+            Some(held) => {
+                let row = held.row();
+                self.views.remove(row.id.as_slice(), Spot::of(row));
                 true
             }
             None => false,
@@ -85,7 +87,10 @@ impl Overview {
     pub fn get(&self, n: u32) -> Option<&Row>
         ensures { option_copied result ≡ row_in self.now n }
     {
-        self.rows.get(&n)
+        match self.rows.get(&n) {
+            Some(held) => Some(held.row()),
+            None => None,
+        }
     }
 
     /// Returns the number of the row with an id.

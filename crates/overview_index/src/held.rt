@@ -1,0 +1,43 @@
+//! A row by itself on the heap.
+ghost use Rattle.std.specs.Prelude.{◌≡◌, IfOk};
+
+use arch_base::NoMemory;
+use mail_forms::Row;
+use std::alloc::Global;
+use std::marker::Model;
+
+/// A row by itself on the heap.
+///
+/// A map keeps room for more values than it has, and moves them as it grows. So it is to hold a row's
+/// address, and not its 232 bytes.
+#[derive(Drop)]
+pub(crate) struct Held {
+    row: Box<Row>,
+}
+
+// A clause sees the row.
+impl Model for Held {
+    ghost use Rattle.mail_forms.specs.declared.row.Row.{Row};
+
+    ghost Value = { Row };
+
+    ghost view = { λ h. h.row.value };
+}
+
+impl Held {
+    /// Puts a row on the heap. `NoMemory` drops it.
+    pub(crate) fn new(alloc: Global, row: Row) -> Result<Held, NoMemory>
+        ensures { IfOk result (λ held. held ≡ row) }
+    {
+        Ok(Held {
+            row: Box::new(alloc, row)?,
+        })
+    }
+
+    /// Returns the row.
+    pub(crate) fn row(&self) -> &Row
+        ensures { result.now ≡ self.now }
+    {
+        &self.row
+    }
+}
