@@ -1,5 +1,5 @@
 -- What was walked through so far, and the views of its live messages.
-use Rattle.std.specs.Prelude.{◌≡◌, ◌+◌, ◌<◌, ◌≤◌, ◌&&◌, ℕ, zero, suc, Bool, true, false, not, List, [], ◌∷◌, ◌++◌, length, take, slice_get, Some, None, refl, if◌then◌else◌}
+use Rattle.std.specs.Prelude.{◌≡◌, ◌+◌, ◌<◌, ◌≤◌, ◌&&◌, ℕ, zero, suc, Bool, true, false, not, List, [], ◌∷◌, ◌++◌, length, take, slice_get, Some, None, Err, refl, if◌then◌else◌}
 use Rattle.std.proofs.Common.{◌∙◌, sym, ap, subst, arith}
 use Rattle.git_objects.specs.declared.entry_kind.EntryKind.{EntryKind}
 use Rattle.git_objects.specs.declared.entry_kind.EntryKind.TheVariants.{Message, Deletion}
@@ -8,12 +8,14 @@ use Rattle.arch_model.specs.Archives.{Entry, Archive, message, deletion, is_mess
 use Rattle.arch_model.specs.Rows.{row_of}
 use Rattle.arch_model.specs.Shelves.{line_after, lines_after, line_at}
 use Rattle.arch_model.specs.Validity.{IsArchive, IsFrom, Rise, number_after}
-use Rattle.arch_model.specs.Walking.{WalksOn}
+use Rattle.arch_model.specs.Walking.{GivesLine, WalksOn}
+use Rattle.arch_model.specs.declared.text_refusal.TextRefusal.{TextRefusal}
+use Rattle.arch_model.specs.declared.text_refusal.TextRefusal.TheVariants as refusal
 use Rattle.arch_model.specs.declared.line.EntryLine.{EntryLine}
 use Rattle.arch_model.proofs.LiveEntries.{live-message, live-deletion, without as without_number}
 use Rattle.overview_index.proofs.Messages.{AllBelow, Ascends}
 use Rattle.view_set.specs.Viewed.{Viewed, with_mail, without_mail, views_of}
-use Rattle.view_set.specs.Walks.{AddsRowAt}
+use Rattle.view_set.specs.Walks.{AddsRowAt, IsDamagedAt, NamesBlob}
 use Rattle.view_set.proofs.MailLists.{mails-added, mails-taken}
 
 only : {X : Type 0} (x y : X) → Some x ≡ Some y → x ≡ y
@@ -146,3 +148,14 @@ module _ {W : Type 0} (holds : W → Archive → Type 0) (sound : W → Type 0) 
     lines_are = second.lines_are ∙ first.lines_are;
     later = (let one : faults w ≤ faults x = first.later in let two : faults x ≤ faults y = second.later in omega (arith, one, two));
   }
+
+-- A damaged text is that of the line that was read.
+pub blob-named : (line : EntryLine) (before after : List ℕ) (why : TextRefusal) → GivesLine line before after (Err why) → NamesBlob line.blob why
+blob-named line before after refusal.DiskFault gives = tt
+blob-named line before after (refusal.Damaged named found) gives = (gives.1, gives.2)
+blob-named line before after refusal.NoMemory gives = tt
+
+pub damaged-at : (lines : List EntryLine) (index : ℕ) (line : EntryLine) (why : TextRefusal) → slice_get lines index ≡ Some line → line.kind ≡ Message → NamesBlob line.blob why → IsDamagedAt lines index why
+damaged-at lines index line refusal.DiskFault here kind names = tt
+damaged-at lines index line (refusal.Damaged named found) here kind names = (line, here, kind, names.0, names.1)
+damaged-at lines index line refusal.NoMemory here kind names = tt

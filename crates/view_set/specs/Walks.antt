@@ -1,9 +1,14 @@
 -- What a walk through entries makes of the rows of live messages.
-use Rattle.std.specs.Prelude.{◌≡◌, ◌<◌, ℕ, List, Result, Ok, Err}
+use Rattle.std.specs.Prelude.{◌≡◌, ◌≢◌, ◌<◌, ℕ, List, Some, slice_get, Result, Ok, Err}
+use Rattle.arch_base.specs.declared.ids.Id20.{Id20}
+use Rattle.git_objects.specs.declared.entry_kind.EntryKind.TheVariants.{Message}
 use Rattle.arch_model.specs.Archives.{Entry}
 use Rattle.arch_model.specs.Rows.{row_of}
 use Rattle.arch_model.specs.Shelves.{ReadingWhy, IsUndamaged}
 use Rattle.arch_model.specs.Walking.{HasTextAt}
+use Rattle.arch_model.specs.declared.line.EntryLine.{EntryLine}
+use Rattle.arch_model.specs.declared.text_refusal.TextRefusal.{TextRefusal}
+use Rattle.arch_model.specs.declared.text_refusal.TextRefusal.TheVariants as refusal
 use Rattle.mime_parts.specs.Words.{mail_words}
 use Rattle.view_set.specs.Viewed.{Viewed, with_mail}
 use Rattle.view_set.specs.declared.rebuilding.Unread.{Unread}
@@ -22,6 +27,25 @@ WalksUndamaged (Err unread) = IsUndamaged unread.why
 abbrev pub StopsWithin : {T : Type 0} → ℕ → Result T Unread → Type 0
 StopsWithin count (Ok rows) = Unit {0}
 StopsWithin count (Err unread) = unread.index < count
+
+-- A damaged text is told by this blob id, and by another one of what was found.
+abbrev pub NamesBlob : Id20 → TextRefusal → Type 0
+NamesBlob blob refusal.DiskFault = Unit {0}
+NamesBlob blob (refusal.Damaged named found) = (named ≡ blob) × (found ≢ named)
+NamesBlob blob refusal.NoMemory = Unit {0}
+
+-- A damaged text is that of the message at this index.
+abbrev pub IsDamagedAt : List EntryLine → ℕ → TextRefusal → Type 0
+IsDamagedAt lines index refusal.DiskFault = Unit {0}
+IsDamagedAt lines index (refusal.Damaged named found) = (line : EntryLine)
+    × (slice_get lines index ≡ Some line) × (line.kind ≡ Message) × (named ≡ line.blob)
+    × (found ≢ named)
+IsDamagedAt lines index refusal.NoMemory = Unit {0}
+
+-- If the walk stopped at a damaged text, it tells which one that is.
+abbrev pub TellsDamage : {T : Type 0} → List EntryLine → Result T Unread → Type 0
+TellsDamage lines (Ok rows) = Unit {0}
+TellsDamage lines (Err unread) = IsDamagedAt lines unread.index unread.why
 
 -- The row and the words of the text of the entry at an index were added, with a number and a moment.
 abbrev pub AddsRowAt : List Entry → ℕ → ℕ → ℕ → Viewed → Viewed → Type 0

@@ -4,7 +4,7 @@ ghost use Rattle.arch_model.specs.Archives.{Archive, live};
 ghost use Rattle.view_set.specs.Viewed.{views_of, no_mails};
 ghost use Rattle.arch_model.specs.Shelves.{line_at, ReadCause, IsUndamaged};
 ghost use Rattle.arch_model.specs.Walking.{WalksOn};
-ghost use Rattle.view_set.specs.Walks.{AddsRowAt, WalkWhy, WalksUndamaged, StopsWithin};
+ghost use Rattle.view_set.specs.Walks.{AddsRowAt, IsDamagedAt, NamesBlob, TellsDamage, WalkWhy, WalksUndamaged, StopsWithin};
 
 use crate::rows::add_if_stored;
 use crate::views::Views;
@@ -26,14 +26,15 @@ pub struct Unread {
 /// removals would have made. Reads each message once, for its row and its words.
 ///
 /// A refusal has the index of the entry at which the walk stopped. `DiskFault` if a read failed, and
-/// the count of faults rose; `Damaged` if a text has another id than its entry's blob, which never
-/// happens while an archive is held; `NoMemory` if an allocation fails.
+/// the count of faults rose; `Damaged` if the text of that entry, a message, has another id than its
+/// blob, which never happens while an archive is held; `NoMemory` if an allocation fails.
 pub fn rebuild<W: Walked>(alloc: Global, walked: &mut W) -> Result<Views, Unread>
     ensures rows { (a : Archive) → W.holds walked.old a
         → IfOk result (λ views. views ≡ views_of (live a.entries)) }
     ensures undamaged { (a : Archive) → W.holds walked.old a → WalksUndamaged result }
     ensures sound { W.sound walked.old → WalksUndamaged result }
     ensures within { StopsWithin (length (W.lines walked.old)) result }
+    ensures damage { TellsDamage (W.lines walked.old) result }
     ensures walk { WalksOn W.holds W.sound W.lines W.alike W.faults walked.old walked.new }
     ensures cause { WalkWhy (W.faults walked.old) (W.faults walked.new) result }
 {
@@ -52,6 +53,7 @@ fn fill<W: Walked>(alloc: Global, walked: &mut W, views: &mut Views) -> Result<(
     ensures undamaged { (a : Archive) → W.holds walked.old a → WalksUndamaged result }
     ensures sound { W.sound walked.old → WalksUndamaged result }
     ensures within { StopsWithin (length (W.lines walked.old)) result }
+    ensures damage { TellsDamage (W.lines walked.old) result }
     ensures walk { WalksOn W.holds W.sound W.lines W.alike W.faults walked.old walked.new }
     ensures cause { WalkWhy (W.faults walked.old) (W.faults walked.new) result }
 {
@@ -89,6 +91,7 @@ fn take_line<W: Walked>(
         → OnOk result (views.new ≡ views_of (live (take (index + 1) a.entries))) }
     ensures undamaged { (a : Archive) → W.holds walked.old a → IfErr result IsUndamaged }
     ensures sound { W.sound walked.old → IfErr result IsUndamaged }
+    ensures damage { IfErr result (λ why. IsDamagedAt (W.lines walked.old) index why) }
     ensures walk { WalksOn W.holds W.sound W.lines W.alike W.faults walked.old walked.new }
     ensures cause { ReadCause (W.faults walked.old) (W.faults walked.new) result }
 {
@@ -115,6 +118,7 @@ fn add_message<W: Walked>(
         line.now.number line.now.secs views.old views.new) }
     ensures undamaged { (a : Archive) → W.holds walked.old a → IfErr result IsUndamaged }
     ensures sound { W.sound walked.old → IfErr result IsUndamaged }
+    ensures damage { IfErr result (NamesBlob line.now.blob) }
     ensures walk { WalksOn W.holds W.sound W.lines W.alike W.faults walked.old walked.new }
     ensures cause { ReadCause (W.faults walked.old) (W.faults walked.new) result }
 {

@@ -1,6 +1,7 @@
 use Rattle.std.proofs.Common.{◌∙◌, ◌<◌, length, sym, ap, subst, arith, rules, []}
 use Rattle.arch_model.specs.Archives.{live}
 use Rattle.view_set.specs.Viewed.{views_of}
+use Rattle.view_set.specs.Walks.{IsDamagedAt}
 use Rattle.arch_model.proofs.Shelving.{why-earlier}
 use Rattle.view_set.proofs.Walking.{walks-same, walks-joined, take-zero, take-all, line-within}
 use Rattle.view_set.proofs.rebuilding.fill.Goals as goal
@@ -52,3 +53,6 @@ returns-in-Err-clause-sound g c = λ sound. c.in-Err.ensures.sound (c.loop-line.
 pub returns-in-Err-clause-within : goal.returns-in-Err-clause-within
 returns-in-Err-clause-within g c =
     subst (λ ls. c.loop-line.index < length ls) c.loop-line.invariant.walk.lines_are (line-within (g.W.Walked.lines c.loop-line.walked) c.loop-line.index c.in-Some.line (sym c.in-Some.ensures.line))
+
+pub returns-in-Err-clause-damage : goal.returns-in-Err-clause-damage
+returns-in-Err-clause-damage g c = subst (λ ls. IsDamagedAt ls c.loop-line.index c.in-Err.why) c.loop-line.invariant.walk.lines_are c.in-Err.ensures.damage

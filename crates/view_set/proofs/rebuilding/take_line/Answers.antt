@@ -1,5 +1,5 @@
-use Rattle.view_set.proofs.Results.{on-weaker}
-use Rattle.view_set.proofs.Walking.{views-message, views-deletion, walks-same}
+use Rattle.view_set.proofs.Results.{err-weaker, on-weaker}
+use Rattle.view_set.proofs.Walking.{damaged-at, views-message, views-deletion, walks-same}
 use Rattle.view_set.proofs.rebuilding.take_line.Goals as goal
 
 pub returns-in-Message-clause-rows : goal.returns-in-Message-clause-rows
@@ -16,3 +16,8 @@ returns-in-Ok-clause-walk g c = walks-same g.W.Walked.holds g.W.Walked.sound g.W
 
 pub returns-in-Err-clause-walk : goal.returns-in-Err-clause-walk
 returns-in-Err-clause-walk g c = walks-same g.W.Walked.holds g.W.Walked.sound g.W.Walked.lines g.W.Walked.alike g.W.Walked.faults g.met.W.Walked.alike_same g.met.W.Walked.alike_joined c.args.walked.now
+
+-- A text that is damaged is that of the message.
+pub returns-in-Message-clause-damage : goal.returns-in-Message-clause-damage
+returns-in-Message-clause-damage g c =
+    err-weaker c.add_message.result _ _ (λ why names. damaged-at (g.W.Walked.lines c.args.walked.now) c.args.index c.args.line.now why c.requires.line c.in-Message.is names) c.add_message.ensures.damage
