@@ -1,25 +1,18 @@
 -- What an edit promises, by the comparison with the live text and by the delivery in its place.
-use Rattle.std.specs.Prelude.{◌≡◌, ℕ, Bool, true, false, List, [], Option, Some, None, Result, Ok, Err, is_some, refl}
-use Rattle.std.proofs.Common.{◌∙◌, sym, ap, subst}
+use Rattle.std.specs.Prelude.{◌≡◌, ℕ, Bool, true, false, List, [], Option, Some, Result, Ok, Err, refl}
+use Rattle.std.proofs.Common.{sym, ap, subst}
 use Rattle.arch_base.specs.Counts.{RoseIf}
 use Rattle.disk_model.specs.Disk.{Content, Told, Unchanged, WhereTold}
 use Rattle.mail_reader.specs.Stored.{stored}
-use Rattle.arch_model.specs.Archives.{Archive, Entry, live, text_of}
+use Rattle.arch_model.specs.Archives.{Archive, live, text_of}
 use Rattle.arch_model.specs.Delivery.{edited, is_form}
 use Rattle.arch_model.specs.declared.answer.Answer.{Answer}
 use Rattle.arch_model.specs.declared.answer.Answer.TheVariants as answer
 use Rattle.epoch_store.specs.Stores.{View, HasSizes, IsStoreWith}
-use Rattle.archive_core.specs.Commands.{AnswersEdit, DoneBy, IfUnread, IfUnreadEdit, OnDone, OnRefusal, TellsText, UnlessFault}
+use Rattle.archive_core.specs.Commands.{AnswersEdit, DoneBy, IfUnread, IfUnreadEdit, OnDone, TellsText}
 use Rattle.archive_core.specs.Engines.{unchanged-is}
 use Rattle.archive_core.specs.Rewriting.{ComparesForm, IsUnformed}
 use Rattle.archive_core.proofs.WithoutText.{edited-formless, edited-large, edited-same, left-done}
-
--- A live number has a text.
-pub shown-text : (es : List Entry) (n : ℕ) → is_some (text_of es n) ≡ true → (text : List ℕ) × (text_of es n ≡ Some text)
-shown-text es n is = by (text_of es n) refl where
-  by : (o : Option (List ℕ)) → text_of es n ≡ o → (text : List ℕ) × (text_of es n ≡ Some text)
-  by None none = absurd (let wrong : false ≡ true = sym (ap is_some none) ∙ is in cc)
-  by (Some text) some = (text, some)
 
 -- An answer of the comparison.
 pub unformed-unmoved : (reply : Answer) (P : Type 0) → IsUnformed reply → IfUnread reply P → IfUnreadEdit reply P
@@ -77,50 +70,6 @@ unformed-never (answer.NotLive n) P one = tt
 unformed-never (answer.NoText n) P one = tt
 unformed-never answer.IsMirror P one = tt
 unformed-never (answer.Damaged file at) P one = tt
-
--- What holds in any case holds after a refusal, and unless a call of the disk failed.
-pub when-refused : (reply : Answer) (P : Type 0) → P → OnRefusal reply P
-when-refused (answer.Ok n id) P is = tt
-when-refused answer.NoMemory P is = is
-when-refused answer.DiskFault P is = is
-when-refused (answer.Duplicate n) P is = is
-when-refused answer.NoFields P is = is
-when-refused (answer.TooLarge len) P is = is
-when-refused (answer.Full max) P is = is
-when-refused (answer.Collision n) P is = is
-when-refused (answer.NotLive n) P is = is
-when-refused (answer.NoText n) P is = is
-when-refused answer.IsMirror P is = is
-when-refused (answer.Damaged file at) P is = is
-
-pub unless-failed : (reply : Answer) (P : Type 0) → P → UnlessFault reply P
-unless-failed (answer.Ok n id) P is = is
-unless-failed answer.NoMemory P is = is
-unless-failed answer.DiskFault P is = tt
-unless-failed (answer.Duplicate n) P is = is
-unless-failed answer.NoFields P is = is
-unless-failed (answer.TooLarge len) P is = is
-unless-failed (answer.Full max) P is = is
-unless-failed (answer.Collision n) P is = is
-unless-failed (answer.NotLive n) P is = is
-unless-failed (answer.NoText n) P is = is
-unless-failed answer.IsMirror P is = is
-unless-failed (answer.Damaged file at) P is = is
-
--- What follows from what holds after `Ok`.
-pub done-then : (reply : Answer) (P Q : Type 0) → (P → Q) → OnDone reply P → OnDone reply Q
-done-then (answer.Ok n id) P Q then is = then is
-done-then answer.NoMemory P Q then is = tt
-done-then answer.DiskFault P Q then is = tt
-done-then (answer.Duplicate n) P Q then is = tt
-done-then answer.NoFields P Q then is = tt
-done-then (answer.TooLarge len) P Q then is = tt
-done-then (answer.Full max) P Q then is = tt
-done-then (answer.Collision n) P Q then is = tt
-done-then (answer.NotLive n) P Q then is = tt
-done-then (answer.NoText n) P Q then is = tt
-done-then answer.IsMirror P Q then is = tt
-done-then (answer.Damaged file at) P Q then is = tt
 
 -- The sizes of a disk that was only read.
 pub sizes-read : (v : View) (old new : Option Content) → Told Unchanged old new → WhereTold (HasSizes v) old → WhereTold (HasSizes v) new

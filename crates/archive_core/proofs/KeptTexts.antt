@@ -1,6 +1,7 @@
 -- A delivery that isn't accepted keeps no text.
 use Rattle.std.specs.Prelude.{◌≡◌, ℕ, List, true}
 use Rattle.std.proofs.Common.{sym, subst}
+use Rattle.disk_model.specs.declared.name.FileName.{FileName}
 use Rattle.arch_model.specs.declared.answer.Answer.{Answer}
 use Rattle.arch_model.specs.declared.answer.Answer.TheVariants as answer
 use Rattle.arch_model.specs.declared.command.Command.{Command}
@@ -40,21 +41,31 @@ refuse-done v answer.IsMirror P is = tt
 refuse-done v answer.DiskFault P is = tt
 refuse-done v (answer.Damaged file at) P is = tt
 
-error_tells : (why : StoreRefusal) (text : List ℕ) → TellsText (refusal_answer why) text
-error_tells refusal.DiskFault text = tt
-error_tells refusal.NoMemory text = tt
-error_tells (refusal.Damaged file at) text = tt
+pub refuse-answers : (v : View) (reply : Answer) → TakesWhatMay v (Refuse reply) → AnswersDelivery reply
+refuse-answers v (answer.Ok n id) never = absurd never
+refuse-answers v answer.NoMemory is = tt
+refuse-answers v answer.DiskFault is = tt
+refuse-answers v (answer.Duplicate n) is = tt
+refuse-answers v answer.NoFields is = tt
+refuse-answers v (answer.TooLarge len) is = tt
+refuse-answers v (answer.Full max) is = tt
+refuse-answers v (answer.Collision n) is = tt
+refuse-answers v (answer.NotLive n) never = absurd never
+refuse-answers v (answer.NoText n) never = absurd never
+refuse-answers v answer.IsMirror is = tt
+refuse-answers v (answer.Damaged file at) is = tt
+
+-- What holds of each answer for an error of the store.
+pub error-then : (why : StoreRefusal) (P : Answer → Type 0) → P answer.DiskFault → P answer.NoMemory → ((file : FileName) (at : ℕ) → P (answer.Damaged file at)) → P (refusal_answer why)
+error-then refusal.DiskFault P fault short damage = fault
+error-then refusal.NoMemory P fault short damage = short
+error-then (refusal.Damaged file at) P fault short damage = damage file at
 
 pub error-tells : (why : StoreRefusal) (reply : Answer) (text : List ℕ) → reply ≡ refusal_answer why → TellsText reply text
-error-tells why reply text is = subst (λ (r : Answer). TellsText r text) (sym is) (error_tells why text)
-
-error_done : (why : StoreRefusal) (P : Type 0) → OnDone (refusal_answer why) P
-error_done refusal.DiskFault P = tt
-error_done refusal.NoMemory P = tt
-error_done (refusal.Damaged file at) P = tt
+error-tells why reply text is = subst (λ (r : Answer). TellsText r text) (sym is) (error-then why (λ (r : Answer). TellsText r text) tt tt (λ file at. tt))
 
 pub error-done : (why : StoreRefusal) (reply : Answer) (P : Type 0) → reply ≡ refusal_answer why → OnDone reply P
-error-done why reply P is = subst (λ (r : Answer). OnDone r P) (sym is) (error_done why P)
+error-done why reply P is = subst (λ (r : Answer). OnDone r P) (sym is) (error-then why (λ (r : Answer). OnDone r P) tt tt (λ file at. tt))
 
 -- An answer to a delivery is one to an edit.
 pub delivery-edit : (number : ℕ) (reply : Answer) → AnswersDelivery reply → AnswersEdit number reply
@@ -77,18 +88,3 @@ for-delivery (Deliver bytes) reply delivers is = is
 for-delivery (Remove number) reply delivers is = absurd (cc)
 for-delivery (Purge number) reply delivers is = absurd (cc)
 for-delivery (Edit number bytes) reply delivers is = delivery-edit number reply is
-
--- What holds in any case holds after Ok.
-pub when-done : (reply : Answer) (P : Type 0) → P → OnDone reply P
-when-done (answer.Ok number id) P is = is
-when-done (answer.Duplicate number) P is = tt
-when-done answer.NoFields P is = tt
-when-done (answer.TooLarge len) P is = tt
-when-done (answer.Full max) P is = tt
-when-done (answer.Collision number) P is = tt
-when-done (answer.NotLive number) P is = tt
-when-done (answer.NoText number) P is = tt
-when-done answer.IsMirror P is = tt
-when-done answer.DiskFault P is = tt
-when-done (answer.Damaged file at) P is = tt
-when-done answer.NoMemory P is = tt

@@ -12,6 +12,7 @@ mod ByIndex
 mod Removing
 mod RisingPlaces
 mod KeepingUp
+mod Replies
 mod KeptTexts
 mod OpeningRows
 mod Unmoved
@@ -20,6 +21,7 @@ mod WithoutText
 mod EditCompares
 mod EditDone
 mod EditKept
+mod Taking
 mod Redone
 mod Walking
 pub mod Engines

@@ -1,12 +1,13 @@
 -- What the calls of a purge and an edit promise, by the calls of the store.
-use Rattle.std.specs.Prelude.{◌≡◌, ◌+◌, ◌-◌, ◌<◌, ◌≤◌, ◌^◌, ℕ, List, [], Option, Some, None, Result, Ok, Err, OnOk, OnErr, refl}
-use Rattle.std.proofs.Common.{◌∙◌, sym, ap, subst, arith}
+use Rattle.std.specs.Prelude.{◌≡◌, ◌+◌, ◌-◌, ◌<◌, ◌^◌, ℕ, List, [], Option, Some, None, Result, Ok, Err, refl}
+use Rattle.std.proofs.Common.{sym, ap, subst, arith}
 use Rattle.arch_base.specs.Counts.{RoseIf}
 use Rattle.arch_base.specs.declared.ids.Id20.{Id20}
 use Rattle.disk_model.specs.Disk.{Files, Content, Image, WhereTold, LeavesOnly}
 use Rattle.disk_model.specs.Synced.{IsSettled}
+use Rattle.disk_model.specs.declared.name.FileName.{FileName}
 use Rattle.git_objects.specs.Objects.{blob_id_of}
-use Rattle.arch_model.specs.Archives.{Archive, live, messages, text_of, with_entry, without_entries}
+use Rattle.arch_model.specs.Archives.{Archive, live, text_of, with_entry, without_entries}
 use Rattle.arch_model.specs.Delivery.{Done, collision, delivered, new_epoch, unless_refused}
 use Rattle.arch_model.specs.declared.answer.Answer.{Answer}
 use Rattle.arch_model.specs.declared.answer.Answer.TheVariants as answer
@@ -19,13 +20,15 @@ use Rattle.epoch_file.specs.Runs.{OnlyReads}
 use Rattle.epoch_store.specs.Laws.{StoreRecovers}
 use Rattle.epoch_store.specs.Planning.{PlansUndamaged}
 use Rattle.epoch_store.specs.Stores.{View, HasSizes, IsStoreWith, Keeps, MayPurge, RecoversOneOf, Rewrites, SeesNoDamage, UnlessFailed, without_blob}
-use Rattle.archive_core.specs.Commands.{AnswersDelivery, DoneBy, IfUnreadEdit, IsLiveOf, OnDone, OnRefusal, OnlyLooks, UnlessFault, refusal_answer}
+use Rattle.archive_core.specs.Commands.{AnswersDelivery, DoneBy, IfUnreadEdit, OnDone, OnlyLooks, refusal_answer}
 use Rattle.archive_core.specs.Engines.{unchanged-is}
 use Rattle.archive_core.specs.Kept.{IndexesKept}
-use Rattle.archive_core.specs.Rewriting.{DropsAs, EditsAs, JudgesEdit, ReplacesAs, late_answer}
+use Rattle.archive_core.specs.Rewriting.{EditsAs, JudgesEdit, Replaces, RewritesAs, late_answer}
 use Rattle.archive_core.specs.Walks.{looks-same, looks-joined}
-use Rattle.archive_core.proofs.KeptTexts.{error-done}
+use Rattle.archive_core.proofs.KeptTexts.{error-done, error-then}
+use Rattle.archive_core.proofs.Replies.{when-refused, unless-failed}
 use Rattle.archive_core.proofs.Standing.{not-started, only-read, read-first, still_own, store_keeps}
+use Rattle.archive_core.proofs.Taking.{error-cause, error-unless, failed-done, still-sized}
 use Rattle.archive_core.proofs.WithoutText.{index-without, live-message-is, message-agrees, purge-blob, refused-edit, unless-taken}
 
 -- A refusal has the same cause, whatever would have been given.
@@ -47,75 +50,28 @@ undamaged_by T U refusal.NoMemory is = tt
 undamaged_by T U (refusal.Damaged file at) is = absurd is
 
 -- What a refusal that comes late is, by the one that was given.
+late-then : (reply : Answer) (P : Answer → Type 0) → ((n : ℕ) → P (answer.Duplicate n)) → ((max : ℕ) → P (answer.Full max)) → ((n : ℕ) → P (answer.Collision n)) → P answer.DiskFault → ((file : FileName) (at : ℕ) → P (answer.Damaged file at)) → P answer.NoMemory → P (late_answer reply)
+late-then (answer.Ok n id) P same full other fault damage short = short
+late-then answer.NoMemory P same full other fault damage short = short
+late-then answer.DiskFault P same full other fault damage short = fault
+late-then (answer.Duplicate n) P same full other fault damage short = same n
+late-then answer.NoFields P same full other fault damage short = short
+late-then (answer.TooLarge len) P same full other fault damage short = short
+late-then (answer.Full max) P same full other fault damage short = full max
+late-then (answer.Collision n) P same full other fault damage short = other n
+late-then (answer.NotLive n) P same full other fault damage short = short
+late-then (answer.NoText n) P same full other fault damage short = short
+late-then answer.IsMirror P same full other fault damage short = short
+late-then (answer.Damaged file at) P same full other fault damage short = damage file at
+
 late-never : (reply : Answer) (P : Type 0) → OnDone (late_answer reply) P
-late-never (answer.Ok n id) P = tt
-late-never answer.NoMemory P = tt
-late-never answer.DiskFault P = tt
-late-never (answer.Duplicate n) P = tt
-late-never answer.NoFields P = tt
-late-never (answer.TooLarge len) P = tt
-late-never (answer.Full max) P = tt
-late-never (answer.Collision n) P = tt
-late-never (answer.NotLive n) P = tt
-late-never (answer.NoText n) P = tt
-late-never answer.IsMirror P = tt
-late-never (answer.Damaged file at) P = tt
-
-late-refuses : (reply : Answer) (P : Type 0) → P → OnRefusal (late_answer reply) P
-late-refuses (answer.Ok n id) P is = is
-late-refuses answer.NoMemory P is = is
-late-refuses answer.DiskFault P is = is
-late-refuses (answer.Duplicate n) P is = is
-late-refuses answer.NoFields P is = is
-late-refuses (answer.TooLarge len) P is = is
-late-refuses (answer.Full max) P is = is
-late-refuses (answer.Collision n) P is = is
-late-refuses (answer.NotLive n) P is = is
-late-refuses (answer.NoText n) P is = is
-late-refuses answer.IsMirror P is = is
-late-refuses (answer.Damaged file at) P is = is
-
-unless-fault : (reply : Answer) (P : Type 0) → P → UnlessFault reply P
-unless-fault (answer.Ok n id) P is = is
-unless-fault answer.NoMemory P is = is
-unless-fault answer.DiskFault P is = tt
-unless-fault (answer.Duplicate n) P is = is
-unless-fault answer.NoFields P is = is
-unless-fault (answer.TooLarge len) P is = is
-unless-fault (answer.Full max) P is = is
-unless-fault (answer.Collision n) P is = is
-unless-fault (answer.NotLive n) P is = is
-unless-fault (answer.NoText n) P is = is
-unless-fault answer.IsMirror P is = is
-unless-fault (answer.Damaged file at) P is = is
+late-never reply P = late-then reply (λ (r : Answer). OnDone r P) (λ n. tt) (λ max. tt) (λ n. tt) tt (λ file at. tt) tt
 
 late-read : (reply : Answer) → IfUnreadEdit (late_answer reply) ⊥
-late-read (answer.Ok n id) = tt
-late-read answer.NoMemory = tt
-late-read answer.DiskFault = tt
-late-read (answer.Duplicate n) = tt
-late-read answer.NoFields = tt
-late-read (answer.TooLarge len) = tt
-late-read (answer.Full max) = tt
-late-read (answer.Collision n) = tt
-late-read (answer.NotLive n) = tt
-late-read (answer.NoText n) = tt
-late-read answer.IsMirror = tt
-late-read (answer.Damaged file at) = tt
+late-read reply = late-then reply (λ (r : Answer). IfUnreadEdit r ⊥) (λ n. tt) (λ max. tt) (λ n. tt) tt (λ file at. tt) tt
 
 late-delivery : (reply : Answer) → AnswersDelivery (late_answer reply)
-late-delivery (answer.Ok n id) = tt
-late-delivery answer.NoMemory = tt
-late-delivery answer.DiskFault = tt
-late-delivery (answer.Duplicate n) = tt
-late-delivery answer.NoFields = tt
-late-delivery (answer.TooLarge len) = tt
-late-delivery (answer.Full max) = tt
-late-delivery (answer.Collision n) = tt
-late-delivery (answer.NotLive n) = tt
-late-delivery (answer.NoText n) = tt
-late-delivery answer.IsMirror = tt
-late-delivery (answer.Damaged file at) = tt
+late-delivery reply = late-then reply AnswersDelivery (λ n. tt) (λ max. tt) (λ n. tt) tt (λ file at. tt) tt
 
 late-cause : (reply : Answer) (before now : ℕ) → RoseIf (reply ≡ answer.DiskFault) before now → RoseIf (late_answer reply ≡ answer.DiskFault) before now
 late-cause (answer.Ok n id) before now rose = record { later = rose.later; failed = λ fault. absurd (cc fault); kept = λ never. rose.kept (λ fault. absurd (cc fault)) }
@@ -162,11 +118,10 @@ module _ {D : Type 0} (content : D → Option Content) (moment : D → ℕ) (lef
   quiet_cause disk = record { later = omega arith; failed = λ fault. absurd (cc fault); kept = λ never. refl }
 
   -- Memory ran out before anything was done.
-  pub drops-none : StoreRecovers → (disk : D) (v : View) (blob : Id20) → DropsAs content moment left_since faults disk disk v v blob (Err refusal.NoMemory)
-  drops-none law disk v blob = record {
-    any_moment = λ number a cache text store room is blob_is. not-started moment left_since law v cache [] a (without_entries a text) (content disk) disk store (only_now disk);
-    done = λ number a cache text store room is blob_is. tt;
-    lives = λ number a cache text store is blob_is. tt;
+  pub rewrites-none : {T : Type 0} → StoreRecovers → (disk : D) (v : View) (Makes : Archive → Archive → Type 0) → RewritesAs {T = T} content moment left_since faults disk disk v v Makes (Err refusal.NoMemory)
+  rewrites-none law disk v Makes = record {
+    any_moment = λ a b cache store room made. not-started moment left_since law v cache [] a b (content disk) disk store (only_now disk);
+    done = λ a b cache store room made. tt;
     settled = tt;
     sizes = tt;
     goes_on = tt;
@@ -177,61 +132,31 @@ module _ {D : Type 0} (content : D → Option Content) (moment : D → ℕ) (lef
     cause = quiet_cause disk;
   }
 
-  pub replaces-none : StoreRecovers → (disk : D) (v : View) (blob : Id20) (text : List ℕ) (arrived : ℕ) → ReplacesAs content moment left_since faults disk disk v v blob text arrived (Err refusal.NoMemory)
-  replaces-none law disk v blob text arrived = record {
-    any_moment = λ number a cache gone store room is blob_is alone.
-        not-started moment left_since law v cache [] a (with_entry (without_entries a gone) (new_epoch (without_entries a gone)) text arrived) (content disk) disk store (only_now disk);
-    done = λ number a cache gone store room is blob_is alone. tt;
-    settled = tt;
-    sizes = tt;
-    goes_on = tt;
-    slot = tt;
-    same = refl;
-    looks = looks-same content moment left_since only_now disk;
-    undamaged = λ a cache store. tt;
-    cause = quiet_cause disk;
-  }
-
-  -- The archive after a drop that was refused.
-  pub dropped-failed : (old new : D) (v after : View) (cache left : List ℕ) (a : Archive) (d : Done) (why : StoreRefusal) (reply : Answer) → reply ≡ refusal_answer why → after ≡ v → UnlessFailed {T = Option ℕ} (Err why) (OnlyLooks content moment left_since old new) → SeesNoDamage {T = Option ℕ} (Err why)
-      → IsStoreWith v cache a (content old) → DoneBy after cache left a d reply (content new)
-  dropped-failed old new v after cache left a d why reply is same looks undamaged store = subst (λ (r : Answer). DoneBy after cache left a d r (content new)) (sym is) (by why looks undamaged) where
-    by : (w : StoreRefusal) → UnlessFailed {T = Option ℕ} (Err w) (OnlyLooks content moment left_since old new) → SeesNoDamage {T = Option ℕ} (Err w) → DoneBy after cache left a d (refusal_answer w) (content new)
-    by refusal.DiskFault looked fine = tt
-    by refusal.NoMemory looked fine = subst (λ (u : View). IsStoreWith u cache a (content new)) (sym same) (still_own v cache a (content old) (content new) looked.same store)
-    by (refusal.Damaged file at) looked fine = absurd fine
-
-  module _ (old new : D) (before after : View) (blob : Id20) where
+  module _ (old new : D) (before after : View) (Makes : Archive → Archive → Type 0)
+      (run : (a b : Archive) (cache : List ℕ) → IsStoreWith before cache a (content old) → before.root.sequence + 1 < 2 ^ 64 → Makes a b → LeavesOnly moment left_since old new (RecoversOneOf cache a [] b)) where
     -- The store refused.
-    pub drops-refused : (why : StoreRefusal)
-        → ((number : ℕ) (a : Archive) (cache text : List ℕ) → IsStoreWith before cache a (content old) → before.root.sequence + 1 < 2 ^ 64 → text_of (messages a.entries) number ≡ Some text → blob_id_of text ≡ blob → LeavesOnly moment left_since old new (RecoversOneOf cache a [] (without_entries a text)))
-        → after ≡ before → UnlessFailed {T = Unit {0}} (Err why) (OnlyReads content moment left_since faults old new) → PlansUndamaged {T = Unit {0}} before (Err why) (content old) → RoseIf (◌≡◌ {A = Result (Unit {0}) StoreRefusal} (Err why) (Err refusal.DiskFault)) (faults old) (faults new)
-        → DropsAs content moment left_since faults old new before after blob (Err why)
-    drops-refused why run same looks undamaged cause = record {
+    pub rewrites-refused : (T : Type 0) (why : StoreRefusal) → after ≡ before → UnlessFailed {T = Unit {0}} (Err why) (OnlyReads content moment left_since faults old new) → PlansUndamaged {T = Unit {0}} before (Err why) (content old) → RoseIf (◌≡◌ {A = Result (Unit {0}) StoreRefusal} (Err why) (Err refusal.DiskFault)) (faults old) (faults new)
+        → RewritesAs {T = T} content moment left_since faults old new before after Makes (Err why)
+    rewrites-refused T why same looks undamaged cause = record {
       any_moment = run;
-      done = λ number a cache text store room is blob_is. tt;
-      lives = λ number a cache text store is blob_is. tt;
+      done = λ a b cache store room made. tt;
       settled = tt;
       sizes = tt;
       goes_on = tt;
       slot = tt;
       same = same;
-      looks = looks_by (Unit {0}) (Option ℕ) why old new looks;
-      undamaged = λ a cache store. undamaged_by (Unit {0}) (Option ℕ) why (undamaged a cache store);
+      looks = looks_by (Unit {0}) T why old new looks;
+      undamaged = λ a cache store. undamaged_by (Unit {0}) T why (undamaged a cache store);
       cause = cause_by why (faults old) (faults new) cause;
     }
 
-    -- The store dropped the entries.
-    pub drops-done : (lost : Option ℕ)
-        → ((number : ℕ) (a : Archive) (cache text : List ℕ) → IsStoreWith before cache a (content old) → before.root.sequence + 1 < 2 ^ 64 → text_of (messages a.entries) number ≡ Some text → blob_id_of text ≡ blob → LeavesOnly moment left_since old new (RecoversOneOf cache a [] (without_entries a text)))
-        → ((number : ℕ) (a : Archive) (cache text : List ℕ) → IsStoreWith before cache a (content old) → before.root.sequence + 1 < 2 ^ 64 → text_of (messages a.entries) number ≡ Some text → blob_id_of text ≡ blob → IsStoreWith after [] (without_entries a text) (content new))
-        → ((number : ℕ) (a : Archive) (text : List ℕ) → Keeps before a → text_of (messages a.entries) number ≡ Some text → blob_id_of text ≡ blob → IsLiveOf (live a.entries) text lost)
+    -- The store wrote them.
+    pub rewrites-done : {T : Type 0} (given : T) → ((a b : Archive) (cache : List ℕ) → IsStoreWith before cache a (content old) → before.root.sequence + 1 < 2 ^ 64 → Makes a b → IsStoreWith after [] b (content new))
         → WhereTold IsSettled (content new) → WhereTold (HasSizes after) (content new) → Rewrites before.root after.root → after.slot ≡ 1 - before.slot → RoseIf (◌≡◌ {A = Result (Unit {0}) StoreRefusal} (Ok tt) (Err refusal.DiskFault)) (faults old) (faults new)
-        → DropsAs content moment left_since faults old new before after blob (Ok lost)
-    drops-done lost run done lives settled sizes goes_on slot cause = record {
+        → RewritesAs content moment left_since faults old new before after Makes (Ok given)
+    rewrites-done given done settled sizes goes_on slot cause = record {
       any_moment = run;
       done = done;
-      lives = λ number a cache text store is blob_is. lives number a text (store_keeps before cache a (content old) store) is blob_is;
       settled = settled;
       sizes = sizes;
       goes_on = goes_on;
@@ -240,45 +165,6 @@ module _ {D : Type 0} (content : D → Option Content) (moment : D → ℕ) (lef
       looks = tt;
       undamaged = λ a cache store. tt;
       cause = record { later = cause.later; failed = λ fault. absurd (cc fault); kept = λ never. cause.kept (λ fault. absurd (cc fault)) };
-    }
-
-    -- The same of a message in place of a text.
-    pub replaces-refused : (text : List ℕ) (arrived : ℕ) (why : StoreRefusal)
-        → ((number : ℕ) (a : Archive) (cache gone : List ℕ) → IsStoreWith before cache a (content old) → before.root.sequence + 1 < 2 ^ 64 → text_of (live a.entries) number ≡ Some gone → blob_id_of gone ≡ blob → collision (without_entries a gone).entries text ≡ None
-        → LeavesOnly moment left_since old new (RecoversOneOf cache a [] (with_entry (without_entries a gone) (new_epoch (without_entries a gone)) text arrived)))
-        → after ≡ before → UnlessFailed {T = Unit {0}} (Err why) (OnlyReads content moment left_since faults old new) → PlansUndamaged {T = Unit {0}} before (Err why) (content old) → RoseIf (◌≡◌ {A = Result (Unit {0}) StoreRefusal} (Err why) (Err refusal.DiskFault)) (faults old) (faults new)
-        → ReplacesAs content moment left_since faults old new before after blob text arrived (Err why)
-    replaces-refused text arrived why run same looks undamaged cause = record {
-      any_moment = run;
-      done = λ number a cache gone store room is blob_is alone. tt;
-      settled = tt;
-      sizes = tt;
-      goes_on = tt;
-      slot = tt;
-      same = same;
-      looks = looks_by (Unit {0}) (Unit {0}) why old new looks;
-      undamaged = undamaged;
-      cause = cause;
-    }
-
-    pub replaces-done : (text : List ℕ) (arrived : ℕ)
-        → ((number : ℕ) (a : Archive) (cache gone : List ℕ) → IsStoreWith before cache a (content old) → before.root.sequence + 1 < 2 ^ 64 → text_of (live a.entries) number ≡ Some gone → blob_id_of gone ≡ blob → collision (without_entries a gone).entries text ≡ None
-        → LeavesOnly moment left_since old new (RecoversOneOf cache a [] (with_entry (without_entries a gone) (new_epoch (without_entries a gone)) text arrived)))
-        → ((number : ℕ) (a : Archive) (cache gone : List ℕ) → IsStoreWith before cache a (content old) → before.root.sequence + 1 < 2 ^ 64 → text_of (live a.entries) number ≡ Some gone → blob_id_of gone ≡ blob → collision (without_entries a gone).entries text ≡ None
-        → IsStoreWith after [] (with_entry (without_entries a gone) (new_epoch (without_entries a gone)) text arrived) (content new))
-        → WhereTold IsSettled (content new) → WhereTold (HasSizes after) (content new) → Rewrites before.root after.root → after.slot ≡ 1 - before.slot → RoseIf (◌≡◌ {A = Result (Unit {0}) StoreRefusal} (Ok tt) (Err refusal.DiskFault)) (faults old) (faults new)
-        → ReplacesAs content moment left_since faults old new before after blob text arrived (Ok tt)
-    replaces-done text arrived run done settled sizes goes_on slot cause = record {
-      any_moment = run;
-      done = done;
-      settled = settled;
-      sizes = sizes;
-      goes_on = goes_on;
-      slot = slot;
-      same = tt;
-      looks = tt;
-      undamaged = λ a cache store. tt;
-      cause = cause;
     }
 
   -- A delivery in place of a text was refused, after the disk was only read.
@@ -293,10 +179,10 @@ module _ {D : Type 0} (content : D → Option Content) (moment : D → ℕ) (lef
     settled = late-never reply _;
     goes_on = late-never reply _;
     slot = late-never reply _;
-    same = late-refuses reply (v ≡ v) refl;
-    untouched = late-refuses reply _ (unless-fault (late_answer reply) _ looks);
+    same = when-refused (late_answer reply) (v ≡ v) refl;
+    untouched = when-refused (late_answer reply) _ (unless-failed (late_answer reply) _ looks);
     late = late-read reply;
-    sizes = unless-fault (late_answer reply) _ (subst (WhereTold (HasSizes v)) (sym (unchanged-is (content old) (content mid) looks.same)) sizes);
+    sizes = unless-failed (late_answer reply) _ (subst (WhereTold (HasSizes v)) (sym (unchanged-is (content old) (content mid) looks.same)) sizes);
     cause = late-cause reply (faults old) (faults mid) cause;
     for_command = late-delivery reply;
   }
@@ -328,72 +214,34 @@ module _ {D : Type 0} (content : D → Option Content) (moment : D → ℕ) (lef
         let judged = judges a cache gone store (edit-index v a number blob index gone keeps may indexed shown) in
         (unless-taken a (with_entry (without_entries a gone) (new_epoch (without_entries a gone)) text arrived) (delivered (without_entries a gone) bytes arrived) n id (judged.0 arrived), purge-blob v a number blob gone keeps may (live-message-is a number gone keeps.valid shown), judged.1)
 
-    run_after : (r : Result (Unit {0}) StoreRefusal) → ReplacesAs content moment left_since faults mid new v after blob text arrived r → (a : Archive) (cache gone : List ℕ) → IsStoreWith v cache a (content old) → v.root.sequence + 1 < 2 ^ 64 → text_of (live a.entries) number ≡ Some gone
+    run_after : (r : Result (Unit {0}) StoreRefusal) → RewritesAs content moment left_since faults mid new v after (Replaces blob text arrived) r → (a : Archive) (cache gone : List ℕ) → IsStoreWith v cache a (content old) → v.root.sequence + 1 < 2 ^ 64 → text_of (live a.entries) number ≡ Some gone
         → LeavesOnly moment left_since old new (RecoversOneOf cache a [] (unless_refused a (delivered (without_entries a gone) bytes arrived)).archive)
     run_after r keeps a cache gone store room shown =
         let is = taken_is a cache gone store shown in
         let own = still_own v cache a (content old) (content mid) looks.same store in
         read-first moment left_since law v cache [] a (unless_refused a (delivered (without_entries a gone) bytes arrived)).archive (content old) old mid new store looks.any_moment
-        (subst (λ (b : Archive). LeavesOnly moment left_since mid new (RecoversOneOf cache a [] b)) (sym (ap (λ (d : Done). d.archive) is.0)) (keeps.any_moment number a cache gone own room shown is.1 is.2))
-
-    failed_done : (why : StoreRefusal) → ReplacesAs content moment left_since faults mid new v after blob text arrived (Err why) → (a : Archive) (cache : List ℕ) (d : Done) → IsStoreWith v cache a (content mid) → DoneBy after cache [] a d (refusal_answer why) (content new)
-    failed_done refusal.DiskFault keeps a cache d own = tt
-    failed_done refusal.NoMemory keeps a cache d own = subst (λ (u : View). IsStoreWith u cache a (content new)) (sym keeps.same) (still_own v cache a (content mid) (content new) keeps.looks.same own)
-    failed_done (refusal.Damaged file at) keeps a cache d own = absurd (keeps.undamaged a cache own)
-
-    failed_looks : (why : StoreRefusal) → ReplacesAs content moment left_since faults mid new v after blob text arrived (Err why) → OnRefusal (refusal_answer why) (UnlessFault (refusal_answer why) (OnlyLooks content moment left_since old new))
-    failed_looks refusal.DiskFault keeps = tt
-    failed_looks refusal.NoMemory keeps = looks-joined content moment left_since only_now old mid new looks keeps.looks
-    failed_looks (refusal.Damaged file at) keeps = looks-joined content moment left_since only_now old mid new looks keeps.looks
-
-    sizes_after : OnlyLooks content moment left_since mid new → after ≡ v → WhereTold (HasSizes v) (content old) → WhereTold (HasSizes after) (content new)
-    sizes_after more same sizes =
-        subst (λ (u : View). WhereTold (HasSizes u) (content new)) (sym same)
-        (subst (WhereTold (HasSizes v)) (sym (unchanged-is (content mid) (content new) more.same ∙ unchanged-is (content old) (content mid) looks.same)) sizes)
-
-    failed_sizes : (why : StoreRefusal) → ReplacesAs content moment left_since faults mid new v after blob text arrived (Err why) → WhereTold (HasSizes v) (content old) → UnlessFault (refusal_answer why) (WhereTold (HasSizes after) (content new))
-    failed_sizes refusal.DiskFault keeps sizes = tt
-    failed_sizes refusal.NoMemory keeps sizes = sizes_after keeps.looks keeps.same sizes
-    failed_sizes (refusal.Damaged file at) keeps sizes = sizes_after keeps.looks keeps.same sizes
-
-    failed_cause : (why : StoreRefusal) → RoseIf (◌≡◌ {A = Result (Unit {0}) StoreRefusal} (Err why) (Err refusal.DiskFault)) (faults mid) (faults new) → RoseIf (refusal_answer why ≡ answer.DiskFault) (faults old) (faults new)
-    failed_cause refusal.DiskFault cause = subst (λ (m : ℕ). RoseIf (answer.DiskFault ≡ answer.DiskFault) m (faults new)) steady (record { later = cause.later; failed = λ fault. cause.failed refl; kept = λ never. absurd (never refl) })
-    failed_cause refusal.NoMemory cause = subst (λ (m : ℕ). RoseIf (answer.NoMemory ≡ answer.DiskFault) m (faults new)) steady (record { later = cause.later; failed = λ fault. absurd (cc fault); kept = λ never. cause.kept (λ fault. absurd (cc fault)) })
-    failed_cause (refusal.Damaged file at) cause = subst (λ (m : ℕ). RoseIf (answer.Damaged file at ≡ answer.DiskFault) m (faults new)) steady (record { later = cause.later; failed = λ fault. absurd (cc fault); kept = λ never. cause.kept (λ fault. absurd (cc fault)) })
-
-    failed_same : (why : StoreRefusal) → after ≡ v → OnRefusal (refusal_answer why) (after ≡ v)
-    failed_same refusal.DiskFault same = same
-    failed_same refusal.NoMemory same = same
-    failed_same (refusal.Damaged file at) same = same
-
-    failed_late : (why : StoreRefusal) → IfUnreadEdit (refusal_answer why) ⊥
-    failed_late refusal.DiskFault = tt
-    failed_late refusal.NoMemory = tt
-    failed_late (refusal.Damaged file at) = tt
-
-    failed_answer : (why : StoreRefusal) → AnswersDelivery (refusal_answer why)
-    failed_answer refusal.DiskFault = tt
-    failed_answer refusal.NoMemory = tt
-    failed_answer (refusal.Damaged file at) = tt
+        (subst (λ (b : Archive). LeavesOnly moment left_since mid new (RecoversOneOf cache a [] b)) (sym (ap (λ (d : Done). d.archive) is.0)) (keeps.any_moment a (with_entry (without_entries a gone) (new_epoch (without_entries a gone)) text arrived) cache own room (record { number = number; gone = gone; shown = shown; blob_is = is.1; alone = is.2; is = refl })))
 
     -- The store refused it.
-    pub edits-failed : (why : StoreRefusal) (reply : Answer) → reply ≡ refusal_answer why → WhereTold (HasSizes v) (content old) → ReplacesAs content moment left_since faults mid new v after blob text arrived (Err why) → EditsAs content moment left_since faults old new v after number bytes arrived reply
+    pub edits-failed : (why : StoreRefusal) (reply : Answer) → reply ≡ refusal_answer why → WhereTold (HasSizes v) (content old) → RewritesAs {T = Unit {0}} content moment left_since faults mid new v after (Replaces blob text arrived) (Err why) → EditsAs content moment left_since faults old new v after number bytes arrived reply
     edits-failed why reply reply_is sizes keeps = subst (λ (r : Answer). EditsAs content moment left_since faults old new v after number bytes arrived r) (sym reply_is) (record {
       any_moment = run_after (Err why) keeps;
-      done = λ a cache gone store room shown. failed_done why keeps a cache (unless_refused a (delivered (without_entries a gone) bytes arrived)) (still_own v cache a (content old) (content mid) looks.same store);
+      done = λ a cache gone store room shown. (
+          let own = still_own v cache a (content old) (content mid) looks.same store in
+          failed-done content moment left_since (Unit {0}) mid new v after cache [] a (unless_refused a (delivered (without_entries a gone) bytes arrived)) why keeps.same keeps.looks (keeps.undamaged a cache own) own);
       settled = error-done why (refusal_answer why) _ refl;
       goes_on = error-done why (refusal_answer why) _ refl;
       slot = error-done why (refusal_answer why) _ refl;
-      same = failed_same why keeps.same;
-      untouched = failed_looks why keeps;
-      late = failed_late why;
-      sizes = failed_sizes why keeps sizes;
-      cause = failed_cause why keeps.cause;
-      for_command = failed_answer why;
+      same = when-refused (refusal_answer why) _ keeps.same;
+      untouched = when-refused (refusal_answer why) _ (error-unless (Unit {0}) why _ _ (looks-joined content moment left_since only_now old mid new looks) keeps.looks);
+      late = error-then why (λ r. IfUnreadEdit r ⊥) tt tt (λ file at. tt);
+      sizes = error-unless (Unit {0}) why _ _ (λ more. still-sized content moment left_since old new v after keeps.same sizes (looks-joined content moment left_since only_now old mid new looks more)) keeps.looks;
+      cause = subst (λ (m : ℕ). RoseIf (refusal_answer why ≡ answer.DiskFault) m (faults new)) steady (error-cause (Unit {0}) why (faults mid) (faults new) keeps.cause);
+      for_command = error-then why AnswersDelivery tt tt (λ file at. tt);
     })
 
     -- It was kept.
-    pub edits-done : ReplacesAs content moment left_since faults mid new v after blob text arrived (Ok tt) → EditsAs content moment left_since faults old new v after number bytes arrived (answer.Ok n id)
+    pub edits-done : RewritesAs {T = Unit {0}} content moment left_since faults mid new v after (Replaces blob text arrived) (Ok tt) → EditsAs content moment left_since faults old new v after number bytes arrived (answer.Ok n id)
     edits-done keeps = record {
       any_moment = run_after (Ok tt) keeps;
       done = λ a cache gone store room shown. (
@@ -401,7 +249,7 @@ module _ {D : Type 0} (content : D → Option Content) (moment : D → ℕ) (lef
           let own = still_own v cache a (content old) (content mid) looks.same store in
           record {
             answer_is = ap (λ (d : Done). d.answer) is.0;
-            store = subst (λ (b : Archive). IsStoreWith after [] b (content new)) (sym (ap (λ (d : Done). d.archive) is.0)) (keeps.done number a cache gone own room shown is.1 is.2);
+            store = subst (λ (b : Archive). IsStoreWith after [] b (content new)) (sym (ap (λ (d : Done). d.archive) is.0)) (keeps.done a (with_entry (without_entries a gone) (new_epoch (without_entries a gone)) text arrived) cache own room (record { number = number; gone = gone; shown = shown; blob_is = is.1; alone = is.2; is = refl }));
           });
       settled = keeps.settled;
       goes_on = keeps.goes_on;

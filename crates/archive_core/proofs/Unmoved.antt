@@ -1,6 +1,8 @@
 -- Which refusals leave the disk as it was: those before which no text is read.
-use Rattle.std.specs.Prelude.{◌≡◌, ℕ, Option, Some, None, slice_get}
+use Rattle.std.specs.Prelude.{◌≡◌, ◌≤◌, ℕ, Option, Some, None, Result, Err, slice_get, refl}
 use Rattle.std.proofs.Common.{sym, subst}
+use Rattle.arch_base.specs.Counts.{RoseIf}
+use Rattle.disk_model.specs.declared.name.FileName.{FileName}
 use Rattle.arch_model.specs.declared.answer.Answer.{Answer}
 use Rattle.arch_model.specs.declared.answer.Answer.TheVariants as answer
 use Rattle.arch_model.specs.declared.text_refusal.TextRefusal.{TextRefusal}
@@ -12,7 +14,7 @@ use Rattle.epoch_file.specs.declared.refusal.StoreRefusal.{StoreRefusal}
 use Rattle.epoch_file.specs.declared.refusal.StoreRefusal.TheVariants as refusal
 use Rattle.epoch_store.specs.Stores.{View}
 use Rattle.epoch_store.specs.declared.entries.StoredEntry.{StoredEntry}
-use Rattle.archive_core.specs.Commands.{IfUnread, IfRefusedUnread, IsUnread, damaged_place, refusal_answer, unread_answer}
+use Rattle.archive_core.specs.Commands.{IfUnread, IfUnreadEdit, IfRefusedUnread, IsUnread, damaged_place, refusal_answer, unread_answer}
 
 -- What holds at any rate.
 pub if-unread : (reply : Answer) (P : Type 0) → P → IfUnread reply P
@@ -43,6 +45,21 @@ if-read answer.IsMirror P never = absurd never
 if-read answer.DiskFault P never = tt
 if-read (answer.Damaged file at) P never = tt
 if-read answer.NoMemory P never = tt
+
+-- The same of an edit.
+pub if-read-edit : (reply : Answer) (P : Type 0) → IfUnreadEdit reply ⊥ → IfUnreadEdit reply P
+if-read-edit (answer.Ok n id) P never = tt
+if-read-edit answer.NoMemory P never = tt
+if-read-edit answer.DiskFault P never = tt
+if-read-edit (answer.Duplicate n) P never = tt
+if-read-edit answer.NoFields P never = absurd never
+if-read-edit (answer.TooLarge len) P never = absurd never
+if-read-edit (answer.Full max) P never = tt
+if-read-edit (answer.Collision n) P never = tt
+if-read-edit (answer.NotLive n) P never = absurd never
+if-read-edit (answer.NoText n) P never = absurd never
+if-read-edit answer.IsMirror P never = absurd never
+if-read-edit (answer.Damaged file at) P never = tt
 
 -- A text that wasn't read.
 pub if-none-read : (reply : Answer) (P : Type 0) → IsUnread reply → IfUnread reply P
@@ -93,10 +110,29 @@ if_damaged v (Some e) P = tt
 pub if-damaged : (v : View) (found : Option StoredEntry) (reply : Answer) (P : Type 0) → reply ≡ damaged_place v found → IfUnread reply P
 if-damaged v found reply P is = subst (λ (r : Answer). IfUnread r P) (sym is) (if_damaged v found P)
 
-if_text : (v : View) (index : ℕ) (why : TextRefusal) (P : Type 0) → IfUnread (unread_answer v index why) P
-if_text v index reading.DiskFault P = tt
-if_text v index (reading.Damaged named found) P = if_damaged v (slice_get v.entries index) P
-if_text v index reading.NoMemory P = tt
+-- What holds of each answer where a text wasn't read.
+pub unread-then : (v : View) (index : ℕ) (why : TextRefusal) (reply : Answer) → reply ≡ unread_answer v index why → (P : Answer → Type 0) → P answer.DiskFault → P answer.NoMemory → ((file : FileName) (at : ℕ) → P (answer.Damaged file at)) → P reply
+unread-then v index why reply is P fault short damage = subst P (sym is) (by why) where
+  at_place : (found : Option StoredEntry) → P (damaged_place v found)
+  at_place None = short
+  at_place (Some e) = damage _ _
 
-pub if-text : (v : View) (index : ℕ) (why : TextRefusal) (reply : Answer) (P : Type 0) → reply ≡ unread_answer v index why → IfUnread reply P
-if-text v index why reply P is = subst (λ (r : Answer). IfUnread r P) (sym is) (if_text v index why P)
+  by : (w : TextRefusal) → P (unread_answer v index w)
+  by reading.DiskFault = fault
+  by reading.NoMemory = short
+  by (reading.Damaged named found) = at_place (slice_get v.entries index)
+
+-- The cause of such an answer.
+pub unread-cause : (v : View) (index : ℕ) (why : TextRefusal) (reply : Answer) (before now : ℕ) → reply ≡ unread_answer v index why → RoseIf (◌≡◌ {A = Result (Unit {0}) TextRefusal} (Err why) (Err reading.DiskFault)) before now → RoseIf (reply ≡ answer.DiskFault) before now
+unread-cause v index why reply before now is cause = subst (λ (r : Answer). RoseIf (r ≡ answer.DiskFault) before now) (sym is) (by why cause) where
+  steady : (r : Answer) → (r ≡ answer.DiskFault → ⊥) → before ≤ now → now ≡ before → RoseIf (r ≡ answer.DiskFault) before now
+  steady r never later same = record { later = later; failed = λ fault. absurd (never fault); kept = λ _. same }
+
+  at_place : (found : Option StoredEntry) → damaged_place v found ≡ answer.DiskFault → ⊥
+  at_place None fault = cc
+  at_place (Some e) fault = cc
+
+  by : (w : TextRefusal) → RoseIf (◌≡◌ {A = Result (Unit {0}) TextRefusal} (Err w) (Err reading.DiskFault)) before now → RoseIf (unread_answer v index w ≡ answer.DiskFault) before now
+  by reading.DiskFault rose = record { later = rose.later; failed = λ fault. rose.failed refl; kept = λ never. absurd (never refl) }
+  by reading.NoMemory rose = steady answer.NoMemory (λ fault. absurd (cc fault)) rose.later (rose.kept (λ fault. absurd (cc fault)))
+  by (reading.Damaged named found) rose = steady (damaged_place v (slice_get v.entries index)) (at_place (slice_get v.entries index)) rose.later (rose.kept (λ fault. absurd (cc fault)))

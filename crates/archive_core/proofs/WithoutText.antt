@@ -1,8 +1,8 @@
 -- An archive without the entries of a text, by what a store keeps of it; and what purges and edits give.
-use Rattle.std.specs.Prelude.{◌≡◌, ◌≢◌, ◌+◌, ◌<◌, ◌≤◌, ◌==◌, ◌^◌, ℕ, zero, suc, Bool, true, false, not, cond, List, [], ◌∷◌, ◌++◌, length, get_or, slice_get, slice_index_or, count_by, Option, Some, None, is_some, IsSome, unwrap_or, Result, Ok, Err, if◌then◌else◌, refl}
-use Rattle.std.specs.List.{AllByRecursion, AllZip, Contains, filter}
+use Rattle.std.specs.Prelude.{◌≡◌, ◌+◌, ◌<◌, ◌≤◌, ℕ, Bool, true, false, not, List, [], ◌∷◌, ◌++◌, length, get_or, slice_get, slice_index_or, count_by, Option, Some, None, is_some, IsSome, unwrap_or, Result, Ok, Err, if◌then◌else◌, refl}
+use Rattle.std.specs.List.{AllByRecursion, AllZip}
 use Rattle.std.specs.Str.{bytes_eq}
-use Rattle.std.proofs.Common.{◌⊎◌, ◌∙◌, sym, ap, subst, inl, inr, arith}
+use Rattle.std.proofs.Common.{◌∙◌, sym, ap, subst, inl, inr, arith}
 use Rattle.std.proofs.lemmas.List.Sums.{length-filter, count_by-le-length}
 use Rattle.std.proofs.lemmas.Option.{slice_get_within, slice_get-get_or}
 use Rattle.std.proofs.lemmas.Slice.Eq.{bytes_eq-Decides}
@@ -16,14 +16,13 @@ use Rattle.mail_reader.specs.Ids.{own_id}
 use Rattle.mail_reader.specs.Stored.{stored}
 use Rattle.mail_reader.specs.declared.storing.StoredRefusal.{StoredRefusal}
 use Rattle.mail_reader.specs.declared.storing.StoredRefusal.TheVariants as storing
-use Rattle.arch_model.specs.Archives.{Entry, Archive, is_message, live, messages, text_of, blob_number, with_entry, without_text, without_entries, IsFree}
-use Rattle.arch_model.specs.Delivery.{Done, collision, delivered, delivered_form, purged, purged_text, edited, edited_text, is_accepted, is_form, new_epoch, refused, unless_refused}
+use Rattle.arch_model.specs.Archives.{Entry, Archive, is_message, live, messages, text_of, blob_number, without_text, without_entries}
+use Rattle.arch_model.specs.Delivery.{Done, delivered, delivered_form, purged, purged_text, edited, edited_text, is_accepted, is_form, refused, unless_refused}
 use Rattle.arch_model.specs.Shelves.{blob_text}
 use Rattle.arch_model.specs.Validity.{BlobsAgree, IsArchive}
 use Rattle.arch_model.specs.declared.answer.Answer.{Answer}
 use Rattle.arch_model.specs.declared.answer.Answer.TheVariants as answer
-use Rattle.arch_model.proofs.LiveEntries.{HasText, found-has, live-has, all-text, live-one}
-use Rattle.arch_model.proofs.Owners.{collision-alone, collision-first}
+use Rattle.arch_model.proofs.LiveEntries.{HasText, found-has, all-text, live-one}
 use Rattle.arch_model.proofs.Purging.{valid_without}
 use Rattle.arch_judge.specs.Indexes.{IsIndex}
 use Rattle.arch_judge.specs.Judging.{IsForDelivery, IsKnownBy, MayBeKept, MayCome, TakesThis}
@@ -38,7 +37,7 @@ use Rattle.epoch_store.specs.Stores.{View, Keeps, IsStoreWith, KeptOf, MayPurge,
 use Rattle.archive_core.specs.Commands.{DoneBy, IsLiveOf, IsUnread, JudgesRead, ReadsMessage}
 use Rattle.archive_core.specs.Kept.{IndexesKept}
 use Rattle.archive_core.specs.Numbers.{IsLiveAt, IsMessageAt}
-use Rattle.archive_core.specs.Rewriting.{MayReplace, TakesBy}
+use Rattle.archive_core.specs.Rewriting.{Drops, MayReplace, TakesBy}
 use Rattle.archive_core.specs.Placing.{message_places, found_blob, has_blob_at, IsLiveWith}
 use Rattle.archive_core.specs.declared.placing.MessagePlace.{MessagePlace}
 use Rattle.archive_core.proofs.ByBlob.{message-of}
@@ -406,3 +405,32 @@ may-purge v n i s writable at there =
     message_kind : (k : EntryKind) → is_message k ≡ true → k ≡ Message
     message_kind Message is = refl
     message_kind Deletion is = absurd (cc)
+
+-- What is read at the index of a message may be purged.
+pub may-read : (v : View) (seen : List StoredEntry) (n i : ℕ) (d : StoredEntry) → seen ≡ v.entries → IsMessageAt v.entries n i → v.root.config.mirror ≡ false → MayPurge v n (get_or seen i d).seen.blob
+may-read v seen n i d is at writable = may-purge v n i (get_or seen i d) writable at
+    (slice_get-get_or v.entries i d (slice_get_within v.entries i at.entry at.there) ∙ ap (λ (es : List StoredEntry). Some (get_or es i d)) (sym is))
+
+-- A number that has a text has one.
+pub shown-text : (es : List Entry) (n : ℕ) → is_some (text_of es n) ≡ true → (text : List ℕ) × (text_of es n ≡ Some text)
+shown-text es n is = by (text_of es n) refl where
+  by : (o : Option (List ℕ)) → text_of es n ≡ o → (text : List ℕ) × (text_of es n ≡ Some text)
+  by None none = absurd (let wrong : false ≡ true = sym (ap is_some none) ∙ is in cc)
+  by (Some text) some = (text, some)
+
+-- What the purge of a message makes.
+pub purge-makes : (v : View) (a : Archive) (n : ℕ) (blob : Id20) → Keeps v a → MayPurge v n blob → is_some (text_of (messages a.entries) n) ≡ true → Drops blob a (purged a n).archive × ((purged a n).answer ≡ answer.Ok n blob)
+purge-makes v a n blob keeps may some =
+    let text = shown-text (messages a.entries) n some in
+    let named = purge-blob v a n blob text.0 keeps may text.1 in
+    let is = purged-text-is a n text.0 (writable-of v a keeps may.writable) text.1 in (
+      record { number = n; text = text.0; shown = text.1; blob_is = named; is = ap (λ (d : Done). d.archive) is },
+      ap (λ (d : Done). d.answer) is ∙ ap (λ (id : Id20). answer.Ok n id) named,
+    )
+
+-- What an edit makes whose message isn't the same.
+pub edit-makes : (v : View) (a : Archive) (n : ℕ) (bytes : List ℕ) (moment : ℕ) → Keeps v a → v.root.config.mirror ≡ false → is_some (text_of (live a.entries) n) ≡ true → ((text : List ℕ) → text_of (live a.entries) n ≡ Some text → is_form text (stored bytes) ≡ false)
+    → (text : List ℕ) × (text_of (live a.entries) n ≡ Some text) × (edited a n bytes moment ≡ unless_refused a (delivered (without_entries a text) bytes moment))
+edit-makes v a n bytes moment keeps writable some other =
+    let text = shown-text (live a.entries) n some in
+    (text.0, text.1, edited-other a n bytes moment text.0 (writable-of v a keeps writable) text.1 (other text.0 text.1))

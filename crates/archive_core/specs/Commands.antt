@@ -1,10 +1,12 @@
 -- The answers to a command on an archive on a disk, and what the disk then holds.
 use Rattle.std.specs.Prelude.{◌≡◌, ◌+◌, ◌-◌, ◌<◌, ◌≤◌, ◌^◌, ℕ, Bool, true, false, List, [], slice_get, Option, Some, None, Result, Ok, Err}
+use Rattle.std.specs.List.{Contains}
 use Rattle.arch_base.specs.Counts.{RoseIf}
 use Rattle.disk_model.specs.Disk.{Files, Content, WhereTold, LeavesOnly, Told, Unchanged, Image}
 use Rattle.mail_reader.specs.Ids.{own_id}
 use Rattle.mail_reader.specs.StorageTexts.{IsStorageText}
 use Rattle.git_objects.specs.Objects.{blob_id_of}
+use Rattle.git_objects.specs.declared.entry_kind.EntryKind.TheVariants.{Message}
 use Rattle.arch_model.specs.declared.text_refusal.TextRefusal.{TextRefusal}
 use Rattle.arch_model.specs.declared.text_refusal.TextRefusal.TheVariants as unread
 use Rattle.arch_judge.specs.Judging.{Judges}
@@ -24,7 +26,7 @@ use Rattle.arch_model.specs.declared.answer.Answer.TheVariants as answer
 use Rattle.root_slots.specs.declared.root.Root.{Root}
 use Rattle.epoch_file.specs.declared.refusal.StoreRefusal.{StoreRefusal}
 use Rattle.epoch_file.specs.declared.refusal.StoreRefusal.TheVariants as refusal
-use Rattle.epoch_store.specs.Stores.{View, IsStoreWith, HasSizes, RecoversOneOf, GoesOn, Rewrites}
+use Rattle.epoch_store.specs.Stores.{View, IsStoreWith, HasSizes, RecoversOneOf, GoesOn, Rewrites, KeepsFiles, EditsFiles}
 use Rattle.epoch_store.specs.Reads.{IsTextOf}
 
 -- The definition's answer was given, and the disk is the own one of a store that keeps the
@@ -218,6 +220,19 @@ GoesOnFor (Remove number) old new = GoesOn old new
 GoesOnFor (Purge number) old new = Rewrites old new
 GoesOnFor (Edit number bytes) old new = Rewrites old new
 
+-- An entry is that of the message with a number.
+abbrev pub IsEntryOf : View → ℕ → StoredEntry → Type 0
+IsEntryOf v number s = Contains v.entries s × (s.seen.kind ≡ Message) × (s.number ≡ number)
+
+-- Which files a purge and an edit keep, by the blob id of the text that they drop.
+abbrev pub FilesFor : Command → View → View → Type 0
+FilesFor (Deliver bytes) old new = Unit {0}
+FilesFor (Remove number) old new = Unit {0}
+FilesFor (Purge number) old new = (s : StoredEntry) × IsEntryOf old number s
+    × KeepsFiles old new s.seen.blob
+FilesFor (Edit number bytes) old new = (s : StoredEntry) × IsEntryOf old number s
+    × EditsFiles old new s.seen.blob
+
 -- A live number has a text, or none has it.
 abbrev pub IsLiveOf : List Entry → List ℕ → Option ℕ → Type 0
 IsLiveOf entries text None = (n : ℕ) → text_of entries n ≡ Some text → ⊥
@@ -301,10 +316,11 @@ pub record OnlyLooks {D : Type 0} (content : D → Option Content) (moment : D �
 -- What a command promises, by its answer and the archive after it, of each archive before it. While
 -- the root's sequence can be raised, at each moment a crash leaves the archive before the command or
 -- the one after it, and the answer and the disk then are the wanted ones. After `Ok` all that reads
--- give is on the disk, and the root, in the other slot, goes on from the one before. Any other
--- answer leaves what is kept in memory, and, but for a fault, the content of the disk; one before
--- which no text is read leaves the disk as it was. The command fails only if the count of faults
--- rose, and reads as often as the command may.
+-- give is on the disk, and the root, in the other slot, goes on from the one before; a purge and an
+-- edit keep the file of each epoch that loses no entry. Any other answer leaves what is kept in
+-- memory, and, but for a fault, the content of the disk; one before which no text is read leaves the
+-- disk as it was. The command fails only if the count of faults rose, and reads as often as the
+-- command may.
 pub record TakesCommand {D : Type 0} (content : D → Option Content) (moment : D → ℕ)
     (left_since : D → ℕ → Files → Type 0) (faults reads : D → ℕ) (old new : D)
     (before after : View) (command : Command) (wanted : Archive → Done) (reply : Answer)
@@ -318,6 +334,7 @@ pub record TakesCommand {D : Type 0} (content : D → Option Content) (moment : 
       → DoneBy after cache (cache_left command cache) a (wanted a) reply (content new)
   pub settled : OnDone reply (WhereTold IsSettled (content new))
   pub goes_on : OnDone reply (GoesOnFor command before.root after.root)
+  pub files : OnDone reply (FilesFor command before after)
   pub slot : OnDone reply (after.slot ≡ 1 - before.slot)
   pub same : OnRefusal reply (after ≡ before)
   pub untouched : OnRefusal reply (UnlessFault reply (OnlyLooks content moment left_since old new))

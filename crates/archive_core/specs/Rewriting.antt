@@ -1,5 +1,5 @@
 -- Purges and edits of an archive on a disk.
-use Rattle.std.specs.Prelude.{◌≡◌, ◌+◌, ◌-◌, ◌<◌, ◌^◌, ℕ, Bool, false, List, [], Option, Some, None, Result, Ok, Err, OnOk, OnErr, IfOk}
+use Rattle.std.specs.Prelude.{◌≡◌, ◌+◌, ◌-◌, ◌<◌, ◌^◌, ℕ, Bool, List, [], Option, Some, None, Result, Ok, Err, OnOk, OnErr}
 use Rattle.arch_base.specs.Counts.{RoseIf}
 use Rattle.arch_base.specs.declared.ids.Id20.{Id20}
 use Rattle.disk_model.specs.Disk.{Files, Content, WhereTold, LeavesOnly}
@@ -20,7 +20,7 @@ use Rattle.epoch_file.specs.declared.refusal.StoreRefusal.{StoreRefusal}
 use Rattle.epoch_file.specs.declared.refusal.StoreRefusal.TheVariants as refusal
 use Rattle.epoch_store.specs.Planning.{PlansUndamaged}
 use Rattle.epoch_store.specs.Stores.{View, HasSizes, IsStoreWith, MayEdit, RecoversOneOf, Rewrites, UnlessFailed}
-use Rattle.archive_core.specs.Commands.{AnswersDelivery, DoneBy, IfUnreadEdit, IsAlone, IsLiveOf, JudgesRead, OnDone, OnRefusal, OnlyLooks, UnlessFault}
+use Rattle.archive_core.specs.Commands.{AnswersDelivery, DoneBy, IfUnreadEdit, IsAlone, JudgesRead, OnDone, OnRefusal, OnlyLooks, UnlessFault}
 
 -- The answers where there is no storage form to compare, or a text wasn't read.
 abbrev pub IsUnformed : Answer → Type 0
@@ -76,47 +76,35 @@ pub record MayReplace (v : View) (old : Id20) (text : List ℕ) (blob : Id20) : 
   pub edit : MayEdit v number old text
   pub blob_is : blob ≡ blob_id_of text
 
--- What dropping the entries with a blob id promises, for each archive that the disk holds.
-pub record DropsAs {D : Type 0} (content : D → Option Content) (moment : D → ℕ)
-    (left_since : D → ℕ → Files → Type 0) (faults : D → ℕ) (old new : D) (before after : View)
-    (blob : Id20) (result : Result (Option ℕ) StoreRefusal) : Type 0 where
-  pub any_moment : (number : ℕ) (a : Archive) (cache text : List ℕ)
-      → IsStoreWith before cache a (content old) → before.root.sequence + 1 < 2 ^ 64
-      → text_of (messages a.entries) number ≡ Some text → blob_id_of text ≡ blob
-      → LeavesOnly moment left_since old new (RecoversOneOf cache a [] (without_entries a text))
-  pub done : (number : ℕ) (a : Archive) (cache text : List ℕ)
-      → IsStoreWith before cache a (content old) → before.root.sequence + 1 < 2 ^ 64
-      → text_of (messages a.entries) number ≡ Some text → blob_id_of text ≡ blob
-      → OnOk result (IsStoreWith after [] (without_entries a text) (content new))
-  pub lives : (number : ℕ) (a : Archive) (cache text : List ℕ)
-      → IsStoreWith before cache a (content old)
-      → text_of (messages a.entries) number ≡ Some text → blob_id_of text ≡ blob
-      → IfOk result (IsLiveOf (live a.entries) text)
-  pub settled : OnOk result (WhereTold IsSettled (content new))
-  pub sizes : OnOk result (WhereTold (HasSizes after) (content new))
-  pub goes_on : OnOk result (Rewrites before.root after.root)
-  pub slot : OnOk result (after.slot ≡ 1 - before.slot)
-  pub same : OnErr result (after ≡ before)
-  pub looks : UnlessFailed result (OnlyLooks content moment left_since old new)
-  pub undamaged : PlansUndamaged before result (content old)
-  pub cause : RoseIf (result ≡ Err refusal.DiskFault) (faults old) (faults new)
+-- The second archive is the first without a text that has this blob id, which one of its messages has.
+pub record Drops (blob : Id20) (a b : Archive) : Type 0 where
+  pub number : ℕ
+  pub text : List ℕ
+  pub shown : text_of (messages a.entries) number ≡ Some text
+  pub blob_is : blob_id_of text ≡ blob
+  pub is : b ≡ without_entries a text
 
--- What keeping a message in place of a text promises.
-pub record ReplacesAs {D : Type 0} (content : D → Option Content) (moment : D → ℕ)
+-- The second archive is the first with a message in place of a live text that has this blob id. No other
+-- text has the blob id of the message.
+pub record Replaces (blob : Id20) (text : List ℕ) (arrived : ℕ) (a b : Archive) : Type 0 where
+  pub number : ℕ
+  pub gone : List ℕ
+  pub shown : text_of (live a.entries) number ≡ Some gone
+  pub blob_is : blob_id_of gone ≡ blob
+  pub alone : collision (without_entries a gone).entries text ≡ None
+  pub is : b ≡ with_entry (without_entries a gone) (new_epoch (without_entries a gone)) text arrived
+
+-- What a call that writes files anew promises, for each archive that the disk holds and each that the
+-- call makes of it.
+pub record RewritesAs {D T : Type 0} (content : D → Option Content) (moment : D → ℕ)
     (left_since : D → ℕ → Files → Type 0) (faults : D → ℕ) (old new : D) (before after : View)
-    (blob : Id20) (text : List ℕ) (arrived : ℕ) (result : Result Unit StoreRefusal) : Type 0 where
-  pub any_moment : (number : ℕ) (a : Archive) (cache gone : List ℕ)
-      → IsStoreWith before cache a (content old) → before.root.sequence + 1 < 2 ^ 64
-      → text_of (live a.entries) number ≡ Some gone → blob_id_of gone ≡ blob
-      → collision (without_entries a gone).entries text ≡ None
-      → LeavesOnly moment left_since old new (RecoversOneOf cache a []
-      (with_entry (without_entries a gone) (new_epoch (without_entries a gone)) text arrived))
-  pub done : (number : ℕ) (a : Archive) (cache gone : List ℕ)
-      → IsStoreWith before cache a (content old) → before.root.sequence + 1 < 2 ^ 64
-      → text_of (live a.entries) number ≡ Some gone → blob_id_of gone ≡ blob
-      → collision (without_entries a gone).entries text ≡ None
-      → OnOk result (IsStoreWith after [] (with_entry (without_entries a gone)
-      (new_epoch (without_entries a gone)) text arrived) (content new))
+    (Makes : Archive → Archive → Type 0) (result : Result T StoreRefusal) : Type 0 where
+  pub any_moment : (a b : Archive) (cache : List ℕ) → IsStoreWith before cache a (content old)
+      → before.root.sequence + 1 < 2 ^ 64 → Makes a b
+      → LeavesOnly moment left_since old new (RecoversOneOf cache a [] b)
+  pub done : (a b : Archive) (cache : List ℕ) → IsStoreWith before cache a (content old)
+      → before.root.sequence + 1 < 2 ^ 64 → Makes a b
+      → OnOk result (IsStoreWith after [] b (content new))
   pub settled : OnOk result (WhereTold IsSettled (content new))
   pub sizes : OnOk result (WhereTold (HasSizes after) (content new))
   pub goes_on : OnOk result (Rewrites before.root after.root)

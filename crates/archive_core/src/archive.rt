@@ -13,12 +13,13 @@ ghost use Rattle.archive_core.specs.Numbers.{IsLiveAt};
 ghost use Rattle.epoch_file.specs.declared.refusal.StoreRefusal.{StoreRefusal};
 ghost use Rattle.archive_core.specs.Kept.{MayGoIn, TakesWhatMay};
 ghost use Rattle.arch_model.specs.declared.answer.Answer.{Answer};
+ghost use Rattle.arch_model.specs.declared.command.Command.TheVariants as command;
 ghost use Rattle.arch_base.specs.Moments.{last_moment};
 ghost use Rattle.archive_core.specs.Openings.{RefusesKindly};
 ghost use Rattle.epoch_store.specs.Promises.{MakesArchive, OpensArchive};
 ghost use Rattle.epoch_store.specs.Reads.{HasTexts};
-ghost use Rattle.epoch_store.specs.Stores.{IsStoreWith, Keeps, HasSizes, RecoversEitherWith, SeesNoDamage, GoesOn};
-ghost use Rattle.archive_core.specs.Commands.{DoneBy, OnDone, OnRefusal, UnlessFault, OnlyLooks, AnswersDelivery, AnswersRemoval, IfUnread, IfRefusedUnread, IsFaultRead, JudgesRead, IsAlone, TakesCommand, refusal_answer, unread_answer, damaged_place, IsNamed, IsTextAt, ReadsMessage, IsUnread, is_delivery, IfDelivery, TellsText, KeepsText, KeepsTextFor, IsGone};
+ghost use Rattle.epoch_store.specs.Stores.{IsStoreWith, HasSizes, RecoversEitherWith, SeesNoDamage, GoesOn};
+ghost use Rattle.archive_core.specs.Commands.{DoneBy, OnDone, OnRefusal, UnlessFault, OnlyLooks, AnswersRemoval, IfUnread, IfRefusedUnread, IsFaultRead, JudgesRead, IsAlone, TakesCommand, refusal_answer, unread_answer, damaged_place, IsNamed, IsTextAt, ReadsMessage, IsUnread, is_delivery, IfDelivery, TellsText, KeepsText, KeepsTextFor, IsGone};
 
 use crate::entries::index_of;
 use crate::placing::{MessagePlace, are_rising, end_place, may_follow, places_of};
@@ -206,26 +207,9 @@ impl DiskArchive {
     ) -> Answer
         requires moment { moment ≤ last_moment }
         requires sizes { WhereTold (HasSizes self.old) (D.content disk.old) }
-        ensures any_moment { (a : Archive) (cache : List ℕ)
-            → IsStoreWith self.old cache a (D.content disk.old)
-            → self.old.root.sequence + 1 < 2 ^ 64
-            → LeavesOnly D.moment D.left_since disk.old disk.new
-            (RecoversEitherWith cache a (delivered a bytes.now moment).archive) }
-        ensures done { (a : Archive) (cache : List ℕ)
-            → IsStoreWith self.old cache a (D.content disk.old)
-            → self.old.root.sequence + 1 < 2 ^ 64
-            → DoneBy self.new cache cache a (delivered a bytes.now moment) result (D.content disk.new) }
-        ensures settled { OnDone result (WhereTold IsSettled (D.content disk.new)) }
-        ensures goes_on { OnDone result (GoesOn self.old.root self.new.root) }
-        ensures slot { OnDone result (self.new.slot ≡ 1 - self.old.slot) }
-        ensures same { OnRefusal result (self.new ≡ self.old) }
-        ensures untouched { OnRefusal result (UnlessFault result (OnlyLooks D.content D.moment
-            D.left_since disk.old disk.new)) }
-        ensures unmoved { IfUnread result (disk.new ≡ disk.old) }
-        ensures sizes { UnlessFault result (WhereTold (HasSizes self.new) (D.content disk.new)) }
-        ensures cause { RoseIf (result ≡ Answer.DiskFault) (D.faults disk.old) (D.faults disk.new) }
-        ensures for_command { AnswersDelivery result }
-        ensures count { ReadsOnce (D.reads disk.old) (D.reads disk.new) }
+        ensures taken { TakesCommand D.content D.moment D.left_since D.faults D.reads disk.old
+            disk.new self.old self.new (command.Deliver bytes.entry)
+            (λ a. delivered a bytes.now moment) result }
         ensures unread { (a : Archive) (cache : List ℕ)
             → IsStoreWith self.old cache a (D.content disk.old) → form_known a (stored bytes.now) ≡ false
             → D.reads disk.new ≡ D.reads disk.old }
@@ -351,26 +335,8 @@ impl DiskArchive {
     fn remove<D: Disk>(&mut self, disk: &mut D, number: u32, moment: u64) -> Answer
         requires moment { moment ≤ last_moment }
         requires sizes { WhereTold (HasSizes self.old) (D.content disk.old) }
-        ensures any_moment { (a : Archive) (cache : List ℕ)
-            → IsStoreWith self.old cache a (D.content disk.old)
-            → self.old.root.sequence + 1 < 2 ^ 64
-            → LeavesOnly D.moment D.left_since disk.old disk.new
-            (RecoversEitherWith cache a (removed a number moment).archive) }
-        ensures done { (a : Archive) (cache : List ℕ)
-            → IsStoreWith self.old cache a (D.content disk.old)
-            → self.old.root.sequence + 1 < 2 ^ 64
-            → DoneBy self.new cache cache a (removed a number moment) result (D.content disk.new) }
-        ensures settled { OnDone result (WhereTold IsSettled (D.content disk.new)) }
-        ensures goes_on { OnDone result (GoesOn self.old.root self.new.root) }
-        ensures slot { OnDone result (self.new.slot ≡ 1 - self.old.slot) }
-        ensures same { OnRefusal result (self.new ≡ self.old) }
-        ensures untouched { OnRefusal result (UnlessFault result (OnlyLooks D.content D.moment
-            D.left_since disk.old disk.new)) }
-        ensures unmoved { IfUnread result (disk.new ≡ disk.old) }
-        ensures sizes { UnlessFault result (WhereTold (HasSizes self.new) (D.content disk.new)) }
-        ensures cause { RoseIf (result ≡ Answer.DiskFault) (D.faults disk.old) (D.faults disk.new) }
-        ensures for_command { AnswersRemoval number result }
-        ensures count { ReadsOnce (D.reads disk.old) (D.reads disk.new) }
+        ensures taken { TakesCommand D.content D.moment D.left_since D.faults D.reads disk.old
+            disk.new self.old self.new (command.Remove number) (λ a. removed a number moment) result }
     {
         law_of_stores();
         if self.config().mirror {

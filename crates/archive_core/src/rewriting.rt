@@ -1,17 +1,17 @@
 //! Purges and edits of an archive on a disk.
-ghost use Rattle.std.specs.Prelude.{Some, None, ◌≡◌, ◌≤◌, ◌<◌, ◌+◌, ◌-◌, ◌^◌, ℕ, [], Err, IfErr, List};
+ghost use Rattle.std.specs.Prelude.{Some, None, ◌≡◌, ◌≤◌, ◌<◌, ◌-◌, ℕ, Err, IfErr, IfOk, OnOk, List};
 ghost use Rattle.arch_base.specs.Counts.{RoseIf};
 ghost use Rattle.arch_base.specs.Moments.{last_moment};
-ghost use Rattle.disk_model.specs.Disk.{WhereTold, LeavesOnly};
-ghost use Rattle.disk_model.specs.Synced.{IsSettled};
+ghost use Rattle.disk_model.specs.Disk.{WhereTold};
 ghost use Rattle.mail_reader.specs.Stored.{stored as stored_of};
-ghost use Rattle.arch_model.specs.Archives.{Archive, live, text_of, without_entries};
+ghost use Rattle.git_objects.specs.Objects.{blob_id_of};
+ghost use Rattle.arch_model.specs.Archives.{Archive, live, messages, text_of, without_entries};
 ghost use Rattle.arch_model.specs.Delivery.{delivered, edited, purged, unless_refused};
-ghost use Rattle.epoch_store.specs.Stores.{HasSizes, IsStoreWith, MayPurge, RecoversOneOf, Rewrites, without_blob};
-ghost use Rattle.archive_core.specs.Commands.{AnswersEdit, IsFaultRead, AnswersPurge, DoneBy, IfUnread, IfUnreadEdit, IsGone, KeepsText, KeepsTextFor, OnDone, OnRefusal, OnlyLooks, TellsText, UnlessFault};
+ghost use Rattle.epoch_store.specs.Stores.{EditsFiles, HasSizes, IsStoreWith, Keeps, KeepsFiles, MayPurge, without_blob};
+ghost use Rattle.archive_core.specs.Commands.{IsFaultRead, IfUnread, IsGone, IsLiveOf, KeepsText, KeepsTextFor, OnDone, OnlyLooks, TakesCommand, TellsText};
 ghost use Rattle.archive_core.specs.Numbers.{IsLiveAt};
 ghost use Rattle.archive_core.specs.Kept.{IndexesKept};
-ghost use Rattle.archive_core.specs.Rewriting.{ComparesForm, DropsAs, EditsAs, IsUnformed, JudgesEdit, MayReplace, ReplacesAs, TakesBy, late_answer};
+ghost use Rattle.archive_core.specs.Rewriting.{ComparesForm, Drops, EditsAs, IsUnformed, JudgesEdit, MayReplace, Replaces, RewritesAs, TakesBy, late_answer};
 ghost use Rattle.arch_model.specs.declared.command.Command.TheVariants as command;
 
 use crate::archive::{DiskArchive, answer_of};
@@ -38,29 +38,11 @@ impl DiskArchive {
     ) -> Answer
         requires none { gone.old ≡ None }
         requires sizes { WhereTold (HasSizes self.old) (D.content disk.old) }
-        ensures any_moment { (a : Archive) (cache : List ℕ)
-            → IsStoreWith self.old cache a (D.content disk.old)
-            → self.old.root.sequence + 1 < 2 ^ 64
-            → LeavesOnly D.moment D.left_since disk.old disk.new
-            (RecoversOneOf cache a [] (purged a number).archive) }
-        ensures done { (a : Archive) (cache : List ℕ)
-            → IsStoreWith self.old cache a (D.content disk.old)
-            → self.old.root.sequence + 1 < 2 ^ 64
-            → DoneBy self.new cache [] a (purged a number) result (D.content disk.new) }
-        ensures settled { OnDone result (WhereTold IsSettled (D.content disk.new)) }
-        ensures goes_on { OnDone result (Rewrites self.old.root self.new.root) }
-        ensures slot { OnDone result (self.new.slot ≡ 1 - self.old.slot) }
-        ensures same { OnRefusal result (self.new ≡ self.old) }
-        ensures untouched { OnRefusal result (UnlessFault result (OnlyLooks D.content D.moment
-            D.left_since disk.old disk.new)) }
-        ensures unmoved { IfUnread result (disk.new ≡ disk.old) }
-        ensures sizes { UnlessFault result (WhereTold (HasSizes self.new) (D.content disk.new)) }
-        ensures cause { RoseIf (result ≡ Answer.DiskFault) (D.faults disk.old) (D.faults disk.new) }
-        ensures for_command { AnswersPurge number result }
+        ensures taken { TakesCommand D.content D.moment D.left_since D.faults D.reads disk.old
+            disk.new self.old self.new (command.Purge number) (λ a. purged a number) result }
         ensures gone { (a : Archive) (cache : List ℕ)
             → IsStoreWith self.old cache a (D.content disk.old)
             → OnDone result (IsGone a (command.Purge number) gone.new) }
-        ensures fewest { D.reads disk.old ≤ D.reads disk.new }
     {
         law_of_stores();
         if self.config().mirror {
@@ -90,8 +72,12 @@ impl DiskArchive {
     ) -> Result<Option<u32>, StoreRefusal>
         requires may { (number : ℕ) × MayPurge self.old number blob.now }
         requires sizes { WhereTold (HasSizes self.old) (D.content disk.old) }
-        ensures drops { DropsAs D.content D.moment D.left_since D.faults disk.old disk.new self.old
-            self.new blob.now result }
+        ensures drops { RewritesAs D.content D.moment D.left_since D.faults disk.old disk.new self.old
+            self.new (Drops blob.now) result }
+        ensures kept_files { OnOk result (KeepsFiles self.old self.new blob.now) }
+        ensures lives { (number : ℕ) (a : Archive) (text : List ℕ) → Keeps self.old a
+            → text_of (messages a.entries) number ≡ Some text → blob_id_of text ≡ blob.now
+            → IfOk result (IsLiveOf (live a.entries) text) }
         ensures fewest { D.reads disk.old ≤ D.reads disk.new }
     {
         law_of_stores();
@@ -126,33 +112,15 @@ impl DiskArchive {
         requires none { gone.old ≡ None }
         requires moment { moment ≤ last_moment }
         requires sizes { WhereTold (HasSizes self.old) (D.content disk.old) }
-        ensures any_moment { (a : Archive) (cache : List ℕ)
-            → IsStoreWith self.old cache a (D.content disk.old)
-            → self.old.root.sequence + 1 < 2 ^ 64
-            → LeavesOnly D.moment D.left_since disk.old disk.new
-            (RecoversOneOf cache a [] (edited a number bytes.now moment).archive) }
-        ensures done { (a : Archive) (cache : List ℕ)
-            → IsStoreWith self.old cache a (D.content disk.old)
-            → self.old.root.sequence + 1 < 2 ^ 64
-            → DoneBy self.new cache [] a (edited a number bytes.now moment) result
-            (D.content disk.new) }
-        ensures settled { OnDone result (WhereTold IsSettled (D.content disk.new)) }
-        ensures goes_on { OnDone result (Rewrites self.old.root self.new.root) }
-        ensures slot { OnDone result (self.new.slot ≡ 1 - self.old.slot) }
-        ensures same { OnRefusal result (self.new ≡ self.old) }
-        ensures untouched { OnRefusal result (UnlessFault result (OnlyLooks D.content D.moment
-            D.left_since disk.old disk.new)) }
-        ensures unmoved { IfUnreadEdit result (disk.new ≡ disk.old) }
-        ensures sizes { UnlessFault result (WhereTold (HasSizes self.new) (D.content disk.new)) }
-        ensures cause { RoseIf (result ≡ Answer.DiskFault) (D.faults disk.old) (D.faults disk.new) }
-        ensures for_command { AnswersEdit number result }
+        ensures taken { TakesCommand D.content D.moment D.left_since D.faults D.reads disk.old
+            disk.new self.old self.new (command.Edit number bytes.entry)
+            (λ a. edited a number bytes.now moment) result }
         ensures text { TellsText result kept.new }
         ensures kept { (a : Archive) (cache : List ℕ)
             → IsStoreWith self.old cache a (D.content disk.old)
             → OnDone result (KeepsTextFor (command.Edit number bytes.entry) a
             (edited a number bytes.now moment) moment kept.new) }
         ensures gone { OnDone result (gone.new ≡ Some number) }
-        ensures fewest { D.reads disk.old ≤ D.reads disk.new }
     {
         law_of_stores();
         if self.config().mirror {
@@ -224,6 +192,7 @@ impl DiskArchive {
         requires sizes { WhereTold (HasSizes self.old) (D.content disk.old) }
         ensures edits { EditsAs D.content D.moment D.left_since D.faults disk.old disk.new self.old
             self.new number bytes.now moment result }
+        ensures kept_files { OnDone result (EditsFiles self.old self.new blob.now) }
         ensures text { TellsText result kept.new }
         ensures kept { (a : Archive) (cache gone : List ℕ)
             → IsStoreWith self.old cache a (D.content disk.old)
@@ -296,8 +265,9 @@ impl DiskArchive {
         requires index { IndexesKept (without_blob self.old.entries old.now.0) index }
         requires moment { moment ≤ last_moment }
         requires sizes { WhereTold (HasSizes self.old) (D.content disk.old) }
-        ensures keeps { ReplacesAs D.content D.moment D.left_since D.faults disk.old disk.new self.old
-            self.new old.now text.now moment result }
+        ensures keeps { RewritesAs D.content D.moment D.left_since D.faults disk.old disk.new self.old
+            self.new (Replaces old.now text.now moment) result }
+        ensures kept_files { OnOk result (EditsFiles self.old self.new old.now) }
         ensures fewest { D.reads disk.old ≤ D.reads disk.new }
     {
         law_of_stores();

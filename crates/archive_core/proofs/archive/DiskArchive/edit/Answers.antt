@@ -1,68 +1,94 @@
-use Rattle.std.proofs.Common.{◌≡◌, ◌<◌, ◌∙◌, [], ap, subst, sym, length, slice_get, get_or, true, false, List, Some, refl, rules, tests}
-use Rattle.std.proofs.lemmas.Option.{slice_get_within, slice_get-get_or}
+use Rattle.std.proofs.Common.{◌≡◌, ◌∙◌, arith, [], ap, subst, sym, true, false, refl, rules, tests, ℕ, List}
+use Rattle.arch_base.specs.Counts.{RoseIf}
 use Rattle.arch_base.specs.declared.config.Config.{Config}
+use Rattle.arch_base.specs.declared.ids.Id20.{Id20}
 use Rattle.disk_model.specs.Disk.{LeavesOnly}
-use Rattle.arch_model.specs.Archives.{Archive, live}
-use Rattle.arch_model.specs.Delivery.{Done, edited}
-use Rattle.epoch_store.specs.Stores.{View, RecoversOneOf}
-use Rattle.epoch_store.specs.declared.entries.StoredEntry.{StoredEntry}
+use Rattle.arch_model.specs.Archives.{Archive, live, text_of}
+use Rattle.arch_model.specs.Delivery.{Done, edited, edited_text}
+use Rattle.arch_model.specs.declared.answer.Answer.TheVariants as answer
+use Rattle.arch_model.specs.declared.command.Command.TheVariants.{Edit}
+use Rattle.epoch_store.specs.Stores.{View, IsStoreWith, EditsFiles, RecoversOneOf}
 use Rattle.archive_core.specs.Commands.{DoneBy}
-use Rattle.archive_core.proofs.EditDone.{shown-text, unformed-unmoved, unformed-answers, unformed-tells, unformed-never, when-refused, unless-failed, done-then, sizes-read, cause-compared, unformed-done, same-done}
-use Rattle.archive_core.proofs.Standing.{store_keeps, still_own, not-started, only-read, read-first}
-use Rattle.archive_core.proofs.WithoutText.{edited-other, may-purge, writable-of}
+use Rattle.archive_core.specs.Walks.{looks-joined}
+use Rattle.archive_core.proofs.EditDone.{unformed-unmoved, unformed-answers, unformed-tells, unformed-never, sizes-read, cause-compared, unformed-done, same-done}
+use Rattle.archive_core.proofs.KeptTexts.{delivery-edit}
+use Rattle.archive_core.proofs.Replies.{done-then, refused-then}
+use Rattle.archive_core.proofs.Standing.{store_keeps, still_own, read-first}
+use Rattle.archive_core.proofs.Taking.{absent-refuses, mirror-refuses, quiet-taken, refused-taken, steady-cause}
+use Rattle.archive_core.proofs.Unmoved.{if-read-edit}
+use Rattle.archive_core.proofs.WithoutText.{edit-makes, may-read, shown-text, writable-of}
 use Rattle.archive_core.proofs.archive.DiskArchive.edit.Goals as goal
 
-pub returns-then-config-clause-any_moment : goal.returns-then-config-clause-any_moment
-returns-then-config-clause-any_moment g c = λ a cache store room.
-    not-started g.D.Disk.moment g.D.Disk.left_since c.law_of_stores.ensures.recovers c.args.self.now cache [] a (edited a c.args.number c.args.bytes.now c.args.moment).archive (g.D.Disk.content c.args.disk.now) c.args.disk.now store (g.met.D.Disk.only_now c.args.disk.now)
+pub returns-then-config-clause-taken : goal.returns-then-config-clause-taken
+returns-then-config-clause-taken g c =
+    quiet-taken g.D.Disk.content g.D.Disk.moment g.D.Disk.left_since g.D.Disk.faults g.D.Disk.reads g.met.D.Disk.only_now c.law_of_stores.ensures.recovers (Edit c.args.number c.args.bytes) (λ (a : Archive). edited a c.args.number c.args.bytes.now c.args.moment) c.args.disk.now c.args.self.now answer.IsMirror tt refl refl (λ fault. absurd (cc fault)) c.requires.sizes
+    (λ a keeps. mirror-refuses c.args.self.now a (Edit c.args.number c.args.bytes) c.args.moment keeps (ap (λ (n : Config). n.mirror) (sym c.config.ensures) ∙ c.if-config.true)) refl tt
 
-pub returns-in_default-clause-any_moment : goal.returns-in_default-clause-any_moment
-returns-in_default-clause-any_moment g c = λ a cache store room.
-    not-started g.D.Disk.moment g.D.Disk.left_since c.law_of_stores.ensures.recovers c.args.self.now cache [] a (edited a c.args.number c.args.bytes.now c.args.moment).archive (g.D.Disk.content c.args.disk.now) c.args.disk.now store (g.met.D.Disk.only_now c.args.disk.now)
+pub returns-in_default-clause-taken : goal.returns-in_default-clause-taken
+returns-in_default-clause-taken g c =
+    quiet-taken g.D.Disk.content g.D.Disk.moment g.D.Disk.left_since g.D.Disk.faults g.D.Disk.reads g.met.D.Disk.only_now c.law_of_stores.ensures.recovers (Edit c.args.number c.args.bytes) (λ (a : Archive). edited a c.args.number c.args.bytes.now c.args.moment) c.args.disk.now c.args.self.now (answer.NotLive c.args.number) tt refl refl (λ fault. absurd (cc fault)) c.requires.sizes
+    (λ a keeps. absent-refuses a (answer.NotLive c.args.number) (text_of (live a.entries) c.args.number) (edited_text a c.args.number c.args.bytes.now c.args.moment) refl
+    (writable-of c.args.self.now a keeps (ap (λ (n : Config). n.mirror) (sym c.config.ensures) ∙ c.if-config.false)) (c.in_default.ensures.live a keeps)) refl refl
 
-pub returns-in-Err-clause-any_moment : goal.returns-in-Err-clause-any_moment
-returns-in-Err-clause-any_moment g c = λ a cache store room.
-    only-read g.D.Disk.moment g.D.Disk.left_since c.law_of_stores.ensures.recovers c.args.self.now cache [] a (edited a c.args.number c.args.bytes.now c.args.moment).archive (g.D.Disk.content c.args.disk.now) c.args.disk.now c.is_same.new.disk store c.is_same.ensures.looks.any_moment
-
-pub returns-in-Err-clause-done : goal.returns-in-Err-clause-done
-returns-in-Err-clause-done g c = λ a cache store room.
+pub returns-in-Err-clause-taken : goal.returns-in-Err-clause-taken
+returns-in-Err-clause-taken g c =
+    refused-taken g.D.Disk.content g.D.Disk.moment g.D.Disk.left_since g.D.Disk.faults g.D.Disk.reads g.met.D.Disk.only_now c.law_of_stores.ensures.recovers (Edit c.args.number c.args.bytes) (λ (a : Archive). edited a c.args.number c.args.bytes.now c.args.moment) c.args.disk.now c.is_same.new.disk c.args.self.now c.in-Err.answer (unformed-never c.in-Err.answer ⊥ c.in-Err.ensures.refused) c.requires.sizes c.is_same.ensures.looks
+    (λ a cache store own.
     let v : View = c.args.self.now in
     let k = g.D.Disk.content c.args.disk.now in
     let keeps = store_keeps v cache a k store in
     let writable : v.root.config.mirror ≡ false = ap (λ (n : Config). n.mirror) (sym c.config.ensures) ∙ c.if-config.false in
     let text = shown-text (live a.entries) c.args.number (c.in-Some.ensures.live a keeps) in
-    let own = still_own v cache a k (g.D.Disk.content c.is_same.new.disk) c.is_same.ensures.looks.same store in
-    unformed-done v cache a c.args.number c.args.bytes.now c.args.moment text.0 (g.D.Disk.content c.is_same.new.disk) c.in-Err.answer own (writable-of v a keeps writable) text.1 (c.in-Err.ensures.compared a cache store)
+    unformed-done v cache a c.args.number c.args.bytes.now c.args.moment text.0 (g.D.Disk.content c.is_same.new.disk) c.in-Err.answer own (writable-of v a keeps writable) text.1 (c.in-Err.ensures.compared a cache store))
+    (unformed-unmoved c.in-Err.answer _ c.in-Err.ensures.refused c.in-Err.ensures.unmoved) (cause-compared c.in-Err.answer (g.D.Disk.faults c.args.disk.now) (g.D.Disk.faults c.is_same.new.disk) c.in-Err.ensures.cause)
+    (unformed-answers c.args.number c.in-Err.answer c.in-Err.ensures.refused) c.is_same.ensures.fewest
 
-pub returns-in-Err-clause-settled : goal.returns-in-Err-clause-settled
-returns-in-Err-clause-settled g c = unformed-never c.in-Err.answer _ c.in-Err.ensures.refused
+pub returns-in-Ok-true-clause-taken : goal.returns-in-Ok-true-clause-taken
+returns-in-Ok-true-clause-taken g c =
+    refused-taken g.D.Disk.content g.D.Disk.moment g.D.Disk.left_since g.D.Disk.faults g.D.Disk.reads g.met.D.Disk.only_now c.law_of_stores.ensures.recovers (Edit c.args.number c.args.bytes) (λ (a : Archive). edited a c.args.number c.args.bytes.now c.args.moment) c.args.disk.now c.is_same.new.disk c.args.self.now (answer.Duplicate c.args.number) tt c.requires.sizes c.is_same.ensures.looks
+    (λ a cache store own.
+    let v : View = c.args.self.now in
+    let k = g.D.Disk.content c.args.disk.now in
+    let keeps = store_keeps v cache a k store in
+    let writable : v.root.config.mirror ≡ false = ap (λ (n : Config). n.mirror) (sym c.config.ensures) ∙ c.if-config.false in
+    let text = shown-text (live a.entries) c.args.number (c.in-Some.ensures.live a keeps) in
+    let told : c.in-Ok-true.field-0 ≡ true = search (rules, tests) in
+    same-done v cache a c.args.number c.args.bytes.now c.args.moment text.0 (g.D.Disk.content c.is_same.new.disk) own (writable-of v a keeps writable) text.1 (sym told ∙ c.in-Ok-true.ensures.compared a cache store text.0 text.1))
+    tt (steady-cause _ _ _ (λ fault. absurd (cc fault)) (c.in-Ok-true.ensures.cause.kept (λ fault. absurd (cc fault)))) tt c.is_same.ensures.fewest
 
-pub returns-in-Err-clause-goes_on : goal.returns-in-Err-clause-goes_on
-returns-in-Err-clause-goes_on g c = unformed-never c.in-Err.answer _ c.in-Err.ensures.refused
-
-pub returns-in-Err-clause-slot : goal.returns-in-Err-clause-slot
-returns-in-Err-clause-slot g c = unformed-never c.in-Err.answer _ c.in-Err.ensures.refused
+pub returns-in-Ok-false-clause-taken : goal.returns-in-Ok-false-clause-taken
+returns-in-Ok-false-clause-taken g c =
+    let edits = c.replace.ensures.edits in
+    let reply = c.replace.result in
+    let told : c.in-Ok-false.field-0 ≡ false = search (rules, tests) in
+    let writable : c.args.self.now.root.config.mirror ≡ false = ap (λ (n : Config). n.mirror) (sym c.config.ensures) ∙ c.if-config.false in
+    let made = λ (a : Archive) (cache : List ℕ) (store : IsStoreWith c.args.self.now cache a (g.D.Disk.content c.args.disk.now)). (let keeps = store_keeps c.args.self.now cache a (g.D.Disk.content c.args.disk.now) store in edit-makes c.args.self.now a c.args.number c.args.bytes.now c.args.moment keeps writable (c.in-Some.ensures.live a keeps) (λ text is. sym (c.in-Ok-false.ensures.compared a cache store text is) ∙ told)) in
+    let may = may-read c.args.self.now c.stored.result.now c.args.number c.in-Some.index c.index-stored-index.result (c.stored.ensures ∙ ap (λ (u : View). u.entries) c.self.view_is) c.in-Some.ensures.known.message (ap (λ (n : Config). n.mirror) (sym c.config.ensures) ∙ c.if-config.false) in
+    record {
+      any_moment = λ a cache store room.
+          let is = made a cache store in
+          let own = still_own c.args.self.now cache a (g.D.Disk.content c.args.disk.now) (g.D.Disk.content c.is_same.new.disk) c.is_same.ensures.looks.same store in
+          read-first g.D.Disk.moment g.D.Disk.left_since c.law_of_stores.ensures.recovers c.args.self.now cache [] a (edited a c.args.number c.args.bytes.now c.args.moment).archive (g.D.Disk.content c.args.disk.now) c.args.disk.now c.is_same.new.disk c.replace.new.disk store c.is_same.ensures.looks.any_moment
+          (subst (λ (b : Archive). LeavesOnly g.D.Disk.moment g.D.Disk.left_since c.is_same.new.disk c.replace.new.disk (RecoversOneOf cache a [] b)) (sym (ap (λ (d : Done). d.archive) is.2)) (edits.any_moment a cache is.0 own room is.1));
+      done = λ a cache store room.
+          let is = made a cache store in
+          let own = still_own c.args.self.now cache a (g.D.Disk.content c.args.disk.now) (g.D.Disk.content c.is_same.new.disk) c.is_same.ensures.looks.same store in
+          subst (λ (d : Done). DoneBy c.replace.new.self cache [] a d reply (g.D.Disk.content c.replace.new.disk)) (sym is.2) (edits.done a cache is.0 own room is.1);
+      settled = edits.settled;
+      goes_on = edits.goes_on;
+      files = done-then reply _ _ (λ kept. (may.entry, (may.is_there, may.kind, may.number_is), subst (λ (id : Id20). EditsFiles c.args.self.now c.replace.new.self id) (sym may.blob_is) kept)) c.replace.ensures.kept_files;
+      slot = edits.slot;
+      same = edits.same;
+      untouched = refused-then reply _ _ (looks-joined g.D.Disk.content g.D.Disk.moment g.D.Disk.left_since g.met.D.Disk.only_now c.args.disk.now c.is_same.new.disk c.replace.new.disk c.is_same.ensures.looks) edits.untouched;
+      unmoved = if-read-edit reply _ edits.late;
+      sizes = edits.sizes;
+      cause = subst (λ (n : ℕ). RoseIf (reply ≡ answer.DiskFault) n (g.D.Disk.faults c.replace.new.disk)) (c.in-Ok-false.ensures.cause.kept (λ fault. absurd (cc fault))) edits.cause;
+      for_command = delivery-edit c.args.number reply edits.for_command;
+      count = (let first = c.is_same.ensures.fewest in let more = c.replace.ensures.fewest in omega arith);
+    }
 
 pub returns-in-Err-clause-gone : goal.returns-in-Err-clause-gone
 returns-in-Err-clause-gone g c = unformed-never c.in-Err.answer _ c.in-Err.ensures.refused
-
-pub returns-in-Err-clause-same : goal.returns-in-Err-clause-same
-returns-in-Err-clause-same g c = when-refused c.in-Err.answer _ refl
-
-pub returns-in-Err-clause-untouched : goal.returns-in-Err-clause-untouched
-returns-in-Err-clause-untouched g c = when-refused c.in-Err.answer _ (unless-failed c.in-Err.answer _ c.is_same.ensures.looks)
-
-pub returns-in-Err-clause-unmoved : goal.returns-in-Err-clause-unmoved
-returns-in-Err-clause-unmoved g c = unformed-unmoved c.in-Err.answer _ c.in-Err.ensures.refused c.in-Err.ensures.unmoved
-
-pub returns-in-Err-clause-sizes : goal.returns-in-Err-clause-sizes
-returns-in-Err-clause-sizes g c = unless-failed c.in-Err.answer _ (sizes-read c.args.self.now (g.D.Disk.content c.args.disk.now) (g.D.Disk.content c.is_same.new.disk) c.is_same.ensures.looks.same c.requires.sizes)
-
-pub returns-in-Err-clause-cause : goal.returns-in-Err-clause-cause
-returns-in-Err-clause-cause g c = cause-compared c.in-Err.answer (g.D.Disk.faults c.args.disk.now) (g.D.Disk.faults c.is_same.new.disk) c.in-Err.ensures.cause
-
-pub returns-in-Err-clause-for_command : goal.returns-in-Err-clause-for_command
-returns-in-Err-clause-for_command g c = unformed-answers c.args.number c.in-Err.answer c.in-Err.ensures.refused
 
 pub returns-in-Err-clause-text : goal.returns-in-Err-clause-text
 returns-in-Err-clause-text g c = unformed-tells c.in-Err.answer c.args.kept.now c.in-Err.ensures.refused
@@ -70,70 +96,19 @@ returns-in-Err-clause-text g c = unformed-tells c.in-Err.answer c.args.kept.now 
 pub returns-in-Err-clause-kept : goal.returns-in-Err-clause-kept
 returns-in-Err-clause-kept g c = λ a cache store. unformed-never c.in-Err.answer _ c.in-Err.ensures.refused
 
-pub returns-in-Ok-true-clause-any_moment : goal.returns-in-Ok-true-clause-any_moment
-returns-in-Ok-true-clause-any_moment g c = λ a cache store room.
-    only-read g.D.Disk.moment g.D.Disk.left_since c.law_of_stores.ensures.recovers c.args.self.now cache [] a (edited a c.args.number c.args.bytes.now c.args.moment).archive (g.D.Disk.content c.args.disk.now) c.args.disk.now c.is_same.new.disk store c.is_same.ensures.looks.any_moment
-
-pub returns-in-Ok-true-clause-done : goal.returns-in-Ok-true-clause-done
-returns-in-Ok-true-clause-done g c = λ a cache store room.
-    let v : View = c.args.self.now in
-    let k = g.D.Disk.content c.args.disk.now in
-    let keeps = store_keeps v cache a k store in
-    let writable : v.root.config.mirror ≡ false = ap (λ (n : Config). n.mirror) (sym c.config.ensures) ∙ c.if-config.false in
-    let text = shown-text (live a.entries) c.args.number (c.in-Some.ensures.live a keeps) in
-    let own = still_own v cache a k (g.D.Disk.content c.is_same.new.disk) c.is_same.ensures.looks.same store in
-    let told : c.in-Ok-true.field-0 ≡ true = search (rules, tests) in
-    same-done v cache a c.args.number c.args.bytes.now c.args.moment text.0 (g.D.Disk.content c.is_same.new.disk) own (writable-of v a keeps writable) text.1 (sym told ∙ c.in-Ok-true.ensures.compared a cache store text.0 text.1)
-
 pub replace-requires-clause-may : goal.replace-requires-clause-may
 replace-requires-clause-may g c =
-    let v : View = c.args.self.now in
-    let i = c.in-Some.index in
-    let d : StoredEntry = c.index-stored-index.result in
-    let at = c.in-Some.ensures.known.message in
-    let s : StoredEntry = get_or c.stored.result.now i d in
-    let kept : c.stored.result.now ≡ v.entries = c.stored.ensures ∙ ap (λ (u : View). u.entries) c.self.view_is in
-    let less : i < length v.entries = slice_get_within v.entries i at.entry at.there in
-    let there : slice_get v.entries i ≡ Some s = slice_get-get_or v.entries i d less ∙ ap (λ (es : List StoredEntry). Some (get_or es i d)) (sym kept) in
-    let writable : v.root.config.mirror ≡ false = ap (λ (n : Config). n.mirror) (sym c.config.ensures) ∙ c.if-config.false in
-    may-purge v c.args.number i s writable at there
+    let may = may-read c.args.self.now c.stored.result.now c.args.number c.in-Some.index c.index-stored-index.result (c.stored.ensures ∙ ap (λ (u : View). u.entries) c.self.view_is) c.in-Some.ensures.known.message (ap (λ (n : Config). n.mirror) (sym c.config.ensures) ∙ c.if-config.false) in
+    may
 
 pub replace-requires-clause-sizes : goal.replace-requires-clause-sizes
 replace-requires-clause-sizes g c = sizes-read c.args.self.now (g.D.Disk.content c.args.disk.now) (g.D.Disk.content c.is_same.new.disk) c.is_same.ensures.looks.same c.requires.sizes
 
-pub returns-in-Ok-false-clause-any_moment : goal.returns-in-Ok-false-clause-any_moment
-returns-in-Ok-false-clause-any_moment g c = λ a cache store room.
-    let v : View = c.args.self.now in
-    let k = g.D.Disk.content c.args.disk.now in
-    let keeps = store_keeps v cache a k store in
-    let writable : v.root.config.mirror ≡ false = ap (λ (n : Config). n.mirror) (sym c.config.ensures) ∙ c.if-config.false in
-    let text = shown-text (live a.entries) c.args.number (c.in-Some.ensures.live a keeps) in
-    let own = still_own v cache a k (g.D.Disk.content c.is_same.new.disk) c.is_same.ensures.looks.same store in
-    let told : c.in-Ok-false.field-0 ≡ false = search (rules, tests) in
-    let is = edited-other a c.args.number c.args.bytes.now c.args.moment text.0 (writable-of v a keeps writable) text.1 (sym (c.in-Ok-false.ensures.compared a cache store text.0 text.1) ∙ told) in
-    read-first g.D.Disk.moment g.D.Disk.left_since c.law_of_stores.ensures.recovers v cache [] a (edited a c.args.number c.args.bytes.now c.args.moment).archive k c.args.disk.now c.is_same.new.disk c.replace.new.disk store c.is_same.ensures.looks.any_moment
-    (subst (λ (b : Archive). LeavesOnly g.D.Disk.moment g.D.Disk.left_since c.is_same.new.disk c.replace.new.disk (RecoversOneOf cache a [] b)) (sym (ap (λ (d : Done). d.archive) is)) (c.replace.ensures.edits.any_moment a cache text.0 own room text.1))
-
-pub returns-in-Ok-false-clause-done : goal.returns-in-Ok-false-clause-done
-returns-in-Ok-false-clause-done g c = λ a cache store room.
-    let v : View = c.args.self.now in
-    let k = g.D.Disk.content c.args.disk.now in
-    let keeps = store_keeps v cache a k store in
-    let writable : v.root.config.mirror ≡ false = ap (λ (n : Config). n.mirror) (sym c.config.ensures) ∙ c.if-config.false in
-    let text = shown-text (live a.entries) c.args.number (c.in-Some.ensures.live a keeps) in
-    let own = still_own v cache a k (g.D.Disk.content c.is_same.new.disk) c.is_same.ensures.looks.same store in
-    let told : c.in-Ok-false.field-0 ≡ false = search (rules, tests) in
-    let is = edited-other a c.args.number c.args.bytes.now c.args.moment text.0 (writable-of v a keeps writable) text.1 (sym (c.in-Ok-false.ensures.compared a cache store text.0 text.1) ∙ told) in
-    subst (λ (d : Done). DoneBy c.replace.new.self cache [] a d c.replace.result (g.D.Disk.content c.replace.new.disk)) (sym is) (c.replace.ensures.edits.done a cache text.0 own room text.1)
-
 pub returns-in-Ok-false-clause-kept : goal.returns-in-Ok-false-clause-kept
 returns-in-Ok-false-clause-kept g c = λ a cache store.
-    let v : View = c.args.self.now in
-    let k = g.D.Disk.content c.args.disk.now in
-    let keeps = store_keeps v cache a k store in
-    let writable : v.root.config.mirror ≡ false = ap (λ (n : Config). n.mirror) (sym c.config.ensures) ∙ c.if-config.false in
-    let text = shown-text (live a.entries) c.args.number (c.in-Some.ensures.live a keeps) in
-    let own = still_own v cache a k (g.D.Disk.content c.is_same.new.disk) c.is_same.ensures.looks.same store in
     let told : c.in-Ok-false.field-0 ≡ false = search (rules, tests) in
-    let is = edited-other a c.args.number c.args.bytes.now c.args.moment text.0 (writable-of v a keeps writable) text.1 (sym (c.in-Ok-false.ensures.compared a cache store text.0 text.1) ∙ told) in
-    done-then c.replace.result _ _ (λ keeps_text. (text.0, text.1, ap (λ (d : Done). d.archive) is ∙ keeps_text)) (c.replace.ensures.kept a cache text.0 own text.1)
+    let writable : c.args.self.now.root.config.mirror ≡ false = ap (λ (n : Config). n.mirror) (sym c.config.ensures) ∙ c.if-config.false in
+    let made = λ (a : Archive) (cache : List ℕ) (store : IsStoreWith c.args.self.now cache a (g.D.Disk.content c.args.disk.now)). (let keeps = store_keeps c.args.self.now cache a (g.D.Disk.content c.args.disk.now) store in edit-makes c.args.self.now a c.args.number c.args.bytes.now c.args.moment keeps writable (c.in-Some.ensures.live a keeps) (λ text is. sym (c.in-Ok-false.ensures.compared a cache store text is) ∙ told)) in
+    let is = made a cache store in
+    let own = still_own c.args.self.now cache a (g.D.Disk.content c.args.disk.now) (g.D.Disk.content c.is_same.new.disk) c.is_same.ensures.looks.same store in
+    done-then c.replace.result _ _ (λ keeps_text. (is.0, is.1, ap (λ (d : Done). d.archive) is.2 ∙ keeps_text)) (c.replace.ensures.kept a cache is.0 own is.1)

@@ -1,26 +1,28 @@
 use Rattle.std.proofs.Common.{◌≡◌, ◌∙◌, ◌++◌, ◌∷◌, [], true, List, Ok, Err, length, sym, ap, subst, rules, ℕ}
+use Rattle.disk_model.specs.Disk.{LeavesOnly}
+use Rattle.arch_model.specs.Archives.{Archive}
 use Rattle.epoch_store.specs.declared.entries.StoredEntry.{StoredEntry}
-use Rattle.epoch_store.specs.Stores.{View, without_blob}
+use Rattle.epoch_store.specs.Stores.{View, IsStoreWith, RecoversOneOf, without_blob}
 use Rattle.archive_core.specs.Kept.{IndexesKept, PutsText}
 use Rattle.archive_core.specs.Placing.{message_places, PlacesRise}
-use Rattle.archive_core.specs.Rewriting.{ReplacesAs}
+use Rattle.archive_core.specs.Rewriting.{Replaces, RewritesAs}
 use Rattle.archive_core.specs.declared.placing.MessagePlace.{MessagePlace}
 use Rattle.archive_core.proofs.Dropping.{indexes-edited, places-edited, rises-without}
 use Rattle.archive_core.proofs.Places.{place_of}
-use Rattle.archive_core.proofs.Redone.{replaces-none, replaces-refused, replaces-done}
+use Rattle.archive_core.proofs.Redone.{rewrites-none, rewrites-refused, rewrites-done}
 use Rattle.archive_core.proofs.archive.DiskArchive.keep_instead.Goals as goal
 
 pub returns-in_default-clause-keeps : goal.returns-in_default-clause-keeps
-returns-in_default-clause-keeps g c = replaces-none g.D.Disk.content g.D.Disk.moment g.D.Disk.left_since g.D.Disk.faults g.met.D.Disk.only_now c.law_of_stores.ensures.recovers c.args.disk.now c.args.self.now c.args.old.now c.args.text.now c.args.moment
+returns-in_default-clause-keeps g c = rewrites-none g.D.Disk.content g.D.Disk.moment g.D.Disk.left_since g.D.Disk.faults g.met.D.Disk.only_now c.law_of_stores.ensures.recovers c.args.disk.now c.args.self.now (Replaces c.args.old.now c.args.text.now c.args.moment)
 
 pub returns-in_default-places_without-clause-keeps : goal.returns-in_default-places_without-clause-keeps
-returns-in_default-places_without-clause-keeps g c = replaces-none g.D.Disk.content g.D.Disk.moment g.D.Disk.left_since g.D.Disk.faults g.met.D.Disk.only_now c.law_of_stores.ensures.recovers c.args.disk.now c.args.self.now c.args.old.now c.args.text.now c.args.moment
+returns-in_default-places_without-clause-keeps g c = rewrites-none g.D.Disk.content g.D.Disk.moment g.D.Disk.left_since g.D.Disk.faults g.met.D.Disk.only_now c.law_of_stores.ensures.recovers c.args.disk.now c.args.self.now (Replaces c.args.old.now c.args.text.now c.args.moment)
 
 pub returns-then-not-may_follow-clause-keeps : goal.returns-then-not-may_follow-clause-keeps
-returns-then-not-may_follow-clause-keeps g c = replaces-none g.D.Disk.content g.D.Disk.moment g.D.Disk.left_since g.D.Disk.faults g.met.D.Disk.only_now c.law_of_stores.ensures.recovers c.args.disk.now c.args.self.now c.args.old.now c.args.text.now c.args.moment
+returns-then-not-may_follow-clause-keeps g c = rewrites-none g.D.Disk.content g.D.Disk.moment g.D.Disk.left_since g.D.Disk.faults g.met.D.Disk.only_now c.law_of_stores.ensures.recovers c.args.disk.now c.args.self.now (Replaces c.args.old.now c.args.text.now c.args.moment)
 
 pub returns-in_default-push-clause-keeps : goal.returns-in_default-push-clause-keeps
-returns-in_default-push-clause-keeps g c = replaces-none g.D.Disk.content g.D.Disk.moment g.D.Disk.left_since g.D.Disk.faults g.met.D.Disk.only_now c.law_of_stores.ensures.recovers c.args.disk.now c.args.self.now c.args.old.now c.args.text.now c.args.moment
+returns-in_default-push-clause-keeps g c = rewrites-none g.D.Disk.content g.D.Disk.moment g.D.Disk.left_since g.D.Disk.faults g.met.D.Disk.only_now c.law_of_stores.ensures.recovers c.args.disk.now c.args.self.now (Replaces c.args.old.now c.args.text.now c.args.moment)
 
 pub invariant_of-self : goal.invariant_of-self
 invariant_of-self g c =
@@ -46,12 +48,17 @@ invariant_of-self g c =
 
 pub returns-in-Ok-edit_text-clause-keeps : goal.returns-in-Ok-edit_text-clause-keeps
 returns-in-Ok-edit_text-clause-keeps g c =
-    subst (λ (v : View). ReplacesAs g.D.Disk.content g.D.Disk.moment g.D.Disk.left_since g.D.Disk.faults c.args.disk.now c.edit_text.new.disk v c.edit_text.new.self c.args.old.now c.args.text.now c.args.moment (Ok tt)) c.self.view_is
-    (replaces-done g.D.Disk.content g.D.Disk.moment g.D.Disk.left_since g.D.Disk.faults g.met.D.Disk.only_now c.args.disk.now c.edit_text.new.disk c.self.inside.store c.edit_text.new.self c.args.old.now c.args.text.now c.args.moment
-    c.in-Ok-edit_text.ensures.any_moment c.in-Ok-edit_text.ensures.done c.in-Ok-edit_text.ensures.settled c.in-Ok-edit_text.ensures.sizes c.in-Ok-edit_text.ensures.goes_on c.in-Ok-edit_text.ensures.slot c.in-Ok-edit_text.ensures.cause)
+    subst (λ (v : View). RewritesAs g.D.Disk.content g.D.Disk.moment g.D.Disk.left_since g.D.Disk.faults c.args.disk.now c.edit_text.new.disk v c.edit_text.new.self (Replaces c.args.old.now c.args.text.now c.args.moment) (Ok tt)) c.self.view_is
+    (rewrites-done g.D.Disk.content g.D.Disk.moment g.D.Disk.left_since g.D.Disk.faults g.met.D.Disk.only_now c.args.disk.now c.edit_text.new.disk c.self.inside.store c.edit_text.new.self (Replaces c.args.old.now c.args.text.now c.args.moment)
+    (λ a b cache store room made. subst (λ (e : Archive). LeavesOnly g.D.Disk.moment g.D.Disk.left_since c.args.disk.now c.edit_text.new.disk (RecoversOneOf cache a [] e)) (sym made.is)
+    (c.edit_text.ensures.any_moment made.number a cache made.gone store room made.shown made.blob_is made.alone))
+    tt (λ a b cache store room made. subst (λ (e : Archive). IsStoreWith c.edit_text.new.self [] e (g.D.Disk.content c.edit_text.new.disk)) (sym made.is) (c.in-Ok-edit_text.ensures.done made.number a cache made.gone store room made.shown made.blob_is made.alone))
+    c.in-Ok-edit_text.ensures.settled c.in-Ok-edit_text.ensures.sizes c.in-Ok-edit_text.ensures.goes_on c.in-Ok-edit_text.ensures.slot c.in-Ok-edit_text.ensures.cause)
 
 pub returns-in-Err-clause-keeps : goal.returns-in-Err-clause-keeps
 returns-in-Err-clause-keeps g c =
-    subst (λ (v : View). ReplacesAs g.D.Disk.content g.D.Disk.moment g.D.Disk.left_since g.D.Disk.faults c.args.disk.now c.edit_text.new.disk v c.edit_text.new.self c.args.old.now c.args.text.now c.args.moment (Err c.in-Err.refusal)) c.self.view_is
-    (replaces-refused g.D.Disk.content g.D.Disk.moment g.D.Disk.left_since g.D.Disk.faults g.met.D.Disk.only_now c.args.disk.now c.edit_text.new.disk c.self.inside.store c.edit_text.new.self c.args.old.now c.args.text.now c.args.moment c.in-Err.refusal
-    c.in-Err.ensures.any_moment c.in-Err.ensures.same c.in-Err.ensures.untouched c.in-Err.ensures.undamaged c.in-Err.ensures.cause)
+    subst (λ (v : View). RewritesAs g.D.Disk.content g.D.Disk.moment g.D.Disk.left_since g.D.Disk.faults c.args.disk.now c.edit_text.new.disk v c.edit_text.new.self (Replaces c.args.old.now c.args.text.now c.args.moment) (Err c.in-Err.refusal)) c.self.view_is
+    (rewrites-refused g.D.Disk.content g.D.Disk.moment g.D.Disk.left_since g.D.Disk.faults g.met.D.Disk.only_now c.args.disk.now c.edit_text.new.disk c.self.inside.store c.edit_text.new.self (Replaces c.args.old.now c.args.text.now c.args.moment)
+    (λ a b cache store room made. subst (λ (e : Archive). LeavesOnly g.D.Disk.moment g.D.Disk.left_since c.args.disk.now c.edit_text.new.disk (RecoversOneOf cache a [] e)) (sym made.is)
+    (c.edit_text.ensures.any_moment made.number a cache made.gone store room made.shown made.blob_is made.alone))
+    (Unit {0}) c.in-Err.refusal c.in-Err.ensures.same c.in-Err.ensures.untouched c.in-Err.ensures.undamaged c.in-Err.ensures.cause)

@@ -1,67 +1,83 @@
-use Rattle.std.proofs.Common.{◌≡◌, ◌∙◌, [], sym, ap, subst, ℕ, List, Some, Ok}
-use Rattle.disk_model.specs.Moments.{started}
-use Rattle.arch_model.specs.Archives.{live, text_of}
-use Rattle.arch_model.specs.Delivery.{removed}
+use Rattle.std.proofs.Common.{◌≡◌, ◌∙◌, [], sym, ap, subst, true, false, refl, ℕ, List, Some, Ok}
+use Rattle.arch_base.specs.Counts.{RoseIf}
+use Rattle.arch_base.specs.declared.config.Config.{Config}
+use Rattle.arch_model.specs.Archives.{Archive, live, text_of}
+use Rattle.arch_model.specs.Delivery.{removed, removed_text}
+use Rattle.arch_model.specs.Shelves.{ReadsOnce}
+use Rattle.arch_model.specs.declared.answer.Answer.{Answer}
+use Rattle.arch_model.specs.declared.answer.Answer.TheVariants as answer
+use Rattle.arch_model.specs.declared.command.Command.TheVariants.{Remove}
 use Rattle.epoch_store.specs.Reads.{GivesTextOf}
-use Rattle.epoch_store.specs.Stores.{View, IsStoreWith, RecoversEitherWith}
+use Rattle.epoch_store.specs.Stores.{View, IsStoreWith}
+use Rattle.archive_core.specs.Commands.{AnswersRemoval, IfUnread, OnDone}
 use Rattle.archive_core.proofs.ByNumber.{inside-message, text-gives}
-use Rattle.archive_core.proofs.Standing.{store_keeps, still_own, stands, only-read, read-first, unread-done}
-use Rattle.archive_core.proofs.Unmoved.{if-read, if-text}
+use Rattle.archive_core.proofs.Replies.{refused-then, when-done}
+use Rattle.archive_core.proofs.Standing.{store_keeps, still_own, read-first, unread-done}
+use Rattle.archive_core.proofs.Taking.{absent-refuses, mirror-refuses, quiet-taken, refused-taken}
+use Rattle.archive_core.proofs.Unmoved.{if-read, unread-cause, unread-then}
+use Rattle.archive_core.proofs.WithoutText.{writable-of}
 use Rattle.archive_core.proofs.archive.DiskArchive.remove.Goals as goal
 
-pub returns-then-config-clause-any_moment : goal.returns-then-config-clause-any_moment
-returns-then-config-clause-any_moment g c = λ a cache store room.
-    let disk = c.args.disk.now in
-    let b = (removed a c.args.number c.args.moment).archive in
-    started g.D.Disk.moment g.D.Disk.left_since disk (RecoversEitherWith cache a b)
-    (λ image left. stands c.law_of_stores.ensures.recovers c.args.self.now cache cache a b (g.D.Disk.content disk) image store (g.met.D.Disk.only_now disk image left))
+pub returns-then-config : goal.returns-then-config
+returns-then-config g c = record {
+  taken = quiet-taken g.D.Disk.content g.D.Disk.moment g.D.Disk.left_since g.D.Disk.faults g.D.Disk.reads g.met.D.Disk.only_now c.law_of_stores.ensures.recovers (Remove c.args.number) (λ (a : Archive). removed a c.args.number c.args.moment) c.args.disk.now c.args.self.now answer.IsMirror tt refl refl (λ fault. absurd (cc fault)) c.requires.sizes
+      (λ a keeps. mirror-refuses c.args.self.now a (Remove c.args.number) c.args.moment keeps (ap (λ (n : Config). n.mirror) (sym c.config.ensures) ∙ c.if-config.true)) refl tt;
+}
 
-pub returns-in_default-clause-any_moment : goal.returns-in_default-clause-any_moment
-returns-in_default-clause-any_moment g c = λ a cache store room.
-    let disk = c.args.disk.now in
-    let b = (removed a c.args.number c.args.moment).archive in
-    started g.D.Disk.moment g.D.Disk.left_since disk (RecoversEitherWith cache a b)
-    (λ image left. stands c.law_of_stores.ensures.recovers c.args.self.now cache cache a b (g.D.Disk.content disk) image store (g.met.D.Disk.only_now disk image left))
+pub returns-in_default : goal.returns-in_default
+returns-in_default g c = record {
+  taken = quiet-taken g.D.Disk.content g.D.Disk.moment g.D.Disk.left_since g.D.Disk.faults g.D.Disk.reads g.met.D.Disk.only_now c.law_of_stores.ensures.recovers (Remove c.args.number) (λ (a : Archive). removed a c.args.number c.args.moment) c.args.disk.now c.args.self.now (answer.NotLive c.args.number) tt refl refl (λ fault. absurd (cc fault)) c.requires.sizes
+      (λ a keeps. absent-refuses a (answer.NotLive c.args.number) (text_of (live a.entries) c.args.number) (removed_text a c.args.number c.args.moment) refl
+      (writable-of c.args.self.now a keeps (ap (λ (n : Config). n.mirror) (sym c.config.ensures) ∙ c.if-config.false)) (c.in_default.ensures.live a keeps)) refl refl;
+}
 
 pub text-requires : goal.text-requires
 text-requires g c = record { there = inside-message c.args.self.now c.self.inside.store c.args.number c.in-Some.index c.self.view_is c.in-Some.ensures.known.message }
 
-pub returns-in-Ok-clause-any_moment : goal.returns-in-Ok-clause-any_moment
-returns-in-Ok-clause-any_moment g c = λ a cache store room.
-    let k = g.D.Disk.content c.args.disk.now in
-    let own = subst (λ (v : View). IsStoreWith v cache a k) (sym c.self.view_is) store in
-    let keeps = store_keeps c.args.self.now cache a k store in
-    let given = text-gives c.args.self.now a keeps c.args.number c.in-Some.index c.in-Some.ensures.known [] c.text.new.into (Ok tt)
-    (subst (λ (l : List ℕ). GivesTextOf a c.in-Some.index l c.text.new.into (Ok tt)) c.new-text.ensures (c.in-Ok.ensures.archive a cache own)) in
-    let shown : text_of (live a.entries) c.args.number ≡ Some c.as_slice.result.now = given.1 ∙ ap Some (sym given.2 ∙ sym c.as_slice.ensures) in
-    let after = still_own c.args.self.now cache a k (g.D.Disk.content c.text.new.disk) c.text.ensures.same store in
-    read-first g.D.Disk.moment g.D.Disk.left_since c.law_of_stores.ensures.recovers c.args.self.now cache cache a (removed a c.args.number c.args.moment).archive k c.args.disk.now c.text.new.disk c.end_message.new.disk store c.text.ensures.any_moment
-    (c.end_message.ensures.any_moment a cache after room shown)
+pub returns-in-Ok : goal.returns-in-Ok
+returns-in-Ok g c = record {
+  taken = record {
+    any_moment = λ a cache store room.
+        let k = g.D.Disk.content c.args.disk.now in
+        let own = subst (λ (v : View). IsStoreWith v cache a k) (sym c.self.view_is) store in
+        let keeps = store_keeps c.args.self.now cache a k store in
+        let given = text-gives c.args.self.now a keeps c.args.number c.in-Some.index c.in-Some.ensures.known [] c.text.new.into (Ok tt)
+        (subst (λ (l : List ℕ). GivesTextOf a c.in-Some.index l c.text.new.into (Ok tt)) c.new-text.ensures (c.in-Ok.ensures.archive a cache own)) in
+        let shown : text_of (live a.entries) c.args.number ≡ Some c.as_slice.result.now = given.1 ∙ ap Some (sym given.2 ∙ sym c.as_slice.ensures) in
+        let after = still_own c.args.self.now cache a k (g.D.Disk.content c.text.new.disk) c.text.ensures.same store in
+        read-first g.D.Disk.moment g.D.Disk.left_since c.law_of_stores.ensures.recovers c.args.self.now cache cache a (removed a c.args.number c.args.moment).archive k c.args.disk.now c.text.new.disk c.end_message.new.disk store c.text.ensures.any_moment
+        (c.end_message.ensures.any_moment a cache after room shown);
+    done = λ a cache store room.
+        let k = g.D.Disk.content c.args.disk.now in
+        let own = subst (λ (v : View). IsStoreWith v cache a k) (sym c.self.view_is) store in
+        let keeps = store_keeps c.args.self.now cache a k store in
+        let given = text-gives c.args.self.now a keeps c.args.number c.in-Some.index c.in-Some.ensures.known [] c.text.new.into (Ok tt)
+        (subst (λ (l : List ℕ). GivesTextOf a c.in-Some.index l c.text.new.into (Ok tt)) c.new-text.ensures (c.in-Ok.ensures.archive a cache own)) in
+        let shown : text_of (live a.entries) c.args.number ≡ Some c.as_slice.result.now = given.1 ∙ ap Some (sym given.2 ∙ sym c.as_slice.ensures) in
+        let after = still_own c.args.self.now cache a k (g.D.Disk.content c.text.new.disk) c.text.ensures.same store in
+        c.end_message.ensures.done a cache after room shown;
+    settled = c.end_message.ensures.settled;
+    goes_on = c.end_message.ensures.goes_on;
+    files = when-done c.end_message.result (Unit {0}) tt;
+    slot = c.end_message.ensures.slot;
+    same = c.end_message.ensures.same;
+    untouched = refused-then c.end_message.result _ _ (λ still. rw still (record { same = c.text.ensures.same; any_moment = c.text.ensures.any_moment })) c.end_message.ensures.untouched;
+    unmoved = if-read c.end_message.result _ c.end_message.ensures.read;
+    sizes = c.end_message.ensures.sizes;
+    cause = subst (λ (n : ℕ). RoseIf (c.end_message.result ≡ answer.DiskFault) n (g.D.Disk.faults c.end_message.new.disk)) (c.in-Ok.ensures.cause.kept (λ fault. absurd (cc fault))) c.end_message.ensures.cause;
+    for_command = c.end_message.ensures.for_command;
+    count = subst (λ (n : ℕ). ReadsOnce (g.D.Disk.reads c.args.disk.now) n) (sym c.end_message.ensures.count) (record { later = c.text.ensures.fewest; most = c.text.ensures.count });
+  };
+}
 
-pub returns-in-Ok-clause-done : goal.returns-in-Ok-clause-done
-returns-in-Ok-clause-done g c = λ a cache store room.
-    let k = g.D.Disk.content c.args.disk.now in
-    let own = subst (λ (v : View). IsStoreWith v cache a k) (sym c.self.view_is) store in
-    let keeps = store_keeps c.args.self.now cache a k store in
-    let given = text-gives c.args.self.now a keeps c.args.number c.in-Some.index c.in-Some.ensures.known [] c.text.new.into (Ok tt)
-    (subst (λ (l : List ℕ). GivesTextOf a c.in-Some.index l c.text.new.into (Ok tt)) c.new-text.ensures (c.in-Ok.ensures.archive a cache own)) in
-    let shown : text_of (live a.entries) c.args.number ≡ Some c.as_slice.result.now = given.1 ∙ ap Some (sym given.2 ∙ sym c.as_slice.ensures) in
-    let after = still_own c.args.self.now cache a k (g.D.Disk.content c.text.new.disk) c.text.ensures.same store in
-    c.end_message.ensures.done a cache after room shown
-
-pub returns-clause-any_moment : goal.returns-clause-any_moment
-returns-clause-any_moment g c = λ a cache store room.
-    only-read g.D.Disk.moment g.D.Disk.left_since c.law_of_stores.ensures.recovers c.args.self.now cache cache a (removed a c.args.number c.args.moment).archive (g.D.Disk.content c.args.disk.now) c.args.disk.now c.text.new.disk store c.text.ensures.any_moment
-
-pub returns-clause-done : goal.returns-clause-done
-returns-clause-done g c = λ a cache store room.
-    let k = g.D.Disk.content c.args.disk.now in
-    let own = subst (λ (v : View). IsStoreWith v cache a k) (sym c.self.view_is) store in
-    unread-done c.args.self.now cache cache a c.in-Some.index c.new-text.result c.text.new.into c.in-Err.refusal c.unread.result (removed a c.args.number c.args.moment) (g.D.Disk.content c.text.new.disk) c.unread.ensures (c.in-Err.ensures.archive a cache own)
-    (still_own c.args.self.now cache a k (g.D.Disk.content c.text.new.disk) c.text.ensures.same store)
-
-pub returns-in-Ok-clause-unmoved : goal.returns-in-Ok-clause-unmoved
-returns-in-Ok-clause-unmoved g c = if-read c.end_message.result _ c.end_message.ensures.read
-
-pub returns-clause-unmoved : goal.returns-clause-unmoved
-returns-clause-unmoved g c = if-text c.args.self.now c.in-Some.index c.in-Err.refusal c.unread.result _ c.unread.ensures
+pub returns : goal.returns
+returns g c =
+    let v : View = c.args.self.now in
+    let told = unread-then v c.in-Some.index c.in-Err.refusal c.unread.result c.unread.ensures in
+    record {
+      taken = refused-taken g.D.Disk.content g.D.Disk.moment g.D.Disk.left_since g.D.Disk.faults g.D.Disk.reads g.met.D.Disk.only_now c.law_of_stores.ensures.recovers (Remove c.args.number) (λ (a : Archive). removed a c.args.number c.args.moment) c.args.disk.now c.text.new.disk v c.unread.result (told (λ (r : Answer). OnDone r ⊥) tt tt (λ file at. tt)) c.requires.sizes (record { same = c.text.ensures.same; any_moment = c.text.ensures.any_moment })
+          (λ a cache store own. unread-done v cache cache a c.in-Some.index c.new-text.result c.text.new.into c.in-Err.refusal c.unread.result (removed a c.args.number c.args.moment) (g.D.Disk.content c.text.new.disk) c.unread.ensures
+          (c.in-Err.ensures.archive a cache (subst (λ (u : View). IsStoreWith u cache a (g.D.Disk.content c.args.disk.now)) (sym c.self.view_is) store)) own)
+          (told (λ (r : Answer). IfUnread r (c.text.new.disk ≡ c.args.disk.now)) tt tt (λ file at. tt)) (unread-cause v c.in-Some.index c.in-Err.refusal c.unread.result _ _ c.unread.ensures c.in-Err.ensures.cause)
+          (told (AnswersRemoval c.args.number) tt tt (λ file at. tt)) (record { later = c.text.ensures.fewest; most = c.text.ensures.count });
+    }

@@ -1,5 +1,4 @@
 use Rattle.std.proofs.Common.{◌≡◌, ◌∙◌, true, false, sym, ap, subst, refl, length, List, ℕ, Ok}
-use Rattle.arch_judge.specs.Judging.{unless_same}
 use Rattle.arch_judge.specs.declared.judging.Verdict.TheVariants.{Refuse}
 use Rattle.epoch_store.specs.Stores.{View}
 use Rattle.archive_core.specs.Kept.{IndexesStored}
