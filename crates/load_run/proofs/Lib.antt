@@ -1,0 +1,4 @@
+pub mod Firsts
+pub mod FourCounts
+pub mod Sizes
+pub mod Validly

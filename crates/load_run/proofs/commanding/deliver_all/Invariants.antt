@@ -1,0 +1,15 @@
+use Rattle.std.proofs.Common.{◌≡◌, None}
+use Rattle.arch_model.specs.Archives.{Archive}
+use Rattle.arch_model.specs.Keeping.{Fits}
+use Rattle.arch_model.specs.Standing.{standing}
+use Rattle.load_run.specs.Mails.{state_after}
+use Rattle.load_run.specs.Loads.{delivered_to}
+use Rattle.load_run.proofs.commanding.deliver_all.Given as goal
+
+abbrev pub invariant-loop-index : goal.invariant-loop-index
+invariant-loop-index g l = record {
+  kept : (a : Archive) → Fits g.K.Shelf.holds g.K.Shelf.ready g.K.Keep.leaves l.fn.keep (standing a None)
+      → Fits g.K.Shelf.holds g.K.Shelf.ready g.K.Keep.leaves l.keep (standing (delivered_to a l.fn.seed l.index) None);
+  state : l.state ≡ state_after l.fn.seed l.index;
+  same : g.K.Shelf.faults l.keep ≡ g.K.Shelf.faults l.fn.keep;
+}

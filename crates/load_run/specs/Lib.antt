@@ -1,0 +1,4 @@
+pub mod Mails
+pub mod Loads
+pub mod Counted
+pub mod Given
