@@ -11,10 +11,10 @@ use Rattle.std.proofs.lemmas.List.Elements.{All-nil, All-cons, All-push, All-hea
 use Rattle.arch_base.specs.Configs.{IsConfig}
 use Rattle.edge_io.specs.Parsing.{Spells}
 use Rattle.arch_base.specs.declared.config.Config.{Config}
-use Rattle.archive_cli.specs.Words.{IsMade, IsInit, IsReplay, IsNumbered, IsLone, IsServe, IsServeOption, Gives, serve_word, IsJob, AsksFor, IsSetting, IsUpTo, EachOnce, setting_word, limit_of, slice_of, max_of, mirror_of, limits, slices, maxes, mirrors, spelled, limit_in, slice_in, max_in, mirror_in}
+use Rattle.archive_cli.specs.Words.{IsMade, IsInit, IsReplay, IsNumbered, IsLone, IsServe, IsServeOption, Gives, serve_word, IsLoad, IsJob, AsksFor, IsSetting, IsUpTo, EachOnce, setting_word, limit_of, slice_of, max_of, mirror_of, limits, slices, maxes, mirrors, spelled, limit_in, slice_in, max_in, mirror_in}
 use Rattle.archive_cli.specs.Options.{IsServing, Holds, HoldsMore, HoldsTwo, marks}
 use Rattle.archive_cli.specs.declared.words.Job.{Job}
-use Rattle.archive_cli.specs.declared.words.Job.TheVariants.{Help, Version, Replay, Init, Deliver, Remove, Purge, Edit, Reindex, Check, Serve}
+use Rattle.archive_cli.specs.declared.words.Job.TheVariants.{Help, Version, Replay, Load, Init, Deliver, Remove, Purge, Edit, Reindex, Check, Serve}
 use Rattle.archive_cli.specs.declared.words.ServeOption.{ServeOption}
 use Rattle.archive_cli.specs.declared.words.ServeOption.TheVariants as serving
 use Rattle.archive_cli.specs.declared.words.Setting.{Setting}
@@ -22,7 +22,7 @@ use Rattle.archive_cli.specs.declared.words.Setting.TheVariants.{Limit, Slice, M
 use Rattle.archive_cli.specs.declared.words.Settings.{Settings}
 
 -- Texts with different first bytes differ.
-apart : (c d : ℕ) (x y : List ℕ) → c ≢ d → c ∷ x ≢ d ∷ y
+pub apart : (c d : ℕ) (x y : List ℕ) → c ≢ d → c ∷ x ≢ d ∷ y
 apart c d x y h e = h (ap (λ l. get_or l 0 0) e)
 
 -- A word spells at most one setting.
@@ -179,10 +179,10 @@ remove-replay : codes "remove" ≢ codes "replay"
 remove-replay e = apart 109 112 (codes "ove") (codes "lay") (omega arith) (ap (drop 2) e)
 
 -- Equal words have equal first words and equal rests.
-head-word : (v w : List ℕ) (xs ys : List (List ℕ)) → v ∷ xs ≡ w ∷ ys → v ≡ w
+pub head-word : (v w : List ℕ) (xs ys : List (List ℕ)) → v ∷ xs ≡ w ∷ ys → v ≡ w
 head-word v w xs ys e = cc e
 
-tail-words : (v w : List ℕ) (xs ys : List (List ℕ)) → v ∷ xs ≡ w ∷ ys → xs ≡ ys
+pub tail-words : (v w : List ℕ) (xs ys : List (List ℕ)) → v ∷ xs ≡ w ∷ ys → xs ≡ ys
 tail-words v w xs ys e = cc e
 
 -- Two words are not one.
@@ -232,6 +232,11 @@ no-serve Removal e = apart 114 115 (codes "emove") (codes "erve") (omega arith) 
 no-serve Purging e = apart 112 115 (codes "urge") (codes "erve") (omega arith) e
 no-serve Editing e = apart 101 115 (codes "dit") (codes "erve") (omega arith) e
 
+no-load : (k : Numbered) → word_of k ≡ codes "load" → ⊥
+no-load Removal e = apart 114 108 (codes "emove") (codes "oad") (omega arith) e
+no-load Purging e = apart 112 108 (codes "urge") (codes "oad") (omega arith) e
+no-load Editing e = apart 101 108 (codes "dit") (codes "oad") (omega arith) e
+
 as-kind : (k l : Numbered) (words : List (List ℕ)) (number : ℕ) → word_of l ≡ word_of k → IsNumbered (word_of l) words number → (n : ℕ) × (job_of l number ≡ job_of k n) × IsNumbered (word_of k) words n
 as-kind k l words number e found = subst (λ (x : Numbered). (n : ℕ) × (job_of l number ≡ job_of x n) × IsNumbered (word_of x) words n) (same-kind l k e) (number, refl, found)
 
@@ -248,6 +253,7 @@ module _ (k : Numbered) (word : List ℕ) (more : List (List ℕ)) where
   numbered_only (Edit number) r = as-kind k Editing (word_of k ∷ word ∷ more) number (sym (head-word (word_of k) (codes "edit") (word ∷ more) (decimal number ∷ []) r.is)) r
   numbered_only (Init config) i = absurd (no-init k (head-word (word_of k) (codes "init") (word ∷ more) i.after i.is))
   numbered_only (Replay config) r = absurd (no-replay k (head-word (word_of k) (codes "replay") (word ∷ more) r.after r.is))
+  numbered_only (Load count seed) l = absurd (no-load k (head-word (word_of k) (codes "load") (word ∷ more) (decimal count ∷ decimal seed ∷ []) l.is))
   numbered_only (Serve turns port) s = absurd (no-serve k (head-word (word_of k) (codes "serve") (word ∷ more) (map serve_word s.options) s.is))
 
   -- A number alone after it.
@@ -289,38 +295,43 @@ edit_named word after found is asked = named word (codes "edit") after found is 
 pub serve_named : (word : List ℕ) (after : List (List ℕ)) (found : Option Job) → word ≡ codes "serve" → IsJob (codes "serve" ∷ after) found → IsJob (word ∷ after) found
 serve_named word after found is asked = named word (codes "serve") after found is asked
 
+pub load_named : (word : List ℕ) (after : List (List ℕ)) (found : Option Job) → word ≡ codes "load" → IsJob (codes "load" ∷ after) found → IsJob (word ∷ after) found
+load_named word after found is asked = named word (codes "load") after found is asked
+
 module _ (word name : List ℕ) (options : List (List ℕ)) where
   -- A word, and then the words that make an archive.
   after_word : (command : List ℕ) (after : List (List ℕ)) (settings : List Setting) (config : Config) → word ∷ name ∷ options ≡ command ∷ after → IsMade after settings config → IsMade (name ∷ options) settings config
   after_word command after settings config is m = subst (λ ws. IsMade ws settings config) (cc is) m
 
   -- Words that make no archive, and whose first isn't that of another job, ask for no job.
-  pub not_made : word ≢ codes "remove" → word ≢ codes "purge" → word ≢ codes "edit" → word ≢ codes "serve" → ((settings : List Setting) (config : Config) → IsMade (name ∷ options) settings config → ⊥) → (job : Job) → AsksFor (word ∷ name ∷ options) job → ⊥
-  not_made o x y v h Help e = cc e
-  not_made o x y v h Version e = cc e
-  not_made o x y v h Deliver e = cc e
-  not_made o x y v h Reindex e = cc e
-  not_made o x y v h Check e = cc e
-  not_made o x y v h (Remove number) r = o (cc r.is)
-  not_made o x y v h (Purge number) r = x (cc r.is)
-  not_made o x y v h (Edit number) r = y (cc r.is)
-  not_made o x y v h (Init config) i = h i.settings config (after_word (codes "init") i.after i.settings config i.is i.made)
-  not_made o x y v h (Replay config) r = h r.settings config (after_word (codes "replay") r.after r.settings config r.is r.made)
-  not_made o x y v h (Serve turns port) s = v (cc s.is)
+  pub not_made : word ≢ codes "remove" → word ≢ codes "purge" → word ≢ codes "edit" → word ≢ codes "load" → word ≢ codes "serve" → ((settings : List Setting) (config : Config) → IsMade (name ∷ options) settings config → ⊥) → (job : Job) → AsksFor (word ∷ name ∷ options) job → ⊥
+  not_made o x y z v h Help e = cc e
+  not_made o x y z v h Version e = cc e
+  not_made o x y z v h Deliver e = cc e
+  not_made o x y z v h Reindex e = cc e
+  not_made o x y z v h Check e = cc e
+  not_made o x y z v h (Remove number) r = o (cc r.is)
+  not_made o x y z v h (Purge number) r = x (cc r.is)
+  not_made o x y z v h (Edit number) r = y (cc r.is)
+  not_made o x y z v h (Init config) i = h i.settings config (after_word (codes "init") i.after i.settings config i.is i.made)
+  not_made o x y z v h (Replay config) r = h r.settings config (after_word (codes "replay") r.after r.settings config r.is r.made)
+  not_made o x y z v h (Load count seed) l = z (cc l.is)
+  not_made o x y z v h (Serve turns port) s = v (cc s.is)
 
   -- Words whose first is another ask for no job.
-  pub other_word : word ≢ codes "remove" → word ≢ codes "purge" → word ≢ codes "edit" → word ≢ codes "init" → word ≢ codes "replay" → word ≢ codes "serve" → (job : Job) → AsksFor (word ∷ name ∷ options) job → ⊥
-  other_word o x y p q v Help e = cc e
-  other_word o x y p q v Version e = cc e
-  other_word o x y p q v Deliver e = cc e
-  other_word o x y p q v Reindex e = cc e
-  other_word o x y p q v Check e = cc e
-  other_word o x y p q v (Remove number) r = o (cc r.is)
-  other_word o x y p q v (Purge number) r = x (cc r.is)
-  other_word o x y p q v (Edit number) r = y (cc r.is)
-  other_word o x y p q v (Init config) i = p (cc i.is)
-  other_word o x y p q v (Replay config) r = q (cc r.is)
-  other_word o x y p q v (Serve turns port) s = v (cc s.is)
+  pub other_word : word ≢ codes "remove" → word ≢ codes "purge" → word ≢ codes "edit" → word ≢ codes "load" → word ≢ codes "init" → word ≢ codes "replay" → word ≢ codes "serve" → (job : Job) → AsksFor (word ∷ name ∷ options) job → ⊥
+  other_word o x y z p q v Help e = cc e
+  other_word o x y z p q v Version e = cc e
+  other_word o x y z p q v Deliver e = cc e
+  other_word o x y z p q v Reindex e = cc e
+  other_word o x y z p q v Check e = cc e
+  other_word o x y z p q v (Remove number) r = o (cc r.is)
+  other_word o x y z p q v (Purge number) r = x (cc r.is)
+  other_word o x y z p q v (Edit number) r = y (cc r.is)
+  other_word o x y z p q v (Init config) i = p (cc i.is)
+  other_word o x y z p q v (Replay config) r = q (cc r.is)
+  other_word o x y z p q v (Load count seed) l = z (cc l.is)
+  other_word o x y z p q v (Serve turns port) s = v (cc s.is)
 
   module _ (config : Config) (is : word ≡ codes "replay") (made : (settings : List Setting) × IsMade (name ∷ options) settings config) where
     -- `replay` and an archive that is no mirror.
@@ -343,6 +354,7 @@ module _ (word name : List ℕ) (options : List (List ℕ)) where
     not_replayed e (Remove number) r = no-replay Removal (sym (head-word word (codes "remove") (name ∷ options) (decimal number ∷ []) r.is) ∙ is)
     not_replayed e (Purge number) r = no-replay Purging (sym (head-word word (codes "purge") (name ∷ options) (decimal number ∷ []) r.is) ∙ is)
     not_replayed e (Edit number) r = no-replay Editing (sym (head-word word (codes "edit") (name ∷ options) (decimal number ∷ []) r.is) ∙ is)
+    not_replayed e (Load count seed) l = apart 108 114 (codes "oad") (codes "eplay") (omega arith) (cc (l.is, is))
     not_replayed e (Init other) i = apart 105 114 (codes "nit") (codes "eplay") (omega arith) (cc (i.is, is))
     not_replayed e (Serve turns port) s = apart 115 114 (codes "erve") (codes "eplay") (omega arith) (cc (s.is, is))
     not_replayed e (Replay other) r =
@@ -452,6 +464,7 @@ serve_only after Check e = absurd (apart 115 99 (codes "erve") (codes "heck") (o
 serve_only after (Remove number) r = absurd (no-serve Removal (sym (head-word (codes "serve") (codes "remove") after (decimal number ∷ []) r.is)))
 serve_only after (Purge number) r = absurd (no-serve Purging (sym (head-word (codes "serve") (codes "purge") after (decimal number ∷ []) r.is)))
 serve_only after (Edit number) r = absurd (no-serve Editing (sym (head-word (codes "serve") (codes "edit") after (decimal number ∷ []) r.is)))
+serve_only after (Load count seed) l = absurd (apart 115 108 (codes "erve") (codes "oad") (omega arith) (head-word (codes "serve") (codes "load") after (decimal count ∷ decimal seed ∷ []) l.is))
 serve_only after (Init config) i = absurd (apart 115 105 (codes "erve") (codes "nit") (omega arith) (head-word (codes "serve") (codes "init") after i.after i.is))
 serve_only after (Replay config) r = absurd (apart 115 114 (codes "erve") (codes "eplay") (omega arith) (head-word (codes "serve") (codes "replay") after r.after r.is))
 serve_only after (Serve turns port) s = (turns, port, refl, s)
@@ -523,3 +536,18 @@ both-options x y is also = All-cons IsServeOption x (y ∷ []) is (one-option y 
 
 pub both-words : (word other : List ℕ) (x y : ServeOption) → word ≡ serve_word x → other ≡ serve_word y → word ∷ other ∷ [] ≡ map serve_word (x ∷ y ∷ [])
 both-words word other x y is also = cc
+
+-- Words that start with `load` and ask for a job ask for a load.
+pub load_only : (after : List (List ℕ)) (job : Job) → AsksFor (codes "load" ∷ after) job → (count : ℕ) × (seed : ℕ) × IsLoad (codes "load" ∷ after) count seed
+load_only after (Load count seed) l = (count, seed, l)
+load_only after Help e = absurd (apart 108 45 (codes "oad") (codes "-help") (omega arith) (head-word (codes "load") (codes "--help") after [] e))
+load_only after Version e = absurd (apart 108 45 (codes "oad") (codes "-version") (omega arith) (head-word (codes "load") (codes "--version") after [] e))
+load_only after Deliver e = absurd (apart 108 100 (codes "oad") (codes "eliver") (omega arith) (head-word (codes "load") (codes "deliver") after [] e))
+load_only after Reindex e = absurd (apart 108 114 (codes "oad") (codes "eindex") (omega arith) (head-word (codes "load") (codes "reindex") after [] e))
+load_only after Check e = absurd (apart 108 99 (codes "oad") (codes "heck") (omega arith) (head-word (codes "load") (codes "check") after [] e))
+load_only after (Remove number) r = absurd (no-load Removal (sym (head-word (codes "load") (codes "remove") after (decimal number ∷ []) r.is)))
+load_only after (Purge number) r = absurd (no-load Purging (sym (head-word (codes "load") (codes "purge") after (decimal number ∷ []) r.is)))
+load_only after (Edit number) r = absurd (no-load Editing (sym (head-word (codes "load") (codes "edit") after (decimal number ∷ []) r.is)))
+load_only after (Init config) i = absurd (apart 108 105 (codes "oad") (codes "nit") (omega arith) (head-word (codes "load") (codes "init") after i.after i.is))
+load_only after (Replay config) r = absurd (apart 108 114 (codes "oad") (codes "eplay") (omega arith) (head-word (codes "load") (codes "replay") after r.after r.is))
+load_only after (Serve turns port) s = absurd (apart 108 115 (codes "oad") (codes "erve") (omega arith) (head-word (codes "load") (codes "serve") after (map serve_word s.options) s.is))

@@ -4,7 +4,7 @@ use Rattle.std.proofs.Common.{subst, inl}
 use Rattle.arch_base.specs.declared.config.Config.{Config}
 use Rattle.disk_model.specs.Disk.{Files, Content, Image}
 use Rattle.disk_model.specs.Moments.{started}
-use Rattle.edge_io.specs.Coming.{Moments, IsFirst}
+use Rattle.edge_io.specs.Coming.{Moments}
 use Rattle.arch_model.specs.Archives.{Archive}
 use Rattle.arch_model.specs.Delivery.{Done}
 use Rattle.epoch_store.specs.Opens.{RecoversOf}

@@ -1,4 +1,6 @@
 pub mod Grammar
+pub mod LoadWords
+pub mod LoadLines
 pub mod Printed
 pub mod Leaving
 pub mod OnDisk

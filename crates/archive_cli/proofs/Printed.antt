@@ -13,7 +13,6 @@ use Rattle.arch_model.specs.Delivery.{Done}
 use Rattle.arch_model.specs.declared.answer.Answer.TheVariants as answer
 use Rattle.archive_core.proofs.Answered.{delivery-lives}
 use Rattle.archive_cli.specs.DiskCommands.{IsDone, TakesTo, delivering}
-use Rattle.archive_cli.specs.Statuses.{code_of}
 use Rattle.archive_cli.specs.Words.{IsJob, AsksFor}
 use Rattle.archive_cli.specs.Turns.{Transcript}
 use Rattle.archive_cli.specs.Serving.{ServeRun, Shut, run_line, run_status}
@@ -25,13 +24,13 @@ use Rattle.archive_cli.specs.Outcomes.{outcome_line, status_of}
 use Rattle.archive_cli.specs.declared.outcome.Outcome.{Outcome}
 use Rattle.archive_cli.specs.declared.outcome.Outcome.TheVariants.{Answered}
 use Rattle.archive_cli.specs.Program.{Edges, all_edges, NoneFailed, Acts, EndsBy, InitActs, CommandActs, MessageActs, putting, AsksForMessage, AsksForCommand, ReindexActs, CheckActs, PlaysPart, IsInput, IsDue, Ends, Ran, input_limit, message_of, TookAtMost}
-use Rattle.archive_cli.specs.Printing.{Printed, Exactly, IsReplayDue, Replayed, IsPieceRead, JobDone, InputDone, IsUnread}
+use Rattle.archive_cli.specs.Printing.{Printed, Exactly, IsLoadDue, IsReplayDue, Replayed, IsPieceRead, JobDone, InputDone, IsUnread}
 use Rattle.archive_cli.specs.declared.status.Status.{Status}
 use Rattle.archive_cli.specs.declared.status.Status.TheVariants as exit
 use Rattle.archive_cli.specs.declared.reading.InputRefusal.{InputRefusal}
 use Rattle.archive_cli.specs.declared.reading.InputRefusal.TheVariants.{Fault, TooLong, NoMemory}
 use Rattle.archive_cli.specs.declared.words.Job.{Job}
-use Rattle.archive_cli.specs.declared.words.Job.TheVariants.{Replay, Init, Deliver, Edit, Reindex, Check, Serve}
+use Rattle.archive_cli.specs.declared.words.Job.TheVariants.{Replay, Load, Init, Deliver, Edit, Reindex, Check, Serve}
 
 module _ (out : Option (List ℕ)) (lost : ℕ) (out' : Option (List ℕ)) (lost' : ℕ) where
   -- What is due by one rule is due by another.
@@ -109,6 +108,17 @@ ran-replayed words config status i j asked (inl r) kept clock disk =
     ran-printed words r.0 status i j (IsReplayDue config r.0) r.1 (λ s printed due. due_job words config r.0 i j s printed asked (record { input = r.2; clock = clock; disk = disk }) due) r.3
 ran-replayed words config status i j asked (inr r) kept clock disk = inr (inl (record { asked = inl (config, asked); rose = r.1; silent = record { status_is = r.0; taken_is = r.2; lost_kept = r.3; kept = kept } }))
 
+-- What is due of a load.
+due_load : (words : List (List ℕ)) (count seed : ℕ) (input : List ℕ) (i j : Edges) (s : Status) (printed : List ℕ) → AsksFor words (Load count seed) → j.content ≡ i.content → NoneFailed i j → IsLoadDue count seed s printed → IsDue words input i j s printed
+due_load words count seed input i j s printed asked kept spared (inl line) = inl (record { job = Some (Load count seed); asked = asked; ends = (line.status_is, line.words_is) })
+due_load words count seed input i j s printed asked kept spared (inr short) = inr (inr (inl (record { count = count; seed = seed; asked = asked; status_is = short.status_is; printed_is = short.words_is; kept = kept; spared = spared })))
+
+-- A load is a run.
+pub ran-loaded : (words : List (List ℕ)) (count seed : ℕ) (status : Status) (i j : Edges) → AsksFor words (Load count seed) → j.content ≡ i.content → j.unread ≡ i.unread → j.missed ≡ i.missed → j.broken ≡ i.broken → Printed (IsLoadDue count seed) status i.taken i.lost j.taken j.lost → Ran words status i j
+ran-loaded words count seed status i j asked kept input clock disk p =
+    let given = some-input i.left in
+    ran-printed words given.0 status i j (IsLoadDue count seed) given.1 (λ s printed due. due_load words count seed given.0 i j s printed asked kept (record { input = input; clock = clock; disk = disk }) due) p
+
 -- An archive that was to be made is a run.
 pub ran-made : (words : List (List ℕ)) (config : Config) (status : Status) (i j : Edges) → AsksFor words (Init config) → JobDone (InitActs config) status i j → Ran words status i j
 ran-made words config status i j asked (inl p) =
@@ -136,7 +146,7 @@ ran-put words place status i j asked (inl (input, told, inl p)) =
 ran-put words place status i j asked (inl (input, told, inr missed)) = inr (inr (inl (record { asked = inr (inl (asks-put words place asked)); rose = missed.1; silent = missed.0 })))
 ran-put words place status i j asked (inr (inl p)) =
     let given = some-input i.left in
-    ran-printed words given.0 status i j (IsUnread i j) given.1 (λ s printed unread. inr (inr (record { asked = asks-put words place asked; status_is = unread.status_is; printed_is = unread.printed_is; kept = unread.kept; spared = unread.spared }))) p
+    ran-printed words given.0 status i j (IsUnread i j) given.1 (λ s printed unread. inr (inr (inr (record { asked = asks-put words place asked; status_is = unread.status_is; printed_is = unread.printed_is; kept = unread.kept; spared = unread.spared })))) p
 ran-put words place status i j asked (inr (inr failed)) = inr (inl (record { asked = inr (asks-put words place asked); rose = failed.1; silent = failed.0 }))
 
 -- A command without a message is a run.

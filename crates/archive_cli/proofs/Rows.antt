@@ -27,7 +27,7 @@ use Rattle.archive_cli.specs.declared.outcome.Outcome.TheVariants.{Made, Exists,
 use Rattle.archive_cli.specs.declared.status.Status.{Status}
 use Rattle.archive_cli.specs.declared.status.Status.TheVariants as exit
 use Rattle.archive_cli.specs.declared.words.Job.{Job}
-use Rattle.archive_cli.specs.declared.words.Job.TheVariants.{Help, Version, Replay, Init, Deliver, Remove, Purge, Edit, Reindex, Check, Serve}
+use Rattle.archive_cli.specs.declared.words.Job.TheVariants.{Help, Version, Replay, Load, Init, Deliver, Remove, Purge, Edit, Reindex, Check, Serve}
 use Rattle.archive_cli.specs.DiskCommands.{Makes, StandsAs, StaysUnopened, TakesOn, ReindexesOn, ChecksOn, delivering, removing, purging, editing}
 use Rattle.archive_cli.specs.Laws.{WithMessage, WithRemoval, WithPurge, WithEdit, Goes, RunsInARow}
 use Rattle.archive_cli.specs.Outcomes.{status_of}
@@ -57,6 +57,7 @@ on-asked words Help never asked = absurd never
 on-asked words Version never asked = absurd never
 on-asked words (Replay config) never asked = absurd never
 on-asked words (Init config) never asked = absurd never
+on-asked words (Load count seed) never asked = absurd never
 on-asked words (Serve turns port) never asked = absurd never
 
 asked-on : (words : List (List ℕ)) (job : Job) → asks_on words ≡ true → AsksFor words job → IsOnArchive job
@@ -70,6 +71,7 @@ asked-on words Help on asked = false≢true (sym (ap asks_on asked) ∙ on)
 asked-on words Version on asked = false≢true (sym (ap asks_on asked) ∙ on)
 asked-on words (Replay config) on asked = false≢true (sym (ap asks_on asked.is) ∙ on)
 asked-on words (Init config) on asked = false≢true (sym (ap asks_on asked.is) ∙ on)
+asked-on words (Load count seed) on asked = false≢true (sym (ap asks_on asked.is) ∙ on)
 asked-on words (Serve turns port) on asked = false≢true (sym (ap asks_on asked.is) ∙ on)
 
 -- Words that ask for a job on the archive ask for no other.
@@ -88,6 +90,7 @@ only-makes words Deliver asked also = absurd (other-words 105 100 (codes "nit") 
 only-makes words (Remove number) asked also = absurd (other-words 105 114 (codes "nit") (codes "emove") asked.1.after (decimal number ∷ []) (omega arith) (sym asked.1.is ∙ also.is))
 only-makes words (Purge number) asked also = absurd (other-words 105 112 (codes "nit") (codes "urge") asked.1.after (decimal number ∷ []) (omega arith) (sym asked.1.is ∙ also.is))
 only-makes words (Edit number) asked also = absurd (other-words 105 101 (codes "nit") (codes "dit") asked.1.after (decimal number ∷ []) (omega arith) (sym asked.1.is ∙ also.is))
+only-makes words (Load count seed) asked also = absurd (other-words 105 108 (codes "nit") (codes "oad") asked.1.after (decimal count ∷ decimal seed ∷ []) (omega arith) (sym asked.1.is ∙ also.is))
 only-makes words (Serve turns port) asked also = absurd (other-words 105 115 (codes "nit") (codes "erve") asked.1.after (map serve_word also.options) (omega arith) (sym asked.1.is ∙ also.is))
 
 -- The archive is the same, or what the command of the words makes of it.
@@ -224,13 +227,15 @@ module _ (words : List (List ℕ)) (i : Edges) where
       leads-does input told status printed (Some Help) asks ends = absurd (only-on words Help asked asks)
       leads-does input told status printed (Some Version) asks ends = absurd (only-on words Version asked asks)
       leads-does input told status printed (Some (Replay config)) asks ends = absurd (only-on words (Replay config) asked asks)
+      leads-does input told status printed (Some (Load count seed)) asks ends = absurd (only-on words (Load count seed) asked asks)
       leads-does input told status printed (Some (Serve turns port)) asks ends = absurd (only-on words (Serve turns port) asked asks)
       leads-does input told status printed (Some (Init config)) asks ends = absurd (only-on words (Init config) asked asks)
 
       leads-due : (input : List ℕ) → IsInput i.left input → (status : Status) (printed : List ℕ) → IsDue words input i j status printed → Leads s j
       leads-due input told status printed (inl does) = leads-does input told status printed does.job does.asked does.ends
       leads-due input told status printed (inr (inl out)) = absurd (only-on words (Replay out.config) asked out.asked)
-      leads-due input told status printed (inr (inr out)) = leads-kept out.kept
+      leads-due input told status printed (inr (inr (inl out))) = leads-kept out.kept
+      leads-due input told status printed (inr (inr (inr out))) = leads-kept out.kept
 
       pub leads : (status : Status) → Ran words status i j → Leads s j
       leads status (inl printed) = leads-due printed.input printed.told status printed.printed printed.due
@@ -279,7 +284,8 @@ module _ (words : List (List ℕ)) (asked : AsksForInit words) (i j : Edges) (k 
   made-due : (input : List ℕ) (status : Status) (printed : List ℕ) → IsDue words input i j status printed → status ≡ exit.Done → IsMadeOn words i k
   made-due input status printed (inl does) done = made-job input status printed does.job does.asked does.ends done
   made-due input status printed (inr (inl out)) done = absurd (let no : exit.Memory ≡ exit.Done = sym out.stops.status_is ∙ done in cc)
-  made-due input status printed (inr (inr out)) done = absurd (let no : exit.Memory ≡ exit.Done = sym out.status_is ∙ done in cc)
+  made-due input status printed (inr (inr (inl out))) done = absurd (let no : exit.Memory ≡ exit.Done = sym out.status_is ∙ done in cc)
+  made-due input status printed (inr (inr (inr out))) done = absurd (let no : exit.Memory ≡ exit.Done = sym out.status_is ∙ done in cc)
 
   made-ran : (status : Status) → Ran words status i j → status ≡ exit.Done → IsMadeOn words i k
   made-ran status (inl printed) done = made-due printed.input status printed.printed printed.due done

@@ -8,7 +8,7 @@ use Rattle.disk_model.specs.Moments.{weaker}
 use Rattle.edge_io.specs.Scripts.{Arrival}
 use Rattle.arch_model.specs.Archives.{Archive, live}
 use Rattle.arch_model.specs.Following.{FollowsItself}
-use Rattle.arch_model.specs.Keeping.{HasDoubt, Has, HasAll, Passes, Fits}
+use Rattle.arch_model.specs.Keeping.{HasDoubt, HasAll, Passes, Fits}
 use Rattle.arch_model.specs.Laws.{CommandFollows}
 use Rattle.view_set.specs.Viewed.{views_of}
 use Rattle.arch_model.specs.Standing.{Standing, standing, one_of}

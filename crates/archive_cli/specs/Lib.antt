@@ -1,5 +1,6 @@
 pub mod Words
 pub mod Options
+pub mod Loading
 pub mod Turns
 pub mod Serving
 pub mod Program

@@ -8,6 +8,7 @@ use Rattle.edge_io.specs.declared.sink.SinkFault.{SinkFault}
 use Rattle.disk_model.specs.Disk.{Content}
 use Rattle.answer_lines.specs.Lines.{whole_line}
 use Rattle.archive_cli.specs.declared.outcome.Outcome.{Outcome}
+use Rattle.archive_cli.specs.Loading.{loaded_line}
 use Rattle.archive_cli.specs.Program.{Edges, NoneFailed, EndsBy, MessageActs, IsSilent, IsInput, input_limit, message_of, PlaysPart, Replays, StopsShort}
 use Rattle.edge_io.specs.Left.{before, IsUsedUp}
 use Rattle.archive_cli.specs.Serving.{ServeRun, run_line, run_status}
@@ -42,6 +43,12 @@ pub record Exactly (words : List ℕ) (status due_status : Status) (printed : Li
 abbrev pub IsReplayDue : Config → List ℕ → Status → List ℕ → Type 0
 IsReplayDue config input status printed = Replays config input status printed
     ⊎ StopsShort config input status printed
+
+-- What a load is due to print: the line of its archive, or that memory ran out.
+abbrev pub IsLoadDue : ℕ → ℕ → Status → List ℕ → Type 0
+IsLoadDue count seed status printed =
+    Exactly (whole_line (loaded_line count seed)) exit.Done status printed
+    ⊎ Exactly (whole_line (codes "12 no memory")) exit.Memory status printed
 
 -- What was played of a script, with this text and these events, over an empty archive with these
 -- settings.

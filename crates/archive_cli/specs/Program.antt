@@ -17,13 +17,14 @@ use Rattle.epoch_store.specs.First.{MakingLeaves}
 use Rattle.epoch_store.specs.Opens.{ReadsAs}
 use Rattle.answer_lines.specs.Lines.{whole_line}
 use Rattle.archive_cli.specs.DiskCommands.{Makes, TakesTo, ReindexesTo, ChecksTo, IsOpenedAs, IsFault, IsReply, IsReindex, IsCheck, StandsAs, TakesOn, ReindexesOn, ChecksOn, RunsOrStays, LeavesSame, LeavesEither, LeavesUnopened, delivering, removing, purging, editing}
+use Rattle.archive_cli.specs.Loading.{loaded_line}
 use Rattle.archive_cli.specs.Outcomes.{outcome_line, status_of}
 use Rattle.archive_cli.specs.Statuses.{code_of}
 use Rattle.archive_cli.specs.Words.{IsJob, AsksFor}
 use Rattle.archive_cli.specs.Serving.{ServeRun, Shut, run_status, run_line}
 use Rattle.archive_cli.specs.Turns.{Transcript, TranscriptFront}
 use Rattle.archive_cli.specs.declared.words.Job.{Job}
-use Rattle.archive_cli.specs.declared.words.Job.TheVariants.{Help, Version, Replay, Init, Deliver, Remove, Purge, Edit, Reindex, Check, Serve}
+use Rattle.archive_cli.specs.declared.words.Job.TheVariants.{Help, Version, Replay, Load, Init, Deliver, Remove, Purge, Edit, Reindex, Check, Serve}
 use Rattle.archive_cli.specs.declared.outcome.Outcome.{Outcome}
 use Rattle.archive_cli.specs.declared.outcome.Outcome.TheVariants.{Answered}
 use Rattle.archive_cli.specs.declared.status.Status.{Status}
@@ -219,6 +220,8 @@ Ends None input i j status printed = (status ≡ exit.NotRead)
 Ends (Some Help) input i j status printed = (status ≡ exit.Done) × (printed ≡ HELP.now)
 Ends (Some Version) input i j status printed = (status ≡ exit.Done) × (printed ≡ VERSION.now)
 Ends (Some (Replay config)) input i j status printed = Replays config input status printed
+Ends (Some (Load count seed)) input i j status printed = (status ≡ exit.Done)
+    × (printed ≡ whole_line (loaded_line count seed))
 Ends (Some (Init config)) input i j status printed = EndsBy (InitActs config) i j status printed
 Ends (Some Deliver) input i j status printed =
     EndsBy (DeliverActs (message_of input)) i j status printed
@@ -281,10 +284,22 @@ pub record DeliverRunsOut (words : List (List ℕ)) (i j : Edges) (status : Stat
   pub kept : j.content ≡ i.content
   pub spared : NoneFailed i j
 
--- A replay, a delivery or an edit ran out of memory.
+-- The words ask for a load, which ran out of memory, also that of its disk. The real disk is unchanged,
+-- and no device failed.
+pub record LoadRunsOut (words : List (List ℕ)) (i j : Edges) (status : Status) (printed : List ℕ)
+    : Type 0 where
+  pub count : ℕ
+  pub seed : ℕ
+  pub asked : AsksFor words (Load count seed)
+  pub status_is : status ≡ exit.Memory
+  pub printed_is : printed ≡ whole_line (codes "12 no memory")
+  pub kept : j.content ≡ i.content
+  pub spared : NoneFailed i j
+
+-- A replay, a load, a delivery or an edit ran out of memory.
 abbrev pub RunsOut : List (List ℕ) → List ℕ → Edges → Edges → Status → List ℕ → Type 0
 RunsOut words input i j status printed = ReplayRunsOut words input i j status printed
-    ⊎ DeliverRunsOut words i j status printed
+    ⊎ (LoadRunsOut words i j status printed ⊎ DeliverRunsOut words i j status printed)
 
 -- What a run is to print, and its status if all of that is taken.
 abbrev pub IsDue : List (List ℕ) → List ℕ → Edges → Edges → Status → List ℕ → Type 0
@@ -329,6 +344,7 @@ abbrev pub IsOnArchive : Job → Type 0
 IsOnArchive Help = ⊥
 IsOnArchive Version = ⊥
 IsOnArchive (Replay config) = ⊥
+IsOnArchive (Load count seed) = ⊥
 IsOnArchive (Init config) = ⊥
 IsOnArchive Deliver = Unit {0}
 IsOnArchive (Remove number) = Unit {0}
@@ -427,6 +443,7 @@ module _ {D : Type 0} (content : D → Option Content) (moment : D → ℕ)
   JobLeaves (Some Help) old new left coming = new ≡ old
   JobLeaves (Some Version) old new left coming = new ≡ old
   JobLeaves (Some (Replay config)) old new left coming = new ≡ old
+  JobLeaves (Some (Load count seed)) old new left coming = new ≡ old
   JobLeaves (Some (Init config)) old new left coming =
       LeavesOnly moment left_since old new (InitLeaves config coming (content old))
   JobLeaves (Some Deliver) old new left coming = MessageLeaves old new left coming delivering

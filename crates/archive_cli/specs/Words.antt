@@ -1,11 +1,11 @@
 -- The words of a command line.
-use Rattle.std.specs.Prelude.{◌≡◌, ◌≤◌, ℕ, List, [], ◌∷◌, ◌++◌, map, length, get_or, All, codes, decimal, Option, Some, None, Bool, true, false}
+use Rattle.std.specs.Prelude.{◌≡◌, ◌<◌, ◌≤◌, ℕ, List, [], ◌∷◌, ◌++◌, map, length, get_or, All, codes, decimal, Option, Some, None, Bool, true, false}
 use Rattle.std.specs.List.{flat_map}
 use Rattle.std.specs.Borrow.{Bor}
 use Rattle.arch_base.specs.Names.{IsName}
 use Rattle.arch_base.specs.declared.config.Config.{Config}
 use Rattle.archive_cli.specs.declared.words.Job.{Job}
-use Rattle.archive_cli.specs.declared.words.Job.TheVariants.{Help, Version, Replay, Init, Deliver, Remove, Purge, Edit, Reindex, Check, Serve}
+use Rattle.archive_cli.specs.declared.words.Job.TheVariants.{Help, Version, Replay, Load, Init, Deliver, Remove, Purge, Edit, Reindex, Check, Serve}
 use Rattle.archive_cli.specs.declared.words.ServeOption.{ServeOption}
 use Rattle.archive_cli.specs.declared.words.ServeOption.TheVariants as serving
 use Rattle.archive_cli.specs.declared.words.Setting.{Setting}
@@ -183,11 +183,18 @@ pub record IsServe (words : List (List ℕ)) (turns port : ℕ) : Type 0 where
   pub ranges : All IsServeOption options
   pub gives : Gives options turns port
 
+-- The word `load`, and then a count from 1 to 20000 and a seed below 2^64, in decimal.
+pub record IsLoad (words : List (List ℕ)) (count seed : ℕ) : Type 0 where
+  pub is : words ≡ codes "load" ∷ decimal count ∷ decimal seed ∷ []
+  pub range : IsUpTo 20000 count
+  pub seed_range : seed < 18446744073709551616
+
 -- The words ask for this job.
 abbrev pub AsksFor : List (List ℕ) → Job → Type 0
 AsksFor words Help = words ≡ codes "--help" ∷ []
 AsksFor words Version = words ≡ codes "--version" ∷ []
 AsksFor words (Replay config) = IsReplay words config
+AsksFor words (Load count seed) = IsLoad words count seed
 AsksFor words (Init config) = IsInit words config
 AsksFor words Deliver = words ≡ codes "deliver" ∷ []
 AsksFor words (Remove number) = IsNumbered (codes "remove") words number

@@ -4,6 +4,7 @@
 
 mod disk_commands;
 mod laws;
+mod loading;
 mod outcome;
 mod playing;
 mod program;

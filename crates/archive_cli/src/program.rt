@@ -15,6 +15,7 @@ ghost use Rattle.node_serve.specs.World.{outer};
 ghost use Rattle.edge_io.specs.Scripts.{IsArrival, IsScript};
 
 use crate::disk_commands::{check, make, reindex, take};
+use crate::loading::load_and_print;
 use crate::outcome::Outcome;
 use crate::playing::play_script;
 use crate::reading::{InputRefusal, read_input, read_message};
@@ -78,6 +79,7 @@ pub fn run<D: Disk, H: Host, S: Source, O: Sink, C: Clock>(
         Some(Job::Help) => (print(HELP.as_bytes(), Status::Done, out).code(), disk),
         Some(Job::Version) => (print(VERSION.as_bytes(), Status::Done, out).code(), disk),
         Some(Job::Replay { config }) => (replay(alloc, config, input, out).code(), disk),
+        Some(Job::Load { count, seed }) => (load_and_print(alloc, count, seed, out).code(), disk),
         Some(Job::Init { config }) => {
             let (status, disk) = init(alloc, config, disk, out, clock);
             (status.code(), disk)

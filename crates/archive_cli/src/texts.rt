@@ -1,28 +1,30 @@
 //! The texts that the program prints about itself.
 
-/// What `--help` prints: each command, and what it does.
+/// What `--help` prints: each command, what it does, and an example. It fits 80 columns and 23 lines.
 pub const HELP: &str = "\
-piv2: a mailing list archive
+piv2: a mailing list archive, kept in the folder piv2-store of this folder
 
-  piv2 init NAME [limit=N] [slice=N] [max=N] [mirror]
-                     make an archive in the folder piv2-store of the current folder, and print made NAME;
-                     limit, slice, max and mirror are settings of the archive, in any order: a mirror takes no messages
-  piv2 deliver       put the message on the input into the archive in the folder piv2-store of the current folder,
-                     and print the answer
-  piv2 remove N      remove the message of number N from the archive there, and print the answer: it is shown no more
-  piv2 purge N       drop the text of number N from all epochs of the archive there, and print the answer
-  piv2 edit N        purge the message of number N and deliver the one on the input, in one step, and print the answer
-  piv2 reindex       build the rows, threads and words of the archive there anew from its files, and print reindexed L:
-                     so many messages are shown
-  piv2 serve [turns=N] [port=N]
-                     serve the archive there on the loopback interface until the input ends: commands at the port,
-                     by default 7100, pages over HTTP at the next, and news at the one after; at most so many events
-  piv2 check         read all of the archive there, and print entries E live L next N
-  piv2 replay NAME [limit=N] [slice=N] [max=N]
-                     run a script from the input over an archive in memory, and print what it writes;
-                     limit, slice and max are settings of the archive, in any order
-  piv2 --help        print this
-  piv2 --version     print the version
+  init NAME [limit=N] [slice=N] [max=N] [mirror]
+             make the archive, with these settings        piv2 init list
+  deliver    append the message on the input              piv2 deliver < mail
+  remove N   remove message N from view                   piv2 remove 2
+  purge N    drop the text of message N from all files    piv2 purge 2
+  edit N     purge N, and append the message on the input piv2 edit 2 < mail
+  reindex    build rows, threads and words anew           piv2 reindex
+  check      read the whole archive, and count it         piv2 check
+  serve [turns=N] [port=N]
+             serve it on this machine until the input     piv2 serve port=7100
+             ends, or for N events: commands at the port
+             (7100), web pages at the next, then news
+  replay NAME [limit=N] [slice=N] [max=N]
+             run a script over an archive in memory       piv2 replay a < script
+  load COUNT SEED
+             fill an archive in memory, and count it      piv2 load 5000 7
+  --help     print this                                   piv2 --help
+  --version  print the version                            piv2 --version
+
+Settings, in any order: limit=N, a file with N bytes takes no more; slice=N, so
+many numbers make a mailbox; max=N, the last number; mirror, no deliveries.
 ";
 
 /// What `--version` prints.

@@ -1,7 +1,7 @@
 //! The words of a command line.
 ghost use Rattle.std.specs.Prelude.{◌≡◌, ◌≢◌, ◌∷◌, [], Some, codes, decimal};
 ghost use Rattle.edge_io.specs.Parsing.{Spells};
-ghost use Rattle.archive_cli.specs.Words.{IsJob, IsLone, IsSetting, IsServeOption, IsUpTo, setting_word, serve_word, spelled};
+ghost use Rattle.archive_cli.specs.Words.{IsJob, IsLone, IsSetting, IsServeOption, IsUpTo, config_of, setting_word, serve_word, spelled};
 ghost use Rattle.archive_cli.specs.Options.{IsCollected, IsConfigured, IsServing, IsWith, config_by};
 
 use arch_base::{Config, Name, read_decimal};
@@ -21,6 +21,9 @@ const MAX_PORT: u64 = 65_500;
 /// The port of the control door, if none is given.
 const FIRST_PORT: u16 = 7100;
 
+/// The greatest count of messages of a load.
+const MAX_COUNT: u64 = 20_000;
+
 /// The greatest number that a message can have.
 const MAX_NUMBER: u64 = 2_147_483_647;
 
@@ -34,6 +37,9 @@ pub enum Job {
     /// `replay NAME` with options: runs the script on the input over an archive in memory with
     /// these settings.
     Replay { config: Config },
+    /// `load COUNT SEED`: fills an archive in memory with so many messages, made from this seed, and
+    /// counts what it has then.
+    Load { count: u32, seed: u64 },
     /// `init NAME` with options: makes an archive with these settings. `born` is 1 here, since the
     /// words don't say when the archive is made.
     Init { config: Config },
@@ -132,11 +138,25 @@ impl Settings {
     }
 }
 
+/// Returns the settings of a new archive with this name, all by default.
+pub(crate) fn default_config(name: Name) -> Config
+    ensures { result ≡ config_of name [] }
+{
+    let settings = Settings {
+        limit: None,
+        slice: None,
+        max: None,
+        mirror: false,
+    };
+    settings.config(name)
+}
+
 /// Returns what these words ask for, or `None` if they aren't in the grammar.
 ///
 /// The grammar is `--help`, `--version`, `deliver`, `reindex`, `check`, `serve`, `remove`, `purge` or
-/// `edit` with a number from 1 to 2,147,483,647, or `init` or `replay` with the name of an archive and
-/// options. Each option comes at most once, in any order:
+/// `edit` with a number from 1 to 2,147,483,647, `load` with a count from 1 to 20,000 and a seed, or
+/// `init` or `replay` with the name of an archive and options. Each option comes at most once, in any
+/// order:
 ///
 /// * `limit=N`: 1 to 1,099,511,627,776, by default 1,073,741,824;
 /// * `slice=N`: 1 to 1,000,000, by default 50,000;
@@ -148,7 +168,7 @@ impl Settings {
 /// * `turns=N`: 1 to 9,223,372,036,854,775,808, which is the default;
 /// * `port=N`: 1 to 65,500, by default 7100.
 ///
-/// Numbers are decimals without leading zeros. Allocates nothing.
+/// Numbers are decimals without leading zeros, and a seed is below 2^64. Allocates nothing.
 pub fn read_words(words: &[&str]) -> Option<Job>
     ensures { IsJob (spelled words.now) result }
 {
@@ -260,7 +280,7 @@ fn read_one(word: &str) -> Option<Job>
 }
 
 /// Returns what two words and those after them ask for.
-#[tactic(auto, using(crate::proofs::Grammar::not_made, crate::proofs::Grammar::other_word, crate::proofs::Grammar::replayed, crate::proofs::Grammar::not_replayed, crate::proofs::Grammar::removal_named, crate::proofs::Grammar::purge_named, crate::proofs::Grammar::edit_named))]
+#[tactic(auto, using(crate::proofs::Grammar::not_made, crate::proofs::Grammar::other_word, crate::proofs::Grammar::replayed, crate::proofs::Grammar::not_replayed, crate::proofs::Grammar::removal_named, crate::proofs::Grammar::purge_named, crate::proofs::Grammar::edit_named, crate::proofs::Grammar::load_named))]
 fn read_named(word: &str, name: &str, options: &[&str]) -> Option<Job>
     requires { word.now ≢ codes "serve" }
     ensures { IsJob (word.now ∷ name.now ∷ spelled options.now) result }
@@ -269,6 +289,7 @@ fn read_named(word: &str, name: &str, options: &[&str]) -> Option<Job>
         "remove" => return read_removal(name, options),
         "purge" => return read_purge(name, options),
         "edit" => return read_edit(name, options),
+        "load" => return read_load(name, options),
         _ => {}
     }
     let config = read_config(name, options)?;
@@ -302,6 +323,29 @@ fn read_edit(word: &str, more: &[&str]) -> Option<Job>
 {
     let number = read_lone(word, more)?;
     Some(Job::Edit { number })
+}
+
+/// Returns the load that `load`, a word and those after it ask for: the words spell a count and a
+/// seed.
+fn read_load(word: &str, more: &[&str]) -> Option<Job>
+    ensures { IsJob (codes "load" ∷ word.now ∷ spelled more.now) result }
+{
+    match more {
+        [seed] => read_count_and_seed(word, seed),
+        _ => None,
+    }
+}
+
+/// Returns the load of the count and the seed that two words spell.
+fn read_count_and_seed(count: &str, seed: &str) -> Option<Job>
+    ensures { IsJob (codes "load" ∷ count.now ∷ seed.now ∷ []) result }
+{
+    let count = read_up_to(MAX_COUNT, count.as_bytes())?;
+    let seed = read_decimal(seed.as_bytes())?;
+    Some(Job::Load {
+        count: count as u32,
+        seed,
+    })
 }
 
 /// Returns the number of a message that a word spells if none comes after it.

@@ -49,8 +49,8 @@ impl Clock for Still {
 
 /// A clock that always fails.
 #[derive(Drop)]
-struct Broken {
-    faults: u64,
+pub(crate) struct Broken {
+    pub(crate) faults: u64,
 }
 
 impl Clock for Broken {

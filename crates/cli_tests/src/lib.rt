@@ -7,6 +7,8 @@ mod absent;
 #[cfg(test)]
 mod disk_tests;
 #[cfg(test)]
+mod load_tests;
+#[cfg(test)]
 mod purge_tests;
 #[cfg(test)]
 mod replay_tests;

@@ -166,6 +166,7 @@ fn asked(words: &[&str]) -> &'static str {
         Some(Job::Help) => "help",
         Some(Job::Version) => "version",
         Some(Job::Replay { config: _ }) => "replay",
+        Some(Job::Load { count: _, seed: _ }) => "load",
         Some(Job::Init { config: _ }) => "init",
         Some(Job::Deliver) => "deliver",
         Some(Job::Remove { number: _ }) => "remove",
@@ -185,7 +186,7 @@ struct Request<'a> {
 }
 
 /// Words in the grammar.
-const JOBS: [Request<'_>; 16] = [
+const JOBS: [Request<'_>; 18] = [
     Request {
         words: &["--help"],
         job: "help",
@@ -233,6 +234,14 @@ const JOBS: [Request<'_>; 16] = [
     Request {
         words: &["replay", "mirror"],
         job: "replay",
+    },
+    Request {
+        words: &["load", "1", "0"],
+        job: "load",
+    },
+    Request {
+        words: &["load", "20000", "18446744073709551615"],
+        job: "load",
     },
     Request {
         words: &["init", "list"],
@@ -295,6 +304,32 @@ const NO_JOBS: [&[&str]; 13] = [
 #[test]
 fn words_that_ask_for_nothing(rt: HostRuntime) {
     for words in &NO_JOBS {
+        assert!(rt; asked(words) == "none");
+    }
+}
+
+/// Words that start with `load` and are not in the grammar: without a count or a seed, with one out of
+/// range or out of form, or with more words.
+const NO_LOADS: [&[&str]; 14] = [
+    &["load"],
+    &["load", "1"],
+    &["load", "0", "7"],
+    &["load", "20001", "7"],
+    &["load", "01", "7"],
+    &["load", "", "7"],
+    &["load", "1", ""],
+    &["load", "1", "00"],
+    &["load", "1", "07"],
+    &["load", "1", "-7"],
+    &["load", "1", "18446744073709551616"],
+    &["load", "1", "100000000000000000000000000007"],
+    &["load", "1", "7", "7"],
+    &["Load", "1", "7"],
+];
+
+#[test]
+fn words_that_ask_for_no_load(rt: HostRuntime) {
+    for words in &NO_LOADS {
         assert!(rt; asked(words) == "none");
     }
 }

@@ -5,11 +5,11 @@ use Rattle.archive_cli.specs.DiskCommands.{removing, purging}
 use Rattle.archive_cli.specs.Program.{CommandActs, InitActs}
 use Rattle.archive_cli.specs.Serving.{hosted}
 use Rattle.archive_cli.specs.Words.{spelled}
-use Rattle.archive_cli.specs.declared.words.Job.TheVariants.{Help, Version, Replay, Init, Deliver, Remove, Purge, Edit, Reindex, Check, Serve}
+use Rattle.archive_cli.specs.declared.words.Job.TheVariants.{Help, Version, Replay, Load, Init, Deliver, Remove, Purge, Edit, Reindex, Check, Serve}
 use Rattle.archive_cli.specs.declared.status.Status.TheVariants as exit
 use Rattle.archive_cli.specs.declared.texts.TheConstants.{HELP, VERSION}
 use Rattle.archive_cli.proofs.Grammar.{replay-config, init-config, same-serve}
-use Rattle.archive_cli.proofs.Printed.{ran-exactly, ran-replayed, ran-made, ran-put, ran-command, ran-reindexed, ran-checked, ran-served, job-moved, some-moment}
+use Rattle.archive_cli.proofs.Printed.{ran-exactly, ran-replayed, ran-loaded, ran-made, ran-put, ran-command, ran-reindexed, ran-checked, ran-served, job-moved, some-moment}
 use Rattle.archive_cli.proofs.ServedDisk.{shut-faults}
 use Rattle.archive_cli.proofs.program.run.Goals as goal
 
@@ -28,6 +28,13 @@ returns-in-Some-Version-clause-ends g c =
 pub returns-in-Some-Replay-clause-ends : goal.returns-in-Some-Replay-clause-ends
 returns-in-Some-Replay-clause-ends g c =
     (c.replay.result, c.code-in-Some-Replay.ensures, ran-replayed (spelled c.args.words.now) c.in-Some-Replay.config _ _ _ (rw c.in-Some-Replay.field-0-is at c.in-Some-Replay.ensures) c.replay.ensures.ends refl refl refl)
+
+pub returns-in-Some-Load-clause-ends : goal.returns-in-Some-Load-clause-ends
+returns-in-Some-Load-clause-ends g c =
+    (c.load_and_print.result, c.code-in-Some-Load.ensures, ran-loaded (spelled c.args.words.now) c.in-Some-Load.count c.in-Some-Load.seed _ _ _ (rw c.in-Some-Load.field-0-is at c.in-Some-Load.ensures) refl refl refl refl c.load_and_print.ensures.printed)
+
+pub load_and_print-requires : goal.load_and_print-requires
+load_and_print-requires g c = let asked = rw c.in-Some-Load.field-0-is at c.in-Some-Load.ensures in asked.range.1
 
 pub replay-requires : goal.replay-requires
 replay-requires g c = replay-config (spelled c.args.words.now) c.in-Some-Replay.config (rw c.in-Some-Replay.field-0-is at c.in-Some-Replay.ensures)
@@ -142,6 +149,9 @@ returns-in-Some-Version-clause-disk g c = ((Some Version), rw c.in-Some-Version.
 
 pub returns-in-Some-Replay-clause-disk : goal.returns-in-Some-Replay-clause-disk
 returns-in-Some-Replay-clause-disk g c = ((Some (Replay c.in-Some-Replay.config)), rw c.in-Some-Replay.field-0-is at c.in-Some-Replay.ensures, refl)
+
+pub returns-in-Some-Load-clause-disk : goal.returns-in-Some-Load-clause-disk
+returns-in-Some-Load-clause-disk g c = ((Some (Load c.in-Some-Load.count c.in-Some-Load.seed)), rw c.in-Some-Load.field-0-is at c.in-Some-Load.ensures, refl)
 
 pub returns-in-Some-Serve-clause-disk : goal.returns-in-Some-Serve-clause-disk
 returns-in-Some-Serve-clause-disk g c = ((Some (Serve c.in-Some-Serve.turns c.in-Some-Serve._port)), rw c.in-Some-Serve.field-0-is at c.in-Some-Serve.ensures, tt)

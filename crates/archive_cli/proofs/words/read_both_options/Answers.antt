@@ -1,4 +1,4 @@
-use Rattle.std.proofs.Common.{◌∷◌, [], Some, ap, List, ℕ}
+use Rattle.std.proofs.Common.{◌∷◌, []}
 use Rattle.archive_cli.proofs.Grammar.{serve-read, serve-unread, serve-unread-second, both-options, both-words}
 use Rattle.archive_cli.proofs.words.read_both_options.Goals as goal
 
