@@ -3,7 +3,7 @@ ghost use Rattle.std.specs.Prelude.{◌≤◌, length};
 
 use arch_base::NoMemory;
 use disk_model::{Disk, DiskFault, FileKind, FileName};
-use real_edges::{FolderDisk, name_of, path_in};
+use real_edges::{FolderDisk, Progress, name_of, path_in};
 use std::alloc::Global;
 use std::fs::{self, File, Permissions};
 use std::io;
@@ -94,11 +94,11 @@ fn holds(rt: &HostRuntime, path: &str, wanted: &[u8]) -> io::Result<bool> {
     Ok(fs::read(rt, path)?.as_slice() == wanted)
 }
 
-/// Returns whether a disk over a missing folder keeps files.
-fn keeps_files(rt: &HostRuntime, disk: &mut FolderDisk) -> Result<bool, Fail> {
+/// Returns whether a disk over the missing folder at a path keeps files.
+fn keeps_files(rt: &HostRuntime, disk: &mut FolderDisk, path: &str) -> Result<bool, Fail> {
     let bare = is_bare(disk)?;
     // None of these calls creates the folder.
-    let made = fs::exists(rt, "kept")?;
+    let made = fs::exists(rt, path)?;
     let written = is_written(disk)?;
     let cut = is_cut(disk)?;
     Ok(bare && !made && written && cut)
@@ -107,7 +107,15 @@ fn keeps_files(rt: &HostRuntime, disk: &mut FolderDisk) -> Result<bool, Fail> {
 #[test]
 fn a_folder_keeps_files(rt: HostRuntime) -> Result<(), Fail> {
     let mut disk = FolderDisk::open(&rt, rt.alloc(), "kept")?;
-    assert!(rt; keeps_files(&rt, &mut disk)?);
+    assert!(rt; keeps_files(&rt, &mut disk, "kept")?);
+    Ok(())
+}
+
+#[test]
+fn a_folder_keeps_files_where_progress_is_told(rt: HostRuntime) -> Result<(), Fail> {
+    let progress = Progress::new(&rt);
+    let mut disk = FolderDisk::open_telling(&rt, rt.alloc(), "told", &progress)?;
+    assert!(rt; keeps_files(&rt, &mut disk, "told")?);
     Ok(())
 }
 
@@ -326,7 +334,7 @@ fn all_fail(disk: &mut FolderDisk) -> bool {
 }
 
 /// Returns the disk of another run, which waits for 20 milliseconds.
-fn other(rt: &HostRuntime, path: &str) -> Result<FolderDisk, NoMemory> {
+fn other(rt: &HostRuntime, path: &str) -> Result<FolderDisk<'static>, NoMemory> {
     FolderDisk::open_within(rt, rt.alloc(), path, Duration::from_millis(20))
 }
 

@@ -4,7 +4,7 @@ ghost use Rattle.std.specs.Prelude.{◌≡◌, ◌≤◌, length};
 use crate::host_tests::room;
 use arch_base::NoMemory;
 use edge_io::{Door, Event, Host, HostFault, What};
-use real_edges::SocketHost;
+use real_edges::{Progress, SocketHost};
 use std::io::{self, Read, Write};
 use std::net::{Ipv4Addr, Shutdown, SocketAddr, TcpStream};
 use std::test::Fail;
@@ -120,7 +120,8 @@ fn reads_to_end(host: &mut SocketHost, client: &mut TcpStream) -> Result<bool, F
 #[test]
 fn a_closed_client_reads_what_was_sent(rt: HostRuntime) -> Result<(), Fail> {
     let mut into = room(rt.alloc())?;
-    let mut host = SocketHost::listen(&rt, rt.alloc(), 17_330)?;
+    let progress = Progress::new(&rt);
+    let mut host = SocketHost::listen_telling(&rt, rt.alloc(), 17_330, &progress)?;
     assert!(rt; is_quiet(&mut host, &mut into)?);
     let mut client = connect(&rt, 17_331)?;
     let door = Door::Http;

@@ -2,7 +2,7 @@
 use crate::folder_tests::is_told;
 use arch_base::NoMemory;
 use edge_io::{Clock, ClockFault, Sink, SinkFault};
-use real_edges::{StdSink, StdSource, SystemClock};
+use real_edges::{Output, Progress, ReadSoFar, StdSink, StdSource, SystemClock};
 use std::alloc::Global;
 use std::fmt::Display;
 use std::io::{self, ErrorKind, Print};
@@ -122,9 +122,72 @@ fn what_is_not_printed_is_a_fault(rt: HostRuntime) -> Result<(), Fail> {
     Ok(())
 }
 
+/// What was read of a folder, and the words of the line of progress.
+#[derive(Clone, Copy)]
+struct Shown {
+    read: u64,
+    total: u64,
+    again: bool,
+    words: &'static str,
+}
+
+/// Parts of folders, a second reading, small and great ones, and more than a folder has.
+const SHOWN: [Shown; 5] = [
+    Shown {
+        read: 120_999_999,
+        total: 345_678_901,
+        again: false,
+        words: "read 120 of 345 MB",
+    },
+    Shown {
+        read: 120_000_000,
+        total: 345_000_000,
+        again: true,
+        words: "read 120 of 345 MB, again",
+    },
+    Shown {
+        read: 0,
+        total: 999_999,
+        again: false,
+        words: "read 0 of 0 MB",
+    },
+    Shown {
+        read: 2_000_000,
+        total: 1_999_999,
+        again: false,
+        words: "read 1 of 1 MB",
+    },
+    Shown {
+        read: u64::MAX,
+        total: u64::MAX,
+        again: false,
+        words: "read 18446744073709 of 18446744073709 MB",
+    },
+];
+
+/// Returns whether the words are those of the line of progress.
+fn is_worded(alloc: Global, shown: &Shown) -> Result<bool, NoMemory> {
+    let so_far = ReadSoFar {
+        read: shown.read,
+        total: shown.total,
+        again: shown.again,
+    };
+    let line = format!(in alloc; "{so_far}")?;
+    Ok(line.as_str() == shown.words)
+}
+
+#[test]
+fn the_line_of_progress_has_its_words(rt: HostRuntime) -> Result<(), Fail> {
+    for shown in &SHOWN {
+        assert!(rt; is_worded(rt.alloc(), shown)?);
+    }
+    Ok(())
+}
+
 /// Returns whether a write of no bytes to the standard output is taken.
 fn takes_nothing(rt: &HostRuntime) -> Result<bool, NoMemory> {
-    let mut sink = StdSink::new(rt, rt.alloc())?;
+    let progress = Progress::new(rt);
+    let mut sink = StdSink::new(Output::new(rt, &progress), rt.alloc())?;
     Ok(sink.write(b"") == Ok(()))
 }
 

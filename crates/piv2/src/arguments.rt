@@ -1,10 +1,10 @@
 //! The words of the command line, as the system hands them over.
-use crate::explain;
+use crate::telling::{tell_cause, tell_end, tell_start};
 use arch_base::NoMemory;
 use archive_cli::{Job, print_no_memory, read_words, run};
 use disk_model::Disk;
 use edge_io::{Clock, Sink, Source};
-use real_edges::SocketHost;
+use real_edges::{Progress, SocketHost};
 use std::alloc::Global;
 use std::env::Args;
 use std::io::{self, ErrorKind};
@@ -12,67 +12,87 @@ use std::io::{self, ErrorKind};
 /// The port of the control door, if none is named.
 const FIRST_PORT: u16 = 7100;
 
-/// Runs the program with the arguments after its name, and returns the number of the status to end
-/// with and the disk.
+/// What `serve` asks for: at most so many events, at the ports from this one on.
+#[derive(Clone, Copy, Drop)]
+struct Serving {
+    turns: u64,
+    port: u16,
+}
+
+/// Runs the program with the arguments after its name. Returns the number of the status to end with,
+/// and whether a failure of the sockets was told.
 ///
 /// Arguments that aren't all UTF-8 are no words of the grammar.
-pub(crate) fn run_arguments<D: Disk, S: Source, O: Sink, C: Clock>(
+pub(crate) fn run_arguments<D: Disk + Drop, S: Source, O: Sink, C: Clock>(
     rt: &HostRuntime,
-    alloc: Global,
+    progress: &Progress,
     arguments: io::Result<Args>,
     disk: D,
     input: &mut S,
     out: &mut O,
     clock: &mut C,
-) -> (u8, D) {
-    match collected(alloc, arguments) {
-        Ok(owned) => run_owned(rt, alloc, owned.as_slice(), disk, input, out, clock),
-        Err(NoMemory) => (print_no_memory(out).code(), disk),
+) -> (u8, bool) {
+    match collected(rt.alloc(), arguments) {
+        Ok(owned) => run_owned(rt, progress, owned.as_slice(), disk, input, out, clock),
+        Err(NoMemory) => (print_no_memory(out).code(), false),
     }
 }
 
 /// Runs the program with the words after the first, which is its name.
-fn run_owned<D: Disk, S: Source, O: Sink, C: Clock>(
+fn run_owned<D: Disk + Drop, S: Source, O: Sink, C: Clock>(
     rt: &HostRuntime,
-    alloc: Global,
+    progress: &Progress,
     owned: &[String],
     disk: D,
     input: &mut S,
     out: &mut O,
     clock: &mut C,
-) -> (u8, D) {
-    match words_of(alloc, owned) {
-        Ok(words) => run_words(rt, alloc, words.as_slice(), disk, input, out, clock),
-        Err(NoMemory) => (print_no_memory(out).code(), disk),
+) -> (u8, bool) {
+    match words_of(rt.alloc(), owned) {
+        Ok(words) => run_words(rt, progress, words.as_slice(), disk, input, out, clock),
+        Err(NoMemory) => (print_no_memory(out).code(), false),
     }
 }
 
 /// Runs the program with these words, over sockets from the port on that they name.
-fn run_words<D: Disk, S: Source, O: Sink, C: Clock>(
+fn run_words<D: Disk + Drop, S: Source, O: Sink, C: Clock>(
     rt: &HostRuntime,
-    alloc: Global,
+    progress: &Progress,
     words: &[&str],
     disk: D,
     input: &mut S,
     out: &mut O,
     clock: &mut C,
-) -> (u8, D) {
-    match SocketHost::listen(rt, alloc, port_of(words)) {
+) -> (u8, bool) {
+    let alloc = rt.alloc();
+    let job = read_words(words);
+    tell_start(rt, progress, &job);
+    let serving = serving_of(&job);
+    let port = match serving {
+        Some(Serving { port, .. }) => port,
+        None => FIRST_PORT,
+    };
+    match SocketHost::listen_telling(rt, alloc, port, progress) {
         Ok(host) => {
             let mut host = host;
-            let (code, disk) = run(alloc, words, disk, &mut host, input, out, clock);
-            let _ = explain(rt, "sockets: ", host.cause(alloc));
-            (code, disk)
+            let (code, _disk) = run(alloc, words, disk, &mut host, input, out, clock);
+            if let Some(Serving { turns, .. }) = serving {
+                tell_end(progress, turns, code);
+            }
+            (code, tell_cause(progress, "sockets: ", host.cause(alloc)))
         }
-        Err(NoMemory) => (print_no_memory(out).code(), disk),
+        Err(NoMemory) => (print_no_memory(out).code(), false),
     }
 }
 
-/// Returns the port that words name, or the default one.
-fn port_of(words: &[&str]) -> u16 {
-    match read_words(words) {
-        Some(Job::Serve { port, .. }) => port,
-        _ => FIRST_PORT,
+/// Returns what a job serves, or `None` if it serves nothing.
+fn serving_of(job: &Option<Job>) -> Option<Serving> {
+    match job {
+        Some(Job::Serve { turns, port }) => Some(Serving {
+            turns: *turns,
+            port: *port,
+        }),
+        _ => None,
     }
 }
 

@@ -2,13 +2,14 @@
 #![tactic(auto)]
 
 mod arguments;
+mod telling;
 
-use arch_base::NoMemory;
 use archive_cli::{Status, print_no_memory};
 use arguments::run_arguments;
-use real_edges::{FolderDisk, StdSink, StdSource, SystemClock};
+use real_edges::{FolderDisk, Output, Progress, StdSink, StdSource, SystemClock};
+use std::env;
 use std::process::ExitCode;
-use std::{env, io};
+use telling::tell_cause;
 
 /// The folder that keeps the archive, in the current one.
 const FOLDER: &str = "piv2-store";
@@ -16,11 +17,14 @@ const FOLDER: &str = "piv2-store";
 /// Does what the words of the command line ask for, over the folder, sockets, the standard input and
 /// output, and the system's clock, and ends with its status.
 ///
-/// If the disk failed, a line on standard error says what failed first on it. If sockets, input,
-/// clock or output failed, it says which of them, and nothing of the disk.
+/// A line on standard error says what standard output doesn't: the first failure of the disk, as soon
+/// as it comes; which of sockets, input, clock and output failed; how serving ended; what to ask where
+/// the words aren't read.
 fn main(rt: HostRuntime) -> ExitCode {
     let alloc = rt.alloc();
-    let Ok(mut output) = StdSink::new(&rt, alloc) else {
+    let progress = Progress::new(&rt);
+    let Ok(mut output) = StdSink::new(Output::new(&rt, &progress), alloc) else {
+        progress.say("out of memory");
         return ExitCode::from(Status::Memory.code());
     };
     let Ok(mut input) = StdSource::new(&rt, alloc) else {
@@ -29,40 +33,28 @@ fn main(rt: HostRuntime) -> ExitCode {
     let Ok(mut clock) = SystemClock::new(&rt, alloc) else {
         return ExitCode::from(print_no_memory(&mut output).code());
     };
-    let Ok(disk) = FolderDisk::open(&rt, alloc, FOLDER) else {
+    let Ok(disk) = FolderDisk::open_telling(&rt, alloc, FOLDER, &progress) else {
         return ExitCode::from(print_no_memory(&mut output).code());
     };
-    let arguments = env::args(&rt);
-    let (code, disk) = run_arguments(
+    let (code, told) = run_arguments(
         &rt,
-        alloc,
-        arguments,
+        &progress,
+        env::args(&rt),
         disk,
         &mut input,
         &mut output,
         &mut clock,
     );
-    let _ = if code == Status::Disk.code() {
-        explain(&rt, "", disk.cause())
-    } else if code == Status::Edges.code() {
-        explain(&rt, "standard input: ", input.cause(alloc))
-            .and(explain(&rt, "clock: ", clock.cause(alloc)))
-            .and(explain(&rt, "standard output: ", output.cause(alloc)))
-    } else {
-        Ok(())
-    };
-    ExitCode::from(code)
-}
-
-/// Prints on standard error why an edge failed, if it did.
-pub(crate) fn explain(
-    rt: &HostRuntime,
-    edge: &str,
-    cause: Result<Option<String>, NoMemory>,
-) -> io::Result<()> {
-    match cause {
-        Ok(None) => Ok(()),
-        Ok(Some(words)) => eprintln!(rt; "piv2: {edge}{words}"),
-        Err(NoMemory) => eprintln!(rt; "piv2: {edge}there is no memory to say why it failed"),
+    if code == Status::NotRead.code() {
+        progress.say("`piv2 --help` has the commands");
     }
+    if code == Status::Edges.code() {
+        let input = tell_cause(&progress, "standard input: ", input.cause(alloc));
+        let clock = tell_cause(&progress, "clock: ", clock.cause(alloc));
+        let output = tell_cause(&progress, "standard output: ", output.cause(alloc));
+        if !(told || input || clock || output) {
+            progress.say("the input, the clock, the output or the sockets failed");
+        }
+    }
+    ExitCode::from(code)
 }

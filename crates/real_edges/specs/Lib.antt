@@ -1,3 +1,4 @@
 pub mod Counted
 pub mod Homes
+pub mod Progress
 pub mod Sockets

@@ -4,6 +4,7 @@ ghost use Rattle.real_edges.specs.Homes.{IsSeen, Keeps};
 
 use crate::cause::{Failure, Spot};
 use crate::held_folder::HeldFolder;
+use crate::progress::Progress;
 use disk_model::FileName;
 use std::alloc::{AllocError, Global};
 use std::fs;
@@ -15,12 +16,14 @@ use std::time::Duration;
 /// The first call that needs the folder opens and locks it. The lock lasts as long as this value.
 /// The first write creates a missing folder.
 #[derive(Drop)]
-pub(crate) struct Folder {
+pub(crate) struct Folder<'a> {
     rt: HostRuntime,
     alloc: Global,
     path: String,
     // The longest time to wait for another run.
     wait: Duration,
+    // What shows how far a long reading is.
+    progress: Option<&'a Progress>,
     home: Home,
 }
 
@@ -35,25 +38,38 @@ enum Home {
     Held(HeldFolder),
 }
 
-impl Folder {
+impl<'a> Folder<'a> {
     /// Creates the value for the folder at a path, without a call of the system.
     ///
     /// An empty path stands for the current folder. `wait` is the longest time to wait for another
-    /// run.
+    /// run. `progress` shows how far a long reading is.
     pub(crate) fn new(
         rt: &HostRuntime,
         alloc: Global,
         path: &str,
         wait: Duration,
-    ) -> Result<Folder, AllocError> {
+        progress: Option<&'a Progress>,
+    ) -> Result<Folder<'a>, AllocError> {
         let path = String::from_str(alloc, if path.is_empty() { "." } else { path })?;
         Ok(Folder {
             rt: *rt,
             alloc,
             path,
             wait,
+            progress,
             home: Home::Unseen,
         })
+    }
+
+    /// Says a failure on the standard error of the run, if the folder has one.
+    pub(crate) fn say(&self, failure: &Failure) {
+        let Some(progress) = self.progress else {
+            return;
+        };
+        match self.words(failure) {
+            Ok(words) => progress.say(words),
+            Err(_) => progress.say("there is no memory to say why the disk failed"),
+        }
     }
 
     /// Returns the path and the words of a failure.
@@ -70,10 +86,12 @@ impl Folder {
     ) -> Result<usize, Failure>
         ensures { IfOk result (λ count. count ≤ length into.new) }
     {
-        match self.held()? {
-            Some(held) => held.read(name, offset, into),
-            None => Ok(0),
-        }
+        let count = match self.held()? {
+            Some(held) => held.read(name, offset, into)?,
+            None => 0,
+        };
+        self.tell(count);
+        Ok(count)
     }
 
     /// Returns a file's length in bytes, which is 0 for a missing file.
@@ -122,11 +140,26 @@ impl Folder {
         }
     }
 
-    /// Syncs every changed file and the folder.
+    /// Syncs every changed file and the folder. What was read before was read for good.
     pub(crate) fn sync(&mut self) -> Result<(), Failure> {
+        if let Some(progress) = self.progress {
+            progress.end_pass();
+        }
         match self.held()? {
             Some(held) => held.sync(),
             None => Ok(()),
+        }
+    }
+
+    /// Counts bytes that were read, and shows how far the reading is if that is due.
+    fn tell(&self, count: usize) {
+        let (Some(progress), Home::Held(held)) = (self.progress, &self.home) else {
+            return;
+        };
+        if progress.count(count) {
+            if let Ok(total) = held.size() {
+                progress.show(total);
+            }
         }
     }
 
@@ -159,7 +192,8 @@ impl Folder {
     ///
     /// After one wait that ended with `InUse`, later calls don't wait.
     fn take(&mut self) -> Result<Option<HeldFolder>, Failure> {
-        let taken = HeldFolder::take(&self.rt, self.alloc, self.path.as_str(), self.wait);
+        let path = self.path.as_str();
+        let taken = HeldFolder::take(&self.rt, self.alloc, path, self.wait, self.progress);
         if let Err(Failure::InUse) = taken {
             self.wait = Duration::ZERO;
         }

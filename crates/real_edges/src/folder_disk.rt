@@ -7,6 +7,7 @@ ghost use Rattle.real_edges.specs.Counted.{Counted};
 use crate::cause::Failure;
 use crate::faults::Faults;
 use crate::folder::Folder;
+use crate::progress::Progress;
 use arch_base::NoMemory;
 use disk_model::{Disk, DiskFault, FileName};
 use std::alloc::Global;
@@ -22,14 +23,14 @@ const WAIT_SECONDS: u64 = 10;
 /// dropped, so no other run can use the folder. While another run holds the lock, the disk asks for
 /// it again for ten seconds. After that the call is a fault that changed nothing.
 #[derive(Drop)]
-pub struct FolderDisk {
-    folder: Folder,
+pub struct FolderDisk<'a> {
+    folder: Folder<'a>,
     faults: Faults<Failure>,
     reads: u64,
 }
 
 // Contracts see the two counts.
-impl Model for FolderDisk {
+impl<'a> Model for FolderDisk<'a> {
     ghost use Rattle.real_edges.specs.Counted.{Counted};
 
     ghost Value = { Counted };
@@ -37,13 +38,28 @@ impl Model for FolderDisk {
     ghost view = { λ s. record { faults = s.faults; reads = s.reads } };
 }
 
-impl FolderDisk {
+impl<'a> FolderDisk<'a> {
     /// Creates the disk over the folder at a path, before its first call. The first write creates a
     /// missing folder.
-    pub fn open(rt: &HostRuntime, alloc: Global, path: &str) -> Result<FolderDisk, NoMemory>
+    pub fn open(rt: &HostRuntime, alloc: Global, path: &str) -> Result<FolderDisk<'a>, NoMemory>
         ensures { IfOk result (λ disk. disk ≡ record { faults = 0; reads = 0 }) }
     {
-        FolderDisk::open_within(rt, alloc, path, Duration::from_secs(WAIT_SECONDS))
+        FolderDisk::new(rt, alloc, path, Duration::from_secs(WAIT_SECONDS), None)
+    }
+
+    /// Creates the disk over the folder at a path, as `open` does, of a run with this standard error.
+    ///
+    /// Long waits and long readings are shown there, and the first call that fails says why.
+    pub fn open_telling(
+        rt: &HostRuntime,
+        alloc: Global,
+        path: &str,
+        progress: &'a Progress,
+    ) -> Result<FolderDisk<'a>, NoMemory>
+        ensures { IfOk result (λ disk. disk ≡ record { faults = 0; reads = 0 }) }
+    {
+        let wait = Duration::from_secs(WAIT_SECONDS);
+        FolderDisk::new(rt, alloc, path, wait, Some(progress))
     }
 
     /// Creates the disk over the folder at a path. `wait` is the longest time to wait for another
@@ -53,10 +69,23 @@ impl FolderDisk {
         alloc: Global,
         path: &str,
         wait: Duration,
-    ) -> Result<FolderDisk, NoMemory>
+    ) -> Result<FolderDisk<'a>, NoMemory>
         ensures { IfOk result (λ disk. disk ≡ record { faults = 0; reads = 0 }) }
     {
-        let folder = Folder::new(rt, alloc, path, wait)?;
+        FolderDisk::new(rt, alloc, path, wait, None)
+    }
+
+    /// Creates the disk over the folder at a path.
+    fn new(
+        rt: &HostRuntime,
+        alloc: Global,
+        path: &str,
+        wait: Duration,
+        progress: Option<&'a Progress>,
+    ) -> Result<FolderDisk<'a>, NoMemory>
+        ensures { IfOk result (λ disk. disk ≡ record { faults = 0; reads = 0 }) }
+    {
+        let folder = Folder::new(rt, alloc, path, wait, progress)?;
         Ok(FolderDisk {
             folder,
             faults: Faults::new(),
@@ -74,18 +103,21 @@ impl FolderDisk {
         }
     }
 
-    /// Counts a fault. Keeps its reason if it is the first.
+    /// Counts a fault. Says and keeps its reason if it is the first.
     fn fault(&mut self, failure: Failure) -> DiskFault
         ensures rose { Rose self.old.faults self.new.faults }
         ensures later { self.old.faults ≤ self.new.faults }
         ensures reads { self.new.reads ≡ self.old.reads }
     {
+        if self.faults.first().is_none() {
+            self.folder.say(&failure);
+        }
         self.faults.add(failure);
         DiskFault
     }
 }
 
-impl Disk for FolderDisk {
+impl<'a> Disk for FolderDisk<'a> {
     ghost content = { λ d. None };
 
     ghost faults = { λ d. d.faults };

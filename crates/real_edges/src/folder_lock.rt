@@ -1,5 +1,6 @@
 //! The lock on a folder, which one run at a time holds.
 use crate::cause::{Failure, Spot};
+use crate::progress::Progress;
 use std::fs::{self, File, TryLockError};
 use std::io::{self, ErrorKind};
 use std::os::unix::fs::MetadataExt;
@@ -16,7 +17,7 @@ const TURNS: u32 = 4_000;
 /// Opens a folder and takes its lock. The lock lasts as long as the returned file.
 ///
 /// `None` if the folder is missing. `InUse` if another run held the lock until the time to wait was
-/// over.
+/// over. `progress` shows a long wait.
 ///
 /// The lock is the system's own advisory lock on the folder itself. It leaves nothing in the
 /// folder, and ends with the run however the run ends.
@@ -24,8 +25,9 @@ pub(crate) fn lock_folder(
     rt: &HostRuntime,
     path: &str,
     wait: Duration,
+    progress: Option<&Progress>,
 ) -> Result<Option<File>, Failure> {
-    match wait_for(rt, path, wait) {
+    match wait_for(rt, path, wait, progress) {
         Ok(Some(folder)) => Ok(Some(folder)),
         Ok(None) => Err(Failure::InUse),
         Err(refused) if refused.kind() == ErrorKind::NotFound => Ok(None),
@@ -34,15 +36,24 @@ pub(crate) fn lock_folder(
 }
 
 /// Opens a folder and takes its lock, or returns `None` if the time to wait is over.
-fn wait_for(rt: &HostRuntime, path: &str, wait: Duration) -> io::Result<Option<File>> {
+fn wait_for(
+    rt: &HostRuntime,
+    path: &str,
+    wait: Duration,
+    progress: Option<&Progress>,
+) -> io::Result<Option<File>> {
     let pause = Duration::from_millis(PAUSE);
     let began = Instant::now(rt)?;
     for _ in 0..TURNS {
         if let Some(folder) = try_once(rt, path)? {
             return Ok(Some(folder));
         }
-        if began.elapsed(rt)?.saturating_add(pause) > wait {
+        let waited = began.elapsed(rt)?;
+        if waited.saturating_add(pause) > wait {
             return Ok(None);
+        }
+        if let Some(progress) = progress {
+            progress.show_wait(path, waited);
         }
         thread::sleep(rt, pause);
     }

@@ -6,6 +6,7 @@ use crate::folder_lock::lock_folder;
 use crate::mark::{leave_mark, write_again};
 use crate::names::{name_of, path_in};
 use crate::open_file::OpenFile;
+use crate::progress::Progress;
 use disk_model::FileName;
 use std::alloc::Global;
 use std::collections::{BTreeMap, BTreeSet};
@@ -74,18 +75,20 @@ impl Listing {
 impl HeldFolder {
     /// Opens a folder and takes its lock, or returns `None` if the folder is missing.
     ///
-    /// `wait` is the longest time to wait for the lock. If an earlier run left the mark of a failed
-    /// sync, every file of the archive is written again and synced before any of them is read.
+    /// `wait` is the longest time to wait for the lock, and `progress` shows what takes long. If an
+    /// earlier run left the mark of a failed sync, every file of the archive is written again and
+    /// synced before any of them is read.
     pub(crate) fn take(
         rt: &HostRuntime,
         alloc: Global,
         path: &str,
         wait: Duration,
+        progress: Option<&Progress>,
     ) -> Result<Option<HeldFolder>, Failure> {
-        let Some(folder) = lock_folder(rt, path, wait)? else {
+        let Some(folder) = lock_folder(rt, path, wait, progress)? else {
             return Ok(None);
         };
-        let has_files = settle(rt, alloc, path, &folder)?;
+        let has_files = settle(rt, alloc, path, &folder, progress)?;
         Ok(Some(HeldFolder {
             rt: *rt,
             alloc,
@@ -177,6 +180,20 @@ impl HeldFolder {
         }
         self.open_files.remove(&name);
         Ok(())
+    }
+
+    /// Returns the number of bytes that the files of an archive in the folder have.
+    pub(crate) fn size(&self) -> Result<u64, Failure> {
+        let listing = list(&self.rt, self.alloc, self.path.as_str())?;
+        let mut size = 0u64;
+        for name in listing.names.iter() {
+            let path = path_in(self.alloc, self.path.as_str(), *name)?;
+            match fs::metadata(&self.rt, path.as_str()) {
+                Ok(found) => size = size.saturating_add(found.len()),
+                Err(refused) => return Err(Failure::on(Spot::File(*name), refused)),
+            }
+        }
+        Ok(size)
     }
 
     /// Returns the name at an index, from 0, in the order of names.
@@ -306,9 +323,18 @@ impl HeldFolder {
 
 /// Writes every file of a locked folder again if the mark is there. Returns whether the folder has
 /// files.
-fn settle(rt: &HostRuntime, alloc: Global, path: &str, folder: &File) -> Result<bool, Failure> {
+fn settle(
+    rt: &HostRuntime,
+    alloc: Global,
+    path: &str,
+    folder: &File,
+    progress: Option<&Progress>,
+) -> Result<bool, Failure> {
     let listing = list(rt, alloc, path)?;
     if listing.marked {
+        if let Some(progress) = progress {
+            progress.show_rewrite(path);
+        }
         write_again(rt, alloc, path, folder, &listing.names)?;
     }
     Ok(!listing.names.is_empty())

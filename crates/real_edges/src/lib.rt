@@ -12,6 +12,7 @@ mod held_folder;
 mod mark;
 mod names;
 mod open_file;
+mod progress;
 mod sending;
 mod socket_host;
 mod sockets;
@@ -21,6 +22,7 @@ mod system_clock;
 
 pub use folder_disk::FolderDisk;
 pub use names::{name_of, path_in};
+pub use progress::{Output, Progress, ReadSoFar};
 pub use socket_host::SocketHost;
 pub use std_sink::StdSink;
 pub use std_source::StdSource;

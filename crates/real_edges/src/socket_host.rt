@@ -4,7 +4,8 @@ ghost use Rattle.arch_base.specs.Moments.{IsMoment};
 ghost use Rattle.real_edges.specs.Sockets.{MayHappen};
 
 use crate::faults::Faults;
-use crate::sockets::Sockets;
+use crate::progress::Progress;
+use crate::sockets::{Ports, Sockets};
 use crate::system_clock::moment_of;
 use arch_base::NoMemory;
 use edge_io::{Event, Host, HostFault};
@@ -24,17 +25,19 @@ use std::time::SystemTime;
 /// A client that doesn't take 65,536 bytes within 10 s makes its `send` fail. All others wait
 /// meanwhile.
 #[derive(Drop)]
-pub struct SocketHost {
+pub struct SocketHost<'a> {
     rt: HostRuntime,
     alloc: Global,
     port: u16,
+    // Where it says that it listens.
+    progress: Option<&'a Progress>,
     sockets: Option<Sockets>,
     faults: Faults<io::Error>,
     lost: u64,
 }
 
 // Contracts see the numbers of failed calls.
-impl Model for SocketHost {
+impl<'a> Model for SocketHost<'a> {
     ghost use Rattle.real_edges.specs.Sockets.{HostCounts};
 
     ghost Value = { HostCounts };
@@ -42,15 +45,41 @@ impl Model for SocketHost {
     ghost view = { λ s. record { faults = s.faults; lost = s.lost } };
 }
 
-impl SocketHost {
+impl<'a> SocketHost<'a> {
     /// Returns a host at a port. It listens from its first `next` on, and no call has failed yet.
-    pub fn listen(rt: &HostRuntime, alloc: Global, port: u16) -> Result<SocketHost, NoMemory>
+    pub fn listen(rt: &HostRuntime, alloc: Global, port: u16) -> Result<SocketHost<'a>, NoMemory>
+        ensures { IfOk result (λ host. host ≡ record { faults = 0; lost = 0 }) }
+    {
+        SocketHost::new(rt, alloc, port, None)
+    }
+
+    /// Returns a host at a port, as `listen` does, of a run with this standard error. It says there
+    /// where it listens, once it does.
+    pub fn listen_telling(
+        rt: &HostRuntime,
+        alloc: Global,
+        port: u16,
+        progress: &'a Progress,
+    ) -> Result<SocketHost<'a>, NoMemory>
+        ensures { IfOk result (λ host. host ≡ record { faults = 0; lost = 0 }) }
+    {
+        SocketHost::new(rt, alloc, port, Some(progress))
+    }
+
+    /// Returns a host at a port.
+    fn new(
+        rt: &HostRuntime,
+        alloc: Global,
+        port: u16,
+        progress: Option<&'a Progress>,
+    ) -> Result<SocketHost<'a>, NoMemory>
         ensures { IfOk result (λ host. host ≡ record { faults = 0; lost = 0 }) }
     {
         Ok(SocketHost {
             rt: *rt,
             alloc,
             port,
+            progress,
             sockets: None,
             faults: Faults::new(),
             lost: 0,
@@ -63,7 +92,7 @@ impl SocketHost {
     }
 }
 
-impl Host for SocketHost {
+impl<'a> Host for SocketHost<'a> {
     ghost left = { λ s. None };
 
     ghost given = { λ s. None };
@@ -79,7 +108,15 @@ impl Host for SocketHost {
     ghost lost = { λ s. s.lost };
 
     fn next(&mut self, into: &mut [u8]) -> Result<Option<Event>, HostFault> {
-        match event_of(&self.rt, self.alloc, self.port, &mut self.sockets, into) {
+        let (port, progress) = (self.port, self.progress);
+        match event_of(
+            &self.rt,
+            self.alloc,
+            port,
+            progress,
+            &mut self.sockets,
+            into,
+        ) {
             Ok(event) => Ok(Some(event)),
             Err(refused) => {
                 self.faults.add(refused);
@@ -107,11 +144,13 @@ impl Host for SocketHost {
     }
 }
 
-/// Returns what happened next at sockets, and when. Makes the listeners if they aren't there.
+/// Returns what happened next at sockets, and when. Makes the listeners if they aren't there, and says
+/// then where they listen.
 fn event_of(
     rt: &HostRuntime,
     alloc: Global,
     port: u16,
+    progress: Option<&Progress>,
     sockets: &mut Option<Sockets>,
     into: &mut [u8],
 ) -> io::Result<Event>
@@ -120,6 +159,10 @@ fn event_of(
 {
     if sockets.is_none() {
         *sockets = Some(Sockets::open(rt, alloc, port)?);
+        if let Some(progress) = progress {
+            progress.end();
+            progress.say(Ports(port));
+        }
     }
     let Some(open) = sockets else {
         return Err(ErrorKind::NotConnected.into());

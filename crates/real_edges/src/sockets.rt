@@ -9,6 +9,7 @@ use mio::net::{TcpListener, TcpStream};
 use mio::unix::SourceFd;
 use mio::{Events, Interest, Poll, Token};
 use std::alloc::Global;
+use std::fmt::{self, Display};
 use std::io::{self, ErrorKind};
 use std::net::{Ipv4Addr, SocketAddr};
 use std::time::{Clock, Duration};
@@ -35,6 +36,22 @@ const PORTS: [Port; LISTENERS] = [
         offset: 2,
     },
 ];
+
+/// The ports of the doors that the server has, by the first, in the words in which it says where it
+/// listens.
+#[derive(Clone, Copy, Drop)]
+pub(crate) struct Ports(pub(crate) u16);
+
+impl Display for Ports {
+    fn fmt<W: fmt::Write>(&self, f: &mut fmt::Formatter<W>) -> fmt::Result {
+        let control = u32::from(self.0);
+        let (http, nntp) = (control + 1, control + 2);
+        write!(
+            f,
+            "listening at 127.0.0.1: port {control} for commands, {http} for pages (HTTP), {nntp} for news (NNTP)"
+        )
+    }
+}
 
 /// The number of listeners. Their places in a circle come first.
 const LISTENERS: usize = 3;
