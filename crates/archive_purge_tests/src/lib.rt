@@ -2,6 +2,4 @@
 #![tactic(auto)]
 
 #[cfg(test)]
-mod disk_purge_tests;
-#[cfg(test)]
 mod purge_tests;

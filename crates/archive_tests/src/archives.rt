@@ -6,10 +6,17 @@ use arch_model::{Answer, Command, EntryLine, Keep, OpenRefusal};
 use archive_core::{Engine, NotMade, NotOpened};
 use disk_model::MemDisk;
 use epoch_store::InitRefusal;
-use epoch_tests::empty_disk;
+use epoch_tests::{FIRST_COMMIT, FIRST_ID, MOMENT, REMOVAL_COMMIT, empty_disk};
+use git_objects::EntryKind;
 use std::alloc::Global;
 use std::test::Fail;
 use store_tests::settings;
+
+/// A moment after `LATER`.
+pub const LAST: u64 = MOMENT + 200;
+
+/// The blob id of `OTHER`, as it is kept where its own id is free.
+pub const UNCHANGED_ID: &[u8] = b"939be2d6981fbe2900b8283be5936e32bb962cef";
 
 /// Makes an archive on a disk, with epochs of this least length.
 pub fn made(
@@ -87,6 +94,18 @@ pub fn put_text<K: Keep>(keep: &mut K, n: u32, into: &mut Bytes) -> Result<bool,
     }
 }
 
+/// Returns whether the text of the least number with a message that is at least this one is this text.
+pub(crate) fn text_is<K: Keep>(
+    alloc: Global,
+    keep: &mut K,
+    n: u32,
+    wanted: &[u8],
+) -> Result<bool, Fail> {
+    let mut text = Bytes::new(alloc);
+    let found = put_text(keep, n, &mut text)?;
+    Ok(found && text.as_slice() == wanted)
+}
+
 /// Appends the bytes of an epoch, and returns whether it has an entry.
 pub fn put_epoch<K: Keep>(keep: &mut K, epoch: u32, into: &mut Bytes) -> Result<bool, Fail> {
     keep.fresh()?;
@@ -117,6 +136,30 @@ pub fn blob_is<K: Keep>(
     let mut text = Bytes::new(alloc);
     let found = put_blob(keep, hex, &mut text)?;
     Ok(found && text.as_slice() == wanted)
+}
+
+/// Returns whether an entry of the first mail has this kind, number and commit.
+pub(crate) fn is_entry(
+    entry: Option<EntryLine>,
+    kind: EntryKind,
+    number: u32,
+    commit: &[u8],
+) -> bool {
+    let Some(line) = entry else {
+        return false;
+    };
+    let named = line.kind == kind && line.number == number;
+    let kept = Some(line.blob) == id_of_hex(FIRST_ID);
+    named && kept && Some(line.commit) == id_of_hex(commit)
+}
+
+/// Returns whether the first mail and its removal are the two entries, in an epoch of 672 bytes.
+pub fn has_both<K: Keep>(alloc: Global, keep: &mut K) -> Result<bool, Fail> {
+    let first = is_entry(line(keep, 0)?, EntryKind::Message, 1, FIRST_COMMIT);
+    let second = is_entry(line(keep, 1)?, EntryKind::Deletion, 1, REMOVAL_COMMIT);
+    let third = line(keep, 2)?.is_none();
+    let is_long = epoch_len(alloc, keep, 0)? == Some(672);
+    Ok(first && second && third && is_long)
 }
 
 /// Appends the texts of the live numbers below nine, and the bytes of the first nine epochs.

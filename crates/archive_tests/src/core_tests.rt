@@ -1,14 +1,13 @@
-//! Archives on disks in memory: what commands are answered, what a fault leaves, and what is
-//! reopened. The ids were worked out by git.
-ghost use Rattle.std.specs.Prelude.{◌≤◌, length, IfOk, OnOk};
+//! Archives on disks in memory: what commands are answered, and what is reopened. The ids were worked
+//! out by git.
+ghost use Rattle.std.specs.Prelude.{◌≤◌, IfOk, OnOk};
 ghost use Rattle.disk_model.specs.Disk.{WhereTold};
-ghost use Rattle.disk_model.specs.Memory.{changes_of};
 ghost use Rattle.epoch_store.specs.Stores.{HasSizes};
 
 use crate::archives::accepted;
-use arch_model::{Answer, Command, OpenRefusal};
+use arch_model::{Answer, Command};
 use archive_core::DiskArchive;
-use disk_model::{Disk, DiskFault, FuseDisk, MemDisk};
+use disk_model::{Disk, DiskFault};
 use epoch_store::InitRefusal;
 use epoch_tests::{FIRST, FIRST_ID, MOMENT, OTHER, OTHER_ID, SECOND, SECOND_ID, empty_disk};
 use mem_archive::MemArchive;
@@ -229,48 +228,6 @@ fn put<D: Disk>(archive: &mut DiskArchive, disk: &mut D, bytes: &[u8]) -> Result
     }
 }
 
-/// Opens the archive on a disk, and returns how many messages it has.
-fn opened_count<D: Disk>(alloc: Global, disk: &mut D) -> Result<u64, OpenRefusal> {
-    match DiskArchive::open(alloc, disk) {
-        Ok(archive) => Ok(archive.entry_count()),
-        Err(refusal) => Err(refusal),
-    }
-}
-
-/// Makes an archive of two messages over a disk that stops after this many calls, and opens what is
-/// left there. Returns how many messages each of the two finds.
-fn filled_and_left(
-    alloc: Global,
-    passes: u64,
-) -> (Result<u64, InitRefusal>, Result<u64, OpenRefusal>) {
-    let mut fuse = FuseDisk::new(empty_disk(alloc), passes);
-    let count = filled_count(alloc, &mut fuse);
-    let mut disk = fuse.into_inner();
-    (count, opened_count(alloc, &mut disk))
-}
-
-/// Returns whether an archive was opened with two messages at most, or none is there where its
-/// messages were not all answered.
-fn is_whole_or_none(left: Result<u64, OpenRefusal>, done: bool) -> bool {
-    match left {
-        Ok(count) => count <= 2,
-        Err(refusal) => !done && refusal == OpenRefusal::NoArchive,
-    }
-}
-
-#[test]
-fn a_disk_that_fails_at_any_call_is_answered_by_its_fault(rt: HostRuntime) {
-    let mut done = false;
-    for passes in 0..40 {
-        let (made, left) = filled_and_left(rt.alloc(), passes);
-        let whole = made == Ok(2);
-        assert!(rt; whole || (!done && made == Err(InitRefusal::DiskFault)));
-        assert!(rt; is_whole_or_none(left, whole));
-        done = whole;
-    }
-    assert!(rt; done);
-}
-
 /// Returns whether an archive of two messages that was opened knows them, and takes a third.
 fn knows_two<D: Disk>(archive: &mut DiskArchive, disk: &mut D) -> Result<bool, DiskFault>
     requires sizes { WhereTold (HasSizes archive.old) (D.content disk.old) }
@@ -294,39 +251,5 @@ fn an_archive_that_is_opened_knows_its_messages(rt: HostRuntime) -> Result<(), F
     let mut disk = empty_disk(alloc);
     assert!(rt; filled_count(alloc, &mut disk)? == 2);
     assert!(rt; opened_knows_two(alloc, &mut disk)?);
-    Ok(())
-}
-
-/// Opens what a crash may have left, and returns how many messages it has. No archive has none.
-fn image_count(alloc: Global, image: MemDisk) -> Result<u64, OpenRefusal> {
-    let mut image = image;
-    match opened_count(alloc, &mut image) {
-        Err(OpenRefusal::NoArchive) => Ok(0),
-        found => found,
-    }
-}
-
-/// Opens each image that a crash at a moment may leave, and returns the greatest count of messages.
-fn most_left(alloc: Global, disk: &MemDisk, at: u64) -> Result<u64, Fail>
-    requires { at ≤ length (changes_of disk.now) }
-{
-    let mut most = 0;
-    for pick in 0..4 {
-        let count = image_count(alloc, disk.image(at, pick)?)?;
-        most = most.max(count);
-    }
-    Ok(most)
-}
-
-#[test]
-fn a_crash_leaves_whole_messages(rt: HostRuntime) -> Result<(), Fail> {
-    let alloc = rt.alloc();
-    let mut disk = empty_disk(alloc);
-    assert!(rt; filled_count(alloc, &mut disk)? == 2);
-    let mut most = 0;
-    for at in 0..disk.moments() {
-        most = most.max(most_left(alloc, &disk, at)?);
-    }
-    assert!(rt; most == 2);
     Ok(())
 }

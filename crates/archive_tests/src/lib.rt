@@ -3,12 +3,14 @@
 //! them: archives, and checks of both kinds.
 #![tactic(auto)]
 
+mod alike;
 mod archives;
 mod both;
 
+pub use alike::are_alike;
 pub use archives::{
-    accepted, answer, blob_is, epoch_len, give_alike, line, made, on_disk, opened, put_epoch,
-    put_text,
+    LAST, UNCHANGED_ID, accepted, answer, blob_is, epoch_len, give_alike, has_both, line, made,
+    on_disk, opened, put_epoch, put_text,
 };
 pub use both::{Check, both_pass, opened_passes};
 
@@ -16,10 +18,6 @@ pub use both::{Check, both_pass, opened_passes};
 mod core_tests;
 #[cfg(test)]
 mod counting_tests;
-#[cfg(test)]
-mod disk_removal_tests;
-#[cfg(test)]
-mod doubt_tests;
 #[cfg(test)]
 mod engine_tests;
 #[cfg(test)]

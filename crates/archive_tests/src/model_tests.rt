@@ -8,6 +8,7 @@ use git_objects::blob_id;
 use mail_reader::content_id;
 use mem_archive::MemArchive;
 use std::alloc::Global;
+use std::test::Fail;
 use store_tests::{in_memory, settings, two_in_memory};
 
 /// Delivers a message, and returns the answer.
@@ -33,11 +34,10 @@ fn takes_two_of_an_id(archive: &mut MemArchive) -> bool {
 }
 
 #[test]
-fn a_taken_id_gives_way_to_a_made_one(rt: HostRuntime) {
-    let Some(mut archive) = in_memory(rt.alloc(), 1000, 10, false) else {
-        return assert!(rt; false);
-    };
+fn a_taken_id_gives_way_to_a_made_one(rt: HostRuntime) -> Result<(), Fail> {
+    let mut archive = in_memory(rt.alloc(), 1000, 10, false).ok_or("settings")?;
     assert!(rt; takes_two_of_an_id(&mut archive));
+    Ok(())
 }
 
 /// A mail whose id is the first id made for another mail.
@@ -58,11 +58,10 @@ fn takes_the_next_made_id(archive: &mut MemArchive) -> bool {
 }
 
 #[test]
-fn a_taken_made_id_gives_way_to_the_next(rt: HostRuntime) {
-    let Some(mut archive) = in_memory(rt.alloc(), 1000, 10, false) else {
-        return assert!(rt; false);
-    };
+fn a_taken_made_id_gives_way_to_the_next(rt: HostRuntime) -> Result<(), Fail> {
+    let mut archive = in_memory(rt.alloc(), 1000, 10, false).ok_or("settings")?;
     assert!(rt; takes_the_next_made_id(&mut archive));
+    Ok(())
 }
 
 /// Creates an index of one message, `FIRST`, under the number 1.
@@ -118,16 +117,16 @@ fn judges_by(alloc: Global, config: &Config, index: &Index) -> bool {
     again && full && taken
 }
 
+/// Returns whether an index of `FIRST` finds that alone, and messages are judged by it.
+fn finds_and_judges(alloc: Global) -> Option<bool> {
+    let settings = settings(1000, 2, false)?;
+    let index = index_of_first(alloc)?;
+    Some(finds_first_alone(&index) && judges_by(alloc, &settings, &index))
+}
+
 #[test]
 fn a_delivery_is_judged_by_an_index(rt: HostRuntime) {
-    let Some(index) = index_of_first(rt.alloc()) else {
-        return assert!(rt; false);
-    };
-    assert!(rt; finds_first_alone(&index));
-    let Some(settings) = settings(1000, 2, false) else {
-        return assert!(rt; false);
-    };
-    assert!(rt; judges_by(rt.alloc(), &settings, &index));
+    assert!(rt; finds_and_judges(rt.alloc()) == Some(true));
 }
 
 /// Returns the verdict on `FIRST` after it was compared with a text that was kept under the number of
@@ -165,16 +164,17 @@ fn compares(alloc: Global, config: &Config, index: &Index) -> bool {
     same && other && full
 }
 
+/// Returns whether an index of `FIRST` that lost its own id compares so.
+fn compares_removed(alloc: Global) -> Option<bool> {
+    let settings = settings(1000, 2, false)?;
+    let mut index = index_of_first(alloc)?;
+    index.remove(b"<a@x>");
+    Some(compares(alloc, &settings, &index))
+}
+
 #[test]
 fn a_removed_text_is_compared_before_it_is_judged(rt: HostRuntime) {
-    let Some(mut index) = index_of_first(rt.alloc()) else {
-        return assert!(rt; false);
-    };
-    index.remove(b"<a@x>");
-    let Some(settings) = settings(1000, 2, false) else {
-        return assert!(rt; false);
-    };
-    assert!(rt; compares(rt.alloc(), &settings, &index));
+    assert!(rt; compares_removed(rt.alloc()) == Some(true));
 }
 
 /// Returns whether an archive with room for one message refuses others, each for its first cause,
@@ -189,19 +189,17 @@ fn refuses_in_order(archive: &mut MemArchive) -> bool {
 }
 
 #[test]
-fn refusals_come_in_their_order(rt: HostRuntime) {
-    let Some(mut archive) = in_memory(rt.alloc(), 1000, 1, false) else {
-        return assert!(rt; false);
-    };
+fn refusals_come_in_their_order(rt: HostRuntime) -> Result<(), Fail> {
+    let mut archive = in_memory(rt.alloc(), 1000, 1, false).ok_or("settings")?;
     assert!(rt; refuses_in_order(&mut archive));
+    Ok(())
 }
 
 #[test]
-fn a_mirror_takes_no_delivery(rt: HostRuntime) {
-    let Some(mut archive) = in_memory(rt.alloc(), 1000, 1, true) else {
-        return assert!(rt; false);
-    };
+fn a_mirror_takes_no_delivery(rt: HostRuntime) -> Result<(), Fail> {
+    let mut archive = in_memory(rt.alloc(), 1000, 1, true).ok_or("settings")?;
     assert!(rt; answers_so(&mut archive, FIRST, Some(Answer::IsMirror)));
+    Ok(())
 }
 
 /// Returns the length of an epoch in bytes, or `None` if it has no entry.
@@ -224,19 +222,15 @@ fn has_epochs(
 }
 
 #[test]
-fn an_epoch_of_the_limit_takes_no_more(rt: HostRuntime) {
-    let Some(archive) = two_in_memory(rt.alloc(), 316) else {
-        return assert!(rt; false);
-    };
-    let lengths = [Some(316), Some(316), None];
-    assert!(rt; matches!(has_epochs(rt.alloc(), &archive, &lengths), Ok(true)));
+fn an_epoch_of_the_limit_takes_no_more(rt: HostRuntime) -> Result<(), Fail> {
+    let archive = two_in_memory(rt.alloc(), 316).ok_or("settings")?;
+    assert!(rt; has_epochs(rt.alloc(), &archive, &[Some(316), Some(316), None])?);
+    Ok(())
 }
 
 #[test]
-fn an_epoch_below_the_limit_takes_one_more(rt: HostRuntime) {
-    let Some(archive) = two_in_memory(rt.alloc(), 317) else {
-        return assert!(rt; false);
-    };
-    let lengths = [Some(672), None, None];
-    assert!(rt; matches!(has_epochs(rt.alloc(), &archive, &lengths), Ok(true)));
+fn an_epoch_below_the_limit_takes_one_more(rt: HostRuntime) -> Result<(), Fail> {
+    let archive = two_in_memory(rt.alloc(), 317).ok_or("settings")?;
+    assert!(rt; has_epochs(rt.alloc(), &archive, &[Some(672), None, None])?);
+    Ok(())
 }

@@ -1,29 +1,19 @@
 //! Removals in memory and on a disk, answer by answer, against entries whose ids git worked out.
-ghost use Rattle.std.specs.Prelude.{◌≤◌};
-
+use crate::alike::are_alike;
 use crate::archives::{
-    accepted, answer, blob_is, epoch_len, give_alike, line, live_from, on_disk, opened, put_text,
+    LAST, UNCHANGED_ID, accepted, answer, blob_is, epoch_len, has_both, is_entry, line, live_from,
+    on_disk, text_is,
 };
 use crate::both::{Check, both_pass};
-use arch_base::{Bytes, id_of_hex};
-use arch_model::{Answer, Command, EntryLine, Keep, OpenRefusal};
-use disk_model::MemDisk;
-use epoch_tests::{
-    FIRST, FIRST_COMMIT, FIRST_ID, LATER, MOMENT, OTHER, REMOVAL_COMMIT, SECOND, SECOND_ID,
-};
+use arch_model::{Answer, Command, Keep, OpenRefusal};
+use epoch_tests::{FIRST, FIRST_ID, LATER, MOMENT, OTHER, SECOND, SECOND_ID};
 use git_objects::EntryKind;
 use std::alloc::Global;
 use std::test::Fail;
 use store_tests::in_memory;
 
-/// The moment of a delivery after the removal.
-const LAST: u64 = MOMENT + 200;
-
 /// The commit of the first mail at `LAST`, after that of its removal.
 const AGAIN_COMMIT: &[u8] = b"935153bbca041d2b9730dbb3b5a3c993a9b6b46c";
-
-/// The blob id of the mail with another body, as it is kept where its id is free.
-const UNCHANGED_ID: &[u8] = b"939be2d6981fbe2900b8283be5936e32bb962cef";
 
 /// Delivers the first mail and removes it, and returns whether both answers are those of its number
 /// and blob.
@@ -32,25 +22,6 @@ fn comes_and_goes<K: Keep>(keep: &mut K) -> Result<bool, OpenRefusal> {
     let came = answer(keep, &Command::Deliver(FIRST), MOMENT)?;
     let went = answer(keep, &Command::Remove(1), LATER)?;
     Ok(Some(came) == first && Some(went) == first)
-}
-
-/// Returns whether an entry of the first mail has this kind, number and commit.
-fn is_entry(entry: Option<EntryLine>, kind: EntryKind, number: u32, commit: &[u8]) -> bool {
-    let Some(line) = entry else {
-        return false;
-    };
-    let named = line.kind == kind && line.number == number;
-    let kept = Some(line.blob) == id_of_hex(FIRST_ID);
-    named && kept && Some(line.commit) == id_of_hex(commit)
-}
-
-/// Returns whether the first mail and its removal are the two entries, in an epoch of 672 bytes.
-pub(crate) fn has_both<K: Keep>(alloc: Global, keep: &mut K) -> Result<bool, Fail> {
-    let first = is_entry(line(keep, 0)?, EntryKind::Message, 1, FIRST_COMMIT);
-    let second = is_entry(line(keep, 1)?, EntryKind::Deletion, 1, REMOVAL_COMMIT);
-    let third = line(keep, 2)?.is_none();
-    let is_long = epoch_len(alloc, keep, 0)? == Some(672);
-    Ok(first && second && third && is_long)
 }
 
 /// Delivers the first mail and removes it, and returns whether the removal is the second entry.
@@ -89,13 +60,6 @@ impl Check for ComesAgain {
 fn a_removed_text_comes_again(rt: HostRuntime) -> Result<(), Fail> {
     assert!(rt; both_pass::<ComesAgain>(rt.alloc(), 2000)?);
     Ok(())
-}
-
-/// Returns whether the text of the first message from a number on is this one.
-fn text_is<K: Keep>(alloc: Global, keep: &mut K, n: u32, wanted: &[u8]) -> Result<bool, Fail> {
-    let mut bytes = Bytes::new(alloc);
-    let found = put_text(keep, n, &mut bytes)?;
-    Ok(found && bytes.as_slice() == wanted)
 }
 
 /// Returns whether a mail with the id of the removed one is kept unchanged, and then removed.
@@ -226,74 +190,10 @@ static COMMANDS: [Command<'static>; 11] = [
     Command::Deliver(OTHER),
 ];
 
-/// Returns whether two archives answer these commands alike.
-fn answer_alike<K: Keep, L: Keep>(keep: &mut K, other: &mut L) -> Result<bool, OpenRefusal> {
-    let mut alike = true;
-    let mut moment = MOMENT;
-    for command in &COMMANDS {
-        let found = answer(keep, command, moment)?;
-        alike = alike && found == answer(other, command, moment)?;
-        moment = moment.saturating_add(100);
-    }
-    Ok(alike)
-}
-
-/// Returns whether two archives have the same entries, of which there are eight.
-fn list_alike<K: Keep, L: Keep>(keep: &mut K, other: &mut L) -> Result<bool, OpenRefusal> {
-    let mut alike = true;
-    for index in 0..10 {
-        let found = line(keep, index)?;
-        alike = alike && found.is_some() == (index < 8);
-        alike = alike && found == line(other, index)?;
-    }
-    Ok(alike)
-}
-
-/// Opens an archive on a disk, and returns whether it is the other one.
-fn is_opened_alike<K: Keep>(alloc: Global, disk: MemDisk, other: &mut K) -> Result<bool, Fail> {
-    let mut engine = opened(alloc, disk)?;
-    let listed = list_alike(&mut engine, other)?;
-    let given = give_alike(alloc, &mut engine, other)?;
-    Ok(listed && given)
-}
-
-/// Returns whether two archives answer commands alike, and then give the same.
-fn are_filled_alike<K: Keep, L: Keep>(
-    alloc: Global,
-    keep: &mut K,
-    other: &mut L,
-) -> Result<bool, Fail> {
-    let answered = answer_alike(keep, other)?;
-    let given = give_alike(alloc, keep, other)?;
-    Ok(answered && given)
-}
-
-/// Makes an archive on a disk that answers commands as another one does, and returns the disk, or
-/// `None` if it answers or gives something else.
-fn alike_on_disk<K: Keep>(alloc: Global, limit: u64, other: &mut K) -> Result<Option<MemDisk>, Fail>
-    requires low { 1 ≤ limit }
-    requires high { limit ≤ 1099511627776 }
-{
-    let mut engine = on_disk(alloc, limit, false)?;
-    let alike = are_filled_alike(alloc, &mut engine, other)?;
-    Ok(alike.then_some(engine.into_disk()))
-}
-
-/// Returns whether an archive on a disk answers commands as one in memory does, and then is that, also
-/// when it is reopened, with epochs of this least length.
-fn are_alike(alloc: Global, limit: u64) -> Result<bool, Fail>
-    requires low { 1 ≤ limit }
-    requires high { limit ≤ 1099511627776 }
-{
-    let mut memory = in_memory(alloc, limit, 10, false).ok_or("settings")?;
-    let disk = alike_on_disk(alloc, limit, &mut memory)?.ok_or("not alike")?;
-    is_opened_alike(alloc, disk, &mut memory)
-}
-
 #[test]
 fn an_engine_removes_as_the_archive_in_memory_does(rt: HostRuntime) -> Result<(), Fail> {
-    assert!(rt; are_alike(rt.alloc(), 316)?);
-    assert!(rt; are_alike(rt.alloc(), 700)?);
-    assert!(rt; are_alike(rt.alloc(), 5000)?);
+    assert!(rt; are_alike(rt.alloc(), 316, &COMMANDS, 8)?);
+    assert!(rt; are_alike(rt.alloc(), 700, &COMMANDS, 8)?);
+    assert!(rt; are_alike(rt.alloc(), 5000, &COMMANDS, 8)?);
     Ok(())
 }

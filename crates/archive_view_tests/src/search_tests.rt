@@ -1,15 +1,11 @@
 //! Searches of archives in memory and on disks, as messages come and go, and after a reopening.
-use arch_base::{Bytes, NoMemory, decimal};
-use arch_model::{Answer, Command, Keep, OpenRefusal, Shelf};
-use archive_core::{Engine, NotMade};
+use arch_model::{Command, Keep, OpenRefusal};
 use archive_tests::{Check, answer, both_pass, on_disk, opened_passes};
 use disk_model::MemDisk;
-use epoch_store::InitRefusal;
-use epoch_tests::{LATER, MOMENT, empty_disk};
+use epoch_tests::{LATER, MOMENT};
 use query_lang::read;
 use std::alloc::Global;
 use std::test::Fail;
-use store_tests::settings;
 
 /// A mail of 1 February 2024, one of that day in UTC and of the next in its own zone, and one of two
 /// parts, of which the second is an attachment.
@@ -180,97 +176,5 @@ fn disk_of_three(alloc: Global) -> Result<MemDisk, Fail> {
 fn searches_find_the_same_after_a_reopening(rt: HostRuntime) -> Result<(), Fail> {
     let disk = disk_of_three(rt.alloc())?;
     assert!(rt; opened_passes::<FindsLive>(rt.alloc(), disk)?);
-    Ok(())
-}
-
-/// How many mails are searched, and how many words stand in their bodies.
-const MANY: u32 = 5000;
-
-const BODIES: u64 = 1009;
-
-/// Returns a mail with one of these words in its body, by a number that was drawn.
-fn mail(alloc: Global, number: u32, drawn: u64) -> Result<Bytes, NoMemory> {
-    let mut text = Bytes::new(alloc);
-    text.push_slice(b"From: User <u@load.invalid>\nSubject: load topic\nMessage-ID: <")?;
-    text.push_slice(decimal(alloc, u64::from(number))?.as_slice())?;
-    text.push_slice(b"@load.invalid>\n\nbody ")?;
-    text.push_slice(decimal(alloc, drawn % BODIES)?.as_slice())?;
-    text.push_slice(b" word\n")?;
-    Ok(text)
-}
-
-/// Makes an archive without mails on a disk, with room for many.
-fn roomy(alloc: Global) -> Result<Engine<MemDisk>, InitRefusal> {
-    match settings(1_073_741_824, MANY, false) {
-        None => Err(InitRefusal::NoMemory),
-        Some(config) => match Engine::make(alloc, empty_disk(alloc), &config) {
-            Ok(engine) => Ok(engine),
-            Err(NotMade { disk: _, why }) => Err(why),
-        },
-    }
-}
-
-/// Delivers many mails, and returns whether each was accepted.
-fn fill_many(alloc: Global, engine: &mut Engine<MemDisk>) -> Result<bool, Fail> {
-    let mut state: u64 = 7;
-    let mut all = true;
-    for number in 1..=MANY {
-        state = state
-            .wrapping_mul(6_364_136_223_846_793_005)
-            .wrapping_add(1_442_695_040_888_963_407);
-        let text = mail(alloc, number, state >> 33)?;
-        let reply = answer(engine, &Command::Deliver(text.as_slice()), MOMENT)?;
-        all = is_accepted(&reply) && all;
-    }
-    Ok(all)
-}
-
-/// Returns whether a command was accepted.
-fn is_accepted(reply: &Answer) -> bool {
-    match reply {
-        Answer::Ok { number: _, id: _ } => true,
-        _refused => false,
-    }
-}
-
-/// Returns how many mails have a word in their bodies.
-fn count_found(alloc: Global, engine: &mut Engine<MemDisk>, word: u64) -> Result<u64, Fail> {
-    engine.fresh()?;
-    let mut text = Bytes::new(alloc);
-    text.push_slice(b"b:")?;
-    text.push_slice(decimal(alloc, word)?.as_slice())?;
-    let query = read(alloc, text.as_slice())?;
-    Ok(engine.search(&query)?.as_slice().len() as u64)
-}
-
-/// Returns how many mails the searches for all words find together.
-fn count_all(alloc: Global, engine: &mut Engine<MemDisk>) -> Result<u64, Fail> {
-    let mut all: u64 = 0;
-    for word in 0..BODIES {
-        all = all.saturating_add(count_found(alloc, engine, word)?);
-    }
-    Ok(all)
-}
-
-/// Returns whether the searches find each of the mails, in each of twenty rounds.
-fn find_each(alloc: Global, engine: &mut Engine<MemDisk>) -> Result<bool, Fail> {
-    let mut each = true;
-    for _ in 0..20 {
-        each = count_all(alloc, engine)? == u64::from(MANY) && each;
-    }
-    Ok(each)
-}
-
-/// Delivers many mails to an archive on a disk, and returns whether the searches find each.
-fn many_are_found(alloc: Global) -> Result<bool, Fail> {
-    let mut engine = roomy(alloc)?;
-    let filled = fill_many(alloc, &mut engine)?;
-    let found = find_each(alloc, &mut engine)?;
-    Ok(filled && found)
-}
-
-#[test]
-fn twenty_rounds_of_searches_find_each_of_many_mails(rt: HostRuntime) -> Result<(), Fail> {
-    assert!(rt; many_are_found(rt.alloc())?);
     Ok(())
 }

@@ -1,11 +1,12 @@
-//! Removals in doubt: the disk failed in one, and the archive is reopened.
-use crate::archives::{accepted, made};
-use crate::removal_tests::has_both;
-use arch_model::{Answer, Command, Keep, Shelf};
+//! Commands in doubt: the disk failed in one, and the archive is reopened.
+use arch_model::{Answer, Command, Keep, OpenRefusal, Shelf};
 use archive_core::Engine;
+use archive_tests::{accepted, answer, has_both, made};
 use disk_model::{Disk, DiskFault, FileKind, FileName, MemDisk};
+use epoch_store::InitRefusal;
 use epoch_tests::{FIRST, FIRST_ID, LATER, MOMENT, failing};
 use std::alloc::Global;
+use std::process::Abort;
 use std::test::Fail;
 
 /// The file of the first epoch, which the second root names first.
@@ -113,5 +114,89 @@ fn a_removal_in_doubt_is_found_or_not(rt: HostRuntime) -> Result<(), Fail> {
     }
     // The last call of a removal is a sync. When it fails, the next root was written before.
     assert!(rt; before && last == Found::After);
+    Ok(())
+}
+
+/// Delivers a message, and returns whether the disk failed: exactly then the archive is stale.
+fn is_in_doubt(rt: &impl Abort, engine: &mut Engine<MemDisk>) -> Result<bool, OpenRefusal> {
+    let failed = answer(engine, &Command::Deliver(FIRST), MOMENT)? == Answer::DiskFault;
+    assert!(rt; engine.is_stale() == failed);
+    Ok(failed)
+}
+
+/// Reopens an archive whose delivery is in doubt, where the first try fails. Returns what is found then,
+/// and what the message is answered.
+fn found_by_delivery(
+    rt: &impl Abort,
+    engine: &mut Engine<MemDisk>,
+) -> Result<(Option<u32>, Answer), OpenRefusal> {
+    let refused = engine.fresh() == Err(OpenRefusal::DiskFault);
+    assert!(rt; refused && engine.is_stale());
+    engine.fresh()?;
+    let found = engine.live_from(1);
+    assert!(rt; !engine.is_stale());
+    let told = answer(engine, &Command::Deliver(FIRST), MOMENT)?;
+    Ok((found, told))
+}
+
+/// Delivers a message to an archive. Where its disk fails then, returns what is found after that,
+/// and what the message is answered then.
+fn found_if_in_doubt(
+    rt: &impl Abort,
+    engine: &mut Engine<MemDisk>,
+) -> Result<Option<(Option<u32>, Answer)>, OpenRefusal> {
+    if !is_in_doubt(rt, engine)? {
+        return Ok(None);
+    }
+    let found = found_by_delivery(rt, engine)?;
+    Ok(Some(found))
+}
+
+/// Makes an archive on a disk that fails, and delivers a message to it so. Returns `None` if the
+/// making already fails.
+fn found_over(
+    rt: &impl Abort,
+    alloc: Global,
+    disk: MemDisk,
+) -> Result<Option<(Option<u32>, Answer)>, OpenRefusal> {
+    match made(alloc, disk, 316, false) {
+        Ok(mut engine) => found_if_in_doubt(rt, &mut engine),
+        Err(refusal) => {
+            assert!(rt; refusal == InitRefusal::DiskFault);
+            Ok(None)
+        }
+    }
+}
+
+/// Makes an archive and delivers a message to it, over a disk of which two calls in a row fail, by
+/// the first one's ordinal from 1.
+fn found_over_failing(
+    rt: &impl Abort,
+    alloc: Global,
+    ordinal: u64,
+) -> Result<Option<(Option<u32>, Answer)>, Fail> {
+    let disk = failing(alloc, &[ordinal, ordinal.saturating_add(1)])?;
+    Ok(found_over(rt, alloc, disk)?)
+}
+
+#[test]
+fn a_delivery_in_doubt_is_found_or_not(rt: HostRuntime) -> Result<(), Fail> {
+    let alloc = rt.alloc();
+    let mut before = false;
+    let mut after = false;
+    for ordinal in 1..60 {
+        match found_over_failing(&rt, alloc, ordinal)? {
+            None => {}
+            Some((None, answer)) => {
+                assert!(rt; Some(answer) == accepted(1, FIRST_ID));
+                before = true;
+            }
+            Some((Some(number), answer)) => {
+                assert!(rt; number == 1 && answer == Answer::Duplicate(1));
+                after = true;
+            }
+        }
+    }
+    assert!(rt; before && after);
     Ok(())
 }
