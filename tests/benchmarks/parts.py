@@ -1,12 +1,8 @@
 """The MIME parts of the worst mails, beside those of a flat mail of the same size."""
-import glob
-import os
 import subprocess
 
 from benchmarks import mails, runs
 from benchmarks.table import Row
-
-CRATES = ("arch_base", "mail_reader", "mime_words", "mime_parts", "mime_walk")
 
 
 def filled(size, front, line, end=b""):
@@ -41,21 +37,11 @@ def worst(size):
     )
 
 
-def is_built(program):
-    """Returns whether a program is there, and is newer than its sources."""
-    files = [it for name in CRATES for it in glob.glob(f"{runs.TESTS}/../crates/{name}/s*/**", recursive=True)]
-    sources = filter(os.path.isfile, files)
-    return os.path.exists(program) and os.path.getmtime(program) > max(map(os.path.getmtime, sources))
-
-
 def part_printer():
-    """Returns the path of the program that prints the parts of a mail, which rt proves and builds if
-    needed."""
-    folder = os.path.realpath(f"{runs.TESTS}/../crates/mime_walk")
-    program, quiet = f"{folder}/out/mime_walk", {"stdin": subprocess.DEVNULL, "stdout": subprocess.DEVNULL}
-    if not is_built(program):
-        subprocess.run(["rt", "run"], cwd=folder, check=True, stderr=subprocess.DEVNULL, **quiet)
-    return program
+    """Returns the path of the program that prints the parts of a mail, which is proved and built first
+    if needed."""
+    made = subprocess.run([f"{runs.TESTS}/../bin/build", "mime_walk"], stdin=subprocess.DEVNULL, stdout=subprocess.PIPE, check=True, text=True)
+    return made.stdout.strip()
 
 
 def divided(bench, program, size):
