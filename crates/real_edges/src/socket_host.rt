@@ -5,11 +5,12 @@ ghost use Rattle.real_edges.specs.Sockets.{MayHappen};
 
 use crate::faults::Faults;
 use crate::progress::Progress;
-use crate::sockets::{Ports, Sockets};
+use crate::sockets::{NotHeard, Ports, Sockets};
 use crate::system_clock::moment_of;
 use arch_base::NoMemory;
 use edge_io::{Event, Host, HostFault};
 use std::alloc::Global;
+use std::fmt::Display;
 use std::io::{self, ErrorKind};
 use std::marker::Model;
 use std::time::SystemTime;
@@ -29,7 +30,7 @@ pub struct SocketHost<'a> {
     rt: HostRuntime,
     alloc: Global,
     port: u16,
-    // Where it says that it listens.
+    // Where it says that it listens, or can't.
     progress: Option<&'a Progress>,
     sockets: Option<Sockets>,
     faults: Faults<io::Error>,
@@ -54,7 +55,7 @@ impl<'a> SocketHost<'a> {
     }
 
     /// Returns a host at a port, as `listen` does, of a run with this standard error. It says there
-    /// where it listens, once it does.
+    /// where it listens, once it does, or where it can't.
     pub fn listen_telling(
         rt: &HostRuntime,
         alloc: Global,
@@ -145,7 +146,7 @@ impl<'a> Host for SocketHost<'a> {
 }
 
 /// Returns what happened next at sockets, and when. Makes the listeners if they aren't there, and says
-/// then where they listen.
+/// then where they listen, or where they can't.
 fn event_of(
     rt: &HostRuntime,
     alloc: Global,
@@ -158,11 +159,14 @@ fn event_of(
     ensures what { IfOk result (λ event. MayHappen into.new event.what) }
 {
     if sockets.is_none() {
-        *sockets = Some(Sockets::open(rt, alloc, port)?);
-        if let Some(progress) = progress {
-            progress.end();
-            progress.say(Ports(port));
+        match Sockets::open(rt, alloc, port) {
+            Ok(open) => *sockets = Some(open),
+            Err(refused) => {
+                tell(progress, NotHeard(port));
+                return Err(refused);
+            }
         }
+        tell(progress, Ports(port));
     }
     let Some(open) = sockets else {
         return Err(ErrorKind::NotConnected.into());
@@ -170,4 +174,12 @@ fn event_of(
     let what = open.next(into)?;
     let moment = moment_of(SystemTime::now(rt))?;
     Ok(Event { moment, what })
+}
+
+/// Says something on the standard error of a run, after its line of progress.
+fn tell<T: Display + Drop>(progress: Option<&Progress>, words: T) {
+    if let Some(progress) = progress {
+        progress.end();
+        progress.say(words);
+    }
 }

@@ -53,6 +53,22 @@ impl Display for Ports {
     }
 }
 
+/// The ports of the doors that the server has, by the first, in the words in which it says that it
+/// can't listen there.
+#[derive(Clone, Copy, Drop)]
+pub(crate) struct NotHeard(pub(crate) u16);
+
+impl Display for NotHeard {
+    fn fmt<W: fmt::Write>(&self, f: &mut fmt::Formatter<W>) -> fmt::Result {
+        let control = u32::from(self.0);
+        let (http, nntp) = (control + 1, control + 2);
+        write!(
+            f,
+            "can't listen at ports {control}, {http} and {nntp} of 127.0.0.1; port=N asks for others"
+        )
+    }
+}
+
 /// The number of listeners. Their places in a circle come first.
 const LISTENERS: usize = 3;
 
