@@ -1,16 +1,15 @@
 -- There is one list of all names, and each call tells the name at an index of it.
-use Rattle.std.specs.Prelude.{◌≡◌, ◌⊎◌, ◌↔◌, ℕ, ◌+◌, ◌<◌, ◌≤◌, Option, Some, None, IsSome, List, [], ◌∷◌, ◌++◌, length, get_or, take, slice_get, refl}
+use Rattle.std.specs.Prelude.{◌≡◌, ◌⊎◌, ◌↔◌, ℕ, ◌+◌, Option, Some, None, IsSome, List, [], ◌∷◌, ◌++◌, get_or, take, slice_get, refl}
 use Rattle.std.specs.List.{Contains}
 use Rattle.std.specs.List.Sorted.{IsStrictlySortedBy}
 use Rattle.std.specs.Ordering.{ordering_reverse}
 use Rattle.std.specs.declared.cmp.Ordering.TheVariants.{Less, Greater}
 use Rattle.std.proofs.Common.{◌∙◌, ap, sym, subst, inl, inr, arith}
-use Rattle.std.proofs.lemmas.Bool.{cases_lt}
-use Rattle.std.proofs.lemmas.List.{take_all, take_more}
+use Rattle.std.proofs.lemmas.List.{take_more}
 use Rattle.std.proofs.lemmas.List.Elements.{All-contains, Contains-append_cases, Contains-append_right}
 use Rattle.std.proofs.lemmas.Map.Keys.{sorted_tail}
 use Rattle.std.proofs.lemmas.Map.Views.{All-after_first}
-use Rattle.std.proofs.lemmas.Option.{none-some, slice_get-get_or, slice_get_within, get_or_from_slice_get}
+use Rattle.std.proofs.lemmas.Option.{slice_get_within, get_or_from_slice_get}
 use Rattle.disk_model.specs.declared.name.FileName.{FileName}
 use Rattle.disk_model.specs.Name.{name_cmp}
 use Rattle.disk_model.specs.Images.{names_total, same_or_other}
@@ -119,45 +118,12 @@ one_more names i name k m same are at_place all listed =
     let is : get_or all i name ≡ name = get_or_from_slice_get all i name name here in
     ap (λ (l : List FileName). l ++ name ∷ []) (are all listed) ∙ sym (next ∙ ap (λ (n : FileName). take i all ++ n ∷ []) is)
 
--- No more name: the list is complete.
-no_more : (names : List FileName) (i : ℕ) (k m : Content) → Unchanged k m → AreFirstNames names i k → IsNameAt i None m → AreAllNames names k
-no_more names i k m same are at_place =
-    let all = at_place.names in
-    let listed = told_all i None k m same at_place in
-    let short : length all ≤ i =
-    elim (cases_lt i (length all)) [
-      | inl inside ↦
-          let found : slice_get all i ≡ None = sym at_place.«at» in
-          elim (cases_lt 0 (length all)) [
-            | inl some ↦ some_there all i inside found
-            | inr none ↦ omega (arith, none)
-          ]
-      | inr past ↦ past
-    ] in
-    let is : names ≡ all = are all listed ∙ take_all i all short in
-    subst (λ (l : List FileName). AreAllNames l k) (sym is) listed where
-      some_there : (l : List FileName) (i : ℕ) → i < length l → slice_get l i ≡ None → length l ≤ i
-      some_there [] i inside found = omega arith
-      some_there (x ∷ xs) i inside found = absurd (none-some (get_or (x ∷ xs) i x) (sym found ∙ slice_get-get_or (x ∷ xs) i x inside))
-
--- No names before the first call.
-pub first_none : (k : Option Content) → WhereTold (AreFirstNames [] 0) k
-first_none None = tt
-first_none (Some k) = λ all listed. refl
-
 -- One more name, if the disk tells its content.
 pub first_more : (names : List FileName) (i : ℕ) (name : FileName) (k m : Option Content) → Told Unchanged k m → WhereTold (AreFirstNames names i) k → WhereTold (IsNameAt i (Some name)) m → WhereTold (AreFirstNames (names ++ name ∷ []) (i + 1)) k
 first_more names i name None None same are at_place = tt
 first_more names i name None (Some m) same are at_place = absurd same
 first_more names i name (Some k) None same are at_place = absurd same
 first_more names i name (Some k) (Some m) same are at_place = one_more names i name k m same are at_place
-
--- The complete list, if the disk tells its content.
-pub first_all : (names : List FileName) (i : ℕ) (k m : Option Content) → Told Unchanged k m → WhereTold (AreFirstNames names i) k → WhereTold (IsNameAt i None) m → WhereTold (AreAllNames names) k
-first_all names i None None same are at_place = tt
-first_all names i None (Some m) same are at_place = absurd same
-first_all names i (Some k) None same are at_place = absurd same
-first_all names i (Some k) (Some m) same are at_place = no_more names i k m same are at_place
 
 -- What two calls leave unchanged is unchanged after both.
 pub unchanged_more : (k m o : Option Content) → Told Unchanged k m → Told Unchanged m o → Told Unchanged k o
@@ -167,11 +133,6 @@ unchanged_more None (Some m) o first second = absurd first
 unchanged_more (Some k) None o first second = absurd first
 unchanged_more (Some k) (Some m) None first second = absurd second
 unchanged_more (Some k) (Some m) (Some o) first second = λ name. second name ∙ first name
-
--- Nothing changes before the first call.
-pub unchanged_yet : (k : Option Content) → Told Unchanged k k
-unchanged_yet None = tt
-unchanged_yet (Some k) = λ name. refl
 
 -- If nothing changes, a crash leaves what it left before.
 pub unchanged_image : (k m : Option Content) (image : Files) → Told Unchanged k m → Image m image → Image k image

@@ -1,5 +1,5 @@
 -- Names that compare as equal are equal, and the files of an image are independent of each other.
-use Rattle.std.specs.Prelude.{◌≡◌, ◌≢◌, ◌⊎◌, ℕ, Bool, true, false, cond, Some, refl}
+use Rattle.std.specs.Prelude.{◌≡◌, ◌≢◌, ◌⊎◌, ℕ, Bool, true, false, refl}
 use Rattle.std.specs.Ordering.{nat_cmp, ordering_then}
 use Rattle.std.specs.Cmp.{IsTotalOrder, Equal-is}
 use Rattle.std.specs.BTreeMap.{is_at}
@@ -12,7 +12,6 @@ use Rattle.disk_model.specs.declared.name.FileKind.{FileKind}
 use Rattle.disk_model.specs.declared.name.FileKind.TheVariants.{Root, Map, Epoch, Cache}
 use Rattle.disk_model.specs.declared.name.FileName.{FileName}
 use Rattle.disk_model.specs.Name.{kind_index, name_cmp}
-use Rattle.disk_model.specs.Disk.{File, Files, Content, Image, Fits}
 
 -- The order of names is total.
 pub names_total : IsTotalOrder name_cmp
@@ -65,21 +64,3 @@ same_or_other name other = same_or_not (is_at (name_cmp name) other) refl where
   same_or_not true e = inl (same_name name other e)
   same_or_not false e =
       inr (λ same. let back : is_at (name_cmp name) other ≡ true = rw same (at_itself name) in cc)
-
--- An image with one file replaced.
-abbrev pub with_file : Files → FileName → File → Files
-with_file image name file other = cond (is_at (name_cmp name) other) file (image other)
-
--- An image with one file replaced has that file.
-pub with_file-here : (image : Files) (name : FileName) (file : File)
-    → with_file image name file name ≡ file
-with_file-here image name file = rw (at_itself name) refl
-
--- The files of an image are independent: one can be replaced by any other that a crash may leave.
-pub Image-with_file : (k : Content) (image : Files) (name : FileName) (file : File)
-    → Image (Some k) image → Fits (k name).sure file → Image (Some k) (with_file image name file)
-Image-with_file k image name file left fits other = cases (is_at (name_cmp name) other) refl where
-  cases : (b : Bool) → is_at (name_cmp name) other ≡ b
-      → Fits (k other).sure (cond b file (image other))
-  cases true e = rw (same_name name other e) fits
-  cases false e = left other

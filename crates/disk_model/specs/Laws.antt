@@ -8,14 +8,7 @@ use Rattle.std.proofs.lemmas.Grind.{common_steps, same_number_lists}
 use Rattle.std.proofs.lemmas.Bool.{cases_lt}
 use Rattle.std.proofs.lemmas.List.{get_or-take, get_or_past}
 use Rattle.disk_model.specs.declared.name.FileName.{FileName}
-use Rattle.disk_model.specs.Disk.{File, Files, Sure, Holds, Fits, exact, write_sure, cut_sure, remove_sure, Within, Kept, Content, Image, Told, WhereTold, Unchanged, bytes_of, overlay, Synced, NotSynced, ReadsFit, IsLength, IsAtMostLength}
-
--- The content that a disk tells after a call, if it told one before.
-pub record After (P : Content → Content → Type 0) (old : Content) (new : Option Content)
-    : Type 0 where
-  pub content : Content
-  pub told : new ≡ Some content
-  pub holds : P old content
+use Rattle.disk_model.specs.Disk.{File, Files, Sure, Holds, Fits, exact, write_sure, cut_sure, remove_sure, Within, Kept, Content, Image, Told, WhereTold, Unchanged, bytes_of, overlay, Synced, NotSynced, ReadsFit, IsLength}
 
 -- Bytes that differ in a range at most, with equal lengths.
 pub record SameOutside (at n : ℕ) (old new : List ℕ) : Type 0 where
@@ -80,24 +73,6 @@ Within-trans s t u p q = record {
       (second.0, second.1 ∙ first.1);
 }
 
--- A write preserves `Within`.
-pub write_within : (at n : ℕ) (seen : File) (s t : Sure) → Within s t
-    → Within (write_sure at n seen s) (write_sure at n seen t)
-write_within at n None s t w = record {
-  there = λ e. refl;
-  gone = w.gone;
-  least = omega arith;
-  greatest = let g = w.greatest in omega arith;
-  outside = λ i below out. absurd (omega (arith, below));
-}
-write_within at n (Some bytes) s t w = record {
-  there = λ e. refl;
-  gone = w.gone;
-  least = w.least;
-  greatest = let g = w.greatest in omega arith;
-  outside = λ i below out. let o = w.outside i below out.1 in ((out.0, o.0), o.1);
-}
-
 -- A cut preserves `Within`.
 pub cut_within : (n : ℕ) (s t : Sure) → Within s t → Within (cut_sure n s) (cut_sure n t)
 cut_within n s t w = record {
@@ -160,18 +135,6 @@ remove_wider s = record {
 pub NotSynced-same : (content : Option Content) → ReadsFit content → Told NotSynced content content
 NotSynced-same None fit = tt
 NotSynced-same (Some k) fit = record { seen = fit k refl; crash = λ name. Within-refl (k name).sure }
-
--- A disk that told its content before a call tells one after it.
-pub told_after : (P : Content → Content → Type 0) (old new : Option Content) (k : Content)
-    → old ≡ Some k → Told P old new → After P k new
-told_after P old None k is told =
-    let bad : Told P (Some k) None = subst (λ (o : Option Content). Told P o None) is told in
-    absurd bad
-told_after P old (Some m) k is told = record {
-  content = m;
-  told = refl;
-  holds = subst (λ (o : Option Content). Told P o (Some m)) is told;
-}
 
 -- A file that is on the disk as it reads has one image, itself.
 pub Fits-exact : (seen image : File) → Fits (exact seen) image → image ≡ seen
@@ -329,11 +292,6 @@ pub overlay-inside : (at : ℕ) (bytes old : List ℕ) → at ≤ length old
     → take (length bytes) (drop at (overlay at bytes old)) ≡ bytes
 overlay-inside at bytes old inside = grind (arith, common_steps)
 
--- A write keeps the bytes before its offset.
-pub overlay-front : (at : ℕ) (bytes old : List ℕ) → at ≤ length old
-    → take at (overlay at bytes old) ≡ take at old
-overlay-front at bytes old inside = grind (arith, common_steps)
-
 -- A write inside a file changes at most its range.
 pub overlay-torn : (at : ℕ) (bytes old : List ℕ) → at + length bytes ≤ length old
     → SameOutside at (length bytes) old (overlay at bytes old)
@@ -379,14 +337,3 @@ IsLength-unchanged name n (Some k) None is same = absurd same
 IsLength-unchanged name n (Some k) (Some m) is same =
     let P : Kept → Type 0 = λ kept. n ≡ length (bytes_of kept.seen) in
     subst P (sym (same name)) is
-
--- So does each offset up to it.
-pub IsAtMostLength-unchanged : (name : FileName) (n offset : ℕ) (old new : Option Content)
-    → WhereTold (IsLength name n) old → Told Unchanged old new → offset ≤ n
-    → WhereTold (IsAtMostLength name offset) new
-IsAtMostLength-unchanged name n offset None None is same below = tt
-IsAtMostLength-unchanged name n offset None (Some m) is same below = absurd same
-IsAtMostLength-unchanged name n offset (Some k) None is same below = absurd same
-IsAtMostLength-unchanged name n offset (Some k) (Some m) is same below =
-    let length_is = IsLength-unchanged name n (Some k) (Some m) is same in
-    omega (arith, length_is, below)

@@ -97,15 +97,6 @@ record_only_now base changes image since =
     let P : List Change → Type 0 = λ cs. Image (Some (content_of base cs)) image in
     subst P (take_all since.at changes from) since.left
 
--- Without a change time stands still.
-pub elapses_same : (base : Files) (changes : List Change) → Elapses (length changes) (length changes)
-    (LeftSince base changes) (LeftSince base changes) (Some (content_of base changes))
-elapses_same base changes = record {
-  later = omega arith;
-  nothing_else = λ t image le since. inl since;
-  keeps = λ t image le past. past;
-}
-
 -- One change advances time by one.
 pub elapses_push : (base : Files) (changes : List Change) (change : Change)
     → Elapses (length changes) (length (changes ++ change ∷ [])) (LeftSince base changes)

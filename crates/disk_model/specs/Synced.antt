@@ -1,9 +1,9 @@
 -- What a write and a sync of one range of a file leave.
 use Rattle.std.specs.Prelude.{◌≡◌, ◌≢◌, ◌+◌, ◌<◌, ◌≤◌, ℕ, Option, Some, None, List, length, refl}
-use Rattle.std.proofs.Common.{◌∙◌, ap, sym, subst, arith}
+use Rattle.std.proofs.Common.{subst, arith}
 use Rattle.disk_model.specs.declared.name.FileName.{FileName}
-use Rattle.disk_model.specs.Disk.{File, Files, Kept, Content, Image, Told, OneFile, Fits, Within, exact, write_sure, bytes_of, overlay, Wrote, Tore, Synced, ReadsFit}
-use Rattle.disk_model.specs.Laws.{Origin, FrontOrigin, Fits-Within, Fits-exact, write_wider, write_origin, write_front}
+use Rattle.disk_model.specs.Disk.{File, Files, Kept, Content, Image, Told, OneFile, Fits, Within, exact, write_sure, bytes_of, overlay, Wrote, Tore, ReadsFit}
+use Rattle.disk_model.specs.Laws.{Origin, Fits-Within, Fits-exact, write_wider, write_origin}
 
 -- During the write and the sync a crash leaves this file as a crash in the write may, and each
 -- other file as before.
@@ -64,23 +64,6 @@ writing_tore name at n (Some k) (Some m) image told left = record {
       subst P (told.elsewhere other apart) (left other);
 }
 
--- A write and a sync after it that both return `Ok` leave the range written and synced.
-pub written_synced : (name : FileName) (at : ℕ) (bytes : List ℕ) (old mid new : Option Content)
-    → Told (OneFile name (Wrote at bytes)) old mid → Told Synced mid new
-    → Told (IsWritten name at bytes) old new
-written_synced name at bytes None None None wrote synced = tt
-written_synced name at bytes None None (Some n) wrote synced = absurd synced
-written_synced name at bytes None (Some m) new wrote synced = absurd wrote
-written_synced name at bytes (Some k) None new wrote synced = absurd wrote
-written_synced name at bytes (Some k) (Some m) None wrote synced = absurd synced
-written_synced name at bytes (Some k) (Some m) (Some n) wrote synced = record {
-  here = synced.seen name ∙ wrote.here.seen;
-  elsewhere = λ other apart.
-      synced.seen other ∙ ap (λ (kept : Kept). kept.seen) (wrote.elsewhere other apart);
-  settled = λ other. let P : File → Type 0 = λ file. Within (n other).sure (exact file) in
-      subst P (sym (synced.seen other)) (synced.crash other);
-}
-
 -- A write inside a file leaves a file from before it, with other bytes in the range.
 pub writing_inside : (name : FileName) (at n : ℕ) (k : Content) (image : Files) → ReadsFit (Some k)
     → at + n ≤ length (bytes_of (k name).seen) → 0 < n → IsWriting name at n k image
@@ -93,14 +76,6 @@ writing_inside name at n k image fit inside some w =
       of_seen None fits within here = absurd (omega (arith, within, some))
       of_seen (Some seen) fits within here =
           write_origin at n (k name).sure seen (image name) fits within here
-
--- A write at an offset or after it leaves a file that starts with the same bytes as one from before
--- it.
-pub writing_after : (name : FileName) (at n : ℕ) (k : Content) (image : Files) → ReadsFit (Some k)
-    → at ≤ length (bytes_of (k name).seen) → IsWriting name at n k image
-    → FrontOrigin at (k name).sure (image name)
-writing_after name at n k image fit after w =
-    write_front at n (k name).sure (k name).seen (image name) (fit k refl name) after w.here
 
 -- A crash leaves settled files as they read.
 pub settled_image : (k : Content) (image : Files) → IsSettled k → Image (Some k) image

@@ -1,7 +1,7 @@
 -- Pieces one after the other.
 use Rattle.std.proofs.Common.{◌≡◌, ◌≢◌, ℕ, List, ◌++◌, cond, Result, Ok, Err, OnOk, is_ok, sym, ap, ◌∙◌}
 use Rattle.std.proofs.lemmas.List.{append_cancel_left, append_assoc}
-use Rattle.git_objects.specs.Fronts.{Lacks, Begins, Both, in_turn, led, followed, Appends}
+use Rattle.git_objects.specs.Fronts.{Lacks, Begins, Both, in_turn, led, Appends}
 
 -- Bytes that lack the first piece lack both.
 pub lacks-first : {A B : Type 0} (va : A → Type 0) (vb : B → Type 0) (sa : A → List ℕ → List ℕ) (sb : B → List ℕ → List ℕ) (bytes : List ℕ)
@@ -48,27 +48,6 @@ begins-led valid spell bytes word after v rest e one = record {
   valid_one = one.valid_one;
   spelled = e ∙ ap (λ l. word ++ l) one.spelled;
   only = λ w more ok is. one.only w more ok (append_cancel_left word after (spell w more) (sym e ∙ is));
-}
-
--- Bytes that lack the piece lack it with a word after it.
-pub lacks-front : {V : Type 0} (valid : V → Type 0) (spell : V → List ℕ → List ℕ) (bytes word : List ℕ)
-    → Lacks valid spell bytes → Lacks valid (followed spell word) bytes
-lacks-front valid spell bytes word none = λ v rest ok is. none v (word ++ rest) ok is
-
--- Bytes that lack the word after a piece lack both.
-pub lacks-after : {V : Type 0} (valid : V → Type 0) (spell : V → List ℕ → List ℕ) (bytes word : List ℕ) (v : V) (after : List ℕ)
-    → Begins valid spell bytes v after → ((rest : List ℕ) → after ≢ word ++ rest) → Lacks valid (followed spell word) bytes
-lacks-after valid spell bytes word v after one none = λ w rest ok is. none rest (one.only w (word ++ rest) ok is).1
-
--- A piece and then a word.
-pub begins-followed : {V : Type 0} (valid : V → Type 0) (spell : V → List ℕ → List ℕ) (bytes word : List ℕ) (v : V) (after rest : List ℕ)
-    → Begins valid spell bytes v after → after ≡ word ++ rest → Begins valid (followed spell word) bytes v rest
-begins-followed valid spell bytes word v after rest one e = record {
-  valid_one = one.valid_one;
-  spelled = one.spelled ∙ ap (spell v) e;
-  only = λ w more ok is.
-      let same = one.only w (word ++ more) ok is in
-      (same.0, append_cancel_left word rest more (sym e ∙ same.1));
 }
 
 -- Two pieces appended, one after the other.

@@ -19,8 +19,8 @@ use Rattle.arch_model.specs.declared.opening.OpenRefusal.TheVariants as opening
 use Rattle.arch_model.proofs.Keepers.{found-one}
 use Rattle.keep_course.specs.Answering.{newer_of, newer, said_reopening}
 
--- A command on the archive that is held was answered, and a door's line for the answer was said. The
--- door's words are those of `said_command`, as far as they are named here.
+-- A command on the archive that is held was answered, and a door's line for the answer was said. Of
+-- the door's words this is what matters: after a fault of the disk the command is in doubt.
 module _ {H : Type 0} (words : Way → Said H Standing) (h : H) (line : Answer → List ℕ) (a : Archive) (wanted : Archive → Done)
     (plain : words Plain ≡ says (standing (wanted a).archive None) h (line (wanted a).answer)) (memory : words Memory ≡ says (standing a None) h (line answer.NoMemory))
     (disk : words Disk ≡ says (standing a (Some (wanted a).archive)) h (line answer.DiskFault)) where

@@ -98,10 +98,6 @@ module _ {K H : Type 0} (leaves : K → K → List (Option Archive) → Type 0) 
         course.left start may (last-has may w coming.acts m coming.each (has.0, parts.0), parts.1) (coming.left start may (has.0, parts.0) since);
   }
 
-  -- A course is one of line_door's.
-  pub course-fed : (old new : K) (w v : Talk H Standing) → Course leaves said is_request old new w v → Fed said is_request w v
-  course-fed old new w v course = (course.acts, course.before, course.each, course.last)
-
   module _ (holds : K → Archive → Type 0) (ready : K → Bool) where
     -- A crash since the start leaves an archive, or one in doubt, of one of the talks.
     pub crash-in : (old new : K) (w : Talk H Standing) (ms : List (Talk H Standing)) → Fits holds ready leaves old w.after → LeftBy leaves old new w ms → leaves old new (archives_in w ms)

@@ -3,11 +3,8 @@ use Rattle.std.specs.Prelude.{ℕ, Bool, List, [], Option, Some, None}
 use Rattle.line_door.specs.Acts.{Outside, Said, Way, Plain, Memory, Disk, Newer, Acts, held_if}
 use Rattle.line_door.specs.Making.{says, closes}
 use Rattle.arch_model.specs.Archives.{Archive}
-use Rattle.arch_model.specs.Delivery.{Done}
 use Rattle.arch_model.specs.Standing.{Standing, standing}
 use Rattle.arch_model.specs.Keeping.{Fits, Moves}
-use Rattle.arch_model.specs.declared.answer.Answer.{Answer}
-use Rattle.arch_model.specs.declared.answer.Answer.TheVariants as answer
 use Rattle.arch_model.specs.declared.opening.OpenRefusal.{OpenRefusal}
 use Rattle.arch_model.specs.declared.opening.OpenRefusal.TheVariants as opening
 
@@ -28,18 +25,6 @@ said_reopening line s h Plain = says (standing s.archive None) h []
 said_reopening line s h Newer = says (standing (newer s) None) h []
 said_reopening line s h Memory = closes s (line opening.NoMemory)
 said_reopening line s h Disk = closes s (line opening.DiskFault)
-
--- What a command on an archive says, by a door's line for each answer; the session after it is `h`.
--- After a fault of the disk the command is in doubt.
-abbrev pub said_command : {H : Type 0} → (Answer → List ℕ) → Archive → Done → H → Way
-    → Said H Standing
-said_command line a wanted h Plain =
-    says (standing wanted.archive None) h (line wanted.answer)
-said_command line a wanted h Newer =
-    says (standing wanted.archive None) h (line wanted.answer)
-said_command line a wanted h Memory = says (standing a None) h (line answer.NoMemory)
-said_command line a wanted h Disk =
-    says (standing a (Some wanted.archive)) h (line answer.DiskFault)
 
 -- A keeper: the archives that it holds, whether it is ready, and what each crash since a state may
 -- have left.

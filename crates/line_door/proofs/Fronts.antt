@@ -181,10 +181,6 @@ sized-far limit bytes (Some p) l h = ap (λ (t : Bool). if t then Whole p.0 p.1 
 pub front-partial : (limit : ℕ) (xs : List ℕ) → front limit xs ≡ Partial → (first_line xs ≡ None) × (length xs < limit)
 front-partial limit xs e = sized-partial limit xs (first_line xs) e
 
--- No bytes are a part.
-pub front-nothing : (limit : ℕ) → 0 < limit → front limit [] ≡ Partial
-front-nothing limit l = ap (λ (t : Bool). if t then Partial else Long) (lt-ltb 0 limit l)
-
 -- More bytes leave a whole line unchanged.
 pub front-goes_on : (limit : ℕ) (xs ys line rest : List ℕ) → front limit xs ≡ Whole line rest → front limit (xs ++ ys) ≡ Whole line (rest ++ ys)
 front-goes_on limit xs ys line rest e =

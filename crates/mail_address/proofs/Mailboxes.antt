@@ -174,12 +174,6 @@ seek_inner (m ∷ ms) ns q =
     let closes : (is_outside m.1 && m.0 == 62) ≡ false = closes_quiet m.1 m.0 q.0 in
     rw (closes, seek_inner ms ns q.1) (omega arith)
 
--- The bytes of the marks of pieces.
-quoted_back : (parts : List QuotedPart) (ms : List (ℕ × Place)) → bytes_of (quoted_marks parts ++ ms) ≡ quoted_bytes parts ++ bytes_of ms
-quoted_back [] ms = refl
-quoted_back (Literal b ∷ parts) ms = ap (λ (xs : List ℕ). b ∷ xs) (quoted_back parts ms)
-quoted_back (Escaped b ∷ parts) ms = ap (λ (xs : List ℕ). 92 ∷ b ∷ xs) (quoted_back parts ms)
-
 pub bytes_back : (p : ℕ → Bool) → ((b : ℕ) → p b ≡ true → next_place Outside b ≡ Outside) → (pieces : List Piece) → ArePieces p pieces
     → bytes_of (all_marks pieces) ≡ spelled_pieces pieces
 bytes_back p stays pieces q =
@@ -367,10 +361,6 @@ spelled_bytes : (xs : List ℕ) → spelled_pieces (map Byte xs) ≡ xs
 spelled_bytes [] = refl
 spelled_bytes (x ∷ xs) = ap (λ (ys : List ℕ). x ∷ ys) (spelled_bytes xs)
 
-are_bytes : (p : ℕ → Bool) (xs : List ℕ) → AllPass p xs → ArePieces p (map Byte xs)
-are_bytes p [] all = tt
-are_bytes p (x ∷ xs) all = (all_head p x xs all, are_bytes p xs (all_tail p x xs all))
-
 said_bytes : (xs : List ℕ) → Lacks 32 xs → address_said (map Byte xs) ≡ xs
 said_bytes [] lacks = refl
 said_bytes (x ∷ xs) lacks = rw lacks.0 (ap (λ (ys : List ℕ). x ∷ ys) (said_bytes xs lacks.1))
@@ -508,9 +498,6 @@ told_semicolon item rest address tells = rw (append-nil item, tells) refl
 
 pub told_colon : (name rest : List ℕ) → told false (put_before name (cut false false (marked (58 ∷ rest)))) ≡ group_start name ∷ told true (items_of true rest)
 told_colon name rest = rw (append-nil name) refl
-
-told_nothing : (rest : List ℕ) → told false (items_of false (44 ∷ rest)) ≡ told false (items_of false rest)
-told_nothing rest = refl
 
 told_empty_group : (rest : List ℕ) → told true (items_of true (59 ∷ rest)) ≡ end ∷ told false (items_of false rest)
 told_empty_group rest = refl

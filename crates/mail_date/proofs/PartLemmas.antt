@@ -196,10 +196,6 @@ without_white-word : (text : List ℕ) → begins_word text ≡ true → without
 without_white-word [] h = refl
 without_white-word (b ∷ bs) h = rw (not_white b h) refl
 
--- A day's name starts with a letter.
-letter_test : (n k : ℕ) (more : Bool) → 97 ≤ k → (n == k && more) ≡ true → 97 ≤ n
-letter_test n k more h e = let same : n ≡ k = eqb-true n k (and_parts (n == k) more e).0 in omega arith
-
 lower_letter : (a b c : ℕ) → is_day_name (a ∷ b ∷ c ∷ []) ≡ true → 97 ≤ to_ascii_lowercase a
 lower_letter a b c h = any_letter (to_ascii_lowercase a) _ _ _ _ _ _ _ h
   where

@@ -7,7 +7,6 @@ use Rattle.std.proofs.lemmas.Bool.Decides.{nat_tests}
 use Rattle.jiff_core.proofs.SignedLemmas.{signed_arith}
 use Rattle.jiff_core.proofs.CalendarLemmas.{days_in_month_bounds}
 use Rattle.mail_date.specs.declared.moment.CivilDate.{CivilDate}
-use Rattle.mail_date.specs.declared.pieces.Clock.{Clock}
 use Rattle.mail_date.specs.Words.{is_word_byte}
 use Rattle.mail_date.specs.Pieces.{number_of, day_of, month_of, year_of, clock_of, zone_of, signed, IsZone}
 use Rattle.mail_date.specs.Dates.{IsMomentOf, IsValid}
@@ -73,10 +72,6 @@ year_written year h =
       rw (number_written (year / 100) (omega arith), number_written (year % 100) (omega arith), value) refl,
       word_by (four_digits year) refl (rw (digit_in_word (year / 100 / 10), digit_in_word (year / 100 % 10), digit_in_word (year % 100 / 10), digit_in_word (year % 100 % 10)) refl),
     )
-
--- The time of day of a date, which is read.
-shown_clock : CivilDate → Clock
-shown_clock date = record { hour = date.hour; minute = date.minute; second = date.second }
 
 clock_written : (date : CivilDate) → IsValid date → (clock_of (clock_text date) ≡ Some (record { hour = date.hour; minute = date.minute; second = date.second })) × IsWord (clock_text date)
 clock_written date h =

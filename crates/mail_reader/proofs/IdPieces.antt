@@ -25,25 +25,6 @@ opens_id xs k h free here rest split = record {
   within = omega (arith, length-drop k xs);
 }
 
--- A piece is its bracket and the bytes inside.
-pub piece-split : (piece : List ℕ) → get_or piece 0 0 ≡ 60 → 0 < length piece → piece ≡ 60 ∷ drop 1 piece
-piece-split [] h l = absurd (omega arith)
-piece-split (x ∷ xs) h l = ap (λ b. b ∷ xs) h
-
--- An id that is closed.
-pub ids_of-closed : (value piece : List ℕ) (len : ℕ) → OpensId value piece → closes_id (drop 1 piece) ≡ true → len ≡ id_len (drop 1 piece)
-    → ids_of value ≡ take (len + 2) piece ∷ ids_of (drop 1 piece)
-ids_of-closed value piece len h closed e =
-    let split = piece-split piece h.bracket h.some in
-    let two : len + 2 ≡ suc (len + 1) = omega arith in
-    let at : take (len + 2) piece ≡ 60 ∷ take (id_len (drop 1 piece) + 1) (drop 1 piece) =
-    ap (take (len + 2)) split ∙ rw two (ap (λ n. 60 ∷ take (n + 1) (drop 1 piece)) e) in
-    h.ids ∙ ap ids_of split ∙ rw closed (ap (λ t. t ∷ ids_of (drop 1 piece)) (sym at))
-
--- An id that isn't closed.
-pub ids_of-open : (value piece : List ℕ) → OpensId value piece → closes_id (drop 1 piece) ≡ false → ids_of value ≡ ids_of (drop 1 piece)
-ids_of-open value piece h closed = h.ids ∙ ap ids_of (piece-split piece h.bracket h.some) ∙ rw closed refl
-
 -- There are no more ids than bytes.
 pub length-ids_of : (xs : List ℕ) → length (ids_of xs) ≤ length xs
 length-ids_of [] = omega arith

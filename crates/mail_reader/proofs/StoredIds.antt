@@ -1,5 +1,5 @@
 -- The own id of a storage text.
-use Rattle.std.proofs.Common.{◌≡◌, ◌<◌, ◌≤◌, ℕ, Bool, List, length, Option, Some, None, refl, sym, subst, ◌∙◌, arith}
+use Rattle.std.proofs.Common.{◌≡◌, ◌≤◌, ℕ, Bool, List, length, Option, Some, None, refl, sym, subst, ◌∙◌}
 use Rattle.std.specs.Prelude.{◌↔◌, IsTrue, IsSome, MatchOption, is_some, option_copied}
 use Rattle.std.specs.Borrow.{Bor}
 use Rattle.std.proofs.lemmas.Bool.{false≢true}
@@ -10,9 +10,6 @@ use Rattle.mail_reader.specs.StorageTexts.{IsStorageText, max_text_len}
 -- The own id is found, or the text is no storage text.
 abbrev pub FindsId : List ℕ → Option (Bor (List ℕ)) → Type 0
 FindsId text found = MatchOption found (IsStorageText text → ⊥) (λ id. IsStorageText text × (own_id text ≡ Some id.now))
-
-pub too_long : (text : List ℕ) → max_text_len < length text → IsStorageText text → ⊥
-too_long text long storage = let short = storage.short in omega (arith, long, short)
 
 -- A text of a storage text's length and form is one if it has an own id.
 pub id_of_form : (text : List ℕ) (found : Option (Bor (List ℕ))) → length text ≤ max_text_len → storage_form text ≡ Some text → option_copied found ≡ own_id text → FindsId text found

@@ -106,10 +106,6 @@ going_from text parts pending p q =
     subst (λ (ps : List Part). Going text ps pending) (sym p)
     (subst (Going text []) (sym q) (going_start text))
 
--- The last of the pending ones is the first in the order of the visit.
-pub going_next : (text : List ℕ) (parts : List Part) (pending : List Entity) (e : Entity) → Going text parts (pending ++ e ∷ []) → IsReady text e
-going_next text parts pending e g = let ready = subst (AllReady text) (reverse-append pending (e ∷ [])) g.ready in ready.0
-
 -- What is read and found of an entity makes its visit.
 pub visited : (text : List ℕ) (e : Entity) (parts parts' : List Part) (pending pending' : List Entity) (h : Heading) (found : List Span) (part : Part)
     (is_empty digest : Bool) (levels room : ℕ) → h ≡ heading_at text e.digest e.span → room ≡ 1000 - known parts pending
@@ -174,8 +170,3 @@ going_on text parts parts' pending pending' e g v =
           (part_placed (is_opaque e.levels (shape_of head) (eqb (length spans) 0)) text head (header_span text e.span) (body_span text e.span) (20 - e.levels) (header-in text e.span ready.0.within) (body-in text e.span ready.0.within)));
       count = omega arith;
     }
-
--- The end of the visits.
-pub going_end : (text : List ℕ) (parts : List Part) (pending : List Entity) → Going text parts pending → pending ≡ [] → parts ≡ tree_of text
-going_end text parts pending g e =
-    sym (append-nil parts) ∙ ap (λ es. parts ++ run text (reverse es) (length parts + length es)) (sym e) ∙ g.told

@@ -13,16 +13,18 @@ pub record Step : Type 0 where
   pub added : List (List ℕ)
   pub next : Expected
 
+-- Such a step of these two parts.
 abbrev pub step : List (List ℕ) → Expected → Option Step
 step added next = Some (record { added = added; next = next })
 
--- A semicolon is the only lexeme after a type or a parameter.
+-- A semicolon is the only mark after a type, a parameter or another semicolon.
 abbrev pub mark_after_pair : Mark → Option Step
 mark_after_pair Semicolon = step [] expected.Name
 mark_after_pair Slash = None
 mark_after_pair Equals = None
 mark_after_pair Other = None
 
+-- An equals sign is the only mark after the name of a parameter.
 abbrev pub mark_after_name : Mark → Option Step
 mark_after_name Semicolon = None
 mark_after_name Slash = None
@@ -58,6 +60,7 @@ abbrev pub with_front : List (List ℕ) → Option (List (List ℕ)) → Option 
 with_front front None = None
 with_front front (Some later) = Some (front ++ later)
 
+-- What a step adds, before the parameters that are read after it.
 abbrev pub after_step : Option Step → (Expected → Option (List (List ℕ))) → Option (List (List ℕ))
 after_step None later = None
 after_step (Some s) later = with_front s.added (later s.next)
@@ -73,28 +76,31 @@ pub record FirstToken : Type 0 where
   pub token : List ℕ
   pub later : List LexemeText
 
--- The token at the front of lexemes, and the lexemes after it, if they start with one.
+-- The token that a lexeme is, if it is one, and the lexemes after it.
 abbrev pub token_at : LexemeText → List LexemeText → Option FirstToken
 token_at (TokenText token) later = Some (record { token = token; later = later })
 token_at (QuotedText inside) later = None
 token_at (MarkText mark) later = None
 
+-- The token at the front of lexemes, and the lexemes after it, if they start with one.
 abbrev pub first_token : List LexemeText → Option FirstToken
 first_token [] = None
 first_token (l ∷ ls) = token_at l ls
 
--- The lexemes after a slash at the front, if they start with one.
+-- The lexemes after a mark, if it is a slash.
 abbrev pub slash_by : Mark → List LexemeText → Option (List LexemeText)
 slash_by Semicolon later = None
 slash_by Slash later = Some later
 slash_by Equals later = None
 slash_by Other later = None
 
+-- The lexemes after a lexeme, if it is a slash.
 abbrev pub slash_at : LexemeText → List LexemeText → Option (List LexemeText)
 slash_at (TokenText token) later = None
 slash_at (QuotedText inside) later = None
 slash_at (MarkText mark) later = slash_by mark later
 
+-- The lexemes after a slash at the front, if they start with one.
 abbrev pub after_slash : List LexemeText → Option (List LexemeText)
 after_slash [] = None
 after_slash (l ∷ ls) = slash_at l ls
@@ -105,15 +111,19 @@ pub record Opening : Type 0 where
   pub minor : List ℕ
   pub later : List LexemeText
 
+-- A token and another one with the lexemes after it, as the front of a type.
 abbrev pub opened : List ℕ → FirstToken → Opening
 opened major minor = record { major = major; minor = minor.token; later = minor.later }
 
+-- The front of a type by its first token and the lexemes after the slash.
 abbrev pub minor_after : List ℕ → List LexemeText → Option Opening
 minor_after major lexemes = option_map (opened major) (first_token lexemes)
 
+-- The front of a type by its first token and the lexemes after that.
 abbrev pub opening_after : FirstToken → Option Opening
 opening_after major = option_and_then (minor_after major.token) (after_slash major.later)
 
+-- The front of a type with which lexemes start, if they start with one (RFC 2045, section 5.1).
 abbrev pub opening_of : List LexemeText → Option Opening
 opening_of lexemes = option_and_then opening_after (first_token lexemes)
 
@@ -126,6 +136,7 @@ type_with opening params = record {
   params = params;
 }
 
+-- The type of a front, if the lexemes after it spell parameters and nothing else.
 abbrev pub type_after : Opening → Option ContentType
 type_after opening = option_map (type_with opening) (params_of expected.Semicolon opening.later)
 

@@ -7,6 +7,7 @@ use Rattle.mime_parts.specs.declared.part.Span.{Span}
 use Rattle.mime_parts.specs.declared.delimiters.LineKind.{LineKind}
 use Rattle.mime_parts.specs.declared.delimiters.LineKind.TheVariants.{Plain, Delimiter, Closing}
 
+-- The bytes from one offset up to another.
 abbrev pub span_of : ℕ → ℕ → Span
 span_of start end = record { start = start; end = end }
 
@@ -18,10 +19,12 @@ is_blank b = b == 32 || b == 9
 abbrev pub begins : List ℕ → List ℕ → Bool
 begins bytes word = bytes_eq (take (length word) bytes) word
 
+-- The two dashes before a boundary.
 abbrev pub dashes : List ℕ
 dashes = codes "--"
 
--- After the boundary only spaces and tabs follow. In a closing line two dashes are before them.
+-- The kind of a line, by its bytes after the boundary: only spaces and tabs follow, in a closing line
+-- after two more dashes.
 abbrev pub kind_after : List ℕ → LineKind
 kind_after tail =
     if list_all is_blank tail then Delimiter
@@ -44,6 +47,7 @@ pub record Cuts : Type 0 where
   pub stop : ℕ
   pub parts : List Span
 
+-- The cuts of these two parts.
 abbrev pub cuts : ℕ → List Span → Cuts
 cuts stop parts = record { stop = stop; parts = parts }
 

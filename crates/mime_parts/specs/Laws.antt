@@ -60,6 +60,7 @@ pub record IsFollowed (text : List ℕ) (p : Part) (others : List Part) : Type 0
   pub are_after : All (IsAfter p) later
   pub direct : spans_at (p.depth + 1) below ≡ direct_parts p.shape p.params text p.body
 
+-- Each of these parts is followed so by those after it.
 abbrev pub AllFollowed : List ℕ → List Part → Type 0
 AllFollowed text [] = Unit {0}
 AllFollowed text (p ∷ ps) = IsFollowed text p ps × AllFollowed text ps
@@ -83,6 +84,7 @@ pub record IsTree (text : List ℕ) : Type 0 where
   pub stand : All (Stands text) (tree_of text)
   pub followed : AllFollowed text (tree_of text)
 
+-- The law of trees: each text has one.
 abbrev pub TreesAreTrees : Type 0
 TreesAreTrees = (text : List ℕ) → IsTree text
 
@@ -124,6 +126,7 @@ pub record IsDivided (boundary text : List ℕ) (body : Span) : Type 0 where
   pub parts : AreCut boundary text from body.end
       (cuts_from boundary body.start (lines_of (bytes_at text body))).parts
 
+-- The law of bodies: each is divided so by its delimiter lines.
 abbrev pub BodiesAreDivided : Type 0
 BodiesAreDivided = (boundary text : List ℕ) (body : Span) → IsIn text body
     → IsDivided boundary text body

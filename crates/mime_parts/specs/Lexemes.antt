@@ -105,6 +105,7 @@ pub record Lexed : Type 0 where
   pub front : List ℕ
   pub later : List LexemeText
 
+-- The bytes and the lexemes of these two parts.
 abbrev pub lexed : List ℕ → List LexemeText → Lexed
 lexed front later = record { front = front; later = later }
 
@@ -113,6 +114,7 @@ abbrev pub token_before : List ℕ → List LexemeText → List LexemeText
 token_before [] later = later
 token_before (b ∷ bs) later = TokenText (b ∷ bs) ∷ later
 
+-- All lexemes of bytes that start outside, where those at the front are a token.
 abbrev pub closed : Lexed → List LexemeText
 closed l = token_before l.front l.later
 

@@ -56,5 +56,6 @@ abbrev pub shown_front : Front → Opening
 shown_front front =
     record { major = front.major.now; minor = front.minor.now; later = lexemes_of front.rest.now }
 
+-- The front of a type was found with which a value starts, or there is none.
 abbrev pub IsFront : List ℕ → Option Front → Type 0
 IsFront value found = option_map shown_front found ≡ opening_of (lexemes_of value)

@@ -50,12 +50,13 @@ leaf_text part bytes =
     if is_shown part then with_feed (read_in (param (codes "charset") part.params) bytes)
     else part_line part (length bytes)
 
--- The text of a part: only leaves have one.
+-- A text, if it is that of a leaf. Parts of the other shapes have none.
 abbrev pub text_by : Shape → List ℕ → List ℕ
 text_by Leaf text = text
 text_by Message text = []
 text_by Multipart text = []
 
+-- The text of a part: only leaves have one.
 abbrev pub part_text : List ℕ → Part → List ℕ
 part_text text part = text_by part.shape (leaf_text part (decoded_part text part))
 

@@ -103,6 +103,7 @@ pub record Visit : Type 0 where
   pub count : ℕ
   pub parts : List Part
 
+-- The visit of these two parts.
 abbrev pub visit : ℕ → List Part → Visit
 visit count parts = record { count = count; parts = parts }
 

@@ -8,6 +8,7 @@ use Rattle.mime_parts.specs.Headings.{shape_of, is_digest}
 use Rattle.mime_parts.specs.Dividing.{at_most}
 use Rattle.mime_parts.specs.Trees.{body_span, direct_parts, heading_at, visited_parts, part_at}
 
+-- The entity with these bytes, so many levels below it, in a digest or not.
 abbrev pub entity_at : ℕ → Bool → Span → Entity
 entity_at levels digest s = record { span = s; levels = levels; digest = digest }
 

@@ -29,12 +29,13 @@ abbrev pub leaf_words : Part → List ℕ → List (List ℕ)
 leaf_words part bytes =
     if is_shown part then words_of (read_in (param (codes "charset") part.params) bytes) else []
 
--- The words of a part: only leaves have some.
+-- Words, if they are those of a leaf. Parts of the other shapes have none.
 abbrev pub words_by : Shape → List (List ℕ) → List (List ℕ)
 words_by Leaf words = words
 words_by Message words = []
 words_by Multipart words = []
 
+-- The words of a part: only leaves have some.
 abbrev pub part_words : List ℕ → Part → List (List ℕ)
 part_words text part = words_by part.shape (leaf_words part (decoded_part text part))
 

@@ -1,7 +1,6 @@
 mod Cutting
 mod Joining
 mod Gaps
-mod Latin
 mod Opening
 mod Plain
 mod Padded

@@ -1,9 +1,9 @@
 -- The symbols of a base64 text.
-use Rattle.std.proofs.Common.{◌≡◌, ◌<◌, ◌≤◌, ◌+◌, ◌-◌, ◌*◌, ◌/◌, ◌%◌, ◌∙◌, ℕ, zero, suc, Bool, true, false, cond, subst, ◌==◌, List, [], ◌∷◌, ◌++◌, length, take, drop, get_or, Option, Some, None, is_some, refl, sym, ap, append_assoc, append-nil, arith, length-drop}
+use Rattle.std.proofs.Common.{◌≡◌, ◌<◌, ◌+◌, ◌-◌, ◌*◌, ◌/◌, ◌%◌, ◌∙◌, ℕ, zero, suc, Bool, true, false, cond, subst, ◌==◌, List, [], ◌∷◌, ◌++◌, length, take, drop, get_or, Option, Some, None, is_some, refl, sym, ap, append_assoc, arith, length-drop}
 use Rattle.std.specs.List.{cons_option, list_all}
 use Rattle.std.proofs.lemmas.Bool.{and_parts, ne_eqb}
 use Rattle.std.proofs.lemmas.Bool.Decides.{nat_tests}
-use Rattle.std.proofs.lemmas.List.{drop_more, drop_all, take-append-drop, length-take-le}
+use Rattle.std.proofs.lemmas.List.{drop_more, take-append-drop, length-take-le}
 use Rattle.mime_words.specs.Base64.{six_bits, is_symbol, sextets, packed}
 
 not_end : (b : ℕ) → is_symbol b ≡ true → (b == 61) ≡ false
@@ -55,9 +55,6 @@ pub record HasRead (made text : List ℕ) (i : ℕ) : Type 0 where
   pub value : sextets made ++ sextets (drop i text) ≡ sextets text
   pub symbols : list_all is_symbol made ≡ true
 
-pub read-none : (text : List ℕ) → HasRead [] text 0
-read-none text = record { value = refl; symbols = refl }
-
 read-symbol : (symbols text : List ℕ) (i : ℕ) → HasRead symbols text i → i < length text → (get_or text i 0 == 61) ≡ false → is_symbol (get_or text i 0) ≡ true
     → HasRead (symbols ++ get_or text i 0 ∷ []) text (i + 1)
 read-symbol symbols text i h l plain is =
@@ -91,16 +88,6 @@ read-more old new text i h l other e =
     by : (get_or text i 0 == 61) ≡ false → (t : Bool) → is_symbol (get_or text i 0) ≡ t → HasRead (cond t (old ++ get_or text i 0 ∷ []) old) text (i + 1)
     by plain true is = read-symbol old text i h l plain is
     by plain false is = read-other old text i h l plain is
-
-pub read-end : (symbols text : List ℕ) (i : ℕ) → HasRead symbols text i → i < length text → (get_or text i 0 == 61) ≡ true → sextets symbols ≡ sextets text
-read-end symbols text i h l e =
-    let rest : sextets (drop i text) ≡ [] = ap sextets (drop_more text i 0 l) ∙ rw e refl in
-    sym (append-nil (sextets symbols)) ∙ ap (λ xs. sextets symbols ++ xs) (sym rest) ∙ h.value
-
-pub read-all : (symbols text : List ℕ) (i : ℕ) → HasRead symbols text i → length text ≤ i → sextets symbols ≡ sextets text
-read-all symbols text i h l =
-    let rest : sextets (drop i text) ≡ [] = ap sextets (drop_all i text l) in
-    sym (append-nil (sextets symbols)) ∙ ap (λ xs. sextets symbols ++ xs) (sym rest) ∙ h.value
 
 -- A single group of six bits after groups of four is dropped.
 packed-lone : (q : ℕ) (ys zs : List ℕ) → length ys ≡ 4 * q → length zs ≡ 1 → packed (ys ++ zs) ≡ packed ys

@@ -2,7 +2,7 @@
 use Rattle.std.proofs.Common.{◌≡◌, ℕ, zero, suc, ◌+◌, ◌-◌, ◌<◌, ◌≤◌, inl, inr, Bool, true, false, ◌||◌, ◌&&◌, eqb, List, [], ◌∷◌, length, drop, set, replicate, get_or, refl, sym, ap, ◌∙◌, arith, length-drop}
 use Rattle.std.proofs.lemmas.Bool.{cases_lt, cases_order, eq-eqb, ne_eqb}
 use Rattle.std.proofs.lemmas.List.{drop_more, drop_all, get_or-set_same, get_or-set_other, get_or-replicate, get_or_past, length-replicate}
-use Rattle.nntp_words.specs.Wildmats.{some_end, fits, fits_first, pattern_matches, after_byte, Tells}
+use Rattle.nntp_words.specs.Wildmats.{some_end, fits, pattern_matches, after_byte, Tells}
 
 no_pattern : (name : List ℕ) → pattern_matches [] name ≡ eqb (length name) 0
 unfolding pattern_matches
@@ -50,16 +50,6 @@ byte-before pattern name k n flags next within tells i inside =
     let parts : drop k pattern ≡ get_or pattern k 0 ∷ drop n pattern =
     drop_more pattern k 0 within ∙ ap (λ m. get_or pattern k 0 ∷ drop m pattern) next in
     tells i inside ∙ sym (ap (λ p. pattern_matches p (drop i name)) parts ∙ matches-cons (get_or pattern k 0) (drop n pattern) (drop i name))
-
--- The flags of one byte that fits.
-pub one-told : (test : List ℕ → Bool) (name : List ℕ) (ends made : List Bool) (p : ℕ) → Tells test name ends
-    → ((i : ℕ) → i < length name → get_or made i false ≡ (fits p (get_or name i 0) && get_or ends (i + 1) false))
-    → ((i : ℕ) → length name ≤ i → get_or made i false ≡ false) → Tells (fits_first p test) name made
-one-told test name ends made p tells here past i within =
-    elim (cases_lt i (length name)) [
-      | inl less ↦ here i less ∙ ap (λ t. fits p (get_or name i 0) && t) (tells (i + 1) (omega (arith, less))) ∙ sym (ap (fits_first p test) (drop_more name i 0 less))
-      | inr more ↦ past i more ∙ sym (ap (fits_first p test) (drop_all i name more))
-    ]
 
 -- The flags of any bytes.
 pub any-told : (test : List ℕ → Bool) (name : List ℕ) (ends made : List Bool) → Tells test name ends

@@ -36,11 +36,12 @@ abbrev pub says : List ℕ → List ℕ → Option Bool
 says [] name = says_of [] true name
 says (p ∷ ps) name = if p == 33 then says_of ps false name else says_of (p ∷ ps) true name
 
--- The parts of a text between commas.
+-- Parts, of which the first begins with one more byte.
 abbrev pub with_byte : ℕ → List (List ℕ) → List (List ℕ)
 with_byte b [] = (b ∷ []) ∷ []
 with_byte b (part ∷ parts) = (b ∷ part) ∷ parts
 
+-- The parts of a text between commas (RFC 3977, section 4).
 abbrev pub parts_of : List ℕ → List (List ℕ)
 parts_of [] = [] ∷ []
 parts_of (b ∷ bs) = if b == 44 then [] ∷ parts_of bs else with_byte b (parts_of bs)

@@ -94,9 +94,6 @@ pub record AreLeft (gone : List ℕ) (done high : ℕ) (left : List ℕ) : Type 
   pub rises : RisesUpTo (done + 1) high left
   pub among : (n : ℕ) → done < n → is_among gone n ≡ is_among left n
 
-pub left_first : (gone : List ℕ) (high : ℕ) → RisesUpTo 1 high gone → AreLeft gone 0 high gone
-left_first gone high rises = record { rises = rises; among = λ n after. refl }
-
 -- The next number.
 pub left_next : (gone left rest : List ℕ) (done high number : ℕ) → left ≡ number ∷ rest → AreLeft gone done high left → AreLeft gone number high rest
 left_next gone left rest done high number is at =

@@ -13,9 +13,17 @@ record_bytes line = be32 line.number ++ be32 line.epoch ++ line.blob.0
 abbrev pub HasMessage : Record → Type 0
 HasMessage line = line.epoch ≤ greatest_epoch
 
--- The number has no message: its epoch is 4294967295, and its blob is zeros.
+-- The epoch in the record of a number without a message.
+abbrev pub no_epoch : ℕ
+no_epoch = 4294967295
+
+-- The blob id in the record of a number without a message.
+abbrev pub no_blob : List ℕ
+no_blob = replicate 20 0
+
+-- The number has no message.
 abbrev pub HasNone : Record → Type 0
-HasNone line = (line.epoch ≡ 4294967295) × (line.blob.0 ≡ replicate 20 0)
+HasNone line = (line.epoch ≡ no_epoch) × (line.blob.0 ≡ no_blob)
 
 -- The valid records of a number, with a message or without one.
 pub record IsRecord (n : ℕ) (line : Record) : Type 0 where

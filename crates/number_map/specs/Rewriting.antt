@@ -1,5 +1,5 @@
 -- A map without the messages of some numbers.
-use Rattle.std.specs.Prelude.{◌≡◌, ◌+◌, ◌-◌, ◌*◌, ◌≤◌, ◌==◌, ◌||◌, ℕ, Bool, false, List, [], ◌∷◌, length, map, replicate, Result, Ok, Err, if◌then◌else◌}
+use Rattle.std.specs.Prelude.{◌≡◌, ◌+◌, ◌-◌, ◌*◌, ◌≤◌, ◌==◌, ◌||◌, ℕ, Bool, false, List, [], ◌∷◌, length, map, Result, Ok, Err, if◌then◌else◌}
 use Rattle.std.specs.List.{flat_map}
 use Rattle.disk_model.specs.declared.name.FileKind.TheVariants as kind
 use Rattle.disk_model.specs.declared.name.FileName.{FileName}
@@ -11,12 +11,12 @@ use Rattle.root_change.specs.declared.plan.Target.TheVariants.{Anew}
 use Rattle.root_change.specs.Rewriting.{Plan, IsPlan, IsPlanFrom, IsPlanWhole, plan_count, with_bytes, with_range, written_by}
 use Rattle.root_change.specs.Texts.{Texts}
 use Rattle.number_map.specs.declared.line.Record.{Record}
-use Rattle.number_map.specs.Records.{record_bytes}
+use Rattle.number_map.specs.Records.{record_bytes, no_epoch, no_blob}
 use Rattle.number_map.specs.Walks.{BeginsWith, IsDamaged}
 
 -- The record of a number without a message.
 abbrev pub none_record : ℕ → Record
-none_record n = record { number = n; epoch = 4294967295; blob = record { 0 = replicate 20 0 } }
+none_record n = record { number = n; epoch = no_epoch; blob = record { 0 = no_blob } }
 
 -- A number is one of these.
 abbrev pub is_among : List ℕ → ℕ → Bool

@@ -5,7 +5,7 @@ use Rattle.std.proofs.Common.{inl, inr, arith, length-append}
 use Rattle.disk_model.specs.BigEndian.{be32, be32_length}
 use Rattle.disk_model.specs.Sizes.{record_size}
 use Rattle.number_map.specs.declared.line.Record.{Record}
-use Rattle.number_map.specs.Records.{record_bytes, IsRecord, AreRecordsFrom}
+use Rattle.number_map.specs.Records.{record_bytes, IsRecord, AreRecordsFrom, no_epoch}
 
 -- A record with an id of 20 bytes takes 28 bytes.
 pub record_length : (line : Record) → length line.blob.0 ≡ 20
@@ -42,5 +42,5 @@ pub epoch_fits : (n : ℕ) (line : Record) → IsRecord n line → line.epoch < 
 epoch_fits n line valid = elim valid.message [
   | inl low ↦ omega (arith, low)
   | inr none
-      ↦ (let is : line.epoch ≡ 4294967295 = none.0 in omega (arith, is))
+      ↦ (let is : line.epoch ≡ no_epoch = none.0 in omega (arith, is))
 ]

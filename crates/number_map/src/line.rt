@@ -8,6 +8,9 @@ use disk_model::LAST_EPOCH;
 /// The epoch in the record of a number without a message.
 pub(crate) const NO_EPOCH: u32 = 4_294_967_295;
 
+/// The bytes of the blob's id in that record.
+pub(crate) const NO_BLOB: [u8; 20] = [0; 20];
+
 /// The record of a number: where its message is, if it has one.
 #[derive(Clone, Copy, Debug, PartialEq, Eq, Drop)]
 pub struct Record {
@@ -35,5 +38,5 @@ pub fn is_valid(line: &Record) -> bool
     if line.epoch <= LAST_EPOCH {
         return true;
     }
-    line.epoch == NO_EPOCH && line.blob.0 == [0; 20]
+    line.epoch == NO_EPOCH && line.blob.0 == NO_BLOB
 }

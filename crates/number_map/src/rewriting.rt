@@ -8,7 +8,7 @@ ghost use Rattle.root_change.specs.Rewriting.{IsPlan, PushesBytes};
 ghost use Rattle.number_map.specs.Records.{record_bytes};
 ghost use Rattle.number_map.specs.Rewriting.{PlansMap, PushesGone, Rewrites, RisesUpTo, none_record};
 
-use crate::line::{NO_EPOCH, Record};
+use crate::line::{NO_BLOB, NO_EPOCH, Record};
 use crate::whole::walk;
 use crate::writing::spell;
 use arch_base::{Id20, NoMemory, Numbers};
@@ -23,7 +23,7 @@ fn without_message(number: u32) -> Record
     Record {
         number,
         epoch: NO_EPOCH,
-        blob: Id20([0; 20]),
+        blob: Id20(NO_BLOB),
     }
 }
 

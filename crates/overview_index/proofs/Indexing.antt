@@ -1,11 +1,9 @@
 -- The orders of rows, after one row more or less.
-use Rattle.std.proofs.Common.{◌≡◌, ℕ, false, List, [], Some, None, refl, sym, ap, ◌∙◌}
+use Rattle.std.proofs.Common.{◌≡◌, ℕ, false, List, Some, None, refl, sym, ap, ◌∙◌}
 use Rattle.std.specs.List.{AllByRecursion, list_any}
 use Rattle.std.specs.List.Sorted.{IsStrictlySortedBy}
 use Rattle.std.specs.Ordering.{nat_cmp}
-use Rattle.std.specs.Map.{keys_of, lookup}
-use Rattle.std.specs.Global.{Vec}
-use Rattle.std.specs.Cmp.Lexicographic.{slice_cmp}
+use Rattle.std.specs.Map.{keys_of}
 use Rattle.std.specs.BTreeMap.{is_at}
 use Rattle.std.specs.Set.{remove_key}
 use Rattle.mail_forms.specs.declared.row.Row.{Row}
@@ -15,16 +13,6 @@ use Rattle.overview_index.specs.declared.spot.Spot.{Spot}
 use Rattle.overview_index.specs.declared.views.Views.{Views}
 use Rattle.overview_index.proofs.RowLists.{all-insert, all-remove, all-found, differ-insert, differ-remove, keys-insert, keys-remove, number-insert, number-remove, absent_number}
 use Rattle.overview_index.proofs.Orders.{spots-insert, spots-remove, absent_spot}
-
--- The orders of no rows.
-pub views-none : (views : Views) → views.dates ≡ [] → views.numbers ≡ [] → views.ids.entries ≡ [] → AreViews [] views
-views-none views d n i = record {
-  numbered = tt;
-  apart = tt;
-  dates = d;
-  numbers = n;
-  ids = λ q. ap (lookup (is_at (λ (k : Vec ℕ). slice_cmp nat_cmp q k.items))) i;
-}
 
 -- One row more, whose number and id are new.
 pub views-add : (rows : List (ℕ × Row)) (old new : Views) (row : Row) (id : List ℕ) (spot : Spot) → AreViews rows old → row_in rows row.number ≡ None → number_of rows row.id ≡ None

@@ -1,4 +1,3 @@
-pub mod ByteKeys
 pub mod RowLists
 pub mod Orders
 pub mod Ranges

@@ -18,7 +18,7 @@ use Rattle.std.proofs.lemmas.Slice.Eq.{bytes_eq-Decides}
 use Rattle.mail_forms.specs.declared.row.Row.{Row}
 use Rattle.overview_index.specs.Listings.{row_in, number_of, without}
 use Rattle.overview_index.specs.Views.{IdsDiffer}
-use Rattle.overview_index.proofs.ByteKeys.{bytes_eq-refl}
+use Rattle.arch_model.proofs.Owners.{bytes_eq-refl}
 
 -- A number that isn't at the front isn't in the rest either.
 pub none_front : {X : Type 0} (t : Bool) (x : X) (later : Option X) → cond t (Some x) later ≡ None → (t ≡ false) × (later ≡ None)

@@ -69,27 +69,6 @@ rest-is letter term text h = go (starts letter term) h
     go true k = cc
     go false k = absurd (cc)
 
-step_subject : (q : Query) (term text : List ℕ) (ts : List (List ℕ)) → after 115 term ≡ Some text → with_terms q (term ∷ ts) ≡ with_terms (record q { subject = q.subject ++ words_of text }) ts
-step_subject q term text ts is =
-    let s = starts-from 115 term text is in
-    seen-is q term ts true false false false s (starts-only 115 102 refl term s) (starts-only 115 98 refl term s) (starts-only 115 100 refl term s)
-    ∙ ap (λ (l : List (List ℕ)). built (q.any ++ plain_words ts) l (q.from ++ prefixed_words 102 ts) (q.body ++ prefixed_words 98 ts) q.days (days_of (filter_map (after 100) ts)))
-    (sym (append_assoc q.subject (words_of (drop 2 term)) (prefixed_words 115 ts)) ∙ ap (λ (t : List ℕ). (q.subject ++ words_of t) ++ prefixed_words 115 ts) (rest-is 115 term text is))
-
-step_from : (q : Query) (term text : List ℕ) (ts : List (List ℕ)) → after 102 term ≡ Some text → with_terms q (term ∷ ts) ≡ with_terms (record q { from = q.from ++ words_of text }) ts
-step_from q term text ts is =
-    let f = starts-from 102 term text is in
-    seen-is q term ts false true false false (starts-only 102 115 refl term f) f (starts-only 102 98 refl term f) (starts-only 102 100 refl term f)
-    ∙ ap (λ (l : List (List ℕ)). built (q.any ++ plain_words ts) (q.subject ++ prefixed_words 115 ts) l (q.body ++ prefixed_words 98 ts) q.days (days_of (filter_map (after 100) ts)))
-    (sym (append_assoc q.from (words_of (drop 2 term)) (prefixed_words 102 ts)) ∙ ap (λ (t : List ℕ). (q.from ++ words_of t) ++ prefixed_words 102 ts) (rest-is 102 term text is))
-
-step_body : (q : Query) (term text : List ℕ) (ts : List (List ℕ)) → after 98 term ≡ Some text → with_terms q (term ∷ ts) ≡ with_terms (record q { body = q.body ++ words_of text }) ts
-step_body q term text ts is =
-    let b = starts-from 98 term text is in
-    seen-is q term ts false false true false (starts-only 98 115 refl term b) (starts-only 98 102 refl term b) b (starts-only 98 100 refl term b)
-    ∙ ap (λ (l : List (List ℕ)). built (q.any ++ plain_words ts) (q.subject ++ prefixed_words 115 ts) (q.from ++ prefixed_words 102 ts) l q.days (days_of (filter_map (after 100) ts)))
-    (sym (append_assoc q.body (words_of (drop 2 term)) (prefixed_words 98 ts)) ∙ ap (λ (t : List ℕ). (q.body ++ words_of t) ++ prefixed_words 98 ts) (rest-is 98 term text is))
-
 step_any : (q : Query) (term : List ℕ) (ts : List (List ℕ)) → after 115 term ≡ None → after 102 term ≡ None → after 98 term ≡ None → after 100 term ≡ None → with_terms q (term ∷ ts) ≡ with_terms (record q { any = q.any ++ words_of term }) ts
 step_any q term ts s f b d =
     seen-is q term ts false false false false (starts-none 115 term s) (starts-none 102 term f) (starts-none 98 term b) (starts-none 100 term d)
@@ -122,19 +101,6 @@ step_bad q term text ts is bad = step_range q term text ts is ∙ ap (ranged q t
 -- What a call that ran out of memory leaves is free.
 abbrev free : (T : Type 0) (old : Query) (term : List ℕ) (e : QueryRefusal) (new : Query) → e ≡ NoMemory → Asks {T = T} old term (Err e) new
 free T old term e new is = subst (λ (x : QueryRefusal). Asks {T = T} old term (Err x) new) (sym is) tt
-
--- The words of a term were appended to those of a field.
-pub asks_subject : {T : Type 0} (old : Query) (term text : List ℕ) (r : Result T QueryRefusal) (list : List (List ℕ)) → Some text ≡ after 115 term → OnOk r (list ≡ old.subject ++ words_of text) → IfErr r (λ e. e ≡ NoMemory) → Asks old term r (record old { subject = list })
-asks_subject old term text (Ok x) list is ok err = λ ts. step_subject old term text ts (sym is) ∙ ap (λ (l : List (List ℕ)). with_terms (record old { subject = l }) ts) (sym ok)
-asks_subject {T = T} old term text (Err e) list is ok err = free T old term e (record old { subject = list }) err
-
-pub asks_from : {T : Type 0} (old : Query) (term text : List ℕ) (r : Result T QueryRefusal) (list : List (List ℕ)) → Some text ≡ after 102 term → OnOk r (list ≡ old.from ++ words_of text) → IfErr r (λ e. e ≡ NoMemory) → Asks old term r (record old { from = list })
-asks_from old term text (Ok x) list is ok err = λ ts. step_from old term text ts (sym is) ∙ ap (λ (l : List (List ℕ)). with_terms (record old { from = l }) ts) (sym ok)
-asks_from {T = T} old term text (Err e) list is ok err = free T old term e (record old { from = list }) err
-
-pub asks_body : {T : Type 0} (old : Query) (term text : List ℕ) (r : Result T QueryRefusal) (list : List (List ℕ)) → Some text ≡ after 98 term → OnOk r (list ≡ old.body ++ words_of text) → IfErr r (λ e. e ≡ NoMemory) → Asks old term r (record old { body = list })
-asks_body old term text (Ok x) list is ok err = λ ts. step_body old term text ts (sym is) ∙ ap (λ (l : List (List ℕ)). with_terms (record old { body = l }) ts) (sym ok)
-asks_body {T = T} old term text (Err e) list is ok err = free T old term e (record old { body = list }) err
 
 pub asks_any : {T : Type 0} (old : Query) (term : List ℕ) (r : Result T QueryRefusal) (list : List (List ℕ)) → None ≡ after 115 term → None ≡ after 102 term → None ≡ after 98 term → None ≡ after 100 term → OnOk r (list ≡ old.any ++ words_of term) → IfErr r (λ e. e ≡ NoMemory)
     → Asks old term r (record old { any = list })

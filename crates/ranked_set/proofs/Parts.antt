@@ -1,28 +1,10 @@
 -- Lists in two sides around one item: what is at an index, one item more or less, and windows.
-use Rattle.std.proofs.Common.{◌≡◌, ℕ, ◌+◌, ◌-◌, ◌<◌, ◌≤◌, zero, suc, Bool, true, false, cond, ◌||◌, List, [], ◌∷◌, ◌++◌, length, reverse, take, drop, Option, Some, None, refl, sym, ap, ◌∙◌, subst, arith, append_assoc, append-nil, length-append}
-use Rattle.std.specs.Prelude.{nat_le, ◌==◌}
-use Rattle.std.proofs.lemmas.Bool.{leb-true, eqb-true}
-use Rattle.std.specs.List.{insert, remove, slice_get}
-use Rattle.std.proofs.lemmas.List.{take-append-le, drop-append-le, take_all, drop_all, reverse-append, length-reverse}
-use Rattle.std.proofs.lemmas.List.Edits.{insert-append_left, insert-append_right, remove-append_left, remove-append_right}
+use Rattle.std.proofs.Common.{◌≡◌, ℕ, ◌+◌, ◌-◌, ◌<◌, zero, suc, List, [], ◌∷◌, ◌++◌, length, reverse, take, drop, refl, sym, ap, ◌∙◌, arith, append_assoc}
+use Rattle.std.specs.List.{insert, remove}
+use Rattle.std.proofs.lemmas.List.{reverse-append, length-reverse}
+use Rattle.std.proofs.lemmas.List.Edits.{insert-append_right, remove-append_right}
 use Rattle.ranked_set.specs.Windows.{seen_by, after}
 use Rattle.ranked_set.specs.declared.window.Window.{Window}
-
--- The item at an index on the left, in the middle or on the right.
-pub get-left : {X : Type 0} (xs ys : List X) (i : ℕ) → i < length xs → slice_get (xs ++ ys) i ≡ slice_get xs i
-get-left [] ys i h = absurd (omega arith)
-get-left (x ∷ xs) ys zero h = refl
-get-left (x ∷ xs) ys (suc i) h = get-left xs ys i (omega arith)
-
-pub get-middle : {X : Type 0} (xs : List X) (y : X) (ys : List X) (i : ℕ) → i ≡ length xs → slice_get (xs ++ y ∷ ys) i ≡ Some y
-get-middle [] y ys i e = rw e refl
-get-middle (x ∷ xs) y ys i e = rw e (get-middle xs y ys (length xs) refl)
-
-pub get-right : {X : Type 0} (xs : List X) (y : X) (ys : List X) (i : ℕ) → length xs < i → slice_get (xs ++ y ∷ ys) i ≡ slice_get ys (i - length xs - 1)
-get-right [] y ys zero h = absurd (omega arith)
-get-right [] y ys (suc i) h = let e : suc i - 0 - 1 ≡ i = omega arith in rw e refl
-get-right (x ∷ xs) y ys zero h = absurd (omega arith)
-get-right (x ∷ xs) y ys (suc i) h = let e : suc i - suc (length xs) - 1 ≡ i - length xs - 1 = omega arith in rw e (get-right xs y ys i (omega arith))
 
 -- One item more on the left or on the right.
 pub insert-right : {X : Type 0} (xs : List X) (y : X) (ys : List X) (i : ℕ) (z : X) → length xs < i → insert (xs ++ y ∷ ys) i z ≡ xs ++ y ∷ insert ys (i - length xs - 1) z
@@ -43,10 +25,6 @@ remove-right xs y ys i h = remove-append_right xs (y ∷ ys) (length xs) i refl 
     step : (n : ℕ) → 0 < n → remove (y ∷ ys) n ≡ y ∷ remove ys (n - 1)
     step zero k = absurd (omega arith)
     step (suc n) k = let e : suc n - 1 ≡ n = omega arith in rw e refl
-
--- The items around a rotation, grouped the other way.
-pub regroup : {X : Type 0} (xs : List X) (y : X) (ys : List X) (z : X) (zs : List X) → (xs ++ y ∷ ys) ++ z ∷ zs ≡ xs ++ y ∷ (ys ++ z ∷ zs)
-regroup xs y ys z zs = append_assoc xs (y ∷ ys) (z ∷ zs)
 
 -- A window on two lists, one after another.
 drop-two : {X : Type 0} (s : ℕ) (xs ys : List X) → drop s (xs ++ ys) ≡ drop s xs ++ drop (s - length xs) ys
@@ -80,18 +58,6 @@ pub seen-sides : {X : Type 0} (w : Window) (xs : List X) (y : X) (ys : List X)
 seen-sides w xs y ys =
     ap (seen_by w) (reverse-sides xs y ys) ∙ seen-two w (reverse ys) (y ∷ [] ++ reverse xs)
     ∙ rw (length-reverse ys) (ap (λ t. seen_by w (reverse ys) ++ t) (seen-two (after w (length ys)) (y ∷ []) (reverse xs)))
-
--- A window shows nothing of a list that it is past.
-pub seen-none : {X : Type 0} (w : Window) (xs : List X) → (w.count == 0 || nat_le (length xs) w.skip) ≡ true → seen_by w xs ≡ []
-seen-none {X = X} w xs h = by (w.count == 0) refl h
-  where
-    nothing : (c : ℕ) → take {A = X} c [] ≡ []
-    nothing zero = refl
-    nothing (suc c) = refl
-
-    by : (t : Bool) → (w.count == 0) ≡ t → (t || nat_le (length xs) w.skip) ≡ true → take w.count (drop w.skip xs) ≡ []
-    by true e h = let none : w.count ≡ 0 = eqb-true w.count 0 e in rw none refl
-    by false e h = ap (take w.count) (drop_all w.skip xs (leb-true (length xs) w.skip h)) ∙ nothing w.count
 
 -- What was appended on the right, in the middle and on the left is what a window shows.
 pub seen-pushed : {X : Type 0} (w here next : Window) (xs : List X) (y : X) (ys old one two new : List X) → here ≡ after w (length ys) → next ≡ after here 1

@@ -1,5 +1,5 @@
 -- Keys in order: their parts, their ranks, and one key more or less.
-use Rattle.std.proofs.Common.{◌≡◌, ℕ, ◌+◌, ◌<◌, ◌≤◌, zero, suc, Bool, true, false, cond, ◌||◌, List, [], ◌∷◌, ◌++◌, length, take, drop, Option, Some, None, refl, sym, ap, ◌∙◌, subst, arith}
+use Rattle.std.proofs.Common.{◌≡◌, ◌+◌, suc, Bool, true, false, cond, ◌||◌, List, [], ◌∷◌, ◌++◌, length, refl, sym, ap, ◌∙◌, arith}
 use Rattle.std.specs.declared.cmp.Ordering.{Ordering}
 use Rattle.std.specs.declared.cmp.Ordering.TheVariants.{Less, Equal, Greater}
 use Rattle.std.specs.Ordering.{is_lt, is_eq, match_ordering, ordering_reverse}
@@ -68,15 +68,6 @@ module _ {K : Type 0} (R : K → K → Ordering) where
   pub rank-left : (key : K) (xs : List K) (y : K) (ys : List K) → is_lt (R y key) ≡ false → prefix_len (before key) (xs ++ y ∷ ys) ≡ prefix_len (before key) xs
   rank-left key [] y ys h = rw h refl
   rank-left key (x ∷ xs) y ys h = ap (λ n. cond (is_lt (R x key)) (1 + n) 0) (rank-left key xs y ys h)
-
-  -- A rank is at most the number of keys.
-  pub rank-within : (key : K) (xs : List K) → prefix_len (before key) xs ≤ length xs
-  rank-within key [] = omega arith
-  rank-within key (x ∷ xs) = step (is_lt (R x key)) (rank-within key xs)
-    where
-      step : (t : Bool) → prefix_len (before key) xs ≤ length xs → cond t (1 + prefix_len (before key) xs) 0 ≤ suc (length xs)
-      step true h = omega arith
-      step false h = omega arith
 
   all-insert : (P : K → Type 0) (key : K) (xs : List K) → P key → AllByRecursion P xs → AllByRecursion P (insert_key R xs key)
   all-insert P key [] p h = (p, tt)
@@ -222,12 +213,6 @@ module _ {K : Type 0} {R : K → K → Ordering} (o : IsTotalOrder R) where
       step Equal e ih = s
       step Greater e ih = sorted_cons R x (insert_key R xs key) (all-insert R (λ y. R x y ≡ Less) key xs (reversed key x Greater e) (sorted_head R x xs s)) ih
 
-  -- An item is inserted at a rank where the set has no such key, and removed where it has.
-  pub rank-removable : (key : K) (xs : List K) (n : ℕ) → has_key R key (slice_get xs n) ≡ true → n < length xs
-  rank-removable key [] n h = absurd (cc)
-  rank-removable key (x ∷ xs) zero h = omega arith
-  rank-removable key (x ∷ xs) (suc n) h = omega (arith, rank-removable key xs n h)
-
   -- A new key that was inserted and removed again leaves what was there.
   pub remove-insert : (key : K) (xs : List K) → list_any (is_at (R key)) xs ≡ false → remove_key (is_at (R key)) (insert_key R xs key) ≡ xs
   remove-insert key [] h = rw (tied_itself o key) refl
@@ -311,15 +296,3 @@ module _ {K : Type 0} {R : K → K → Ordering} (o : IsTotalOrder R) where
       ∙ commute-both a b x xs (insert_key R xs a) (insert_key R xs b) (insert_key R (insert_key R xs a) b) (insert_key R (insert_key R xs b) a) (R a x) (R b x) (R b a) (R a b) (o.antisymm a b)
       (insert-insert exact a b xs) (stand exact a b x)
       ∙ sym (through (R b x) (b ∷ x ∷ xs) (x ∷ xs) (x ∷ insert_key R xs b) a)
-
-  -- A list with one key more is longer by one, if the key is new.
-  pub length-insert_key : (key : K) (xs : List K) → list_any (is_at (R key)) xs ≡ false → length (insert_key R xs key) ≡ length xs + 1
-  length-insert_key key [] h = refl
-  length-insert_key key (x ∷ xs) h =
-      let parts = or_parts (is_eq (R key x)) (list_any (is_at (R key)) xs) h in
-      step (R key x) parts.0 (length-insert_key key xs parts.1)
-    where
-      step : (r : Ordering) → is_eq r ≡ false → length (insert_key R xs key) ≡ length xs + 1 → length (match_ordering r (key ∷ x ∷ xs) (x ∷ xs) (x ∷ insert_key R xs key)) ≡ suc (length xs) + 1
-      step Less f ih = omega arith
-      step Equal f ih = absurd (cc)
-      step Greater f ih = omega arith

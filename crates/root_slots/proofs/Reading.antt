@@ -2,7 +2,7 @@
 use Rattle.std.specs.Prelude.{◌≡◌, ◌<◌, ◌+◌, ◌-◌, ℕ, Bool, true, false, nat_eq, Option, Some, None, IfSome, IfNone, List, [], ◌∷◌, ◌++◌, length, get_or, set, take, drop, replicate, refl}
 use Rattle.std.specs.List.{flat_map}
 use Rattle.std.proofs.Common.{◌∙◌, sym, ap, subst, arith, append_assoc, add-one}
-use Rattle.std.proofs.lemmas.List.{take_all, drop_all, take_more_set}
+use Rattle.std.proofs.lemmas.List.{take_more_set}
 use Rattle.std.proofs.Math.Seq.{take-append_seam, take-suc, drop-cons}
 use Rattle.arch_base.specs.declared.config.Config.{Config}
 use Rattle.arch_base.specs.Names.{IsName}
@@ -114,12 +114,3 @@ reads_on i all ps left after more next below size count fits read before =
     let both = read p (tail ++ more) fits is in
     let grown : take (i + 1) ps ≡ take i ps ++ p ∷ [] = rw add-one (take-suc ps i no_place (omega (arith, below, count))) in
     (take_more_set all i next (omega (arith, below, size)) ∙ (ap (λ (l : List Place). l ++ next ∷ []) before.0 ∙ (ap (λ (q : Place). take i ps ++ q ∷ []) both.0 ∙ sym grown)), both.1)
-
--- Before the first place.
-pub reads_none : (all ps : List Place) (left more : List ℕ) → left ≡ flat_map place_bytes ps ++ more → HasRead 0 all left ps more
-reads_none all ps left more is = (refl, is)
-
--- After the last place.
-pub reads_all : (all ps : List Place) (left more : List ℕ) → length all ≡ 64 → length ps ≡ 64 → HasRead 64 all left ps more → (all ≡ ps) × (left ≡ more)
-reads_all all ps left more size count read =
-    (sym (take_all 64 all (omega (arith, size))) ∙ (read.0 ∙ take_all 64 ps (omega (arith, count))), read.1 ∙ ap (λ (l : List Place). flat_map place_bytes l ++ more) (drop_all 64 ps (omega (arith, count))))

@@ -2,7 +2,7 @@
 use Rattle.std.specs.Prelude.{◌≡◌, ℕ, ◌+◌, ◌<◌, ◌≤◌, Option, Some, None, List, [], ◌∷◌, ◌++◌, length, get_or, drop, replicate}
 use Rattle.std.proofs.Common.{◌∙◌, sym, ap, subst, inl, inr, arith}
 use Rattle.std.proofs.lemmas.List.{append-nil, drop_all, replicate-append-replicate}
-use Rattle.disk_model.specs.Disk.{File, Files, Kept, Content, Sure, Holds, Image, Told, WhereTold, OneFile, Fits, Within, exact, bytes_of, overlay, write_sure, remove_sure, Removed, TornRemoval, Synced, IsAtMostLength, ReadsFit}
+use Rattle.disk_model.specs.Disk.{File, Files, Kept, Content, Sure, Holds, Image, Told, WhereTold, OneFile, Fits, Within, exact, bytes_of, overlay, write_sure, remove_sure, Removed, TornRemoval, IsAtMostLength, ReadsFit}
 use Rattle.disk_model.specs.Laws.{Fits-Within, remove_wider}
 use Rattle.disk_model.specs.Synced.{Writing, IsWritten}
 use Rattle.root_slots.specs.RootName.{root_name}
@@ -36,19 +36,6 @@ clearing_torn (Some k) None image told left = absurd told
 clearing_torn (Some k) (Some m) image told left = record {
   root = Fits-Within (m root_name).sure (remove_sure (k root_name).sure) (image root_name) told.here.crash (left root_name);
   elsewhere = λ other apart. let P : Kept → Type 0 = λ kept. Fits kept.sure (image other) in subst P (told.elsewhere other apart) (left other);
-}
-
--- After the sync that follows.
-pub is_cleared : (k0 k1 k2 : Option Content) → Told (OneFile root_name Removed) k0 k1 → Told Synced k1 k2 → Told IsCleared k0 k2
-is_cleared None None None removed synced = tt
-is_cleared None None (Some n) removed synced = absurd synced
-is_cleared None (Some m) k2 removed synced = absurd removed
-is_cleared (Some k) None k2 removed synced = absurd removed
-is_cleared (Some k) (Some m) None removed synced = absurd synced
-is_cleared (Some k) (Some m) (Some n) removed synced = record {
-  root = synced.seen root_name ∙ removed.here.seen;
-  elsewhere = λ other apart. synced.seen other ∙ ap (λ (kept : Kept). kept.seen) (removed.elsewhere other apart);
-  settled = λ other. let P : File → Type 0 = λ file. Within (n other).sure (exact file) in subst P (sym (synced.seen other)) (synced.crash other);
 }
 
 -- What may be left while the file is removed.

@@ -133,19 +133,3 @@ partial-ends rows labels members holders is = record {
   named = λ r in_r. let s = is.named r in_r (λ none. none) in (s.0, s.1, s.3, s.4);
   has = is.has;
 }
-
--- Tables without rows.
-pub index-none : (labels : List (ℕ × ℕ)) (members : ℕ → List ℕ) (holders : List ℕ → List ℕ) → ((l : ℕ) → members l ≡ []) → ((k : List ℕ) → holders k ≡ []) → IsIndex [] labels members holders
-index-none labels members holders none empty = record {
-  threads = record { sound = λ r s in_r. absurd in_r; tight = λ r s in_r. absurd in_r };
-  labelled = λ r in_r. absurd in_r;
-  in_list = λ r in_r. absurd in_r;
-  of_list = λ l n in_n. absurd (subst (λ ns. Among ns n) (none l) in_n);
-  once = λ l. subst Once (sym (none l)) tt;
-  named = λ r in_r. absurd in_r;
-  has = record {
-    distinct = tt;
-    held = λ r k in_r. absurd in_r;
-    holds = λ k n in_n. absurd (subst (λ ns. Among ns n) (empty k) in_n);
-  };
-}

@@ -5,18 +5,11 @@ use Rattle.std.proofs.lemmas.Slice.Eq.{bytes_eq-Decides}
 use Rattle.thread_model.specs.Members.{Among, Once}
 use Rattle.thread_model.specs.Threads.{Row}
 use Rattle.thread_model.specs.Labelling.{IsTouched, Sets, label_at, label_in}
-use Rattle.thread_model.proofs.Members.{among-left, among-right, among-append, among-push, among-pushed, cases_among, take-cases, take-old, take-new, take-among, take-end}
+use Rattle.thread_model.proofs.Members.{among-left, among-right, among-append, among-push, among-pushed, cases_among, take-cases, take-old, take-new, take-among}
 use Rattle.thread_model.proofs.Numbers.{once-append}
 use Rattle.thread_index.specs.Lists.{PutsKey}
-use Rattle.thread_index.specs.Adding.{NotesLabel, IsLonger, IsTarget, MovesList, Gathers, GiveLabel, HeldBy}
+use Rattle.thread_index.specs.Adding.{NotesLabel, IsLonger, MovesList, Gathers, GiveLabel, HeldBy}
 use Rattle.thread_index.proofs.MapLists.{key-here, key-other}
-
--- Touched labels.
-pub touched-none : (rows : List Row) (labels : List (ℕ × ℕ)) → IsTouched rows (label_in labels) [] []
-touched-none rows labels = record {
-  hit = λ s in_s k in_k none. absurd none;
-  only = λ l none. absurd none;
-}
 
 pub touched-more : (rows : List Row) (labels : List (ℕ × ℕ)) (done later : List (List ℕ)) (key : List ℕ) (old new : List ℕ)
     → ((k : List ℕ) → Among later k → Among done k ⊎ (k ≡ key)) → ((k : List ℕ) → Among done k → Among later k) → Among later key
@@ -38,13 +31,6 @@ pub touched-take : (rows : List Row) (labels : List (ℕ × ℕ)) (keys : List (
 touched-take rows labels keys i d old new in' is notes =
     touched-more rows labels (take i keys) (take (i + 1) keys) (get_or keys i d) old new (λ k. take-cases keys i d k in') (λ k. take-old keys i d k in') (take-new keys i d in') is notes
 
-pub touched-all : (rows : List Row) (labels : List (ℕ × ℕ)) (keys : List (List ℕ)) (i : ℕ) (found : List ℕ) → length keys ≤ i
-    → IsTouched rows (label_in labels) (take i keys) found → IsTouched rows (label_in labels) keys found
-touched-all rows labels keys i found past is = record {
-  hit = λ s in_s k in_k in_keys. is.hit s in_s k in_k (take-end keys i k past in_keys);
-  only = λ l in_l. let x = is.only l in_l in (x.0, x.1, x.2, x.3, x.4, take-among keys i x.1 x.5);
-}
-
 -- The target of so many labels.
 pub record IsTargetOf (members : ℕ → List ℕ) (touched done : List ℕ) (target : ℕ) : Type 0 where
   pub one : Among touched target
@@ -60,28 +46,6 @@ target-take members touched i d target target' in' is longer = record {
     | inl a ↦ let one : length (members l) ≤ length (members target) = is.most l a in let two = longer.first in omega arith
     | inr e ↦ subst (λ m. length (members m) ≤ length (members target')) (sym e) longer.second
   ];
-}
-
-pub target-all : (members : ℕ → List ℕ) (touched : List ℕ) (i n target : ℕ) → length touched ≤ i → IsTargetOf members touched (take i touched) target → IsTarget members touched n target
-target-all members touched i n target past is = record {
-  some = inl is.one;
-  most = λ l in_l. is.most l (take-end touched i l past in_l);
-}
-
-pub target-none : (members : ℕ → List ℕ) (touched : List ℕ) (n : ℕ) → touched ≡ [] → IsTarget members touched n n
-target-none members touched n none = record {
-  some = inr (none, refl);
-  most = λ l in_l. absurd (subst (λ ns. Among ns l) none in_l);
-}
-
--- Rows that are moved.
-pub gathers-none : (old : ℕ → List ℕ) (target : ℕ) → Gathers old old [] target []
-gathers-none old target = record {
-  emptied = λ l none other. absurd none;
-  stay = λ l f. refl;
-  from = λ n none. absurd none;
-  all = λ l n none other in_n. absurd none;
-  once = λ o a. tt;
 }
 
 -- One label more, which may have been there already.
@@ -174,19 +138,6 @@ pub gathers-take : (old mid new : ℕ → List ℕ) (touched : List ℕ) (i d ta
 gathers-take old mid new touched i d target moved moved' in' is moves =
     gathers-more old mid new (take i touched) (take (i + 1) touched) (get_or touched i d) target moved moved' (λ l. take-cases touched i d l in') (λ l. take-old touched i d l in') (take-new touched i d in') is moves
 
-pub gathers-all : (old new : ℕ → List ℕ) (touched : List ℕ) (i target : ℕ) (moved : List ℕ) → length touched ≤ i → Gathers old new (take i touched) target moved → Gathers old new touched target moved
-gathers-all old new touched i target moved past is = record {
-  emptied = λ l in_l. is.emptied l (take-end touched i l past in_l);
-  stay = λ l f. is.stay l (λ a. f (take-among touched i l a));
-  from = λ n in_n. let x = is.from n in_n in (x.0, take-among touched i x.0 x.1, x.2, x.3);
-  all = λ l n in_l. is.all l n (take-end touched i l past in_l);
-  once = is.once;
-}
-
--- The new label.
-pub gives-none : (labels : List (ℕ × ℕ)) (label : ℕ) → GiveLabel labels labels [] label
-gives-none labels label = record { given = λ n none. absurd none; kept = λ n f. refl }
-
 pub gives-take : (old mid new : List (ℕ × ℕ)) (ns : List ℕ) (i d label : ℕ) → i < length ns → GiveLabel old mid (take i ns) label → Sets mid new (get_or ns i d) label → GiveLabel old new (take (i + 1) ns) label
 gives-take old mid new ns i d label in' is sets = record {
   given = λ n in_n. elim (cases_eq (get_or ns i d) n) [
@@ -200,20 +151,6 @@ gives-take old mid new ns i d label in' is sets = record {
       sets n
       ∙ ap (λ (t : Bool). if t then Some label else label_at mid n) (ne_eqb (get_or ns i d) n (λ e. f (subst (Among (take (i + 1) ns)) e (take-new ns i d in'))))
       ∙ is.kept n (λ a. f (take-old ns i d n in' a));
-}
-
-pub gives-all : (old new : List (ℕ × ℕ)) (ns : List ℕ) (i label : ℕ) → length ns ≤ i → GiveLabel old new (take i ns) label → GiveLabel old new ns label
-gives-all old new ns i label past is = record {
-  given = λ n in_n. is.given n (take-end ns i n past in_n);
-  kept = λ n f. is.kept n (λ a. f (take-among ns i n a));
-}
-
--- The new holder.
-pub held-none : (old : List ℕ → List ℕ) (n : ℕ) → HeldBy old old [] n
-held-none old n = record {
-  kept = λ k m h. h;
-  new' = λ k none. absurd none;
-  cases = λ k m h. inl h;
 }
 
 pub held-one : (old new : List ℕ → List ℕ) (key : List ℕ) (n : ℕ) → PutsKey old new key (old key ++ n ∷ []) → HeldBy old new (key ∷ []) n
@@ -254,13 +191,3 @@ held-take old mid new keys i d n in' is one = record {
     | inr b ↦ inr (b.0, elim b.1 [ inl e ↦ subst (Among (take (i + 1) keys)) (sym e) (take-new keys i d in') | inr none ↦ absurd none ])
   ];
 }
-
-pub held-all : (old new : List ℕ → List ℕ) (keys : List (List ℕ)) (i n : ℕ) → length keys ≤ i → HeldBy old new (take i keys) n → HeldBy old new keys n
-held-all old new keys i n past is = record {
-  kept = is.kept;
-  new' = λ k in_k. is.new' k (take-end keys i k past in_k);
-  cases = λ k m h. elim (is.cases k m h) [ inl a ↦ inl a | inr b ↦ inr (b.0, take-among keys i k b.1) ];
-}
-
-pub target-first : (members : ℕ → List ℕ) (touched : List ℕ) (target : ℕ) → Among touched target → IsTargetOf members touched [] target
-target-first members touched target in_target = record { one = in_target; most = λ l none. absurd none }

@@ -1,26 +1,16 @@
 -- Maps of lists after a list was put in or taken out.
-use Rattle.std.proofs.Common.{◌≡◌, ◌==◌, ◌<◌, ℕ, Bool, true, false, cond, List, [], ◌∷◌, Option, Some, None, unwrap_or, if◌then◌else◌, refl, sym, ◌∙◌, ap, inl, nat_cmp, bytes_eq, slice_get, BTreeMap, suc, length, arith}
+use Rattle.std.proofs.Common.{◌≡◌, ◌<◌, ℕ, Bool, true, false, List, [], ◌∷◌, Option, Some, None, unwrap_or, if◌then◌else◌, refl, sym, ◌∙◌, ap, inl, nat_cmp, bytes_eq, slice_get, BTreeMap, suc, length, arith}
 use Rattle.std.specs.Cmp.Lexicographic.{slice_cmp}
 use Rattle.std.specs.Map.{remove_entry}
-use Rattle.std.specs.BTreeMap.{get, get_by, insert_entry, is_at}
+use Rattle.std.specs.BTreeMap.{get_by, insert_entry, is_at}
 use Rattle.std.specs.Global.{Vec}
 use Rattle.std.proofs.lemmas.Bool.{eq-eqb, ne_eqb}
 use Rattle.std.proofs.lemmas.Slice.Eq.{bytes_eq-Decides}
 use Rattle.thread_model.specs.Members.{Among}
 use Rattle.thread_model.specs.Labelling.{label_or_zero}
-use Rattle.thread_model.proofs.Entries.{at-eqb, none-some, some-none, some-same}
+use Rattle.thread_model.proofs.Entries.{none-some, some-same}
 use Rattle.thread_model.proofs.Texts.{found_after, lost_after}
-use Rattle.thread_index.specs.Lists.{items_in, list_at, list_at_key, PutsList, PutsKey}
-
-items-by : (t : Bool) (w found : Option (Vec ℕ)) → items_in (cond t w found) ≡ (if t then items_in w else items_in found)
-items-by true w found = refl
-items-by false w found = refl
-
--- A map by numbers, after a number got a list or lost it.
-pub puts-list : (old new : BTreeMap ℕ (Vec ℕ)) (n : ℕ) (w : Option (Vec ℕ)) → ((q : ℕ) → get nat_cmp new q ≡ cond (is_at (nat_cmp n) q) w (get nat_cmp old q)) → PutsList (list_at old) (list_at new) n (items_in w)
-puts-list old new n w f = λ m.
-    ap items_in (f m) ∙ items-by (is_at (nat_cmp n) m) w (get nat_cmp old m)
-    ∙ ap (λ (t : Bool). if t then items_in w else list_at old m) (at-eqb n m)
+use Rattle.thread_index.specs.Lists.{items_in, list_at_key, PutsList, PutsKey}
 
 key-items : (t : Bool) (w found : Option (Vec ℕ)) → items_in (if t then w else found) ≡ (if t then items_in w else items_in found)
 key-items true w found = refl
@@ -39,10 +29,6 @@ takes-key old new bytes e none = λ q.
     ap items_in (lost_after (λ (k : Vec ℕ). k.items) q bytes old.entries new.entries e none)
     ∙ key-items (bytes_eq q bytes) None (get_by (λ (k : Vec ℕ). slice_cmp nat_cmp q k.items) old)
 
-pub unwrap-items : (found : Option (Vec ℕ)) (empty : Vec ℕ) → empty.items ≡ [] → (unwrap_or found empty).items ≡ items_in found
-unwrap-items None empty is = is
-unwrap-items (Some list) empty is = refl
-
 -- What a put list says at its number, and at another one.
 pub put-here : (old new : ℕ → List ℕ) (n : ℕ) (list : List ℕ) → PutsList old new n list → new n ≡ list
 put-here old new n list puts = puts n ∙ ap (λ (t : Bool). if t then list else old n) (eq-eqb n n refl)
@@ -56,25 +42,12 @@ key-here old new key list puts = puts key ∙ ap (λ (t : Bool). if t then list 
 pub key-other : (old new : List ℕ → List ℕ) (key list : List ℕ) → PutsKey old new key list → (k : List ℕ) → bytes_eq k key ≡ false → new k ≡ old k
 key-other old new key list puts k other = puts k ∙ ap (λ (t : Bool). if t then list else old k) other
 
--- A list that was taken out, changed and put back.
-pub puts-again : (old mid new : ℕ → List ℕ) (n : ℕ) (gone list : List ℕ) → PutsList old mid n gone → PutsList mid new n list → PutsList old new n list
-puts-again old mid new n gone list a b = λ m. b m ∙ twice (n == m) list (mid m) gone (old m) (a m)
-  where
-    twice : (t : Bool) (x y z w : List ℕ) → y ≡ (if t then z else w) → (if t then x else y) ≡ (if t then x else w)
-    twice true x y z w e = refl
-    twice false x y z w e = e
-
 pub keys-again : (old mid new : List ℕ → List ℕ) (key gone list : List ℕ) → PutsKey old mid key gone → PutsKey mid new key list → PutsKey old new key list
 keys-again old mid new key gone list a b = λ k. b k ∙ twice (bytes_eq k key) list (mid k) gone (old k) (a k)
   where
     twice : (t : Bool) (x y z w : List ℕ) → y ≡ (if t then z else w) → (if t then x else y) ≡ (if t then x else w)
     twice true x y z w e = refl
     twice false x y z w e = e
-
--- The first item of a list that may be empty.
-pub first-none : (xs : List ℕ) → slice_get xs 0 ≡ None → xs ≡ []
-first-none [] e = refl
-first-none (x ∷ xs) e = absurd (some-none x e)
 
 pub first-some : (xs : List ℕ) (x : ℕ) → slice_get xs 0 ≡ Some x → Among xs x
 first-some [] x e = absurd (none-some x e)

@@ -1,5 +1,5 @@
 -- Pending numbers that were moved to the end of a part, one kind after the other.
-use Rattle.std.proofs.Common.{◌≡◌, ◌⊎◌, ◌+◌, ◌≤◌, ◌<◌, ℕ, false, List, [], ◌∷◌, ◌++◌, length, take, get_or, refl, sym, ◌∙◌, ap, subst, inl, inr, arith, append_assoc, append-nil, nat_cmp, BTreeSet}
+use Rattle.std.proofs.Common.{◌≡◌, ◌⊎◌, ◌+◌, ◌<◌, ℕ, false, List, [], ◌∷◌, ◌++◌, length, take, get_or, refl, sym, ◌∙◌, ap, subst, inl, inr, arith, append_assoc, append-nil, nat_cmp, BTreeSet}
 use Rattle.std.specs.List.{list_any}
 use Rattle.std.specs.Cmp.Lexicographic.{slice_cmp}
 use Rattle.std.specs.BTreeMap.{is_at}
@@ -13,7 +13,7 @@ use Rattle.std.proofs.lemmas.Map.Text.{is_eq-slice_cmp}
 use Rattle.std.proofs.lemmas.Slice.Eq.{bytes_eq-Decides}
 use Rattle.thread_model.specs.Members.{Among, Once}
 use Rattle.thread_model.specs.Threads.{Row}
-use Rattle.thread_model.proofs.Members.{among-left, among-right, among-append, take-cases, take-old, take-new, take-among, take-end}
+use Rattle.thread_model.proofs.Members.{among-left, among-right, among-append, take-cases, take-old, take-new}
 use Rattle.thread_model.proofs.Numbers.{once-append, sorted-once, once-single}
 use Rattle.thread_model.proofs.Entries.{among-at, key-removed, key-left, any-inserted}
 use Rattle.thread_index.specs.Tables.{AreHolders}
@@ -115,10 +115,6 @@ moves-take ns i d pending mid pending' part part' part'' in' a b =
     (λ x h. take-old ns i d x in' h)
     (λ x h. elim h [ inl e ↦ subst (Among (take (i + 1) ns)) (sym e) (take-new ns i d in') | inr none ↦ absurd none ])
 
-pub moves-all : (ns : List ℕ) (i : ℕ) (pending pending' part part' : List ℕ) → length ns ≤ i → Moves (Among (take i ns)) pending pending' part part' → Moves (Among ns) pending pending' part part'
-moves-all ns i pending pending' part part' past a =
-    moves-as (Among (take i ns)) (Among ns) pending pending' part part' a (λ x h. take-among ns i x h) (λ x h. take-end ns i x past h)
-
 -- So many keys of a list.
 pub keys-take : (holders : List ℕ → List ℕ) (keys : List (List ℕ)) (i : ℕ) (d : List ℕ) (pending mid pending' part part' part'' : List ℕ) → i < length keys → Moves (HoldsOne holders (take i keys)) pending mid part part' → Moves (Among (holders (get_or keys i d))) mid pending' part' part''
     → Moves (HoldsOne holders (take (i + 1) keys)) pending pending' part part''
@@ -127,11 +123,6 @@ keys-take holders keys i d pending mid pending' part part' part'' in' a b =
     (λ x h. elim (take-cases keys i d h.0 in' h.1) [ inl k ↦ inl (h.0, k, h.2) | inr e ↦ inr (subst (λ k. Among (holders k) x) e h.2) ])
     (λ x h. (h.0, take-old keys i d h.0 in' h.1, h.2))
     (λ x h. (get_or keys i d, take-new keys i d in', h))
-
-pub keys-all : (holders : List ℕ → List ℕ) (keys : List (List ℕ)) (i : ℕ) (pending pending' part part' : List ℕ) → length keys ≤ i → Moves (HoldsOne holders (take i keys)) pending pending' part part' → Moves (HoldsOne holders keys) pending pending' part part'
-keys-all holders keys i pending pending' part part' past a =
-    moves-as (HoldsOne holders (take i keys)) (HoldsOne holders keys) pending pending' part part' a
-    (λ x h. (h.0, take-among keys i h.0 h.1, h.2)) (λ x h. (h.0, take-end keys i h.0 past h.1, h.2))
 
 -- The keys of the row of a number.
 pub row-shares : (rows : List Row) (holders : List ℕ → List ℕ) (n : ℕ) (keys : List (List ℕ)) (pending pending' part part' : List ℕ) → AreHolders rows holders → Among rows (n, keys) → Moves (HoldsOne holders keys) pending pending' part part' → Moves (SharesKey rows holders n) pending pending' part part'

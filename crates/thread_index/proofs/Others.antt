@@ -4,7 +4,7 @@ use Rattle.std.specs.BTreeSet.{insert_key}
 use Rattle.std.specs.List.Sorted.{IsStrictlySortedBy}
 use Rattle.std.proofs.lemmas.Bool.{cases_Bool, not-true, eqb-false, ne_eqb}
 use Rattle.std.proofs.lemmas.Slice.Eq.{bytes_eq-Decides}
-use Rattle.thread_model.specs.Members.{Among, Once}
+use Rattle.thread_model.specs.Members.{Among}
 use Rattle.thread_model.proofs.Members.{among-filter, among-filtered, take-cases, take-old, take-new, take-among, take-end}
 use Rattle.thread_model.proofs.Numbers.{sorted-once, rises-from_sorted}
 use Rattle.thread_model.proofs.Entries.{key-cases, key-here, key-kept}
@@ -12,15 +12,6 @@ use Rattle.thread_index.specs.Lists.{PutsKey}
 use Rattle.thread_index.specs.Index.{AreInOrder}
 use Rattle.thread_index.specs.Taking.{all_but, AreOthers, PutsOther, LetGo}
 use Rattle.thread_index.proofs.MapLists.{key-here as here-key, key-other}
-
--- A number that was put into a set, or not.
-pub puts-none : (old : List ℕ) (m n : ℕ) → m ≡ n → PutsOther old old m n
-puts-none old m n same = record {
-  to = λ x h. inl h;
-  kept = λ x h. h;
-  here = λ other. absurd (other same);
-  once = λ o. o;
-}
 
 pub puts-one : (old new : List ℕ) (m n : ℕ) → (m ≡ n → ⊥) → new ≡ insert_key nat_cmp old m → IsStrictlySortedBy nat_cmp new → PutsOther old new m n
 puts-one old new m n other is sorted = record {
@@ -31,13 +22,6 @@ puts-one old new m n other is sorted = record {
   kept = λ x h. subst (λ ks. Among ks x) (sym is) (key-kept old m x h);
   here = λ _. subst (λ ks. Among ks m) (sym is) (key-here old m);
   once = λ o. sorted-once new sorted;
-}
-
-pub others-none : (n : ℕ) (others : List ℕ) → others ≡ [] → AreOthers [] n others
-others-none n others none = record {
-  to = λ m h. absurd (subst (λ ks. Among ks m) none h);
-  from = λ m h other. absurd h;
-  once = subst Once (sym none) tt;
 }
 
 pub others-take : (ns : List ℕ) (i d n : ℕ) (old new : List ℕ) → i < length ns → AreOthers (take i ns) n old → PutsOther old new (get_or ns i d) n → AreOthers (take (i + 1) ns) n new
@@ -53,25 +37,11 @@ others-take ns i d n old new in' is puts = record {
   once = puts.once is.once;
 }
 
-pub others-all : (ns : List ℕ) (i n : ℕ) (others : List ℕ) → length ns ≤ i → AreOthers (take i ns) n others → AreOthers ns n others
-others-all ns i n others past is = record {
-  to = λ m h. let o = is.to m h in (take-among ns i m o.0, o.1);
-  from = λ m h. is.from m (take-end ns i m past h);
-  once = is.once;
-}
-
 -- Numbers in order: the loop over a list.
 pub record AreGathered (done set : List ℕ) : Type 0 where
   pub sorted : IsStrictlySortedBy nat_cmp set
   pub to : (n : ℕ) → Among set n → Among done n
   pub from : (n : ℕ) → Among done n → Among set n
-
-pub gathered-none : (set : List ℕ) → set ≡ [] → IsStrictlySortedBy nat_cmp set → AreGathered [] set
-gathered-none set none sorted = record {
-  sorted = sorted;
-  to = λ n h. subst (λ ks. Among ks n) none h;
-  from = λ n h. absurd h;
-}
 
 pub gathered-take : (ns : List ℕ) (i d : ℕ) (old new : List ℕ) → i < length ns → AreGathered (take i ns) old → new ≡ insert_key nat_cmp old (get_or ns i d) → IsStrictlySortedBy nat_cmp new → AreGathered (take (i + 1) ns) new
 gathered-take ns i d old new in' is puts sorted = record {
@@ -102,9 +72,6 @@ but-among n ns m h =
 pub among-but : (n : ℕ) (ns : List ℕ) (m : ℕ) → Among ns m → (m ≡ n → ⊥) → Among (all_but n ns) m
 among-but n ns m h other = among-filtered (λ (x : ℕ). not (x == n)) ns m h (ap not (ne_eqb m n other))
 
-pub let-none : (old : List ℕ → List ℕ) (n : ℕ) → LetGo old old [] n
-let-none old n = record { less = λ k m h. h; kept = λ k m h other. h; gone = λ k none h. none }
-
 pub let-one : (old new : List ℕ → List ℕ) (key : List ℕ) (n : ℕ) → PutsKey old new key (all_but n (old key)) → LetGo old new (key ∷ []) n
 let-one old new key n puts = record {
   less = λ k m h. elim (cases_Bool (bytes_eq k key)) [
@@ -134,11 +101,4 @@ let-take old mid new keys i d n in' is one = record {
     | inl a ↦ is.gone k a (one.less k n h)
     | inr e ↦ one.gone k (inl e) h
   ];
-}
-
-pub let-all : (old new : List ℕ → List ℕ) (keys : List (List ℕ)) (i n : ℕ) → length keys ≤ i → LetGo old new (take i keys) n → LetGo old new keys n
-let-all old new keys i n past is = record {
-  less = is.less;
-  kept = is.kept;
-  gone = λ k in_k. is.gone k (take-end keys i k past in_k);
 }

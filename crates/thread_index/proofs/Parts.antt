@@ -1,6 +1,6 @@
 -- A walk over pending rows: the part that it has reached.
 use Rattle.std.proofs.Common.{◌≡◌, ◌⊎◌, ◌+◌, ◌≤◌, ◌<◌, ℕ, List, [], ◌∷◌, length, take, get_or, refl, sym, ◌∙◌, ap, subst, inl, inr, arith, length-append}
-use Rattle.std.proofs.lemmas.List.{take-append-le, get_or_append_left, take_all}
+use Rattle.std.proofs.lemmas.List.{take-append-le, get_or_append_left}
 use Rattle.thread_model.specs.Members.{Among, Once}
 use Rattle.thread_model.specs.Threads.{Row, Linked}
 use Rattle.thread_model.proofs.Members.{among-left, among-right, among-append, get-among, take-cases}
@@ -101,18 +101,3 @@ module _ (rows : List Row) (holders : List ℕ → List ℕ) (pending mid pendin
     once = subst Once (sym moves.is) (once-append part moves.xs is.once moves.once_xs (λ x a b. is.apart x (moves.from x b).1 a));
     once_pending = moves.once;
   }
-
--- The walk has ended: all of the part was visited.
-pub part-ends : (rows : List Row) (holders : List ℕ → List ℕ) (pending pending' : List ℕ) (seed : ℕ) (part : List ℕ) (i : ℕ) → length part ≤ i → IsPart rows holders pending pending' seed part i → IsPart rows holders pending pending' seed part (length part)
-part-ends rows holders pending pending' seed part i past is = record {
-  seeded = is.seeded;
-  from = is.from;
-  less = is.less;
-  split = is.split;
-  apart = is.apart;
-  closed = λ n x h. is.closed n x (subst (λ ns. Among ns n) (take_all (length part) part (omega arith) ∙ sym (take_all i part past)) h);
-  joined = is.joined;
-  size = is.size;
-  once = is.once;
-  once_pending = is.once_pending;
-}

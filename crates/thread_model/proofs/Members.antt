@@ -1,10 +1,10 @@
 -- What a list holds: of joined, filtered and mapped lists, and by tests.
-use Rattle.std.proofs.Common.{◌≡◌, ◌⊎◌, ◌↔◌, ◌+◌, ◌≤◌, ◌<◌, ℕ, zero, suc, Bool, true, false, cond, ◌||◌, ◌==◌, List, [], ◌∷◌, ◌++◌, length, map, take, get_or, filter, flat_map, bytes_eq, refl, sym, ◌∙◌, ap, subst, inl, inr, arith, length-append}
+use Rattle.std.proofs.Common.{◌≡◌, ◌⊎◌, ◌+◌, ◌≤◌, ◌<◌, ℕ, zero, suc, Bool, true, false, cond, ◌==◌, List, [], ◌∷◌, ◌++◌, length, map, take, get_or, filter, flat_map, bytes_eq, refl, sym, ◌∙◌, ap, subst, inl, inr}
 use Rattle.std.specs.List.{list_any}
-use Rattle.std.proofs.lemmas.Bool.{cases_Bool, false≢true, or_cases, or_left, or_right, or_parts, or_from, eqb-true, eq-eqb}
+use Rattle.std.proofs.lemmas.Bool.{cases_Bool, false≢true, or_cases, or_left, or_right, eqb-true, eq-eqb}
 use Rattle.std.proofs.lemmas.List.{take_more, take_all}
 use Rattle.std.proofs.lemmas.Slice.Eq.{bytes_eq-Decides}
-use Rattle.thread_model.specs.Members.{Among, Once, has, has_number}
+use Rattle.thread_model.specs.Members.{Among, has, has_number}
 
 pub among-left : {X : Type 0} (xs ys : List X) (x : X) → Among xs x → Among (xs ++ ys) x
 among-left [] ys x h = absurd h
@@ -135,7 +135,3 @@ get-among xs i d in' = take-among xs (i + 1) (get_or xs i d) (take-new xs i d in
 
 pub take-end : {X : Type 0} (xs : List X) (i : ℕ) (x : X) → length xs ≤ i → Among xs x → Among (take i xs) x
 take-end xs i x past h = subst (λ ys. Among ys x) (sym (take_all i xs past)) h
-
-pub no-member : {X : Type 0} (xs : List X) (x : X) → length xs ≡ 0 → Among xs x → ⊥
-no-member [] x none h = h
-no-member (y ∷ ys) x none h = absurd (let e : suc (length ys) ≡ 0 = none in omega arith)

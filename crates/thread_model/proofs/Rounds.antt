@@ -1,6 +1,6 @@
 -- What rounds reach.
-use Rattle.std.proofs.Common.{◌≡◌, ◌⊎◌, ◌↔◌, ◌+◌, ◌≤◌, ◌<◌, ℕ, zero, suc, Bool, true, false, if◌then◌else◌, List, [], ◌∷◌, ◌++◌, length, filter, flat_map, refl, sym, ◌∙◌, ap, subst, inl, inr, arith}
-use Rattle.std.proofs.lemmas.Bool.{cases_lt, cases_Bool, false≢true, true≢false}
+use Rattle.std.proofs.Common.{◌≡◌, ◌⊎◌, ◌+◌, ◌≤◌, ◌<◌, ℕ, zero, suc, Bool, true, false, if◌then◌else◌, List, [], ◌∷◌, length, filter, flat_map, refl, sym, ◌∙◌, ap, inl, inr, arith}
+use Rattle.std.proofs.lemmas.Bool.{cases_lt, false≢true}
 use Rattle.thread_model.specs.Members.{Among, has}
 use Rattle.thread_model.specs.Threads.{Row, shares, round, rounds, reached, thread, Respects, Joined, Linked}
 use Rattle.thread_model.proofs.Members.{among-left, among-right, among-append, among-filter, among-filtered, among-flat_map, among-flattened, any-among, among-any, has-among, among-has}
@@ -188,9 +188,6 @@ reached-none rows k h =
 -- Joined keys, and linked rows.
 pub joined-sym : (rows : List Row) (k m : List ℕ) → Joined rows k m → Joined rows m k
 joined-sym rows k m j = λ test is. sym (j test is)
-
-pub joined-row : (rows : List Row) (row : Row) → Among rows row → (k m : List ℕ) → Among row.1 k → Among row.1 m → Joined rows k m
-joined-row rows row h k m in_k in_m = λ test is. is.same row h k m in_k in_m
 
 pub linked-sym : (rows : List Row) (r s : Row) → Linked rows r s → Linked rows s r
 linked-sym rows r s l = (l.1, l.0, l.3, l.2, joined-sym rows l.0 l.1 l.4)

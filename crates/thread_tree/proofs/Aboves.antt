@@ -19,12 +19,6 @@ pub record IsIndexSoFar (ns : List Node) (index : BTreeMap (Vec ℕ) ℕ) (n : �
 none-below : (i : ℕ) → i < 0 → ⊥
 none-below i low = omega arith
 
-pub index-none : (ns : List Node) (index : BTreeMap (Vec ℕ) ℕ) → ((q : List ℕ) → at_id index q ≡ None) → IsIndexSoFar ns index 0
-index-none ns index none = record {
-  found = λ q j e. absurd (none-some j (sym (none q) ∙ e));
-  here = λ j past. absurd (none-below j past);
-}
-
 index-then : (i : ℕ) (t : Bool) (old new : Option ℕ) → t ≡ true → new ≡ (if t then Some i else old) → new ≡ Some i
 index-then i true old new t e = e
 index-then i false old new t e = absurd (let no : false ≡ true = t in cc)

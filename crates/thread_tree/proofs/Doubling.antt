@@ -1,8 +1,6 @@
 -- Jumps of a length that is doubled until it is as long as the list.
-use Rattle.std.proofs.Common.{◌≡◌, ◌+◌, ◌≤◌, ◌<◌, ℕ, zero, suc, List, [], ◌∷◌, ◌++◌, length, get_or, slice_get, Option, Some, None, refl, sym, ◌∙◌, ap, subst, inl, inr, arith}
-use Rattle.std.proofs.lemmas.Bool.{cases_lt}
-use Rattle.std.proofs.lemmas.List.{length_push}
-use Rattle.thread_tree.specs.Nodes.{jump_at, jump_of, step_by, far_by, StaysIn, AreTwice, AreFar}
+use Rattle.std.proofs.Common.{◌≡◌, ◌+◌, ◌≤◌, ◌<◌, ℕ, zero, suc, List, [], ◌∷◌, length, get_or, slice_get, Option, Some, None, refl, sym, ◌∙◌, ap, subst, arith}
+use Rattle.thread_tree.specs.Nodes.{jump_at, step_by, far_by, StaysIn, AreTwice, AreFar}
 use Rattle.thread_tree.proofs.Pigeons.{far-then, far-none, far-inside, far-loops, loop-reached}
 
 -- Each jump is so many steps long.
@@ -10,13 +8,6 @@ pub record AreJumps (ups jumps : List (Option ℕ)) (m : ℕ) : Type 0 where
   pub size : length jumps ≡ length ups
   pub each : (i : ℕ) → i < length ups → jump_at jumps i ≡ far_by ups m i
   pub some : 0 < m
-
-pub jumps-one : (ups jumps : List (Option ℕ)) → jumps ≡ ups → AreJumps ups jumps 1
-jumps-one ups jumps is = record {
-  size = ap length is;
-  each = λ i in'. ap (λ (js : List (Option ℕ)). jump_at js i) is;
-  some = omega arith;
-}
 
 twice-by : (ups jumps : List (Option ℕ)) (m i : ℕ) → StaysIn ups → i < length ups → AreJumps ups jumps m → (o : Option ℕ) → jump_at jumps i ≡ o → step_by jumps o ≡ far_by ups (m + m) i
 twice-by ups jumps m i stays in' are None e = sym (far-none ups m i (sym (are.each i in') ∙ e) m)
@@ -48,15 +39,6 @@ pub record AreTwiceOf (jumps twice : List (Option ℕ)) (n : ℕ) : Type 0 where
   pub size : length twice ≡ n
   pub each : (i : ℕ) → i < n → jump_at twice i ≡ step_by jumps (jump_at jumps i)
 
-get-push : {X : Type 0} (xs : List X) (x : X) (i : ℕ) → (i < length xs) → slice_get (xs ++ x ∷ []) i ≡ slice_get xs i
-get-push [] x i lt = absurd (omega arith)
-get-push (y ∷ ys) x zero lt = refl
-get-push (y ∷ ys) x (suc i) lt = get-push ys x i (omega arith)
-
-get-pushed : {X : Type 0} (xs : List X) (x : X) → slice_get (xs ++ x ∷ []) (length xs) ≡ Some x
-get-pushed [] x = refl
-get-pushed (y ∷ ys) x = get-pushed ys x
-
 pub get-some : {X : Type 0} (xs : List X) (i : ℕ) (d : X) → i < length xs → slice_get xs i ≡ Some (get_or xs i d)
 get-some [] i d lt = absurd (omega arith)
 get-some (y ∷ ys) zero d lt = refl
@@ -66,27 +48,3 @@ pub get-past : {X : Type 0} (xs : List X) (i : ℕ) → length xs ≤ i → slic
 get-past [] i le = refl
 get-past (y ∷ ys) zero le = absurd (omega arith)
 get-past (y ∷ ys) (suc i) le = get-past ys i (omega arith)
-
-pub twice-more : (jumps old new : List (Option ℕ)) (n : ℕ) (jump found : Option ℕ) → n < length jumps → AreTwiceOf jumps old n → jump ≡ get_or jumps n None → found ≡ step_by jumps jump → new ≡ old ++ found ∷ [] → AreTwiceOf jumps new (n + 1)
-twice-more jumps old new n jump found in' are is leads pushed = record {
-  size = ap length pushed ∙ length_push old found ∙ ap (λ k. k + 1) are.size;
-  each = λ i lt. elim (cases_lt i n) [
-    | inl less ↦
-        ap (λ (js : List (Option ℕ)). jump_at js i) pushed
-        ∙ ap jump_of (get-push old found i (subst (λ k. i < k) (sym are.size) less))
-        ∙ are.each i less
-    | inr more ↦
-        let e : i ≡ n = omega arith in
-        let here : jump_at jumps i ≡ jump = ap (jump_at jumps) e ∙ ap jump_of (get-some jumps n None in') ∙ sym is in
-        ap (λ (js : List (Option ℕ)). jump_at js i) pushed
-        ∙ ap (λ k. jump_at (old ++ found ∷ []) k) (e ∙ sym are.size)
-        ∙ ap jump_of (get-pushed old found)
-        ∙ leads ∙ ap (step_by jumps) (sym here)
-  ];
-}
-
-pub twice-all : (jumps twice : List (Option ℕ)) (n : ℕ) → length jumps ≤ n → n ≤ length jumps → AreTwiceOf jumps twice n → AreTwice jumps twice
-twice-all jumps twice n past le are = record {
-  size = let e : n ≡ length jumps = omega arith in are.size ∙ e;
-  each = λ i lt. are.each i (omega arith);
-}

@@ -105,9 +105,6 @@ names-by old mid new n true false e g = g ∙ e
 names-by old mid new n false true e g = g ∙ ap (λ (o : Option Naming). lesser_naming o (Some n)) e
 names-by old mid new n false false e g = g ∙ e
 
-pub names-none : (old : BTreeMap (Vec ℕ) Naming) (n : Naming) → NamesAll old old [] n
-names-none old n = λ q. refl
-
 pub names-take : (old mid new : BTreeMap (Vec ℕ) Naming) (refs : List (List ℕ)) (i : ℕ) (d : List ℕ) (n : Naming) → i < length refs → NamesAll old mid (take i refs) n → NotesNaming mid new (get_or refs i d) n → NamesAll old new (take (i + 1) refs) n
 names-take old mid new refs i d n in' is notes = λ q.
     let r = get_or refs i d in
@@ -126,14 +123,6 @@ places-by old mid new number prev (Some x) true e g =
     ∙ lesser-assoc (λ (p : ℕ × List ℕ). p.0) old (Some (number, x)) (Some (number, prev))
     ∙ ap (lesser_placing old) (lesser-same (λ (p : ℕ × List ℕ). p.0) (number, x) (number, prev) refl)
 places-by old mid new number prev (Some x) false e g = g ∙ e
-
-pub places-none : (old : BTreeMap (Vec ℕ) Placing) (number : ℕ) (refs : List (List ℕ)) → PlacesAll old old number (take 1 refs)
-places-none old number [] = λ q. sym (lesser-none (λ (p : ℕ × List ℕ). p.0) (placing_at old q))
-places-none old number (r ∷ rs) = λ q. sym (one (bytes_eq r q) q)
-  where
-    one : (b : Bool) (q : List ℕ) → lesser_placing (placing_at old q) (option_map (λ (x : List ℕ). (number, x)) (or_else (if b then None else None) None)) ≡ placing_at old q
-    one true q = lesser-none (λ (p : ℕ × List ℕ). p.0) (placing_at old q)
-    one false q = lesser-none (λ (p : ℕ × List ℕ). p.0) (placing_at old q)
 
 pub places-take : (old mid new : BTreeMap (Vec ℕ) Placing) (number : ℕ) (refs : List (List ℕ)) (i : ℕ) (d : List ℕ) → 1 ≤ i → i < length refs → PlacesAll old mid number (take i refs) → NotesPlacing mid new (get_or refs i d) (number, get_or refs (i - 1) d) → PlacesAll old new number (take (i + 1) refs)
 places-take old mid new number refs i d some in' is notes = λ q.

@@ -1,7 +1,7 @@
 -- The lesser of two things, and the least-numbered message of a list that is one longer.
 use Rattle.std.proofs.Common.{◌≡◌, ◌≤◌, ◌<◌, ℕ, Bool, true, false, nat_lt, List, [], ◌∷◌, ◌++◌, Option, Some, None, if◌then◌else◌, refl, sym, ◌∙◌, ap, inl, inr, arith}
 use Rattle.std.specs.Option.{option_map}
-use Rattle.std.proofs.lemmas.Bool.{cases_Bool, false≢true, ltb-true, ltb-false, lt-ltb, le-ltb}
+use Rattle.std.proofs.lemmas.Bool.{cases_Bool, ltb-true, ltb-false, lt-ltb, le-ltb}
 use Rattle.thread_tree.specs.Trees.{least, lesser_by}
 use Rattle.thread_tree.specs.Facts.{is_lesser, least_placing, lesser_naming, lesser_placing, naming_of, placing_in}
 use Rattle.thread_tree.specs.declared.twigs.Twig.{Twig}
@@ -73,7 +73,3 @@ naming-lesser (Some t) (Some u) = naming-by t u (nat_lt u.number t.number)
 pub takes-lesser : {X : Type 0} (f : X → ℕ) (o : Option X) (n : X) → is_lesser (f n) (option_map f o) ≡ true → lesser_by f o (Some n) ≡ Some n
 takes-lesser f None n t = refl
 takes-lesser f (Some a) n t = lesser-lt f a n t
-
-pub keeps-lesser : {X : Type 0} (f : X → ℕ) (o : Option X) (n : X) → is_lesser (f n) (option_map f o) ≡ false → lesser_by f o (Some n) ≡ o
-keeps-lesser f None n t = absurd (false≢true (sym t))
-keeps-lesser f (Some a) n t = lesser-ge f a n t

@@ -1,7 +1,6 @@
 -- Flags of the roots: what has nothing above it, and what far steps lead to.
-use Rattle.std.proofs.Common.{◌≡◌, ◌⊎◌, ◌+◌, ◌≤◌, ◌<◌, ℕ, zero, suc, Bool, true, List, [], ◌∷◌, length, take, get_or, map, Option, Some, None, is_none, refl, sym, ◌∙◌, ap, subst, inl, inr, arith}
-use Rattle.std.proofs.lemmas.Bool.{cases_eq, false≢true}
-use Rattle.std.proofs.lemmas.List.{length-map}
+use Rattle.std.proofs.Common.{◌≡◌, ◌⊎◌, ◌+◌, ◌≤◌, ◌<◌, ℕ, suc, Bool, true, List, [], ◌∷◌, length, take, get_or, Option, Some, None, sym, ◌∙◌, ap, subst, inl, inr, arith}
+use Rattle.std.proofs.lemmas.Bool.{cases_eq}
 use Rattle.thread_model.specs.Members.{Among}
 use Rattle.thread_model.proofs.Members.{take-cases, take-old, take-new, take-among, take-end, get-among}
 use Rattle.thread_model.proofs.Entries.{none-some, some-same}
@@ -14,23 +13,6 @@ pub record AreMarked (ups far : List (Option ℕ)) (flags : List Bool) : Type 0 
   pub top : (i : ℕ) → i < length ups → jump_at ups i ≡ None → flag_at flags i ≡ true
   pub led : (i : ℕ) → i < length ups → Among far (Some i) → flag_at flags i ≡ true
   pub only : (i : ℕ) → i < length ups → flag_at flags i ≡ true → (jump_at ups i ≡ None) ⊎ Among far (Some i)
-
-get-map : (ups : List (Option ℕ)) (i : ℕ) → i < length ups → flag_at (map is_none ups) i ≡ is_none (jump_at ups i)
-get-map [] i lt = absurd (omega arith)
-get-map (u ∷ us) zero lt = refl
-get-map (u ∷ us) (suc i) lt = get-map us i (omega arith)
-
-none-flag : (o : Option ℕ) → is_none o ≡ true → o ≡ None
-none-flag None e = refl
-none-flag (Some x) e = absurd (false≢true e)
-
-pub marked-none : (ups : List (Option ℕ)) (flags : List Bool) → flags ≡ map is_none ups → AreMarked ups [] flags
-marked-none ups flags is = record {
-  size = ap length is ∙ length-map ups is_none;
-  top = λ i in' e. ap (λ (fs : List Bool). flag_at fs i) is ∙ get-map ups i in' ∙ ap is_none e;
-  led = λ i in' none. absurd none;
-  only = λ i in' t. inl (none-flag (jump_at ups i) (sym (ap (λ (fs : List Bool). flag_at fs i) is ∙ get-map ups i in') ∙ t));
-}
 
 cases-to : (to : Option ℕ) (i : ℕ) → (to ≡ Some i) ⊎ (to ≡ Some i → ⊥)
 cases-to None i = inr (λ e. none-some i e)

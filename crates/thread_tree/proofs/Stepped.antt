@@ -1,26 +1,24 @@
 -- Single steps of loops and maps.
-use Rattle.std.proofs.Common.{◌≡◌, ◌+◌, ◌-◌, ◌≤◌, ◌<◌, ℕ, zero, suc, Bool, true, false, cond, List, [], ◌∷◌, ◌++◌, length, map, take, get_or, filter, Option, Some, None, is_some, ◌||◌, unwrap_or, if◌then◌else◌, bytes_eq, BTreeMap, refl, sym, ◌∙◌, ap, subst, inl, inr, arith, MatchBool}
+use Rattle.std.proofs.Common.{◌≡◌, ◌+◌, ◌-◌, ◌≤◌, ◌<◌, ℕ, zero, suc, Bool, true, false, cond, List, [], ◌∷◌, ◌++◌, length, take, get_or, filter, Option, Some, None, is_some, ◌||◌, unwrap_or, if◌then◌else◌, bytes_eq, BTreeMap, refl, sym, ◌∙◌, ap, subst, inl, inr, arith, MatchBool}
 use Rattle.std.specs.Option.{option_map}
 use Rattle.std.specs.Ordering.{nat_cmp}
 use Rattle.std.specs.Cmp.Lexicographic.{slice_cmp}
 use Rattle.std.specs.BTreeMap.{insert_entry}
 use Rattle.std.specs.Global.{Vec}
 use Rattle.std.proofs.lemmas.Bool.{false≢true}
-use Rattle.std.proofs.lemmas.List.{take_more, map_push}
+use Rattle.std.proofs.lemmas.List.{take_more}
 use Rattle.std.proofs.lemmas.List.Elements.{filter-append}
 use Rattle.std.proofs.lemmas.Slice.Eq.{bytes_eq-Decides}
 use Rattle.thread_model.specs.Members.{Among}
 use Rattle.thread_model.proofs.Members.{any-among, among-any, among-push}
 use Rattle.thread_model.proofs.Texts.{found_after}
-use Rattle.thread_tree.specs.Trees.{Node, HaveOwnIds, last_other, lesser_by, names_id, or_else}
+use Rattle.thread_tree.specs.Trees.{HaveOwnIds, last_other, lesser_by, names_id, or_else}
 use Rattle.thread_tree.specs.Facts.{AreIdsOf, NotesAbove, NotesNaming, NotesPlacing, above_at, above_value, at_id, is_lesser, placing_at, placing_value}
-use Rattle.thread_tree.specs.Nodes.{count_up, flag_at, jump_at, jump_of, kept_line, node_at, node_in, nodes_in}
+use Rattle.thread_tree.specs.Nodes.{count_up, flag_at, jump_at, jump_of, node_at, node_in, nodes_in}
 use Rattle.thread_tree.specs.declared.twigs.Twig.{Twig}
-use Rattle.thread_tree.specs.declared.lines.Line.{Line}
 use Rattle.thread_tree.specs.declared.facts.Above.{Above}
 use Rattle.thread_tree.specs.declared.facts.Naming.{Naming}
 use Rattle.thread_tree.specs.declared.facts.Placing.{Placing}
-use Rattle.thread_tree.specs.declared.facts.Facts.{Facts}
 use Rattle.thread_tree.proofs.Doubling.{get-some}
 use Rattle.thread_tree.proofs.Kept.{eq-swap, last-push}
 use Rattle.thread_tree.proofs.Lesser.{takes-lesser}
@@ -110,15 +108,6 @@ roots-more flags old new i low is pushed =
   where
     one-more : (i : ℕ) → suc i ≡ i + 1
     one-more i = omega arith
-
--- One line more.
-pub lines-more : (facts : Facts) (ns : List Node) (walked : List (ℕ × ℕ)) (i : ℕ) (d : ℕ × ℕ) (old new : List Line) (line : Line) → i < length walked → old ≡ map (λ (x : ℕ × ℕ). kept_line facts x.0 (node_at ns x.1)) (take i walked)
-    → line ≡ kept_line facts (get_or walked i d).0 (node_at ns (get_or walked i d).1) → new ≡ old ++ line ∷ [] → new ≡ map (λ (x : ℕ × ℕ). kept_line facts x.0 (node_at ns x.1)) (take (i + 1) walked)
-lines-more facts ns walked i d old new line low is own pushed =
-    pushed ∙ ap (λ (ls : List Line). ls ++ line ∷ []) is
-    ∙ ap (λ (l : Line). map (λ (x : ℕ × ℕ). kept_line facts x.0 (node_at ns x.1)) (take i walked) ++ l ∷ []) own
-    ∙ sym (map_push (λ (x : ℕ × ℕ). kept_line facts x.0 (node_at ns x.1)) (take i walked) (get_or walked i d))
-    ∙ ap (map (λ (x : ℕ × ℕ). kept_line facts x.0 (node_at ns x.1))) (sym (take_more walked i d low))
 
 -- The node at an index is that of the code.
 pub node-in : (nodes : List (ℕ × ℕ × Vec ℕ)) (i : ℕ) (d : ℕ × ℕ × Vec ℕ) → i < length nodes → node_at (nodes_in nodes) i ≡ node_in (get_or nodes i d)

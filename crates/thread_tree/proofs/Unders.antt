@@ -4,23 +4,16 @@ use Rattle.std.specs.Global.{Vec}
 use Rattle.std.proofs.lemmas.Bool.{cases_lt, false≢true, and_parts, eqb-true}
 use Rattle.std.proofs.lemmas.List.Elements.{filter-append}
 use Rattle.thread_model.specs.Members.{Among, Once}
-use Rattle.thread_model.proofs.Members.{among-filter, among-push, among-left, among-pushed}
+use Rattle.thread_model.proofs.Members.{among-filter, among-push}
 use Rattle.thread_model.proofs.Numbers.{once-push}
 use Rattle.thread_model.proofs.Entries.{some-same}
-use Rattle.thread_tree.specs.Nodes.{jump_at, leads_to, flag_at, count_up, is_under, under_at, AreEmpty, AreUnder, IsPlaced, IsForest}
+use Rattle.thread_tree.specs.Nodes.{jump_at, leads_to, flag_at, count_up, is_under, under_at, AreUnder, IsPlaced, IsForest}
 
 pub among-count : (n i : ℕ) → Among (count_up n) i → i < n
 among-count zero i h = absurd h
 among-count (suc n) i h = elim (among-push (count_up n) n i h) [
   | inl a ↦ (let lt : i < n = among-count n i a in omega arith)
   | inr e ↦ omega arith
-]
-
-pub count-among : (n i : ℕ) → i < n → Among (count_up n) i
-count-among zero i lt = absurd (omega arith)
-count-among (suc n) i lt = elim (cases_lt i n) [
-  | inl less ↦ among-left (count_up n) (n ∷ []) i (count-among n i less)
-  | inr more ↦ let e : i ≡ n = omega arith in subst (Among (count_up n ++ n ∷ [])) (sym e) (among-pushed (count_up n) n)
 ]
 
 pub count-once : (n : ℕ) → Once (count_up n)
@@ -34,9 +27,6 @@ filter-once test (n ∷ ns) once = by (test n) (filter-once test ns once.1)
     by : (t : Bool) → Once (filter test ns) → Once (cond t (n ∷ filter test ns) (filter test ns))
     by true ih = (λ h. once.0 (among-filter test ns n h).0, ih)
     by false ih = ih
-
-pub under-none : (ups : List (Option ℕ)) (flags : List Bool) (lists : List (Vec ℕ)) → AreEmpty lists (length ups) → AreUnder ups flags lists 0
-under-none ups flags lists are = record { size = are.size; each = λ p in'. are.each p }
 
 filter-one : (test : ℕ → Bool) (n : ℕ) (t : Bool) → test n ≡ t → filter test (n ∷ []) ≡ (if t then n ∷ [] else [])
 filter-one test n true e = ap (λ (b : Bool). cond b (n ∷ []) []) e

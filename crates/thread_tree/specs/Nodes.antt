@@ -23,11 +23,12 @@ nodes_in ns = map node_in ns
 abbrev pub id_at : List Node → ℕ → List ℕ
 id_at ns i = (get_or ns i (0, 0, [])).2
 
--- The index at an index, if one is there.
+-- The index in an item of a list, if the item is there and has one.
 abbrev pub jump_of : Option (Option ℕ) → Option ℕ
 jump_of None = None
 jump_of (Some jump) = jump
 
+-- The index at an index, if one is there.
 abbrev pub jump_at : List (Option ℕ) → ℕ → Option ℕ
 jump_at jumps i = jump_of (slice_get jumps i)
 
@@ -129,11 +130,12 @@ count_up (suc n) = count_up n ++ n ∷ []
 abbrev pub is_under : List (Option ℕ) → List Bool → ℕ → ℕ → Bool
 is_under ups flags p i = not (flag_at flags i) && leads_to (jump_at ups i) p
 
--- The list at an index; an empty one past the end.
+-- The items of a list, none without one.
 abbrev pub items_of : Option (Vec ℕ) → List ℕ
 items_of None = []
 items_of (Some list) = list.items
 
+-- The list at an index; an empty one past the end.
 abbrev pub under_at : List (Vec ℕ) → ℕ → List ℕ
 under_at lists p = items_of (slice_get lists p)
 

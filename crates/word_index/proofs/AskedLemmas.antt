@@ -1,6 +1,5 @@
 -- The words that are asked, by the tables.
-use Rattle.std.proofs.Common.{◌≡◌, ℕ, ◌+◌, ◌<◌, Bool, true, false, ◌&&◌, ◌||◌, List, [], ◌∷◌, ◌++◌, length, get_or, take, Option, Some, None, refl, sym, ap, ◌∙◌}
-use Rattle.std.proofs.lemmas.List.Folds.{list_all-append, list_all_more}
+use Rattle.std.proofs.Common.{◌≡◌, ℕ, Bool, false, ◌&&◌, ◌||◌, List, Option, Some, None, refl, sym, ap, ◌∙◌}
 use Rattle.std.specs.Option.{option_map_or}
 use Rattle.std.specs.List.{list_all}
 use Rattle.std.specs.Rc.{rc_slice_items}
@@ -12,7 +11,6 @@ use Rattle.word_index.specs.declared.tables.Tables.{Tables}
 use Rattle.word_index.specs.Rows.{Row, row_at, passes_at}
 use Rattle.word_index.specs.Tables.{rows_of, in_subject, in_from, in_body, IsIndex}
 use Rattle.word_index.specs.Asked.{has_asked, listed_in, is_listed, matches_asked}
-use Rattle.word_index.proofs.Bools.{and_all}
 use Rattle.word_index.proofs.ListLemmas.{all-same}
 
 any_of : (p q r : Row → Bool) (o : Option Row) → (option_map_or p o false || option_map_or q o false || option_map_or r o false) ≡ option_map_or (λ (row : Row). p row || q row || r row) o false
@@ -42,24 +40,3 @@ matches-at t index asked days n row some =
     ∙ ap (λ (o : Option Row). option_map_or (λ (r : Row). has_in a.field r.words (rc_slice_items a.word)) o false) some)
     asked)
     ∙ sym (ap (λ (o : Option Row). option_map_or (matches_asked asked days) o false) some)
-
--- One more word that is asked.
-pub asked-more : (row : Row) (before : Bool) (asked : List Asked) (more : Asked) (field : Field) (words : List (List ℕ)) (i : ℕ) (word : List ℕ) → i < length words → word ≡ get_or words i word → more.field ≡ field → rc_slice_items more.word ≡ word
-    → list_all (has_asked row) asked ≡ (before && list_all (has_in field row.words) (take i words)) → list_all (has_asked row) (asked ++ more ∷ []) ≡ (before && list_all (has_in field row.words) (take (i + 1) words))
-asked-more row before asked more field words i word h is same_field same_word so_far =
-    let one : has_asked row more ≡ has_in field row.words word =
-    ap (λ (f : Field). has_in f row.words (rc_slice_items more.word)) same_field ∙ ap (λ (w : List ℕ). has_in field row.words w) same_word in
-    let last : has_in field row.words word ≡ has_in field row.words (get_or words i word) = ap (λ (w : List ℕ). has_in field row.words w) is in
-    list_all-append (has_asked row) asked (more ∷ [])
-    ∙ ap (λ (b : Bool). list_all (has_asked row) asked && b) (and_all (has_asked row more) ∙ one ∙ last)
-    ∙ ap (λ (b : Bool). b && has_in field row.words (get_or words i word)) so_far
-    ∙ and_joined before (list_all (has_in field row.words) (take i words)) (has_in field row.words (get_or words i word))
-    ∙ ap (λ (b : Bool). before && b) (sym (list_all_more (has_in field row.words) words i word h))
-  where
-    and_joined : (x y z : Bool) → ((x && y) && z) ≡ (x && (y && z))
-    and_joined true y z = refl
-    and_joined false y z = refl
-
--- All words of a query.
-pub asked-all : (a b c d e p q r s : Bool) → p ≡ (true && a) → q ≡ (p && b) → r ≡ (q && c) → s ≡ (r && d) → (a && b && c && d && e) ≡ (s && e)
-asked-all a b c d e p q r s i j k l = cc

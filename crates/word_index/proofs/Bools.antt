@@ -34,13 +34,6 @@ or_more false true true false = refl
 or_more false true false false = refl
 or_more false false b i = refl
 
-pub and_more : (p h b i : Bool) → ((p && not (h && i)) && not (b && i)) ≡ (p && not ((h || b) && i))
-and_more false h b i = refl
-and_more true true b true = refl
-and_more true true true false = refl
-and_more true true false false = refl
-and_more true false b i = refl
-
 -- A row that is kept, where no row has its number.
 pub kept_step : (i h p : Bool) → (i ≡ true → p ≡ false) → (p || (h && i)) ≡ cond i h p
 kept_step true true p new = ap (λ (x : Bool). x || true) (new refl)

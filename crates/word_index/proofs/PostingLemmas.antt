@@ -1,21 +1,19 @@
 -- The numbers of words after a change.
 use Rattle.std.proofs.Common.{◌≡◌, ℕ, ◌+◌, ◌<◌, Bool, true, false, not, cond, ◌&&◌, ◌||◌, List, [], length, get_or, take, Option, Some, None, IsSome, Result, Ok, Err, OnErr, refl, sym, ap, subst, ◌∙◌}
-use Rattle.std.proofs.lemmas.List.{nil_from_length}
 use Rattle.std.proofs.lemmas.Slice.Eq.{bytes_eq-Decides}
 use Rattle.std.specs.Str.{bytes_eq}
 use Rattle.std.specs.List.{list_any}
 use Rattle.std.specs.Ordering.{nat_cmp}
 use Rattle.std.specs.declared.cmp.Ordering.{Ordering}
-use Rattle.std.specs.BTreeMap.{get_by, is_at, UpdatesBy, WritesThrough, IsUnchanged}
+use Rattle.std.specs.BTreeMap.{get_by, is_at, UpdatesBy, WritesThrough}
 use Rattle.std.specs.BTreeSet.{BTreeSet, contains}
-use Rattle.std.specs.Map.{lookup}
 use Rattle.std.specs.Rc.{rc_slice_items}
 use Rattle.std.specs.declared.alloc.Global.{Global}
 use Rattle.std.specs.declared.rc.RcSlice.{RcSlice}
 use Rattle.query_lang.specs.Matching.{has_word}
 use Rattle.word_index.specs.Rows.{bytes_of}
-use Rattle.word_index.specs.Postings.{Postings, is_in, numbers_of, posted, HasNone, IsListOf, Puts, Loses, SamePosted, PutsAll, LosesAll, MayPut}
-use Rattle.word_index.proofs.Bools.{or_none, and_all, and_none, cond_or, cond_and, or_more, and_more}
+use Rattle.word_index.specs.Postings.{Postings, is_in, numbers_of, posted, HasNone, IsListOf, Puts, Loses, SamePosted, PutsAll, MayPut}
+use Rattle.word_index.proofs.Bools.{or_none, and_all, and_none, cond_or, cond_and, or_more}
 use Rattle.word_index.proofs.KeyLemmas.{word_cmp, updated}
 use Rattle.word_index.proofs.ListLemmas.{has_word-more, has_word-take, rising-none}
 
@@ -70,23 +68,6 @@ put_same old new k v w found through same x m =
     go true here = ap (list_any (is_at (nat_cmp m))) same ∙ posted_in old k v found m ∙ ap (λ (y : List ℕ). posted old y m) (same_word k x here)
     go false other = refl
 
--- A word that isn't found has no numbers, and what was lent is as it was.
-pub none_lent : (lent old : Postings) (k : RcSlice ℕ Global) → lent ≡ old → None ≡ get_by (key_cmp k) old → HasNone lent (items k)
-none_lent lent old k is none n = ap (λ (p : Postings). posted p (items k) n) is ∙ sym (ap (λ (o : Option (BTreeSet ℕ)). is_in o n) none)
-
-pub puts_lent : (lent old new : Postings) (word : List ℕ) (n : ℕ) → lent ≡ old → Puts lent new word n → Puts old new word n
-puts_lent lent old new word n is put = subst (λ (p : Postings). Puts p new word n) is put
-
-pub same_lent : (lent old new : Postings) → lent ≡ old → SamePosted lent new → SamePosted old new
-same_lent lent old new is same = subst (λ (p : Postings). SamePosted p new) is same
-
--- The same entries.
-pub same_entries : (old new : Postings) → IsUnchanged old new → SamePosted old new
-same_entries old new is w m = ap (λ (es : List (RcSlice ℕ Global × BTreeSet ℕ)). is_in (lookup (is_at (λ (k : RcSlice ℕ Global). word_cmp (λ (x : List ℕ). x) w (items k))) es) m) is
-
-pub same_posted : (postings : Postings) → SamePosted postings postings
-same_posted postings w m = refl
-
 -- The first number of a word.
 pub begins : (old new : Postings) (word k : RcSlice ℕ Global) (none v : BTreeSet ℕ) (n : ℕ) → HasNone old (items word) → items k ≡ items word → none.keys ≡ [] → ((m : ℕ) → contains nat_cmp v m ≡ cond (is_at (nat_cmp n) m) true (contains nat_cmp none m))
     → UpdatesBy key_cmp (key_cmp k) old new (Some v) → Puts old new (items word) n
@@ -103,20 +84,6 @@ struck_found old new k v w n found through is =
     loses old new k w n (written old new k v w found through)
     (λ m. is m ∙ cond_and (is_at (nat_cmp n) m) (contains nat_cmp v m) ∙ ap (λ (b : Bool). b && not (is_at (nat_cmp n) m)) (posted_in old k v found m))
 
--- A word without numbers loses none.
-pub struck_none : (lent old : Postings) (k : RcSlice ℕ Global) (n : ℕ) → lent ≡ old → None ≡ get_by (key_cmp k) old → Loses old lent (items k) n
-struck_none lent old k n is none w m = ap (λ (p : Postings). posted p w m) is ∙ go (bytes_eq (items k) w) refl
-  where
-    go : (b : Bool) → bytes_eq (items k) w ≡ b → posted old w m ≡ (posted old w m && not (b && is_at (nat_cmp n) m))
-    go true same =
-        let nothing : posted old w m ≡ false = ap (λ (x : List ℕ). posted old x m) (sym (same_word k w same)) ∙ sym (ap (λ (o : Option (BTreeSet ℕ)). is_in o m) none) in
-        nothing ∙ ap (λ (b : Bool). b && not (is_at (nat_cmp n) m)) (sym nothing)
-    go false other = sym (and_all (posted old w m))
-
--- An empty set has no numbers.
-pub none_in : (postings : Postings) (k : RcSlice ℕ Global) (v : BTreeSet ℕ) → Some v ≡ get_by (key_cmp k) postings → length v.keys ≡ 0 → HasNone postings (items k)
-none_in postings k v found empty n = sym (posted_in postings k v found n) ∙ ap (list_any (is_at (nat_cmp n))) (nil_from_length v.keys empty)
-
 -- A word without numbers is removed.
 pub removed : (old mid new : Postings) (k : RcSlice ℕ Global) (n : ℕ) → Loses old mid (items k) n → HasNone mid (items k) → UpdatesBy key_cmp (key_cmp k) mid new None → Loses old new (items k) n
 removed old mid new k n lost empty updates w m = updated_posted mid new k None updates w m ∙ go (bytes_eq (items k) w) refl ∙ lost w m
@@ -125,18 +92,10 @@ removed old mid new k n lost empty updates w m = updated_posted mid new k None u
     go true same = sym (ap (λ (x : List ℕ). posted mid x m) (sym (same_word k w same)) ∙ empty m)
     go false other = refl
 
--- A list of a word's numbers, by its set, and where it has none.
-pub listed_in : (postings : Postings) (k : RcSlice ℕ Global) (v : BTreeSet ℕ) (list : List ℕ) → Some v ≡ get_by (key_cmp k) postings → IsListOf list (contains nat_cmp v) → IsListOf list (posted postings (items k))
-listed_in postings k v list found is = record { rising = is.rising; has = λ n. is.has n ∙ posted_in postings k v found n }
-
 pub listed_none : (postings : Postings) (k : RcSlice ℕ Global) (list : List ℕ) → list ≡ [] → None ≡ get_by (key_cmp k) postings → IsListOf list (posted postings (items k))
 listed_none postings k list nil none =
     let is : IsListOf [] (posted postings (items k)) = record { rising = rising-none; has = λ n. ap (λ (o : Option (BTreeSet ℕ)). is_in o n) none } in
     subst (λ (l : List ℕ). IsListOf l (posted postings (items k))) (sym nil) is
-
--- Several words, one by one.
-pub puts_all-none : (old : Postings) (n : ℕ) → PutsAll old old [] n
-puts_all-none old n w m = sym (or_none (posted old w m))
 
 pub puts_all-more : (old mid new : Postings) (words : List (RcSlice ℕ Global)) (i : ℕ) (word : RcSlice ℕ Global) (n : ℕ) → i < length words → word ≡ get_or words i word
     → PutsAll old mid (bytes_of (take i words)) n → Puts mid new (items word) n → PutsAll old new (bytes_of (take (i + 1) words)) n
@@ -162,14 +121,3 @@ may_put old mid new words i n all same =
           ∙ ap (λ (b : Bool). posted old w m || b) (and_none (has_word (bytes_of (take i words)) w))
           ∙ or_none (posted old w m);
     }
-
-pub loses_all-none : (old : Postings) (n : ℕ) → LosesAll old old [] n
-loses_all-none old n w m = sym (and_all (posted old w m))
-
-pub loses_all-more : (old mid new : Postings) (words : List (RcSlice ℕ Global)) (i : ℕ) (word : RcSlice ℕ Global) (n : ℕ) → i < length words → word ≡ get_or words i word
-    → LosesAll old mid (bytes_of (take i words)) n → Loses mid new (items word) n → LosesAll old new (bytes_of (take (i + 1) words)) n
-loses_all-more old mid new words i word n h is all one w m =
-    let at = is_at (nat_cmp n) m in
-    one w m ∙ ap (λ (b : Bool). b && not (bytes_eq (items word) w && at)) (all w m)
-    ∙ and_more (posted old w m) (has_word (bytes_of (take i words)) w) (bytes_eq (items word) w) at
-    ∙ ap (λ (b : Bool). posted old w m && not (b && at)) (sym (has_word-more words i word w h is))

@@ -1,13 +1,12 @@
 -- Lists in which all rows of an answer stand, and what is found by them.
-use Rattle.std.proofs.Common.{◌≡◌, ℕ, ◌<◌, ◌≤◌, Bool, true, false, cond, ◌&&◌, ◌⊎◌, inl, inr, List, [], ◌∷◌, length, get_or, drop, Option, Some, None, is_some, refl, sym, ap, subst, ◌∙◌, arith}
-use Rattle.std.specs.Borrow.{Bor}
+use Rattle.std.proofs.Common.{◌≡◌, ℕ, ◌≤◌, Bool, true, false, cond, ◌&&◌, ◌⊎◌, inl, inr, List, [], ◌∷◌, length, get_or, drop, Option, Some, None, is_some, refl, sym, ap, subst, ◌∙◌, arith}
 use Rattle.std.proofs.lemmas.Bool.{and_parts}
 use Rattle.std.proofs.lemmas.Map.Entries.{option_filter, lookup-filter-values}
 use Rattle.std.proofs.lemmas.Map.Keys.{IsDistinct-from_sorted}
 use Rattle.std.proofs.lemmas.Map.Made.{is_some-lookup}
 use Rattle.std.specs.Cmp.{nat_cmp_total, eq_by_cmp_equiv}
 use Rattle.std.specs.Option.{option_map_or}
-use Rattle.std.specs.List.{filter, list_all, AllByRecursion}
+use Rattle.std.specs.List.{filter, AllByRecursion}
 use Rattle.std.specs.List.Sorted.{IsStrictlySortedBy}
 use Rattle.std.specs.Map.{keys_of}
 use Rattle.std.specs.Ordering.{nat_cmp}
@@ -17,22 +16,12 @@ use Rattle.query_lang.specs.declared.query.Query.{Query}
 use Rattle.query_lang.specs.Matching.{is_between, in_ranges, matches}
 use Rattle.word_index.specs.declared.asking.Asked.{Asked}
 use Rattle.word_index.specs.declared.sources.Source.{Source}
-use Rattle.word_index.specs.declared.sources.Source.TheVariants.{All, Days, Word}
+use Rattle.word_index.specs.declared.sources.Source.TheVariants.{Days}
 use Rattle.word_index.specs.Rows.{Row, row_at, passes_at, found}
 use Rattle.word_index.specs.Postings.{IsListOf}
-use Rattle.word_index.specs.Asked.{has_asked, matches_asked}
-use Rattle.word_index.specs.Sources.{passes, IsSource, IsWordSource, IsDaySource}
-use Rattle.word_index.proofs.ListLemmas.{all_at, IsListOf-same, IsListOf-filter, one_list}
-
--- A word that is asked.
-pub word-source : (asked : List Asked) (i : ℕ) (word : Bor Asked) → i < length asked → word.now ≡ get_or asked i word.now → IsWordSource asked (Word word)
-word-source asked i word h is row all = ap (has_asked row) is ∙ all_at (has_asked row) asked i word.now h all
-
--- One more word may be chosen.
-pub word-step : (asked : List Asked) (start old new : Source) (word : Bor Asked) → (old ≡ start) ⊎ IsWordSource asked old → (new ≡ old) ⊎ (new ≡ Word word) → IsWordSource asked (Word word) → (new ≡ start) ⊎ IsWordSource asked new
-word-step asked start old new word (inl same) (inl kept) is = inl (kept ∙ same)
-word-step asked start old new word (inr source) (inl kept) is = inr (subst (IsWordSource asked) (sym kept) source)
-word-step asked start old new word before (inr chosen) is = inr (subst (IsWordSource asked) (sym chosen) is)
+use Rattle.word_index.specs.Asked.{matches_asked}
+use Rattle.word_index.specs.Sources.{passes, IsSource, IsDaySource}
+use Rattle.word_index.proofs.ListLemmas.{IsListOf-same, IsListOf-filter, one_list}
 
 -- A range that is asked.
 pub day-source : (days rest : List ℕ) → 2 ≤ length rest → ((day : ℕ) → in_ranges days day ≡ true → in_ranges rest day ≡ true) → IsDaySource days (Days (get_or rest 0 0) (get_or rest 1 0))
@@ -51,12 +40,6 @@ pub day-step : (days : List ℕ) (start old new : Source) (first last : ℕ) →
 day-step days start old new first last (inl same) (inl kept) is = inl (kept ∙ same)
 day-step days start old new first last (inr source) (inl kept) is = inr (subst (IsDaySource days) (sym kept) source)
 day-step days start old new first last before (inr chosen) is = inr (subst (IsDaySource days) (sym chosen) is)
-
--- All rows, a word or a range.
-pub source-is : (asked : List Asked) (days : List ℕ) (words source : Source) → (words ≡ All) ⊎ IsWordSource asked words → (source ≡ words) ⊎ IsDaySource days source → IsSource asked days source
-source-is asked days words source (inl all) (inl same) row h = ap (λ (s : Source). passes s row) (same ∙ all)
-source-is asked days words source (inr word) (inl same) row h = ap (λ (s : Source). passes s row) same ∙ word row (and_parts (list_all (has_asked row) asked) (in_ranges days row.day) h).0
-source-is asked days words source before (inr day) row h = day row (and_parts (list_all (has_asked row) asked) (in_ranges days row.day) h).1
 
 -- The numbers of some rows rise.
 all_keys-filter : (P : ℕ → Type 0) (test : ℕ × Row → Bool) (rows : List (ℕ × Row)) → AllByRecursion P (keys_of rows) → AllByRecursion P (keys_of (filter test rows))

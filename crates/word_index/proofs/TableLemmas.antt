@@ -3,9 +3,7 @@ use Rattle.std.proofs.Common.{◌≡◌, ℕ, Bool, true, false, not, cond, ◌&
 use Rattle.std.specs.Option.{option_map_or}
 use Rattle.std.specs.Ordering.{nat_cmp}
 use Rattle.std.specs.BTreeMap.{is_at}
-use Rattle.query_lang.specs.Matching.{has_word}
 use Rattle.word_index.specs.Rows.{Row, row_at, passes_at}
-use Rattle.word_index.specs.Postings.{Postings, posted, MayPut}
 use Rattle.word_index.specs.Tables.{Lists, ListsAlso, ListsPartly}
 use Rattle.word_index.proofs.Bools.{or_none, and_none, kept_step, taken_step, undone_step}
 use Rattle.word_index.proofs.ListLemmas.{at-same}
@@ -35,10 +33,6 @@ module _ {A : Type 0} (has : A → Row → Bool) (rows : List (ℕ × Row)) (tab
             ∙ or_none (passes_at (has a) rows m);
       }
 
-  -- So do tables that list the rows.
-  pub partly-none : (n : ℕ) (row : Row) → Lists has rows table → ListsPartly has rows table n row
-  partly-none n row lists = record { others = λ a m none. lists a m; rest = λ a m other. lists a m }
-
   -- The further row is kept.
   pub kept : (later : List (ℕ × Row)) (n : ℕ) (row : Row) → row_at rows n ≡ None → ((m : ℕ) → row_at later m ≡ cond (is_at (nat_cmp n) m) (Some row) (row_at rows m)) → ListsAlso has rows table n row → Lists has later table
   kept later n row new updates also a m =
@@ -61,12 +55,3 @@ module _ {A : Type 0} (has : A → Row → Bool) (rows : List (ℕ × Row)) (tab
   unposts later n row new lost partly a m =
       lost a m
       ∙ undone_step (is_at (nat_cmp n) m) (has a row) (passes_at (has a) rows m) (table a m) (partly.others a m) (partly.rest a m) (absent (has a) rows n m new)
-
--- The number may have been added to those of a row's words.
-pub partly-put : (in_field : List ℕ → Row → Bool) (rows : List (ℕ × Row)) (old new : Postings) (words : List (List ℕ)) (n : ℕ) (row : Row) → ((w : List ℕ) → in_field w row ≡ has_word words w) → Lists in_field rows (posted old) → MayPut old new words n
-    → ListsPartly in_field rows (posted new) n row
-partly-put in_field rows old new words n row same lists may =
-    record {
-      others = λ w m none. may.others w m (sym (same w) ∙ none) ∙ lists w m;
-      rest = λ w m other. may.rest w m other ∙ lists w m;
-    }

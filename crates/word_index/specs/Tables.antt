@@ -16,13 +16,15 @@ use Rattle.word_index.specs.Days.{dated}
 abbrev pub rows_of : Tables → List (ℕ × Row)
 rows_of tables = shown_all tables.rows.entries
 
--- The row has a word in its subject, its From field, its body.
+-- The row has a word in its subject.
 abbrev pub in_subject : List ℕ → Row → Bool
 in_subject word row = has_word row.words.subject word
 
+-- The row has a word in its From field.
 abbrev pub in_from : List ℕ → Row → Bool
 in_from word row = has_word row.words.from word
 
+-- The row has a word in its body.
 abbrev pub in_body : List ℕ → Row → Bool
 in_body word row = has_word row.words.body word
 

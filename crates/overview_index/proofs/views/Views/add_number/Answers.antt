@@ -7,7 +7,7 @@ use Rattle.std.specs.Cmp.Lexicographic.{slice_cmp}
 use Rattle.std.specs.Map.{lookup}
 use Rattle.std.specs.Set.{remove_key}
 use Rattle.ranked_set.proofs.SortedKeys.{remove-insert}
-use Rattle.overview_index.proofs.ByteKeys.{found_after}
+use Rattle.thread_model.proofs.Texts.{found_after}
 use Rattle.overview_index.proofs.views.Views.add_number.Goals as goal
 
 pub returns-in-Err-clause-err : goal.returns-in-Err-clause-err

@@ -1,6 +1,6 @@
 use Rattle.std.proofs.Common.{ℕ}
 use Rattle.std.specs.Global.{Vec}
-use Rattle.overview_index.proofs.ByteKeys.{lost_after}
+use Rattle.thread_model.proofs.Texts.{lost_after}
 use Rattle.overview_index.proofs.views.Views.remove.Goals as goal
 
 pub returns-clause-loses : goal.returns-clause-loses
