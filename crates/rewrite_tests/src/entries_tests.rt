@@ -4,6 +4,7 @@ use disk_model::{Disk, DiskFault, FileKind, FileName, WalkRefusal};
 use epoch_file::{EpochPlan, NewEntry, Seen, SeenList, StoreRefusal, entry_piece, rewrite, walk};
 use epoch_tests::{FIRST, MOMENT, SECOND, SECOND_ID, add_entry, empty_disk};
 use git_objects::EntryKind;
+use mail_commits::text_ids;
 use root_change::{PartPlan, Target};
 use std::alloc::Global;
 use std::test::Fail;
@@ -34,11 +35,13 @@ pub(crate) fn put_two<D: Disk>(alloc: Global, disk: &mut D) -> Result<(), StoreR
     let mut new = NewEntry {
         kind: EntryKind::Message,
         text: FIRST,
+        ids: text_ids(FIRST),
         moment: MOMENT,
         parent: None,
     };
     let first = add_entry(alloc, disk, EPOCH, 0, &new)?;
     new.text = SECOND;
+    new.ids = text_ids(SECOND);
     new.parent = Some(first.commit);
     add_entry(alloc, disk, EPOCH, first.end, &new)?;
     Ok(())
@@ -129,6 +132,7 @@ fn has_piece(alloc: Global) -> Result<bool, NoMemory> {
     let new = NewEntry {
         kind: EntryKind::Message,
         text: SECOND,
+        ids: text_ids(SECOND),
         moment: MOMENT,
         parent: None,
     };

@@ -3,6 +3,8 @@
 #![tactic(auto)]
 
 #[cfg(test)]
+mod command_tests;
+#[cfg(test)]
 mod entries_tests;
 #[cfg(test)]
 mod map_tests;

@@ -1,6 +1,10 @@
 //! Plans of parts, and a plan that is carried out in an archive without messages.
-ghost use Rattle.std.specs.Prelude.{IfOk, IfSome};
+ghost use Rattle.std.specs.Prelude.{◌≤◌, IfOk, IfSome};
 ghost use Rattle.arch_base.specs.Configs.{IsConfig};
+ghost use Rattle.disk_model.specs.Disk.{WhereTold};
+ghost use Rattle.root_slots.specs.Valid.{IsRoot};
+ghost use Rattle.root_change.specs.Texts.{HasSizes};
+ghost use Rattle.root_change.specs.Rewriting.{MapFits, MayCarryAll};
 ghost use Rattle.rewrite_tests.specs.Bare.{IsBare, IsFirst};
 
 use arch_base::{Config, Name, NoMemory};
@@ -87,7 +91,7 @@ fn settings() -> Option<Config>
 }
 
 /// Returns the root of an archive without messages.
-fn bare() -> Option<Root>
+pub(crate) fn bare() -> Option<Root>
     ensures { IfSome result IsBare }
 {
     let config = settings()?;
@@ -110,15 +114,24 @@ fn first(alloc: Global) -> Result<PartPlan, NoMemory>
     Ok(plan)
 }
 
-/// Carries out the plan of the first epoch in an archive without messages.
-fn carry_out<D: Disk>(disk: &mut D, root: &Root, plan: PartPlan) -> Result<Root, RewriteRefusal>
+/// Carries out plans in an archive without messages.
+pub(crate) fn carry_out<D: Disk>(
+    disk: &mut D,
+    root: &Root,
+    plans: &[PartPlan],
+    number: u32,
+) -> Result<Root, RewriteRefusal>
     requires root { IsBare root.now }
-    requires plan { IsFirst plan }
+    requires plans { MayCarryAll root.now plans.now }
+    requires number { (1 ≤ number) × (number ≤ 2147483648) }
+    requires map { MapFits root.now plans.now number }
+    ensures root { IfOk result IsRoot }
+    ensures sizes { IfOk result (λ made. WhereTold (HasSizes made) (D.content disk.new)) }
 {
     if disk.length(ROOT)? != 4096 {
         return Err(RewriteRefusal::Short);
     }
-    rewrite(disk, Slot::Second, root, &[plan], 1)
+    rewrite(disk, Slot::Second, root, plans, number)
 }
 
 /// Returns whether a root is the second one, and names five bytes of the first epoch.
@@ -144,7 +157,7 @@ fn carries<D: Disk>(alloc: Global, disk: &mut D) -> Result<Root, Fail> {
     let root = bare().ok_or("no name")?;
     let plan = first(alloc)?;
     begin(disk)?;
-    Ok(carry_out(disk, &root, plan)?)
+    Ok(carry_out(disk, &root, &[plan], 1)?)
 }
 
 #[test]

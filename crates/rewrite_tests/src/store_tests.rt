@@ -13,6 +13,7 @@ use epoch_file::StoreRefusal;
 use epoch_store::{Store, StoredEntry};
 use epoch_tests::{FIRST, LATER, MOMENT, SECOND, SECOND_ID, THIRD, empty_disk, write};
 use git_objects::{EntryKind, blob_id};
+use mail_commits::text_ids;
 use mail_reader::{is_stored, own_id};
 use number_map::{Record, append};
 use std::alloc::Global;
@@ -167,7 +168,7 @@ fn edit_first<D: Disk>(alloc: Global, disk: &mut D, store: &mut Store) -> Result
     if !may_edit(store, &blob, THIRD) {
         return Err(StoreRefusal::Damaged { file: ROOT, at: 5 });
     }
-    store.edit_text(alloc, disk, &blob, THIRD, LATER)
+    store.edit_text(alloc, disk, &blob, THIRD, &text_ids(THIRD), LATER)
 }
 
 /// Returns whether the first entry of an archive is the second mail, with the commit that git gives it
@@ -196,7 +197,7 @@ fn has_files<D: Disk>(disk: &mut D, map: u64, first: u64) -> Result<bool, DiskFa
 
 /// Purges the first of two messages, and returns whether the second one is left, in files of its own.
 fn purges<D: Disk>(alloc: Global, disk: &mut D) -> Result<bool, Fail> {
-    let mut store = Store::open(alloc, disk)?;
+    let (mut store, _index) = Store::open(alloc, disk)?;
     purge_first(alloc, disk, &mut store)?;
     let files = has_files(disk, 56, 316)?;
     Ok(files && has_second_alone(&store))
@@ -204,7 +205,7 @@ fn purges<D: Disk>(alloc: Global, disk: &mut D) -> Result<bool, Fail> {
 
 /// Opens an archive, and returns whether it has the second mail alone.
 fn opens_alone<D: Disk>(alloc: Global, disk: &mut D) -> Result<bool, Fail> {
-    let store = Store::open(alloc, disk)?;
+    let (store, _index) = Store::open(alloc, disk)?;
     Ok(has_second_alone(&store))
 }
 
@@ -235,7 +236,7 @@ fn has_second_and_third(store: &Store) -> bool {
 /// Edits the first of two messages, and returns whether the second one and the new one are left, in files
 /// of their own.
 fn edits<D: Disk>(alloc: Global, disk: &mut D) -> Result<bool, Fail> {
-    let mut store = Store::open(alloc, disk)?;
+    let (mut store, _index) = Store::open(alloc, disk)?;
     edit_first(alloc, disk, &mut store)?;
     let files = has_files(disk, 84, 672)?;
     Ok(files && has_second_and_third(&store))
@@ -243,7 +244,7 @@ fn edits<D: Disk>(alloc: Global, disk: &mut D) -> Result<bool, Fail> {
 
 /// Opens an archive, and returns whether it has the second mail and the third one.
 fn opens_both<D: Disk>(alloc: Global, disk: &mut D) -> Result<bool, Fail> {
-    let store = Store::open(alloc, disk)?;
+    let (store, _index) = Store::open(alloc, disk)?;
     Ok(has_second_and_third(&store))
 }
 

@@ -16,7 +16,7 @@ use Rattle.root_change.specs.Names.{place_of, names_file, named_end, bounds_of, 
 use Rattle.root_change.specs.Texts.{Texts, StandsFor, IsOn, OnDisk, Measures}
 use Rattle.root_change.specs.Leaving.{ready_has}
 use Rattle.root_change.specs.Replacing.{ToReplace, IsToReplace, StandsForEither}
-use Rattle.root_change.specs.Parts.{Parts, texts_of, PartsFit, RecoversBy, RecoversEither, IsOwn}
+use Rattle.root_change.specs.Parts.{Parts, texts_of, PartsFit, RecoversBy, IsOwn}
 use Rattle.root_change.specs.Changing.{ReadsAs, with_more, Becomes}
 use Rattle.root_change.proofs.Drops.{true_or_false}
 use Rattle.root_change.proofs.Phases.{front_kept, stands_beside}
@@ -114,9 +114,6 @@ module _ (free : ℕ) (old new : Root) (parts next : Parts) {D : Type 0} (conten
   pub writing_by : LeavesOnly moment left_since disk d1 (RecoversBy old parts)
   writing_by = weaker moment left_since disk d1 (Beside (bounds_of old) (content disk)) (RecoversBy old parts) run.moments (λ image beside. old_parts image (writing free old (texts_of old parts) (content disk) image own.on (parts_measure old parts own.long) beside))
 
-  pub writing_leaves : LeavesOnly moment left_since disk d1 (RecoversEither parts next)
-  writing_leaves = weaker moment left_since disk d1 (RecoversBy old parts) (RecoversEither parts next) writing_by (λ image stands. inl (old, stands))
-
   module _ (so_far : Texts) (reads : WhereTold (ReadsAs old so_far) (content d1)) (becomes : Becomes old so_far new (texts_of new next)) (valid : IsRoot new) (fits : RootFits new) (long : PartsFit new next) where
     -- What the replacement requires.
     pub to_replace : ToReplace free old (texts_of old parts) new (texts_of new next) (content d1)
@@ -133,11 +130,6 @@ module _ (free : ℕ) (old new : Root) (parts next : Parts) {D : Type 0} (conten
           | inl stands ↦ inl (old_parts image stands)
           | inr stands ↦ inr (record { valid = valid; fits = fits; long = long; stands = stands })
         ])
-
-    pub changing_leaves : (d2 : D) → ((texts nexts : Texts) → ToReplace free old texts new nexts (content d1) → LeavesOnly moment left_since d1 d2 (StandsForEither old texts new nexts)) → LeavesOnly moment left_since disk d2 (RecoversEither parts next)
-    changing_leaves d2 replaces =
-        weaker moment left_since disk d2 ByEither (RecoversEither parts next) (changing_by d2 replaces)
-        (λ image either. elim either [ inl stands ↦ inl (old, stands) | inr stands ↦ inr (new, stands) ])
 
     -- What the disk is then.
     pub changed : (d2 : D) → OnDisk new (1 - free) (texts_of new next) (content d2) → IsOwn new (1 - free) next (content d2)

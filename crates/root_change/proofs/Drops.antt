@@ -13,7 +13,7 @@ use Rattle.root_slots.specs.RootName.{root_name}
 use Rattle.root_slots.specs.Valid.{no_place}
 use Rattle.disk_model.specs.Tells.{told_weaker, told_then}
 use Rattle.disk_model.specs.Beside.{Respects}
-use Rattle.root_change.specs.Names.{map_name, epoch_name, cache_name, has_place, named_by, names_file, bounds_of, other_bound, named_none}
+use Rattle.root_change.specs.Names.{map_name, epoch_name, cache_name, place_of, has_place, named_by, names_file, bounds_of, other_bound, named_none}
 use Rattle.root_change.specs.Replacing.{drops, Dropped, IsOne, IsEpochBelow, IsAny}
 
 -- Tests on numbers, and what they say.
@@ -78,6 +78,12 @@ named_epoch root n g is =
     let place = get_or root.epochs n no_place in
     let tests = both (nat_lt n 64) (has_place place g) is in
     sym (is_same place.gen_ g (both (nat_lt 0 place.length) (place.gen_ == g) tests.1).1)
+
+-- An epoch whose file a root names has bytes.
+pub named_bytes : (root : Root) (n g : ℕ) → named_by root kind.Epoch n g ≡ true → 0 < (place_of root kind.Epoch n).length
+named_bytes root n g is =
+    let place = place_of root kind.Epoch n in
+    is_less 0 place.length (both (nat_lt 0 place.length) (place.gen_ == g) (both (nat_lt n 64) (has_place place g) is).1).0
 
 -- A file that isn't named is no root file.
 pub unnamed_apart : (root : Root) (name : FileName) → names_file root name ≡ false → name ≢ root_name

@@ -1,25 +1,24 @@
 -- One more message in an epoch: what is written becomes the texts of the next root.
-use Rattle.std.specs.Prelude.{◌≡◌, ◌≢◌, ◌+◌, ◌<◌, ◌≤◌, ◌==◌, ◌&&◌, nat_lt, ℕ, Bool, true, false, if◌then◌else◌, List, [], ◌∷◌, ◌++◌, length, Option, Some, None, refl}
+use Rattle.std.specs.Prelude.{◌≡◌, ◌≢◌, ◌+◌, ◌<◌, ◌==◌, ◌&&◌, nat_lt, ℕ, Bool, true, false, if◌then◌else◌, List, [], ◌∷◌, ◌++◌, length, Option, refl}
 use Rattle.std.proofs.Common.{◌∙◌, sym, ap, subst, inl, inr, arith, length-append}
 use Rattle.std.proofs.lemmas.Bool.{cases_lt, and_from}
 use Rattle.disk_model.specs.declared.name.FileKind.{FileKind}
 use Rattle.disk_model.specs.declared.name.FileKind.TheVariants as kind
 use Rattle.disk_model.specs.declared.name.FileName.{FileName}
 use Rattle.disk_model.specs.Name.{kind_index}
-use Rattle.disk_model.specs.Disk.{File, Kept, Content, Told, WhereTold, OneFile, Wrote, bytes_of, overlay}
+use Rattle.disk_model.specs.Disk.{Content, Told, WhereTold, OneFile, Wrote}
 use Rattle.disk_model.specs.Images.{same_or_other}
 use Rattle.root_slots.specs.declared.root.Place.{Place}
 use Rattle.root_slots.specs.declared.root.Root.{Root}
 use Rattle.root_slots.specs.RootName.{root_name}
 use Rattle.root_slots.specs.Sizes.{sequence-spelling}
 use Rattle.root_slots.specs.Valid.{RootFits, no_place}
-use Rattle.root_change.specs.Names.{map_name, epoch_name, place_of, has_place, named_by, names_file, named_end, named_none, named_some}
-use Rattle.root_change.specs.Texts.{Texts, OnDisk, HasLengths, HasSizes}
+use Rattle.root_change.specs.Names.{map_name, epoch_name, place_of, has_place, named_by, names_file, named_end}
+use Rattle.root_change.specs.Texts.{Texts, OnDisk}
 use Rattle.root_change.specs.Parts.{Parts, texts_of, PartsFit}
 use Rattle.root_change.specs.Changing.{ReadsAs, with_more, Becomes, grown, place_after, root_grown}
 use Rattle.root_change.proofs.Drops.{not_both, true_or_false, named, named_map, named_epoch}
-use Rattle.root_change.proofs.Sizes.{end_at_most, overlay_least}
-use Rattle.root_change.proofs.Roots.{none_at_most, same_at_most, at_most_then, equal_or_not, same_test, other_test, less_test, set_here, set_elsewhere, after_some}
+use Rattle.root_change.proofs.Roots.{equal_or_not, same_test, other_test, less_test, set_here, set_elsewhere, after_some}
 use Rattle.root_change.proofs.Changes.{text_named, text_unnamed, parts_measure, more_here, more_elsewhere, put_told, own_reads}
 
 -- The files of different kinds are different.
@@ -75,73 +74,6 @@ module _ (old : Root) (e : ℕ) (entry line : List ℕ) (fits : RootFits old) (b
 
   map_named : names_file new map ≡ true
   map_named = map_is_named new old.map.gen_ refl
-
-  -- No more bytes of any other file count by the new root than by the old one.
-  ends_kept : (k : FileKind) (n g : ℕ) → named k n g ≢ epoch → named k n g ≢ map → named_end new (named k n g) ≤ named_end old (named k n g)
-  ends_kept kind.Root n g not_epoch not_map = same_at_most (named_end new (named kind.Root n g)) (named_end old (named kind.Root n g)) refl
-  ends_kept kind.Cache n g not_epoch not_map = same_at_most (named_end new (named kind.Cache n g)) (named_end old (named kind.Cache n g)) refl
-  ends_kept kind.Map n g not_epoch not_map = elim (true_or_false (named_by new kind.Map n g)) [
-    | inl is ↦ absurd (not_map (named_map new n g is))
-    | inr isnt ↦ none_at_most (named_end new (named kind.Map n g)) (named_end old (named kind.Map n g)) (named_none new (named kind.Map n g) isnt)
-  ]
-  ends_kept kind.Epoch n g not_epoch not_map = elim (equal_or_not n e) [
-    | inl here ↦ elim (true_or_false (named_by new kind.Epoch n g)) [
-      | inl is ↦
-          let gen_is : g ≡ place.gen_ = named_epoch new n g is ∙ (ap (λ (m : ℕ). (place_of new kind.Epoch m).gen_) here ∙ ap (λ (p : Place). p.gen_) place_is) in
-          absurd (not_epoch (ap (λ (m : ℕ). named kind.Epoch m g) here ∙ ap (named kind.Epoch e) gen_is))
-      | inr isnt ↦ none_at_most (named_end new (named kind.Epoch n g)) (named_end old (named kind.Epoch n g)) (named_none new (named kind.Epoch n g) isnt)
-    ]
-    | inr apart ↦ same_at_most (named_end new (named kind.Epoch n g)) (named_end old (named kind.Epoch n g)) (ap (λ (p : Place). if nat_lt n 64 && has_place p g then p.length else 0) (set_elsewhere old.epochs e place n apart))
-  ]
-
-  -- The bytes of the epoch count up to the end of its file, also if the file is new.
-  pub epoch_end : (place_of old kind.Epoch e).length ≤ named_end old epoch
-  epoch_end = elim (cases_lt 0 (place_of old kind.Epoch e).length) [
-    | inl bytes ↦ same_at_most (place_of old kind.Epoch e).length (named_end old epoch) (sym (named_some old epoch (epoch_is_named old e place.gen_ below bytes (sym (after_some old e (length entry) bytes)))))
-    | inr none ↦ none_at_most (place_of old kind.Epoch e).length (named_end old epoch) (omega (arith, none))
-  ]
-
-  -- The files are as long as the new root says after the two writes.
-  grown_long : (k l m : Content) → HasLengths old k → HasLengths old l → HasLengths old m → OneFile epoch (Wrote (named_end old epoch) entry) k l → OneFile map (Wrote (named_end old map) line) l m → HasLengths new m
-  grown_long k l m first second third one two name apart = elim (same_or_other epoch name) [
-    | inl same ↦ subst (λ (f : FileName). named_end new f ≤ length (bytes_of (m f).seen)) (sym same) at_epoch
-    | inr not_epoch ↦ elim (same_or_other map name) [
-      | inl same ↦ subst (λ (f : FileName). named_end new f ≤ length (bytes_of (m f).seen)) (sym same) at_map
-      | inr not_map ↦ at_most_then (named_end new name) (named_end old name) (length (bytes_of (m name).seen)) (ends_kept name.kind name.number name.gen_ not_epoch not_map) (third name apart)
-    ]
-  ] where
-    at_epoch : named_end new epoch ≤ length (bytes_of (m epoch).seen)
-    at_epoch =
-        let seen : length (bytes_of (m epoch).seen) ≡ length (overlay (named_end old epoch) entry (bytes_of (k epoch).seen)) = ap (λ (kept : Kept). length (bytes_of kept.seen)) (two.elsewhere epoch (epoch_isnt_map e place.gen_ old.map.gen_)) ∙ ap (λ (f : File). length (bytes_of f)) one.here.seen in
-        let most : named_end new epoch ≤ (place_of new kind.Epoch e).length = end_at_most new epoch in
-        let size : (place_of new kind.Epoch e).length ≡ (place_of old kind.Epoch e).length + length entry = ap (λ (p : Place). p.length) place_is in
-        let least = overlay_least (named_end old epoch) entry (bytes_of (k epoch).seen) (first epoch (epoch_isnt_root e place.gen_)) in
-        let end_ = epoch_end in
-        omega (arith, seen, most, size, least, end_)
-
-    at_map : named_end new map ≤ length (bytes_of (m map).seen)
-    at_map =
-        let seen : length (bytes_of (m map).seen) ≡ length (overlay (named_end old map) line (bytes_of (l map).seen)) = ap (λ (f : File). length (bytes_of f)) two.here.seen in
-        let most : named_end new map ≤ old.map.length + 28 = end_at_most new map in
-        let was : named_end old map ≡ old.map.length = named_some old map (map_is_named old old.map.gen_ refl) in
-        let least = overlay_least (named_end old map) line (bytes_of (l map).seen) (second map (map_isnt_root old.map.gen_)) in
-        omega (arith, seen, most, was, least, record_)
-
-  grown_told : (k l m : Option Content) → WhereTold (HasSizes old) k → WhereTold (HasSizes old) l → WhereTold (HasSizes old) m → Told (OneFile epoch (Wrote (named_end old epoch) entry)) k l → Told (OneFile map (Wrote (named_end old map) line)) l m → WhereTold (HasLengths new) m
-  grown_told None None None first second third one two = tt
-  grown_told None None (Some m) first second third one two = absurd two
-  grown_told None (Some l) m first second third one two = absurd one
-  grown_told (Some k) None m first second third one two = absurd one
-  grown_told (Some k) (Some l) None first second third one two = absurd two
-  grown_told (Some k) (Some l) (Some m) first second third one two = grown_long k l m first.lengths second.lengths third.lengths one two
-
-  -- The same, of a root and of names that are equal to these.
-  pub long_so : (k l m : Option Content) (root : Root) (p : Place) (f g : FileName) → root ≡ new → p ≡ place_of root kind.Epoch e → f ≡ epoch_name e p.gen_ → g ≡ map → WhereTold (HasSizes old) k → WhereTold (HasSizes old) l → WhereTold (HasSizes old) m → Told (OneFile f (Wrote (named_end old f) entry)) k l
-      → Told (OneFile g (Wrote (named_end old g) line)) l m → WhereTold (HasLengths root) m
-  long_so k l m root p f g made p_is f_is g_is first second third one two =
-      let file : f ≡ epoch = f_is ∙ ap (λ (q : Place). epoch_name e q.gen_) (p_is ∙ (ap (λ (r : Root). place_of r kind.Epoch e) made ∙ place_is)) in
-      subst (λ (r : Root). WhereTold (HasLengths r) m) (sym made)
-      (grown_told k l m first second third (subst (λ (n : FileName). Told (OneFile n (Wrote (named_end old n) entry)) k l) file one) (subst (λ (n : FileName). Told (OneFile n (Wrote (named_end old n) line)) l m) g_is two))
 
   module _ (parts : Parts) (long : PartsFit old parts) where
     abbrev next : Parts
@@ -250,9 +182,6 @@ module _ (old : Root) (e : ℕ) (entry line : List ℕ) (fits : RootFits old) (b
     -- The same, of a root and of names that are equal to these.
     pub becomes_so : (root : Root) → root ≡ new → Becomes old written root (texts_of root next)
     becomes_so root made = subst (λ (r : Root). Becomes old written r (texts_of r next)) (sym made) grown_becomes
-
-    pub fit_so : (root : Root) → root ≡ new → PartsFit root next
-    fit_so root made = subst (λ (r : Root). PartsFit r next) (sym made) grown_fit
 
     pub reads_so : (free : ℕ) (k l m : Option Content) (root : Root) (p : Place) (f g : FileName) → root ≡ new → p ≡ place_of root kind.Epoch e → f ≡ epoch_name e p.gen_ → g ≡ map → OnDisk old free (texts_of old parts) k → Told (OneFile f (Wrote (named_end old f) entry)) k l → Told (OneFile g (Wrote (named_end old g) line)) l m
         → WhereTold (ReadsAs old written) m

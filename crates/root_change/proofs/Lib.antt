@@ -1,11 +1,9 @@
 pub mod Drops
 pub mod Phases
 pub mod Sizes
-mod Lookups
 pub mod Roots
 pub mod Changes
 pub mod Grown
-mod Remakes
 mod Tidies
 mod Copies
 pub mod Others

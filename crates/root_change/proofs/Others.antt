@@ -1,8 +1,8 @@
 -- Files other than the one that is written read as before, and stay before its end.
 use Rattle.std.specs.Prelude.{ℕ, List, length, Option, Some, None, Result, Ok, Err, OnOk, OnErr, refl}
-use Rattle.std.proofs.Common.{◌∙◌, ap, arith}
+use Rattle.std.proofs.Common.{◌∙◌, ap}
 use Rattle.disk_model.specs.declared.name.FileName.{FileName}
-use Rattle.disk_model.specs.Disk.{Files, Kept, Content, Image, LeavesOnly, Told, WhereTold, IsAtMostLength, OneFile, Unchanged, Wrote, Tore}
+use Rattle.disk_model.specs.Disk.{Files, Kept, Content, Image, LeavesOnly, Told, OneFile, Unchanged, Wrote, Tore}
 use Rattle.disk_model.specs.Beside.{Bounds, Beside, RunsBeside}
 use Rattle.disk_model.specs.BesideLaws.{beside_now, unchanged_told}
 use Rattle.disk_model.specs.Moments.{weaker}
@@ -27,11 +27,6 @@ others_wrote (Err e) to at bytes k m ok err = told_weaker (OneFile to (Tore at (
 pub others_then : (to : FileName) (k m o : Option Content) → Told (OthersStay to) k m → Told (OthersStay to) m o → Told (OthersStay to) k o
 others_then to k m o first second =
     told_then (OthersStay to) (OthersStay to) (OthersStay to) k m o (λ a b d is told one two name apart. two name apart ∙ one name apart) first second
-
--- An offset of 0 is in every file.
-pub start_inside : (to : FileName) (k : Option Content) → WhereTold (IsAtMostLength to 0) k
-start_inside to None = tt
-start_inside to (Some k) = omega arith
 
 unchanged_first : (k : Option Content) → Told Unchanged k k
 unchanged_first None = tt

@@ -23,9 +23,6 @@ use Rattle.root_change.proofs.Roots.{later_place, less_test, least_test}
 pub map_number : (k : FileKind) (n : ℕ) → k ≡ kind.Map → IsPartToPlan k n → n ≡ 0
 map_number k n is part = subst (λ (j : FileKind). IsPartToPlan j n) is part
 
-pub epoch_below : (k : FileKind) (n : ℕ) → k ≡ kind.Epoch → IsPartToPlan k n → n < 64
-epoch_below k n is part = subst (λ (j : FileKind). IsPartToPlan j n) is part
-
 module _ (old : Root) (number : ℕ) where
   abbrev next_ : ℕ
   next_ = old.sequence + 1

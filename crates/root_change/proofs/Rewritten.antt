@@ -24,12 +24,11 @@ use Rattle.root_change.specs.Rewriting.{Plan, IsPartToPlan, IsRootAfter, MayCarr
 use Rattle.root_change.specs.Texts.{Texts, IsOn, OnDisk, HasLengths, HasPartSizes}
 use Rattle.root_change.specs.Writing.{MayWrite, MayWriteAll, WritesPlans}
 use Rattle.root_change.proofs.Changes.{text_named, text_unnamed, parts_measure}
-use Rattle.root_change.proofs.Drops.{both, is_same, not_both, true_or_false, named, named_root, named_map, named_number, named_epoch}
+use Rattle.root_change.proofs.Drops.{both, is_same, not_both, true_or_false, named, named_root, named_map, named_number, named_epoch, named_bytes}
 use Rattle.root_change.proofs.Grown.{epoch_is_named, map_is_named}
 use Rattle.root_change.proofs.PlanParts.{IsFound, found, is_of, is_of_own, none_found, plan_of_each}
 use Rattle.root_change.proofs.Plans.{gathered_own}
 use Rattle.root_change.proofs.Pushes.{sources_to}
-use Rattle.root_change.proofs.Remakes.{named_bytes}
 use Rattle.root_change.proofs.Roots.{equal_or_not, less_test, least_test, other_test, none_at_most}
 use Rattle.root_change.proofs.Sizes.{end_at_most}
 use Rattle.root_change.proofs.Written.{part_isnt_root, part_no_cache}

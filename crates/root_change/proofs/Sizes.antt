@@ -7,7 +7,6 @@ use Rattle.disk_model.specs.Images.{same_or_other}
 use Rattle.disk_model.specs.Laws.{overlay_length}
 use Rattle.root_slots.specs.declared.root.Root.{Root}
 use Rattle.root_slots.specs.RootName.{root_name}
-use Rattle.root_slots.specs.Slots.{HasRootSize}
 use Rattle.disk_model.specs.Tells.{told_where}
 use Rattle.disk_model.specs.Beside.{Respects}
 use Rattle.root_change.specs.Names.{place_of, names_file, named_end, bounds_of, other_bound}
@@ -50,8 +49,3 @@ still_long root name bytes k m other wrote sizes = record {
 
 pub sizes_stay : (root : Root) (name : FileName) (bytes : List ℕ) (k m : Option Content) → name ≢ root_name → WhereTold (HasSizes root) k → Told (OneFile name (Wrote (named_end root name) bytes)) k m → WhereTold (HasSizes root) m
 sizes_stay root name bytes k m other sizes wrote = told_where (OneFile name (Wrote (named_end root name) bytes)) (HasSizes root) (HasSizes root) k m (λ a b is new_is one was. still_long root name bytes a b other one was) wrote sizes
-
--- The root file has its size.
-pub root_sized : (root : Root) (k : Option Content) → WhereTold (HasSizes root) k → WhereTold HasRootSize k
-root_sized root None sizes = tt
-root_sized root (Some k) sizes = sizes.root_file

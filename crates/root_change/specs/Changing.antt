@@ -11,7 +11,6 @@ use Rattle.root_slots.specs.declared.root.Root.{Root}
 use Rattle.root_slots.specs.RootName.{root_name}
 use Rattle.root_slots.specs.Slots.{sequence_of}
 use Rattle.root_slots.specs.Spelling.{spelling}
-use Rattle.root_slots.specs.Valid.{no_place}
 use Rattle.root_change.specs.Names.{place_of, names_file}
 use Rattle.root_change.specs.Texts.{Texts, Measures}
 use Rattle.root_change.specs.Parts.{Parts}
@@ -73,21 +72,5 @@ root_grown root e count = record {
   next = root.next + 1;
   map = record { gen_ = root.map.gen_; length = root.map.length + record_size };
   epochs = set root.epochs e (place_after root e count);
-  cache = root.cache;
-}
-
--- Parts with other bytes of one epoch, and none of another one.
-abbrev pub remade : ℕ → List ℕ → ℕ → Parts → Parts
-remade e bytes dropped parts = with_epoch (with_epoch parts e bytes) dropped []
-
--- The root after an epoch was written anew and another one dropped.
-abbrev pub root_remade : Root → ℕ → ℕ → ℕ → Root
-root_remade root e count dropped = record {
-  config = root.config;
-  sequence = root.sequence + 1;
-  next = root.next;
-  map = root.map;
-  epochs = set (set root.epochs e (record { gen_ = root.sequence + 1; length = count }))
-      dropped no_place;
   cache = root.cache;
 }

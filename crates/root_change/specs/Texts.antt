@@ -1,5 +1,5 @@
 -- Which files stand for the bytes that a root names, and which are exactly these.
-use Rattle.std.specs.Prelude.{◌≡◌, ◌≢◌, ℕ, ◌<◌, ◌≤◌, true, false, List, length, take, Option, Some, None}
+use Rattle.std.specs.Prelude.{◌≡◌, ◌≢◌, ℕ, ◌≤◌, true, false, List, length, take, Option, Some, None}
 use Rattle.disk_model.specs.declared.name.FileKind.TheVariants as kind
 use Rattle.disk_model.specs.declared.name.FileName.{FileName}
 use Rattle.disk_model.specs.Disk.{File, Files, Content, Fits, bytes_of}
@@ -8,7 +8,7 @@ use Rattle.root_slots.specs.RootName.{root_name}
 use Rattle.root_slots.specs.Each.{IfThere, EachRoot}
 use Rattle.root_slots.specs.Slots.{HasRoot, Ready, HasRootSize}
 use Rattle.root_slots.specs.Spelling.{spelling}
-use Rattle.root_change.specs.Names.{epoch_name, place_of, names_file, named_end}
+use Rattle.root_change.specs.Names.{names_file, named_end}
 
 -- The bytes of each file that count, none of a file that isn't named. Nothing is said of the root
 -- file.
@@ -80,8 +80,3 @@ pub record KeepsNamed (root : Root) (old new : Content) : Type 0 where
   pub root_file : HasRootSize new
   pub named : (name : FileName) → name ≢ root_name → names_file root name ≡ true
       → (new name).seen ≡ (old name).seen
-
--- The files of the epochs below this number are at least as long as a root says.
-abbrev pub EpochsAreLong : Root → ℕ → Content → Type 0
-EpochsAreLong root n k = (e : ℕ) → e < n → (place_of root kind.Epoch e).length
-    ≤ length (bytes_of (k (epoch_name e (place_of root kind.Epoch e).gen_)).seen)

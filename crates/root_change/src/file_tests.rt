@@ -43,7 +43,7 @@ fn tidy_all<D: Disk>(disk: &mut D) -> Result<(), DiskFault> {
 
 /// Returns whether a disk is exactly that of its archive.
 fn is_tidy(disk: &mut MemDisk) -> Result<bool, DiskFault> {
-    let map = has_map(disk, false, true)?;
+    let map = has_map(disk, true)?;
     let first = starts(disk, epoch_file(0, 1), b"abc", true)?;
     let second = starts(disk, epoch_file(1, 2), b"de", true)?;
     let count = count_files(disk)?;

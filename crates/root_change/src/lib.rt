@@ -4,10 +4,8 @@
 
 mod appending;
 mod copying;
-mod growing;
 mod names;
 mod plan;
-mod remaking;
 mod replacing;
 mod rewriting;
 mod sources;
@@ -15,10 +13,8 @@ mod tidying;
 
 pub use appending::append;
 pub use copying::{FileRange, copy_range};
-pub use growing::grow;
 pub use names::{cache_file, epoch_file, epoch_place, is_named, map_file, place_at};
 pub use plan::{PartPlan, Target};
-pub use remaking::remake;
 pub use replacing::replace_root;
 pub use rewriting::{RewriteRefusal, rewrite};
 pub use sources::{Source, put_sources};
