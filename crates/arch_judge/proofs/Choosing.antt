@@ -12,17 +12,17 @@ use Rattle.mail_reader.specs.Content.{content_id_of}
 use Rattle.mail_reader.specs.Ids.{own_id}
 use Rattle.mail_reader.specs.Laws.{id_line}
 use Rattle.arch_model.specs.Archives.{Entry, Archive, owner, live}
-use Rattle.arch_model.specs.Candidates.{id_with, made_id, with_made, met}
+use Rattle.arch_model.specs.Candidates.{id_with, made_id, with_made, met, decided, choice_from, choice_of}
 use Rattle.arch_judge.specs.Judging.{IsKnownBy, IsNewText, IsStored, TakesNewText}
 use Rattle.arch_model.specs.Laws.{TakenAreStorage}
-use Rattle.arch_judge.specs.Indexes.{met_in, owner_in, owner_of}
+use Rattle.arch_judge.specs.Indexes.{IsIndex, met_in, met_own, owner_in, owner_of}
 use Rattle.arch_model.specs.declared.choice.Choice.{Choice}
 use Rattle.arch_model.specs.declared.choice.Choice.TheVariants.{Take, Repeat}
 use Rattle.arch_model.specs.declared.choice.Meeting.{Meeting}
 use Rattle.arch_model.specs.declared.choice.Meeting.TheVariants.{Free, Same, Other}
 use Rattle.arch_judge.specs.declared.index.Index.{Index}
 use Rattle.arch_judge.specs.declared.index.Owner.{Owner}
-use Rattle.arch_model.proofs.Candidates.{Passed, all_made, meets, passed-none, passed-more, passed-same, passed-free, not-all-passed}
+use Rattle.arch_model.proofs.Candidates.{Passed, all_made, meets, passed-more, passed-same, passed-free, not-all-passed}
 use Rattle.arch_model.proofs.MadeIds.{made-own}
 
 -- A candidate meets an archive as it meets an index of it.
@@ -79,9 +79,6 @@ module _ (config : Config) (index : Index) (count : ℕ) (text : List ℕ) where
   within : (a : Archive) (i : ℕ) → i < 2 ^ 64 → Passed a text i → i ≤ length (live a.entries)
   within a i small passed = at_most (length (live a.entries)) i (λ over. not-all-passed a text i over (omega (arith, over, small)) passed)
 
-  pub begins : PassedIn config index count text 0
-  begins a known = passed-none a text
-
   pub goes_on : (i : ℕ) → i ≤ count → i < 2 ^ 64 → PassedIn config index count text i → asked index config.name text i ≡ Other → PassedIn config index count text (i + 1)
   goes_on i low small passed is a known = passed-more a text i (within a i small (passed a known)) small (passed a known) (meets_known a i Other known is)
 
@@ -121,8 +118,21 @@ made_new law index name text id i choice is_name from small free id_is choice_is
     } in new)
 
 -- A text whose own id is free is new as it is.
-pub own_new : TakenAreStorage → (index : Index) (text id content : List ℕ) → IsStored text → own_id text ≡ Some id → met_in (owner_in index.owners id) content ≡ Free → IsNewText index text
-own_new law index text id content from own free = record {
-  storage = (law [] from.0 text from.1).0 (subst (λ (o : Option (List ℕ)). IsSome o) (sym own) refl);
-  new_id = new_by index text id own (free_in (owner_in index.owners id) content free);
-}
+pub own_new : TakenAreStorage → (index : Index) (text content : List ℕ) → IsStored text → Free ≡ met_own index.owners (own_id text) content → IsNewText index text
+own_new law index text content from free = by (own_id text) refl free where
+  by : (own : Option (List ℕ)) → own_id text ≡ own → Free ≡ met_own index.owners own content → IsNewText index text
+  by None own free = absurd (let never : Free ≡ Other = free in cc)
+  by (Some id) own free = record {
+    storage = (law [] from.0 text from.1).0 (subst (λ (o : Option (List ℕ)). IsSome o) (sym own) refl);
+    new_id = new_by index text id own (free_in (owner_in index.owners id) content (sym free));
+  }
+
+-- How the own id of a text meets an index decides in each archive of that index, before its made ids.
+pub own_decides : (a : Archive) (index : Index) (text content : List ℕ) (m : Meeting) → IsIndex a.entries index → content ≡ content_id_of text → m ≡ met_own index.owners (own_id text) content → choice_of a text ≡ decided m text (all_made a text)
+own_decides a index text content m indexed content_is = by (own_id text) where
+  chooses : Meeting → Choice
+  chooses met_so = decided met_so text (all_made a text)
+
+  by : (own : Option (List ℕ)) → m ≡ met_own index.owners own content → choice_from (live a.entries) a.config.name text own ≡ chooses m
+  by None is = ap chooses (sym is)
+  by (Some id) is = ap chooses (sym (is ∙ met_known (owner_in index.owners id) (owner (live a.entries) id) content (indexed.owners id) ∙ ap (met (owner (live a.entries) id)) content_is))

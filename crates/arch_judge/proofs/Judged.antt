@@ -1,11 +1,14 @@
 -- The verdict on a delivery is that of the definition, and a text that is taken may be kept.
-use Rattle.std.specs.Prelude.{◌≡◌, ◌<◌, ◌≤◌, ℕ, Bool, true, false, not, nat_lt, List, Some, None, is_some, Result, Ok, refl, if◌then◌else◌}
+use Rattle.std.specs.Prelude.{◌≡◌, ◌≤◌, ℕ, Bool, true, false, not, nat_lt, List, Some, None, is_some, Result, Ok, refl, if◌then◌else◌}
 use Rattle.std.proofs.Common.{◌∙◌, sym, ap, subst, arith}
 use Rattle.std.specs.Str.{bytes_eq}
 use Rattle.std.proofs.lemmas.Bool.Decides.{nat_tests}
 use Rattle.arch_base.specs.declared.config.Config.{Config}
 use Rattle.arch_base.specs.declared.ids.Id20.{Id20}
 use Rattle.git_objects.specs.Objects.{blob_id_of}
+use Rattle.mail_reader.specs.Content.{content_id_of}
+use Rattle.mail_commits.specs.Ids.{text_ids_of}
+use Rattle.mail_commits.specs.declared.ids.TextIds.{TextIds}
 use Rattle.mail_reader.specs.Stored.{stored}
 use Rattle.mail_reader.specs.declared.storing.StoredRefusal.{StoredRefusal}
 use Rattle.arch_model.specs.Archives.{Archive, with_entry, blob_number}
@@ -34,28 +37,31 @@ module _ (a : Archive) (config : Config) (index : Index) (count next : ℕ) (kno
     pub chosen : (form : List ℕ) (choice : Choice) → stored bytes ≡ Ok form → choice ≡ choice_of a form → (moment : ℕ) → delivered a bytes moment ≡ delivered_choice a moment choice
     chosen form choice is choice_is moment = formed (Ok form) is moment ∙ ap (delivered_choice a moment) (sym choice_is)
 
-    module _ (form text : List ℕ) (blob : Id20) (is : stored bytes ≡ Ok form) (takes : choice_of a form ≡ Take text) (blob_is : blob ≡ blob_id_of text) where
+    module _ (form text : List ℕ) (ids : TextIds) (is : stored bytes ≡ Ok form) (takes : choice_of a form ≡ Take text) (ids_are : ids ≡ text_ids_of text) where
+      at_text : {X : Type 0} (f : Id20 → X) → f (blob_id_of text) ≡ f ids.blob
+      at_text f = ap (λ (i : TextIds). f i.blob) (sym ids_are)
+
       -- The text of the first entry with the blob id decides.
-      pub comparing : (n : ℕ) → Some n ≡ number_in index.blobs blob.0 → Compares a bytes text blob n
+      pub comparing : (n : ℕ) → Some n ≡ number_in index.blobs ids.blob.0 → Compares a bytes text ids.blob n
       comparing n given =
-          let first : blob_number a.entries blob.0 ≡ Some n = sym (known.indexed.blobs blob.0) ∙ sym given in
+          let first : blob_number a.entries ids.blob.0 ≡ Some n = sym (known.indexed.blobs ids.blob.0) ∙ sym given in
           record {
             first = first;
-            known = ap (form_known a) is ∙ ap (keeps_known a.entries) takes ∙ ap is_some (ap (λ (i : Id20). blob_number a.entries i.0) (sym blob_is) ∙ first);
+            known = ap (form_known a) is ∙ ap (keeps_known a.entries) takes ∙ ap is_some (at_text (λ (i : Id20). blob_number a.entries i.0) ∙ first);
             decides = λ agree kept kept_is moment.
                 chosen form (Take text) is (sym takes) moment
                 ∙ ap (delivered_kept a text moment)
-                (collision-first a.entries text kept n agree (ap (λ (i : Id20). blob_number a.entries i.0) (sym blob_is) ∙ first) (ap (λ (i : Id20). blob_text a.entries i.0) (sym blob_is) ∙ kept_is));
+                (collision-first a.entries text kept n agree (at_text (λ (i : Id20). blob_number a.entries i.0) ∙ first) (at_text (λ (i : Id20). blob_text a.entries i.0) ∙ kept_is));
           }
 
       -- Without such an entry only want of numbers can refuse it.
-      pub coming : None ≡ number_in index.blobs blob.0 → (moment : ℕ) → delivered a bytes moment ≡ delivered_new a text moment
+      pub coming : None ≡ number_in index.blobs ids.blob.0 → (moment : ℕ) → delivered a bytes moment ≡ delivered_new a text moment
       coming given moment =
           chosen form (Take text) is (sym takes) moment
-          ∙ ap (delivered_kept a text moment) (collision-alone a.entries text (ap (λ (i : Id20). blob_number a.entries i.0) (sym blob_is) ∙ sym (known.indexed.blobs blob.0) ∙ sym given))
+          ∙ ap (delivered_kept a text moment) (collision-alone a.entries text (at_text (λ (i : Id20). blob_number a.entries i.0) ∙ sym (known.indexed.blobs ids.blob.0) ∙ sym given))
 
 -- The number that is left decides.
-module _ (a : Archive) (config : Config) (next : ℕ) (bytes text : List ℕ) (blob : Id20) (config_is : a.config ≡ config) (next_is : a.next ≡ next) (comes : (moment : ℕ) → delivered a bytes moment ≡ delivered_new a text moment) (blob_is : blob ≡ blob_id_of text) where
+module _ (a : Archive) (config : Config) (next : ℕ) (bytes text : List ℕ) (ids : TextIds) (config_is : a.config ≡ config) (next_is : a.next ≡ next) (comes : (moment : ℕ) → delivered a bytes moment ≡ delivered_new a text moment) (ids_are : ids ≡ text_ids_of text) where
   test_of : nat_lt a.config.max a.next ≡ nat_lt config.max next
   test_of = ap (λ (c : Config). nat_lt c.max a.next) config_is ∙ ap (nat_lt config.max) next_is
 
@@ -65,34 +71,29 @@ module _ (a : Archive) (config : Config) (next : ℕ) (bytes text : List ℕ) (b
       comes moment
       ∙ ap (λ (u : Bool). if u then refused a (answer.Full a.config.max) else record { archive = with_entry a (new_epoch a) text moment; answer = answer.Ok a.next (blob_id_of text) }) (test_of ∙ test)
 
-  -- No number is left.
-  pub filled : config.max < next → (moment : ℕ) → delivered a bytes moment ≡ refused a (answer.Full config.max)
-  filled over moment =
-      let test : nat_lt config.max next ≡ true = grind (arith, nat_tests, over) in
-      numbered true test moment ∙ ap (λ (c : Config). refused a (answer.Full c.max)) config_is
-
-  -- Otherwise the text is kept.
-  pub kept : next ≤ config.max → (moment : ℕ) → delivered a bytes moment ≡ record { archive = with_entry a (new_epoch a) text moment; answer = answer.Ok next blob }
+  -- Where a number is left the text is kept.
+  pub kept : next ≤ config.max → (moment : ℕ) → delivered a bytes moment ≡ record { archive = with_entry a (new_epoch a) text moment; answer = answer.Ok next ids.blob }
   kept room moment =
       let test : nat_lt config.max next ≡ false = grind (arith, nat_tests, room) in
       numbered false test moment
       ∙ (ap (λ (n : ℕ). record { archive = with_entry a (new_epoch a) text moment; answer = answer.Ok n (blob_id_of text) }) next_is
-      ∙ ap (λ (i : Id20). record { archive = with_entry a (new_epoch a) text moment; answer = answer.Ok next i }) (sym blob_is))
+      ∙ ap (λ (i : TextIds). record { archive = with_entry a (new_epoch a) text moment; answer = answer.Ok next i.blob }) (sym ids_are))
 
 -- A text that was compared: it is the same, or it collides.
 pub same-comes : (a : Archive) (bytes text kept : List ℕ) (number : ℕ) → ((moment : ℕ) → delivered a bytes moment ≡ delivered_kept a text moment (unless_same text kept number)) → bytes_eq text kept ≡ true → (moment : ℕ) → delivered a bytes moment ≡ delivered_new a text moment
 same-comes a bytes text kept number is same moment = is moment ∙ ap (λ (t : Bool). delivered_kept a text moment (if t then None else Some number)) same
 
-pub other-collides : (a : Archive) (bytes text kept : List ℕ) (number : ℕ) → ((moment : ℕ) → delivered a bytes moment ≡ delivered_kept a text moment (unless_same text kept number)) → bytes_eq text kept ≡ false → (moment : ℕ) → delivered a bytes moment ≡ refused a (answer.Collision number)
-other-collides a bytes text kept number is other moment = is moment ∙ ap (λ (t : Bool). delivered_kept a text moment (if t then None else Some number)) other
-
 -- A text that is taken with a new blob id may be taken.
-pub takes-new : (config : Config) (index : Index) (next : ℕ) (text : List ℕ) (blob : Id20) (v : Verdict) → MayCome config index text blob → number_in index.blobs blob.0 ≡ None → TakesThis config next text blob v → MayTake config index next v
-takes-new config index next text blob (Kept taken named number) may new takes =
-    let kept : MayBeKept config index next text blob number = takes.2 index may in
-    subst (λ (t : List ℕ). MayBeKept config index next t named number × (number_in index.blobs named.0 ≡ None)) (sym takes.0) (subst (λ (b : Id20). MayBeKept config index next text b number × (number_in index.blobs b.0 ≡ None)) (sym takes.1) (kept, new))
-takes-new config index next text blob (Compare other named number) may new takes = absurd takes
-takes-new config index next text blob (Refuse reply) may new takes = takes
+pub takes-new : (config : Config) (index : Index) (next : ℕ) (text : List ℕ) (ids : TextIds) (v : Verdict) → MayCome config index text ids → number_in index.blobs ids.blob.0 ≡ None → TakesThis config next text ids v → MayTake config index next v
+takes-new config index next text ids (Kept taken named number) may new takes =
+    let kept : MayBeKept config index next text ids number = takes.2 index may in
+    subst (λ (t : List ℕ). MayBeKept config index next t named number × (number_in index.blobs named.blob.0 ≡ None)) (sym takes.0) (subst (λ (i : TextIds). MayBeKept config index next text i number × (number_in index.blobs i.blob.0 ≡ None)) (sym takes.1) (kept, new))
+takes-new config index next text ids (Compare other named number) may new takes = absurd takes
+takes-new config index next text ids (Refuse reply) may new takes = takes
+
+-- What a text is known by.
+pub known-by : (text spelled content : List ℕ) (blob : Id20) → blob ≡ blob_id_of spelled → spelled ≡ text → content ≡ content_id_of text → let ids : TextIds = record { blob = blob; content = content } in ids ≡ text_ids_of text
+known-by text spelled content blob blob_is spelled_is content_is = rw (blob_is ∙ ap blob_id_of spelled_is, content_is) refl
 
 -- What is known of an archive is known by its own next number.
 pub known-anew : (config : Config) (index : Index) (count next : ℕ) (a : Archive) → IsKnownBy config index count next a → IsKnownBy config index count a.next a

@@ -76,3 +76,9 @@ met_owner message content = if bytes_eq message.content content then Same messag
 abbrev pub met_in : Option Owner → List ℕ → Meeting
 met_in None content = Free
 met_in (Some message) content = met_owner message content
+
+-- How a text's own id meets it. A text without one goes by its made ids, as one whose own id a message
+-- with other content has.
+abbrev pub met_own : BTreeMap (Vec ℕ) Owner → Option (List ℕ) → List ℕ → Meeting
+met_own owners None content = Other
+met_own owners (Some id) content = met_in (owner_in owners id) content

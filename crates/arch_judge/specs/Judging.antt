@@ -6,7 +6,8 @@ use Rattle.arch_base.specs.declared.ids.Id20.{Id20}
 use Rattle.mail_reader.specs.StorageTexts.{IsStorageText}
 use Rattle.mail_reader.specs.Stored.{stored}
 use Rattle.mail_reader.specs.Ids.{own_id}
-use Rattle.git_objects.specs.Objects.{blob_id_of}
+use Rattle.mail_commits.specs.declared.ids.TextIds.{TextIds}
+use Rattle.mail_commits.specs.Ids.{text_ids_of}
 use Rattle.arch_model.specs.Archives.{Archive, live, blob_number, with_entry}
 use Rattle.arch_model.specs.Delivery.{delivered, delivered_kept, refused, new_epoch}
 use Rattle.arch_model.specs.Keeping.{form_known}
@@ -66,23 +67,23 @@ pub record Compares (a : Archive) (bytes text : List ℕ) (blob : Id20) (number 
 
 -- The verdict is what the definition says of the delivery, at each moment.
 abbrev pub Judges : Archive → List ℕ → Verdict → Type 0
-Judges a bytes (Take text blob number) = (moment : ℕ) → delivered a bytes moment
-    ≡ record { archive = with_entry a (new_epoch a) text moment; answer = answer.Ok number blob }
-Judges a bytes (Compare text blob number) = Compares a bytes text blob number
+Judges a bytes (Take text ids number) = (moment : ℕ) → delivered a bytes moment
+    ≡ record { archive = with_entry a (new_epoch a) text moment; answer = answer.Ok number ids.blob }
+Judges a bytes (Compare text ids number) = Compares a bytes text ids.blob number
 Judges a bytes (Refuse reply) = RefusesBy a bytes reply
 
--- The text may come: the archive is not a mirror, the text is a storage text, and no live message
--- has its own id.
-pub record MayCome (config : Config) (index : Index) (text : List ℕ) (blob : Id20) : Type 0 where
+-- The text may come: the archive is not a mirror, the text is a storage text, these are its ids, and
+-- no live message has its own id.
+pub record MayCome (config : Config) (index : Index) (text : List ℕ) (ids : TextIds) : Type 0 where
   pub writable : config.mirror ≡ false
   pub storage : IsStorageText text
-  pub blob_is : blob ≡ blob_id_of text
+  pub ids_are : ids ≡ text_ids_of text
   pub new_id : (id : List ℕ) → own_id text ≡ Some id → owner_in index.owners id ≡ None
 
 -- The text may be kept: it may come, and the archive has a number left.
-pub record MayBeKept (config : Config) (index : Index) (next : ℕ) (text : List ℕ) (blob : Id20)
+pub record MayBeKept (config : Config) (index : Index) (next : ℕ) (text : List ℕ) (ids : TextIds)
     (number : ℕ) : Type 0 where
-  pub comes : MayCome config index text blob
+  pub comes : MayCome config index text ids
   pub number_left : next ≤ config.max
   pub number_is : number ≡ next
 
@@ -104,19 +105,19 @@ IsForDelivery (answer.Damaged file offset) = ⊥
 -- A text that is taken may be kept, and no entry has its blob id. One that is to be compared may
 -- come, and this is the number of its blob id. A refusal is for a delivery.
 abbrev pub MayTake : Config → Index → ℕ → Verdict → Type 0
-MayTake config index next (Take text blob number) =
-    MayBeKept config index next text blob number × (number_in index.blobs blob.0 ≡ None)
-MayTake config index next (Compare text blob number) =
-    MayCome config index text blob × (number_in index.blobs blob.0 ≡ Some number)
+MayTake config index next (Take text ids number) =
+    MayBeKept config index next text ids number × (number_in index.blobs ids.blob.0 ≡ None)
+MayTake config index next (Compare text ids number) =
+    MayCome config index text ids × (number_in index.blobs ids.blob.0 ≡ Some number)
 MayTake config index next (Refuse reply) = IsForDelivery reply
 
 -- This text is taken if it may come, or there is a refusal for a delivery.
-abbrev pub TakesThis : Config → ℕ → List ℕ → Id20 → Verdict → Type 0
-TakesThis config next text blob (Take taken named number) = (taken ≡ text) × (named ≡ blob)
-    × ((index : Index) → MayCome config index text blob
-    → MayBeKept config index next text blob number)
-TakesThis config next text blob (Compare other named number) = ⊥
-TakesThis config next text blob (Refuse reply) = IsForDelivery reply
+abbrev pub TakesThis : Config → ℕ → List ℕ → TextIds → Verdict → Type 0
+TakesThis config next text ids (Take taken named number) = (taken ≡ text) × (named ≡ ids)
+    × ((index : Index) → MayCome config index text ids
+    → MayBeKept config index next text ids number)
+TakesThis config next text ids (Compare other named number) = ⊥
+TakesThis config next text ids (Refuse reply) = IsForDelivery reply
 
 -- A text is taken only if it is the same as one that was kept.
 abbrev pub TakesSame : List ℕ → List ℕ → Verdict → Type 0
@@ -126,8 +127,8 @@ TakesSame text kept (Refuse reply) = Unit {0}
 
 -- After the texts were compared, only another text with the blob id and want of numbers refuse.
 abbrev pub RefusesLast : Verdict → Type 0
-RefusesLast (Take text blob number) = Unit {0}
-RefusesLast (Compare text blob number) = Unit {0}
+RefusesLast (Take text ids number) = Unit {0}
+RefusesLast (Compare text ids number) = Unit {0}
 RefusesLast (Refuse (answer.Full max)) = Unit {0}
 RefusesLast (Refuse (answer.Collision number)) = Unit {0}
 RefusesLast (Refuse other) = ⊥
@@ -141,7 +142,7 @@ pub record IsNewText (index : Index) (text : List ℕ) : Type 0 where
   pub storage : IsStorageText text
   pub new_id : (id : List ℕ) → own_id text ≡ Some id → owner_in index.owners id ≡ None
 
--- A text that the candidate ids decide to take is new.
+-- A text that the made ids decide to take is new.
 abbrev pub TakesNewText : Index → Choice → Type 0
 TakesNewText index (choice.Take text) = IsNewText index text
 TakesNewText index (choice.Repeat number) = Unit {0}

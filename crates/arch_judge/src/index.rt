@@ -1,9 +1,11 @@
 //! An index of an archive's live messages by their own ids, and of its entries by their blob ids.
 ghost use Rattle.std.specs.Prelude.{◌≡◌, ◌≢◌, [], OnOk, OnErr, Some, None};
-ghost use Rattle.arch_judge.specs.Indexes.{Puts, Loses, LosesIfOf, TakesBack, HasSame, met_owner, met_in, owner_in, number_in};
+ghost use Rattle.mail_reader.specs.Ids.{own_id as own_id_in};
+ghost use Rattle.arch_judge.specs.Indexes.{Puts, Loses, LosesIfOf, TakesBack, HasSame, met_owner, met_in, met_own, owner_in, number_in};
 
 use arch_base::{NoMemory, ObjectId};
 use arch_model::Meeting;
+use mail_reader::own_id;
 use std::alloc::Global;
 use std::collections::BTreeMap;
 
@@ -63,6 +65,18 @@ impl Index {
         match self.owner(id) {
             None => Meeting::Free,
             Some(owner) => owner.meet(content),
+        }
+    }
+
+    /// Returns how the own id of a text meets the message that has it, as `meet` does.
+    ///
+    /// A text without one goes by its made ids, as one whose own id a message with other content has.
+    pub(crate) fn meet_own(&self, text: &[u8], content: &[u8; 32]) -> Meeting
+        ensures { result ≡ met_own self.now.owners (own_id_in text.now) content.now }
+    {
+        match own_id(text) {
+            None => Meeting::Other,
+            Some(id) => self.meet(id, content),
         }
     }
 

@@ -2,7 +2,7 @@
 ghost use Rattle.std.specs.Prelude.{◌≡◌, List, ℕ, Ok, Some, IfOk, IfSome, false, length};
 ghost use Rattle.mail_reader.specs.Content.{content_id_of};
 ghost use Rattle.mail_reader.specs.Stored.{stored as stored_of};
-ghost use Rattle.git_objects.specs.Objects.{blob_id_of};
+ghost use Rattle.mail_commits.specs.Ids.{text_ids_of};
 ghost use Rattle.arch_model.specs.Archives.{Archive, live};
 ghost use Rattle.arch_model.specs.Delivery.{delivered, delivered_kept, delivered_new};
 ghost use Rattle.arch_model.specs.Candidates.{choice_of, made_choice};
@@ -11,27 +11,28 @@ ghost use Rattle.arch_model.specs.declared.choice.Choice.TheVariants.{Take};
 
 use crate::index::Index;
 use crate::made::{made_id, with_id};
-use arch_base::{Bytes, Config, NoMemory, ObjectId, hex_of};
+use arch_base::{Bytes, Config, NoMemory, hex_of};
 use arch_model::{Answer, Choice, Meeting, law_of_taken_texts};
 use git_objects::{blob_id, object_id};
-use mail_reader::{StoredRefusal, content_id, own_id, stored};
+use mail_commits::TextIds;
+use mail_reader::{StoredRefusal, content_id, stored};
 use std::alloc::Global;
 
 /// What the delivery of a message does.
 #[derive(Debug, Drop)]
 pub enum Verdict {
-    /// Keeps this text under this number. No live message has its own id, and no other text has its
-    /// blob id.
+    /// Keeps this text under this number, and this is what it is known by. No live message has its
+    /// own id, and no other text has its blob id.
     Take {
         text: Bytes,
-        blob: ObjectId,
+        ids: TextIds,
         number: u32,
     },
     /// The message with this number, live or not, is the first with the blob id of this text. Whether
     /// it has the same text decides: see `compared`.
     Compare {
         text: Bytes,
-        blob: ObjectId,
+        ids: TextIds,
         number: u32,
     },
     /// Keeps nothing, and gives this answer.
@@ -83,35 +84,44 @@ fn judge_text(
         → stored_of bytes ≡ Ok text → Judges a bytes result }
     ensures taken { MayTake config.now index.now next result }
 {
-    match choose(alloc, config, index, count, text) {
-        Err(NoMemory) => Verdict::Refuse(Answer::NoMemory),
-        Ok(Choice::Repeat(number)) => Verdict::Refuse(Answer::Duplicate(number)),
-        Ok(Choice::Take(text)) => judge_new(config, index, next, text),
+    law_of_taken_texts();
+    let content = content_id(text.as_slice());
+    match index.meet_own(text.as_slice(), &content) {
+        Meeting::Free => judge_new(config, index, next, text, content),
+        Meeting::Same(number) => Verdict::Refuse(Answer::Duplicate(number)),
+        Meeting::Other => {
+            judge_made(alloc, config, index, count, next, text.as_slice(), &content)
+        }
     }
 }
 
-/// Returns what the candidate ids of a text decide.
-fn choose(
+/// Decides what the delivery of a storage text does, if its own id doesn't decide it.
+fn judge_made(
     alloc: Global,
     config: &Config,
     index: &Index,
     count: usize,
-    text: Bytes,
-) -> Result<Choice, NoMemory>
-    requires stored { IsStored text }
-    ensures choice { (a : Archive) → IsKnownBy config.now index.now count a.next a
-        → IfOk result (λ choice. choice ≡ choice_of a text) }
-    ensures new { IfOk result (TakesNewText index.now) }
+    next: u32,
+    text: &[u8],
+    content: &[u8; 32],
+) -> Verdict
+    requires writable { config.now.mirror ≡ false }
+    requires stored { IsStored text.now }
+    requires content { content.now ≡ content_id_of text.now }
+    ensures judged { (a : Archive) (bytes : List ℕ) → IsKnownBy config.now index.now count next a
+        → stored_of bytes ≡ Ok text.now → choice_of a text.now
+        ≡ made_choice (live a.entries) a.config.name text.now 0 (length (live a.entries))
+        → Judges a bytes result }
+    ensures taken { MayTake config.now index.now next result }
 {
-    law_of_taken_texts();
-    let content = content_id(text.as_slice());
-    let Some(id) = own_id(text.as_slice()) else {
-        return choose_made(alloc, config, index, count, text.as_slice(), &content);
-    };
-    match index.meet(id, &content) {
-        Meeting::Free => Ok(Choice::Take(text)),
-        Meeting::Same(number) => Ok(Choice::Repeat(number)),
-        Meeting::Other => choose_made(alloc, config, index, count, text.as_slice(), &content),
+    match choose_made(alloc, config, index, count, text, content) {
+        Err(NoMemory) => Verdict::Refuse(Answer::NoMemory),
+        Ok(Choice::Repeat(number)) => Verdict::Refuse(Answer::Duplicate(number)),
+        Ok(Choice::Take(taken)) => {
+            // It has one field more.
+            let content = content_id(taken.as_slice());
+            judge_new(config, index, next, taken, content)
+        }
     }
 }
 
@@ -169,29 +179,33 @@ fn first_made(
     Ok(None)
 }
 
-/// Decides what the delivery of a text does, if no live message has its own id.
-fn judge_new(config: &Config, index: &Index, next: u32, text: Bytes) -> Verdict
+/// Decides what the delivery of a text with this content id does, if no live message has its own id.
+fn judge_new(config: &Config, index: &Index, next: u32, text: Bytes, content: [u8; 32]) -> Verdict
     requires writable { config.now.mirror ≡ false }
     requires new { IsNewText index.now text }
+    requires content { content ≡ content_id_of text }
     ensures judged { (a : Archive) (bytes form : List ℕ) (count : ℕ)
         → IsKnownBy config.now index.now count next a → stored_of bytes ≡ Ok form
         → choice_of a form ≡ Take text → Judges a bytes result }
     ensures taken { MayTake config.now index.now next result }
 {
-    let blob = blob_id(text.as_slice());
-    match index.number(&blob) {
-        Some(number) => Verdict::Compare { text, blob, number },
-        None => judge_room(config, next, text, blob),
+    let ids = TextIds {
+        blob: blob_id(text.as_slice()),
+        content,
+    };
+    match index.number(&ids.blob) {
+        Some(number) => Verdict::Compare { text, ids, number },
+        None => judge_room(config, next, text, ids),
     }
 }
 
 /// Decides what the delivery of a text does, if only want of numbers can refuse it.
-fn judge_room(config: &Config, next: u32, text: Bytes, blob: ObjectId) -> Verdict
-    requires blob { blob ≡ blob_id_of text }
+fn judge_room(config: &Config, next: u32, text: Bytes, ids: TextIds) -> Verdict
+    requires ids { ids ≡ text_ids_of text }
     ensures judged { (a : Archive) (bytes : List ℕ) → a.config ≡ config.now → a.next ≡ next
         → ((moment : ℕ) → delivered a bytes moment ≡ delivered_new a text moment)
         → Judges a bytes result }
-    ensures taken { TakesThis config.now next text blob result }
+    ensures taken { TakesThis config.now next text ids result }
     // It refuses only if no number is left, or if another text has the blob id.
     ensures last { RefusesLast result }
 {
@@ -200,7 +214,7 @@ fn judge_room(config: &Config, next: u32, text: Bytes, blob: ObjectId) -> Verdic
     }
     Verdict::Take {
         text,
-        blob,
+        ids,
         number: next,
     }
 }
@@ -211,18 +225,18 @@ pub fn compared(
     config: &Config,
     next: u32,
     text: Bytes,
-    blob: ObjectId,
+    ids: TextIds,
     number: u32,
     kept: &[u8],
 ) -> Verdict
-    requires blob { blob ≡ blob_id_of text }
+    requires ids { ids ≡ text_ids_of text }
     // The number of the text that was kept is the one of a collision.
     ensures judged { (a : Archive) (bytes : List ℕ) → a.config ≡ config.now → a.next ≡ next
         → ((moment : ℕ) → delivered a bytes moment
         ≡ delivered_kept a text moment (unless_same text kept.now number))
         → Judges a bytes result }
     // A text that is taken is the one that was compared.
-    ensures taken { TakesThis config.now next text blob result }
+    ensures taken { TakesThis config.now next text ids result }
     // It refuses only if no number is left, or if another text has the blob id.
     ensures last { RefusesLast result }
     // Another text is never taken.
@@ -231,5 +245,5 @@ pub fn compared(
     if text.as_slice() != kept {
         return Verdict::Refuse(Answer::Collision(number));
     }
-    judge_room(config, next, text, blob)
+    judge_room(config, next, text, ids)
 }

@@ -2,55 +2,13 @@
 use Rattle.std.proofs.Common.{◌≡◌, ◌≢◌, ℕ, ◌+◌, ◌-◌, ◌≤◌, min, Bool, true, false, List, [], ◌++◌, length, take, drop, Option, Some, None, Result, Ok, Err, refl, sym, ap, subst, ◌∙◌, arith, length-append, length-take, length-drop}
 use Rattle.std.proofs.lemmas.List.{append_assoc, append-nil, take_at, take-append-drop, take-append-le, drop_at}
 use Rattle.disk_model.specs.declared.refusal.WalkRefusal.{WalkRefusal}
-use Rattle.disk_model.specs.Disk.{Kept, Content, WhereTold, Told, Unchanged, HasRead, bytes_of}
+use Rattle.disk_model.specs.Disk.{Content, WhereTold, HasRead, bytes_of}
 use Rattle.mail_commits.specs.Entries.{magic}
-use Rattle.epoch_file.specs.declared.sight.Sight.TheVariants.{Lacks, Whole}
 use Rattle.epoch_file.specs.declared.state.State.{State}
 use Rattle.epoch_file.specs.declared.window.Part.{Part}
-use Rattle.epoch_file.specs.Sights.{Sees}
-use Rattle.epoch_file.specs.Steps.{Brings, KeepsShown, Walked, BeginsAt, BeginsIn, BeginsWith}
+use Rattle.epoch_file.specs.Steps.{Walked, BeginsAt, BeginsIn, BeginsWith}
 use Rattle.epoch_file.specs.Windows.{Shows, Comes, IsInside}
-use Rattle.epoch_file.proofs.Showing.{left-length, shows-more}
-
--- If the held bytes can't be an entry's, there is no entry.
-pub brings-none : (content : Option Content) (part : Part) (old now : List ℕ) → WhereTold (KeepsShown part old now) content → Sees now (part.end - part.offset) Lacks → WhereTold (Brings part old now (Ok false)) content
-brings-none None part old now keeps sees = tt
-brings-none (Some k) part old now keeps sees = λ shows parent e rest valid is.
-    let s = keeps shows in
-    sees parent e s.rest rest tt (record { valid = valid; is = sym s.is ∙ is; all = ap length (sym s.is) ∙ left-length (bytes_of (k part.file).seen) part s.whole })
-
--- If the held bytes have all of an entry, so does the window.
-pub brings-whole : (content : Option Content) (part : Part) (old now : List ℕ) → WhereTold (KeepsShown part old now) content → Sees now (part.end - part.offset) Whole → WhereTold (Brings part old now (Ok true)) content
-brings-whole None part old now keeps sees = tt
-brings-whole (Some k) part old now keeps sees = λ shows.
-    let s = keeps shows in
-    (s, λ parent e rest valid is. sees parent e s.rest rest tt (record { valid = valid; is = sym s.is ∙ is; all = ap length (sym s.is) ∙ left-length (bytes_of (k part.file).seen) part s.whole }))
-
--- A window that shows a file shows it while the file is unchanged.
-shows_after : (k m : Content) (part : Part) (now : List ℕ) → Unchanged k m → Shows (bytes_of (k part.file).seen) part now → Shows (bytes_of (m part.file).seen) part now
-shows_after k m part now same shows = let P : Kept → Type 0 = λ kept. Shows (bytes_of kept.seen) part now in subst P (sym (same part.file)) shows
-
-shows_before : (k m : Content) (part : Part) (now : List ℕ) → Unchanged k m → Shows (bytes_of (m part.file).seen) part now → Shows (bytes_of (k part.file).seen) part now
-shows_before k m part now same shows = let P : Kept → Type 0 = λ kept. Shows (bytes_of kept.seen) part now in subst P (same part.file) shows
-
--- A window shows nothing if no bytes come although some are left.
-pub brings-stop : (first mid : Option Content) (part : Part) (room : ℕ) (old now new : List ℕ) → WhereTold (KeepsShown part old now) first → Told Unchanged first mid
-    → WhereTold (Comes part room now new (Ok false)) mid → WhereTold (Brings part old new (Ok false)) first
-brings-stop None mid part room old now new keeps same comes = tt
-brings-stop (Some k) None part room old now new keeps same comes = absurd same
-brings-stop (Some k) (Some m) part room old now new keeps same comes = λ shows. absurd (comes (shows_after k m part now same (keeps shows)))
-
--- If bytes come, the window shows them.
-pub keeps-more : (first mid : Option Content) (part : Part) (room : ℕ) (old now new : List ℕ) → WhereTold (KeepsShown part old now) first → Told Unchanged first mid
-    → WhereTold (Comes part room now new (Ok true)) mid → WhereTold (KeepsShown part old new) first
-keeps-more None mid part room old now new keeps same comes = tt
-keeps-more (Some k) None part room old now new keeps same comes = absurd same
-keeps-more (Some k) (Some m) part room old now new keeps same comes = λ shows. shows_before k m part new same (comes (shows_after k m part now same (keeps shows))).0
-
--- At first the window shows what it showed.
-pub keeps-first : (content : Option Content) (part : Part) (old : List ℕ) → WhereTold (KeepsShown part old old) content
-keeps-first None part old = tt
-keeps-first (Some k) part old = λ shows. shows
+use Rattle.epoch_file.proofs.Showing.{shows-more}
 
 -- The bytes that a read puts into a window.
 pub comes-some : (content : Option Content) (part : Part) (offset n : ℕ) (before after old chunk new : List ℕ) → WhereTold (HasRead part.file offset n before after) content → chunk ≡ take n after

@@ -22,7 +22,7 @@ use Rattle.root_change.proofs.Pushes.{whole_with_bytes, whole_with_range}
 use Rattle.epoch_file.specs.declared.entry.Seen.{Seen}
 use Rattle.epoch_file.specs.declared.planning.NewCommit.{NewCommit}
 use Rattle.epoch_file.specs.Entries.{EpochEntry, bytes_after, commit_after, epoch_of, last_of}
-use Rattle.epoch_file.specs.Planning.{Checks, CommitsAnew, CopiesEntry, Finishes, HasNext, IsAnew, IsFinished, IsMoved, IsPlanOf, IsPlanned, KeepsNext, LeavesNext, Planned, file_of, seen_after, texts_in}
+use Rattle.epoch_file.specs.Planning.{Checks, CommitsAnew, CopiesEntry, Finishes, HasNext, IsAnew, IsMoved, IsPlanOf, IsPlanned, KeepsNext, LeavesNext, Planned, file_of, seen_after, texts_in}
 use Rattle.epoch_file.specs.Walking.{blob_front, seen_at}
 use Rattle.epoch_file.proofs.Chains.{epoch-push, last-push}
 use Rattle.epoch_file.proofs.Sizes.{head_first, head_of, length-blob, length-head, length-tree}
@@ -184,13 +184,6 @@ refused_now (Damaged at) old new seen k commits = λ es kept e planned next is.
     let text = text_range (texts_in k old.file) next.rest es e next.is in
     gives.1 (ap (λ (l : List ℕ). length l) text) (ap blob_id_of text)
 
--- An entry that is left out after another one.
-pub leaves_more : (old new : Planned) (seen : Seen) (plan : Plan) → old.changed ≡ Some plan → new ≡ old → LeavesNext old seen new
-leaves_more old new seen plan some same = λ texts es kept e planned next is.
-    let anew = anew_of texts es kept old plan some planned in
-    let whole : IsPlanned texts (es ++ e ∷ []) kept old = record { plan = subst (IsPlanOf texts (es ++ e ∷ []) kept old.end_) (sym some) anew; parent = planned.parent } in
-    subst (IsPlanned texts (es ++ e ∷ []) kept) (sym same) whole
-
 -- The plan at the first entry that is left out.
 abbrev pub first_plan : FileName → ℕ → Plan
 first_plan file at = with_range (no_plan Epoch file.number Anew) file 0 at
@@ -233,21 +226,6 @@ none_kept : (kept : List EpochEntry) → last_of None kept ≡ None → kept ≡
 none_kept [] is = refl
 none_kept (e ∷ es) is = absurd (last_some (commit_after None e) es is)
 
-some_kept : (kept : List EpochEntry) (last : Id20) → Some last ≡ last_of None kept → epoch_of kept ≡ file_of kept
-some_kept [] last is = absurd (cc)
-some_kept (e ∷ es) last is = refl
-
--- The plan after the last entry.
-finished_of : (texts : Texts) (es kept : List EpochEntry) (end_ : ℕ) (changed : Option Plan) (last : Id20) → Some last ≡ last_of None kept → IsPlanOf texts es kept end_ changed → IsFinished texts es kept changed
-finished_of texts es kept end_ None last is plan = plan
-finished_of texts es kept end_ (Some p) last is plan = (plan.target, plan.whole, plan.written ∙ some_kept kept last is)
-
-pub finishes_some : (old : Planned) (last : Id20) → old.parent ≡ Some last → Finishes old old.changed
-finishes_some old last some = λ texts es kept planned. finished_of texts es kept old.end_ old.changed last (sym some ∙ planned.parent) planned.plan
-
-pub finishes_all : (old : Planned) → old.changed ≡ None → Finishes old None
-finishes_all old none = λ texts es kept planned. same_kept texts es kept old none planned
-
 pub finishes_none : (old : Planned) → old.parent ≡ None → Finishes old (Some (no_plan Epoch old.file.number Anew))
 finishes_none old none = λ texts es kept planned. (refl, (λ i s wrong. absurd (none_there i s wrong)), ap file_of (sym (none_kept kept (sym planned.parent ∙ none))))
 
@@ -268,11 +246,6 @@ keep_copied old new plan made_plan seen made commit k some commits copies new_is
 pub keep_refused : (refusal : WalkRefusal) (old new : Planned) (seen : Seen) (k : Option Content) → WhereTold (CommitsAnew old.file seen old.parent (Err refusal)) k → WhereTold (KeepsNext old seen new (Err refusal)) k
 keep_refused refusal old new seen k commits =
     where_then (CommitsAnew old.file seen old.parent (Err refusal)) (KeepsNext old seen new (Err refusal)) k (λ c told. refused_now refusal old new seen c told) commits
-
--- Want of memory says no more.
-pub keep_none : (old new : Planned) (seen : Seen) (k : Option Content) → WhereTold (KeepsNext old seen new (Err NoMemory)) k
-keep_none old new seen None = tt
-keep_none old new seen (Some c) = λ es kept e planned next is. tt
 
 -- The text of an entry that is there is read whole.
 read_text : (file : FileName) (at size n : ℕ) (before after text : List ℕ) (k : Content) → HasRead file at n before after k → length before ≡ size → file_range k file at size ≡ text → length text ≡ size → (n ≡ size) × (after ≡ text)

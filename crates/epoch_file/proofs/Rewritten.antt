@@ -18,7 +18,7 @@ use Rattle.root_change.proofs.Plans.{written_long, written_with_range}
 use Rattle.root_change.proofs.Pushes.{plan_put, sources_there, whole_with_range}
 use Rattle.epoch_file.specs.declared.entry.Seen.{Seen}
 use Rattle.epoch_file.specs.Entries.{EpochEntry, IsEpochEntry, AreEpochEntries, bytes_after, chain, commit_after, epoch_of, last_of}
-use Rattle.epoch_file.specs.Planning.{Finishes, HasNext, IsPlanned, KeepsNext, LeavesNext, Planned, PlansFile, PlansWhole, Rewrites, TakesNext, file_of, is_among, kept_from, kept_with, seen_after, texts_in}
+use Rattle.epoch_file.specs.Planning.{Finishes, HasNext, IsPlanned, KeepsNext, LeavesNext, Planned, PlansFile, PlansWhole, Rewrites, TakesNext, file_of, is_among, kept_from, staying_with, seen_after, texts_in}
 use Rattle.epoch_file.specs.Walking.{IsEpoch, Walks, seen_at, seen_from}
 use Rattle.epoch_file.proofs.Chains.{length-seen}
 use Rattle.epoch_file.proofs.Planned.{none_there}
@@ -47,28 +47,28 @@ seen_index offset parent (e ∷ es) (suc i) s d below =
     seen_index (offset + size) next es i s d (omega (arith, below)) ∙ ap (λ (n : ℕ). seen_at n (last_of next (take i es)) (get_or es i d)) at
 
 -- One entry more stays, or is left out.
-kept_choice : (a b : Bool) (x e : EpochEntry) (k : List EpochEntry) → (if a then kept_with b k e else x ∷ kept_with b k e) ≡ kept_with b (if a then k else x ∷ k) e
+kept_choice : (a b : Bool) (x e : EpochEntry) (k : List EpochEntry) → (if a then staying_with b k e else x ∷ staying_with b k e) ≡ staying_with b (if a then k else x ∷ k) e
 kept_choice true b x e k = refl
 kept_choice false true x e k = refl
 kept_choice false false x e k = refl
 
-kept_more : (gone : List ℕ) (n : ℕ) (xs : List EpochEntry) (e : EpochEntry) → kept_from gone n (xs ++ e ∷ []) ≡ kept_with (is_among gone (n + length xs)) (kept_from gone n xs) e
+kept_more : (gone : List ℕ) (n : ℕ) (xs : List EpochEntry) (e : EpochEntry) → kept_from gone n (xs ++ e ∷ []) ≡ staying_with (is_among gone (n + length xs)) (kept_from gone n xs) e
 kept_more gone n [] e = ap (λ (m : ℕ). if is_among gone m then [] else e ∷ []) (omega arith)
 kept_more gone n (x ∷ xs) e =
     let at : n + 1 + length xs ≡ n + length (x ∷ xs) = omega arith in
-    let rest = kept_more gone (n + 1) xs e ∙ ap (λ (m : ℕ). kept_with (is_among gone m) (kept_from gone (n + 1) xs) e) at in
+    let rest = kept_more gone (n + 1) xs e ∙ ap (λ (m : ℕ). staying_with (is_among gone m) (kept_from gone (n + 1) xs) e) at in
     ap (λ (l : List EpochEntry). if is_among gone n then l else x ∷ l) rest ∙ kept_choice (is_among gone n) (is_among gone (n + length (x ∷ xs))) x e (kept_from gone (n + 1) xs)
 
 -- An entry that is left out, or stays, is taken.
 pub taken_left : (old new : Planned) (seen : Seen) (leaves : Bool) (k : Option Content) → leaves ≡ true → LeavesNext old seen new → WhereTold (TakesNext old seen leaves new (Ok tt)) k
 taken_left old new seen leaves None is left = tt
 taken_left old new seen leaves (Some c) is left = λ es kept e planned next seen_is.
-    subst (λ (b : Bool). IsPlanned (texts_in c) (es ++ e ∷ []) (kept_with b kept e) new) (sym is) (left (texts_in c) es kept e planned next seen_is)
+    subst (λ (b : Bool). IsPlanned (texts_in c) (es ++ e ∷ []) (staying_with b kept e) new) (sym is) (left (texts_in c) es kept e planned next seen_is)
 
 pub taken_kept : (old new : Planned) (seen made : Seen) (leaves : Bool) (k : Option Content) → leaves ≡ false → WhereTold (KeepsNext old seen new (Ok made)) k → WhereTold (TakesNext old seen leaves new (Ok tt)) k
 taken_kept old new seen made leaves None is keeps = tt
 taken_kept old new seen made leaves (Some c) is keeps = λ es kept e planned next seen_is.
-    subst (λ (b : Bool). IsPlanned (texts_in c) (es ++ e ∷ []) (kept_with b kept e) new) (sym is) (keeps es kept e planned next seen_is).1
+    subst (λ (b : Bool). IsPlanned (texts_in c) (es ++ e ∷ []) (staying_with b kept e) new) (sym is) (keeps es kept e planned next seen_is).1
 
 pub taken_refused : (old new : Planned) (seen : Seen) (leaves : Bool) (refusal : WalkRefusal) (k : Option Content) → WhereTold (KeepsNext old seen new (Err refusal)) k → WhereTold (TakesNext old seen leaves new (Err refusal)) k
 taken_refused old new seen leaves refusal None keeps = tt
@@ -80,10 +80,6 @@ taken_refused old new seen leaves (Damaged at) (Some c) keeps = keeps
 abbrev pub PlannedTo : FileName → List Seen → List ℕ → ℕ → Planned → Content → Type 0
 PlannedTo file seen gone i plan k = (n : ℕ) (is : IsEpoch n (bytes_of (k file).seen) seen)
     → IsPlanned (texts_in k) (take i is.entries) (kept_from gone 0 (take i is.entries)) plan
-
-pub planned_first : (file : FileName) (seen : List Seen) (gone : List ℕ) (plan : Planned) (k : Option Content) → plan ≡ record { file = file; changed = None; end_ = 8; parent = None } → WhereTold (PlannedTo file seen gone 0 plan) k
-planned_first file seen gone plan None is = tt
-planned_first file seen gone plan (Some k) is = λ n epoch. subst (IsPlanned (texts_in k) [] []) (sym is) (record { plan = refl; parent = refl })
 
 -- The next entry of a file.
 record IsNext (file : FileName) (seen : Seen) (i : ℕ) (es : List EpochEntry) (k : Content) : Type 0 where
@@ -130,10 +126,10 @@ planned_now file seen gone i s old new k below file_is takes planned = λ n epoc
     let taken = takes (take i es) (kept_from gone 0 (take i es)) next.entry (planned n epoch) there next.is in
     let within : i < length es = omega (arith, below, ap (λ (l : List Seen). length l) epoch.is, length-seen 8 None es) in
     let size : 0 + length (take i es) ≡ i = omega (arith, within, length-take i es) in
-    let kept : kept_with (is_among gone i) (kept_from gone 0 (take i es)) next.entry ≡ kept_from gone 0 (take (i + 1) es) =
-    ap (λ (m : ℕ). kept_with (is_among gone m) (kept_from gone 0 (take i es)) next.entry) (sym size) ∙ (sym (kept_more gone 0 (take i es) next.entry) ∙ ap (kept_from gone 0) (sym next.more)) in
+    let kept : staying_with (is_among gone i) (kept_from gone 0 (take i es)) next.entry ≡ kept_from gone 0 (take (i + 1) es) =
+    ap (λ (m : ℕ). staying_with (is_among gone m) (kept_from gone 0 (take i es)) next.entry) (sym size) ∙ (sym (kept_more gone 0 (take i es) next.entry) ∙ ap (kept_from gone 0) (sym next.more)) in
     subst (λ (l : List EpochEntry). IsPlanned (texts_in k) (take (i + 1) es) l new) kept
-    (subst (λ (l : List EpochEntry). IsPlanned (texts_in k) l (kept_with (is_among gone i) (kept_from gone 0 (take i es)) next.entry) new) (sym next.more) taken)
+    (subst (λ (l : List EpochEntry). IsPlanned (texts_in k) l (staying_with (is_among gone i) (kept_from gone 0 (take i es)) next.entry) new) (sym next.more) taken)
 
 -- A disk that tells the same content.
 content_same : (k m : Content) → Unchanged k m → m ≡ k

@@ -11,15 +11,13 @@ use Rattle.epoch_file.specs.declared.window.Part.{Part}
 use Rattle.epoch_file.specs.declared.state.State.{State}
 use Rattle.epoch_file.specs.Entries.{EpochEntry, IsEpochEntry, bytes_after, commit_after, chain, last_of, epoch_of}
 use Rattle.epoch_file.specs.Reading.{IsRead}
-use Rattle.epoch_file.specs.Walking.{seen_at, seen_from, LacksEntry, EndsEarly, IsEpoch, Walks}
+use Rattle.epoch_file.specs.Walking.{seen_at, seen_from, LacksEntry, EndsEarly, IsEpoch}
 use Rattle.epoch_file.specs.Windows.{Shows, IsInside}
 use Rattle.epoch_file.specs.Steps.{left_of, Walked, next_state, Brings, Takes, Turns, Moves, KeepsWalked, SamePart, IsWanted, GoesOn}
 use Rattle.disk_model.specs.declared.name.FileName.{FileName}
-use Rattle.disk_model.specs.declared.refusal.WalkRefusal.{WalkRefusal}
-use Rattle.disk_model.specs.declared.refusal.WalkRefusal.TheVariants.{DiskFault, NoMemory, Damaged}
+use Rattle.disk_model.specs.declared.refusal.WalkRefusal.TheVariants.{Damaged}
 use Rattle.disk_model.specs.Disk.{Kept, Content, WhereTold, Told, Unchanged, bytes_of}
 use Rattle.git_objects.specs.Commits.{IsParent}
-use Rattle.epoch_file.specs.Runs.{StopRose}
 use Rattle.epoch_file.proofs.Fronts.{within}
 use Rattle.epoch_file.proofs.Chains.{chain-push, last-push, valid-push, seen-push, epoch-push, length-seen}
 use Rattle.epoch_file.proofs.Showing.{part_after, left-after, shows-skip}
@@ -176,32 +174,7 @@ pub goes-whole : (first : Option Content) (n : ℕ) (start cur : State) → Wher
 goes-whole None n start cur keeps part done = tt
 goes-whole (Some k) n start cur keeps part done = λ walked end. whole-epoch (bytes_of (k start.part.file).seen) n cur (keeps walked) (part.end ∙ end) done.0 done.1
 
--- A walk that stops for another cause says nothing of the file.
-pub goes-stopped : (first : Option Content) (n before now : ℕ) (start : State) (refusal : WalkRefusal) → StopRose {T = Bool} before now (Err refusal)
-    → WhereTold (λ k. GoesOn n (bytes_of (k start.part.file).seen) start (Err refusal)) first
-goes-stopped None n before now start refusal stop = tt
-goes-stopped (Some k) n before now start DiskFault stop = λ walked end. tt
-goes-stopped (Some k) n before now start NoMemory stop = λ walked end. tt
-goes-stopped (Some k) n before now start (Damaged offset) stop = absurd stop
-
--- One more entry.
-pub keeps-turn : (first mid : Option Content) (start cur new : State) → WhereTold (KeepsWalked start cur) first → SamePart start.part cur.part → Told Unchanged first mid
-    → WhereTold (Turns cur new (Ok true)) mid → WhereTold (KeepsWalked start new) first
-keeps-turn None mid start cur new keeps part same turns = tt
-keeps-turn (Some k) None start cur new keeps part same turns = absurd same
-keeps-turn (Some k) (Some m) start cur new keeps part same turns = λ walked.
-    let e = same_bytes k m start.part cur.part same part in
-    subst (λ (b : List ℕ). Walked b new) e (turns (subst (λ (b : List ℕ). Walked b cur) (sym e) (keeps walked)))
-
--- A walk that doesn't start for another cause says nothing of the file.
-pub walks-stopped : (content : Option Content) (n before now : ℕ) (file : FileName) (refusal : WalkRefusal) → StopRose {T = Option State} before now (Err refusal)
-    → WhereTold (λ k. Walks n (bytes_of (k file).seen) (Err refusal)) content
-walks-stopped None n before now file refusal stop = tt
-walks-stopped (Some k) n before now file DiskFault stop = tt
-walks-stopped (Some k) n before now file NoMemory stop = tt
-walks-stopped (Some k) n before now file (Damaged offset) stop = absurd stop
-
--- The same by the result of a turn.
+-- So says a turn that finds no entry where one is wanted.
 pub goes-unfound : (first mid : Option Content) (n : ℕ) (start cur new : State) (found : Bool) → found ≡ false → WhereTold (KeepsWalked start cur) first → SamePart start.part cur.part → Told Unchanged first mid
     → WhereTold (Turns cur new (Ok found)) mid → Moves cur new (Ok found) → IsWanted cur n true → WhereTold (λ k. GoesOn n (bytes_of (k start.part.file).seen) start (Err (Damaged new.part.offset))) first
 goes-unfound first mid n start cur new true is keeps part same turns moves wanted = let wrong : true ≡ false = is in absurd cc

@@ -16,6 +16,7 @@ use Rattle.mail_commits.specs.Entries.{commit_id, commit_text}
 use Rattle.epoch_file.specs.declared.planning.NewCommit.{NewCommit}
 use Rattle.epoch_file.specs.declared.entry.Seen.{Seen}
 use Rattle.epoch_file.specs.Entries.{EpochEntry, IsEpochEntry, epoch_of, last_of}
+use Rattle.epoch_file.specs.Sights.{tree_size}
 use Rattle.epoch_file.specs.Walking.{IsDamagedAt, IsEpoch, seen_at}
 
 -- What is planned of an epoch's file so far: the plan of the new file if an entry was left out, the
@@ -42,8 +43,8 @@ abbrev pub IsPlanOf : Texts → List EpochEntry → List EpochEntry → ℕ → 
 IsPlanOf texts es kept end_ None = kept ≡ es
 IsPlanOf texts es kept end_ (Some plan) = IsAnew texts kept end_ plan
 
--- Of the entries of an epoch's file so far these stay, and so it is planned. The plan is one of the
--- file's epoch, and the last commit is that of the entries that stay.
+-- Of the entries of an epoch's file so far these stay, and so it is planned. The last commit is that of
+-- the entries that stay.
 pub record IsPlanned (texts : Texts) (es kept : List EpochEntry) (p : Planned) : Type 0 where
   pub plan : IsPlanOf texts es kept p.end_ p.changed
   pub parent : p.parent ≡ last_of None kept
@@ -91,6 +92,7 @@ IsFinished texts es kept None = kept ≡ es
 IsFinished texts es kept (Some plan) = (plan.target ≡ Anew) × IsPlanWhole texts plan
     × (written_by texts plan ≡ file_of kept)
 
+-- The result is such a plan, whichever entries a file has and which of them stay, if they are planned so.
 abbrev pub Finishes : Planned → Option Plan → Type 0
 Finishes old result = (texts : Texts) (es kept : List EpochEntry) → IsPlanned texts es kept old
     → IsFinished texts es kept result
@@ -118,24 +120,25 @@ kept_from gone n [] = []
 kept_from gone n (e ∷ es) = if is_among gone n then kept_from gone (n + 1) es
     else e ∷ kept_from gone (n + 1) es
 
--- The plan of an epoch's file without the entries that have these indexes, where its records are those
--- of entries. Nothing is damaged.
+-- The plan of a file of these entries without those that have these indexes, or none. Nothing is
+-- damaged.
 abbrev pub GivesPlan : Texts → List EpochEntry → List ℕ → Result (Option Plan) WalkRefusal → Type 0
 GivesPlan texts es gone (Ok plan) = IsFinished texts es (kept_from gone 0 es) plan
 GivesPlan texts es gone (Err DiskFault) = Unit {0}
 GivesPlan texts es gone (Err NoMemory) = Unit {0}
 GivesPlan texts es gone (Err (Damaged at)) = ⊥
 
+-- The same for a file that is an epoch with these records, whatever its entries are.
 abbrev pub PlansWhole : FileName → List Seen → List ℕ → Result (Option Plan) WalkRefusal → Content
     → Type 0
 PlansWhole file seen gone result k = (n : ℕ) (is : IsEpoch n (bytes_of (k file).seen) seen)
     → GivesPlan (texts_in k) is.entries gone result
 
 -- The entries that stay after one more, which is left out or not.
-abbrev pub kept_with : Bool → List EpochEntry → EpochEntry → List EpochEntry
-kept_with leaves kept e = if leaves then kept else kept ++ e ∷ []
+abbrev pub staying_with : Bool → List EpochEntry → EpochEntry → List EpochEntry
+staying_with leaves kept e = if leaves then kept else kept ++ e ∷ []
 
--- The next entry of a file is planned. Nothing is damaged.
+-- Of these entries those stay, and so they are planned after a call. Nothing is damaged.
 abbrev pub IsTaken : Texts → List EpochEntry → List EpochEntry → Planned → Result Unit WalkRefusal
     → Type 0
 IsTaken texts es kept new (Ok _) = IsPlanned texts es kept new
@@ -143,11 +146,12 @@ IsTaken texts es kept new (Err DiskFault) = Unit {0}
 IsTaken texts es kept new (Err NoMemory) = Unit {0}
 IsTaken texts es kept new (Err (Damaged at)) = ⊥
 
+-- Where the entries of a file are planned so, and it has another one, that is left out or stays.
 abbrev pub TakesNext : Planned → Seen → Bool → Planned → Result Unit WalkRefusal → Content → Type 0
 TakesNext old seen leaves new result k = (es kept : List EpochEntry) (e : EpochEntry)
     → IsPlanned (texts_in k) es kept old → HasNext (texts_in k) old.file es e
     → seen ≡ seen_after es e
-    → IsTaken (texts_in k) (es ++ e ∷ []) (kept_with leaves kept e) new result
+    → IsTaken (texts_in k) (es ++ e ∷ []) (staying_with leaves kept e) new result
 
 -- The plan of the whole new file, where the records are those of an epoch. Nothing is damaged.
 abbrev pub PlansFile : FileName → ℕ → List Seen → List ℕ → Result Plan WalkRefusal → Content → Type 0
@@ -187,7 +191,7 @@ pub record IsMoved (seen : Seen) (at : ℕ) (commit : Id20) (made : Seen) : Type
 
 -- The blob and the tree of an entry were added to a plan, and then these bytes.
 abbrev pub CopiesEntry : FileName → Seen → List ℕ → Plan → Plan → Type 0
-CopiesEntry file seen bytes old new = (n : ℕ) × (seen.at + n ≡ seen.text_at + seen.size + 37)
+CopiesEntry file seen bytes old new = (n : ℕ) × (seen.at + n ≡ seen.text_at + seen.size + tree_size)
     × IsPlan (with_range old file seen.at n)
     × (new ≡ with_bytes (with_range old file seen.at n) bytes)
 
@@ -202,6 +206,7 @@ GivesCommit seen parent text (Err NoMemory) = Unit {0}
 GivesCommit seen parent text (Err (Damaged at)) =
     (at ≡ seen.at) × (length text ≡ seen.size → blob_id_of text ≡ seen.blob → ⊥)
 
+-- The same, where the file has the text that its record names.
 abbrev pub CommitsAnew : FileName → Seen → Option Id20 → Result NewCommit WalkRefusal → Content
     → Type 0
 CommitsAnew file seen parent result k =

@@ -27,9 +27,13 @@ SeesWhere P held left Whole =
 abbrev pub Sees : List ℕ → ℕ → Sight → Type 0
 Sees = SeesWhere (λ parent e. Unit {0})
 
--- The offset of the commit in an entry of a text: after the blob and a tree of 37 bytes.
+-- The length of the tree of an entry.
+abbrev pub tree_size : ℕ
+tree_size = 37
+
+-- The offset of the commit in an entry of a text: after the blob and the tree.
 abbrev pub commit_offset : List ℕ → ℕ
-commit_offset text = blob_front text + length text + 37
+commit_offset text = blob_front text + length text + tree_size
 
 -- What a result says of an entry whose commit has this offset.
 abbrev pub SeesCommit : ℕ → List ℕ → ℕ → Sight → Type 0

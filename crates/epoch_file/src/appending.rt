@@ -4,6 +4,7 @@ ghost use Rattle.arch_base.specs.Counts.{RoseIf};
 ghost use Rattle.disk_model.specs.Beside.{Bounds, Respects, RunsBeside};
 ghost use Rattle.disk_model.specs.Disk.{WhereTold, IsAtMostLength, Elapses};
 ghost use Rattle.git_objects.specs.Objects.{blob_id_of};
+ghost use Rattle.mail_commits.specs.Ids.{text_ids_of};
 ghost use Rattle.epoch_file.specs.Entries.{commit_after};
 ghost use Rattle.arch_base.specs.Moments.{last_moment};
 ghost use Rattle.epoch_file.specs.Appending.{appended, entry_of, front_at, written_of, AppendLeaves};
@@ -32,6 +33,7 @@ pub fn append_entry<D: Disk>(
     at: u64,
     entry: &NewEntry<'_>,
 ) -> Result<Written, StoreRefusal>
+    requires ids { entry.now.ids ≡ text_ids_of entry.now.text.now }
     requires moment { entry.now.moment ≤ last_moment }
     requires inside { WhereTold (IsAtMostLength file at) (D.content disk.old) }
     requires offset { at < 2 ^ 62 }
@@ -66,6 +68,7 @@ pub fn entry_piece(
     at: u64,
     entry: &NewEntry<'_>,
 ) -> Result<(Bytes, EntryIds), NoMemory>
+    requires ids { entry.now.ids ≡ text_ids_of entry.now.text.now }
     ensures piece { IfOk result (λ made. made.0 ≡ appended at entry.now) }
     ensures blob { IfOk result (λ made. made.1.blob ≡ blob_id_of entry.now.text.now) }
     ensures commit { IfOk result (λ made.
@@ -76,6 +79,7 @@ pub fn entry_piece(
         alloc,
         entry.kind,
         entry.text,
+        &entry.ids.blob,
         entry.moment,
         entry.parent,
         &mut piece,

@@ -1,6 +1,7 @@
 //! The entries of an epoch's file, as they are written and as they are read.
 use arch_base::{Bytes, ObjectId, Sequence};
 use git_objects::EntryKind;
+use mail_commits::TextIds;
 
 /// An entry that is to be appended to an epoch's file.
 #[derive(Debug, Clone, Copy, Drop)]
@@ -9,6 +10,8 @@ pub struct NewEntry<'a> {
     pub kind: EntryKind,
     /// The text of that file.
     pub text: &'a [u8],
+    /// The ids of the text.
+    pub ids: TextIds,
     /// The time of its commit, in seconds since 1970.
     pub moment: u64,
     /// The epoch's commit before it, none for the first.

@@ -4,8 +4,10 @@ ghost use Rattle.arch_base.specs.declared.ids.Id20.{Id20};
 ghost use Rattle.arch_base.specs.Counts.{RoseIf};
 ghost use Rattle.disk_model.specs.Disk.{Image, Told, WhereTold, Unchanged, LeavesOnly};
 ghost use Rattle.epoch_file.specs.Planning.{Checks, CommitsAnew, CopiesEntry, Finishes, IsAnewOf, IsMoved, IsOfEpoch, KeepsNext, LeavesNext};
+ghost use Rattle.epoch_file.specs.Sights.{tree_size};
 
 use crate::entry::Seen;
+use crate::sight::TREE_LEN;
 use arch_base::{Bytes, NoMemory, ObjectId};
 use disk_model::{Disk, FileKind, FileName, WalkRefusal};
 use git_objects::blob_id;
@@ -13,9 +15,6 @@ use mail_commits::entry_objects;
 use root_change::{PartPlan, Target};
 use std::alloc::Global;
 use std::marker::Model;
-
-/// The number of bytes of a tree.
-const TREE_SIZE: u64 = 37;
 
 /// How an epoch's file is written anew: what is planned of its entries so far.
 ///
@@ -219,7 +218,7 @@ fn commit_read<D: Disk>(
     if count < room.len() || blob_id(room) != seen.blob {
         return Err(WalkRefusal::Damaged { at: seen.at });
     }
-    let objects = entry_objects(alloc, seen.kind, room, seen.moment, parent)?;
+    let objects = entry_objects(alloc, seen.kind, room, &seen.blob, seen.moment, parent)?;
     Ok(NewCommit {
         bytes: objects.commit,
         id: objects.ids.commit,
@@ -238,7 +237,7 @@ fn room_for(alloc: Global, size: u64) -> Result<Vec<u8>, NoMemory>
 /// `NoMemory` if that is no number of 64 bits, which no entry has.
 fn copied_size(seen: &Seen) -> Result<u64, NoMemory>
     ensures { IfOk result (λ count.
-        seen.now.at + count ≡ seen.now.text_at + seen.now.size + 37) }
+        seen.now.at + count ≡ seen.now.text_at + seen.now.size + tree_size) }
 {
     let Some(front) = seen.text_at.checked_sub(seen.at) else {
         return Err(NoMemory);
@@ -246,7 +245,7 @@ fn copied_size(seen: &Seen) -> Result<u64, NoMemory>
     let Some(blob) = front.checked_add(seen.size) else {
         return Err(NoMemory);
     };
-    match blob.checked_add(TREE_SIZE) {
+    match blob.checked_add(TREE_LEN as u64) {
         Some(count) => Ok(count),
         None => Err(NoMemory),
     }

@@ -14,7 +14,7 @@ ghost use Rattle.epoch_file.specs.Reading.{IsParted, HasParts, PartsAgain, Respe
 use crate::entry::Seen;
 use crate::sight::after;
 use arch_base::{Bytes, LAST_MOMENT, NoMemory, ObjectId};
-use git_objects::{EntryKind, Object, committed_at, read_object};
+use git_objects::{EntryKind, Object, blob_id, committed_at, read_object};
 use mail_commits::{EntryIds, entry_objects};
 use mail_reader::{content_id, stored_id};
 use std::alloc::Global;
@@ -126,7 +126,7 @@ fn respell(
 ) -> Result<Option<EntryIds>, NoMemory>
     ensures { Respells bytes.now kind text.now moment parent result }
 {
-    let objects = entry_objects(alloc, kind, text, moment, parent)?;
+    let objects = entry_objects(alloc, kind, text, &blob_id(text), moment, parent)?;
     if !is_joined(bytes, &objects.tree, objects.commit.as_slice()) {
         return Ok(None);
     }

@@ -11,7 +11,7 @@ use memchr::memchr;
 const MAX_TEXT_LEN: u64 = 8_388_800;
 
 /// The length of a tree of one file, in bytes.
-const TREE_LEN: usize = 37;
+pub(crate) const TREE_LEN: usize = 37;
 
 /// The most bytes that an object's type, its size and the byte after them take.
 const HEAD_LEN: usize = 28;

@@ -37,12 +37,22 @@ fn a_mail_has_the_commit_of_git(rt: HostRuntime) {
 fn two_entries(alloc: Global) -> Result<(ObjectId, usize, ObjectId, usize), NoMemory> {
     let mut epoch = Bytes::new(alloc);
     epoch.push_slice(b"PIV2EP1\n")?;
-    let first = push_entry(alloc, EntryKind::Message, FIRST, MOMENT, None, &mut epoch)?.commit;
+    let first = push_entry(
+        alloc,
+        EntryKind::Message,
+        FIRST,
+        &blob_id(FIRST),
+        MOMENT,
+        None,
+        &mut epoch,
+    )?
+    .commit;
     let one = epoch.as_slice().len();
     let second = push_entry(
         alloc,
         EntryKind::Message,
         SECOND,
+        &blob_id(SECOND),
         MOMENT,
         Some(first),
         &mut epoch,
@@ -66,11 +76,20 @@ fn an_epoch_has_the_objects_of_git(rt: HostRuntime) {
 /// Returns the ids of a deletion's entry after a message's, and the length of both entries.
 fn deletion(alloc: Global) -> Result<(EntryIds, usize), NoMemory> {
     let mut epoch = Bytes::new(alloc);
-    let message = push_entry(alloc, EntryKind::Message, FIRST, MOMENT, None, &mut epoch)?;
+    let message = push_entry(
+        alloc,
+        EntryKind::Message,
+        FIRST,
+        &blob_id(FIRST),
+        MOMENT,
+        None,
+        &mut epoch,
+    )?;
     let ids = push_entry(
         alloc,
         EntryKind::Deletion,
         FIRST,
+        &blob_id(FIRST),
         MOMENT,
         Some(message.commit),
         &mut epoch,

@@ -1,4 +1,7 @@
 //! Disks in memory, and calls on any disk that refuse what a call of the disk asks for.
+ghost use Rattle.std.specs.Prelude.{◌≡◌};
+ghost use Rattle.mail_commits.specs.Ids.{text_ids_of};
+
 use arch_base::{LAST_MOMENT, NoMemory, Numbers};
 use disk_model::{Disk, DiskFault, FileName, MemDisk};
 use epoch_file::{NewEntry, StoreRefusal, Written, append_entry};
@@ -46,7 +49,9 @@ pub fn add_entry<D: Disk>(
     file: FileName,
     at: u64,
     entry: &NewEntry<'_>,
-) -> Result<Written, StoreRefusal> {
+) -> Result<Written, StoreRefusal>
+    requires { entry.now.ids ≡ text_ids_of entry.now.text.now }
+{
     if entry.moment > LAST_MOMENT || at > 1 << 40 || at > disk.length(file)? {
         return Err(StoreRefusal::Damaged { file, at });
     }

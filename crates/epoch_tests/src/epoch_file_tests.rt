@@ -1,12 +1,15 @@
 //! Epochs of three entries whose bytes were made by another program: what is written, what is seen
 //! of them, and where they are damaged.
+ghost use Rattle.std.specs.Prelude.{◌≡◌};
+ghost use Rattle.mail_commits.specs.Ids.{text_ids_of};
+
 use crate::disks::{add_entry, cut, empty_disk, write};
 use crate::mails::{FIRST, FIRST_COMMIT, FIRST_ID, MOMENT, SECOND, SECOND_COMMIT, SECOND_ID};
 use arch_base::{Bytes, NoMemory, ObjectId, id_of_hex};
 use disk_model::{Disk, DiskFault, FileKind, FileName, FuseDisk, WalkRefusal};
 use epoch_file::{NewEntry, Seen, StoreRefusal, Written, law_of_epochs, walk};
-use git_objects::{EntryKind, object_id};
-use mail_commits::push_entry;
+use git_objects::{EntryKind, blob_id, object_id};
+use mail_commits::{push_entry, text_ids};
 use std::alloc::Global;
 use std::process::Abort;
 use std::test::Fail;
@@ -25,10 +28,13 @@ const FILE: FileName = FileName {
 const LENGTH: u64 = 1028;
 
 /// Returns an entry.
-fn entry(kind: EntryKind, text: &[u8], moment: u64, parent: Option<ObjectId>) -> NewEntry<'_> {
+fn entry(kind: EntryKind, text: &[u8], moment: u64, parent: Option<ObjectId>) -> NewEntry<'_>
+    ensures { result.ids ≡ text_ids_of result.text.now }
+{
     NewEntry {
         kind,
         text,
+        ids: text_ids(text),
         moment,
         parent,
     }
@@ -314,7 +320,16 @@ fn a_call_that_fails_is_no_answer(rt: HostRuntime) -> Result<(), Fail> {
 fn epoch_of(alloc: Global, text: &[u8], moment: u64) -> Result<Bytes, NoMemory> {
     let mut bytes = Bytes::new(alloc);
     bytes.push_slice(b"PIV2EP1\n")?;
-    push_entry(alloc, EntryKind::Message, text, moment, None, &mut bytes)?;
+    let blob = blob_id(text);
+    push_entry(
+        alloc,
+        EntryKind::Message,
+        text,
+        &blob,
+        moment,
+        None,
+        &mut bytes,
+    )?;
     Ok(bytes)
 }
 

@@ -4,7 +4,7 @@ ghost use Rattle.atom_mbox.specs.Feeds.{HasMoment};
 
 use arch_base::{Bytes, LAST_MOMENT, Name, NoMemory};
 use atom_mbox::{Shown, feed, updated};
-use git_objects::blob_id;
+use mail_commits::text_ids;
 use mail_reader::is_stored;
 use mail_rows::row_of;
 use std::alloc::Global;
@@ -69,7 +69,7 @@ fn shown(alloc: Global, case: &EntryCase) -> Option<Shown>
     if !is_stored(case.text) {
         return None;
     }
-    let row = row_of(alloc, 1, &blob_id(case.text), case.text, case.arrived).ok()?;
+    let row = row_of(alloc, 1, &text_ids(case.text), case.text, case.arrived).ok()?;
     if row.arrived > LAST_MOMENT {
         return None;
     }

@@ -1,7 +1,7 @@
 //! Mailbox files, worked out from the rules.
 use arch_base::{Bytes, NoMemory};
 use atom_mbox::{mbox_len, mbox_piece};
-use git_objects::blob_id;
+use mail_commits::text_ids;
 use mail_forms::Row;
 use mail_reader::is_stored;
 use mail_rows::row_of;
@@ -118,7 +118,7 @@ fn first_row(alloc: Global, number: u32) -> Option<Row> {
     if !is_stored(FIRST) {
         return None;
     }
-    row_of(alloc, number, &blob_id(FIRST), FIRST, 1_706_781_700).ok()
+    row_of(alloc, number, &text_ids(FIRST), FIRST, 1_706_781_700).ok()
 }
 
 #[test]

@@ -1,5 +1,5 @@
 -- Clean texts, and the values of fields.
-use Rattle.std.proofs.Common.{◌≡◌, ◌<◌, ◌-◌, ℕ, true, false, List, [], ◌∷◌, ◌++◌, codes, length, take, drop, Option, Some, None, refl, sym, ap, ◌∙◌, arith, append-nil, append_assoc}
+use Rattle.std.proofs.Common.{◌≡◌, ◌<◌, ◌-◌, ℕ, true, List, [], ◌∷◌, ◌++◌, codes, length, take, drop, Option, Some, None, refl, sym, ap, ◌∙◌, arith, append-nil, append_assoc}
 use Rattle.std.specs.Prelude.{◌≤◌, Result, Ok, Err, IfOk, IfSome, option_map, option_and_then}
 use Rattle.std.specs.List.{prefix_len, suffix_len, flat_map}
 use Rattle.std.specs.Str.{str_eq_ignore_ascii_case}
@@ -18,7 +18,7 @@ use Rattle.mail_date.specs.Reading.{moment_in}
 use Rattle.mail_reader.specs.Fields.{FieldText, fields_of, first_named}
 use Rattle.mail_reader.specs.Values.{flat_of}
 use Rattle.mime_words.specs.Decoding.{decoded}
-use Rattle.mail_commits.specs.Facts.{values_of, after_comma, listed, subject_of, name_or, from_list, first_mailbox_of, first_mailbox, from_of, email_of, from_fact, email_fact, subject_fact, date_fact}
+use Rattle.mail_commits.specs.Facts.{values_of, after_comma, listed, subject_of, from_list, first_mailbox_of, first_mailbox, from_of, email_of, from_fact, email_fact, subject_fact, date_fact}
 
 -- A list of length 0 is empty.
 nil_by : (xs : List ℕ) → length xs ≡ 0 → xs ≡ []
@@ -51,13 +51,6 @@ values-taken name old new all fields later field e t f h =
     let first : values_of name fields ≡ flat_of field.value ∷ values_of name later = ap (values_of name) e ∙ rw t refl in
     rw f (append_assoc old (after_comma (flat_of field.value)) (flat_map after_comma (values_of name later)) ∙ ap (λ values. old ++ flat_map after_comma values) (sym first) ∙ h)
 
--- A field with another name.
-pub values-passed : (name old : List ℕ) (all : List ℕ) (fields later : List FieldText) (field : FieldText) → fields ≡ field ∷ later → str_eq_ignore_ascii_case field.name name ≡ false
-    → old ++ flat_map after_comma (values_of name fields) ≡ all → old ++ flat_map after_comma (values_of name later) ≡ all
-values-passed name old all fields later field e t h =
-    let first : values_of name fields ≡ values_of name later = ap (values_of name) e ∙ rw t refl in
-    ap (λ values. old ++ flat_map after_comma values) (sym first) ∙ h
-
 -- No more field.
 pub values-end : (name old : List ℕ) (all : List ℕ) (fields : List FieldText) → fields ≡ [] → old ++ flat_map after_comma (values_of name fields) ≡ all → old ≡ all
 values-end name old all fields e h = sym (append-nil old) ∙ ap (λ left. old ++ flat_map after_comma (values_of name left)) (sym e) ∙ h
@@ -75,11 +68,6 @@ subject-some (Some f) value e = ap (λ v. decoded (flat_of v)) (sym (same_Some _
 pub subject-none : (field : Option FieldText) → None ≡ option_map (λ (f : FieldText). f.value) field → subject_of field ≡ []
 subject-none None e = refl
 subject-none (Some f) e = absurd (none-some _ e)
-
--- A name that isn't empty is not replaced by the address.
-pub name_or-some : (name address : List ℕ) → 0 < length name → name_or name address ≡ name
-name_or-some [] address h = absurd (omega arith)
-name_or-some (b ∷ bs) address h = refl
 
 -- The author of a text, by its first mailbox.
 pub from_fact-by : (text : List ℕ) (found : List Address) (mailbox : Option Address) → found ≡ addresses_of (from_list text) → mailbox ≡ first_mailbox_of found → from_of mailbox ≡ from_fact text

@@ -2,14 +2,9 @@
 use Rattle.std.specs.Prelude.{ℕ, List, ◌++◌, codes, Option}
 use Rattle.arch_base.specs.declared.ids.Id20.{Id20}
 use Rattle.git_objects.specs.declared.entry_kind.EntryKind.{EntryKind}
-use Rattle.git_objects.specs.declared.entry_kind.EntryKind.TheVariants.{Message}
 use Rattle.git_objects.specs.Objects.{blob_spelling, tree_spelling, blob_id_of, id_of}
 use Rattle.git_objects.specs.Commits.{commit_spelling}
 use Rattle.mail_commits.specs.Commits.{commit_of}
-
--- The kind of each entry of an archive so far: a message.
-abbrev pub message_kind : EntryKind
-message_kind = Message
 
 -- The tree of an entry of this kind, whose one file has the text.
 abbrev pub tree_of : EntryKind → List ℕ → List ℕ

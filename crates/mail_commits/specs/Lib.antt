@@ -1,3 +1,4 @@
 pub mod Facts
 pub mod Commits
 pub mod Entries
+pub mod Ids

@@ -8,7 +8,7 @@ ghost use Rattle.mail_commits.specs.Entries.{commit_text as commit_text_of, comm
 
 use crate::facts::{author, subject, written_at};
 use arch_base::{Bytes, NoMemory, ObjectId};
-use git_objects::{Commit, EntryKind, blob_id, commit_bytes, object_id, tree_bytes};
+use git_objects::{Commit, EntryKind, commit_bytes, object_id, tree_bytes};
 use itoa::Buffer;
 use std::alloc::Global;
 
@@ -63,24 +63,26 @@ pub struct EntryIds {
 /// commit.
 ///
 /// The objects are the blob of the text, its tree, in which the text is the file that `kind` names
-/// (`m` for a message, `d` for a deletion), and the commit that keeps it after `parent`. `moment` is when the
-/// text was taken, in seconds since 1970 UTC.
+/// (`m` for a message, `d` for a deletion), and the commit that keeps it after `parent`. `blob` is
+/// the id of that blob. `moment` is when the text was taken, in seconds since 1970 UTC.
 ///
 /// `NoMemory` if an allocation fails, and the bytes are unchanged.
 pub fn push_entry(
     alloc: Global,
     kind: EntryKind,
     text: &[u8],
+    blob: &ObjectId,
     moment: u64,
     parent: Option<ObjectId>,
     into: &mut Bytes,
 ) -> Result<EntryIds, NoMemory>
+    requires blob { blob.now ≡ blob_id_of text.now }
     ensures blob { IfOk result (λ ids. ids.blob ≡ blob_id_of text.now) }
     ensures commit { IfOk result (λ ids. ids.commit ≡ commit_id kind text.now moment parent) }
     ensures ok { OnOk result (into.new ≡ into.old ++ entry_bytes kind text.now moment parent) }
     ensures err { OnErr result (into.new ≡ into.old) }
 {
-    let objects = entry_objects(alloc, kind, text, moment, parent)?;
+    let objects = entry_objects(alloc, kind, text, blob, moment, parent)?;
     let head = blob_head(alloc, text.len())?;
     push_all(
         into,
@@ -105,24 +107,27 @@ pub struct EntryObjects {
 
 /// Returns the tree and the commit of an entry, and the ids of its blob and its commit.
 ///
-/// They are those that `push_entry` appends after the blob. `NoMemory` if an allocation fails.
+/// They are those that `push_entry` appends after the blob. `blob` is the id of that blob.
+///
+/// `NoMemory` if an allocation fails.
 pub fn entry_objects(
     alloc: Global,
     kind: EntryKind,
     text: &[u8],
+    blob: &ObjectId,
     moment: u64,
     parent: Option<ObjectId>,
 ) -> Result<EntryObjects, NoMemory>
+    requires blob { blob.now ≡ blob_id_of text.now }
     ensures blob { IfOk result (λ made. made.ids.blob ≡ blob_id_of text.now) }
     ensures commit { IfOk result (λ made. made.ids.commit ≡ commit_id kind text.now moment parent) }
     ensures tree { IfOk result (λ made. made.tree ≡ tree_of kind text.now) }
     ensures spelled { IfOk result (λ made. made.commit ≡ commit_text_of kind text.now moment parent) }
 {
-    let blob = blob_id(text);
-    let tree = tree_bytes(kind, &blob);
+    let tree = tree_bytes(kind, blob);
     let commit = commit_text(alloc, kind, text, &tree, parent, moment)?;
     let ids = EntryIds {
-        blob,
+        blob: *blob,
         commit: object_id(commit.as_slice()),
     };
     Ok(EntryObjects { ids, tree, commit })

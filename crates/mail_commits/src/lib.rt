@@ -1,7 +1,9 @@
-//! What a text says of itself, and the commit and the objects that keep it.
+//! What a text says of itself, what it is known by, and the commit and the objects that keep it.
 #![tactic(auto)]
 
 mod commits;
 mod facts;
+mod ids;
 
 pub use commits::{EntryIds, EntryObjects, MAGIC, entry_commit, entry_objects, push_entry};
+pub use ids::{TextIds, text_ids};

@@ -1,7 +1,7 @@
 //! Makes the row of a mail.
 ghost use Rattle.std.specs.Prelude.{◌≡◌, length, IfOk};
-ghost use Rattle.git_objects.specs.Objects.{blob_id_of};
 ghost use Rattle.mail_commits.specs.Commits.{written_at};
+ghost use Rattle.mail_commits.specs.Ids.{text_ids_of};
 ghost use Rattle.mail_commits.specs.Facts.{from_fact, subject_fact, date_fact};
 ghost use Rattle.mail_forms.specs.Mailboxes.{mbox_of};
 ghost use Rattle.mail_forms.specs.WireForms.{wire_of, feeds_of};
@@ -15,29 +15,29 @@ ghost use Rattle.arch_model.specs.Rows.{row_of as row_fact};
 
 use crate::overview::overview_line;
 use arch_base::{Bytes, NoMemory, ObjectId, Texts};
-use mail_commits::entry_commit;
+use mail_commits::{TextIds, entry_commit};
 use mail_date::Moment;
 use mail_forms::{Row, first_value, line_feeds, mbox_len, wire_len};
-use mail_reader::{body, content_id, flat, own_id, refs_of};
+use mail_reader::{body, flat, own_id, refs_of};
 use mime_words::decode;
 use std::alloc::Global;
 
-/// Returns the row of a storage text with this number and blob id, which arrived at this moment, in
+/// Returns the row of a storage text with this number and these ids, which arrived at this moment, in
 /// seconds since 1970 UTC.
 ///
 /// `NoMemory` if an allocation fails.
 pub fn row_of(
     alloc: Global,
     number: u32,
-    blob: &ObjectId,
+    ids: &TextIds,
     text: &[u8],
     arrived: u64,
 ) -> Result<Row, NoMemory>
     requires text { IsStorageText text.now }
-    requires blob { blob.now ≡ blob_id_of text.now }
+    requires ids { ids.now ≡ text_ids_of text.now }
     ensures { IfOk result (λ row. row ≡ row_fact number text.now arrived) }
 {
-    let heading = heading_of(alloc, text, blob, arrived)?;
+    let heading = heading_of(alloc, text, &ids.blob, arrived)?;
     let links = links_of(alloc, text)?;
     let lengths = lengths_of(text);
     let over = overview_line(
@@ -49,7 +49,7 @@ pub fn row_of(
     )?;
     Ok(Row {
         number,
-        blob: *blob,
+        blob: ids.blob,
         id: links.id,
         refs: links.refs,
         subject: heading.subject,
@@ -61,7 +61,7 @@ pub fn row_of(
         mbox: lengths.mbox,
         lines: lengths.lines,
         over,
-        content: content_id(text),
+        content: ids.content,
     })
 }
 

@@ -4,6 +4,7 @@ use Rattle.std.proofs.Common.{◌∙◌, sym, ap, subst, arith}
 use Rattle.arch_base.specs.declared.config.Config.{Config}
 use Rattle.arch_base.specs.declared.ids.Id20.{Id20}
 use Rattle.mail_reader.specs.Ids.{own_id}
+use Rattle.mail_commits.specs.declared.ids.TextIds.{TextIds}
 use Rattle.git_objects.specs.Objects.{blob_id_of}
 use Rattle.arch_model.specs.Archives.{Archive, live, messages, text_of, owner, blob_number, with_deletion, IsFree}
 use Rattle.arch_model.specs.Delivery.{Done, Delivers, delivered, delivered_kept, removed, removed_text, purged, purged_text, edited, edited_text, unless_refused, refused, collision, new_epoch}
@@ -43,41 +44,41 @@ module _ (config : Config) (ks : List Kept) (places : List (Option Place)) (inde
       let here : IsKnownBy config index count (length places + 1) (archive_of config ks places) = record { config_is = refl; next_is = refl; few = most; indexed = kept.indexed } in
       subst (λ (n : ℕ). IsKnownBy config index count n a) (sym next_is) (subst (λ (b : Archive). IsKnownBy config index count b.next b) is here)
 
-  module _ (text : List ℕ) (blob : Id20) (comes : MayCome config index text blob) where
+  module _ (text : List ℕ) (ids : TextIds) (comes : MayCome config index text ids) where
     -- No live message has the own id of a text that may come.
     pub free-text : IsFree (live a.entries) text
     free-text =
         let own = some-of (own_id text) comes.storage.id in
         (own.0, own.1, ap (λ (b : Archive). owner (live b.entries) own.0) (sym is) ∙ unowned (entries_of ks) index own.0 kept.indexed (comes.new_id own.0 own.1))
 
-    named : blob_number a.entries (blob_id_of text).0 ≡ number_in index.blobs blob.0
-    named = ap (λ (i : Id20). blob_number a.entries i.0) (sym comes.blob_is) ∙ ap (λ (b : Archive). blob_number b.entries blob.0) (sym is) ∙ sym (kept.indexed.blobs blob.0)
+    named : blob_number a.entries (blob_id_of text).0 ≡ number_in index.blobs ids.blob.0
+    named = ap (λ (i : TextIds). blob_number a.entries i.blob.0) (sym comes.ids_are) ∙ ap (λ (b : Archive). blob_number b.entries ids.blob.0) (sym is) ∙ sym (kept.indexed.blobs ids.blob.0)
 
     module _ (next : ℕ) (next_is : next ≡ a.next) where
-      room : (number : ℕ) → MayBeKept config index next text blob number → a.next ≤ a.config.max
+      room : (number : ℕ) → MayBeKept config index next text ids number → a.next ≤ a.config.max
       room number may =
           let left : next ≤ config.max = may.number_left in
           let most : a.config.max ≡ config.max = ap (λ (c : Config). c.max) config_is in
           omega (arith, left, most, next_is)
 
       -- A text with a new blob id may be kept.
-      pub keep-new : (number : ℕ) → MayBeKept config index next text blob number → number_in index.blobs blob.0 ≡ None → MayKeep a (Take text blob number)
-      keep-new number may new = (free-text, comes.blob_is, collision-alone a.entries text (named ∙ new), room number may, may.number_is ∙ next_is)
+      pub keep-new : (number : ℕ) → MayBeKept config index next text ids number → number_in index.blobs ids.blob.0 ≡ None → MayKeep a (Take text ids number)
+      keep-new number may new = (free-text, comes.ids_are, collision-alone a.entries text (named ∙ new), room number may, may.number_is ∙ next_is)
 
       -- So may one that was compared with the same text.
-      pub keep-same : (number : ℕ) (found : ℕ) → MayBeKept config index next text blob number → number_in index.blobs blob.0 ≡ Some found → blob_text a.entries (blob_id_of text).0 ≡ Some text → MayKeep a (Take text blob number)
+      pub keep-same : (number : ℕ) (found : ℕ) → MayBeKept config index next text ids number → number_in index.blobs ids.blob.0 ≡ Some found → blob_text a.entries (blob_id_of text).0 ≡ Some text → MayKeep a (Take text ids number)
       keep-same number found may first text_is =
           let agree = subst (λ (b : Archive). collision b.entries text ≡ None) is
           (collision-first (entries_of ks) text text found kept.blobs (ap (λ (b : Archive). blob_number b.entries (blob_id_of text).0) is ∙ named ∙ first) (ap (λ (b : Archive). blob_text b.entries (blob_id_of text).0) is ∙ text_is)
           ∙ ap (λ (t : Bool). if t then None else Some found) (bytes_eq-refl text text refl)) in
-          (free-text, comes.blob_is, agree, room number may, may.number_is ∙ next_is)
+          (free-text, comes.ids_are, agree, room number may, may.number_is ∙ next_is)
 
       -- What a comparison decides.
-      pub compared-keeps : (found : ℕ) (held : List ℕ) (v : Verdict) → number_in index.blobs blob.0 ≡ Some found → blob_text a.entries blob.0 ≡ Some held → TakesThis config next text blob v → TakesSame text held v → MayKeep a v
+      pub compared-keeps : (found : ℕ) (held : List ℕ) (v : Verdict) → number_in index.blobs ids.blob.0 ≡ Some found → blob_text a.entries ids.blob.0 ≡ Some held → TakesThis config next text ids v → TakesSame text held v → MayKeep a v
       compared-keeps found held (Take taken other number) first held_is takes same =
-          let text_is : blob_text a.entries (blob_id_of text).0 ≡ Some text = ap (λ (i : Id20). blob_text a.entries i.0) (sym comes.blob_is) ∙ held_is ∙ ap Some same in
-          let keeps : MayKeep a (Take text blob number) = keep-same number found (takes.2 index comes) first text_is in
-          subst (λ (t : List ℕ). MayKeep a (Take t other number)) (sym takes.0) (subst (λ (i : Id20). MayKeep a (Take text i number)) (sym takes.1) keeps)
+          let text_is : blob_text a.entries (blob_id_of text).0 ≡ Some text = ap (λ (i : TextIds). blob_text a.entries i.blob.0) (sym comes.ids_are) ∙ held_is ∙ ap Some same in
+          let keeps : MayKeep a (Take text ids number) = keep-same number found (takes.2 index comes) first text_is in
+          subst (λ (t : List ℕ). MayKeep a (Take t other number)) (sym takes.0) (subst (λ (i : TextIds). MayKeep a (Take text i number)) (sym takes.1) keeps)
       compared-keeps found held (Compare other name number) first held_is takes same = absurd takes
       compared-keeps found held (Refuse reply) first held_is takes same = tt
 

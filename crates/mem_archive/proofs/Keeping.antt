@@ -8,6 +8,8 @@ use Rattle.arch_base.specs.declared.ids.Id20.{Id20}
 use Rattle.mail_reader.specs.Ids.{own_id}
 use Rattle.mail_reader.specs.Content.{content_id_of}
 use Rattle.git_objects.specs.Objects.{blob_id_of}
+use Rattle.mail_commits.specs.declared.ids.TextIds.{TextIds}
+use Rattle.mail_commits.specs.Ids.{text_ids_of}
 use Rattle.git_objects.specs.declared.entry_kind.EntryKind.{EntryKind}
 use Rattle.git_objects.specs.declared.entry_kind.EntryKind.TheVariants.{Message, Deletion}
 use Rattle.arch_model.specs.Archives.{Archive, Entry, message, deletion, live, text_of, owner, IsFree}
@@ -155,20 +157,20 @@ is-message config ks places index end_ a k is kept may number_is = by k.kind ref
       )
 
 -- The same of an archive that these stand for, where what was read of the entry is as it should be.
-pub keeps : (config : Config) (ks : List Kept) (places : List (Option Place)) (index new : Index) (end_ next : End) (k : Kept) (spelled digested hashed : List ℕ) (blob : Id20) (id : List ℕ) (made : Owner) (count : ℕ) (a : Archive)
+pub keeps : (config : Config) (ks : List Kept) (places : List (Option Place)) (index new : Index) (end_ next : End) (k : Kept) (spelled : List ℕ) (ids : TextIds) (id : List ℕ) (made : Owner) (count : ℕ) (a : Archive)
     → archive_of config ks places ≡ a → IsKept config ks places index end_ → MayFollow a (entry_of k) → k.number ≡ a.next → IsEndAfter a (entry_of k) k.commit next
-    → own_id spelled ≡ Some id → spelled ≡ k.text → made ≡ record { number = a.next; content = content_id_of digested } → digested ≡ k.text → blob ≡ blob_id_of hashed → hashed ≡ k.text → count ≡ length ks → Puts index new id blob made
+    → own_id spelled ≡ Some id → spelled ≡ k.text → made ≡ record { number = a.next; content = ids.content } → ids ≡ text_ids_of k.text → count ≡ length ks → Puts index new id ids.blob made
     → (held : List Kept) → held ≡ ks ++ k ∷ [] → (spots : List (Option Place)) → spots ≡ places ++ Some (record { entry = count; live = true }) ∷ []
     → IsKept config held spots new next × (archive_of config held spots ≡ appended_as a (entry_of k))
-keeps config ks places index new end_ next k spelled digested hashed blob id made count a is kept may number_is after own spelled_is made_is digested_is blob_is hashed_is count_is puts held held_is spots spots_is =
+keeps config ks places index new end_ next k spelled ids id made count a is kept may number_is after own spelled_is made_is ids_are count_is puts held held_is spots spots_is =
     let follows : MayFollow (archive_of config ks places) (entry_of k) = subst (λ (b : Archive). MayFollow b (entry_of k)) (sym is) may in
     let ends : IsEndAfter (archive_of config ks places) (entry_of k) k.commit next = subst (λ (b : Archive). IsEndAfter b (entry_of k) k.commit next) (sym is) after in
     let kind_is : k.kind ≡ Message = is-message config ks places index end_ a k is kept may number_is in
     let number : k.number ≡ length places + 1 = number_is ∙ sym (ap (λ (b : Archive). b.next) is) in
     let named : own_id k.text ≡ Some id = ap own_id (sym spelled_is) ∙ own in
     let owner_is : made ≡ record { number = length places + 1; content = content_id_of k.text } =
-    made_is ∙ ap (λ (b : Archive). record { number = b.next; content = content_id_of digested }) (sym is) ∙ ap (λ (t : List ℕ). record { number = length places + 1; content = content_id_of t }) digested_is in
-    let named_so : Puts index new id (blob_id_of k.text) made = subst (λ (b : Id20). Puts index new id b made) (blob_is ∙ ap blob_id_of hashed_is) puts in
+    made_is ∙ ap (λ (b : Archive). record { number = b.next; content = ids.content }) (sym is) ∙ ap (λ (i : TextIds). record { number = length places + 1; content = i.content }) ids_are in
+    let named_so : Puts index new id (blob_id_of k.text) made = subst (λ (i : TextIds). Puts index new id i.blob made) ids_are puts in
     let put : Puts index new id (blob_id_of k.text) (record { number = length places + 1; content = content_id_of k.text }) = subst (λ (o : Owner). Puts index new id (blob_id_of k.text) o) owner_is named_so in
     let places_are : spots ≡ places ++ Some (record { entry = length ks; live = true }) ∷ [] = spots_is ∙ ap (λ (m : ℕ). places ++ Some (record { entry = m; live = true }) ∷ []) count_is in
     subst (λ (ls : List Kept). IsKept config ls spots new next × (archive_of config ls spots ≡ appended_as a (entry_of k))) (sym held_is)

@@ -12,6 +12,7 @@ use Rattle.arch_model.specs.Epochs.{epoch_bytes, last_commit}
 use Rattle.arch_model.specs.Shelves.{lines_after}
 use Rattle.arch_model.specs.declared.line.EntryLine.{EntryLine}
 use Rattle.git_objects.specs.Objects.{blob_id_of}
+use Rattle.mail_commits.specs.Ids.{text_ids_of}
 use Rattle.mail_reader.specs.Ids.{own_id}
 use Rattle.mail_commits.specs.Entries.{commit_id, entry_bytes, magic}
 use Rattle.git_objects.specs.declared.entry_kind.EntryKind.{EntryKind}
@@ -154,9 +155,9 @@ HasId e = IsSome (own_id e.text)
 -- What may be kept: no live message has the text's own id, no other text has its blob id, and a
 -- number is left. A text is never still to be compared.
 abbrev pub MayKeep : Archive → Verdict → Type 0
-MayKeep a (Take text blob number) = IsFree (live a.entries) text × (blob ≡ blob_id_of text)
+MayKeep a (Take text ids number) = IsFree (live a.entries) text × (ids ≡ text_ids_of text)
     × (collision a.entries text ≡ None) × (a.next ≤ a.config.max) × (number ≡ a.next)
-MayKeep a (Compare text blob number) = ⊥
+MayKeep a (Compare text ids number) = ⊥
 MayKeep a (Refuse reply) = Unit {0}
 
 -- The end holds the room and the last commit of its epoch.

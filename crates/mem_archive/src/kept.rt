@@ -1,6 +1,7 @@
 //! What the archive in memory keeps of each entry, and of its last epoch.
 ghost use Rattle.std.specs.Prelude.{◌≡◌, ◌+◌, ◌-◌, ◌++◌, ◌≤◌, IfOk, OnOk, OnErr, is_ok, if◌then◌else◌};
 ghost use Rattle.disk_model.specs.Sizes.{greatest_epoch};
+ghost use Rattle.git_objects.specs.Objects.{blob_id_of};
 ghost use Rattle.mail_commits.specs.Entries.{commit_id, entry_bytes};
 ghost use Rattle.mem_archive.specs.Memory.{entry_of, line_of, front_bytes, end_for_new, end_by_room, end_in_epoch, end_after, Grows};
 
@@ -86,21 +87,24 @@ pub(crate) struct End {
 
 impl End {
     /// Returns the end after one more entry, which goes to the last epoch, or to a new one if that
-    /// is full.
+    /// is full. `blob` is the blob id of its text.
     pub(crate) fn with(
         self,
         alloc: Global,
         limit: u64,
         kind: EntryKind,
         text: &[u8],
+        blob: &ObjectId,
         moment: u64,
     ) -> Result<End, NoMemory>
-        requires { self.epoch ≤ greatest_epoch }
+        requires epoch { self.epoch ≤ greatest_epoch }
+        requires blob { blob.now ≡ blob_id_of text.now }
         ensures { IfOk result (λ made.
             made ≡ end_after (end_for_new limit self) kind text.now moment) }
     {
         let room = self.room;
-        self.for_new(room, limit).after(alloc, kind, text, moment)
+        self.for_new(room, limit)
+            .after(alloc, kind, text, blob, moment)
     }
 
     /// Returns the end to which a new entry is appended, if the last epoch has `room` bytes left.
@@ -138,18 +142,20 @@ impl End {
         }
     }
 
-    /// Returns the end after one more entry.
+    /// Returns the end after one more entry, whose text has this blob id.
     pub(crate) fn after(
         self,
         alloc: Global,
         kind: EntryKind,
         text: &[u8],
+        blob: &ObjectId,
         moment: u64,
     ) -> Result<End, NoMemory>
+        requires { blob.now ≡ blob_id_of text.now }
         ensures { IfOk result (λ made. made ≡ end_after self kind text.now moment) }
     {
         let mut bytes = Bytes::new(alloc);
-        let commit = push_after(alloc, kind, text, moment, self.parent, &mut bytes)?;
+        let commit = push_after(alloc, kind, text, blob, moment, self.parent, &mut bytes)?;
         Ok(End {
             epoch: self.epoch,
             room: self.room.saturating_sub(bytes.as_slice().len() as u64),
@@ -158,7 +164,7 @@ impl End {
     }
 }
 
-/// Appends the bytes of an entry, and returns the id of its commit.
+/// Appends the bytes of an entry, whose text has this blob id, and returns the id of its commit.
 ///
 /// The first bytes of an epoch come before them if the entry has no parent. `NoMemory` may leave a
 /// part appended.
@@ -166,17 +172,19 @@ pub(crate) fn push_after(
     alloc: Global,
     kind: EntryKind,
     text: &[u8],
+    blob: &ObjectId,
     moment: u64,
     parent: Option<ObjectId>,
     into: &mut Bytes,
 ) -> Result<ObjectId, NoMemory>
+    requires { blob.now ≡ blob_id_of text.now }
     ensures id { IfOk result (λ id. id ≡ commit_id kind text.now moment parent) }
     ensures ok { OnOk result (into.new
         ≡ into.old ++ (front_bytes parent ++ entry_bytes kind text.now moment parent)) }
     ensures err { OnErr result (Grows into.old into.new) }
 {
     push_front(parent, into)?;
-    let ids = push_entry(alloc, kind, text, moment, parent, into)?;
+    let ids = push_entry(alloc, kind, text, blob, moment, parent, into)?;
     Ok(ids.commit)
 }
 

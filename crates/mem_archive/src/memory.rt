@@ -2,10 +2,10 @@
 ghost use Rattle.std.specs.Prelude.{◌≡◌, ◌+◌, ◌++◌, ◌≤◌, false, not, take, drop, length, option_copied, IfOk, OnOk, OnErr, IsSome, Some, None};
 ghost use Rattle.std.specs.Str.{bytes_eq};
 ghost use Rattle.arch_base.specs.Configs.{IsConfig};
-ghost use Rattle.mail_reader.specs.Content.{content_id_of};
 ghost use Rattle.mail_reader.specs.Stored.{stored as stored_of};
 ghost use Rattle.mail_reader.specs.Ids.{own_id as own_id_of};
 ghost use Rattle.git_objects.specs.Objects.{blob_id_of};
+ghost use Rattle.mail_commits.specs.Ids.{text_ids_of};
 ghost use Rattle.arch_model.specs.Archives.{empty_archive, with_entry, with_deletion, without_entries, live, messages, text_of, in_epoch, IsFree, has_entry};
 ghost use Rattle.arch_model.specs.Delivery.{Delivers, applied, delivered, removed, purged, edited, unless_refused, is_form, collision, new_epoch};
 ghost use Rattle.arch_judge.specs.Judging.{Judges};
@@ -25,7 +25,8 @@ use arch_base::{Bytes, Config, NoMemory, Numbers, ObjectId};
 use arch_judge::{Index, Owner, Verdict, compared, judge};
 use arch_model::{Answer, Command, EntryLine, Query, Row};
 use git_objects::{EntryKind, blob_id};
-use mail_reader::{StoredRefusal, content_id, own_id, stored};
+use mail_commits::{TextIds, text_ids};
+use mail_reader::{StoredRefusal, own_id, stored};
 use std::alloc::Global;
 use std::marker::Model;
 use view_set::{Views, add_if_stored};
@@ -224,6 +225,7 @@ impl MemArchive {
                     self.alloc,
                     kept.kind,
                     kept.text.as_slice(),
+                    &blob_id(kept.text.as_slice()),
                     kept.moment,
                     parent,
                     into,
@@ -261,7 +263,7 @@ impl MemArchive {
     {
         match self.verdict(bytes) {
             Verdict::Refuse(answer) => answer,
-            Verdict::Take { text, blob, number } => self.take(text, blob, number, moment),
+            Verdict::Take { text, ids, number } => self.take(text, ids, number, moment),
             // The texts were compared before.
             Verdict::Compare { .. } => Answer::NoMemory,
         }
@@ -276,29 +278,34 @@ impl MemArchive {
         let next = self.next();
         match judge(self.alloc, &self.config, &self.index, count, next, bytes) {
             Verdict::Refuse(answer) => Verdict::Refuse(answer),
-            Verdict::Take { text, blob, number } => Verdict::Take { text, blob, number },
-            Verdict::Compare { text, blob, number } => match self.text_once(number) {
+            Verdict::Take { text, ids, number } => Verdict::Take { text, ids, number },
+            Verdict::Compare { text, ids, number } => match self.text_once(number) {
                 None => Verdict::Refuse(Answer::NoMemory),
-                Some(kept) => compared(&self.config, next, text, blob, number, kept),
+                Some(kept) => compared(&self.config, next, text, ids, number, kept),
             },
         }
     }
 
     /// Keeps a message under the next number, and answers with that number.
-    fn take(&mut self, text: Bytes, blob: ObjectId, number: u32, moment: u64) -> Answer
+    fn take(&mut self, text: Bytes, ids: TextIds, number: u32, moment: u64) -> Answer
         requires free { IsFree (live self.old.entries) text }
-        requires blob { blob ≡ blob_id_of text }
+        requires ids { ids ≡ text_ids_of text }
         requires alone { collision self.old.entries text ≡ None }
         requires room { self.old.next ≤ self.old.config.max }
         ensures done { Delivers self.old result self.new (record {
           archive = with_entry self.old
               (new_epoch self.old) text moment;
-          answer = Answer.Ok number blob;
+          answer = Answer.Ok number ids.blob;
         }) }
         ensures untouched { IsUntouched result self.old self.new }
     {
-        match self.keep(text, moment) {
-            Ok(()) => Answer::Ok { number, id: blob },
+        match self.keep(text, &ids, moment) {
+            Ok(()) => {
+                Answer::Ok {
+                    number,
+                    id: ids.blob,
+                }
+            }
             Err(NoMemory) => Answer::NoMemory,
         }
     }
@@ -340,23 +347,37 @@ impl MemArchive {
         ensures untouched { IsUntouched result self.old self.new }
     {
         let id = blob_id(text.as_slice());
-        match self.push_deletion(number, text, moment) {
+        match self.push_deletion(number, text, &id, moment) {
             Ok(()) => Answer::Ok { number, id },
             Err(NoMemory) => Answer::NoMemory,
         }
     }
 
-    /// Appends the deletion of a live message.
+    /// Appends the deletion of a live message, whose text has this blob id.
     ///
     /// `NoMemory` leaves the archive unchanged.
-    fn push_deletion(&mut self, number: u32, text: Bytes, moment: u64) -> Result<(), NoMemory>
+    fn push_deletion(
+        &mut self,
+        number: u32,
+        text: Bytes,
+        blob: &ObjectId,
+        moment: u64,
+    ) -> Result<(), NoMemory>
         requires live { text_of (live self.old.entries) number ≡ Some text }
+        requires blob { blob.now ≡ blob_id_of text }
         ensures ok { OnOk result (self.new
             ≡ with_deletion self.old number (new_epoch self.old) text moment) }
         ensures err { OnErr result (self.new ≡ self.old) }
     {
         let kind = EntryKind::Deletion;
-        let end = self.end.with(self.alloc, self.config.limit, kind, text.as_slice(), moment)?;
+        let end = self.end.with(
+            self.alloc,
+            self.config.limit,
+            kind,
+            text.as_slice(),
+            blob,
+            moment,
+        )?;
         let commit = end.parent.unwrap();
         let entry = Kept {
             kind,
@@ -456,22 +477,24 @@ impl MemArchive {
     {
         let begin = self.end.in_epoch(kept.epoch, self.config.limit);
         let text = kept.text.as_slice();
-        let end = begin.after(self.alloc, kept.kind, text, kept.moment)?;
+        let ids = text_ids(text);
+        let end = begin.after(self.alloc, kept.kind, text, &ids.blob, kept.moment)?;
         let commit = end.parent.unwrap();
         let entry = kept.copy(self.alloc, commit)?;
         match kept.kind {
             EntryKind::Message => {
                 self.number_to_next(kept.number)?;
-                self.append_message(entry, end)
+                self.append_message(entry, &ids, end)
             }
             EntryKind::Deletion => self.append_deletion(entry, end),
         }
     }
 
-    /// Appends a message with the next number.
+    /// Appends a message with the next number, whose text has these ids.
     ///
     /// `NoMemory` leaves the archive unchanged.
-    fn append_message(&mut self, entry: Kept, end: End) -> Result<(), NoMemory>
+    fn append_message(&mut self, entry: Kept, ids: &TextIds, end: End) -> Result<(), NoMemory>
+        requires ids { ids.now ≡ text_ids_of entry.text }
         requires follows { MayFollow self.old (entry_of entry) }
         requires number { entry.number ≡ self.old.next }
         requires ends { IsEndAfter self.old (entry_of entry) entry.commit end }
@@ -479,8 +502,7 @@ impl MemArchive {
         ensures err { OnErr result (self.new ≡ self.old) }
     {
         let id = own_id_bytes(self.alloc, entry.text.as_slice())?;
-        let owner = self.owner_of(entry.text.as_slice());
-        let blob = blob_id(entry.text.as_slice());
+        let owner = self.owner_of(ids.content);
         let index = self.kept.len();
         self.places.reserve(1)?;
         self.kept.reserve(1)?;
@@ -489,11 +511,11 @@ impl MemArchive {
             self.alloc,
             &mut self.views,
             number,
-            &blob,
+            ids,
             entry.text.as_slice(),
             entry.moment,
         )?;
-        if let Err(NoMemory) = self.index.insert(id, blob, owner) {
+        if let Err(NoMemory) = self.index.insert(id, ids.blob, owner) {
             let _ = self.views.take(number);
             return Err(NoMemory);
         }
@@ -550,20 +572,21 @@ impl MemArchive {
         self.places.len() as u32 + 1
     }
 
-    /// Returns the index entry of the next message, if this is its text.
-    fn owner_of(&self, text: &[u8]) -> Owner
-        ensures { result ≡ record { number = self.now.next; content = content_id_of text.now } }
+    /// Returns the index entry of the next message, if this is its content id.
+    fn owner_of(&self, content: [u8; 32]) -> Owner
+        ensures { result ≡ record { number = self.now.next; content = content } }
     {
         Owner {
             number: self.next(),
-            content: content_id(text),
+            content,
         }
     }
 
-    /// Appends a message.
+    /// Appends a message, whose text has these ids.
     ///
     /// `NoMemory` leaves the archive unchanged.
-    fn keep(&mut self, text: Bytes, moment: u64) -> Result<(), NoMemory>
+    fn keep(&mut self, text: Bytes, ids: &TextIds, moment: u64) -> Result<(), NoMemory>
+        requires ids { ids.now ≡ text_ids_of text }
         requires free { IsFree (live self.old.entries) text }
         requires alone { collision self.old.entries text ≡ None }
         requires room { self.old.next ≤ self.old.config.max }
@@ -571,7 +594,14 @@ impl MemArchive {
         ensures err { OnErr result (self.new ≡ self.old) }
     {
         let kind = EntryKind::Message;
-        let end = self.end.with(self.alloc, self.config.limit, kind, text.as_slice(), moment)?;
+        let end = self.end.with(
+            self.alloc,
+            self.config.limit,
+            kind,
+            text.as_slice(),
+            &ids.blob,
+            moment,
+        )?;
         let commit = end.parent.unwrap();
         let number = self.next();
         let entry = Kept {
@@ -582,7 +612,7 @@ impl MemArchive {
             moment,
             commit,
         };
-        self.append_message(entry, end)
+        self.append_message(entry, ids, end)
     }
 }
 

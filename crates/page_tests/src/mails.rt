@@ -1,6 +1,6 @@
 //! Mails for the tests, and their rows.
 use arch_base::{Bytes, Name};
-use git_objects::blob_id;
+use mail_commits::text_ids;
 use mail_forms::Row;
 use mail_reader::is_stored;
 use mail_rows::row_of;
@@ -21,7 +21,7 @@ pub(crate) fn row(alloc: Global, text: &[u8]) -> Option<Row> {
     if !is_stored(text) {
         return None;
     }
-    row_of(alloc, 1, &blob_id(text), text, 1_706_781_700).ok()
+    row_of(alloc, 1, &text_ids(text), text, 1_706_781_700).ok()
 }
 
 /// Returns whether a page is the wanted one.

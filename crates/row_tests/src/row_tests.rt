@@ -1,6 +1,7 @@
 //! Rows against the rules.
 use crate::row_cases::{ARRIVED, CASES, RowCase};
 use git_objects::blob_id;
+use mail_commits::text_ids;
 use mail_reader::{content_id, is_stored};
 use mail_rows::row_of;
 use std::alloc::Global;
@@ -10,7 +11,7 @@ fn has_row(alloc: Global, case: &RowCase) -> bool {
     if !is_stored(case.text) {
         return false;
     }
-    match row_of(alloc, 7, &blob_id(case.text), case.text, ARRIVED) {
+    match row_of(alloc, 7, &text_ids(case.text), case.text, ARRIVED) {
         Ok(row) => row.number == 7 && case.is_shown_by(&row),
         Err(_) => false,
     }
@@ -21,7 +22,7 @@ fn has_ids(alloc: Global, case: &RowCase) -> bool {
     if !is_stored(case.text) {
         return false;
     }
-    match row_of(alloc, 7, &blob_id(case.text), case.text, ARRIVED) {
+    match row_of(alloc, 7, &text_ids(case.text), case.text, ARRIVED) {
         Ok(row) => row.blob == blob_id(case.text) && row.content == content_id(case.text),
         Err(_) => false,
     }

@@ -11,6 +11,8 @@ use crate::views::Views;
 use arch_base::{Bytes, NoMemory};
 use arch_model::{EntryLine, TextRefusal, Walked};
 use git_objects::EntryKind;
+use mail_commits::TextIds;
+use mail_reader::content_id;
 use std::alloc::Global;
 
 /// An entry whose text wasn't read, or for whose row, words or threads memory ran out.
@@ -127,7 +129,12 @@ fn add_message<W: Walked>(
         return Err(why);
     }
     let bytes = text.as_slice();
-    match add_if_stored(alloc, views, line.number, &line.blob, bytes, line.secs) {
+    // The line has its blob id.
+    let ids = TextIds {
+        blob: line.blob,
+        content: content_id(bytes),
+    };
+    match add_if_stored(alloc, views, line.number, &ids, bytes, line.secs) {
         Ok(()) => Ok(()),
         Err(NoMemory) => Err(TextRefusal::NoMemory),
     }

@@ -8,4 +8,4 @@ returns-clause-commit c =
     commit_id-made c.args.kind c.args.text.now c.args.moment c.args.parent c.object_id.result (c.object_id.ensures.value ∙ ap id_of (c.as_slice.ensures ∙ c.in_ok-commit.ensures))
 
 pub returns-clause-tree : goal.returns-clause-tree
-returns-clause-tree c = c.tree_bytes-tree.ensures ∙ ap (tree_spelling c.args.kind) c.blob_id-blob.ensures.value
+returns-clause-tree c = c.tree_bytes-tree.ensures ∙ ap (tree_spelling c.args.kind) c.requires.blob

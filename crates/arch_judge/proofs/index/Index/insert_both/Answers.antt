@@ -7,7 +7,8 @@ use Rattle.std.specs.Cmp.Lexicographic.{slice_cmp}
 use Rattle.std.specs.Ordering.{nat_cmp}
 use Rattle.std.proofs.lemmas.Slice.Eq.{bytes_eq-Decides}
 use Rattle.arch_judge.specs.Indexes.{number_in}
-use Rattle.arch_judge.proofs.Maps.{found_after, taken_back, fresh_put}
+use Rattle.thread_model.proofs.Texts.{found_after}
+use Rattle.arch_judge.proofs.Maps.{taken_back, fresh_put}
 use Rattle.arch_judge.proofs.index.Index.insert_both.Goals as goal
 
 pub returns-in-Err-clause-err : goal.returns-in-Err-clause-err

@@ -3,7 +3,8 @@ use Rattle.std.specs.Str.{bytes_eq}
 use Rattle.std.specs.Global.{Vec}
 use Rattle.std.proofs.lemmas.Slice.Eq.{bytes_eq-Decides}
 use Rattle.arch_judge.specs.Indexes.{number_in}
-use Rattle.arch_judge.proofs.Maps.{found_after, kept_put}
+use Rattle.thread_model.proofs.Texts.{found_after}
+use Rattle.arch_judge.proofs.Maps.{kept_put}
 use Rattle.arch_judge.proofs.index.Index.insert_id.Goals as goal
 
 pub returns-clause-ok : goal.returns-clause-ok

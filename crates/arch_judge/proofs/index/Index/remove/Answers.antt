@@ -1,6 +1,6 @@
 use Rattle.std.proofs.Common.{ℕ, refl}
 use Rattle.std.specs.Global.{Vec}
-use Rattle.arch_judge.proofs.Maps.{lost_after}
+use Rattle.thread_model.proofs.Texts.{lost_after}
 use Rattle.arch_judge.proofs.index.Index.remove.Goals as goal
 
 pub returns : goal.returns

@@ -1,6 +1,6 @@
 use Rattle.std.proofs.Common.{◌≡◌, ◌∙◌, sym, ap, Some, ℕ, List}
 use Rattle.arch_judge.specs.Indexes.{number_in}
-use Rattle.arch_judge.proofs.Maps.{lost_after}
+use Rattle.thread_model.proofs.Texts.{lost_after}
 use Rattle.arch_judge.proofs.index.Index.remove_blob.Goals as goal
 
 pub returns-then-found-number-clause-blobs : goal.returns-then-found-number-clause-blobs

@@ -10,7 +10,7 @@ returns-in-Refuse c = record {
 }
 
 pub take-requires : goal.take-requires
-take-requires c = let may = c.in-Take.ensures.taken in record { free = may.0; blob = may.1; alone = may.2; room = may.3 }
+take-requires c = let may = c.in-Take.ensures.taken in record { free = may.0; ids = may.1; alone = may.2; room = may.3 }
 
 pub returns-in-Take : goal.returns-in-Take
 returns-in-Take c = record {

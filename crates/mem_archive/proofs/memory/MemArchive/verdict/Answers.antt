@@ -17,7 +17,7 @@ returns-in-Take c =
     let taken = c.in-Take.ensures.taken in
     record {
       judged = c.in-Take.ensures.judged c.args.self.now known;
-      taken = keep-new c.self.inside.config c.self.inside.kept.items c.self.inside.places.items c.self.inside.index c.self.inside.end c.args.self.now c.self.view_is c.self.invariant.0 c.in-Take.text c.in-Take.blob taken.0.comes c.next-next.result c.next-next.ensures c.in-Take.number taken.0 taken.1;
+      taken = keep-new c.self.inside.config c.self.inside.kept.items c.self.inside.places.items c.self.inside.index c.self.inside.end c.args.self.now c.self.view_is c.self.invariant.0 c.in-Take.text c.in-Take.ids taken.0.comes c.next-next.result c.next-next.ensures c.in-Take.number taken.0 taken.1;
     }
 
 -- The index has a message with the number, so its text is there; `NoMemory` may always come.
@@ -25,16 +25,16 @@ pub returns-in-None : goal.returns-in-None
 returns-in-None c = record { judged = tt; taken = tt }
 
 pub compared-requires : goal.compared-requires
-compared-requires c = record { blob = c.in-Compare.ensures.taken.0.blob_is }
+compared-requires c = record { ids = c.in-Compare.ensures.taken.0.ids_are }
 
 pub returns-in-Some : goal.returns-in-Some
 returns-in-Some c =
     let len : c.len-count.result ≡ length c.self.inside.kept.items = omega (arith, c.len-count.ensures, c.self.inside.kept.ok) in
     let known : IsKnownBy c.self.inside.config c.self.inside.index c.len-count.result c.next-next.result c.args.self.now = kept_known c.self.inside.config c.self.inside.kept.items c.self.inside.places.items c.self.inside.index c.self.inside.end c.args.self.now c.self.view_is c.self.invariant.0 c.len-count.result c.next-next.result len c.next-next.ensures in
     let taken = c.in-Compare.ensures.taken in
-    let text_is : blob_text c.args.self.now.entries c.in-Compare.blob.0 ≡ Some c.in-Some.kept.now = compared-with c.self.inside.config c.self.inside.kept.items c.self.inside.places.items c.self.inside.index c.self.inside.end c.args.self.now c.self.view_is c.self.invariant.0 c.in-Compare.blob c.in-Compare.number c.in-Some.kept.now taken.1 c.in-Some.ensures in
+    let text_is : blob_text c.args.self.now.entries c.in-Compare.ids.blob.0 ≡ Some c.in-Some.kept.now = compared-with c.self.inside.config c.self.inside.kept.items c.self.inside.places.items c.self.inside.index c.self.inside.end c.args.self.now c.self.view_is c.self.invariant.0 c.in-Compare.ids.blob c.in-Compare.number c.in-Some.kept.now taken.1 c.in-Some.ensures in
     record {
       judged = c.compared.ensures.judged c.args.self.now c.args.bytes.now known.config_is known.next_is
-          (compared-decides c.self.inside.config c.self.inside.kept.items c.self.inside.places.items c.self.inside.index c.self.inside.end c.args.self.now c.self.view_is c.self.invariant.0 c.args.bytes.now c.in-Compare.text c.in-Compare.blob c.in-Compare.number c.in-Some.kept.now (c.in-Compare.ensures.judged c.args.self.now known) text_is);
-      taken = compared-keeps c.self.inside.config c.self.inside.kept.items c.self.inside.places.items c.self.inside.index c.self.inside.end c.args.self.now c.self.view_is c.self.invariant.0 c.in-Compare.text c.in-Compare.blob taken.0 c.next-next.result c.next-next.ensures c.in-Compare.number c.in-Some.kept.now c.compared.result taken.1 text_is c.compared.ensures.taken c.compared.ensures.same;
+          (compared-decides c.self.inside.config c.self.inside.kept.items c.self.inside.places.items c.self.inside.index c.self.inside.end c.args.self.now c.self.view_is c.self.invariant.0 c.args.bytes.now c.in-Compare.text c.in-Compare.ids.blob c.in-Compare.number c.in-Some.kept.now (c.in-Compare.ensures.judged c.args.self.now known) text_is);
+      taken = compared-keeps c.self.inside.config c.self.inside.kept.items c.self.inside.places.items c.self.inside.index c.self.inside.end c.args.self.now c.self.view_is c.self.invariant.0 c.in-Compare.text c.in-Compare.ids taken.0 c.next-next.result c.next-next.ensures c.in-Compare.number c.in-Some.kept.now c.compared.result taken.1 text_is c.compared.ensures.taken c.compared.ensures.same;
     }
