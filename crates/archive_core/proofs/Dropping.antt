@@ -1,7 +1,7 @@
 -- What is kept of an archive without the entries of a text: their index, their places, and which live
 -- number had the text.
-use Rattle.std.specs.Prelude.{◌≡◌, ◌≢◌, ◌+◌, ◌-◌, ◌<◌, ◌≤◌, ◌==◌, ◌&&◌, ◌||◌, ℕ, zero, suc, Bool, true, false, not, List, [], ◌∷◌, ◌++◌, length, take, drop, reverse, get_or, slice_get, Option, Some, None, if◌then◌else◌, refl}
-use Rattle.std.specs.List.{AllByRecursion, AllZip, Contains, filter}
+use Rattle.std.specs.Prelude.{◌≡◌, ◌+◌, ◌-◌, ◌<◌, ◌≤◌, ◌==◌, ◌&&◌, ◌||◌, ℕ, zero, suc, Bool, true, false, not, List, [], ◌∷◌, ◌++◌, length, take, drop, reverse, get_or, slice_get, Some, None, if◌then◌else◌, refl}
+use Rattle.std.specs.List.{AllZip}
 use Rattle.std.specs.Str.{bytes_eq}
 use Rattle.std.proofs.Common.{◌⊎◌, ◌∙◌, sym, ap, subst, inl, inr, cond, arith, rules}
 use Rattle.std.specs.BTreeSet.{BTreeSet, IsEmpty}
@@ -19,10 +19,11 @@ use Rattle.arch_judge.specs.Indexes.{Puts, Loses}
 use Rattle.arch_judge.specs.declared.index.Index.{Index}
 use Rattle.epoch_store.specs.declared.entries.StoredEntry.{StoredEntry}
 use Rattle.epoch_store.specs.Stores.{View, DropsEntries, EditsEntries, KeptOf, is_ended_in, without_blob}
-use Rattle.archive_core.specs.Kept.{IndexesStored, IndexesKept, PutsText, TakesBy, Takes, owner_kept}
+use Rattle.epoch_store.specs.Indexes.{IndexesStored, TakesBy, Takes, owner_kept}
+use Rattle.archive_core.specs.Kept.{IndexesKept, PutsText}
 use Rattle.archive_core.specs.Placing.{message_places, has_ended, PlacesBy, PlacesFrom, has_blob_at, IsLiveWith}
 use Rattle.archive_core.specs.declared.placing.MessagePlace.{MessagePlace}
-use Rattle.archive_core.proofs.Indexes.{indexes-none, indexes-more}
+use Rattle.epoch_store.proofs.Indexes.{indexes_none, indexes_more}
 use Rattle.archive_core.proofs.Places.{place_of, places-low}
 use Rattle.archive_core.proofs.Removing.{places-message}
 
@@ -107,13 +108,13 @@ last-kept (x ∷ ss) s (t ∷ ts) zip =
 
 -- The index of entries, by what was kept of them: of none, and with one more.
 pub kept-none : (index : Index) → index.owners.entries ≡ [] → index.blobs.entries ≡ [] → IndexesKept [] index
-kept-none index no_owners no_blobs [] zip = indexes-none index no_owners no_blobs
+kept-none index no_owners no_blobs [] zip = indexes_none index no_owners no_blobs
 kept-none index no_owners no_blobs (t ∷ ts) zip = absurd zip
 
 kept-more : (ss : List StoredEntry) (s : StoredEntry) (old new : Index) → IndexesKept ss old → Takes old new s → IndexesKept (ss ++ s ∷ []) new
 kept-more ss s old new indexed takes kept zip =
     let parts = last-kept ss s kept zip in
-    subst (λ (l : List StoredEntry). IndexesStored l new) (sym parts.is) (indexes-more parts.front parts.last old new (indexed parts.front parts.all) (takes-kept s parts.last old new parts.one takes))
+    subst (λ (l : List StoredEntry). IndexesStored l new) (sym parts.is) (indexes_more parts.front parts.last old new (indexed parts.front parts.all) (takes-kept s parts.last old new parts.one takes))
 
 pub kept-stays : (blob : List ℕ) (es : List StoredEntry) (i : ℕ) (s : StoredEntry) (old new : Index) → i < length es → s ≡ get_or es i s → bytes_eq blob s.seen.blob.0 ≡ false → IndexesKept (without_blob (take i es) blob) old → Takes old new s → IndexesKept (without_blob (take (i + 1) es) blob) new
 kept-stays blob es i s old new less is other indexed takes = subst (λ (l : List StoredEntry). IndexesKept l new) (sym (next-stays blob es i s less is other)) (kept-more (without_blob (take i es) blob) s old new indexed takes)
@@ -288,7 +289,7 @@ indexes-edited old new before after gone blob text indexed blob_is puts edits =
     let at_number : Puts before after s.seen.id s.seen.blob (record { number = s.number; content = content_id_of text }) = subst (λ (n : ℕ). Puts before after s.seen.id s.seen.blob (record { number = n; content = content_id_of text })) (sym edits.number) at_blob in
     let message_put : Puts before after s.seen.id s.seen.blob (owner_kept s) = subst (λ (c : List ℕ). Puts before after s.seen.id s.seen.blob (record { number = s.number; content = c })) (sym edits.content) at_number in
     subst (λ (es : List StoredEntry). IndexesStored es after) (sym edits.entries)
-    (indexes-more edits.front s before after (indexed edits.front edits.kept) (subst (λ (k : EntryKind). TakesBy k before after s) (sym edits.kind) message_put))
+    (indexes_more edits.front s before after (indexed edits.front edits.kept) (subst (λ (k : EntryKind). TakesBy k before after s) (sym edits.kind) message_put))
 
 pub places-edited : (old new : View) (gone : Id20) (text : List ℕ) (count : ℕ) → count ≡ length (without_blob old.entries gone.0) → EditsEntries old new gone text → message_places 0 (without_blob old.entries gone.0) ++ place_of old.root.next count true ∷ [] ≡ message_places 0 new.entries
 places-edited old new gone text count count_is edits =

@@ -1,7 +1,8 @@
 -- What an edit promises, by the comparison with the live text and by the delivery in its place.
-use Rattle.std.specs.Prelude.{◌≡◌, ℕ, Bool, true, false, List, [], Option, Some, Result, Ok, Err, refl}
+use Rattle.std.specs.Prelude.{◌≡◌, ℕ, Bool, true, false, List, [], Option, Some, Result, Err, refl}
 use Rattle.std.proofs.Common.{sym, ap, subst}
 use Rattle.arch_base.specs.Counts.{RoseIf}
+use Rattle.archive_core.specs.declared.texts.KeptText.{KeptText}
 use Rattle.disk_model.specs.Disk.{Content, Told, Unchanged, WhereTold}
 use Rattle.mail_reader.specs.Stored.{stored}
 use Rattle.arch_model.specs.Archives.{Archive, live, text_of}
@@ -43,7 +44,7 @@ unformed-answers number (answer.NoText n) one = absurd one
 unformed-answers number answer.IsMirror one = absurd one
 unformed-answers number (answer.Damaged file at) one = tt
 
-pub unformed-tells : (reply : Answer) (text : List ℕ) → IsUnformed reply → TellsText reply text
+pub unformed-tells : (reply : Answer) (text : KeptText) → IsUnformed reply → TellsText reply text
 unformed-tells (answer.Ok n id) text one = absurd one
 unformed-tells answer.NoMemory text one = tt
 unformed-tells answer.DiskFault text one = tt

@@ -1,6 +1,7 @@
 -- A delivery that isn't accepted keeps no text.
-use Rattle.std.specs.Prelude.{◌≡◌, ℕ, List, true}
+use Rattle.std.specs.Prelude.{◌≡◌, ℕ, true}
 use Rattle.std.proofs.Common.{sym, subst}
+use Rattle.archive_core.specs.declared.texts.KeptText.{KeptText}
 use Rattle.disk_model.specs.declared.name.FileName.{FileName}
 use Rattle.arch_model.specs.declared.answer.Answer.{Answer}
 use Rattle.arch_model.specs.declared.answer.Answer.TheVariants as answer
@@ -13,7 +14,7 @@ use Rattle.epoch_store.specs.Stores.{View}
 use Rattle.archive_core.specs.Commands.{AnswersDelivery, AnswersEdit, IsForCommand, OnDone, TellsText, is_delivery, refusal_answer}
 use Rattle.archive_core.specs.Kept.{TakesWhatMay}
 
-pub refuse-tells : (v : View) (reply : Answer) (text : List ℕ) → TakesWhatMay v (Refuse reply) → TellsText reply text
+pub refuse-tells : (v : View) (reply : Answer) (text : KeptText) → TakesWhatMay v (Refuse reply) → TellsText reply text
 refuse-tells v (answer.Ok number id) text never = absurd never
 refuse-tells v answer.NoMemory text is = tt
 refuse-tells v (answer.Duplicate number) text is = tt
@@ -61,7 +62,7 @@ error-then refusal.DiskFault P fault short damage = fault
 error-then refusal.NoMemory P fault short damage = short
 error-then (refusal.Damaged file at) P fault short damage = damage file at
 
-pub error-tells : (why : StoreRefusal) (reply : Answer) (text : List ℕ) → reply ≡ refusal_answer why → TellsText reply text
+pub error-tells : (why : StoreRefusal) (reply : Answer) (text : KeptText) → reply ≡ refusal_answer why → TellsText reply text
 error-tells why reply text is = subst (λ (r : Answer). TellsText r text) (sym is) (error-then why (λ (r : Answer). TellsText r text) tt tt (λ file at. tt))
 
 pub error-done : (why : StoreRefusal) (reply : Answer) (P : Type 0) → reply ≡ refusal_answer why → OnDone reply P

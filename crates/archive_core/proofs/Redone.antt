@@ -1,10 +1,10 @@
 -- What the calls of a purge and an edit promise, by the calls of the store.
-use Rattle.std.specs.Prelude.{◌≡◌, ◌+◌, ◌-◌, ◌<◌, ◌^◌, ℕ, List, [], Option, Some, None, Result, Ok, Err, refl}
+use Rattle.std.specs.Prelude.{◌≡◌, ◌+◌, ◌<◌, ◌^◌, ℕ, List, [], Option, Some, None, Result, Ok, Err, refl}
 use Rattle.std.proofs.Common.{sym, ap, subst, arith}
 use Rattle.arch_base.specs.Counts.{RoseIf}
 use Rattle.arch_base.specs.declared.ids.Id20.{Id20}
+use Rattle.mail_commits.specs.declared.ids.TextIds.{TextIds}
 use Rattle.disk_model.specs.Disk.{Files, Content, Image, WhereTold, LeavesOnly}
-use Rattle.disk_model.specs.Synced.{IsSettled}
 use Rattle.disk_model.specs.declared.name.FileName.{FileName}
 use Rattle.git_objects.specs.Objects.{blob_id_of}
 use Rattle.arch_model.specs.Archives.{Archive, live, text_of, with_entry, without_entries}
@@ -15,39 +15,19 @@ use Rattle.arch_judge.specs.Indexes.{IsIndex}
 use Rattle.arch_judge.specs.declared.index.Index.{Index}
 use Rattle.arch_judge.specs.declared.judging.Verdict.TheVariants.{Take, Refuse}
 use Rattle.epoch_file.specs.declared.refusal.StoreRefusal.{StoreRefusal}
-use Rattle.epoch_file.specs.declared.refusal.StoreRefusal.TheVariants as refusal
-use Rattle.epoch_file.specs.Runs.{OnlyReads}
 use Rattle.epoch_store.specs.Laws.{StoreRecovers}
-use Rattle.epoch_store.specs.Planning.{PlansUndamaged}
-use Rattle.epoch_store.specs.Stores.{View, HasSizes, IsStoreWith, Keeps, MayPurge, RecoversOneOf, Rewrites, SeesNoDamage, UnlessFailed, without_blob}
+use Rattle.epoch_store.specs.Promises.{ChangesStore, Renews, Replaces}
+use Rattle.epoch_store.specs.Stores.{View, HasSizes, IsStoreWith, Keeps, MayPurge, RecoversOneOf, without_blob}
 use Rattle.archive_core.specs.Commands.{AnswersDelivery, DoneBy, IfUnreadEdit, OnDone, OnlyLooks, refusal_answer}
 use Rattle.archive_core.specs.Engines.{unchanged-is}
 use Rattle.archive_core.specs.Kept.{IndexesKept}
-use Rattle.archive_core.specs.Rewriting.{EditsAs, JudgesEdit, Replaces, RewritesAs, late_answer}
-use Rattle.archive_core.specs.Walks.{looks-same, looks-joined}
+use Rattle.archive_core.specs.Rewriting.{EditsAs, JudgesEdit, late_answer}
+use Rattle.archive_core.specs.Walks.{looks-same}
 use Rattle.archive_core.proofs.KeptTexts.{error-done, error-then}
 use Rattle.archive_core.proofs.Replies.{when-refused, unless-failed}
 use Rattle.archive_core.proofs.Standing.{not-started, only-read, read-first, still_own, store_keeps}
-use Rattle.archive_core.proofs.Taking.{error-cause, error-unless, failed-done, still-sized}
+use Rattle.archive_core.proofs.Taking.{error-cause, error-unless, failed-done, still-sized, store-looks}
 use Rattle.archive_core.proofs.WithoutText.{index-without, live-message-is, message-agrees, purge-blob, refused-edit, unless-taken}
-
--- A refusal has the same cause, whatever would have been given.
-cause_by : {T U : Type 0} (why : StoreRefusal) (before now : ℕ) → RoseIf (◌≡◌ {A = Result T StoreRefusal} (Err why) (Err refusal.DiskFault)) before now → RoseIf (◌≡◌ {A = Result U StoreRefusal} (Err why) (Err refusal.DiskFault)) before now
-cause_by {T} {U} why before now cause = record {
-  later = cause.later;
-  failed = λ fault. cause.failed (there fault);
-  kept = λ never. cause.kept (λ fault. never (back fault));
-} where
-  there : ◌≡◌ {A = Result U StoreRefusal} (Err why) (Err refusal.DiskFault) → ◌≡◌ {A = Result T StoreRefusal} (Err why) (Err refusal.DiskFault)
-  there fault = (let same : why ≡ refusal.DiskFault = cc in ap (λ (x : StoreRefusal). Err x) same)
-
-  back : ◌≡◌ {A = Result T StoreRefusal} (Err why) (Err refusal.DiskFault) → ◌≡◌ {A = Result U StoreRefusal} (Err why) (Err refusal.DiskFault)
-  back fault = (let same : why ≡ refusal.DiskFault = cc in ap (λ (x : StoreRefusal). Err x) same)
-
-undamaged_by : (T U : Type 0) (why : StoreRefusal) → SeesNoDamage {T = T} (Err why) → SeesNoDamage {T = U} (Err why)
-undamaged_by T U refusal.DiskFault is = tt
-undamaged_by T U refusal.NoMemory is = tt
-undamaged_by T U (refusal.Damaged file at) is = absurd is
 
 -- What a refusal that comes late is, by the one that was given.
 late-then : (reply : Answer) (P : Answer → Type 0) → ((n : ℕ) → P (answer.Duplicate n)) → ((max : ℕ) → P (answer.Full max)) → ((n : ℕ) → P (answer.Collision n)) → P answer.DiskFault → ((file : FileName) (at : ℕ) → P (answer.Damaged file at)) → P answer.NoMemory → P (late_answer reply)
@@ -109,64 +89,6 @@ edit-index v a n blob index gone keeps may indexed shown =
 
 module _ {D : Type 0} (content : D → Option Content) (moment : D → ℕ) (left_since : D → ℕ → Files → Type 0) (faults : D → ℕ)
     (only_now : (disk : D) (image : Files) → left_since disk (moment disk) image → Image (content disk) image) where
-  looks_by : (T U : Type 0) (why : StoreRefusal) (old new : D) → UnlessFailed {T = T} (Err why) (OnlyReads content moment left_since faults old new) → UnlessFailed {T = U} (Err why) (OnlyLooks content moment left_since old new)
-  looks_by T U refusal.DiskFault old new reads = tt
-  looks_by T U refusal.NoMemory old new reads = record { same = reads.same; any_moment = reads.any_moment }
-  looks_by T U (refusal.Damaged file at) old new reads = record { same = reads.same; any_moment = reads.any_moment }
-
-  quiet_cause : {T : Type 0} (disk : D) → RoseIf (◌≡◌ {A = Result T StoreRefusal} (Err refusal.NoMemory) (Err refusal.DiskFault)) (faults disk) (faults disk)
-  quiet_cause disk = record { later = omega arith; failed = λ fault. absurd (cc fault); kept = λ never. refl }
-
-  -- Memory ran out before anything was done.
-  pub rewrites-none : {T : Type 0} → StoreRecovers → (disk : D) (v : View) (Makes : Archive → Archive → Type 0) → RewritesAs {T = T} content moment left_since faults disk disk v v Makes (Err refusal.NoMemory)
-  rewrites-none law disk v Makes = record {
-    any_moment = λ a b cache store room made. not-started moment left_since law v cache [] a b (content disk) disk store (only_now disk);
-    done = λ a b cache store room made. tt;
-    settled = tt;
-    sizes = tt;
-    goes_on = tt;
-    slot = tt;
-    same = refl;
-    looks = looks-same content moment left_since only_now disk;
-    undamaged = λ a cache store. tt;
-    cause = quiet_cause disk;
-  }
-
-  module _ (old new : D) (before after : View) (Makes : Archive → Archive → Type 0)
-      (run : (a b : Archive) (cache : List ℕ) → IsStoreWith before cache a (content old) → before.root.sequence + 1 < 2 ^ 64 → Makes a b → LeavesOnly moment left_since old new (RecoversOneOf cache a [] b)) where
-    -- The store refused.
-    pub rewrites-refused : (T : Type 0) (why : StoreRefusal) → after ≡ before → UnlessFailed {T = Unit {0}} (Err why) (OnlyReads content moment left_since faults old new) → PlansUndamaged {T = Unit {0}} before (Err why) (content old) → RoseIf (◌≡◌ {A = Result (Unit {0}) StoreRefusal} (Err why) (Err refusal.DiskFault)) (faults old) (faults new)
-        → RewritesAs {T = T} content moment left_since faults old new before after Makes (Err why)
-    rewrites-refused T why same looks undamaged cause = record {
-      any_moment = run;
-      done = λ a b cache store room made. tt;
-      settled = tt;
-      sizes = tt;
-      goes_on = tt;
-      slot = tt;
-      same = same;
-      looks = looks_by (Unit {0}) T why old new looks;
-      undamaged = λ a cache store. undamaged_by (Unit {0}) T why (undamaged a cache store);
-      cause = cause_by why (faults old) (faults new) cause;
-    }
-
-    -- The store wrote them.
-    pub rewrites-done : {T : Type 0} (given : T) → ((a b : Archive) (cache : List ℕ) → IsStoreWith before cache a (content old) → before.root.sequence + 1 < 2 ^ 64 → Makes a b → IsStoreWith after [] b (content new))
-        → WhereTold IsSettled (content new) → WhereTold (HasSizes after) (content new) → Rewrites before.root after.root → after.slot ≡ 1 - before.slot → RoseIf (◌≡◌ {A = Result (Unit {0}) StoreRefusal} (Ok tt) (Err refusal.DiskFault)) (faults old) (faults new)
-        → RewritesAs content moment left_since faults old new before after Makes (Ok given)
-    rewrites-done given done settled sizes goes_on slot cause = record {
-      any_moment = run;
-      done = done;
-      settled = settled;
-      sizes = sizes;
-      goes_on = goes_on;
-      slot = slot;
-      same = tt;
-      looks = tt;
-      undamaged = λ a cache store. tt;
-      cause = record { later = cause.later; failed = λ fault. absurd (cc fault); kept = λ never. cause.kept (λ fault. absurd (cc fault)) };
-    }
-
   -- A delivery in place of a text was refused, after the disk was only read.
   pub edits-refused : StoreRecovers → (old mid : D) (v : View) (index : Index) (blob : Id20) (number : ℕ) (bytes : List ℕ) (arrived : ℕ) (reply : Answer) → MayPurge v number blob → IndexesKept (without_blob v.entries blob.0) index → WhereTold (HasSizes v) (content old)
       → JudgesEdit content old v index bytes (Refuse reply) → OnlyLooks content moment left_since old mid → RoseIf (reply ≡ answer.DiskFault) (faults old) (faults mid) → EditsAs content moment left_since faults old mid v v number bytes arrived (late_answer reply)
@@ -204,17 +126,17 @@ module _ {D : Type 0} (content : D → Option Content) (moment : D → ℕ) (lef
   }
 
   -- The verdict was to keep a text.
-  module _ (law : StoreRecovers) (old mid new : D) (v after : View) (index : Index) (blob : Id20) (number : ℕ) (bytes text : List ℕ) (arrived n : ℕ) (id : Id20) (may : MayPurge v number blob) (indexed : IndexesKept (without_blob v.entries blob.0) index)
-      (judges : JudgesEdit content old v index bytes (Take text id n)) (looks : OnlyLooks content moment left_since old mid) (steady : faults mid ≡ faults old) where
+  module _ (law : StoreRecovers) (old mid new : D) (v after : View) (index : Index) (blob : Id20) (number : ℕ) (bytes text : List ℕ) (arrived n : ℕ) (ids : TextIds) (may : MayPurge v number blob) (indexed : IndexesKept (without_blob v.entries blob.0) index)
+      (judges : JudgesEdit content old v index bytes (Take text ids n)) (looks : OnlyLooks content moment left_since old mid) (steady : faults mid ≡ faults old) where
     -- The archive after it, and that no other text has its blob id.
     taken_is : (a : Archive) (cache gone : List ℕ) → IsStoreWith v cache a (content old) → text_of (live a.entries) number ≡ Some gone
-        → (unless_refused a (delivered (without_entries a gone) bytes arrived) ≡ record { archive = with_entry (without_entries a gone) (new_epoch (without_entries a gone)) text arrived; answer = answer.Ok n id }) × (blob_id_of gone ≡ blob) × (collision (without_entries a gone).entries text ≡ None)
+        → (unless_refused a (delivered (without_entries a gone) bytes arrived) ≡ record { archive = with_entry (without_entries a gone) (new_epoch (without_entries a gone)) text arrived; answer = answer.Ok n ids.blob }) × (blob_id_of gone ≡ blob) × (collision (without_entries a gone).entries text ≡ None)
     taken_is a cache gone store shown =
         let keeps = store_keeps v cache a (content old) store in
         let judged = judges a cache gone store (edit-index v a number blob index gone keeps may indexed shown) in
-        (unless-taken a (with_entry (without_entries a gone) (new_epoch (without_entries a gone)) text arrived) (delivered (without_entries a gone) bytes arrived) n id (judged.0 arrived), purge-blob v a number blob gone keeps may (live-message-is a number gone keeps.valid shown), judged.1)
+        (unless-taken a (with_entry (without_entries a gone) (new_epoch (without_entries a gone)) text arrived) (delivered (without_entries a gone) bytes arrived) n ids.blob (judged.0 arrived), purge-blob v a number blob gone keeps may (live-message-is a number gone keeps.valid shown), judged.1)
 
-    run_after : (r : Result (Unit {0}) StoreRefusal) → RewritesAs content moment left_since faults mid new v after (Replaces blob text arrived) r → (a : Archive) (cache gone : List ℕ) → IsStoreWith v cache a (content old) → v.root.sequence + 1 < 2 ^ 64 → text_of (live a.entries) number ≡ Some gone
+    run_after : {reads : D → ℕ} (r : Result (Unit {0}) StoreRefusal) → ChangesStore content moment left_since faults reads mid new v after Renews (Replaces blob text arrived) r → (a : Archive) (cache gone : List ℕ) → IsStoreWith v cache a (content old) → v.root.sequence + 1 < 2 ^ 64 → text_of (live a.entries) number ≡ Some gone
         → LeavesOnly moment left_since old new (RecoversOneOf cache a [] (unless_refused a (delivered (without_entries a gone) bytes arrived)).archive)
     run_after r keeps a cache gone store room shown =
         let is = taken_is a cache gone store shown in
@@ -223,25 +145,25 @@ module _ {D : Type 0} (content : D → Option Content) (moment : D → ℕ) (lef
         (subst (λ (b : Archive). LeavesOnly moment left_since mid new (RecoversOneOf cache a [] b)) (sym (ap (λ (d : Done). d.archive) is.0)) (keeps.any_moment a (with_entry (without_entries a gone) (new_epoch (without_entries a gone)) text arrived) cache own room (record { number = number; gone = gone; shown = shown; blob_is = is.1; alone = is.2; is = refl })))
 
     -- The store refused it.
-    pub edits-failed : (why : StoreRefusal) (reply : Answer) → reply ≡ refusal_answer why → WhereTold (HasSizes v) (content old) → RewritesAs {T = Unit {0}} content moment left_since faults mid new v after (Replaces blob text arrived) (Err why) → EditsAs content moment left_since faults old new v after number bytes arrived reply
-    edits-failed why reply reply_is sizes keeps = subst (λ (r : Answer). EditsAs content moment left_since faults old new v after number bytes arrived r) (sym reply_is) (record {
+    pub edits-failed : {reads : D → ℕ} (why : StoreRefusal) (reply : Answer) → reply ≡ refusal_answer why → WhereTold (HasSizes v) (content old) → ChangesStore content moment left_since faults reads mid new v after Renews (Replaces blob text arrived) (Err why) → EditsAs content moment left_since faults old new v after number bytes arrived reply
+    edits-failed why reply reply_is sizes keeps = let looked = store-looks content moment left_since only_now Renews why looks keeps in subst (λ (r : Answer). EditsAs content moment left_since faults old new v after number bytes arrived r) (sym reply_is) (record {
       any_moment = run_after (Err why) keeps;
       done = λ a cache gone store room shown. (
           let own = still_own v cache a (content old) (content mid) looks.same store in
-          failed-done content moment left_since (Unit {0}) mid new v after cache [] a (unless_refused a (delivered (without_entries a gone) bytes arrived)) why keeps.same keeps.looks (keeps.undamaged a cache own) own);
+          failed-done content moment left_since old new v after cache [] a (unless_refused a (delivered (without_entries a gone) bytes arrived)) why keeps.same looked (keeps.undamaged a cache own) store);
       settled = error-done why (refusal_answer why) _ refl;
       goes_on = error-done why (refusal_answer why) _ refl;
       slot = error-done why (refusal_answer why) _ refl;
       same = when-refused (refusal_answer why) _ keeps.same;
-      untouched = when-refused (refusal_answer why) _ (error-unless (Unit {0}) why _ _ (looks-joined content moment left_since only_now old mid new looks) keeps.looks);
+      untouched = when-refused (refusal_answer why) _ (error-unless why _ _ (λ is. is) looked);
       late = error-then why (λ r. IfUnreadEdit r ⊥) tt tt (λ file at. tt);
-      sizes = error-unless (Unit {0}) why _ _ (λ more. still-sized content moment left_since old new v after keeps.same sizes (looks-joined content moment left_since only_now old mid new looks more)) keeps.looks;
-      cause = subst (λ (m : ℕ). RoseIf (refusal_answer why ≡ answer.DiskFault) m (faults new)) steady (error-cause (Unit {0}) why (faults mid) (faults new) keeps.cause);
+      sizes = error-unless why _ _ (still-sized content moment left_since old new v after keeps.same sizes) looked;
+      cause = subst (λ (m : ℕ). RoseIf (refusal_answer why ≡ answer.DiskFault) m (faults new)) steady (error-cause why (faults mid) (faults new) keeps.cause);
       for_command = error-then why AnswersDelivery tt tt (λ file at. tt);
     })
 
     -- It was kept.
-    pub edits-done : RewritesAs {T = Unit {0}} content moment left_since faults mid new v after (Replaces blob text arrived) (Ok tt) → EditsAs content moment left_since faults old new v after number bytes arrived (answer.Ok n id)
+    pub edits-done : {reads : D → ℕ} → ChangesStore content moment left_since faults reads mid new v after Renews (Replaces blob text arrived) (Ok tt) → EditsAs content moment left_since faults old new v after number bytes arrived (answer.Ok n ids.blob)
     edits-done keeps = record {
       any_moment = run_after (Ok tt) keeps;
       done = λ a cache gone store room shown. (
@@ -258,6 +180,6 @@ module _ {D : Type 0} (content : D → Option Content) (moment : D → ℕ) (lef
       untouched = tt;
       late = tt;
       sizes = keeps.sizes;
-      cause = subst (λ (m : ℕ). RoseIf (answer.Ok n id ≡ answer.DiskFault) m (faults new)) steady (record { later = keeps.cause.later; failed = λ fault. absurd (cc fault); kept = λ never. keeps.cause.kept (λ fault. absurd (cc fault)) });
+      cause = subst (λ (m : ℕ). RoseIf (answer.Ok n ids.blob ≡ answer.DiskFault) m (faults new)) steady (record { later = keeps.cause.later; failed = λ fault. absurd (cc fault); kept = λ never. keeps.cause.kept (λ fault. absurd (cc fault)) });
       for_command = tt;
     }

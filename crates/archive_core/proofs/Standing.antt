@@ -4,13 +4,14 @@ use Rattle.std.proofs.Common.{◌∙◌, sym, ap, subst, inl}
 use Rattle.disk_model.specs.Disk.{Files, Content, Image, Told, Unchanged, LeavesOnly}
 use Rattle.disk_model.specs.Moments.{joined, started, weaker}
 use Rattle.arch_model.specs.Archives.{Archive, with_entry}
-use Rattle.arch_model.specs.Delivery.{Done, delivered, refused, new_epoch}
+use Rattle.arch_model.specs.Delivery.{Done, collision, delivered, refused, new_epoch}
 use Rattle.arch_model.specs.declared.answer.Answer.{Answer}
 use Rattle.arch_model.specs.declared.answer.Answer.TheVariants as answer
 use Rattle.arch_model.specs.declared.text_refusal.TextRefusal.{TextRefusal}
 use Rattle.arch_model.specs.declared.text_refusal.TextRefusal.TheVariants as reading
 use Rattle.arch_judge.specs.declared.judging.Verdict.TheVariants.{Refuse}
 use Rattle.epoch_store.specs.Laws.{StoreRecovers}
+use Rattle.epoch_store.specs.Promises.{Adds}
 use Rattle.epoch_store.specs.Reads.{GivesTextOf}
 use Rattle.epoch_store.specs.Stores.{View, Keeps, IsStoreWith, RecoversOneOf}
 use Rattle.archive_core.specs.Commands.{DoneBy, JudgesRead, unread_answer}
@@ -48,6 +49,13 @@ module _ {D : Type 0} (moment : D → ℕ) (left_since : D → ℕ → Files →
 pub archive_taken : (a : Archive) (text slice : List ℕ) (moment : ℕ) (wanted : Done) (reply : Answer) → slice ≡ text
     → wanted ≡ record { archive = with_entry a (new_epoch a) text moment; answer = reply } → with_entry a (new_epoch a) slice moment ≡ wanted.archive
 archive_taken a text slice moment wanted reply is judged = ap (λ (t : List ℕ). with_entry a (new_epoch a) t moment) is ∙ sym (ap (λ (d : Done). d.archive) judged)
+
+-- So the archive before becomes that one, if no other text has the blob id.
+pub adds-taken : (a : Archive) (text slice : List ℕ) (moment : ℕ) (wanted : Done) (reply : Answer) → slice ≡ text → wanted ≡ record { archive = with_entry a (new_epoch a) text moment; answer = reply } → collision a.entries text ≡ None → Adds slice moment a wanted.archive
+adds-taken a text slice moment wanted reply is judged alone = record {
+  alone = subst (λ (t : List ℕ). collision a.entries t ≡ None) (sym is) alone;
+  is = sym (archive_taken a text slice moment wanted reply is judged);
+}
 
 -- A refusal is the definition's, and leaves the archive.
 stays : (v : View) (cache : List ℕ) (a : Archive) (k : Option Content) (wanted : Done) (reply : Answer) → IsStoreWith v cache a k → wanted ≡ refused a reply → (wanted.answer ≡ reply) × IsStoreWith v cache wanted.archive k

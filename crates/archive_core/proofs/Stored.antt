@@ -75,20 +75,6 @@ kept-at before [] i s there = absurd (cc)
 kept-at before (e ∷ es) zero s there = record { entry = e; there = refl; kept = (before, sym (only (stored_at before e) s there)) }
 kept-at before (e ∷ es) (suc i) s there = let rest = kept-at (before ++ e ∷ []) es i s there in record { entry = rest.entry; there = rest.there; kept = rest.kept }
 
--- What is kept of entries and one more.
-pub stored-push : (before es : List Entry) (e : Entry) → stored_after before (es ++ e ∷ []) ≡ stored_after before es ++ stored_at (before ++ es) e ∷ []
-stored-push before [] e = ap (λ (xs : List Entry). stored_at xs e ∷ []) (sym (append_nil before)) where
-  append_nil : (xs : List Entry) → xs ++ [] ≡ xs
-  append_nil [] = refl
-  append_nil (x ∷ xs) = ap (λ (l : List Entry). x ∷ l) (append_nil xs)
-stored-push before (x ∷ es) e =
-    ap (λ (ss : List StoredEntry). stored_at before x ∷ ss)
-    (stored-push (before ++ x ∷ []) es e ∙ ap (λ (xs : List Entry). stored_after (before ++ x ∷ []) es ++ stored_at xs e ∷ []) (assoc before))
-  where
-    assoc : (xs : List Entry) → (xs ++ x ∷ []) ++ es ≡ xs ++ x ∷ es
-    assoc [] = refl
-    assoc (y ∷ xs) = ap (λ (l : List Entry). y ∷ l) (assoc xs)
-
 -- The number of a message is that of its text.
 message_here : (k : EntryKind) (e : Entry) (es : List Entry) → is_message k ≡ true → text_of (if is_message k then e ∷ messages es else messages es) e.number ≡ Some e.text
 message_here Message e es one = let itself : (e.number == e.number) ≡ true = grind (arith, nat_tests) in ap (λ (t : Bool). if t then Some e.text else text_of (messages es) e.number) itself

@@ -1,5 +1,5 @@
 -- What a command promises that was refused, or that the store failed to do.
-use Rattle.std.specs.Prelude.{◌≡◌, ◌+◌, ◌<◌, ◌^◌, ℕ, Bool, true, false, List, Option, Some, None, Result, Err, is_some, refl, if◌then◌else◌}
+use Rattle.std.specs.Prelude.{◌≡◌, ◌+◌, ◌<◌, ◌^◌, ℕ, Bool, true, false, List, Option, Some, None, Result, Ok, Err, is_some, refl, if◌then◌else◌}
 use Rattle.std.proofs.Common.{◌∙◌, sym, ap, subst, arith}
 use Rattle.arch_base.specs.Counts.{RoseIf}
 use Rattle.disk_model.specs.Disk.{Files, Content, Image, WhereTold, LeavesOnly}
@@ -14,13 +14,15 @@ use Rattle.arch_model.specs.declared.command.Command.TheVariants.{Deliver, Remov
 use Rattle.epoch_file.specs.declared.refusal.StoreRefusal.{StoreRefusal}
 use Rattle.epoch_file.specs.declared.refusal.StoreRefusal.TheVariants as refusal
 use Rattle.epoch_store.specs.Laws.{StoreRecovers}
-use Rattle.epoch_store.specs.Stores.{View, HasSizes, IsStoreWith, Keeps, RecoversOneOf, SeesNoDamage, UnlessFailed}
-use Rattle.archive_core.specs.Commands.{DoneBy, IfUnreadFor, IsForCommand, OnDone, OnlyLooks, TakesCommand, UnlessFault, cache_left, refusal_answer}
+use Rattle.arch_base.specs.declared.ids.Id20.{Id20}
+use Rattle.epoch_store.specs.Promises.{Appends, ChangesStore, Renews, StaysBy, Way}
+use Rattle.epoch_store.specs.Stores.{View, HasSizes, IsStoreWith, IsUndamaged, Keeps, RecoversOneOf, UnlessFailed}
+use Rattle.archive_core.specs.Commands.{DoneBy, FilesFor, IfUnreadFor, IsForCommand, OnDone, OnlyLooks, TakesCommand, UnlessFault, cache_left, refusal_answer, way_of}
 use Rattle.archive_core.specs.Engines.{unchanged-is}
-use Rattle.archive_core.specs.Walks.{looks-same}
+use Rattle.archive_core.specs.Walks.{looks-joined, looks-same}
 use Rattle.archive_core.proofs.KeptTexts.{error-done}
 use Rattle.archive_core.proofs.Replies.{done-then, when-refused, unless-failed}
-use Rattle.archive_core.proofs.Standing.{only-read, store_keeps, still_own}
+use Rattle.archive_core.proofs.Standing.{only-read, read-first, store_keeps, still_own}
 use Rattle.archive_core.proofs.WithoutText.{is_damage, left-done}
 
 -- A mirror refuses each command.
@@ -48,34 +50,46 @@ reads_none (Purge number) n = omega arith
 reads_none (Edit number bytes) n = omega arith
 
 -- What holds after an error of the store, but for a fault.
-pub error-unless : (T : Type 0) (why : StoreRefusal) (P Q : Type 0) → (P → Q) → UnlessFailed {T = T} (Err why) P → UnlessFault (refusal_answer why) Q
-error-unless T refusal.DiskFault P Q weaken is = tt
-error-unless T refusal.NoMemory P Q weaken is = weaken is
-error-unless T (refusal.Damaged file at) P Q weaken is = weaken is
+pub error-unless : (why : StoreRefusal) (P Q : Type 0) → (P → Q) → UnlessFailed {T = Unit {0}} (Err why) P → UnlessFault (refusal_answer why) Q
+error-unless refusal.DiskFault P Q weaken is = tt
+error-unless refusal.NoMemory P Q weaken is = weaken is
+error-unless (refusal.Damaged file at) P Q weaken is = weaken is
 
 -- The cause of its answer.
-pub error-cause : (T : Type 0) (why : StoreRefusal) (before now : ℕ) → RoseIf (◌≡◌ {A = Result T StoreRefusal} (Err why) (Err refusal.DiskFault)) before now → RoseIf (refusal_answer why ≡ answer.DiskFault) before now
-error-cause T refusal.DiskFault before now cause = record { later = cause.later; failed = λ fault. cause.failed refl; kept = λ never. absurd (never refl) }
-error-cause T refusal.NoMemory before now cause = record { later = cause.later; failed = λ fault. absurd (cc fault); kept = λ never. cause.kept (λ fault. absurd (cc fault)) }
-error-cause T (refusal.Damaged file at) before now cause = record { later = cause.later; failed = λ fault. absurd (cc fault); kept = λ never. cause.kept (λ fault. absurd (cc fault)) }
+pub error-cause : (why : StoreRefusal) (before now : ℕ) → RoseIf (◌≡◌ {A = Result (Unit {0}) StoreRefusal} (Err why) (Err refusal.DiskFault)) before now → RoseIf (refusal_answer why ≡ answer.DiskFault) before now
+error-cause refusal.DiskFault before now cause = record { later = cause.later; failed = λ fault. cause.failed refl; kept = λ never. absurd (never refl) }
+error-cause refusal.NoMemory before now cause = record { later = cause.later; failed = λ fault. absurd (cc fault); kept = λ never. cause.kept (λ fault. absurd (cc fault)) }
+error-cause (refusal.Damaged file at) before now cause = record { later = cause.later; failed = λ fault. absurd (cc fault); kept = λ never. cause.kept (λ fault. absurd (cc fault)) }
 
 -- What never is the cause leaves the count.
 pub steady-cause : (P : Type 0) (before now : ℕ) → (P → ⊥) → now ≡ before → RoseIf P before now
 steady-cause P before now never is = record { later = omega arith; failed = λ fault. absurd (never fault); kept = λ _. is }
 
 module _ {D : Type 0} (content : D → Option Content) (moment : D → ℕ) (left_since : D → ℕ → Files → Type 0) where
-  -- The store did nothing more, unless the disk failed.
-  pub looks-still : (T : Type 0) (why : StoreRefusal) (old mid new : D) → OnlyLooks content moment left_since old mid → (◌≡◌ {A = Result T StoreRefusal} (Err why) (Err refusal.NoMemory) → new ≡ mid) → SeesNoDamage {T = T} (Err why) → UnlessFailed {T = T} (Err why) (OnlyLooks content moment left_since old new)
-  looks-still T refusal.DiskFault old mid new looks still fine = tt
-  looks-still T refusal.NoMemory old mid new looks still fine = subst (λ (d : D). OnlyLooks content moment left_since old d) (sym (still refl)) looks
-  looks-still T (refusal.Damaged file at) old mid new looks still fine = absurd fine
+  -- The store did nothing more, or only read, unless the disk failed.
+  pub store-looks : ((disk : D) (image : Files) → left_since disk (moment disk) image → Image (content disk) image) → {faults reads : D → ℕ} {old mid new : D} {v after : View} {Makes : Archive → Archive → Type 0} (way : Way) (why : StoreRefusal) → OnlyLooks content moment left_since old mid → ChangesStore content moment left_since faults reads mid new v after way Makes (Err why)
+      → UnlessFailed {T = Unit {0}} (Err why) (OnlyLooks content moment left_since old new)
+  store-looks only_now {faults} {old = old} {mid} {new} way why looks changes = by why changes.untouched where
+    more : (way : Way) → StaysBy way content moment left_since faults mid new → OnlyLooks content moment left_since old new
+    more Appends still = subst (λ (d : D). OnlyLooks content moment left_since old d) (sym still) looks
+    more Renews reads = looks-joined content moment left_since only_now old mid new looks (record { same = reads.same; any_moment = reads.any_moment })
+
+    by : (why : StoreRefusal) → UnlessFailed {T = Unit {0}} (Err why) (StaysBy way content moment left_since faults mid new) → UnlessFailed {T = Unit {0}} (Err why) (OnlyLooks content moment left_since old new)
+    by refusal.DiskFault still = tt
+    by refusal.NoMemory still = more way still
+    by (refusal.Damaged file at) still = more way still
+
+  -- It found no damage.
+  pub store-sound : {faults reads : D → ℕ} {mid new : D} {v after : View} {Makes : Archive → Archive → Type 0} (way : Way) (why : StoreRefusal) → ChangesStore content moment left_since faults reads mid new v after way Makes (Err why) → (cache : List ℕ) (a : Archive) → IsStoreWith v cache a (content mid) → IsUndamaged why
+  store-sound Appends why changes cache a own = changes.undamaged
+  store-sound Renews why changes cache a own = changes.undamaged a cache own
 
   -- The archive after an error of the store.
-  pub failed-done : (T : Type 0) (old new : D) (v after : View) (cache left : List ℕ) (a : Archive) (d : Done) (why : StoreRefusal) → after ≡ v → UnlessFailed {T = T} (Err why) (OnlyLooks content moment left_since old new) → SeesNoDamage {T = T} (Err why)
+  pub failed-done : (old new : D) (v after : View) (cache left : List ℕ) (a : Archive) (d : Done) (why : StoreRefusal) → after ≡ v → UnlessFailed {T = Unit {0}} (Err why) (OnlyLooks content moment left_since old new) → IsUndamaged why
       → IsStoreWith v cache a (content old) → DoneBy after cache left a d (refusal_answer why) (content new)
-  failed-done T old new v after cache left a d refusal.DiskFault same looks fine store = tt
-  failed-done T old new v after cache left a d refusal.NoMemory same looks fine store = subst (λ (u : View). IsStoreWith u cache a (content new)) (sym same) (still_own v cache a (content old) (content new) looks.same store)
-  failed-done T old new v after cache left a d (refusal.Damaged file at) same looks fine store = absurd fine
+  failed-done old new v after cache left a d refusal.DiskFault same looks fine store = tt
+  failed-done old new v after cache left a d refusal.NoMemory same looks fine store = subst (λ (u : View). IsStoreWith u cache a (content new)) (sym same) (still_own v cache a (content old) (content new) looks.same store)
+  failed-done old new v after cache left a d (refusal.Damaged file at) same looks fine store = absurd fine
 
   -- The files have their sizes.
   pub still-sized : (old new : D) (v after : View) → after ≡ v → WhereTold (HasSizes v) (content old) → OnlyLooks content moment left_since old new → WhereTold (HasSizes after) (content new)
@@ -112,24 +126,51 @@ module _ {D : Type 0} (content : D → Option Content) (moment : D → ℕ) (lef
       (λ a cache store own. left-done v cache (cache_left m cache) a (wanted a) (content disk) reply own declined fine (is a (store_keeps v cache a (content disk) own)))
       unmoved (record { later = omega arith; failed = λ fault. absurd (sound fault); kept = λ never. refl }) for_command (reads_none m (reads disk))
 
-  -- The store failed.
-  pub failed-taken : (T : Type 0) (old new : D) (v after : View) (why : StoreRefusal) (reply : Answer) → reply ≡ refusal_answer why → after ≡ v → WhereTold (HasSizes v) (content old)
-      → ((a : Archive) (cache : List ℕ) → IsStoreWith v cache a (content old) → v.root.sequence + 1 < 2 ^ 64 → LeavesOnly moment left_since old new (RecoversOneOf cache a (cache_left m cache) (wanted a).archive))
-      → UnlessFailed {T = T} (Err why) (OnlyLooks content moment left_since old new) → ((a : Archive) (cache : List ℕ) → IsStoreWith v cache a (content old) → SeesNoDamage {T = T} (Err why))
-      → IfUnreadFor m (refusal_answer why) (new ≡ old) → RoseIf (◌≡◌ {A = Result T StoreRefusal} (Err why) (Err refusal.DiskFault)) (faults old) (faults new) → IsForCommand m (refusal_answer why) → ReadsFor m (reads old) (reads new)
-      → TakesCommand content moment left_since faults reads old new v after m wanted reply
-  failed-taken T old new v after why reply reply_is same sizes run looks fine unmoved cause for_command count = subst (λ (r : Answer). TakesCommand content moment left_since faults reads old new v after m wanted r) (sym reply_is) (record {
-    any_moment = run;
-    done = λ a cache store room. failed-done content moment left_since T old new v after cache (cache_left m cache) a (wanted a) why same looks (fine a cache store) store;
-    settled = error-done why (refusal_answer why) _ refl;
-    goes_on = error-done why (refusal_answer why) _ refl;
-    files = error-done why (refusal_answer why) _ refl;
-    slot = error-done why (refusal_answer why) _ refl;
-    same = when-refused (refusal_answer why) _ same;
-    untouched = when-refused (refusal_answer why) _ (error-unless T why _ _ (λ is. is) looks);
-    unmoved = unmoved;
-    sizes = error-unless T why _ _ (still-sized content moment left_since old new v after same sizes) looks;
-    cause = error-cause T why (faults old) (faults new) cause;
-    for_command = for_command;
-    count = count;
-  })
+  -- The store was asked, after the disk was only read.
+  module _ (old mid new : D) (v after : View) (Makes : Archive → Archive → Type 0) (looks : OnlyLooks content moment left_since old mid) (steady : faults mid ≡ faults old)
+      (makes : (a : Archive) (cache : List ℕ) → IsStoreWith v cache a (content old) → Makes a (wanted a).archive) (count : ReadsFor m (reads old) (reads new)) where
+    still : (a : Archive) (cache : List ℕ) → IsStoreWith v cache a (content old) → IsStoreWith v cache a (content mid)
+    still a cache store = still_own v cache a (content old) (content mid) looks.same store
+
+    run : (r : Result (Unit {0}) StoreRefusal) → ChangesStore content moment left_since faults reads mid new v after (way_of m) Makes r → (a : Archive) (cache : List ℕ) → IsStoreWith v cache a (content old) → v.root.sequence + 1 < 2 ^ 64 → LeavesOnly moment left_since old new (RecoversOneOf cache a (cache_left m cache) (wanted a).archive)
+    run r changes a cache store room = read-first moment left_since law v cache (cache_left m cache) a (wanted a).archive (content old) old mid new store looks.any_moment (changes.any_moment a (wanted a).archive cache (still a cache store) room (makes a cache store))
+
+    -- It failed.
+    pub failed-taken : (why : StoreRefusal) (reply : Answer) → reply ≡ refusal_answer why → WhereTold (HasSizes v) (content old) → ChangesStore content moment left_since faults reads mid new v after (way_of m) Makes (Err why) → IfUnreadFor m (refusal_answer why) (new ≡ old) → IsForCommand m (refusal_answer why)
+        → TakesCommand content moment left_since faults reads old new v after m wanted reply
+    failed-taken why reply reply_is sizes changes unmoved for_command =
+        let looked = store-looks content moment left_since only_now (way_of m) why looks changes in
+        subst (λ (r : Answer). TakesCommand content moment left_since faults reads old new v after m wanted r) (sym reply_is) (record {
+          any_moment = run (Err why) changes;
+          done = λ a cache store room. failed-done content moment left_since old new v after cache (cache_left m cache) a (wanted a) why changes.same looked (store-sound content moment left_since (way_of m) why changes cache a (still a cache store)) store;
+          settled = error-done why (refusal_answer why) _ refl;
+          goes_on = error-done why (refusal_answer why) _ refl;
+          files = error-done why (refusal_answer why) _ refl;
+          slot = error-done why (refusal_answer why) _ refl;
+          same = when-refused (refusal_answer why) _ changes.same;
+          untouched = when-refused (refusal_answer why) _ (error-unless why _ _ (λ is. is) looked);
+          unmoved = unmoved;
+          sizes = error-unless why _ _ (still-sized content moment left_since old new v after changes.same sizes) looked;
+          cause = subst (λ (n : ℕ). RoseIf (refusal_answer why ≡ answer.DiskFault) n (faults new)) steady (error-cause why (faults mid) (faults new) changes.cause);
+          for_command = for_command;
+          count = count;
+        })
+
+    -- It was carried out.
+    pub done-taken : (number : ℕ) (id : Id20) → ChangesStore content moment left_since faults reads mid new v after (way_of m) Makes (Ok tt) → ((a : Archive) (cache : List ℕ) → IsStoreWith v cache a (content old) → (wanted a).answer ≡ answer.Ok number id) → FilesFor m v after → IfUnreadFor m (answer.Ok number id) (new ≡ old) → IsForCommand m (answer.Ok number id)
+        → TakesCommand content moment left_since faults reads old new v after m wanted (answer.Ok number id)
+    done-taken number id changes answers files unmoved for_command = record {
+      any_moment = run (Ok tt) changes;
+      done = λ a cache store room. record { answer_is = answers a cache store; store = changes.done a (wanted a).archive cache (still a cache store) room (makes a cache store) };
+      settled = changes.settled;
+      goes_on = changes.goes_on;
+      files = files;
+      slot = changes.slot;
+      same = tt;
+      untouched = tt;
+      unmoved = unmoved;
+      sizes = changes.sizes;
+      cause = steady-cause _ _ _ (λ fault. absurd (cc fault)) (changes.cause.kept (λ fault. absurd (cc fault)) ∙ steady);
+      for_command = for_command;
+      count = count;
+    }

@@ -78,7 +78,7 @@ if-none-read answer.NoMemory P never = tt
 
 -- A verdict after the texts were compared.
 pub if-compared : (v : Verdict) (P : Type 0) → RefusesLast v → IfRefusedUnread v P
-if-compared (Take text blob n) P is = tt
+if-compared (Take text ids n) P is = tt
 if-compared (Compare text blob n) P is = tt
 if-compared (Refuse (answer.Ok number id)) P never = tt
 if-compared (Refuse (answer.Duplicate number)) P never = absurd never

@@ -5,6 +5,8 @@ use Rattle.std.proofs.Common.{◌∙◌, sym, ap, subst, arith}
 use Rattle.std.proofs.lemmas.Slice.Eq.{bytes_eq-Decides}
 use Rattle.arch_base.specs.declared.config.Config.{Config}
 use Rattle.arch_base.specs.declared.ids.Id20.{Id20}
+use Rattle.mail_commits.specs.Ids.{text_ids_of}
+use Rattle.mail_commits.specs.declared.ids.TextIds.{TextIds}
 use Rattle.git_objects.specs.Objects.{blob_id_of}
 use Rattle.arch_model.specs.Archives.{Archive, live, blob_number}
 use Rattle.arch_model.specs.Shelves.{blob_text}
@@ -25,7 +27,8 @@ use Rattle.epoch_store.specs.Reads.{GivesTextOf}
 use Rattle.epoch_store.specs.Stores.{View, Keeps}
 use Rattle.archive_core.specs.Commands.{ReadsMessage, JudgesRead, IsAlone, unread_answer}
 use Rattle.archive_core.specs.Numbers.{IsMessageAt}
-use Rattle.archive_core.specs.Kept.{IndexesStored, IsNewTo, MayGoIn, TakesWhatMay}
+use Rattle.epoch_store.specs.Indexes.{IndexesStored}
+use Rattle.archive_core.specs.Kept.{IsNewTo, MayGoIn, TakesWhatMay}
 use Rattle.archive_core.proofs.ByBlob.{blob-index}
 use Rattle.archive_core.proofs.Stored.{stored-length}
 use Rattle.archive_core.proofs.Indexes.{are-of, index-of_kept, new-to}
@@ -57,8 +60,8 @@ module _ (v : View) (config : Config) (index : Index) (next : ℕ) (indexed : In
   }
 
   -- A text that may be kept would be accepted.
-  pub taken : (text : List ℕ) (blob : Id20) (number : ℕ) → MayBeKept config index next text blob number → MayGoIn v text blob
-  taken text blob number may =
+  pub taken : (text : List ℕ) (ids : TextIds) (number : ℕ) → MayBeKept config index next text ids number → MayGoIn v text ids
+  taken text ids number may =
       let fresh : IsNewTo v.entries text = new-to v.entries index text indexed may.comes.storage.id may.comes.new_id in
       record {
         accepts = record {
@@ -68,13 +71,13 @@ module _ (v : View) (config : Config) (index : Index) (next : ℕ) (indexed : In
           id = λ a keeps. fresh a.entries (are-of v a keeps);
         };
         new_id = fresh;
-        blob_is = may.comes.blob_is;
+        ids_are = may.comes.ids_are;
       }
 
 -- What is judged is judged where a read may fail, too.
 pub judges-read : (a : Archive) (bytes : List ℕ) (verdict : Verdict) → Judges a bytes verdict → JudgesRead a bytes verdict
-judges-read a bytes (Take text blob number) is = is
-judges-read a bytes (Compare text blob number) is = is
+judges-read a bytes (Take text ids number) is = is
+judges-read a bytes (Compare text ids number) is = is
 judges-read a bytes (Refuse answer.NoMemory) is = is
 judges-read a bytes (Refuse (answer.Duplicate number)) is = is
 judges-read a bytes (Refuse answer.NoFields) is = is
@@ -118,26 +121,26 @@ compares a bytes text kept blob number agree decides reads moment = decides.deci
 
 -- No other text has the blob id of one that is taken: no entry has it, or the first that has it has the
 -- same text.
-pub alone-new : (a : Archive) (index : Index) (text : List ℕ) (blob : Id20) → IsIndex a.entries index → blob ≡ blob_id_of text → number_in index.blobs blob.0 ≡ None → collision a.entries text ≡ None
-alone-new a index text blob indexed blob_is none =
+pub alone-new : (a : Archive) (index : Index) (text : List ℕ) (ids : TextIds) → IsIndex a.entries index → ids ≡ text_ids_of text → number_in index.blobs ids.blob.0 ≡ None → collision a.entries text ≡ None
+alone-new a index text ids indexed ids_are none =
     collision-alone a.entries text
-    (subst (λ (i : Id20). blob_number a.entries i.0 ≡ None) blob_is (sym (indexed.blobs blob.0) ∙ none))
+    (subst (λ (i : TextIds). blob_number a.entries i.blob.0 ≡ None) ids_are (sym (indexed.blobs ids.blob.0) ∙ none))
 
-pub alone-same : (a : Archive) (config : Config) (index : Index) (next : ℕ) (text kept : List ℕ) (blob : Id20) (number : ℕ) (verdict : Verdict) → BlobsAgree a.entries → IsIndex a.entries index → blob ≡ blob_id_of text → number_in index.blobs blob.0 ≡ Some number → ReadsMessage a number (Ok kept)
-    → TakesThis config next text blob verdict → TakesSame text kept verdict → IsAlone a verdict
-alone-same a config index next text kept blob number (Take taken named n) agree indexed blob_is known reads this same =
-    let first : blob_number a.entries blob.0 ≡ Some number = sym (indexed.blobs blob.0) ∙ known in
-    let at_text : blob_number a.entries (blob_id_of text).0 ≡ Some number = subst (λ (i : Id20). blob_number a.entries i.0 ≡ Some number) blob_is first in
+pub alone-same : (a : Archive) (config : Config) (index : Index) (next : ℕ) (text kept : List ℕ) (ids : TextIds) (number : ℕ) (verdict : Verdict) → BlobsAgree a.entries → IsIndex a.entries index → ids ≡ text_ids_of text → number_in index.blobs ids.blob.0 ≡ Some number → ReadsMessage a number (Ok kept)
+    → TakesThis config next text ids verdict → TakesSame text kept verdict → IsAlone a verdict
+alone-same a config index next text kept ids number (Take taken named n) agree indexed ids_are known reads this same =
+    let first : blob_number a.entries ids.blob.0 ≡ Some number = sym (indexed.blobs ids.blob.0) ∙ known in
+    let at_text : blob_number a.entries (blob_id_of text).0 ≡ Some number = subst (λ (i : TextIds). blob_number a.entries i.blob.0 ≡ Some number) ids_are first in
     let read : blob_text a.entries (blob_id_of text).0 ≡ Some kept = reads (blob_id_of text).0 at_text in
     let equal : bytes_eq text kept ≡ true = (bytes_eq-Decides text kept).1 (sym same) in
     subst (λ (t : List ℕ). collision a.entries t ≡ None) (sym this.0)
     (collision-first a.entries text kept number agree at_text read ∙ ap (λ (t : Bool). if t then None else Some number) equal)
-alone-same a config index next text kept blob number (Compare other named n) agree indexed blob_is known reads this same = absurd this
-alone-same a config index next text kept blob number (Refuse reply) agree indexed blob_is known reads this same = tt
+alone-same a config index next text kept ids number (Compare other named n) agree indexed ids_are known reads this same = absurd this
+alone-same a config index next text kept ids number (Refuse reply) agree indexed ids_are known reads this same = tt
 
 -- A text that was compared may go in.
-pub compared-taken : (v : View) (config : Config) (index : Index) (next : ℕ) (text : List ℕ) (blob : Id20) (verdict : Verdict) → IndexesStored v.entries index → config ≡ v.root.config → next ≡ v.root.next → MayCome config index text blob → TakesThis config next text blob verdict → TakesWhatMay v verdict
-compared-taken v config index next text blob (Take took named number) indexed config_is next_is may this =
-    subst (λ (t : List ℕ). MayGoIn v t named) (sym this.0) (subst (λ (i : Id20). MayGoIn v text i) (sym this.1) (taken v config index next indexed config_is next_is text blob number (this.2 index may)))
-compared-taken v config index next text blob (Compare other named number) indexed config_is next_is may this = absurd this
-compared-taken v config index next text blob (Refuse reply) indexed config_is next_is may this = for-delivery v reply this
+pub compared-taken : (v : View) (config : Config) (index : Index) (next : ℕ) (text : List ℕ) (ids : TextIds) (verdict : Verdict) → IndexesStored v.entries index → config ≡ v.root.config → next ≡ v.root.next → MayCome config index text ids → TakesThis config next text ids verdict → TakesWhatMay v verdict
+compared-taken v config index next text ids (Take took named number) indexed config_is next_is may this =
+    subst (λ (t : List ℕ). MayGoIn v t named) (sym this.0) (subst (λ (i : TextIds). MayGoIn v text i) (sym this.1) (taken v config index next indexed config_is next_is text ids number (this.2 index may)))
+compared-taken v config index next text ids (Compare other named number) indexed config_is next_is may this = absurd this
+compared-taken v config index next text ids (Refuse reply) indexed config_is next_is may this = for-delivery v reply this

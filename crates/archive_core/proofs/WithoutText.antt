@@ -1,5 +1,5 @@
 -- An archive without the entries of a text, by what a store keeps of it; and what purges and edits give.
-use Rattle.std.specs.Prelude.{◌≡◌, ◌+◌, ◌<◌, ◌≤◌, ℕ, Bool, true, false, not, List, [], ◌∷◌, ◌++◌, length, get_or, slice_get, slice_index_or, count_by, Option, Some, None, is_some, IsSome, unwrap_or, Result, Ok, Err, if◌then◌else◌, refl}
+use Rattle.std.specs.Prelude.{◌≡◌, ◌<◌, ◌≤◌, ℕ, Bool, true, false, not, List, [], ◌∷◌, ◌++◌, length, get_or, slice_get, slice_index_or, count_by, Option, Some, None, is_some, IsSome, unwrap_or, Result, Ok, Err, if◌then◌else◌, refl}
 use Rattle.std.specs.List.{AllByRecursion, AllZip}
 use Rattle.std.specs.Str.{bytes_eq}
 use Rattle.std.proofs.Common.{◌∙◌, sym, ap, subst, inl, inr, arith}
@@ -8,6 +8,7 @@ use Rattle.std.proofs.lemmas.Option.{slice_get_within, slice_get-get_or}
 use Rattle.std.proofs.lemmas.Slice.Eq.{bytes_eq-Decides}
 use Rattle.arch_base.specs.declared.config.Config.{Config}
 use Rattle.arch_base.specs.declared.ids.Id20.{Id20}
+use Rattle.mail_commits.specs.declared.ids.TextIds.{TextIds}
 use Rattle.disk_model.specs.Disk.{Content}
 use Rattle.git_objects.specs.Objects.{blob_id_of}
 use Rattle.git_objects.specs.declared.entry_kind.EntryKind.{EntryKind}
@@ -37,7 +38,8 @@ use Rattle.epoch_store.specs.Stores.{View, Keeps, IsStoreWith, KeptOf, MayPurge,
 use Rattle.archive_core.specs.Commands.{DoneBy, IsLiveOf, IsUnread, JudgesRead, ReadsMessage}
 use Rattle.archive_core.specs.Kept.{IndexesKept}
 use Rattle.archive_core.specs.Numbers.{IsLiveAt, IsMessageAt}
-use Rattle.archive_core.specs.Rewriting.{Drops, MayReplace, TakesBy}
+use Rattle.archive_core.specs.Rewriting.{MayReplace, TakesWhatMayBy}
+use Rattle.epoch_store.specs.Promises.{Drops}
 use Rattle.archive_core.specs.Placing.{message_places, found_blob, has_blob_at, IsLiveWith}
 use Rattle.archive_core.specs.declared.placing.MessagePlace.{MessagePlace}
 use Rattle.archive_core.proofs.ByBlob.{message-of}
@@ -303,7 +305,7 @@ pub reads-without : (a : Archive) (text : List ℕ) (number : ℕ) (kept : List 
 reads-without a text number kept agree reads blob first = let both = first_still a.entries text blob number agree first in sym both.1 ∙ reads blob both.0
 
 -- The verdict on a delivery in place of a text.
-pub refuses-by : (v : View) (index : Index) (reply : Answer) → IsForDelivery reply → TakesBy v index (Refuse reply)
+pub refuses-by : (v : View) (index : Index) (reply : Answer) → IsForDelivery reply → TakesWhatMayBy v index (Refuse reply)
 refuses-by v index answer.NoMemory is = is
 refuses-by v index (answer.Duplicate number) is = is
 refuses-by v index answer.NoFields is = is
@@ -318,7 +320,7 @@ refuses-by v index answer.DiskFault is = tt
 refuses-by v index (answer.Damaged file at) is = tt
 
 -- A text that wasn't read.
-pub unread-by : (v : View) (index : Index) (reply : Answer) → IsUnread reply → TakesBy v index (Refuse reply)
+pub unread-by : (v : View) (index : Index) (reply : Answer) → IsUnread reply → TakesWhatMayBy v index (Refuse reply)
 unread-by v index answer.NoMemory is = is
 unread-by v index answer.DiskFault is = is
 unread-by v index (answer.Damaged file at) is = is
@@ -332,23 +334,23 @@ unread-by v index (answer.Ok number id) is = absurd is
 unread-by v index (answer.NotLive number) is = absurd is
 unread-by v index (answer.NoText number) is = absurd is
 
-pub taken-by : (v : View) (config : Config) (index : Index) (next : ℕ) (text : List ℕ) (blob : Id20) (number : ℕ) → config ≡ v.root.config → next ≡ v.root.next → MayBeKept config index next text blob number → TakesBy v index (Take text blob number)
-taken-by v config index next text blob number config_is next_is may =
-    subst (λ (c : Config). MayBeKept c index v.root.next text blob number) config_is (subst (λ (n : ℕ). MayBeKept config index n text blob number) next_is may)
+pub taken-by : (v : View) (config : Config) (index : Index) (next : ℕ) (text : List ℕ) (ids : TextIds) (number : ℕ) → config ≡ v.root.config → next ≡ v.root.next → MayBeKept config index next text ids number → TakesWhatMayBy v index (Take text ids number)
+taken-by v config index next text ids number config_is next_is may =
+    subst (λ (c : Config). MayBeKept c index v.root.next text ids number) config_is (subst (λ (n : ℕ). MayBeKept config index n text ids number) next_is may)
 
-pub compared-by : (v : View) (config : Config) (index : Index) (next : ℕ) (text : List ℕ) (blob : Id20) (verdict : Verdict) → config ≡ v.root.config → next ≡ v.root.next → MayCome config index text blob → TakesThis config next text blob verdict → TakesBy v index verdict
-compared-by v config index next text blob (Take took named number) config_is next_is may this =
-    subst (λ (t : List ℕ). TakesBy v index (Take t named number)) (sym this.0) (subst (λ (i : Id20). TakesBy v index (Take text i number)) (sym this.1) (taken-by v config index next text blob number config_is next_is (this.2 index may)))
-compared-by v config index next text blob (Compare other named number) config_is next_is may this = absurd this
-compared-by v config index next text blob (Refuse reply) config_is next_is may this = refuses-by v index reply this
+pub compared-by : (v : View) (config : Config) (index : Index) (next : ℕ) (text : List ℕ) (ids : TextIds) (verdict : Verdict) → config ≡ v.root.config → next ≡ v.root.next → MayCome config index text ids → TakesThis config next text ids verdict → TakesWhatMayBy v index verdict
+compared-by v config index next text ids (Take took named number) config_is next_is may this =
+    subst (λ (t : List ℕ). TakesWhatMayBy v index (Take t named number)) (sym this.0) (subst (λ (i : TextIds). TakesWhatMayBy v index (Take text i number)) (sym this.1) (taken-by v config index next text ids number config_is next_is (this.2 index may)))
+compared-by v config index next text ids (Compare other named number) config_is next_is may this = absurd this
+compared-by v config index next text ids (Refuse reply) config_is next_is may this = refuses-by v index reply this
 
 -- A text that is taken may be kept in place of the one that goes.
 id_of : (o : Option (List ℕ)) → IsSome o → o ≡ Some (unwrap_or o [])
 id_of None some = absurd (let wrong : false ≡ true = some in cc)
 id_of (Some id) some = refl
 
-pub may-replace : (v : View) (index : Index) (old blob : Id20) (n number : ℕ) (text : List ℕ) → MayPurge v n old → IndexesKept (without_blob v.entries old.0) index → MayBeKept v.root.config index v.root.next text blob number → MayReplace v old text blob
-may-replace v index old blob n number text purge indexed kept = record {
+pub may-replace : (v : View) (index : Index) (old : Id20) (ids : TextIds) (n number : ℕ) (text : List ℕ) → MayPurge v n old → IndexesKept (without_blob v.entries old.0) index → MayBeKept v.root.config index v.root.next text ids number → MayReplace v old text ids
+may-replace v index old ids n number text purge indexed kept = record {
   number = n;
   edit = record {
     purge = purge;
@@ -360,7 +362,7 @@ may-replace v index old blob n number text purge indexed kept = record {
         let is_index : IsIndex (without_entries a gone).entries index = index-without v a index old gone keeps (message-agrees a m gone keeps.valid is) blob_is indexed in
         (id, own, unowned (without_text a.entries gone) index id is_index (kept.comes.new_id id own)));
   };
-  blob_is = kept.comes.blob_is;
+  ids_are = kept.comes.ids_are;
 }
 
 -- What is done where the delivery on the archive without a text is refused, or isn't.

@@ -1,8 +1,9 @@
 -- The answers to a command on an archive on a disk, and what the disk then holds.
-use Rattle.std.specs.Prelude.{◌≡◌, ◌+◌, ◌-◌, ◌<◌, ◌≤◌, ◌^◌, ℕ, Bool, true, false, List, [], slice_get, Option, Some, None, Result, Ok, Err}
+use Rattle.std.specs.Prelude.{◌≡◌, ◌+◌, ◌-◌, ◌<◌, ◌^◌, ℕ, Bool, true, false, List, [], slice_get, Option, Some, None, Result, Ok, Err}
 use Rattle.std.specs.List.{Contains}
 use Rattle.arch_base.specs.Counts.{RoseIf}
 use Rattle.disk_model.specs.Disk.{Files, Content, WhereTold, LeavesOnly, Told, Unchanged, Image}
+use Rattle.mail_reader.specs.Content.{content_id_of}
 use Rattle.mail_reader.specs.Ids.{own_id}
 use Rattle.mail_reader.specs.StorageTexts.{IsStorageText}
 use Rattle.git_objects.specs.Objects.{blob_id_of}
@@ -23,11 +24,12 @@ use Rattle.arch_model.specs.declared.command.Command.{Command}
 use Rattle.arch_model.specs.declared.command.Command.TheVariants.{Deliver, Remove, Purge, Edit}
 use Rattle.arch_model.specs.declared.answer.Answer.{Answer}
 use Rattle.arch_model.specs.declared.answer.Answer.TheVariants as answer
-use Rattle.root_slots.specs.declared.root.Root.{Root}
 use Rattle.epoch_file.specs.declared.refusal.StoreRefusal.{StoreRefusal}
 use Rattle.epoch_file.specs.declared.refusal.StoreRefusal.TheVariants as refusal
-use Rattle.epoch_store.specs.Stores.{View, IsStoreWith, HasSizes, RecoversOneOf, GoesOn, Rewrites, KeepsFiles, EditsFiles}
+use Rattle.epoch_store.specs.Promises.{Appends, GoesOnBy, Renews, Way, cache_by}
+use Rattle.epoch_store.specs.Stores.{View, IsStoreWith, HasSizes, RecoversOneOf, KeepsFiles, EditsFiles}
 use Rattle.epoch_store.specs.Reads.{IsTextOf}
+use Rattle.archive_core.specs.declared.texts.KeptText.{KeptText}
 
 -- The definition's answer was given, and the disk is the own one of a store that keeps the
 -- definition's archive, with a cache of these bytes.
@@ -89,7 +91,7 @@ OnRefusal answer.DiskFault P = P
 OnRefusal (answer.Damaged file offset) P = P
 OnRefusal answer.NoMemory P = P
 
--- What holds if no call of the disk failed.
+-- What holds after any answer but `DiskFault`.
 abbrev pub UnlessFault : Answer → Type 0 → Type 0
 UnlessFault answer.DiskFault P = Unit {0}
 UnlessFault (answer.Ok number id) P = P
@@ -121,8 +123,8 @@ IfUnread answer.NoMemory P = Unit {0}
 
 -- The same of a verdict.
 abbrev pub IfRefusedUnread : Verdict → Type 0 → Type 0
-IfRefusedUnread (Take text blob number) P = Unit {0}
-IfRefusedUnread (Compare text blob number) P = Unit {0}
+IfRefusedUnread (Take text ids number) P = Unit {0}
+IfRefusedUnread (Compare text ids number) P = Unit {0}
 IfRefusedUnread (Refuse reply) P = IfUnread reply P
 
 -- The answers to a delivery.
@@ -205,20 +207,16 @@ IfUnreadFor (Remove number) reply P = IfUnread reply P
 IfUnreadFor (Purge number) reply P = IfUnread reply P
 IfUnreadFor (Edit number bytes) reply P = IfUnreadEdit reply P
 
--- The cache after a command that was carried out. A purge and an edit leave none.
-abbrev pub cache_left : Command → List ℕ → List ℕ
-cache_left (Deliver bytes) cache = cache
-cache_left (Remove number) cache = cache
-cache_left (Purge number) cache = []
-cache_left (Edit number bytes) cache = []
+-- How a command changes the files: a delivery and a removal append, and a purge and an edit write anew.
+abbrev pub way_of : Command → Way
+way_of (Deliver bytes) = Appends
+way_of (Remove number) = Appends
+way_of (Purge number) = Renews
+way_of (Edit number bytes) = Renews
 
--- How the root goes on from one to the next at a command: a delivery and a removal append, and a purge
--- and an edit write anew.
-abbrev pub GoesOnFor : Command → Root → Root → Type 0
-GoesOnFor (Deliver bytes) old new = GoesOn old new
-GoesOnFor (Remove number) old new = GoesOn old new
-GoesOnFor (Purge number) old new = Rewrites old new
-GoesOnFor (Edit number bytes) old new = Rewrites old new
+-- The cache after a command that was carried out.
+abbrev pub cache_left : Command → List ℕ → List ℕ
+cache_left command cache = cache_by (way_of command) cache
 
 -- An entry is that of the message with a number.
 abbrev pub IsEntryOf : View → ℕ → StoredEntry → Type 0
@@ -238,7 +236,8 @@ abbrev pub IsLiveOf : List Entry → List ℕ → Option ℕ → Type 0
 IsLiveOf entries text None = (n : ℕ) → text_of entries n ≡ Some text → ⊥
 IsLiveOf entries text (Some n) = text_of entries n ≡ Some text
 
--- The live number that a command takes with the text that it drops, if there is one.
+-- The live number that a command, once accepted, takes with the text that it drops, if there is one. A
+-- delivery and a removal drop no text.
 abbrev pub IsGone : Archive → Command → Option ℕ → Type 0
 IsGone a (Deliver bytes) gone = gone ≡ None
 IsGone a (Remove number) gone = gone ≡ None
@@ -252,7 +251,8 @@ refusal_answer refusal.DiskFault = answer.DiskFault
 refusal_answer refusal.NoMemory = answer.NoMemory
 refusal_answer (refusal.Damaged file offset) = answer.Damaged file offset
 
--- The file and the offset of an entry that is damaged.
+-- The answer that names the file and the offset of an entry that is damaged. Without an entry it is that
+-- memory ran out.
 abbrev pub damaged_place : View → Option StoredEntry → Answer
 damaged_place v None = answer.NoMemory
 damaged_place v (Some e) = answer.Damaged (epoch_file_of v.root e.epoch) e.seen.at
@@ -291,8 +291,8 @@ IsUnread other = ⊥
 
 -- The verdict is that a read failed.
 abbrev pub IsFaultRead : Verdict → Type 0
-IsFaultRead (Take text blob number) = ⊥
-IsFaultRead (Compare text blob number) = ⊥
+IsFaultRead (Take text ids number) = ⊥
+IsFaultRead (Compare text ids number) = ⊥
 IsFaultRead (Refuse reply) = reply ≡ answer.DiskFault
 
 -- The verdict is what the definition says of the delivery, unless a read failed.
@@ -302,8 +302,8 @@ JudgesRead a bytes verdict = Judges a bytes verdict
 
 -- No other text has the blob id of a text that is taken.
 abbrev pub IsAlone : Archive → Verdict → Type 0
-IsAlone a (Take text blob number) = collision a.entries text ≡ None
-IsAlone a (Compare text blob number) = Unit {0}
+IsAlone a (Take text ids number) = collision a.entries text ≡ None
+IsAlone a (Compare text ids number) = Unit {0}
 IsAlone a (Refuse reply) = Unit {0}
 
 -- The disk was read, and nothing else: its content is the same, and a crash leaves what it might have
@@ -333,7 +333,7 @@ pub record TakesCommand {D : Type 0} (content : D → Option Content) (moment : 
       → before.root.sequence + 1 < 2 ^ 64
       → DoneBy after cache (cache_left command cache) a (wanted a) reply (content new)
   pub settled : OnDone reply (WhereTold IsSettled (content new))
-  pub goes_on : OnDone reply (GoesOnFor command before.root after.root)
+  pub goes_on : OnDone reply (GoesOnBy (way_of command) before.root after.root)
   pub files : OnDone reply (FilesFor command before after)
   pub slot : OnDone reply (after.slot ≡ 1 - before.slot)
   pub same : OnRefusal reply (after ≡ before)
@@ -361,20 +361,22 @@ abbrev pub IfRemoval : Bool → Type 0 → Type 0
 IfRemoval true P = Unit {0}
 IfRemoval false P = P
 
--- The text of a delivery that was accepted is a storage text, and the answer has its blob id.
-abbrev pub TellsText : Answer → List ℕ → Type 0
-TellsText (answer.Ok number id) text = IsStorageText text × (id ≡ blob_id_of text)
-TellsText (answer.Duplicate number) text = Unit {0}
-TellsText answer.NoFields text = Unit {0}
-TellsText (answer.TooLarge len) text = Unit {0}
-TellsText (answer.Full max) text = Unit {0}
-TellsText (answer.Collision number) text = Unit {0}
-TellsText (answer.NotLive number) text = Unit {0}
-TellsText (answer.NoText number) text = Unit {0}
-TellsText answer.IsMirror text = Unit {0}
-TellsText answer.DiskFault text = Unit {0}
-TellsText (answer.Damaged file offset) text = Unit {0}
-TellsText answer.NoMemory text = Unit {0}
+-- The text of a delivery that was accepted is a storage text, and the answer has its blob id. Its
+-- content id comes with it.
+abbrev pub TellsText : Answer → KeptText → Type 0
+TellsText (answer.Ok number id) kept = IsStorageText kept.text × (id ≡ blob_id_of kept.text)
+    × (kept.content ≡ content_id_of kept.text)
+TellsText (answer.Duplicate number) kept = Unit {0}
+TellsText answer.NoFields kept = Unit {0}
+TellsText (answer.TooLarge len) kept = Unit {0}
+TellsText (answer.Full max) kept = Unit {0}
+TellsText (answer.Collision number) kept = Unit {0}
+TellsText (answer.NotLive number) kept = Unit {0}
+TellsText (answer.NoText number) kept = Unit {0}
+TellsText answer.IsMirror kept = Unit {0}
+TellsText answer.DiskFault kept = Unit {0}
+TellsText (answer.Damaged file offset) kept = Unit {0}
+TellsText answer.NoMemory kept = Unit {0}
 
 -- An accepted delivery kept this text, as the last message after the archive before.
 abbrev pub KeepsText : Archive → Done → ℕ → List ℕ → Type 0

@@ -76,7 +76,8 @@ Leaves moment left_since start e may = (moment start.disk ≤ moment e.disk) × 
     → RecoversOrBare cache may image)
 
 -- The views keep up with a command that was answered so: they are those of the archive after it, unless
--- the engine has to be reopened after `Ok`. After a fault they say nothing.
+-- the engine has to be reopened after `Ok`. Out of memory they are those of the archive before it. After
+-- a fault, or damage, nothing is said of them.
 abbrev pub ViewsKeepUp : Answer → Bool → Viewed → Archive → Archive → Type 0
 ViewsKeepUp (answer.Ok number id) ready views a b = ready ≡ true → views ≡ views_of (live b.entries)
 ViewsKeepUp answer.NoMemory ready views a b = views ≡ views_of (live a.entries)
@@ -124,6 +125,7 @@ unchanged-is None (Some m) told = absurd told
 unchanged-is (Some k) None told = absurd told
 unchanged-is (Some k) (Some m) told = λ i. Some (λ (name : FileName). told name i)
 
+-- What a disk tells is unchanged from what it tells.
 pub told-same : (k : Option Content) → Told Unchanged k k
 told-same None = tt
 told-same (Some k) = λ name. refl
@@ -142,6 +144,7 @@ module _ {D : Type 0} (content : D → Option Content) (moment : D → ℕ)
     → left_since disk t image)
     (only_now : (disk : D) (image : Files) → left_since disk (moment disk) image
     → Image (content disk) image) where
+  -- No read at all leads from a state to itself.
   pub reading-same : (e : Owning D) → ReadsOn content moment left_since e e
   reading-same e = record {
     view_is = refl;
@@ -152,6 +155,7 @@ module _ {D : Type 0} (content : D → Option Content) (moment : D → ℕ)
         (λ image left. only_now e.disk image left);
   }
 
+  -- Reads after reads are reads.
   pub reading-joined : (d e f : Owning D) → ReadsOn content moment left_since d e
       → ReadsOn content moment left_since e f → ReadsOn content moment left_since d f
   reading-joined d e f first second =
@@ -169,6 +173,7 @@ module _ {D : Type 0} (content : D → Option Content) (moment : D → ℕ)
             (λ image left. subst (λ (k : Option Content). Image k image) one left);
       }
 
+  -- A crash of a disk that is an archive's own leaves the archive.
   pub store-left : (e : Owning D) (a : Archive) (may : List (Option Archive)) → Owns content e a
       → Contains may (Some a) → Leaves moment left_since e e may
   store-left e a may store has = (
@@ -178,6 +183,7 @@ module _ {D : Type 0} (content : D → Option Content) (moment : D → ℕ)
         (only_now e.disk image left)),
   )
 
+  -- What each crash since a state may have left, a crash now may leave.
   pub now-left : (start e : Owning D) (may : List (Option Archive))
       → Leaves moment left_since start e may → Leaves moment left_since e e may
   now-left start e may left = (
@@ -187,6 +193,7 @@ module _ {D : Type 0} (content : D → Option Content) (moment : D → ℕ)
         (counts_now e.disk (moment start.disk) image left.0 (only_now e.disk image now)),
   )
 
+  -- Reads leave the archive that is held, the readiness and what a crash may leave.
   pub reading-kept : (d e : Owning D) → ReadsOn content moment left_since d e
       → OnlyRead (Holds content) is_ready (Leaves moment left_since) d e
   reading-kept d e read =

@@ -11,8 +11,9 @@ abbrev pub StillReads : Option Content → Option Content → Type 0
 StillReads old new = (a : Archive) (cache : List ℕ) → ReadsWith cache a old
     → ReadsWith cache a new
 
--- If there is no archive, or a file is damaged, nothing is changed. Before `NoMemory` the disk may
--- be settled, and reads as the archive that it did.
+-- If there is no archive, or a file is damaged, all files are synced, and otherwise unchanged. Before
+-- `NoMemory` the disk may be settled, and reads as the archive that it did. Of a fault of the disk
+-- nothing is said.
 abbrev pub LeavesKindly : OpenRefusal → Option Content → Option Content → Type 0
 LeavesKindly NoArchive old new = Told IsOnlySynced old new
 LeavesKindly (Damaged file at) old new = Told IsOnlySynced old new

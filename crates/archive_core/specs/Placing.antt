@@ -78,11 +78,12 @@ IsPlaceOf places number (Some index) =
 IsPlaceOf places number None = PlacesRise places
     → (index : ℕ) (p : MessagePlace) → slice_get places index ≡ Some p → p.number ≢ number
 
--- The entry at an index has a blob id.
+-- An entry, if there is one, has a blob id.
 abbrev pub found_blob : Option StoredEntry → Id20 → Bool
 found_blob None blob = false
 found_blob (Some e) blob = bytes_eq blob.0 e.seen.blob.0
 
+-- The entry at an index has a blob id.
 abbrev pub has_blob_at : List StoredEntry → ℕ → Id20 → Bool
 has_blob_at entries index blob = found_blob (slice_get entries index) blob
 

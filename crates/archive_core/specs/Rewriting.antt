@@ -1,5 +1,5 @@
 -- Purges and edits of an archive on a disk.
-use Rattle.std.specs.Prelude.{◌≡◌, ◌+◌, ◌-◌, ◌<◌, ◌^◌, ℕ, Bool, List, [], Option, Some, None, Result, Ok, Err, OnOk, OnErr}
+use Rattle.std.specs.Prelude.{◌≡◌, ◌+◌, ◌-◌, ◌<◌, ◌^◌, ℕ, Bool, List, [], Option, Some, Result, Ok, Err}
 use Rattle.arch_base.specs.Counts.{RoseIf}
 use Rattle.arch_base.specs.declared.ids.Id20.{Id20}
 use Rattle.disk_model.specs.Disk.{Files, Content, WhereTold, LeavesOnly}
@@ -7,8 +7,10 @@ use Rattle.disk_model.specs.Synced.{IsSettled}
 use Rattle.mail_reader.specs.declared.storing.StoredRefusal.{StoredRefusal}
 use Rattle.mail_reader.specs.declared.storing.StoredRefusal.TheVariants as storing
 use Rattle.git_objects.specs.Objects.{blob_id_of}
-use Rattle.arch_model.specs.Archives.{Archive, live, messages, text_of, with_entry, without_entries}
-use Rattle.arch_model.specs.Delivery.{collision, delivered, is_form, new_epoch, unless_refused}
+use Rattle.mail_commits.specs.declared.ids.TextIds.{TextIds}
+use Rattle.mail_commits.specs.Ids.{text_ids_of}
+use Rattle.arch_model.specs.Archives.{Archive, live, text_of, without_entries}
+use Rattle.arch_model.specs.Delivery.{delivered, is_form, unless_refused}
 use Rattle.arch_model.specs.declared.answer.Answer.{Answer}
 use Rattle.arch_model.specs.declared.answer.Answer.TheVariants as answer
 use Rattle.arch_judge.specs.Indexes.{IsIndex}
@@ -17,9 +19,7 @@ use Rattle.arch_judge.specs.Judging.{IsForDelivery, MayBeKept}
 use Rattle.arch_judge.specs.declared.judging.Verdict.{Verdict}
 use Rattle.arch_judge.specs.declared.judging.Verdict.TheVariants.{Take, Compare, Refuse}
 use Rattle.epoch_file.specs.declared.refusal.StoreRefusal.{StoreRefusal}
-use Rattle.epoch_file.specs.declared.refusal.StoreRefusal.TheVariants as refusal
-use Rattle.epoch_store.specs.Planning.{PlansUndamaged}
-use Rattle.epoch_store.specs.Stores.{View, HasSizes, IsStoreWith, MayEdit, RecoversOneOf, Rewrites, UnlessFailed}
+use Rattle.epoch_store.specs.Stores.{View, HasSizes, IsStoreWith, MayEdit, RecoversOneOf, GoesOnAnew}
 use Rattle.archive_core.specs.Commands.{AnswersDelivery, DoneBy, IfUnreadEdit, IsAlone, JudgesRead, OnDone, OnRefusal, OnlyLooks, UnlessFault}
 
 -- The answers where there is no storage form to compare, or a text wasn't read.
@@ -52,13 +52,13 @@ JudgesEdit content disk v index bytes verdict = (a : Archive) (cache text : List
 
 -- A text that is taken by another index may be kept, and none is still to be compared. A refusal is an
 -- answer to a delivery, or tells of a read that failed.
-abbrev pub TakesBy : View → Index → Verdict → Type 0
-TakesBy v index (Take text blob number) =
-    MayBeKept v.root.config index v.root.next text blob number
-TakesBy v index (Compare text blob number) = ⊥
-TakesBy v index (Refuse answer.DiskFault) = Unit {0}
-TakesBy v index (Refuse (answer.Damaged file at)) = Unit {0}
-TakesBy v index (Refuse reply) = IsForDelivery reply
+abbrev pub TakesWhatMayBy : View → Index → Verdict → Type 0
+TakesWhatMayBy v index (Take text ids number) =
+    MayBeKept v.root.config index v.root.next text ids number
+TakesWhatMayBy v index (Compare text ids number) = ⊥
+TakesWhatMayBy v index (Refuse answer.DiskFault) = Unit {0}
+TakesWhatMayBy v index (Refuse (answer.Damaged file at)) = Unit {0}
+TakesWhatMayBy v index (Refuse reply) = IsForDelivery reply
 
 -- A refusal of a delivery whose form was found before, on an archive that takes deliveries. The other
 -- refusals, which never come then, are answered as if memory ran out.
@@ -70,49 +70,16 @@ late_answer answer.DiskFault = answer.DiskFault
 late_answer (answer.Damaged file at) = answer.Damaged file at
 late_answer other = answer.NoMemory
 
--- A message may be kept in place of a text: an edit would be accepted, and this is its blob id.
-pub record MayReplace (v : View) (old : Id20) (text : List ℕ) (blob : Id20) : Type 0 where
+-- A message may be kept in place of a text: an edit would be accepted, and these are its ids.
+pub record MayReplace (v : View) (old : Id20) (text : List ℕ) (ids : TextIds) : Type 0 where
   pub number : ℕ
   pub edit : MayEdit v number old text
-  pub blob_is : blob ≡ blob_id_of text
+  pub ids_are : ids ≡ text_ids_of text
 
--- The second archive is the first without a text that has this blob id, which one of its messages has.
-pub record Drops (blob : Id20) (a b : Archive) : Type 0 where
-  pub number : ℕ
-  pub text : List ℕ
-  pub shown : text_of (messages a.entries) number ≡ Some text
-  pub blob_is : blob_id_of text ≡ blob
-  pub is : b ≡ without_entries a text
-
--- The second archive is the first with a message in place of a live text that has this blob id. No other
--- text has the blob id of the message.
-pub record Replaces (blob : Id20) (text : List ℕ) (arrived : ℕ) (a b : Archive) : Type 0 where
-  pub number : ℕ
-  pub gone : List ℕ
-  pub shown : text_of (live a.entries) number ≡ Some gone
-  pub blob_is : blob_id_of gone ≡ blob
-  pub alone : collision (without_entries a gone).entries text ≡ None
-  pub is : b ≡ with_entry (without_entries a gone) (new_epoch (without_entries a gone)) text arrived
-
--- What a call that writes files anew promises, for each archive that the disk holds and each that the
--- call makes of it.
-pub record RewritesAs {D T : Type 0} (content : D → Option Content) (moment : D → ℕ)
-    (left_since : D → ℕ → Files → Type 0) (faults : D → ℕ) (old new : D) (before after : View)
-    (Makes : Archive → Archive → Type 0) (result : Result T StoreRefusal) : Type 0 where
-  pub any_moment : (a b : Archive) (cache : List ℕ) → IsStoreWith before cache a (content old)
-      → before.root.sequence + 1 < 2 ^ 64 → Makes a b
-      → LeavesOnly moment left_since old new (RecoversOneOf cache a [] b)
-  pub done : (a b : Archive) (cache : List ℕ) → IsStoreWith before cache a (content old)
-      → before.root.sequence + 1 < 2 ^ 64 → Makes a b
-      → OnOk result (IsStoreWith after [] b (content new))
-  pub settled : OnOk result (WhereTold IsSettled (content new))
-  pub sizes : OnOk result (WhereTold (HasSizes after) (content new))
-  pub goes_on : OnOk result (Rewrites before.root after.root)
-  pub slot : OnOk result (after.slot ≡ 1 - before.slot)
-  pub same : OnErr result (after ≡ before)
-  pub looks : UnlessFailed result (OnlyLooks content moment left_since old new)
-  pub undamaged : PlansUndamaged before result (content old)
-  pub cause : RoseIf (result ≡ Err refusal.DiskFault) (faults old) (faults new)
+-- A result without what it gives.
+abbrev pub bare : {T : Type 0} → Result T StoreRefusal → Result (Unit {0}) StoreRefusal
+bare (Ok given) = Ok tt
+bare (Err why) = Err why
 
 -- What a delivery in place of a text promises: the answer is that of the delivery on the archive
 -- without it, and a refusal leaves all as it was. Its answers come after the form was found.
@@ -128,7 +95,7 @@ pub record EditsAs {D : Type 0} (content : D → Option Content) (moment : D →
       → DoneBy after cache [] a (unless_refused a (delivered (without_entries a gone) bytes arrived))
       reply (content new)
   pub settled : OnDone reply (WhereTold IsSettled (content new))
-  pub goes_on : OnDone reply (Rewrites before.root after.root)
+  pub goes_on : OnDone reply (GoesOnAnew before.root after.root)
   pub slot : OnDone reply (after.slot ≡ 1 - before.slot)
   pub same : OnRefusal reply (after ≡ before)
   pub untouched : OnRefusal reply (UnlessFault reply (OnlyLooks content moment left_since old new))

@@ -86,12 +86,14 @@ module _ {D : Type 0} (content : D → Option Content) (moment : D → ℕ)
     (left_since : D → ℕ → Files → Type 0)
     (only_now : (disk : D) (image : Files) → left_since disk (moment disk) image
     → Image (content disk) image) where
+  -- No look at all is one.
   pub looks-same : (d : D) → OnlyLooks content moment left_since d d
   looks-same d = record {
     same = told-same (content d);
     any_moment = started moment left_since d (Image (content d)) (λ image left. only_now d image left);
   }
 
+  -- A look after a look is one.
   pub looks-joined : (d e f : D) → OnlyLooks content moment left_since d e
       → OnlyLooks content moment left_since e f → OnlyLooks content moment left_since d f
   looks-joined d e f first second =

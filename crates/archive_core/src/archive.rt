@@ -1,11 +1,11 @@
 //! An archive on a disk that is handed in. Each of its commands has the result of the definition.
-ghost use Rattle.std.specs.Prelude.{true, false, Some, None, ◌≡◌, ◌≤◌, ◌<◌, ◌+◌, ◌-◌, ◌^◌, ℕ, length, slice_get, Err, IfOk, IfErr, OnOk, OnErr, List};
+ghost use Rattle.std.specs.Prelude.{true, false, Some, None, ◌≡◌, ◌≤◌, ◌<◌, ◌+◌, ◌-◌, ◌^◌, ℕ, length, slice_get, Err, IfOk, IfErr, List};
 ghost use Rattle.arch_base.specs.Configs.{IsConfig};
 ghost use Rattle.arch_base.specs.Counts.{RoseIf};
 ghost use Rattle.disk_model.specs.Disk.{WhereTold, LeavesOnly};
 ghost use Rattle.disk_model.specs.Synced.{IsSettled};
-ghost use Rattle.arch_model.specs.Archives.{Archive, with_entry, live, text_of};
-ghost use Rattle.arch_model.specs.Delivery.{applied, delivered, removed, collision, new_epoch};
+ghost use Rattle.arch_model.specs.Archives.{Archive, live, text_of};
+ghost use Rattle.arch_model.specs.Delivery.{applied, delivered, removed};
 ghost use Rattle.arch_model.specs.Keeping.{form_known, text_known};
 ghost use Rattle.arch_model.specs.Shelves.{ReadsOnce};
 ghost use Rattle.mail_reader.specs.Stored.{stored};
@@ -16,21 +16,20 @@ ghost use Rattle.arch_model.specs.declared.answer.Answer.{Answer};
 ghost use Rattle.arch_model.specs.declared.command.Command.TheVariants as command;
 ghost use Rattle.arch_base.specs.Moments.{last_moment};
 ghost use Rattle.archive_core.specs.Openings.{RefusesKindly};
-ghost use Rattle.epoch_store.specs.Promises.{MakesArchive, OpensArchive};
+ghost use Rattle.epoch_store.specs.Promises.{Adds, Appends, ChangesStore, MakesArchive, OpensArchive};
 ghost use Rattle.epoch_store.specs.Reads.{HasTexts};
-ghost use Rattle.epoch_store.specs.Stores.{IsStoreWith, HasSizes, RecoversEitherWith, SeesNoDamage, GoesOn};
+ghost use Rattle.epoch_store.specs.Stores.{IsStoreWith, HasSizes, RecoversEitherWith, GoesOn};
 ghost use Rattle.archive_core.specs.Commands.{DoneBy, OnDone, OnRefusal, UnlessFault, OnlyLooks, AnswersRemoval, IfUnread, IfRefusedUnread, IsFaultRead, JudgesRead, IsAlone, TakesCommand, refusal_answer, unread_answer, damaged_place, IsNamed, IsTextAt, ReadsMessage, IsUnread, is_delivery, IfDelivery, TellsText, KeepsText, KeepsTextFor, IsGone};
 
-use crate::entries::index_of;
 use crate::placing::{MessagePlace, are_rising, end_place, may_follow, places_of};
-use crate::texts::{end_text, put_text, take_text};
-use arch_base::{Bytes, Config, NoMemory, ObjectId};
+use crate::texts::{KeptText, end_text, put_text, take_text};
+use arch_base::{Bytes, Config, NoMemory};
 use arch_judge::{Index, Verdict, compared, judge};
 use arch_model::{Answer, Command, OpenRefusal, TextRefusal};
 use disk_model::Disk;
 use epoch_file::StoreRefusal;
 use epoch_store::{InitRefusal, Store, law_of_stores};
-use git_objects::blob_id;
+use mail_commits::{TextIds, text_ids};
 use mail_reader::own_id;
 use std::alloc::Global;
 use std::marker::Model;
@@ -49,7 +48,7 @@ pub struct DiskArchive {
 impl Model for DiskArchive {
     ghost use Rattle.epoch_store.specs.Stores.{View};
     ghost use Rattle.std.specs.Prelude.{◌≡◌};
-    ghost use Rattle.archive_core.specs.Kept.{IndexesStored};
+    ghost use Rattle.epoch_store.specs.Indexes.{IndexesStored};
     ghost use Rattle.archive_core.specs.Placing.{message_places, PlacesRise};
 
     ghost Value = { View };
@@ -107,12 +106,9 @@ impl DiskArchive {
         ensures texts { IfOk result (λ archive. WhereTold (HasTexts archive) (D.content disk.new)) }
     {
         law_of_stores();
-        let store = match Store::open(alloc, disk) {
-            Ok(store) => store,
+        let (store, index) = match Store::open(alloc, disk) {
+            Ok(opened) => opened,
             Err(refusal) => return Err(refusal),
-        };
-        let Ok(index) = index_of(alloc, store.stored()) else {
-            return Err(OpenRefusal::NoMemory);
         };
         let Ok(places) = places_of(alloc, store.stored()) else {
             return Err(OpenRefusal::NoMemory);
@@ -129,9 +125,9 @@ impl DiskArchive {
         })
     }
 
-    /// Takes a command at a moment, in seconds since 1970.
+    /// Takes a command at a moment, in seconds since 1970 UTC.
     ///
-    /// As `command_keeping` does, but the text that a delivery kept isn't told.
+    /// As `command_keeping` does, but it isn't told which text was kept, nor which number is gone.
     pub fn command<D: Disk>(&mut self, disk: &mut D, command: &Command<'_>, moment: u64) -> Answer
         requires moment { moment ≤ last_moment }
         requires sizes { WhereTold (HasSizes self.old) (D.content disk.old) }
@@ -142,12 +138,15 @@ impl DiskArchive {
             → IsStoreWith self.old cache a (D.content disk.old) → text_known a command.now ≡ false
             → D.reads disk.new ≡ D.reads disk.old }
     {
-        let mut kept = Bytes::new(self.alloc);
+        let mut kept = KeptText::none(self.alloc);
         let mut gone = None;
         self.command_keeping(disk, command, moment, &mut kept, &mut gone)
     }
 
-    /// Takes a command at a moment, in seconds since 1970.
+    /// Takes a command at a moment, in seconds since 1970 UTC.
+    ///
+    /// Needs files of at least the sizes that the root names, as every call leaves them at which the
+    /// disk didn't fail. What is said of archives here holds while `has_next_root` does.
     ///
     /// `Deliver`: the message takes the next number, or is refused by the first cause of these: a
     /// mirror, no field, too many bytes, the same message, another text with its blob id, and no
@@ -159,16 +158,18 @@ impl DiskArchive {
     /// At each moment a crash leaves the archive before the command or the one after it, and after
     /// `Ok` the latter. `DiskFault` comes only if the disk's count of faults rose: one of the two
     /// archives is then there, and the archive has to be reopened. `NoMemory` comes only if memory
-    /// runs out, or if the epoch's file has 2^62 bytes or more; then nothing was done.
+    /// runs out, or if the epoch's file has 2^62 bytes or more; then nothing was done. `Damaged` comes
+    /// only if a text that is read isn't that of its entry, or a file is too short, which never happens
+    /// on the disk of an archive.
     ///
-    /// `kept` is left with the text that an accepted delivery or edit kept, and `gone` with the live
-    /// number that a purge or an edit took with its text, if there is one.
+    /// `kept` is left with the text that an accepted delivery or edit kept and its content id, and `gone`
+    /// with the live number that a purge or an edit took with its text, if there is one.
     pub fn command_keeping<D: Disk>(
         &mut self,
         disk: &mut D,
         command: &Command<'_>,
         moment: u64,
-        kept: &mut Bytes,
+        kept: &mut KeptText,
         gone: &mut Option<u32>,
     ) -> Answer
         requires none { gone.old ≡ None }
@@ -184,7 +185,7 @@ impl DiskArchive {
         ensures kept { (a : Archive) (cache : List ℕ)
             → IsStoreWith self.old cache a (D.content disk.old)
             → IfDelivery (is_delivery command.now)
-            (OnDone result (KeepsTextFor command.now a (applied a command.now moment) moment kept.new)) }
+            (OnDone result (KeepsTextFor command.now a (applied a command.now moment) moment kept.new.text)) }
         ensures gone { (a : Archive) (cache : List ℕ)
             → IsStoreWith self.old cache a (D.content disk.old)
             → OnDone result (IsGone a command.now gone.new) }
@@ -203,7 +204,7 @@ impl DiskArchive {
         disk: &mut D,
         bytes: &[u8],
         moment: u64,
-        kept: &mut Bytes,
+        kept: &mut KeptText,
     ) -> Answer
         requires moment { moment ≤ last_moment }
         requires sizes { WhereTold (HasSizes self.old) (D.content disk.old) }
@@ -216,18 +217,24 @@ impl DiskArchive {
         ensures text { TellsText result kept.new }
         ensures kept { (a : Archive) (cache : List ℕ)
             → IsStoreWith self.old cache a (D.content disk.old)
-            → OnDone result (KeepsText a (delivered a bytes.now moment) moment kept.new) }
+            → OnDone result (KeepsText a (delivered a bytes.now moment) moment kept.new.text) }
     {
         law_of_stores();
         match self.verdict(disk, bytes) {
             Verdict::Refuse(answer) => answer,
             // The texts were compared before.
             Verdict::Compare { .. } => Answer::NoMemory,
-            Verdict::Take { text, blob, number } => {
-                match self.keep(disk, text.as_slice(), blob, moment) {
+            Verdict::Take { text, ids, number } => {
+                match self.keep(disk, text.as_slice(), &ids, moment) {
                     Ok(()) => {
-                        *kept = text;
-                        Answer::Ok { number, id: blob }
+                        *kept = KeptText {
+                            text,
+                            content: ids.content,
+                        };
+                        Answer::Ok {
+                            number,
+                            id: ids.blob,
+                        }
                     }
                     Err(refusal) => answer_of(&refusal),
                 }
@@ -261,14 +268,14 @@ impl DiskArchive {
             bytes,
         ) {
             Verdict::Refuse(answer) => Verdict::Refuse(answer),
-            Verdict::Take { text, blob, number } => Verdict::Take { text, blob, number },
-            Verdict::Compare { text, blob, number } => match self.message_text(disk, number) {
+            Verdict::Take { text, ids, number } => Verdict::Take { text, ids, number },
+            Verdict::Compare { text, ids, number } => match self.message_text(disk, number) {
                 Ok(kept) => {
                     compared(
                         self.store.config(),
                         next,
                         text,
-                        blob,
+                        ids,
                         number,
                         kept.as_slice(),
                     )
@@ -392,61 +399,43 @@ impl DiskArchive {
         ensures for_command { AnswersRemoval number result }
         ensures count { D.reads disk.new ≡ D.reads disk.old }
     {
-        law_of_stores();
         if !self.is_named(index, text) {
             return self.damaged(index);
         }
+        let ids = text_ids(text);
         match self
             .store
-            .remove_entry(self.alloc, disk, number, text, moment)
+            .remove_entry(self.alloc, disk, number, text, &ids, moment)
         {
             Ok(()) => {
                 end_text(&mut self.index, text);
                 end_place(self.places.as_mut_slice(), number);
                 Answer::Ok {
                     number,
-                    id: blob_id(text),
+                    id: ids.blob,
                 }
             }
             Err(refusal) => answer_of(&refusal),
         }
     }
 
-    /// Appends a message: its text takes the next number, at a moment in seconds since 1970.
+    /// Appends a message: its text, which has these ids, takes the next number, at a moment in seconds
+    /// since 1970.
     ///
     /// An error changes nothing that is kept in memory.
     fn keep<D: Disk>(
         &mut self,
         disk: &mut D,
         text: &[u8],
-        blob: ObjectId,
+        ids: &TextIds,
         moment: u64,
     ) -> Result<(), StoreRefusal>
-        requires may { MayGoIn self.old text.now blob }
+        requires may { MayGoIn self.old text.now ids.now }
         requires moment { moment ≤ last_moment }
         requires sizes { WhereTold (HasSizes self.old) (D.content disk.old) }
-        ensures any_moment { (a : Archive) (cache : List ℕ)
-            → IsStoreWith self.old cache a (D.content disk.old)
-            → self.old.root.sequence + 1 < 2 ^ 64 → collision a.entries text.now ≡ None
-            → LeavesOnly D.moment D.left_since disk.old disk.new
-            (RecoversEitherWith cache a (with_entry a (new_epoch a) text.now moment)) }
-        ensures done { (a : Archive) (cache : List ℕ)
-            → IsStoreWith self.old cache a (D.content disk.old)
-            → self.old.root.sequence + 1 < 2 ^ 64 → collision a.entries text.now ≡ None
-            → OnOk result (IsStoreWith self.new cache (with_entry a (new_epoch a) text.now moment)
-            (D.content disk.new)) }
-        ensures settled { OnOk result (WhereTold IsSettled (D.content disk.new)) }
-        ensures sizes { OnOk result (WhereTold (HasSizes self.new) (D.content disk.new)) }
-        ensures goes_on { OnOk result (GoesOn self.old.root self.new.root) }
-        ensures slot { OnOk result (self.new.slot ≡ 1 - self.old.slot) }
-        ensures same { OnErr result (self.new ≡ self.old) }
-        ensures refused { result ≡ Err StoreRefusal.NoMemory → disk.new ≡ disk.old }
-        ensures undamaged { SeesNoDamage result }
-        ensures cause { RoseIf (result ≡ Err StoreRefusal.DiskFault) (D.faults disk.old)
-            (D.faults disk.new) }
-        ensures count { D.reads disk.new ≡ D.reads disk.old }
+        ensures changes { ChangesStore D.content D.moment D.left_since D.faults D.reads disk.old disk.new
+            self.old self.new Appends (Adds text.now moment) result }
     {
-        law_of_stores();
         let number = self.store.next_number();
         let entry = self.store.stored().len();
         let Ok(()) = self.places.reserve(1) else {
@@ -456,11 +445,14 @@ impl DiskArchive {
         if !may_follow(self.places.as_slice(), number) {
             return Err(StoreRefusal::NoMemory);
         }
-        let older = self.index.number(&blob);
-        put_text(self.alloc, &mut self.index, text, blob, number)?;
-        if let Err(refusal) = self.store.deliver_entry(self.alloc, disk, text, moment) {
+        let older = self.index.number(&ids.blob);
+        put_text(self.alloc, &mut self.index, text, ids, number)?;
+        if let Err(refusal) = self
+            .store
+            .deliver_entry(self.alloc, disk, text, ids, moment)
+        {
             // The index is as it was before.
-            take_text(&mut self.index, text, &blob, number, older);
+            take_text(&mut self.index, text, &ids.blob, number, older);
             return Err(refusal);
         }
         // There is room for it.
@@ -472,7 +464,7 @@ impl DiskArchive {
         Ok(())
     }
 
-    /// Returns the number of messages, by their entries.
+    /// Returns the number of entries, deletions among them.
     pub fn entry_count(&self) -> u64
         ensures { result ≡ length self.now.entries }
     {

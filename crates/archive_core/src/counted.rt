@@ -45,7 +45,7 @@ impl CountedArchive {
     {
         law_of_stores();
         let store = match Store::open(alloc, disk) {
-            Ok(store) => store,
+            Ok((store, _index)) => store,
             Err(refusal) => return Err(refusal),
         };
         let Ok(places) = places_of(alloc, store.stored()) else {

@@ -23,6 +23,7 @@ use crate::archive::DiskArchive;
 use crate::not_made::{NotMade, NotOpened};
 use crate::opened::Opened;
 use crate::rows::follow;
+use crate::texts::KeptText;
 use arch_base::{Bytes, Config, NoMemory, Numbers, ObjectId};
 use arch_model::{Answer, Command, EntryLine, Keep, OpenRefusal, Query, Row, Shelf, TextRefusal};
 use disk_model::Disk;
@@ -168,7 +169,8 @@ impl<D: Disk> Engine<D> {
         self.views.live_count(0, u32::MAX).min(u64::from(u32::MAX)) as u32
     }
 
-    /// Carries out a command on an archive that needn't be reopened.
+    /// Carries out a command at a moment, in seconds since 1970 UTC, on an archive that needn't be
+    /// reopened.
     ///
     /// The archive has to be reopened after the answers `DiskFault` and `Damaged`, and after an `Ok`
     /// for whose row, words or threads there was no memory: then nothing is in doubt. It needn't be after
@@ -221,19 +223,18 @@ impl<D: Disk> Engine<D> {
         if !self.archive.has_next_root() {
             return Answer::NoMemory;
         }
-        let mut text = Bytes::new(self.alloc);
+        let mut kept = KeptText::none(self.alloc);
         let mut gone = None;
         let answer = self
             .archive
-            .command_keeping(&mut self.disk, command, moment, &mut text, &mut gone);
-        let kept = text.as_slice();
+            .command_keeping(&mut self.disk, command, moment, &mut kept, &mut gone);
         let followed = follow(
             self.alloc,
             &mut self.views,
             command,
             &answer,
             gone,
-            kept,
+            &kept,
             moment,
         );
         self.stale = is_left_stale(&answer, &followed);

@@ -19,4 +19,5 @@ pub use archive::DiskArchive;
 pub use counted::CountedArchive;
 pub use engine::Engine;
 pub use not_made::{NotMade, NotOpened};
+pub use texts::KeptText;
 pub use walk::Walk;

@@ -71,7 +71,7 @@ impl DiskArchive {
         self.live_index(n).is_some()
     }
 
-    /// Appends the text of a message to `into`.
+    /// Appends the text of the live message with a number to `into`.
     ///
     /// Reads the disk at most once, and changes nothing on it. `Damaged` comes if the bytes there
     /// have another blob id than the message, which never happens on the disk of an archive: `named`

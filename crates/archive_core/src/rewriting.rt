@@ -7,17 +7,18 @@ ghost use Rattle.mail_reader.specs.Stored.{stored as stored_of};
 ghost use Rattle.git_objects.specs.Objects.{blob_id_of};
 ghost use Rattle.arch_model.specs.Archives.{Archive, live, messages, text_of, without_entries};
 ghost use Rattle.arch_model.specs.Delivery.{delivered, edited, purged, unless_refused};
+ghost use Rattle.epoch_store.specs.Promises.{ChangesStore, Drops, Renews, Replaces};
 ghost use Rattle.epoch_store.specs.Stores.{EditsFiles, HasSizes, IsStoreWith, Keeps, KeepsFiles, MayPurge, without_blob};
 ghost use Rattle.archive_core.specs.Commands.{IsFaultRead, IfUnread, IsGone, IsLiveOf, KeepsText, KeepsTextFor, OnDone, OnlyLooks, TakesCommand, TellsText};
 ghost use Rattle.archive_core.specs.Numbers.{IsLiveAt};
 ghost use Rattle.archive_core.specs.Kept.{IndexesKept};
-ghost use Rattle.archive_core.specs.Rewriting.{ComparesForm, Drops, EditsAs, IsUnformed, JudgesEdit, MayReplace, Replaces, RewritesAs, TakesBy, late_answer};
+ghost use Rattle.archive_core.specs.Rewriting.{ComparesForm, EditsAs, IsUnformed, JudgesEdit, MayReplace, TakesWhatMayBy, bare, late_answer};
 ghost use Rattle.arch_model.specs.declared.command.Command.TheVariants as command;
 
 use crate::archive::{DiskArchive, answer_of};
 use crate::entries::index_without;
 use crate::placing::{MessagePlace, count_without, live_with, may_follow, places_without};
-use crate::texts::put_text;
+use crate::texts::{KeptText, put_text};
 use arch_base::{Bytes, ObjectId};
 use arch_judge::{Index, Verdict, compared, judge};
 use arch_model::Answer;
@@ -25,6 +26,7 @@ use disk_model::Disk;
 use epoch_file::StoreRefusal;
 use epoch_store::law_of_stores;
 use git_objects::blob_id;
+use mail_commits::TextIds;
 use mail_reader::{StoredRefusal, stored};
 
 impl DiskArchive {
@@ -72,15 +74,13 @@ impl DiskArchive {
     ) -> Result<Option<u32>, StoreRefusal>
         requires may { (number : ℕ) × MayPurge self.old number blob.now }
         requires sizes { WhereTold (HasSizes self.old) (D.content disk.old) }
-        ensures drops { RewritesAs D.content D.moment D.left_since D.faults disk.old disk.new self.old
-            self.new (Drops blob.now) result }
+        ensures changes { ChangesStore D.content D.moment D.left_since D.faults D.reads disk.old disk.new
+            self.old self.new Renews (Drops blob.now) (bare result) }
         ensures kept_files { OnOk result (KeepsFiles self.old self.new blob.now) }
         ensures lives { (number : ℕ) (a : Archive) (text : List ℕ) → Keeps self.old a
             → text_of (messages a.entries) number ≡ Some text → blob_id_of text ≡ blob.now
             → IfOk result (IsLiveOf (live a.entries) text) }
-        ensures fewest { D.reads disk.old ≤ D.reads disk.new }
     {
-        law_of_stores();
         let Ok(index) = index_without(self.alloc, self.store.stored(), blob) else {
             return Err(StoreRefusal::NoMemory);
         };
@@ -106,7 +106,7 @@ impl DiskArchive {
         number: u32,
         bytes: &[u8],
         moment: u64,
-        kept: &mut Bytes,
+        kept: &mut KeptText,
         gone: &mut Option<u32>,
     ) -> Answer
         requires none { gone.old ≡ None }
@@ -119,7 +119,7 @@ impl DiskArchive {
         ensures kept { (a : Archive) (cache : List ℕ)
             → IsStoreWith self.old cache a (D.content disk.old)
             → OnDone result (KeepsTextFor (command.Edit number bytes.entry) a
-            (edited a number bytes.now moment) moment kept.new) }
+            (edited a number bytes.now moment) moment kept.new.text) }
         ensures gone { OnDone result (gone.new ≡ Some number) }
     {
         law_of_stores();
@@ -184,7 +184,7 @@ impl DiskArchive {
         blob: &ObjectId,
         bytes: &[u8],
         moment: u64,
-        kept: &mut Bytes,
+        kept: &mut KeptText,
         gone: &mut Option<u32>,
     ) -> Answer
         requires may { MayPurge self.old number blob.now }
@@ -198,7 +198,7 @@ impl DiskArchive {
             → IsStoreWith self.old cache a (D.content disk.old)
             → text_of (live a.entries) number ≡ Some gone
             → OnDone result (KeepsText (without_entries a gone)
-            (unless_refused a (delivered (without_entries a gone) bytes.now moment)) moment kept.new) }
+            (unless_refused a (delivered (without_entries a gone) bytes.now moment)) moment kept.new.text) }
         ensures gone { OnDone result (gone.new ≡ Some number) }
         ensures fewest { D.reads disk.old ≤ D.reads disk.new }
     {
@@ -212,13 +212,19 @@ impl DiskArchive {
             Verdict::Compare { .. } => Answer::NoMemory,
             Verdict::Take {
                 text,
-                blob: id,
+                ids,
                 number: new,
-            } => match self.keep_instead(disk, blob, index, text.as_slice(), id, moment) {
+            } => match self.keep_instead(disk, blob, index, text.as_slice(), &ids, moment) {
                 Ok(()) => {
-                    *kept = text;
+                    *kept = KeptText {
+                        text,
+                        content: ids.content,
+                    };
                     *gone = Some(number);
-                    Answer::Ok { number: new, id }
+                    Answer::Ok {
+                        number: new,
+                        id: ids.blob,
+                    }
                 }
                 Err(refusal) => answer_of(&refusal),
             },
@@ -230,7 +236,7 @@ impl DiskArchive {
     fn verdict_on<D: Disk>(&self, disk: &mut D, index: &Index, bytes: &[u8]) -> Verdict
         ensures judged { JudgesEdit D.content disk.old self.now index.now bytes.now result }
         // For any index: a text that is taken may be kept.
-        ensures taken { TakesBy self.now index.now result }
+        ensures taken { TakesWhatMayBy self.now index.now result }
         ensures looks { OnlyLooks D.content D.moment D.left_since disk.old disk.new }
         ensures cause { RoseIf (IsFaultRead result) (D.faults disk.old) (D.faults disk.new) }
         ensures fewest { D.reads disk.old ≤ D.reads disk.new }
@@ -240,16 +246,16 @@ impl DiskArchive {
         let config = self.store.config();
         match judge(self.alloc, config, index, count, next, bytes) {
             Verdict::Refuse(answer) => Verdict::Refuse(answer),
-            Verdict::Take { text, blob, number } => Verdict::Take { text, blob, number },
-            Verdict::Compare { text, blob, number } => match self.message_text(disk, number) {
-                Ok(kept) => compared(config, next, text, blob, number, kept.as_slice()),
+            Verdict::Take { text, ids, number } => Verdict::Take { text, ids, number },
+            Verdict::Compare { text, ids, number } => match self.message_text(disk, number) {
+                Ok(kept) => compared(config, next, text, ids, number, kept.as_slice()),
                 Err(answer) => Verdict::Refuse(answer),
             },
         }
     }
 
-    /// Drops each entry with a blob id and appends a message in one step: its text takes the next
-    /// number. `index` is that of the entries that stay.
+    /// Drops each entry with a blob id and appends a message in one step: its text, which has these ids,
+    /// takes the next number. `index` is that of the entries that stay.
     ///
     /// What is kept in memory is made before the first write. An error leaves it unchanged.
     fn keep_instead<D: Disk>(
@@ -258,22 +264,20 @@ impl DiskArchive {
         old: &ObjectId,
         index: Index,
         text: &[u8],
-        blob: ObjectId,
+        ids: &TextIds,
         moment: u64,
     ) -> Result<(), StoreRefusal>
-        requires may { MayReplace self.old old.now text.now blob }
+        requires may { MayReplace self.old old.now text.now ids.now }
         requires index { IndexesKept (without_blob self.old.entries old.now.0) index }
         requires moment { moment ≤ last_moment }
         requires sizes { WhereTold (HasSizes self.old) (D.content disk.old) }
-        ensures keeps { RewritesAs D.content D.moment D.left_since D.faults disk.old disk.new self.old
-            self.new (Replaces old.now text.now moment) result }
+        ensures changes { ChangesStore D.content D.moment D.left_since D.faults D.reads disk.old disk.new
+            self.old self.new Renews (Replaces old.now text.now moment) result }
         ensures kept_files { OnOk result (EditsFiles self.old self.new old.now) }
-        ensures fewest { D.reads disk.old ≤ D.reads disk.new }
     {
-        law_of_stores();
         let new = self.store.next_number();
         let mut index = index;
-        let Ok(()) = put_text(self.alloc, &mut index, text, blob, new) else {
+        let Ok(()) = put_text(self.alloc, &mut index, text, ids, new) else {
             return Err(StoreRefusal::NoMemory);
         };
         let Ok(mut places) = places_without(self.alloc, self.store.stored(), old) else {
@@ -291,7 +295,10 @@ impl DiskArchive {
         }) else {
             return Err(StoreRefusal::NoMemory);
         };
-        match self.store.edit_text(self.alloc, disk, old, text, moment) {
+        match self
+            .store
+            .edit_text(self.alloc, disk, old, text, ids, moment)
+        {
             Ok(()) => {
                 self.index = index;
                 self.places = places;

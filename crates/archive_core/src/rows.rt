@@ -1,10 +1,18 @@
 //! The rows, threads and words of live messages, as commands change them.
-ghost use Rattle.std.specs.Prelude.{◌≡◌, true, is_ok, OnOk};
+ghost use Rattle.std.specs.Prelude.{◌≡◌, true, is_ok, OnOk, OnErr};
+ghost use Rattle.git_objects.specs.Objects.{blob_id_of};
+ghost use Rattle.mail_reader.specs.Content.{content_id_of};
+ghost use Rattle.mail_reader.specs.StorageTexts.{IsStorageText};
+ghost use Rattle.arch_model.specs.Rows.{row_of};
+ghost use Rattle.mime_parts.specs.Words.{mail_words};
+ghost use Rattle.view_set.specs.Viewed.{with_mail};
 ghost use Rattle.archive_core.specs.Commands.{OnRefusal, TellsText, is_delivery, IfDelivery, IfRemoval};
 ghost use Rattle.archive_core.specs.Walks.{ViewsAfter, without_gone};
 
-use arch_base::NoMemory;
+use crate::texts::KeptText;
+use arch_base::{NoMemory, ObjectId};
 use arch_model::{Answer, Command};
+use mail_commits::TextIds;
 use std::alloc::Global;
 use view_set::{Views, add_row};
 
@@ -20,19 +28,19 @@ pub(crate) fn follow(
     command: &Command<'_>,
     answer: &Answer,
     gone: Option<u32>,
-    text: &[u8],
+    kept: &KeptText,
     moment: u64,
 ) -> Result<(), NoMemory>
-    requires text { IfDelivery (is_delivery command.now) (TellsText answer.now text.now) }
+    requires text { IfDelivery (is_delivery command.now) (TellsText answer.now kept.now) }
     ensures rows { OnOk result
-        (ViewsAfter command.now gone answer.now text.now moment views.old views.new) }
+        (ViewsAfter command.now gone answer.now kept.now.text moment views.old views.new) }
     ensures removed { IfRemoval (is_delivery command.now)
-        (ViewsAfter command.now gone answer.now text.now moment views.old views.new) }
+        (ViewsAfter command.now gone answer.now kept.now.text moment views.old views.new) }
     ensures refused { OnRefusal answer.now (is_ok result ≡ true) }
 {
     match answer {
         Answer::Ok { number, id } => match command {
-            Command::Deliver(_) => add_row(alloc, views, *number, id, text, moment),
+            Command::Deliver(_) => add_kept(alloc, views, *number, id, kept, moment),
             Command::Remove(number) => {
                 views.take(*number)?;
                 Ok(())
@@ -40,11 +48,37 @@ pub(crate) fn follow(
             Command::Purge(_) => take_gone(views, gone),
             Command::Edit(_, _) => {
                 take_gone(views, gone)?;
-                add_row(alloc, views, *number, id, text, moment)
+                add_kept(alloc, views, *number, id, kept, moment)
             }
         },
         _refused => Ok(()),
     }
+}
+
+/// Adds the row and the words of a text that was kept, by its number, its blob id and the moment of its
+/// arrival.
+///
+/// `NoMemory` leaves rows and words unchanged.
+fn add_kept(
+    alloc: Global,
+    views: &mut Views,
+    number: u32,
+    blob: &ObjectId,
+    kept: &KeptText,
+    moment: u64,
+) -> Result<(), NoMemory>
+    requires text { IsStorageText kept.now.text }
+    requires blob { blob.now ≡ blob_id_of kept.now.text }
+    requires content { kept.now.content ≡ content_id_of kept.now.text }
+    ensures ok { OnOk result (views.new ≡ with_mail views.old
+        (row_of number kept.now.text moment) (mail_words kept.now.text)) }
+    ensures err { OnErr result (views.new ≡ views.old) }
+{
+    let ids = TextIds {
+        blob: *blob,
+        content: kept.content,
+    };
+    add_row(alloc, views, number, &ids, kept.text.as_slice(), moment)
 }
 
 /// Takes the row and the words of a number that is gone, if there is one.

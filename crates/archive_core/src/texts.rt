@@ -1,33 +1,57 @@
-//! Adds the own id and the blob id of a text to an index, and removes them.
-ghost use Rattle.std.specs.Prelude.{◌≡◌, IsSome, Some, IfOk, OnOk, OnErr};
+//! A text that was kept, and its own id and blob id as an index has them.
+ghost use Rattle.std.specs.Prelude.{◌≡◌, [], IsSome, Some, IfOk, OnOk, OnErr};
+ghost use Rattle.mail_commits.specs.Ids.{text_ids_of};
 ghost use Rattle.mail_reader.specs.Ids.{own_id as own_id_in};
 ghost use Rattle.arch_judge.specs.Indexes.{HasSame};
 ghost use Rattle.archive_core.specs.Kept.{PutsText, TakesBackText, LosesText};
 
-use arch_base::{NoMemory, ObjectId};
+use arch_base::{Bytes, NoMemory, ObjectId};
 use arch_judge::{Index, Owner};
-use mail_reader::{content_id, own_id};
+use mail_commits::TextIds;
+use mail_reader::own_id;
 use std::alloc::Global;
 
-/// Adds a text to an index. An older entry with its blob id stays. An error leaves the index
-/// unchanged.
+/// A text that was kept, and its content id.
+#[derive(Debug, Drop)]
+pub struct KeptText {
+    /// The text.
+    pub text: Bytes,
+    /// Its content id.
+    pub content: [u8; 32],
+}
+
+impl KeptText {
+    /// Returns a value for where no text was kept yet.
+    pub fn none(alloc: Global) -> KeptText
+        ensures { result.text ≡ [] }
+    {
+        KeptText {
+            text: Bytes::new(alloc),
+            content: [0; 32],
+        }
+    }
+}
+
+/// Adds a text with these ids to an index. An older entry with its blob id stays. An error leaves the
+/// index unchanged.
 pub(crate) fn put_text(
     alloc: Global,
     index: &mut Index,
     text: &[u8],
-    blob: ObjectId,
+    ids: &TextIds,
     number: u32,
 ) -> Result<(), NoMemory>
     requires own { IsSome (own_id_in text.now) }
-    ensures ok { OnOk result (PutsText index.old index.new text.now blob number) }
+    requires ids { ids.now ≡ text_ids_of text.now }
+    ensures ok { OnOk result (PutsText index.old index.new text.now ids.now.blob number) }
     ensures err { OnErr result (HasSame index.old index.new) }
 {
     let id = own_id_of(alloc, text)?;
     let owner = Owner {
         number,
-        content: content_id(text),
+        content: ids.content,
     };
-    index.insert(id, blob, owner)
+    index.insert(id, ids.blob, owner)
 }
 
 /// Takes a text back from an index, which was added last, with a new own id. `older` is the number

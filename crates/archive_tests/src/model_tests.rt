@@ -103,8 +103,9 @@ fn refusal(
 fn takes_second(alloc: Global, config: &Config, index: &Index) -> bool {
     match judge(alloc, config, index, 1, 2, SECOND) {
         Verdict::Refuse(_) | Verdict::Compare { .. } => false,
-        Verdict::Take { text, blob, number } => {
-            text.as_slice() == SECOND && blob == blob_id(SECOND) && number == 2
+        Verdict::Take { text, ids, number } => {
+            let known = ids.blob == blob_id(SECOND) && ids.content == content_id(SECOND);
+            text.as_slice() == SECOND && known && number == 2
         }
     }
 }
@@ -140,8 +141,8 @@ fn verdict_beside(
 ) -> Option<Verdict> {
     match judge(alloc, config, index, 1, next, FIRST) {
         Verdict::Refuse(_) | Verdict::Take { .. } => None,
-        Verdict::Compare { text, blob, number } => {
-            Some(compared(config, next, text, blob, number, kept))
+        Verdict::Compare { text, ids, number } => {
+            Some(compared(config, next, text, ids, number, kept))
         }
     }
 }

@@ -2,13 +2,12 @@
 use Rattle.std.specs.Prelude.{◌≡◌, ◌≢◌, ◌+◌, ◌≤◌, ◌==◌, ◌||◌, nat_lt, not, ℕ, zero, suc, Bool, true, false, if◌then◌else◌, List, [], ◌∷◌, length, Option, Some, None, Result, Ok, Err, refl}
 use Rattle.std.specs.List.{AllZip}
 use Rattle.std.specs.Str.{bytes_eq}
-use Rattle.std.proofs.Common.{◌∙◌, sym, ap, subst, inl, arith}
+use Rattle.std.proofs.Common.{◌∙◌, sym, ap, subst, arith}
 use Rattle.std.proofs.lemmas.Bool.Decides.{nat_tests}
 use Rattle.std.proofs.lemmas.Option.{same_Some}
 use Rattle.arch_base.specs.declared.ids.Id20.{Id20}
 use Rattle.arch_base.specs.Moments.{last_moment}
-use Rattle.disk_model.specs.Disk.{Content, Files, Image, LeavesOnly, Told, Unchanged, WhereTold}
-use Rattle.disk_model.specs.Moments.{joined, weaker}
+use Rattle.disk_model.specs.Disk.{Content, Files, Told, Unchanged, WhereTold}
 use Rattle.mail_reader.specs.StorageTexts.{IsStorageText}
 use Rattle.arch_model.specs.Archives.{Entry, Archive, IsFree, in_epoch, live, with_entry, without_entries, without_text}
 use Rattle.arch_model.specs.Delivery.{collision, last_epoch, new_epoch, takes_more}
@@ -21,46 +20,28 @@ use Rattle.epoch_file.specs.Runs.{OnlyReads}
 use Rattle.epoch_file.specs.declared.refusal.StoreRefusal.{StoreRefusal}
 use Rattle.epoch_file.specs.declared.refusal.StoreRefusal.TheVariants.{DiskFault, NoMemory, Damaged}
 use Rattle.epoch_store.specs.declared.entries.StoredEntry.{StoredEntry}
-use Rattle.epoch_store.specs.Leaving.{disk_recovers}
-use Rattle.epoch_store.specs.Planning.{KeepsPlanned, Planning, PlansArchive, PlansPurge, PlansUndamaged, PlansWithout}
-use Rattle.epoch_store.specs.Stores.{DropsEntries, HasSizes, InEpochs, IsDiskWith, IsStoreWith, Keeps, KeptOf, RecoversOneOf, SeesNoDamage, UnlessFailed, View, stored_after, without_blob}
+use Rattle.epoch_store.specs.Planning.{KeepsPlanned, Planning, PlansArchive, PlansPurge, PlansWithout}
+use Rattle.epoch_store.specs.Stores.{DropsEntries, HasSizes, InEpochs, IsDiskWith, IsStoreWith, Keeps, KeptOf, UnlessFailed, View, stored_after, without_blob}
 use Rattle.epoch_store.proofs.FindingTold.{reads_both}
 use Rattle.epoch_store.proofs.Planned.{last_at_most}
 use Rattle.epoch_store.proofs.Purged.{one_content}
 
--- The archive on the store's own disk.
-stands_one : (v : View) (cache : List ℕ) (a b : Archive) (k : Option Content) (image : Files) → IsStoreWith v cache a k → Image k image → RecoversOneOf cache a [] b image
-stands_one v cache a b None image store left = absurd store
-stands_one v cache a b (Some k) image store left = inl (disk_recovers v cache a k image store left)
-
--- A disk that reads as before is the same store's.
+-- A disk that reads as before is the same store's, and was it before.
 pub store_same : (v : View) (cache : List ℕ) (a : Archive) (k m : Option Content) → Told Unchanged k m → IsStoreWith v cache a k → IsStoreWith v cache a m
 store_same v cache a None m same store = absurd store
 store_same v cache a (Some k) None same store = absurd same
 store_same v cache a (Some k) (Some m) same store = subst (IsDiskWith v cache a) (sym (one_content k m same)) store
+
+pub store_back : (v : View) (cache : List ℕ) (a : Archive) (k m : Option Content) → Told Unchanged k m → IsStoreWith v cache a m → IsStoreWith v cache a k
+store_back v cache a k None same store = absurd store
+store_back v cache a None (Some m) same store = absurd same
+store_back v cache a (Some k) (Some m) same store = subst (IsDiskWith v cache a) (one_content k m same) store
 
 pub sizes_same : (v : View) (k m : Option Content) → Told Unchanged k m → WhereTold (HasSizes v) k → WhereTold (HasSizes v) m
 sizes_same v None None same sizes = tt
 sizes_same v None (Some m) same sizes = absurd same
 sizes_same v (Some k) None same sizes = absurd same
 sizes_same v (Some k) (Some m) same sizes = subst (HasSizes v) (sym (one_content k m same)) sizes
-
--- No damage was found where the disk told its content.
-pub undamaged_then : {T : Type 0} (v : View) (result : Result T StoreRefusal) (k m : Option Content) → Told Unchanged k m → WhereTold (λ (c : Content). SeesNoDamage result) m → PlansUndamaged v result k
-undamaged_then v result None m same sees = λ a cache store. absurd store
-undamaged_then v result (Some k) None same sees = absurd same
-undamaged_then v result (Some k) (Some m) same sees = λ a cache store. sees
-
-pub undamaged_as : (S T : Type 0) (v : View) (refusal : StoreRefusal) (k : Option Content) → PlansUndamaged {T = S} v (Err refusal) k → PlansUndamaged {T = T} v (Err refusal) k
-undamaged_as S T v DiskFault k sees = λ a cache store. tt
-undamaged_as S T v NoMemory k sees = λ a cache store. tt
-undamaged_as S T v (Damaged file at) k sees = sees
-
--- An error of any kind.
-pub unless_any : (T : Type 0) (P : Type 0) (refusal : StoreRefusal) → P → UnlessFailed {T = T} (Err refusal) P
-unless_any T P DiskFault p = tt
-unless_any T P NoMemory p = p
-unless_any T P (Damaged file at) p = p
 
 unless_weaker : {T : Type 0} (P Q : Type 0) (result : Result T StoreRefusal) → (P → Q) → UnlessFailed result P → UnlessFailed result Q
 unless_weaker P Q (Ok given) less p = tt
@@ -70,14 +51,6 @@ unless_weaker P Q (Err (Damaged file at)) less p = less p
 
 -- A disk that was only read, and then what is carried out.
 module _ {D : Type 0} (content : D → Option Content) (moment : D → ℕ) (left_since : D → ℕ → Files → Type 0) (faults : D → ℕ) where
-  pub read_leaves : (v : View) (cache : List ℕ) (a b : Archive) (old mid : D) → IsStoreWith v cache a (content old) → OnlyReads content moment left_since faults old mid → LeavesOnly moment left_since old mid (RecoversOneOf cache a [] b)
-  read_leaves v cache a b old mid store reads = weaker moment left_since old mid (Image (content old)) (RecoversOneOf cache a [] b) reads.any_moment (λ image left. stands_one v cache a b (content old) image store left)
-
-  pub then_leaves : (v : View) (cache : List ℕ) (a b : Archive) (old mid new : D) → IsStoreWith v cache a (content old) → OnlyReads content moment left_since faults old mid → LeavesOnly moment left_since mid new (RecoversOneOf cache a [] b) → LeavesOnly moment left_since old new (RecoversOneOf cache a [] b)
-  then_leaves v cache a b old mid new store reads run =
-      let P = RecoversOneOf cache a [] b in
-      joined moment left_since old mid new P P P (read_leaves v cache a b old mid store reads) run (λ image r. r) (λ image r. r)
-
   pub reads_then : {T : Type 0} (result : Result T StoreRefusal) (old mid new : D) → OnlyReads content moment left_since faults old mid → UnlessFailed result (OnlyReads content moment left_since faults mid new) → UnlessFailed result (OnlyReads content moment left_since faults old new)
   reads_then result old mid new first then_ = unless_weaker (OnlyReads content moment left_since faults mid new) (OnlyReads content moment left_since faults old new) result (λ more. reads_both content moment left_since faults old mid new first more) then_
 

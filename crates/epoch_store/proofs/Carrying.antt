@@ -25,7 +25,7 @@ use Rattle.epoch_store.specs.declared.entries.StoredEntry.{StoredEntry}
 use Rattle.epoch_store.specs.Files.{map_file_of, epoch_file_of}
 use Rattle.epoch_store.specs.Planning.{IsReady, Planning, PlansArchive}
 use Rattle.epoch_store.specs.Recovery.{Names, parts_of, RecoversWith}
-use Rattle.epoch_store.specs.Stores.{HasSizes, IsStoreWith, Keeps, RecoversOneOf, Rewrites, View}
+use Rattle.epoch_store.specs.Stores.{HasSizes, IsStoreWith, Keeps, RecoversOneOf, GoesOnAnew, View}
 use Rattle.epoch_store.proofs.Delivering.{store_keeps, store_cache}
 use Rattle.epoch_store.proofs.Parted.{store_owns}
 
@@ -67,25 +67,25 @@ module _ (old : Root) (cache : List ℕ) (a b : Archive) (p : Planning) (next : 
     }
 
 -- Plans of a store's own disk.
-module _ {D : Type 0} (content : D → Option Content) (moment : D → ℕ) (left_since : D → ℕ → Files → Type 0) (v : View) (cache : List ℕ) (a b : Archive) (p : Planning) (next : ℕ) (disk : D) (store : IsStoreWith v cache a (content disk)) (made : PlansArchive v.root cache a b p next) (free : ℕ) (free_is : free ≡ 1 - v.slot) where
-  pub carried_own : IsOwn v.root free (parts_of a cache) (content disk)
-  carried_own = subst (λ (f : ℕ). IsOwn v.root f (parts_of a cache) (content disk)) (sym free_is) (store_owns v cache a (content disk) store)
+module _ {D : Type 0} (content : D → Option Content) (moment : D → ℕ) (left_since : D → ℕ → Files → Type 0) (v : View) (cache : List ℕ) (a b : Archive) (p : Planning) (next : ℕ) (disk : D) (store : IsStoreWith v cache a (content disk)) (made : PlansArchive v.root cache a b p next) where
+  own : IsOwn v.root (1 - v.slot) (parts_of a cache) (content disk)
+  own = store_owns v cache a (content disk) store
 
   keeps : Keeps v a
   keeps = store_keeps v cache a (content disk) store
 
   -- What a crash leaves.
-  pub carried_leaves : (new : D) → ((parts : Parts) → IsOwn v.root free parts (content disk) → LeavesOnly moment left_since disk new (RecoversPlanned v.root p.plans next parts)) → LeavesOnly moment left_since disk new (RecoversOneOf cache a [] b)
+  pub carried_leaves : (new : D) → ((parts : Parts) → IsOwn v.root (1 - v.slot) parts (content disk) → LeavesOnly moment left_since disk new (RecoversPlanned v.root p.plans next parts)) → LeavesOnly moment left_since disk new (RecoversOneOf cache a [] b)
   carried_leaves new leaves =
-      weaker moment left_since disk new (RecoversPlanned v.root p.plans next (parts_of a cache)) (RecoversOneOf cache a [] b) (leaves (parts_of a cache) carried_own)
+      weaker moment left_since disk new (RecoversPlanned v.root p.plans next (parts_of a cache)) (RecoversOneOf cache a [] b) (leaves (parts_of a cache) own)
       (λ image either. elim either [
         | inl by ↦ inl (v.root, record { valid = keeps.valid; names = keeps.names; cache_long = store_cache v cache a (content disk) store; stands = by.stands })
         | inr r ↦ inr (recovers_next v.root cache a b p next made keeps.names.config r.0 r.1 image r.2)
       ])
 
   -- What the store has then.
-  pub carried_store : (root : Root) (k : Option Content) → IsRootAfter v.root p.plans next root → ((parts : Parts) → IsOwn v.root free parts (content disk) → IsOwn root (1 - free) (rewritten v.root p.plans parts) k) → IsStoreWith (record { root = root; slot = free; entries = p.entries }) [] b k
-  carried_store root k after done = store_next v.root cache a b p next made keeps.names.config root after free k (done (parts_of a cache) carried_own)
+  pub carried_store : (root : Root) (k : Option Content) → IsRootAfter v.root p.plans next root → ((parts : Parts) → IsOwn v.root (1 - v.slot) parts (content disk) → IsOwn root (1 - (1 - v.slot)) (rewritten v.root p.plans parts) k) → IsStoreWith (record { root = root; slot = 1 - v.slot; entries = p.entries }) [] b k
+  carried_store root k after done = store_next v.root cache a b p next made keeps.names.config root after (1 - v.slot) k (done (parts_of a cache) own)
 
 -- The files that a store names have at least their sizes, but for the cache.
 pub part_sizes : (v : View) (k : Option Content) → WhereTold (HasSizes v) k → WhereTold (HasPartSizes v.root) k
@@ -142,7 +142,7 @@ plan_goes n None place = inl refl
 plan_goes n (Some plan) place = target_goes n plan.target place (plan_count plan)
 
 -- The new root goes on from the old one.
-pub carried_on : (old new : Root) (plans : List Plan) (next : ℕ) → IsReady old plans next → IsRootAfter old plans next new → Rewrites old new
+pub carried_on : (old new : Root) (plans : List Plan) (next : ℕ) → IsReady old plans next → IsRootAfter old plans next new → GoesOnAnew old new
 carried_on old new plans next ready after = record {
   sequence = after.sequence;
   map =

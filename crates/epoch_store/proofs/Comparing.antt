@@ -1,9 +1,11 @@
 -- Texts that are read and compared, and the entries of an epoch that are joined by them.
-use Rattle.std.specs.Prelude.{◌≡◌, ◌≤◌, ℕ, Bool, List, [], ◌∷◌, slice_get, Option, Some, None, Ok, Err}
+use Rattle.std.specs.Prelude.{◌≡◌, ◌≤◌, ℕ, Bool, true, List, [], ◌∷◌, slice_get, Option, Some, None, Ok, Err}
 use Rattle.std.specs.Str.{bytes_eq}
-use Rattle.std.proofs.Common.{◌∙◌, sym, ap, subst}
+use Rattle.std.proofs.Common.{◌∙◌, sym, inl, inr, refl}
 use Rattle.disk_model.specs.Disk.{Files, Content, Told, WhereTold, Unchanged, bytes_of}
 use Rattle.arch_model.specs.Archives.{Entry}
+use Rattle.arch_judge.specs.Indexes.{number_in}
+use Rattle.arch_judge.specs.declared.index.Index.{Index}
 use Rattle.number_map.specs.declared.line.Record.{Record}
 use Rattle.epoch_file.specs.declared.entry.Seen.{Seen}
 use Rattle.epoch_file.specs.Entries.{EpochEntry, AreEpochEntries, epoch_of}
@@ -12,11 +14,12 @@ use Rattle.root_slots.specs.declared.root.Root.{Root}
 use Rattle.root_change.specs.Texts.{Fronts}
 use Rattle.epoch_store.specs.Files.{as_read, epoch_file_of}
 use Rattle.epoch_store.specs.declared.entries.StoredEntry.{StoredEntry}
-use Rattle.epoch_store.specs.declared.known.Known.{Known}
-use Rattle.epoch_store.specs.declared.known.JoinRefusal.{JoinRefusal}
+use Rattle.epoch_store.specs.declared.join_refusal.JoinRefusal.{JoinRefusal}
 use Rattle.epoch_store.specs.Damage.{AreWhole}
-use Rattle.epoch_store.specs.Joined.{Joined, Holds, Held, TextIn, value_in, first_index, AreKnown, kept_at, IsSameText, JoinsByText, TakesEpoch, AreBefore}
-use Rattle.epoch_store.proofs.FindingTold.{told_both}
+use Rattle.epoch_store.specs.Indexes.{IndexesStored}
+use Rattle.epoch_store.specs.Joined.{Joined, Holds, TextIn, ComparesText, JoinsByText, TakesEpoch, AreBefore}
+use Rattle.epoch_store.proofs.Indexes.{index_held}
+use Rattle.epoch_store.proofs.FindingTold.{told_any, told_both}
 use Rattle.epoch_store.proofs.Joins.{Comes, comes_first, comes_more, joins_or_stops, all_come}
 
 -- A text of an entry was read.
@@ -24,14 +27,22 @@ abbrev pub IsReadAs : Root → ℕ → Seen → List ℕ → Files → Type 0
 IsReadAs root epoch seen text files = (read : List ℕ) → TextIn (bytes_of (files (epoch_file_of root epoch))) seen read → text ≡ read
 
 -- Both texts were read.
-pub both_read : (root : Root) (v : Joined) (epoch : ℕ) (seen : Seen) (known : Known) (first : ℕ) (older : StoredEntry) (old new : List ℕ) (same : Bool) (before mid : Option Content) → Held v (AreKnown v.entries known) → value_in known.firsts seen.blob.0 ≡ Some first
-    → slice_get v.entries first ≡ Some older → Told Unchanged before mid → WhereTold (λ k. IsReadAs root older.epoch older.seen old (as_read k)) before → WhereTold (λ k. IsReadAs root epoch seen new (as_read k)) mid → same ≡ bytes_eq old new
-    → WhereTold (λ k. Held v (IsSameText root (as_read k) (kept_at v.entries (first_index v.entries seen.blob.0)) epoch seen same)) before
-both_read root v epoch seen known first older old new same before mid knows index found kept one two is =
-    told_both (IsReadAs root older.epoch older.seen old) (IsReadAs root epoch seen new) (λ files. Held v (IsSameText root files (kept_at v.entries (first_index v.entries seen.blob.0)) epoch seen same)) before mid kept one two
-    (λ files first_text second_text rs after es holds.
-    let there : kept_at v.entries (first_index v.entries seen.blob.0) ≡ Some older = ap (kept_at v.entries) (sym ((knows rs after es holds).firsts seen.blob.0) ∙ index) ∙ found in
-    subst (λ (o : Option StoredEntry). IsSameText root files o epoch seen same) (sym there) (λ a b in_old in_new. is ∙ (λ i. bytes_eq (first_text a in_old i) (second_text b in_new i))))
+pub both_read : (root : Root) (v : Joined) (epoch : ℕ) (seen : Seen) (index : ℕ) (older : StoredEntry) (old new : List ℕ) (same : Bool) (before mid : Option Content) → slice_get v.entries index ≡ Some older → older.seen.blob ≡ seen.blob → Told Unchanged before mid
+    → WhereTold (λ k. IsReadAs root older.epoch older.seen old (as_read k)) before → WhereTold (λ k. IsReadAs root epoch seen new (as_read k)) mid → same ≡ bytes_eq old new → WhereTold (λ k. ComparesText root v epoch seen (Ok same) (as_read k)) before
+both_read root v epoch seen index older old new same before mid among blob kept one two is =
+    told_both (IsReadAs root older.epoch older.seen old) (IsReadAs root epoch seen new) (ComparesText root v epoch seen (Ok same)) before mid kept one two
+    (λ files first_text second_text rs after all holds. inr (record {
+      older = older;
+      index = index;
+      among = among;
+      blob = blob;
+      is = λ a b in_old in_new. is ∙ (λ i. bytes_eq (first_text a in_old i) (second_text b in_new i));
+    }))
+
+-- No older entry has the blob id.
+pub none_read : (root : Root) (v : Joined) (epoch : ℕ) (seen : Seen) (index : Index) (content : Option Content) → IndexesStored v.entries index → number_in index.blobs seen.blob.0 ≡ None → WhereTold (λ k. ComparesText root v epoch seen (Ok true) (as_read k)) content
+none_read root v epoch seen index content indexed none =
+    told_any (ComparesText root v epoch seen (Ok true)) content (λ files rs after all holds. inl (sym ((index_held v index rs after all indexed holds).blobs seen.blob.0) ∙ none, refl))
 
 -- Whatever was joined before, and whatever entries an epoch's file has, some have joined.
 abbrev pub Come : Root → Joined → ℕ → List Seen → Joined → List Seen → Files → Type 0

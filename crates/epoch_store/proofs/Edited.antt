@@ -1,5 +1,5 @@
 -- A message in the place of a text: what is planned of the archive, and what the store then keeps.
-use Rattle.std.specs.Prelude.{◌≡◌, ◌+◌, ◌≤◌, ℕ, List, Option, Some, None, Result, Err}
+use Rattle.std.specs.Prelude.{◌≡◌, ◌+◌, ◌≤◌, ℕ, List, Option, Some, None}
 use Rattle.std.proofs.Common.{◌∙◌, sym, subst}
 use Rattle.arch_base.specs.declared.config.Config.{Config}
 use Rattle.arch_base.specs.declared.ids.Id20.{Id20}
@@ -9,10 +9,8 @@ use Rattle.git_objects.specs.Objects.{blob_id_of}
 use Rattle.arch_model.specs.Archives.{Archive, live, text_of, with_entry, without_entries}
 use Rattle.arch_model.specs.Delivery.{collision, new_epoch}
 use Rattle.arch_model.proofs.LiveEntries.{live-one}
-use Rattle.epoch_file.specs.declared.refusal.StoreRefusal.{StoreRefusal}
-use Rattle.epoch_file.specs.declared.refusal.StoreRefusal.TheVariants.{DiskFault, NoMemory, Damaged}
-use Rattle.epoch_store.specs.Planning.{KeepsPlanned, Planning, PlansArchive, PlansEdit, PlansOwn, PlansPurge, PlansUndamaged}
-use Rattle.epoch_store.specs.Stores.{EditsEntries, InEpochs, IsStoreWith, MayEdit, SeesNoDamage, View}
+use Rattle.epoch_store.specs.Planning.{KeepsPlanned, Planning, PlansArchive, PlansEdit, PlansOwn, PlansPurge}
+use Rattle.epoch_store.specs.Stores.{EditsEntries, InEpochs, IsStoreWith, MayEdit, View}
 use Rattle.epoch_store.proofs.CarriedOut.{edited_valid, kept_low, purged_archive}
 use Rattle.epoch_store.proofs.Delivering.{store_keeps}
 use Rattle.epoch_store.proofs.Kept.{in_epochs_more}
@@ -43,15 +41,6 @@ edit_keeps v new blob text moment p q purge edit kept = record {
   next = kept.root.next;
   config = kept.root.config;
 }
-
--- An error that is handed on.
-sees_still : (T U : Type 0) (refusal : StoreRefusal) → SeesNoDamage {T = T} (Err refusal) → SeesNoDamage {T = U} (Err refusal)
-sees_still T U DiskFault sees = tt
-sees_still T U NoMemory sees = tt
-sees_still T U (Damaged file at) sees = sees
-
-pub undamaged_so : (T U : Type 0) (v : View) (refusal : StoreRefusal) (result : Result U StoreRefusal) (content : Option Content) → result ≡ Err refusal → PlansUndamaged {T = T} v (Err refusal) content → PlansUndamaged {T = U} v result content
-undamaged_so T U v refusal result content is undamaged = λ a cache store. subst (λ (r : Result U StoreRefusal). SeesNoDamage {T = U} r) (sym is) (sees_still T U refusal (undamaged a cache store))
 
 -- Its entries are in epochs.
 pub edit_low : (v : View) (blob : Id20) (text : List ℕ) (moment : ℕ) (p q : Planning) → InEpochs v.entries → PlansPurge v blob p.entries p.plans → PlansEdit v p text moment q → InEpochs q.entries

@@ -1,12 +1,12 @@
 -- An entry that is written, and the root that then replaces the old one: what the calls leave, from
 -- the clauses of each.
 use Rattle.std.proofs.Common.{◌≡◌, ◌<◌, ◌≤◌, ◌+◌, ◌-◌, ◌^◌, ◌∙◌, ℕ, List, length, sym, ap, subst, inl, inr, arith}
-use Rattle.std.specs.Prelude.{Option, Some, None, get_or, refl}
+use Rattle.std.specs.Prelude.{Option, get_or, refl}
 use Rattle.arch_base.specs.declared.ids.Id20.{Id20}
 use Rattle.disk_model.specs.declared.name.FileName.{FileName}
 use Rattle.disk_model.specs.Beside.{Respects, Beside, RunsBeside}
-use Rattle.disk_model.specs.Disk.{Files, Content, Image, Told, WhereTold, OneFile, Wrote, LeavesOnly}
-use Rattle.disk_model.specs.Moments.{started, joined, weaker}
+use Rattle.disk_model.specs.Disk.{Files, Content, Told, WhereTold, OneFile, Wrote, LeavesOnly}
+use Rattle.disk_model.specs.Moments.{joined, weaker}
 use Rattle.git_objects.specs.Objects.{blob_id_of}
 use Rattle.git_objects.specs.declared.entry_kind.EntryKind.TheVariants.{Message, Deletion}
 use Rattle.number_map.specs.Records.{record_bytes}
@@ -25,15 +25,13 @@ use Rattle.root_change.proofs.Sizes.{end_respects}
 use Rattle.root_change.proofs.Changes.{parts_measure, writing, replaceable}
 use Rattle.root_change.proofs.Grown.{epoch_isnt_root, map_isnt_root, map_is_named, becomes_so, reads_so}
 use Rattle.root_change.proofs.Grown as grown_files
-use Rattle.arch_model.specs.Archives.{Archive, live, text_of}
-use Rattle.arch_model.specs.Delivery.{collision}
+use Rattle.arch_model.specs.Archives.{Archive}
+use Rattle.arch_model.specs.Delivery.{new_epoch}
 use Rattle.arch_model.specs.Validity.{IsArchive}
 use Rattle.arch_base.specs.Moments.{last_moment}
-use Rattle.epoch_store.specs.declared.entries.StoredEntry.{StoredEntry}
 use Rattle.epoch_store.specs.declared.next.NextPlace.{NextPlace}
 use Rattle.epoch_store.specs.Recovery.{Names, parts_of}
-use Rattle.epoch_store.specs.Stores.{View, IsStoreWith, RecoversEitherWith, IsMessage, IsDeletion, GoesNext, EndsNext, place_of, root_after, root_ended, with_message, with_ending, view_after, view_ended, Keeps, Accepts, MayEnd, IsNextPlace, next_sequence}
-use Rattle.epoch_store.proofs.Kept.{same_view, stands_now}
+use Rattle.epoch_store.specs.Stores.{View, IsStoreWith, RecoversEitherWith, IsMessage, IsDeletion, GoesNext, EndsNext, place_of, root_after, root_ended, with_message, with_ending, view_after, view_ended, Keeps, IsNextPlace, next_sequence}
 use Rattle.epoch_store.proofs.Parted.{store_owns}
 use Rattle.epoch_store.proofs.Lengthened.{root_longer, longer_so, longer_reads}
 use Rattle.epoch_store.proofs.Lengthened as longer_files
@@ -253,32 +251,13 @@ module _ (v : View) (cache : List ℕ) (a : Archive) (p : NextPlace) (number : �
   pub deletion_stored : (new : Option Content) → OnDisk root (1 - (1 - v.slot)) (texts_of root (parts_of (with_ending a p number e) cache)) new → IsStoreWith (view_ended v a root p number e) cache (with_ending a p number e) new
   deletion_stored new on = store_after v a p d_keeps goes.place small goes.room Deletion number a.next e.text.now e.moment is written.end d_ends v.root.map d_valid root d_names cache d_long new on
 
--- A store that got room for one more entry still keeps its archive, and this is the next place in
--- it.
-pub record HasRoom (v w : View) (cache : List ℕ) (a : Archive) (p : NextPlace) (k : Option Content) : Type 0 where
-  pub same : v ≡ w
-  pub next : IsNextPlace v.root a (next_sequence v.root.sequence) p
-  pub owns : IsStoreWith w cache a k
-
--- From the clauses of the calls before.
-pub has_room : (v : View) (cache : List ℕ) (a : Archive) (p : NextPlace) (k : Option Content) (root : Root) (slot : ℕ) (entries more : List StoredEntry) → record { root = root; slot = slot; entries = entries } ≡ v → more ≡ entries → IsStoreWith v cache a k
-    → (Keeps v a → IsNextPlace v.root a (next_sequence v.root.sequence) p) → HasRoom v (record { root = root; slot = slot; entries = more }) cache a p k
-has_room v cache a p k root slot entries more view_is more_is store next_is =
-    let w : View = record { root = root; slot = slot; entries = more } in
-    let same : v ≡ w = sym view_is ∙ same_view root slot more entries (sym more_is) in
-    record {
-      same = same;
-      next = next_is (store_keeps v cache a k store);
-      owns = subst (λ (u : View). IsStoreWith u cache a k) same store;
-    }
-
--- So a message or a deletion is next.
-pub goes_next : (v w : View) (cache : List ℕ) (a : Archive) (p : NextPlace) (e : NewEntry) (k : Option Content) → HasRoom v w cache a p k → v.root.sequence + 1 < 2 ^ 64 → Accepts v e.text.now → collision a.entries e.text.now ≡ None → GoesNext w a p e
-goes_next v w cache a p e k has room accepts alone = subst (λ (u : View). GoesNext u a p e) has.same (record { place = has.next; accepts = accepts; alone = alone; room = room })
-
-pub ends_next : (v w : View) (cache : List ℕ) (a : Archive) (p : NextPlace) (number : ℕ) (e : NewEntry) (k : Option Content) → HasRoom v w cache a p k → v.root.sequence + 1 < 2 ^ 64 → MayEnd v number e.text.now → text_of (live a.entries) number ≡ Some e.text.now → EndsNext w a p number e
-ends_next v w cache a p number e k has room may shown = subst (λ (u : View). EndsNext u a p number e) has.same (record { place = has.next; may = may; shown = shown; room = room })
-
--- Before anything is written the archive is there.
-pub waiting_leaves : {D : Type 0} (moment : D → ℕ) (left_since : D → ℕ → Files → Type 0) (disk : D) (v : View) (cache : List ℕ) (a b : Archive) (k : Option Content) → IsStoreWith v cache a k → ((image : Files) → left_since disk (moment disk) image → Image k image) → LeavesOnly moment left_since disk disk (RecoversEitherWith cache a b)
-waiting_leaves moment left_since disk v cache a b k store now = started moment left_since disk (RecoversEitherWith cache a b) (λ image left. stands_now v cache a b k image store (now image left))
+-- What is told of a store that got room for one more entry, of each archive to which the entry may be
+-- added, holds of the store before, and of the archive that is made.
+pub entered : {w v : View} {p : NextPlace} (k : Option Content) (Goes : View → Archive → Type 0) (to : Archive → ℕ → Archive) (Makes : Archive → Archive → Type 0) (P : List ℕ → Archive → Archive → Type 0) → w ≡ v → ((a : Archive) → Keeps v a → IsNextPlace v.root a (next_sequence v.root.sequence) p)
+    → ((a b : Archive) → IsNextPlace v.root a (next_sequence v.root.sequence) p → v.root.sequence + 1 < 2 ^ 64 → Makes a b → Goes v a × (to a (new_epoch a) ≡ b)) → ((a : Archive) (cache : List ℕ) → IsStoreWith w cache a k → Goes w a → P cache a (to a p.epoch))
+    → (a b : Archive) (cache : List ℕ) → IsStoreWith v cache a k → v.root.sequence + 1 < 2 ^ 64 → Makes a b → P cache a b
+entered {w} {v} {p} k Goes to Makes P same next goes told a b cache store room makes =
+    let place = next a (store_keeps v cache a k store) in
+    let both = goes a b place room makes in
+    subst (P cache a) (ap (to a) place.epoch ∙ both.1)
+    (subst (λ (u : View). IsStoreWith u cache a k → Goes u a → P cache a (to a p.epoch)) same (told a cache) store both.0)

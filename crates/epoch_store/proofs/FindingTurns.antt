@@ -1,6 +1,5 @@
 -- The turns of reading an archive's files.
 use Rattle.std.specs.Prelude.{◌≡◌, ◌+◌, ◌<◌, ◌≤◌, ◌^◌, ℕ, List, [], Some, None, Result, Ok, Err, refl}
-use Rattle.std.specs.Global.{Vec}
 use Rattle.std.proofs.Common.{sym, subst, inl, inr, arith}
 use Rattle.disk_model.specs.declared.name.FileName.{FileName}
 use Rattle.disk_model.specs.Disk.{File, Files, bytes_of}
@@ -19,8 +18,8 @@ use Rattle.root_slots.specs.Spelling.{spelling}
 use Rattle.root_slots.specs.Valid.{IsRoot, RootFits}
 use Rattle.epoch_store.specs.declared.entries.StoredEntry.{StoredEntry}
 use Rattle.epoch_store.specs.declared.finding.Found.{Found}
-use Rattle.epoch_store.specs.declared.known.JoinRefusal.TheVariants as join
-use Rattle.epoch_store.specs.declared.known.Unmatched.{Unmatched}
+use Rattle.epoch_store.specs.declared.join_refusal.JoinRefusal.TheVariants as join
+use Rattle.epoch_store.specs.declared.join_refusal.Unmatched.{Unmatched}
 use Rattle.epoch_store.specs.Files.{epoch_file_of}
 use Rattle.epoch_store.specs.Damage.{messages, named_length, IsFirstDamage}
 use Rattle.epoch_store.specs.Joined.{Joined, TakesEpoch, Finishes}
@@ -108,7 +107,7 @@ pub read_stops : (root : Root) (epoch : ℕ) (old now : Joined) (refusal : OpenR
 read_stops root epoch old now refusal files so_far reads = λ rs fits none. reads rs fits (so_far rs fits none)
 
 -- All epochs are read.
-pub ended : (root : Root) (joined : Joined) (kept : Vec StoredEntry) → Finishes joined (Ok kept) → EndsWith root joined (Ok kept)
+pub ended : (root : Root) (joined : Joined) (kept : List StoredEntry) → Finishes joined (Ok kept) → EndsWith root joined (Ok kept)
 ended root joined kept ends = λ rs files up. read_all root files rs joined kept up ends
 
 pub missing : (root : Root) (joined : Joined) (refusal : Unmatched) (file : FileName) (at : ℕ) → file ≡ epoch_file_of root refusal.epoch → at ≡ named_length root refusal.epoch → Finishes joined (Err refusal) → EndsWith root joined (Err (Damaged file at))
@@ -125,7 +124,7 @@ begun root files rs v has records entries = record {
 }
 
 -- What is kept at the end.
-pub keeps : (root : Root) (rs : List Record) (old joined : Joined) (result : Result (Vec StoredEntry) OpenRefusal) (files : Files) → old.records ≡ messages rs → old.entries ≡ [] → ReadsEach root old (Ok joined) files → EndsWith root joined result
+pub keeps : (root : Root) (rs : List Record) (old joined : Joined) (result : Result (List StoredEntry) OpenRefusal) (files : Files) → old.records ≡ messages rs → old.entries ≡ [] → ReadsEach root old (Ok joined) files → EndsWith root joined result
     → KeepsBy root rs result files
 keeps root rs old joined result files records entries reads ends = λ fits has. ends rs files (reads rs fits (begun root files rs old has records entries))
 
@@ -133,7 +132,7 @@ pub keeps_none : (root : Root) (rs : List Record) (old : Joined) (refusal : Open
 keeps_none root rs old refusal files records entries reads = λ fits has. reads rs fits (begun root files rs old has records entries)
 
 -- What is found of map and epochs.
-pub entries_found : (root : Root) (rs : List Record) (result : Result (Vec StoredEntry) OpenRefusal) (files : Files) → RootFits root → FindsRecords root files (Ok rs) → KeepsBy root rs result files → FindsEntries root files result
+pub entries_found : (root : Root) (rs : List Record) (result : Result (List StoredEntry) OpenRefusal) (files : Files) → RootFits root → FindsRecords root files (Ok rs) → KeepsBy root rs result files → FindsEntries root files result
 entries_found root rs (Ok kept) files fits has keeps = record { records = rs; has = has; read = keeps fits has }
 entries_found root rs (Err NoArchive) files fits has keeps = keeps fits has
 entries_found root rs (Err (Damaged file at)) files fits has keeps = inr (record { records = rs; has = has; damage = keeps fits has })
@@ -147,7 +146,7 @@ no_records root DiskFault files lacks = tt
 no_records root NoMemory files lacks = tt
 
 -- What is found of all files.
-pub all_found : (files : Files) (found : Found) → FindsRoot files (Ok (found.slot, found.root)) → FindsEntries found.root files (Ok found.entries) → Finds files (Ok found)
+pub all_found : (files : Files) (found : Found) → FindsRoot files (Ok (found.slot, found.root)) → FindsEntries found.root files (Ok found.entries.items) → Finds files (Ok found)
 all_found files found root has = record { records = has.records; root = root; has = has.has; read = has.read }
 
 pub damage_found : (files : Files) (slot : Slot) (root : Root) (refusal : OpenRefusal) → FindsRoot files (Ok (slot, root)) → FindsEntries root files (Err refusal) → Finds files (Err refusal)

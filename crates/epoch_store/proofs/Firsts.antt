@@ -18,7 +18,7 @@ use Rattle.epoch_store.specs.Stores.{stored_after}
 use Rattle.epoch_store.specs.Damage.{messages, has_message, record_of, AreFirst}
 use Rattle.epoch_store.specs.Joined.{AreBefore}
 use Rattle.epoch_store.proofs.UniqueEntries.{Ending}
-use Rattle.epoch_store.proofs.KnownLive.{Apart, numbers_all}
+use Rattle.epoch_store.proofs.Live.{Apart, numbers_all}
 
 -- What holds of all items with one appended holds of that one, and of the others.
 pub all_last : {X : Type 0} (P : X → Type 0) (xs : List X) (x : X) → AllByRecursion P (xs ++ x ∷ []) → P x
@@ -85,11 +85,7 @@ first_front rs after xs ys first = record {
       ∙ (ap (λ (l : List Record). l ++ after) (records_joined (delivered xs) (delivered ys)) ∙ append_assoc (map record_of (delivered xs)) (map record_of (delivered ys)) after));
 }
 
--- As many entries are kept as there are, in their epochs.
-pub stored_count : (before es : List Entry) → length (stored_after before es) ≡ length es
-stored_count before [] = refl
-stored_count before (e ∷ es) = let rest = stored_count (before ++ e ∷ []) es in omega (arith, rest)
-
+-- The epochs of what is kept are those of the entries.
 pub stored_before : (epoch : ℕ) (before es : List Entry) → AreBefore epoch (stored_after before es) → AllByRecursion (λ (e : Entry). e.epoch < epoch) es
 stored_before epoch before [] all = tt
 stored_before epoch before (e ∷ es) all = (all.0, stored_before epoch (before ++ e ∷ []) es all.1)

@@ -1,6 +1,6 @@
 -- The entries of an epoch, joined one after the other to those of the epochs before it.
-use Rattle.std.specs.Prelude.{◌≡◌, ◌≢◌, ◌⊎◌, ◌+◌, ◌<◌, ◌≤◌, ◌==◌, ℕ, Bool, true, false, not, List, [], ◌∷◌, ◌++◌, length, map, slice_get, get_or, zero, suc, option_map, Option, Some, None, Err, if◌then◌else◌, unwrap_or, refl}
-use Rattle.std.specs.List.{AllByRecursion}
+use Rattle.std.specs.Prelude.{◌≡◌, ◌≢◌, ◌⊎◌, ◌+◌, ◌<◌, ◌≤◌, ◌==◌, ℕ, Bool, true, false, not, cond, List, [], ◌∷◌, ◌++◌, length, map, slice_get, get_or, zero, suc, option_map, Option, Some, None, Err, if◌then◌else◌, unwrap_or, refl}
+use Rattle.std.specs.List.{AllByRecursion, filter}
 use Rattle.std.specs.Str.{bytes_eq}
 use Rattle.std.proofs.Common.{◌∙◌, sym, ap, subst, inl, inr, arith, append_assoc, length-append}
 use Rattle.std.proofs.lemmas.List.{append-nil}
@@ -12,7 +12,8 @@ use Rattle.arch_base.specs.declared.ids.Id20.{Id20}
 use Rattle.git_objects.specs.Objects.{blob_id_of}
 use Rattle.git_objects.specs.declared.entry_kind.EntryKind.{EntryKind}
 use Rattle.git_objects.specs.declared.entry_kind.EntryKind.TheVariants.{Message, Deletion}
-use Rattle.arch_model.specs.Archives.{Entry, in_epoch, live, messages as delivered, blob_number}
+use Rattle.mail_reader.specs.Ids.{own_id}
+use Rattle.arch_model.specs.Archives.{Entry, in_epoch, is_message, live, messages as delivered, owner, text_of, blob_number}
 use Rattle.arch_model.specs.Epochs.{epoch_bytes, entries_bytes, last_commit}
 use Rattle.mail_commits.specs.Entries.{magic, entry_bytes, commit_id}
 use Rattle.disk_model.specs.Disk.{Files, bytes_of}
@@ -24,19 +25,26 @@ use Rattle.root_slots.specs.declared.root.Root.{Root}
 use Rattle.root_change.specs.Texts.{Fronts}
 use Rattle.epoch_store.specs.Files.{epoch_file_of}
 use Rattle.epoch_store.specs.declared.entries.StoredEntry.{StoredEntry}
-use Rattle.epoch_store.specs.declared.known.JoinRefusal.{JoinRefusal}
-use Rattle.epoch_store.specs.declared.known.JoinRefusal.TheVariants.{NoMemory, DiskFault, Damaged}
-use Rattle.arch_model.specs.Validity.{IsEntry, BlobsAgree}
-use Rattle.epoch_store.specs.Stores.{in_file, stored_at, stored_after, live_kept}
+use Rattle.epoch_store.specs.declared.join_refusal.JoinRefusal.{JoinRefusal}
+use Rattle.epoch_store.specs.declared.join_refusal.JoinRefusal.TheVariants.{NoMemory, DiskFault, Damaged}
+use Rattle.arch_model.specs.Validity.{IsEntry}
+use Rattle.epoch_store.specs.Stores.{in_file, stored_at, stored_after}
 use Rattle.epoch_store.specs.Damage.{record_of, AreFirst, AreWhole}
-use Rattle.epoch_store.specs.Joined.{Joined, Holds, Held, AreBefore, has_id, number_of, first_index, message_count, entry_seen, IsWanted, TextIn, JoinsMessage, JoinsDeletion, JoinsNext, IsSameText, kept_at, with_seen, JoinsByText, JoinsAll, AreJoined, StopsAt}
-use Rattle.arch_model.proofs.LiveEntries.{ids-now, live-all, HasText}
+use Rattle.epoch_store.specs.Indexes.{IndexesStored}
+use Rattle.epoch_store.specs.Joined.{Joined, Holds, Held, AreBefore, message_count, entry_seen, IsMessageOf, IsWanted, TextIn, JoinsMessage, JoinsDeletion, JoinsNext, Ends, IsSameText, with_seen, JoinsByText, JoinsAll, AreJoined, StopsAt}
+use Rattle.arch_model.proofs.LiveEntries.{ids-now, live-all, live-one, HasText}
+use Rattle.arch_judge.specs.Indexes.{IsIndex, owner_of, owner_in}
+use Rattle.arch_judge.specs.declared.index.Index.{Index}
+use Rattle.arch_judge.specs.declared.index.Owner.{Owner}
+use Rattle.arch_judge.proofs.Endings.{owner-none}
+use Rattle.arch_judge.proofs.Indexes.{unowned}
 use Rattle.arch_model.proofs.ValidArchives.{Agrees, agrees-has, all_after, all_weaker}
 use Rattle.epoch_store.proofs.Growing.{stored_more}
+use Rattle.epoch_store.proofs.Indexes.{index_held}
 use Rattle.epoch_store.proofs.Ends.{none_in, last_commit_is}
 use Rattle.epoch_store.proofs.Texts.{divided_reads, epoch_text, in_fronts, in_epoch_split}
-use Rattle.epoch_store.proofs.KnownLive.{kept_ids, kept_numbers, kept_firsts, kept_count, first_at, none_own, apart_by, found_text, found_number, live_ascends, bytes_same, bytes_yes}
-use Rattle.epoch_store.proofs.Firsts.{FitsKind, with_record, all_last, first_is, first_none, first_more, first_less, fits_last, blobs_last, record_after, map_after, stored_before}
+use Rattle.epoch_store.proofs.Live.{own_of, there, Apart, kept_count, apart_by, owner_all, owner_text, found_owner, lone_text, Ascends, live_ascends, messages_ascend, bytes_same, bytes_yes}
+use Rattle.epoch_store.proofs.Firsts.{FitsKind, with_record, all_last, delivered_joined, first_is, first_none, first_more, first_less, fits_last, blobs_last, record_after, map_after, stored_before}
 
 -- The next record is that of an entry, or it isn't.
 pub is_wanted : (v : Joined) (epoch : ℕ) (seen : Seen) (r : Record) → seen.kind ≡ Message → slice_get v.records (message_count v.entries) ≡ Some r → r.epoch ≡ epoch → r.blob ≡ seen.blob → IsWanted v epoch seen r.number
@@ -81,6 +89,18 @@ blobs_same a b t is no_way = ap (λ (l : List ℕ). let i : Id20 = record { 0 = 
   not_false : (d : Bool) → not d ≡ false → d ≡ true
   not_false true e = refl
   not_false false e = absurd (let wrong : true ≡ false = e in cc)
+
+-- How many messages there are with one more entry of either kind.
+pub count_by : (k : EntryKind) (xs : List StoredEntry) (t : StoredEntry) → t.seen.kind ≡ k → message_count (xs ++ t ∷ []) ≡ (if is_message k then message_count xs + 1 else message_count xs)
+count_by k [] t is = one k is where
+  one : (j : EntryKind) → t.seen.kind ≡ j → message_count (t ∷ []) ≡ (if is_message j then 1 else 0)
+  one Message kind = rw kind refl
+  one Deletion kind = rw kind refl
+count_by k (x ∷ xs) t is = by (is_message x.seen.kind) (is_message k) (filter (λ (e : StoredEntry). is_message e.seen.kind) (xs ++ t ∷ [])) (filter (λ (e : StoredEntry). is_message e.seen.kind) xs) (count_by k xs t is) where
+  by : (b c : Bool) (ys zs : List StoredEntry) → length ys ≡ (if c then length zs + 1 else length zs) → length (cond b (x ∷ ys) ys) ≡ (if c then length (cond b (x ∷ zs) zs) + 1 else length (cond b (x ∷ zs) zs))
+  by true true ys zs more = omega (arith, more)
+  by true false ys zs more = omega (arith, more)
+  by false c ys zs more = more
 
 -- All records have an entry, or this is the first that has none.
 pub none_left : (v : Joined) → slice_get v.records (message_count v.entries) ≡ None → (rs after : List Record) (entries : List Entry) → Holds v rs after entries → (v.entries ≡ stored_after [] entries) × AreFirst rs [] entries
@@ -156,49 +176,96 @@ text_there root files epoch before e behind stand less =
     (in_fronts (epoch_bytes (xs ++ e ∷ ys)) (files (epoch_file_of root e.epoch)) (8 + length (entries_bytes None xs) + blob_front e.text) e.text fronts (epoch_text xs e ys)) in
     (reads.0, sym reads.1)
 
--- The first of some entries with a blob id, and what is kept of it.
-record FirstWith (before es : List Entry) (q : List ℕ) (i : ℕ) : Type 0 where
+-- An entry that is kept is that of one of the entries.
+record KeptOne (before es : List Entry) (s : StoredEntry) : Type 0 where
   front : List Entry
   entry : Entry
   behind : List Entry
   is : es ≡ front ++ entry ∷ behind
-  kept : slice_get (stored_after before es) i ≡ Some (stored_at (before ++ front) entry)
-  blob : q ≡ (blob_id_of entry.text).0
+  kept : s ≡ stored_at (before ++ front) entry
 
-first_later : (before : List Entry) (e : Entry) (es : List Entry) (q : List ℕ) (i : ℕ) → FirstWith (before ++ e ∷ []) es q i → FirstWith before (e ∷ es) q (suc i)
-first_later before e es q i f = record {
-  front = e ∷ f.front;
-  entry = f.entry;
-  behind = f.behind;
-  is = ap (λ (l : List Entry). e ∷ l) f.is;
-  kept = f.kept ∙ ap (λ (b : List Entry). Some (stored_at b f.entry)) (append_assoc before (e ∷ []) f.front);
-  blob = f.blob;
+kept_one : (before es : List Entry) (i : ℕ) (s : StoredEntry) → slice_get (stored_after before es) i ≡ Some s → KeptOne before es s
+kept_one before [] i s found = absurd (let wrong : None ≡ Some s = found in cc)
+kept_one before (e ∷ es) zero s found = record {
+  front = [];
+  entry = e;
+  behind = es;
+  is = refl;
+  kept = sym (ap (λ (o : Option StoredEntry). unwrap_or o s) found) ∙ ap (λ (b : List Entry). stored_at b e) (sym (append-nil before));
 }
+kept_one before (e ∷ es) (suc i) s found =
+    let f = kept_one (before ++ e ∷ []) es i s found in
+    record {
+      front = e ∷ f.front;
+      entry = f.entry;
+      behind = f.behind;
+      is = ap (λ (l : List Entry). e ∷ l) f.is;
+      kept = f.kept ∙ ap (λ (b : List Entry). stored_at b f.entry) (append_assoc before (e ∷ []) f.front);
+    }
 
-first_with : (before es : List Entry) (q : List ℕ) (i : ℕ) → first_at es q ≡ Some i → FirstWith before es q i
-first_with before [] q i is = absurd (let wrong : None ≡ Some i = is in cc)
-first_with before (e ∷ es) q i is = by (bytes_eq q (blob_id_of e.text).0) refl (first_at es q) refl is (λ k. first_with (before ++ e ∷ []) es q k) where
-  by : (t : Bool) → bytes_eq q (blob_id_of e.text).0 ≡ t → (o : Option ℕ) → first_at es q ≡ o → (if t then Some 0 else option_map suc o) ≡ Some i → ((k : ℕ) → first_at es q ≡ Some k → FirstWith (before ++ e ∷ []) es q k) → FirstWith before (e ∷ es) q i
-  by true test o rest found more =
-      let first : FirstWith before (e ∷ es) q 0 = record {
-        front = [];
-        entry = e;
-        behind = es;
-        is = refl;
-        kept = ap (λ (b : List Entry). Some (stored_at b e)) (sym (append-nil before));
-        blob = bytes_same q (blob_id_of e.text).0 test;
-      } in subst (FirstWith before (e ∷ es) q) (ap (λ (p : Option ℕ). unwrap_or p i) found) first
-  by false test None rest found more = absurd (let wrong : None ≡ Some i = found in cc)
-  by false test (Some k) rest found more = subst (FirstWith before (e ∷ es) q) (ap (λ (p : Option ℕ). unwrap_or p i) found) (first_later before e es q k (more k rest))
+-- A kept message of a live number has the blob id of its text.
+message_is : (v : Joined) (rs after : List Record) (all : List Entry) (n : ℕ) (s : StoredEntry) (text : List ℕ) → Holds v rs after all → IsMessageOf v.entries n s → text_of (live all) n ≡ Some text → s.seen.blob ≡ blob_id_of text
+message_is v rs after all n s text holds of shown =
+    let f = kept_one [] all of.index s (ap (λ (l : List StoredEntry). slice_get l of.index) (sym holds.entries_are) ∙ of.among) in
+    let e = f.entry in
+    let message : e.kind ≡ Message = ap (λ (t : StoredEntry). t.seen.kind) (sym f.kept) ∙ of.message in
+    let number : e.number ≡ n = ap (λ (t : StoredEntry). t.number) (sym f.kept) ∙ of.number_is in
+    let split : delivered all ≡ delivered f.front ++ e ∷ delivered f.behind =
+    ap delivered f.is ∙ (delivered_joined f.front (e ∷ f.behind) ∙ ap (λ (k : EntryKind). delivered f.front ++ (if is_message k then e ∷ delivered f.behind else delivered f.behind)) message) in
+    let its : text_of (delivered all) e.number ≡ Some e.text = ap (λ (l : List Entry). text_of l e.number) split ∙ (lone_text (delivered f.front) 1 e (delivered f.behind) (subst (Ascends 1) split (messages_ascend 1 0 all holds.first.order))).1 in
+    let one = live-one 1 0 all n text holds.first.order shown in
+    let same : e.text ≡ text = ap (λ (o : Option (List ℕ)). unwrap_or o text) (sym its ∙ (ap (text_of (delivered all)) number ∙ one.is)) in
+    ap (λ (t : StoredEntry). t.seen.blob) f.kept ∙ ap blob_id_of same
 
--- If none has it, a text with it agrees with all.
-no_first : (es : List Entry) (text : List ℕ) → first_at es (blob_id_of text).0 ≡ None → Agrees text es
-no_first [] text none = tt
-no_first (e ∷ es) text none = by (bytes_eq (blob_id_of text).0 (blob_id_of e.text).0) refl (first_at es (blob_id_of text).0) refl none (no_first es text) where
-  by : (t : Bool) → bytes_eq (blob_id_of text).0 (blob_id_of e.text).0 ≡ t → (o : Option ℕ) → first_at es (blob_id_of text).0 ≡ o → (if t then Some 0 else option_map suc o) ≡ None → (first_at es (blob_id_of text).0 ≡ None → Agrees text es) → Agrees text (e ∷ es)
-  by true test o rest is more = absurd (let wrong : Some 0 ≡ None = is in cc)
-  by false test (Some k) rest is more = absurd (let wrong : Some (suc k) ≡ None = is in cc)
-  by false test None rest is more = (λ same. absurd (let yes_it = bytes_yes (blob_id_of text).0 (blob_id_of e.text).0 (ap (λ (i : Id20). i.0) same) in let wrong : true ≡ false = sym yes_it ∙ test in cc), more rest)
+-- The live entry with an own id that the index has.
+record Owns (all : List Entry) (id : List ℕ) (o : Owner) : Type 0 where
+  entry : Entry
+  is : owner (live all) id ≡ Some entry
+  number_is : entry.number ≡ o.number
+
+owns : (all : List Entry) (index : Index) (id : List ℕ) (o : Owner) → IsIndex all index → owner_in index.owners id ≡ Some o → Owns all id o
+owns all index id o is found = by (owner (live all) id) refl (sym (is.owners id) ∙ found) where
+  by : (x : Option Entry) → owner (live all) id ≡ x → option_map owner_of x ≡ Some o → Owns all id o
+  by None none wrong = absurd (let no_way : None ≡ Some o = wrong in cc)
+  by (Some e) some same = record { entry = e; is = some; number_is = ap (λ (p : Option Owner). (unwrap_or p o).number) same }
+
+-- No live entry has an own id that the index hasn't, and one has it otherwise.
+pub is_free : (v : Joined) (index : Index) (seen : Seen) → IndexesStored v.entries index → owner_in index.owners seen.id ≡ None → Held v (λ (all : List Entry). owner (live all) seen.id ≡ None)
+is_free v index seen indexed none rs after all holds = unowned all index seen.id (index_held v index rs after all indexed holds) none
+
+pub is_taken : (v : Joined) (index : Index) (seen : Seen) (o : Owner) → IndexesStored v.entries index → owner_in index.owners seen.id ≡ Some o → Held v (λ (all : List Entry). owner (live all) seen.id ≢ None)
+is_taken v index seen o indexed found rs after all holds none =
+    let it = owns all index seen.id o (index_held v index rs after all indexed holds) found in
+    let wrong : None ≡ Some it.entry = sym none ∙ it.is in
+    cc
+
+-- What a deletion ends.
+pub ends_none : (v : Joined) (index : Index) (seen : Seen) → IndexesStored v.entries index → owner_in index.owners seen.id ≡ None → Held v (λ (all : List Entry). Ends all seen None)
+ends_none v index seen indexed none rs after all holds number joins = (let wrong : None ≡ Some joins.ended = sym (is_free v index seen indexed none rs after all holds) ∙ joins.live in cc)
+
+module _ (v : Joined) (index : Index) (seen : Seen) (o : Owner) (s : StoredEntry) (indexed : IndexesStored v.entries index) (found : owner_in index.owners seen.id ≡ Some o) (message : IsMessageOf v.entries o.number s) where
+  its_blob : (rs after : List Record) (all : List Entry) → Holds v rs after all → (it : Owns all seen.id o) → s.seen.blob ≡ blob_id_of it.entry.text
+  its_blob rs after all holds it = message_is v rs after all o.number s it.entry.text holds message
+      (subst (λ (n : ℕ). text_of (live all) n ≡ Some it.entry.text) it.number_is (owner_text (live all) 1 seen.id it.entry (live_ascends 1 0 all holds.first.order) it.is))
+
+  pub ends_one : seen.kind ≡ Deletion → s.seen.blob ≡ seen.blob → Held v (λ (all : List Entry). Ends all seen (Some o.number))
+  ends_one deletion same rs after all holds =
+      let it = owns all index seen.id o (index_held v index rs after all indexed holds) found in
+      record { deletion = deletion; ended = it.entry; live = it.is; blob = sym (its_blob rs after all holds it) ∙ same; number_is = it.number_is }
+
+  pub ends_other : s.seen.blob ≢ seen.blob → Held v (λ (all : List Entry). Ends all seen None)
+  ends_other apart rs after all holds number joins =
+      let it = owns all index seen.id o (index_held v index rs after all indexed holds) found in
+      let same : it.entry ≡ joins.ended = found_is (owner (live all) seen.id) it.entry joins.ended it.is joins.live in
+      apart (its_blob rs after all holds it ∙ (ap (λ (e : Entry). blob_id_of e.text) same ∙ joins.blob))
+
+-- If no entry has its blob id, a text agrees with all.
+no_blob : (es : List Entry) (text : List ℕ) → blob_number es (blob_id_of text).0 ≡ None → Agrees text es
+no_blob [] text none = tt
+no_blob (e ∷ es) text none = by (bytes_eq (blob_id_of text).0 (blob_id_of e.text).0) refl none (no_blob es text) where
+  by : (t : Bool) → bytes_eq (blob_id_of text).0 (blob_id_of e.text).0 ≡ t → (if t then Some e.number else blob_number es (blob_id_of text).0) ≡ None → (blob_number es (blob_id_of text).0 ≡ None → Agrees text es) → Agrees text (e ∷ es)
+  by true test is more = absurd (let wrong : Some e.number ≡ None = is in cc)
+  by false test is more = (λ same. absurd (let yes_it = bytes_yes (blob_id_of text).0 (blob_id_of e.text).0 (ap (λ (i : Id20). i.0) same) in let wrong : true ≡ false = sym yes_it ∙ test in cc), more is)
 
 text_among : (front : List Entry) (e : Entry) (behind : List Entry) (text : List ℕ) → e.text ≡ text → HasText text (front ++ e ∷ behind)
 text_among [] e behind text is = inl is
@@ -213,35 +280,25 @@ pub record AgreesIf (same : Bool) (text : List ℕ) (all : List Entry) : Type 0 
   pub agrees : same ≡ true → Agrees text all
   pub yes_it : Agrees text all → same ≡ true
 
-compared_by : (root : Root) (files : Files) (epoch : ℕ) (all : List Entry) (x : EpochEntry) (rest : List Entry) (same : Bool) (o : Option ℕ) → first_at all (blob_id_of x.text).0 ≡ o
-    → IsSameText root files (kept_at (stored_after [] all) o) epoch (seen_next (in_epoch all epoch) x) same → BlobsAgree all → AllByRecursion (λ (e : Entry). e.epoch ≤ epoch) all
-    → AreThere root files epoch (all ++ as_entry 0 epoch x ∷ rest) → AgreesIf same x.text all
-compared_by root files epoch all x rest same None found texts agree older stand = record { agrees = λ yes_it. no_first all x.text found; yes_it = λ agrees. texts }
-compared_by root files epoch all x rest same (Some i) found texts agree older stand =
-    let f = first_with [] all (blob_id_of x.text).0 i found in
+compared : (root : Root) (files : Files) (cur : Joined) (rs after : List Record) (epoch : ℕ) (all : List Entry) (x : EpochEntry) (s : Seen) (rest : List Entry) (same : Bool) → Holds cur rs after all → s ≡ seen_next (in_epoch all epoch) x
+    → IsSameText root files cur all epoch s same → AllByRecursion (λ (e : Entry). e.epoch ≤ epoch) all → AreThere root files epoch (all ++ as_entry 0 epoch x ∷ rest) → AgreesIf same x.text all
+compared root files cur rs after epoch all x s rest same holds seen (inl none) older stand =
+    record { agrees = λ yes_it. no_blob all x.text (ap (λ (t : Seen). blob_number all t.blob.0) (sym seen) ∙ none.0); yes_it = λ agrees. none.1 }
+compared root files cur rs after epoch all x s rest same holds seen (inr one) older stand =
+    let f = kept_one [] all one.index one.older (ap (λ (l : List StoredEntry). slice_get l one.index) (sym holds.entries_are) ∙ one.among) in
     let e = f.entry in
     let new : Entry = as_entry 0 epoch x in
     let less : e.epoch ≤ epoch = one_of_all (λ (g : Entry). g.epoch ≤ epoch) f.front e f.behind (subst (AllByRecursion (λ (g : Entry). g.epoch ≤ epoch)) f.is older) in
     let whole : all ++ new ∷ rest ≡ f.front ++ e ∷ (f.behind ++ new ∷ rest) = ap (λ (l : List Entry). l ++ new ∷ rest) f.is ∙ append_assoc f.front (e ∷ f.behind) (new ∷ rest) in
     let old_text = text_there root files epoch f.front e (f.behind ++ new ∷ rest) (subst (AreThere root files epoch) whole stand) less in
     let new_text = text_there root files epoch all new rest stand (omega arith) in
-    let is : same ≡ bytes_eq e.text x.text = subst (λ (o : Option StoredEntry). IsSameText root files o epoch (seen_next (in_epoch all epoch) x) same) f.kept texts e.text x.text old_text new_text in
+    let is : same ≡ bytes_eq e.text x.text =
+    one.is e.text x.text (subst (λ (t : StoredEntry). TextIn (bytes_of (files (epoch_file_of root t.epoch))) t.seen e.text) (sym f.kept) old_text) (subst (λ (t : Seen). TextIn (bytes_of (files (epoch_file_of root epoch))) t x.text) (sym seen) new_text) in
+    let blob : blob_id_of x.text ≡ blob_id_of e.text = ap (λ (t : Seen). t.blob) (sym seen) ∙ (sym one.blob ∙ ap (λ (t : StoredEntry). t.seen.blob) f.kept) in
     record {
-      agrees = λ yes_it. agrees-has all x.text agree (subst (HasText x.text) (sym f.is) (text_among f.front e f.behind x.text (bytes_same e.text x.text (sym is ∙ yes_it))));
-      yes_it = λ agrees. is ∙ bytes_yes e.text x.text (sym (one_of_all (λ (g : Entry). blob_id_of x.text ≡ blob_id_of g.text → x.text ≡ g.text) f.front e f.behind (subst (Agrees x.text) f.is agrees)
-          (ap (λ (l : List ℕ). let id : Id20 = record { 0 = l } in id) f.blob)));
+      agrees = λ yes_it. agrees-has all x.text holds.first.blobs (subst (HasText x.text) (sym f.is) (text_among f.front e f.behind x.text (bytes_same e.text x.text (sym is ∙ yes_it))));
+      yes_it = λ agrees. is ∙ bytes_yes e.text x.text (sym (one_of_all (λ (g : Entry). blob_id_of x.text ≡ blob_id_of g.text → x.text ≡ g.text) f.front e f.behind (subst (Agrees x.text) f.is agrees) blob));
     }
-
-pub compared : (root : Root) (files : Files) (cur : Joined) (rs after : List Record) (epoch : ℕ) (all : List Entry) (x : EpochEntry) (s : Seen) (rest : List Entry) (same : Bool) → Holds cur rs after all → s ≡ seen_next (in_epoch all epoch) x
-    → IsSameText root files (kept_at cur.entries (first_index cur.entries s.blob.0)) epoch s same → AllByRecursion (λ (e : Entry). e.epoch ≤ epoch) all → AreThere root files epoch (all ++ as_entry 0 epoch x ∷ rest) → AgreesIf same x.text all
-compared root files cur rs after epoch all x s rest same holds seen texts older stand =
-    let of : List StoredEntry → Seen → Option StoredEntry = λ l t. kept_at l (first_index l t.blob.0) in
-    let found : first_index (stored_after [] all) (blob_id_of x.text).0 ≡ first_at all (blob_id_of x.text).0 = kept_firsts [] all (blob_id_of x.text).0 in
-    let one : IsSameText root files (of (stored_after [] all) s) epoch s same = subst (λ (l : List StoredEntry). IsSameText root files (of l s) epoch s same) holds.entries_are texts in
-    let two : IsSameText root files (of (stored_after [] all) (seen_next (in_epoch all epoch) x)) epoch (seen_next (in_epoch all epoch) x) same = subst (λ (t : Seen). IsSameText root files (of (stored_after [] all) t) epoch t same) seen one in
-    let three : IsSameText root files (kept_at (stored_after [] all) (first_at all (blob_id_of x.text).0)) epoch (seen_next (in_epoch all epoch) x) same =
-    subst (λ (o : Option ℕ). IsSameText root files (kept_at (stored_after [] all) o) epoch (seen_next (in_epoch all epoch) x) same) found two in
-    compared_by root files epoch all x rest same (first_at all (blob_id_of x.text).0) refl three holds.first.blobs older stand
 
 -- What is known of an entry that joins: what records are left, and that it fits.
 record Goes (rs after : List Record) (all : List Entry) (e : Entry) : Type 0 where
@@ -249,36 +306,34 @@ record Goes (rs after : List Record) (all : List Entry) (e : Entry) : Type 0 whe
   first : AreFirst rs (with_record e.kind e left) all
   fits : FitsKind e.kind all e
 
-message_goes : (cur : Joined) (rs after : List Record) (all : List Entry) (epoch number : ℕ) (x : EpochEntry) (s : Seen) → Holds cur rs after all → s ≡ seen_next (in_epoch all epoch) x → JoinsMessage cur epoch s number → Goes rs after all (as_entry number epoch x)
-message_goes cur rs after all epoch number x s holds seen joins =
+message_goes : (cur : Joined) (rs after : List Record) (all : List Entry) (epoch number : ℕ) (x : EpochEntry) (s : Seen) → Holds cur rs after all → IsEpochEntry x → s ≡ seen_next (in_epoch all epoch) x → JoinsMessage cur all epoch s number → Goes rs after all (as_entry number epoch x)
+message_goes cur rs after all epoch number x s holds valid seen joins =
     let e : Entry = as_entry number epoch x in
     let kind : Message ≡ x.kind = sym joins.wanted.message ∙ ap (λ (t : Seen). t.kind) seen in
     let blob_is : s.blob ≡ blob_id_of x.text = ap (λ (t : Seen). t.blob) seen in
-    let id_is : s.id ≡ (seen_next (in_epoch all epoch) x).id = ap (λ (t : Seen). t.id) seen in
     let count : message_count cur.entries ≡ length (delivered all) = ap message_count holds.entries_are ∙ kept_count [] all in
     let found : slice_get (map record_of (delivered all) ++ after) (length (delivered all)) ≡ Some (record { number = number; epoch = epoch; blob = s.blob }) =
     sym (ap (λ (l : List Record). slice_get l (length (delivered all))) (holds.records ∙ holds.first.records)) ∙ (sym (ap (slice_get cur.records) count) ∙ joins.wanted.next) in
     let first = first_is after (record { number = number; epoch = epoch; blob = s.blob }) (sym (record_after (delivered all) after) ∙ found) in
     let left : after ≡ record_of e ∷ first.rest = first.is ∙ ap (λ (b : Id20). let r : Record = record { number = number; epoch = epoch; blob = b } in r ∷ first.rest) blob_is in
-    let free : has_id (live_kept (stored_after [] all)) (seen_next (in_epoch all epoch) x).id ≡ false = ap (has_id (live_kept (stored_after [] all))) (sym id_is) ∙ (ap (λ (l : List StoredEntry). has_id (live_kept l) s.id) (sym holds.entries_are) ∙ joins.id) in
+    let free : owner (live all) (own_of x.text) ≡ None = ap (λ (t : Seen). owner (live all) t.id) (sym seen) ∙ joins.id in
     record {
       left = first.rest;
       first = subst (λ (k : EntryKind). AreFirst rs (with_record k e first.rest) all) kind (subst (λ (b : List Record). AreFirst rs b all) left holds.first);
-      fits = subst (λ (k : EntryKind). FitsKind k all e) kind (apart_by (live all) x.text (sym (kept_ids [] all (seen_next (in_epoch all epoch) x).id) ∙ free));
+      fits = subst (λ (k : EntryKind). FitsKind k all e) kind (apart_by (live all) x.text valid.text.id free);
     }
 
-deletion_goes : (cur : Joined) (rs after : List Record) (all : List Entry) (epoch number : ℕ) (x : EpochEntry) (s : Seen) → Holds cur rs after all → s ≡ seen_next (in_epoch all epoch) x → Agrees x.text all → JoinsDeletion cur s number → Goes rs after all (as_entry number epoch x)
-deletion_goes cur rs after all epoch number x s holds seen agree joins =
+deletion_goes : (rs after : List Record) (all : List Entry) (epoch number : ℕ) (x : EpochEntry) (s : Seen) → AreFirst rs after all → s ≡ seen_next (in_epoch all epoch) x → Agrees x.text all → JoinsDeletion all s number → Goes rs after all (as_entry number epoch x)
+deletion_goes rs after all epoch number x s first seen agree joins =
     let e : Entry = as_entry number epoch x in
     let kind : Deletion ≡ x.kind = sym joins.deletion ∙ ap (λ (t : Seen). t.kind) seen in
-    let blob_is : s.blob ≡ blob_id_of x.text = ap (λ (t : Seen). t.blob) seen in
-    let found : number_of (live_kept (stored_after [] all)) (blob_id_of x.text).0 ≡ Some number =
-    ap (λ (b : Id20). number_of (live_kept (stored_after [] all)) b.0) (sym blob_is) ∙ (ap (λ (l : List StoredEntry). number_of (live_kept l) s.blob.0) (sym holds.entries_are) ∙ joins.live) in
-    let is : blob_number (live all) (blob_id_of x.text).0 ≡ Some number = sym (kept_numbers [] all (blob_id_of x.text).0) ∙ found in
+    let blob : blob_id_of x.text ≡ blob_id_of joins.ended.text = ap (λ (t : Seen). t.blob) (sym seen) ∙ sym joins.blob in
+    let same : x.text ≡ joins.ended.text = owner_all (λ (f : Entry). blob_id_of x.text ≡ blob_id_of f.text → x.text ≡ f.text) (live all) s.id joins.ended (live-all (λ (f : Entry). blob_id_of x.text ≡ blob_id_of f.text → x.text ≡ f.text) all agree) joins.live blob in
+    let shown = owner_text (live all) 1 s.id joins.ended (live_ascends 1 0 all first.order) joins.live in
     record {
       left = after;
-      first = subst (λ (k : EntryKind). AreFirst rs (with_record k e after) all) kind holds.first;
-      fits = subst (λ (k : EntryKind). FitsKind k all e) kind (found_text (live all) 1 number x.text (live_ascends 1 0 all holds.first.order) (live-all (λ (f : Entry). blob_id_of x.text ≡ blob_id_of f.text → x.text ≡ f.text) all agree) is);
+      first = subst (λ (k : EntryKind). AreFirst rs (with_record k e after) all) kind first;
+      fits = subst (λ (k : EntryKind). FitsKind k all e) kind (ap (text_of (live all)) (sym joins.number_is) ∙ (shown ∙ ap Some (sym same)));
     }
 
 -- One more entry is joined to those of the map's first records.
@@ -309,39 +364,42 @@ one_more cur new rs after all epoch number x s holds small older valid seen agre
       };
     }
 
-joined_goes : (cur : Joined) (rs after : List Record) (all : List Entry) (epoch number : ℕ) (x : EpochEntry) (s : Seen) → Holds cur rs after all → s ≡ seen_next (in_epoch all epoch) x → Agrees x.text all → JoinsMessage cur epoch s number ⊎ JoinsDeletion cur s number
+joined_goes : (cur : Joined) (rs after : List Record) (all : List Entry) (epoch number : ℕ) (x : EpochEntry) (s : Seen) → Holds cur rs after all → IsEpochEntry x → s ≡ seen_next (in_epoch all epoch) x → Agrees x.text all → JoinsMessage cur all epoch s number ⊎ JoinsDeletion all s number
     → Goes rs after all (as_entry number epoch x)
-joined_goes cur rs after all epoch number x s holds seen agree (inl joins) = message_goes cur rs after all epoch number x s holds seen joins
-joined_goes cur rs after all epoch number x s holds seen agree (inr joins) = deletion_goes cur rs after all epoch number x s holds seen agree joins
+joined_goes cur rs after all epoch number x s holds valid seen agree (inl joins) = message_goes cur rs after all epoch number x s holds valid seen joins
+joined_goes cur rs after all epoch number x s holds valid seen agree (inr joins) = deletion_goes rs after all epoch number x s holds.first seen agree joins
 
 -- A next entry of the map that is valid joins the entries before it.
 next_by : (k : EntryKind) (cur : Joined) (rs after left : List Record) (all : List Entry) (epoch : ℕ) (next : Entry) (s : Seen) → next.kind ≡ k → Holds cur rs after all → next.epoch ≡ epoch → s ≡ seen_next (in_epoch all epoch) (in_file next)
-    → IsEntry next → AreFirst rs (with_record k next left) all → FitsKind k all next → Agrees next.text all → JoinsMessage cur epoch s next.number ⊎ JoinsDeletion cur s next.number
+    → IsEntry next → AreFirst rs (with_record k next left) all → FitsKind k all next → Agrees next.text all → JoinsMessage cur all epoch s next.number ⊎ JoinsDeletion all s next.number
 next_by Message cur rs after left all epoch next s is holds same seen entry first fits agree =
     let blob_is : blob_id_of next.text ≡ s.blob = ap (λ (t : Seen). t.blob) (sym seen) in
-    let id_is : (seen_next (in_epoch all epoch) (in_file next)).id ≡ s.id = ap (λ (t : Seen). t.id) (sym seen) in
     let count : message_count cur.entries ≡ length (delivered all) = ap message_count holds.entries_are ∙ kept_count [] all in
     let records : cur.records ≡ map record_of (delivered all) ++ record_of next ∷ left = holds.records ∙ first.records in
-    let joins : JoinsMessage cur epoch s next.number = record {
+    let joins : JoinsMessage cur all epoch s next.number = record {
       wanted = record {
         message = ap (λ (t : Seen). t.kind) seen ∙ is;
         next = ap (slice_get cur.records) count ∙ (ap (λ (l : List Record). slice_get l (length (delivered all))) records ∙ (record_after (delivered all) (record_of next ∷ left)
             ∙ (λ i. Some (record { number = next.number; epoch = same i; blob = blob_is i }))));
       };
-      id = ap (λ (l : List StoredEntry). has_id (live_kept l) s.id) holds.entries_are ∙ (ap (has_id (live_kept (stored_after [] all))) (sym id_is)
-          ∙ (kept_ids [] all (seen_next (in_epoch all epoch) (in_file next)).id ∙ none_own (live all) next.text entry.text (live-all IsEntry all holds.first.valid) fits));
+      id = ap (λ (t : Seen). owner (live all) t.id) seen ∙ owner-none (live all) (own_id next.text) (own_of next.text) (apart_from (live all) fits) (there (own_id next.text) [] entry.text.id);
     } in inl joins
+  where
+    apart_from : (es : List Entry) → Apart next.text es → AllByRecursion (λ (f : Entry). own_id f.text ≢ own_id next.text) es
+    apart_from [] apart = tt
+    apart_from (f ∷ es) apart = (λ is. apart.0 (sym is), apart_from es apart.1)
 next_by Deletion cur rs after left all epoch next s is holds same seen entry first fits agree =
-    let blob_is : blob_id_of next.text ≡ s.blob = ap (λ (t : Seen). t.blob) (sym seen) in
-    let joins : JoinsDeletion cur s next.number = record {
+    let one = found_owner (live all) next.number next.text entry.text.id (ids-now all holds.first.ids) fits in
+    inr (record {
       deletion = ap (λ (t : Seen). t.kind) seen ∙ is;
-      live = ap (λ (l : List StoredEntry). number_of (live_kept l) s.blob.0) holds.entries_are ∙ (ap (λ (b : Id20). number_of (live_kept (stored_after [] all)) b.0) (sym blob_is)
-          ∙ (kept_numbers [] all (blob_id_of next.text).0
-          ∙ found_number (live all) next.number next.text (ids-now all holds.first.ids) (live-all (λ (f : Entry). blob_id_of next.text ≡ blob_id_of f.text → next.text ≡ f.text) all agree) fits));
-    } in inr joins
+      ended = one.entry;
+      live = ap (λ (t : Seen). owner (live all) t.id) seen ∙ one.owns;
+      blob = ap blob_id_of one.text_is ∙ ap (λ (t : Seen). t.blob) (sym seen);
+      number_is = one.number_is;
+    })
 
 next_joins : (cur : Joined) (rs after left : List Record) (all : List Entry) (epoch : ℕ) (next : Entry) (s : Seen) (same : Bool) → Holds cur rs after all → next.epoch ≡ epoch → s ≡ seen_next (in_epoch all epoch) (in_file next)
-    → AgreesIf same next.text all → AreFirst rs left (all ++ next ∷ []) → JoinsNext cur epoch s same next.number
+    → AgreesIf same next.text all → AreFirst rs left (all ++ next ∷ []) → JoinsNext cur all epoch s same next.number
 next_joins cur rs after left all epoch next s same holds here seen texts first =
     let agree = blobs_last all next first.blobs in
     (texts.yes_it agree, next_by next.kind cur rs after left all epoch next s refl holds here seen (all_last IsEntry all next first.valid) (first_less rs left all next first) (fits_last rs left all next first) agree)
@@ -453,7 +511,7 @@ stand_there root files epoch others more x rest here stand whole fronts are = λ
 
 -- The next entry was compared.
 come_texts : (root : Root) (files : Files) (cur : Joined) (left : List Seen) (s : Seen) (after : List Seen) (rs : List Record) (others : List Entry) (epoch : ℕ) (here : List EpochEntry) (same : Bool) → AreWhole root files epoch others → Fronts (epoch_of here) (files (epoch_file_of root epoch))
-    → (comes : Comes cur left rs others epoch here) → (begin : Begins left s after comes.more comes.rest) → IsSameText root files (kept_at cur.entries (first_index cur.entries s.blob.0)) epoch s same → AgreesIf same begin.x.text (others ++ comes.more)
+    → (comes : Comes cur left rs others epoch here) → (begin : Begins left s after comes.more comes.rest) → IsSameText root files cur (others ++ comes.more) epoch s same → AgreesIf same begin.x.text (others ++ comes.more)
 come_texts root files cur left s after rs others epoch here same whole fronts comes begin texts =
     let all = others ++ comes.more in
     let here_is : in_epoch all epoch ≡ comes.more = only_here others comes.more epoch comes.below comes.stand in
@@ -463,7 +521,7 @@ come_texts root files cur left s after rs others epoch here same whole fronts co
 -- One more entry joins.
 pub comes_more : (root : Root) (files : Files) (cur new : Joined) (left : List Seen) (s : Seen) (after : List Seen) (rs : List Record) (others : List Entry) (epoch number : ℕ) (here : List EpochEntry) (same : Bool) → epoch ≤ 63 → AreWhole root files epoch others
     → Fronts (epoch_of here) (files (epoch_file_of root epoch)) → Comes cur left rs others epoch here → left ≡ s ∷ after
-    → Held cur (IsSameText root files (kept_at cur.entries (first_index cur.entries s.blob.0)) epoch s same) → Held cur (JoinsNext cur epoch s same number) → new ≡ with_seen cur number epoch s → Comes new after rs others epoch here
+    → Held cur (λ (all : List Entry). IsSameText root files cur all epoch s same) → Held cur (λ (all : List Entry). JoinsNext cur all epoch s same number) → new ≡ with_seen cur number epoch s → Comes new after rs others epoch here
 comes_more root files cur new left s after rs others epoch number here same small whole fronts comes is texts joining new_is =
     let begin = begins left s after comes.more comes.rest is comes.seen in
     let parts = valid_parts comes.rest begin.x begin.others begin.are comes.valid in
@@ -473,7 +531,7 @@ comes_more root files cur new left s after rs others epoch number here same smal
     let here_is : in_epoch all epoch ≡ comes.more = only_here others comes.more epoch comes.below comes.stand in
     let older = all_older others comes.more epoch comes.below comes.stand in
     let seen = begin.first ∙ ap (λ (l : List Entry). seen_next l begin.x) (sym here_is) in
-    let goes = joined_goes cur rs comes.after all epoch number begin.x s comes.holds seen agree joins.1 in
+    let goes = joined_goes cur rs comes.after all epoch number begin.x s comes.holds parts.0 seen agree joins.1 in
     let one = one_more cur new rs comes.after all epoch number begin.x s comes.holds small older parts.0 seen agree goes new_is in
     let more = comes.more ++ one.entry ∷ [] in
     let offset : 8 + length (entries_bytes None comes.more) + length (bytes_after (last_commit None comes.more) begin.x) ≡ 8 + length (entries_bytes None more) =
@@ -508,8 +566,8 @@ all_come cur left rs others epoch here comes none = record {
 
 -- The next entry can't join.
 pub stops : (root : Root) (files : Files) (cur : Joined) (left : List Seen) (s : Seen) (after : List Seen) (rs : List Record) (others : List Entry) (epoch offset : ℕ) (here : List EpochEntry) (same : Bool) → AreWhole root files epoch others
-    → Fronts (epoch_of here) (files (epoch_file_of root epoch)) → Comes cur left rs others epoch here → left ≡ s ∷ after → Held cur (IsSameText root files (kept_at cur.entries (first_index cur.entries s.blob.0)) epoch s same)
-    → offset ≡ s.at → Held cur ((number : ℕ) → JoinsNext cur epoch s same number → ⊥) → StopsAt rs others epoch here offset
+    → Fronts (epoch_of here) (files (epoch_file_of root epoch)) → Comes cur left rs others epoch here → left ≡ s ∷ after → Held cur (λ (all : List Entry). IsSameText root files cur all epoch s same)
+    → offset ≡ s.at → Held cur (λ (all : List Entry). (number : ℕ) → JoinsNext cur all epoch s same number → ⊥) → StopsAt rs others epoch here offset
 stops root files cur left s after rs others epoch offset here same whole fronts comes is texts at none =
     let begin = begins left s after comes.more comes.rest is comes.seen in
     let all = others ++ comes.more in

@@ -9,7 +9,7 @@ use Rattle.epoch_store.specs.declared.entries.StoredEntry.{StoredEntry}
 use Rattle.root_slots.specs.Valid.{no_place}
 use Rattle.root_change.specs.Names.{epoch_name}
 use Rattle.epoch_store.specs.declared.next.NextPlace.{NextPlace}
-use Rattle.epoch_store.specs.Stores.{HasSizes, next_sequence, place_of, View, IsStoreWith, RecoversEitherWith, InEpochs}
+use Rattle.epoch_store.specs.Stores.{HasSizes, next_sequence, place_of, View, IsStoreWith, RecoversOneOf, InEpochs}
 use Rattle.epoch_store.specs.Leaving.{disk_recovers}
 
 -- A number that is tested as 0 is 0.
@@ -17,9 +17,9 @@ is_zero : (n : ℕ) → (n == 0) ≡ true → n ≡ 0
 is_zero n is = grind (arith, nat_tests)
 
 -- The state before anything is done.
-pub stands_now : (v : View) (cache : List ℕ) (a b : Archive) (k : Option Content) (image : Files) → IsStoreWith v cache a k → Image k image → RecoversEitherWith cache a b image
-stands_now v cache a b None image store left = absurd store
-stands_now v cache a b (Some k) image store left = inl (disk_recovers v cache a k image store left)
+pub stands_now : (v : View) (cache left : List ℕ) (a b : Archive) (k : Option Content) (image : Files) → IsStoreWith v cache a k → Image k image → RecoversOneOf cache a left b image
+stands_now v cache left a b None image store now = absurd store
+stands_now v cache left a b (Some k) image store now = inl (disk_recovers v cache a k image store now)
 
 -- Views with equal parts are equal.
 pub same_view : (root : Root) (slot : ℕ) (es fs : List StoredEntry) → fs ≡ es → ◌≡◌ {A = View} (record { root = root; slot = slot; entries = fs }) (record { root = root; slot = slot; entries = es })

@@ -2,15 +2,13 @@ mod Parted
 mod Growing
 mod Ends
 mod Lengthened
-pub mod LiveKept
 mod Delivering
 mod EntryWriting
 mod Mapped
-mod Sets
-mod KnownLive
+mod Live
 mod Firsts
+pub mod Indexes
 mod Joins
-mod Knowing
 mod Kept
 pub mod UniqueRoots
 mod UniqueEntries
@@ -44,6 +42,7 @@ mod Purged
 mod Finishing
 mod Ranges
 mod CarriedOut
+pub mod Changing
 mod Edited
 mod Losing
 mod KeptFiles

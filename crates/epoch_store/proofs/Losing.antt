@@ -13,7 +13,7 @@ use Rattle.root_change.proofs.PlanParts.{is_of, of_others, other_part}
 use Rattle.number_map.specs.Rewriting.{PlansMap}
 use Rattle.epoch_file.specs.Planning.{IsOfEpoch, Planned}
 use Rattle.epoch_store.specs.declared.entries.StoredEntry.{StoredEntry}
-use Rattle.epoch_store.specs.Planning.{ChangesNext, ClosesAs, ClosesLast, FinishesPlans, KeepsEntry, LeavesOut, Opens, OpensBy, Planning, is_anew, is_changed, loses, without_current}
+use Rattle.epoch_store.specs.Planning.{ChangesNext, ClosesAs, ClosesLast, FinishesPlans, KeepsEntry, LeavesOut, OpensPlan, OpensBy, Planning, is_anew, is_changed, loses, without_current}
 use Rattle.epoch_store.proofs.Messaged.{epoch_isnt_map}
 use Rattle.epoch_store.proofs.Purged.{take_one}
 
@@ -71,7 +71,7 @@ opened_some old file (Some c) mid plan e (inr next) = (
 )
 
 -- An entry was kept, or left out.
-pub kept_changes : (old : Planning) (file : FileName) (stored : StoredEntry) (blob : Id20) (content : Option Content) (mid new : Planning) (plan : Planned) → Opens old file mid plan → bytes_eq blob.0 stored.seen.blob.0 ≡ false → KeepsEntry mid plan stored content new → ChangesNext old file.number (bytes_eq blob.0 stored.seen.blob.0) new
+pub kept_changes : (old : Planning) (file : FileName) (stored : StoredEntry) (blob : Id20) (content : Option Content) (mid new : Planning) (plan : Planned) → OpensPlan old file mid plan → bytes_eq blob.0 stored.seen.blob.0 ≡ false → KeepsEntry mid plan stored content new → ChangesNext old file.number (bytes_eq blob.0 stored.seen.blob.0) new
 kept_changes old file stored blob content mid new plan opens test keeps = λ e.
     let so = opened_some old file old.current mid plan e opens in
     let some = is_some (plan_of mid.plans kind.Epoch e) in
@@ -80,7 +80,7 @@ kept_changes old file stored blob content mid new plan opens test keeps = λ e.
     ∙ (ap (λ (f : FileName). some || (is_some plan.changed && (f.number == e))) keeps.file
     ∙ (so.1 ∙ (sym (or_no (is_anew old e)) ∙ ap (λ (t : Bool). is_anew old e || (t && (file.number == e))) (sym test)))))
 
-pub left_changes : (old : Planning) (file : FileName) (stored : StoredEntry) (blob : Id20) (mid new : Planning) (plan : Planned) → Opens old file mid plan → bytes_eq blob.0 stored.seen.blob.0 ≡ true → LeavesOut mid plan stored new → ChangesNext old file.number (bytes_eq blob.0 stored.seen.blob.0) new
+pub left_changes : (old : Planning) (file : FileName) (stored : StoredEntry) (blob : Id20) (mid new : Planning) (plan : Planned) → OpensPlan old file mid plan → bytes_eq blob.0 stored.seen.blob.0 ≡ true → LeavesOut mid plan stored new → ChangesNext old file.number (bytes_eq blob.0 stored.seen.blob.0) new
 left_changes old file stored blob mid new plan opens test left = λ e.
     let so = opened_some old file old.current mid plan e opens in
     let some = is_some (plan_of mid.plans kind.Epoch e) in

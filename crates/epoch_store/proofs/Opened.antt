@@ -15,7 +15,7 @@ use Rattle.number_map.specs.Sizes.{records_length}
 use Rattle.epoch_store.specs.Files.{map_file_of}
 use Rattle.arch_model.specs.Validity.{IsEntry, IsArchive}
 use Rattle.arch_model.proofs.LiveEntries.{messages-all}
-use Rattle.epoch_store.proofs.KnownLive.{Ascends, messages_ascend, numbers_all}
+use Rattle.epoch_store.proofs.Live.{Ascends, messages_ascend, numbers_all}
 use Rattle.epoch_store.specs.Recovery.{entry_of, record_for, records_from, records_of, map_bytes, Names}
 use Rattle.epoch_store.proofs.Parted.{from_parts, parts_front}
 use Rattle.epoch_store.specs.Damage.{has_message, messages, record_of}

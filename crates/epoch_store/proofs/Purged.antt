@@ -30,7 +30,7 @@ use Rattle.epoch_file.specs.declared.refusal.StoreRefusal.{StoreRefusal}
 use Rattle.epoch_file.specs.declared.refusal.StoreRefusal.TheVariants.{DiskFault, NoMemory, Damaged}
 use Rattle.epoch_store.specs.declared.entries.StoredEntry.{StoredEntry}
 use Rattle.epoch_store.specs.Files.{epoch_file_of, map_file_of}
-use Rattle.epoch_store.specs.Planning.{AreAnew, AreFrom, ArePlansIn, AreWhole, AreWithin, ClosesAs, ClosesLast, FinishesPlans, GivesNext, IsPlannedUpTo, IsReady, KeepsBut, PicksText, Planning, PlansFirst, PlansLost, PlansOwn, PlansPurge, PlansUndamaged, TakesNext, no_planning, without_current}
+use Rattle.epoch_store.specs.Planning.{AreAnew, AreFrom, ArePlansIn, AreWhole, AreWithin, ClosesAs, ClosesLast, FinishesPlans, GivesNext, IsPlannedUpTo, IsReady, KeepsBut, PicksText, Planning, PlansFirst, PlansLost, PlansOwn, PlansPurge, PlansUndamaged, PlansNext, no_planning, without_current}
 use Rattle.epoch_store.specs.Recovery.{parts_of}
 use Rattle.epoch_store.specs.Stores.{KeptOf, SeesNoDamage, View, IsDiskWith, stored_after, stored_at, without_blob}
 use Rattle.epoch_store.proofs.Finished.{entries_are, finished_without}
@@ -93,12 +93,12 @@ one_content k m same = λ i. λ (name : FileName). same name i
 
 -- One entry more.
 pub first_more : (v : View) (blob : Id20) (n : ℕ) (p new : Planning) (content mid : Option Content) (stored : StoredEntry) (file : FileName) → Told Unchanged content mid → slice_get v.entries n ≡ Some stored → file ≡ epoch_file_of v.root stored.epoch
-    → WhereTold (PlansFirst v blob n p) content → TakesNext p file stored blob mid new (Ok tt) → WhereTold (PlansFirst v blob (n + 1) new) content
+    → WhereTold (PlansFirst v blob n p) content → PlansNext p file stored blob mid new (Ok tt) → WhereTold (PlansFirst v blob (n + 1) new) content
 first_more v blob n p new None mid stored file same here file_is up takes = tt
 first_more v blob n p new (Some k) None stored file same here file_is up takes = absurd same
 first_more v blob n p new (Some k) (Some m) stored file same here file_is up takes = λ cache a text own picks.
     let at = nth [] a.entries n stored (ap (λ (l : List StoredEntry). slice_get l n) (sym own.keeps.kept) ∙ here) in
-    let takes_k = subst (λ (c : Content). TakesNext p file stored blob (Some c) new (Ok tt)) (one_content k m same) takes in
+    let takes_k = subst (λ (c : Content). PlansNext p file stored blob (Some c) new (Ok tt)) (one_content k m same) takes in
     let one = takes_k v cache a (take n a.entries) (drop (suc n) a.entries) at.entry text own at.is at.kept (file_is ∙ ap (λ (s : StoredEntry). epoch_file_of v.root s.epoch) at.kept) picks (up cache a text own picks) in
     let count : suc n ≡ n + 1 = omega arith in
     subst (λ (es : List Entry). IsPlannedUpTo (texts_in k) v.root a es text new) (sym at.more ∙ ap (λ (j : ℕ). take j a.entries) count) one
@@ -155,19 +155,14 @@ sees_none texts root a es e text new DiskFault T gives = tt
 sees_none texts root a es e text new NoMemory T gives = tt
 sees_none texts root a es e text new (Damaged file at) T gives = gives
 
-any_value : (T : Type 0) (refusal : StoreRefusal) → SeesNoDamage {T = Unit {0}} (Err refusal) → SeesNoDamage {T = T} (Err refusal)
-any_value T DiskFault sees = tt
-any_value T NoMemory sees = tt
-any_value T (Damaged file at) sees = sees
-
 pub first_stops : (v : View) (blob : Id20) (n : ℕ) (p new : Planning) (content mid : Option Content) (stored : StoredEntry) (file : FileName) (refusal : StoreRefusal) (T : Type 0) → Told Unchanged content mid → slice_get v.entries n ≡ Some stored → file ≡ epoch_file_of v.root stored.epoch
-    → (e : StoredEntry) × Contains v.entries e × (e.seen.blob ≡ blob) → WhereTold (PlansFirst v blob n p) content → TakesNext p file stored blob mid new (Err refusal) → PlansUndamaged {T = T} v (Err refusal) content
+    → (e : StoredEntry) × Contains v.entries e × (e.seen.blob ≡ blob) → WhereTold (PlansFirst v blob n p) content → PlansNext p file stored blob mid new (Err refusal) → PlansUndamaged {T = T} v (Err refusal) content
 first_stops v blob n p new None mid stored file refusal T same here file_is there up takes = λ a cache store. absurd store
 first_stops v blob n p new (Some k) None stored file refusal T same here file_is there up takes = absurd same
 first_stops v blob n p new (Some k) (Some m) stored file refusal T same here file_is there up takes = λ a cache own.
     let text = picked v cache a k blob own there in
     let at = nth [] a.entries n stored (ap (λ (l : List StoredEntry). slice_get l n) (sym own.keeps.kept) ∙ here) in
-    let takes_k = subst (λ (c : Content). TakesNext p file stored blob (Some c) new (Err refusal)) (one_content k m same) takes in
+    let takes_k = subst (λ (c : Content). PlansNext p file stored blob (Some c) new (Err refusal)) (one_content k m same) takes in
     let one = takes_k v cache a (take n a.entries) (drop (suc n) a.entries) at.entry text.0 own at.is at.kept (file_is ∙ ap (λ (s : StoredEntry). epoch_file_of v.root s.epoch) at.kept) text.1 (up cache a text.0 own text.1) in
     sees_none (texts_in k) v.root a (take n a.entries) at.entry text.0 new refusal T one
 
@@ -229,7 +224,7 @@ module _ (v : View) (blob : Id20) (p new : Planning) (map : FileName) (map_is : 
       let text = picked v cache a k blob own there in
       let all = up_all k cache a text.0 own text.1 up in
       let plans = finished_without k v cache a own text.0 p all map map_is count count_is new finishes from in
-      any_value T refusal (undamaged (texts_of v.root (parts_of a cache)) (texts_measure v.root a cache own.keeps.valid own.keeps.names own.cache_long) plans.whole)
+      undamaged (texts_of v.root (parts_of a cache)) (texts_measure v.root a cache own.keeps.valid own.keeps.names own.cache_long) plans.whole
 
 -- What is known once a planner is finished, of a store that was looked into.
 pub record ReadyOf (T : Type 0) (v : View) (root : Root) (p new : Planning) : Type 0 where

@@ -3,7 +3,6 @@ use Rattle.std.specs.Prelude.{◌≡◌, ◌+◌, ◌<◌, ◌≤◌, ◌^◌, �
 use Rattle.std.proofs.Common.{◌∙◌, sym, ap, subst, inl, inr, arith, append_assoc, length-append}
 use Rattle.std.proofs.Math.Seq.{take-append_seam}
 use Rattle.std.proofs.lemmas.List.{append-nil, append_cancel_left, length-take, take-append-drop, nil_from_length}
-use Rattle.std.specs.Global.{Vec}
 use Rattle.arch_base.specs.declared.ids.Id20.{Id20}
 use Rattle.disk_model.specs.Disk.{File, Files, bytes_of}
 use Rattle.mail_commits.specs.Entries.{magic}
@@ -15,8 +14,8 @@ use Rattle.root_slots.specs.declared.root.Root.{Root}
 use Rattle.root_change.specs.Texts.{Fronts}
 use Rattle.epoch_store.specs.Files.{epoch_file_of}
 use Rattle.epoch_store.specs.declared.entries.StoredEntry.{StoredEntry}
-use Rattle.epoch_store.specs.declared.known.JoinRefusal.TheVariants.{Damaged}
-use Rattle.epoch_store.specs.declared.known.Unmatched.{Unmatched}
+use Rattle.epoch_store.specs.declared.join_refusal.JoinRefusal.TheVariants.{Damaged}
+use Rattle.epoch_store.specs.declared.join_refusal.Unmatched.{Unmatched}
 use Rattle.epoch_store.specs.Damage.{messages, AreFirst, named_length, IsFirstDamage}
 use Rattle.epoch_store.specs.Joined.{Joined, AreJoined, TakesEpoch, Finishes}
 use Rattle.epoch_store.specs.Openings.{HasMap, IsReadUpTo, AreRead}
@@ -146,7 +145,7 @@ left_undamaged differ n left offset bytes short high (inr ends) (inr other) =
     by (f ∷ fs) same rest = other.lacks f (chain (Some (commit_after (last_of None other.entries) f)) fs) (valid_after other.entries f fs (subst AreEpochEntries same ends.valid)) rest
 
 -- All epochs are read, and all messages of the map have an entry.
-pub read_all : (root : Root) (files : Files) (rs : List Record) (v : Joined) (kept : Vec StoredEntry) → IsReadUpTo root files rs 64 v → Finishes v (Ok kept) → AreRead root files rs kept.items
+pub read_all : (root : Root) (files : Files) (rs : List Record) (v : Joined) (kept : List StoredEntry) → IsReadUpTo root files rs 64 v → Finishes v (Ok kept) → AreRead root files rs kept
 read_all root files rs v kept up ends =
     let all = ends rs up.after up.entries up.holds in
     record { entries = up.entries; opened = record { first = all.1; whole = up.whole }; kept_are = all.0 }

@@ -18,7 +18,7 @@ use Rattle.epoch_file.specs.Planning.{HasNext, IsMoved, IsOfEpoch, KeepsNext, Pl
 use Rattle.epoch_file.specs.declared.entry.Seen.{Seen}
 use Rattle.epoch_store.specs.declared.entries.StoredEntry.{StoredEntry}
 use Rattle.epoch_store.specs.Files.{epoch_file_of}
-use Rattle.epoch_store.specs.Planning.{ArePlansIn, ClosesAs, GivesNext, IsFileIn, IsNoDamage, IsPlanIn, IsPlannedUpTo, KeepsBut, KeepsEntry, LeavesOut, Opens, OpensBy, Planning, RefusesEntry, TakesNext, gone_with, in_files, kept_with, refusal_in, with_entries, without_current}
+use Rattle.epoch_store.specs.Planning.{ArePlansIn, ClosesAs, GivesNext, IsFileIn, IsNoDamage, IsPlanIn, IsPlannedUpTo, KeepsBut, KeepsEntry, LeavesOut, OpensPlan, OpensBy, Planning, RefusesEntry, PlansNext, gone_with, in_files, kept_anew, refusal_in, with_entries, without_current}
 use Rattle.epoch_store.specs.Stores.{KeptOf, in_file, stored_at}
 use Rattle.epoch_store.proofs.Planned.{each_plan, has_next, opened, seen_is, up_kept, up_left}
 use Rattle.epoch_store.proofs.Texts.{one_of_all}
@@ -28,7 +28,7 @@ abbrev pub Picks : Id20 → List ℕ → Entry → Type 0
 Picks blob text e = bytes_eq blob.0 (blob_id_of e.text).0 ≡ bytes_eq text e.text
 
 -- An entry was left out, or stays.
-pub take_left : (old : Planning) (file : FileName) (stored : StoredEntry) (blob : Id20) (content : Option Content) (mid new : Planning) (plan : Planned) → Opens old file mid plan → bytes_eq blob.0 stored.seen.blob.0 ≡ true → LeavesOut mid plan stored new → TakesNext old file stored blob content new (Ok tt)
+pub take_left : (old : Planning) (file : FileName) (stored : StoredEntry) (blob : Id20) (content : Option Content) (mid new : Planning) (plan : Planned) → OpensPlan old file mid plan → bytes_eq blob.0 stored.seen.blob.0 ≡ true → LeavesOut mid plan stored new → PlansNext old file stored blob content new (Ok tt)
 take_left old file stored blob None mid new plan opens test left = tt
 take_left old file stored blob (Some k) mid new plan opens test left = λ v cache a es rest e text own is stored_is file_is picks up.
     let open_ = opened k v cache a own es rest e is text old up file file_is old.current up.current mid plan opens in
@@ -41,7 +41,7 @@ take_left old file stored blob (Some k) mid new plan opens test left = λ v cach
     let new_is : new ≡ with_entries mid mid.entries (gone_with e.kind mid.gone e.number) after = left.3 ∙ ap (λ (s : StoredEntry). with_entries mid mid.entries (gone_with s.seen.kind mid.gone s.number) after) stored_is in
     subst (IsPlannedUpTo (texts_in k) v.root a (es ++ e ∷ []) text) (sym new_is) so
 
-pub take_kept : (old : Planning) (file : FileName) (stored : StoredEntry) (blob : Id20) (content : Option Content) (mid new : Planning) (plan : Planned) → Opens old file mid plan → bytes_eq blob.0 stored.seen.blob.0 ≡ false → KeepsEntry mid plan stored content new → TakesNext old file stored blob content new (Ok tt)
+pub take_kept : (old : Planning) (file : FileName) (stored : StoredEntry) (blob : Id20) (content : Option Content) (mid new : Planning) (plan : Planned) → OpensPlan old file mid plan → bytes_eq blob.0 stored.seen.blob.0 ≡ false → KeepsEntry mid plan stored content new → PlansNext old file stored blob content new (Ok tt)
 take_kept old file stored blob None mid new plan opens test keeps = tt
 take_kept old file stored blob (Some k) mid new plan opens test keeps = λ v cache a es rest e text own is stored_is file_is picks up.
     let open_ = opened k v cache a own es rest e is text old up file file_is old.current up.current mid plan opens in
@@ -49,7 +49,7 @@ take_kept old file stored blob (Some k) mid new plan opens test keeps = λ v cac
     let other : bytes_eq text e.text ≡ false = sym (one_of_all (Picks blob text) es e rest (subst (AllByRecursion (Picks blob text)) is picks)) ∙ (sym blob_is ∙ test) in
     let next : HasNext (texts_in k) plan.file (in_files (in_epoch es e.epoch)) (in_file e) = subst (λ (f : FileName). HasNext (texts_in k) f (in_files (in_epoch es e.epoch)) (in_file e)) (sym open_.file) (has_next k v cache a own es rest e is text) in
     let kept = keeps.kept (in_files (in_epoch es e.epoch)) (in_files (in_epoch (without_text es text) e.epoch)) (in_file e) open_.is next (ap (λ (s : StoredEntry). s.seen) stored_is ∙ seen_is es e) in
-    let made = kept_with stored keeps.seen in
+    let made = kept_anew stored keeps.seen in
     let seen_so : keeps.seen ≡ (stored_at (without_text es text) e).seen = kept.0 ∙ sym (seen_is (without_text es text) e) in
     let made_is : made ≡ stored_at (without_text es text) e = λ i. record { number = (ap (λ (s : StoredEntry). s.number) stored_is) i; epoch = (ap (λ (s : StoredEntry). s.epoch) stored_is) i; seen = seen_so i } in
     subst (IsPlannedUpTo (texts_in k) v.root a (es ++ e ∷ []) text) (sym keeps.new_is) (up_kept k v cache a own es rest e is text mid plan open_ keeps.after keeps.file made other made_is kept.1)
@@ -60,7 +60,7 @@ not_damaged texts root a es e text file new DiskFault none = tt
 not_damaged texts root a es e text file new NoMemory none = tt
 not_damaged texts root a es e text file new (Damaged at) none = none
 
-pub take_refused : (old : Planning) (file : FileName) (stored : StoredEntry) (blob : Id20) (content : Option Content) (mid new : Planning) (plan : Planned) (refusal : WalkRefusal) → Opens old file mid plan → RefusesEntry plan stored content refusal → TakesNext old file stored blob content new (Err (refusal_in file refusal))
+pub take_refused : (old : Planning) (file : FileName) (stored : StoredEntry) (blob : Id20) (content : Option Content) (mid new : Planning) (plan : Planned) (refusal : WalkRefusal) → OpensPlan old file mid plan → RefusesEntry plan stored content refusal → PlansNext old file stored blob content new (Err (refusal_in file refusal))
 take_refused old file stored blob None mid new plan refusal opens refuses = tt
 take_refused old file stored blob (Some k) mid new plan refusal opens refuses = λ v cache a es rest e text own is stored_is file_is picks up.
     let open_ = opened k v cache a own es rest e is text old up file file_is old.current up.current mid plan opens in
@@ -91,11 +91,11 @@ opened_by old file None mid plan by = ap (λ (p : Planning). p.entries) by.0
 opened_by old file (Some c) mid plan (inl here) = ap (λ (p : Planning). p.entries) here.2
 opened_by old file (Some c) mid plan (inr next) = closed_entries (without_current old) next.2.0 mid next.2.3
 
-pub opened_entries : (old : Planning) (file : FileName) (mid : Planning) (plan : Planned) → Opens old file mid plan → mid.entries ≡ old.entries
+pub opened_entries : (old : Planning) (file : FileName) (mid : Planning) (plan : Planned) → OpensPlan old file mid plan → mid.entries ≡ old.entries
 opened_entries old file mid plan opens = opened_by old file old.current mid plan opens
 
 -- An entry that was moved was kept.
-pub moved_kept : (stored : StoredEntry) (seen : Seen) → (at : ℕ) × (commit : Id20) × IsMoved stored.seen at commit seen → KeptOf stored (kept_with stored seen)
+pub moved_kept : (stored : StoredEntry) (seen : Seen) → (at : ℕ) × (commit : Id20) × IsMoved stored.seen at commit seen → KeptOf stored (kept_anew stored seen)
 moved_kept stored seen moved =
     let is = moved.2 in
     record { number = refl; epoch = refl; kind = is.kind; size = is.size; blob = is.blob; moment = is.moment; id = is.id; content = is.content }
@@ -108,12 +108,12 @@ drops_step : (t : Bool) (old new : List StoredEntry) (stored : StoredEntry) → 
 drops_step true old new stored is same = same
 drops_step false old new stored is same = absurd (let wrong : false ≡ true = is in cc)
 
-pub kept_but : (old : Planning) (file : FileName) (stored : StoredEntry) (blob : Id20) (content : Option Content) (mid new : Planning) (plan : Planned) → Opens old file mid plan → bytes_eq blob.0 stored.seen.blob.0 ≡ false → KeepsEntry mid plan stored content new → KeepsBut (bytes_eq blob.0 stored.seen.blob.0) old.entries stored new.entries
+pub kept_but : (old : Planning) (file : FileName) (stored : StoredEntry) (blob : Id20) (content : Option Content) (mid new : Planning) (plan : Planned) → OpensPlan old file mid plan → bytes_eq blob.0 stored.seen.blob.0 ≡ false → KeepsEntry mid plan stored content new → KeepsBut (bytes_eq blob.0 stored.seen.blob.0) old.entries stored new.entries
 kept_but old file stored blob content mid new plan opens test keeps =
-    keeps_step (bytes_eq blob.0 stored.seen.blob.0) old.entries new.entries stored (kept_with stored keeps.seen) test (moved_kept stored keeps.seen keeps.moved)
-    (ap (λ (p : Planning). p.entries) keeps.new_is ∙ ap (λ (l : List StoredEntry). l ++ kept_with stored keeps.seen ∷ []) (opened_entries old file mid plan opens))
+    keeps_step (bytes_eq blob.0 stored.seen.blob.0) old.entries new.entries stored (kept_anew stored keeps.seen) test (moved_kept stored keeps.seen keeps.moved)
+    (ap (λ (p : Planning). p.entries) keeps.new_is ∙ ap (λ (l : List StoredEntry). l ++ kept_anew stored keeps.seen ∷ []) (opened_entries old file mid plan opens))
 
-pub left_but : (old : Planning) (file : FileName) (stored : StoredEntry) (blob : Id20) (mid new : Planning) (plan : Planned) → Opens old file mid plan → bytes_eq blob.0 stored.seen.blob.0 ≡ true → LeavesOut mid plan stored new → KeepsBut (bytes_eq blob.0 stored.seen.blob.0) old.entries stored new.entries
+pub left_but : (old : Planning) (file : FileName) (stored : StoredEntry) (blob : Id20) (mid new : Planning) (plan : Planned) → OpensPlan old file mid plan → bytes_eq blob.0 stored.seen.blob.0 ≡ true → LeavesOut mid plan stored new → KeepsBut (bytes_eq blob.0 stored.seen.blob.0) old.entries stored new.entries
 left_but old file stored blob mid new plan opens test left =
     drops_step (bytes_eq blob.0 stored.seen.blob.0) old.entries new.entries stored test (ap (λ (p : Planning). p.entries) left.3 ∙ opened_entries old file mid plan opens)
 
@@ -136,15 +136,15 @@ opened_in root old file None mid plan each in_ by = (λ i p here. each i p (ap (
 opened_in root old file (Some c) mid plan each in_ (inl here) = (λ i p is. each i p (ap (λ (q : Planning). slice_get q.plans i) (sym here.2) ∙ is), ap (λ (d : Planned). d.file) here.1 ∙ here.0)
 opened_in root old file (Some c) mid plan each in_ (inr next) = (closed_in root (without_current old) c next.2.0 mid each in_ next.2.2 next.2.3, ap (λ (d : Planned). d.file) next.1)
 
-taken_in : (root : Root) (old : Planning) (file : FileName) (mid : Planning) (plan after : Planned) (n : ℕ) (entries : List StoredEntry) (gone : List ℕ) → ArePlansIn root old → Opens old file mid plan → file ≡ epoch_file_of root n → n ≤ 63 → after.file ≡ plan.file → ArePlansIn root (with_entries mid entries gone after)
+taken_in : (root : Root) (old : Planning) (file : FileName) (mid : Planning) (plan after : Planned) (n : ℕ) (entries : List StoredEntry) (gone : List ℕ) → ArePlansIn root old → OpensPlan old file mid plan → file ≡ epoch_file_of root n → n ≤ 63 → after.file ≡ plan.file → ArePlansIn root (with_entries mid entries gone after)
 taken_in root old file mid plan after n entries gone are opens file_is low same =
     let so = opened_in root old file old.current mid plan are.each are.current opens in
     record { each = so.0; current = (n, low, same ∙ (so.1 ∙ file_is)) }
 
-pub kept_in : (root : Root) (old : Planning) (file : FileName) (stored : StoredEntry) (content : Option Content) (mid new : Planning) (plan : Planned) → ArePlansIn root old → Opens old file mid plan → file ≡ epoch_file_of root stored.epoch → stored.epoch ≤ 63 → KeepsEntry mid plan stored content new → ArePlansIn root new
+pub kept_in : (root : Root) (old : Planning) (file : FileName) (stored : StoredEntry) (content : Option Content) (mid new : Planning) (plan : Planned) → ArePlansIn root old → OpensPlan old file mid plan → file ≡ epoch_file_of root stored.epoch → stored.epoch ≤ 63 → KeepsEntry mid plan stored content new → ArePlansIn root new
 kept_in root old file stored content mid new plan are opens file_is low keeps =
-    subst (ArePlansIn root) (sym keeps.new_is) (taken_in root old file mid plan keeps.after stored.epoch (mid.entries ++ kept_with stored keeps.seen ∷ []) mid.gone are opens file_is low keeps.file)
+    subst (ArePlansIn root) (sym keeps.new_is) (taken_in root old file mid plan keeps.after stored.epoch (mid.entries ++ kept_anew stored keeps.seen ∷ []) mid.gone are opens file_is low keeps.file)
 
-pub left_in : (root : Root) (old : Planning) (file : FileName) (stored : StoredEntry) (mid new : Planning) (plan : Planned) → ArePlansIn root old → Opens old file mid plan → file ≡ epoch_file_of root stored.epoch → stored.epoch ≤ 63 → LeavesOut mid plan stored new → ArePlansIn root new
+pub left_in : (root : Root) (old : Planning) (file : FileName) (stored : StoredEntry) (mid new : Planning) (plan : Planned) → ArePlansIn root old → OpensPlan old file mid plan → file ≡ epoch_file_of root stored.epoch → stored.epoch ≤ 63 → LeavesOut mid plan stored new → ArePlansIn root new
 left_in root old file stored mid new plan are opens file_is low left =
     subst (ArePlansIn root) (sym left.3) (taken_in root old file mid plan left.0 stored.epoch mid.entries (gone_with stored.seen.kind mid.gone stored.number) are opens file_is low left.2)

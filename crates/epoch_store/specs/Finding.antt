@@ -1,7 +1,6 @@
 -- The result of reading an archive's files when it is opened: what is kept of the archive, that
 -- there is none, or the first offset at which the files that the root names aren't in their form.
 use Rattle.std.specs.Prelude.{◌≡◌, ◌⊎◌, ◌+◌, ◌-◌, ◌<◌, ℕ, List, length, Result, Ok, Err}
-use Rattle.std.specs.Global.{Vec}
 use Rattle.disk_model.specs.declared.name.FileName.{FileName}
 use Rattle.disk_model.specs.Disk.{Files, bytes_of}
 use Rattle.disk_model.specs.Sizes.{epoch_count}
@@ -152,17 +151,17 @@ ReadsEach root old result files = (rs : List Record) → RootFits root
     → IsReadUpTo root files rs 0 old → ReadsUpTo root files rs epoch_count result
 
 -- What is kept of the entries of all epochs, or why they are not read.
-abbrev pub KeepsAll : Root → Files → List Record → Result (Vec StoredEntry) OpenRefusal → Type 0
-KeepsAll root files rs (Ok kept) = AreRead root files rs kept.items
+abbrev pub KeepsAll : Root → Files → List Record → Result (List StoredEntry) OpenRefusal → Type 0
+KeepsAll root files rs (Ok kept) = AreRead root files rs kept
 KeepsAll root files rs (Err refusal) = StopsBy root files rs refusal
 
 -- The same if the epochs are read.
-abbrev pub EndsWith : Root → Joined → Result (Vec StoredEntry) OpenRefusal → Type 0
+abbrev pub EndsWith : Root → Joined → Result (List StoredEntry) OpenRefusal → Type 0
 EndsWith root joined result = (rs : List Record) (files : Files)
     → IsReadUpTo root files rs epoch_count joined → KeepsAll root files rs result
 
 -- The same if the records of the map are these.
-abbrev pub KeepsBy : Root → List Record → Result (Vec StoredEntry) OpenRefusal → Files → Type 0
+abbrev pub KeepsBy : Root → List Record → Result (List StoredEntry) OpenRefusal → Files → Type 0
 KeepsBy root rs result files = RootFits root → HasRecords root files rs
     → KeepsAll root files rs result
 
@@ -179,8 +178,8 @@ pub record LacksEntries (root : Root) (files : Files) (file : FileName) (at : �
   pub damage : IsEpochDamage root files records file at
 
 -- The results of reading the map and the epochs that a root names.
-abbrev pub FindsEntries : Root → Files → Result (Vec StoredEntry) OpenRefusal → Type 0
-FindsEntries root files (Ok kept) = HasEntries root files kept.items
+abbrev pub FindsEntries : Root → Files → Result (List StoredEntry) OpenRefusal → Type 0
+FindsEntries root files (Ok kept) = HasEntries root files kept
 FindsEntries root files (Err NoArchive) = ⊥
 FindsEntries root files (Err (Damaged file at)) = ((file ≡ map_file_of root)
     × map_walks.IsDamaged (root.next - 1) at (bytes_of (files (map_file_of root))))

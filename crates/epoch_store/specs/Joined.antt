@@ -1,15 +1,11 @@
 -- How the entries of the epochs are joined to the records of a map.
-use Rattle.std.specs.Prelude.{◌≡◌, ◌⊎◌, ◌+◌, ◌<◌, ◌≤◌, ℕ, suc, Bool, true, false, not, ◌||◌, take, drop, option_map, if◌then◌else◌, List, [], ◌∷◌, ◌++◌, length, map, slice_get, Option, Some, None, Result, Ok, Err}
-use Rattle.std.specs.List.{AllByRecursion, filter, list_any}
+use Rattle.std.specs.Prelude.{◌≡◌, ◌⊎◌, ◌+◌, ◌<◌, ◌≤◌, ℕ, Bool, true, take, drop, List, [], ◌∷◌, ◌++◌, length, map, slice_get, Option, Some, None, Result, Ok, Err}
+use Rattle.std.specs.List.{AllByRecursion, filter}
 use Rattle.std.specs.Str.{bytes_eq}
-use Rattle.std.specs.Global.{Vec}
-use Rattle.std.specs.BTreeSet.{BTreeSet}
-use Rattle.std.specs.BTreeMap.{BTreeMap, get_by}
-use Rattle.std.specs.Ordering.{nat_cmp}
-use Rattle.std.specs.Cmp.Lexicographic.{slice_cmp}
 use Rattle.disk_model.specs.Sizes.{epoch_count}
 use Rattle.arch_model.specs.Epochs.{entries_bytes}
-use Rattle.arch_model.specs.Archives.{Entry, is_message}
+use Rattle.arch_model.specs.Archives.{Entry, is_message, live, owner, blob_number}
+use Rattle.git_objects.specs.Objects.{blob_id_of}
 use Rattle.git_objects.specs.declared.entry_kind.EntryKind.TheVariants.{Message, Deletion}
 use Rattle.disk_model.specs.Disk.{Files, bytes_of}
 use Rattle.root_slots.specs.declared.root.Root.{Root}
@@ -21,11 +17,10 @@ use Rattle.epoch_file.specs.declared.entry.Seen.{Seen}
 use Rattle.epoch_file.specs.Entries.{EpochEntry, AreEpochEntries, epoch_of}
 use Rattle.epoch_file.specs.Walking.{seen_from}
 use Rattle.epoch_store.specs.declared.entries.StoredEntry.{StoredEntry}
-use Rattle.epoch_store.specs.declared.known.Known.{Known}
-use Rattle.epoch_store.specs.declared.known.JoinRefusal.{JoinRefusal}
-use Rattle.epoch_store.specs.declared.known.JoinRefusal.TheVariants.{NoMemory, DiskFault, Damaged}
-use Rattle.epoch_store.specs.declared.known.Unmatched.{Unmatched}
-use Rattle.epoch_store.specs.Stores.{in_file, live_kept, stored_after}
+use Rattle.epoch_store.specs.declared.join_refusal.JoinRefusal.{JoinRefusal}
+use Rattle.epoch_store.specs.declared.join_refusal.JoinRefusal.TheVariants.{NoMemory, DiskFault, Damaged}
+use Rattle.epoch_store.specs.declared.join_refusal.Unmatched.{Unmatched}
+use Rattle.epoch_store.specs.Stores.{in_file, stored_after}
 use Rattle.epoch_store.specs.Damage.{messages, AreFirst, AreWhole}
 
 -- The records of a map that have a message, and what is kept of the entries so far.
@@ -41,9 +36,9 @@ pub record Holds (v : Joined) (rs after : List Record) (entries : List Entry) : 
   pub entries_are : v.entries ≡ stored_after [] entries
   pub first : AreFirst rs after entries
 
--- What is so if the entries are those of the first records of a map.
-abbrev pub Held : Joined → Type 0 → Type 0
-Held v P = (rs after : List Record) (entries : List Entry) → Holds v rs after entries → P
+-- What is so of the entries if they are those of the first records of a map.
+abbrev pub Held : Joined → (List Entry → Type 0) → Type 0
+Held v P = (rs after : List Record) (entries : List Entry) → Holds v rs after entries → P entries
 
 -- How many of the entries that are kept are messages.
 abbrev pub message_count : List StoredEntry → ℕ
@@ -62,47 +57,6 @@ AreBefore epoch entries = AllByRecursion (λ (e : StoredEntry). e.epoch < epoch)
 abbrev pub HaveEpochs : List Record → Type 0
 HaveEpochs records = (i : ℕ) (r : Record) → slice_get records i ≡ Some r → r.epoch < epoch_count
 
--- Whether an entry has this own id.
-abbrev pub has_id : List StoredEntry → List ℕ → Bool
-has_id entries id = list_any (λ (e : StoredEntry). bytes_eq id e.seen.id) entries
-
--- The index of the first of some entries with a blob id.
-abbrev pub first_index : List StoredEntry → List ℕ → Option ℕ
-first_index [] blob = None
-first_index (e ∷ es) blob =
-    if bytes_eq blob e.seen.blob.0 then Some 0 else option_map suc (first_index es blob)
-
--- The number of the first of some entries with a blob id.
-abbrev pub number_of : List StoredEntry → List ℕ → Option ℕ
-number_of [] blob = None
-number_of (e ∷ es) blob = if bytes_eq blob e.seen.blob.0 then Some e.number else number_of es blob
-
--- Whether a set of own ids has this one.
-abbrev pub id_in : BTreeSet (Vec ℕ) → List ℕ → Bool
-id_in ids id = list_any (λ (k : Vec ℕ). bytes_eq id k.items) ids.keys
-
--- The value of a blob id in a map by blob ids.
-abbrev pub value_in : {X : Type 0} → BTreeMap (List ℕ) X → List ℕ → Option X
-value_in map blob = get_by (λ (k : List ℕ). slice_cmp nat_cmp blob k) map
-
--- The first of two options that is Some.
-abbrev pub first_of : {X : Type 0} → Option X → Option X → Option X
-first_of None other = other
-first_of (Some x) other = Some x
-
--- The own ids of live entries are known, the numbers of live entries by their blob ids, and the first
--- entry with each blob id.
-pub record AreKnown (entries : List StoredEntry) (known : Known) : Type 0 where
-  pub ids : (id : List ℕ) → id_in known.ids id ≡ has_id (live_kept entries) id
-  pub numbers : (blob : List ℕ)
-      → value_in known.numbers blob ≡ number_of (live_kept entries) blob
-  pub firsts : (blob : List ℕ) → value_in known.firsts blob ≡ first_index entries blob
-
--- One more is known, and the result says whether it is new.
-pub record AddsOne (old new : List ℕ → Bool) (one : List ℕ) (added : Bool) : Type 0 where
-  pub was_new : added ≡ not (old one)
-  pub has : (q : List ℕ) → new q ≡ (bytes_eq q one || old q)
-
 -- What is kept of an entry that is joined to others with this number.
 abbrev pub entry_seen : ℕ → ℕ → Seen → StoredEntry
 entry_seen number epoch seen = record { number = number; epoch = epoch; seen = seen }
@@ -119,39 +73,60 @@ abbrev pub Wants : Joined → ℕ → Seen → Option ℕ → Type 0
 Wants v epoch seen (Some number) = IsWanted v epoch seen number
 Wants v epoch seen None = (number : ℕ) → IsWanted v epoch seen number → ⊥
 
+-- A kept entry is the message of a number.
+pub record IsMessageOf (kept : List StoredEntry) (number : ℕ) (entry : StoredEntry) : Type 0 where
+  pub index : ℕ
+  pub among : slice_get kept index ≡ Some entry
+  pub message : entry.seen.kind ≡ Message
+  pub number_is : entry.number ≡ number
+
 -- A message joins others: it is the map's next one, and no live entry has its own id.
-pub record JoinsMessage (v : Joined) (epoch : ℕ) (seen : Seen) (number : ℕ) : Type 0 where
+pub record JoinsMessage (v : Joined) (all : List Entry) (epoch : ℕ) (seen : Seen) (number : ℕ)
+    : Type 0 where
   pub wanted : IsWanted v epoch seen number
-  pub id : has_id (live_kept v.entries) seen.id ≡ false
+  pub id : owner (live all) seen.id ≡ None
 
--- A deletion joins others: a live entry has its blob id and this number.
-pub record JoinsDeletion (v : Joined) (seen : Seen) (number : ℕ) : Type 0 where
+-- A deletion joins others: the live entry with its own id has its blob id, too, and this number.
+pub record JoinsDeletion (all : List Entry) (seen : Seen) (number : ℕ) : Type 0 where
   pub deletion : seen.kind ≡ Deletion
-  pub live : number_of (live_kept v.entries) seen.blob.0 ≡ Some number
+  pub ended : Entry
+  pub live : owner (live all) seen.id ≡ Some ended
+  pub blob : blob_id_of ended.text ≡ seen.blob
+  pub number_is : ended.number ≡ number
 
--- An entry joins others, and the first entry with its blob id, if there is one, has the same text.
-abbrev pub JoinsNext : Joined → ℕ → Seen → Bool → ℕ → Type 0
-JoinsNext v epoch seen same number = (same ≡ true)
-    × (JoinsMessage v epoch seen number ⊎ JoinsDeletion v seen number)
+-- The number of the message that a deletion ends, or that it ends none.
+abbrev pub Ends : List Entry → Seen → Option ℕ → Type 0
+Ends all seen (Some number) = JoinsDeletion all seen number
+Ends all seen None = (number : ℕ) → JoinsDeletion all seen number → ⊥
 
--- Where the first entry with the blob id of an entry has its text, as it was read, and where the
--- entry has its own: whether the two are the same.
-abbrev pub IsSameText : Root → Files → Option StoredEntry → ℕ → Seen → Bool → Type 0
-IsSameText root files None epoch seen same = same ≡ true
-IsSameText root files (Some older) epoch seen same = (old new : List ℕ)
-    → TextIn (bytes_of (files (epoch_file_of root older.epoch))) older.seen old
-    → TextIn (bytes_of (files (epoch_file_of root epoch))) seen new
-    → same ≡ bytes_eq old new
+-- An entry joins others, and an older one with its blob id, if there is one, has the same text.
+abbrev pub JoinsNext : Joined → List Entry → ℕ → Seen → Bool → ℕ → Type 0
+JoinsNext v all epoch seen same number = (same ≡ true)
+    × (JoinsMessage v all epoch seen number ⊎ JoinsDeletion all seen number)
 
--- The entry at an index of those that are kept, if there is an index.
-abbrev pub kept_at : List StoredEntry → Option ℕ → Option StoredEntry
-kept_at entries None = None
-kept_at entries (Some index) = slice_get entries index
+-- An older entry has the blob id of an entry. Where its text was read, and where the entry has its
+-- own: whether the two are the same.
+pub record IsCompared (root : Root) (files : Files) (kept : List StoredEntry) (epoch : ℕ)
+    (seen : Seen) (same : Bool) : Type 0 where
+  pub older : StoredEntry
+  pub index : ℕ
+  pub among : slice_get kept index ≡ Some older
+  pub blob : older.seen.blob ≡ seen.blob
+  pub is : (old new : List ℕ)
+      → TextIn (bytes_of (files (epoch_file_of root older.epoch))) older.seen old
+      → TextIn (bytes_of (files (epoch_file_of root epoch))) seen new
+      → same ≡ bytes_eq old new
 
--- The result of comparing an entry's text with that of the first entry with its blob id.
+-- No older entry has the blob id of an entry, or the text of one that has it was compared.
+abbrev pub IsSameText : Root → Files → Joined → List Entry → ℕ → Seen → Bool → Type 0
+IsSameText root files v all epoch seen same =
+    ((blob_number all seen.blob.0 ≡ None) × (same ≡ true))
+    ⊎ IsCompared root files v.entries epoch seen same
+
+-- The result of comparing an entry's text with that of an older entry with its blob id.
 abbrev pub ComparesText : Root → Joined → ℕ → Seen → Result Bool JoinRefusal → Files → Type 0
-ComparesText root v epoch seen (Ok same) files = Held v (IsSameText root files
-    (kept_at v.entries (first_index v.entries seen.blob.0)) epoch seen same)
+ComparesText root v epoch seen (Ok same) files =
+    Held v (λ (all : List Entry). IsSameText root files v all epoch seen same)
 ComparesText root v epoch seen (Err (Damaged at)) files = ⊥
 ComparesText root v epoch seen (Err DiskFault) files = Unit {0}
 ComparesText root v epoch seen (Err NoMemory) files = Unit {0}
@@ -164,9 +139,9 @@ with_seen v number epoch seen =
 -- An entry was joined, as one that may be, or can't be and its offset is the result.
 abbrev pub JoinsOne : Joined → ℕ → Seen → Bool → Result Joined JoinRefusal → Type 0
 JoinsOne old epoch seen same (Ok new) = (number : ℕ) × (new ≡ with_seen old number epoch seen)
-    × Held old (JoinsNext old epoch seen same number)
+    × Held old (λ (all : List Entry). JoinsNext old all epoch seen same number)
 JoinsOne old epoch seen same (Err (Damaged at)) = (at ≡ seen.at)
-    × Held old ((number : ℕ) → JoinsNext old epoch seen same number → ⊥)
+    × Held old (λ (all : List Entry). (number : ℕ) → JoinsNext old all epoch seen same number → ⊥)
 JoinsOne old epoch seen same (Err DiskFault) = ⊥
 JoinsOne old epoch seen same (Err NoMemory) = Unit {0}
 
@@ -227,9 +202,9 @@ TakesEpoch root old epoch seen result files =
 
 -- All records of the map that have a message have an entry, and this is what is kept; or the first
 -- one without an entry should be in this epoch.
-abbrev pub Finishes : Joined → Result (Vec StoredEntry) Unmatched → Type 0
+abbrev pub Finishes : Joined → Result (List StoredEntry) Unmatched → Type 0
 Finishes v (Ok kept) = (rs after : List Record) (entries : List Entry) → Holds v rs after entries
-    → (kept.items ≡ stored_after [] entries) × AreFirst rs [] entries
+    → (kept ≡ stored_after [] entries) × AreFirst rs [] entries
 Finishes v (Err refusal) = (rs after : List Record) (entries : List Entry)
     → Holds v rs after entries → (next : Record) × (left : List Record)
     × AreFirst rs (next ∷ left) entries × (next.epoch ≡ refusal.epoch)

@@ -2,6 +2,7 @@ pub mod Files
 pub mod Recovery
 pub mod Stores
 pub mod Leaving
+pub mod Indexes
 pub mod Damage
 pub mod Joined
 pub mod Laws
@@ -11,5 +12,5 @@ pub mod Openings
 pub mod Finding
 pub mod Reads
 pub mod Opens
-pub mod Promises
 pub mod Planning
+pub mod Promises

@@ -7,6 +7,7 @@ use Rattle.disk_model.specs.Synced.{IsSettled}
 use Rattle.arch_model.specs.Archives.{Archive}
 use Rattle.arch_model.specs.declared.opening.OpenRefusal.{OpenRefusal}
 use Rattle.arch_model.specs.declared.opening.OpenRefusal.TheVariants.{NoArchive, Damaged, DiskFault, NoMemory}
+use Rattle.arch_judge.specs.declared.index.Index.{Index}
 use Rattle.number_map.specs.declared.line.Record.{Record}
 use Rattle.root_slots.specs.RootName.{root_name}
 use Rattle.root_slots.specs.Slots.{IsShutFile}
@@ -34,13 +35,15 @@ abbrev pub ReadsWith : List ℕ → Archive → Option Content → Type 0
 ReadsWith cache a None = ⊥
 ReadsWith cache a (Some k) = RecoversWith cache (as_read k) a
 
--- The same without a cache.
+-- Files stand for one of these archives without a cache, or for none if that is one of these.
 abbrev pub RecoversOf : List (Option Archive) → Files → Type 0
 RecoversOf may image = RecoversOfWith [] may image
 
+-- Each crash of a disk that tells its content leaves such files.
 abbrev pub AllRecoverOf : List (Option Archive) → Option Content → Type 0
 AllRecoverOf may content = AllRecoverWith [] may content
 
+-- A disk that tells its content reads as files that stand for an archive without a cache.
 abbrev pub ReadsAs : Archive → Option Content → Type 0
 ReadsAs a content = ReadsWith [] a content
 
@@ -51,6 +54,11 @@ pub record IsOpenedIn (files : Files) (v : View) : Type 0 where
   pub root : IsCurrentRoot v.root v.slot files
   pub has : HasRecords v.root files records
   pub read : AreRead v.root files records v.entries
+
+-- The result of opening, without the index of the store's entries.
+abbrev pub store_of : Result (View × Index) OpenRefusal → Result View OpenRefusal
+store_of (Ok opened) = Ok opened.0
+store_of (Err refusal) = Err refusal
 
 -- The results of opening, by the files as they read: a store of them, that no slot is open, or the
 -- first offset that is damaged.

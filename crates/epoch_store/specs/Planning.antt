@@ -54,8 +54,8 @@ gone_numbers (e ∷ es) blob =
     then e.number ∷ gone_numbers es blob else gone_numbers es blob
 
 -- A message of the archive has the text.
-abbrev pub HasMessage : Archive → List ℕ → Type 0
-HasMessage a text = (n : ℕ) × (text_of (messages a.entries) n ≡ Some text)
+abbrev pub IsMessageText : Archive → List ℕ → Type 0
+IsMessageText a text = (n : ℕ) × (text_of (messages a.entries) n ≡ Some text)
 
 -- Plans write the epochs of an archive without a text, and its map.
 pub record PlansWithout (root : Root) (cache : List ℕ) (a : Archive) (text : List ℕ)
@@ -90,8 +90,7 @@ abbrev pub AreAnew : List Plan → Type 0
 AreAnew plans = (i : ℕ) (plan : Plan) → slice_get plans i ≡ Some plan → plan.target ≡ Anew
 
 -- What is planned of the entries of a store without those with a blob id: what is kept of the others,
--- and what is written. On the store's own disk it is that of the archive without the text, and
--- nothing is damaged.
+-- and what is written.
 pub record PlansPurge (v : View) (blob : Id20) (entries : List StoredEntry) (plans : List Plan)
     : Type 0 where
   pub kept : AllZip KeptOf (without_blob v.entries blob.0) entries
@@ -99,9 +98,11 @@ pub record PlansPurge (v : View) (blob : Id20) (entries : List StoredEntry) (pla
   pub anew : AreAnew plans
   pub lost : PlansLost v.entries blob plans
 
+-- On a store's own disk, where a message has the text of the blob id, what is planned, and what is
+-- kept of the other entries, is that of the archive without the text.
 abbrev pub PlansOwn : View → Id20 → List StoredEntry → List Plan → Option Content → Type 0
 PlansOwn v blob entries plans content = (a : Archive) (cache text : List ℕ)
-    → IsStoreWith v cache a content → blob_id_of text ≡ blob → HasMessage a text
+    → IsStoreWith v cache a content → blob_id_of text ≡ blob → IsMessageText a text
     → PlansWithout v.root cache a text plans
     × (entries ≡ stored_after [] (without_text a.entries text))
 
@@ -173,6 +174,7 @@ abbrev pub IsFrom : Root → Plan → Type 0
 IsFrom root plan = IsPartToPlan plan.kind plan.number
     × IsPlanFrom (file_by root plan.kind plan.number) plan
 
+-- Each of these plans is one of a part, with ranges of that part's file.
 abbrev pub AreFrom : Root → List Plan → Type 0
 AreFrom root plans = (i : ℕ) (plan : Plan) → slice_get plans i ≡ Some plan → IsFrom root plan
 
@@ -181,6 +183,7 @@ abbrev pub IsPlanWithin : Root → Plan → Type 0
 IsPlanWithin root plan = (i : ℕ) (source : Source) → slice_get plan.sources i ≡ Some source
     → IsWithin root source
 
+-- The ranges of each of these plans lie in the bytes that count of their files.
 abbrev pub AreWithin : Root → List Plan → Type 0
 AreWithin root plans = (i : ℕ) (plan : Plan) → slice_get plans i ≡ Some plan
     → IsPlanWithin root plan
@@ -234,7 +237,8 @@ abbrev pub PicksText : Archive → Id20 → List ℕ → Type 0
 PicksText a blob text = AllByRecursion (λ (e : Entry).
     bytes_eq blob.0 (blob_id_of e.text).0 ≡ bytes_eq text e.text) a.entries
 
--- A planner takes the next entry of an archive, whatever text is left out. Nothing is damaged.
+-- After a call the entries of an archive up to this one are planned, where a text is left out. Nothing
+-- is damaged.
 abbrev pub GivesNext : Texts → Root → Archive → List Entry → Entry → List ℕ → Planning
     → Result Unit StoreRefusal → Type 0
 GivesNext texts root a es e text new (Ok _) = IsPlannedUpTo texts root a (es ++ e ∷ []) text new
@@ -242,9 +246,11 @@ GivesNext texts root a es e text new (Err DiskFault) = Unit {0}
 GivesNext texts root a es e text new (Err NoMemory) = Unit {0}
 GivesNext texts root a es e text new (Err (Damaged file at)) = ⊥
 
-abbrev pub TakesNext : Planning → FileName → StoredEntry → Id20 → Option Content → Planning
+-- A planner takes the next entry of the archive of a disk, whatever text the blob id picks to be left
+-- out.
+abbrev pub PlansNext : Planning → FileName → StoredEntry → Id20 → Option Content → Planning
     → Result Unit StoreRefusal → Type 0
-TakesNext old file stored blob content new result = WhereTold (λ (k : Content).
+PlansNext old file stored blob content new result = WhereTold (λ (k : Content).
     (v : View) (cache : List ℕ) (a : Archive) (es rest : List Entry) (e : Entry) (text : List ℕ)
     → IsDiskWith v cache a k → a.entries ≡ es ++ e ∷ rest → stored ≡ stored_at es e
     → file ≡ epoch_file_of v.root e.epoch → PicksText a blob text
@@ -263,7 +269,7 @@ refusal_in file walk.DiskFault = DiskFault
 refusal_in file walk.NoMemory = NoMemory
 refusal_in file (walk.Damaged at) = Damaged file at
 
--- The plans of a part: bytes after what is planned, or after the part's own.
+-- The plans, where an epoch has these bytes more: after what is planned of it, or else after its own.
 abbrev pub plans_with : List Plan → ℕ → List ℕ → List Plan
 plans_with [] epoch bytes = with_bytes (no_plan kind.Epoch epoch Behind) bytes ∷ []
 plans_with (plan ∷ plans) epoch bytes =
@@ -284,6 +290,7 @@ abbrev pub ClosesAs : Planning → Option Plan → Planning → Type 0
 ClosesAs old None new = new ≡ old
 ClosesAs old (Some plan) new = Pushes old plan new
 
+-- The current epoch is closed: its file is planned whole, and the plan was added if there is one.
 abbrev pub Closes : Planning → Planned → Planning → Type 0
 Closes old epoch new = (finished : Option Plan) × Finishes epoch finished
     × IsOfEpoch epoch.file finished × ClosesAs old finished new
@@ -304,14 +311,16 @@ OpensBy old file (Some c) new plan =
     ((c.file ≡ file) × (plan ≡ c) × (new ≡ without_current old))
     ⊎ ((c.file ≢ file) × (plan ≡ epoch_start file) × Closes (without_current old) c new)
 
-abbrev pub Opens : Planning → FileName → Planning → Planned → Type 0
-Opens old file new plan = OpensBy old file old.current new plan
+-- The same by the current one of a planner.
+abbrev pub OpensPlan : Planning → FileName → Planning → Planned → Type 0
+OpensPlan old file new plan = OpensBy old file old.current new plan
 
 -- The number of a message that is left out is kept, that of a deletion isn't.
 abbrev pub gone_with : EntryKind → List ℕ → ℕ → List ℕ
 gone_with Message gone number = gone ++ number ∷ []
 gone_with Deletion gone number = gone
 
+-- A planner that has left out an entry: the number of a message is kept.
 abbrev pub with_gone : Planning → StoredEntry → Planning
 with_gone p e = record {
   plans = p.plans;
@@ -320,11 +329,12 @@ with_gone p e = record {
   current = p.current;
 }
 
--- An entry was left out of the plan of the current epoch, or kept in it.
+-- A planner with other entries and numbers, and this as the current epoch.
 abbrev pub with_entries : Planning → List StoredEntry → List ℕ → Planned → Planning
 with_entries p entries gone plan =
     record { plans = p.plans; entries = entries; gone = gone; current = Some plan }
 
+-- An entry was left out of the plan of the current epoch, which is to be written anew.
 abbrev pub LeavesOut : Planning → Planned → StoredEntry → Planning → Type 0
 LeavesOut old plan e new = (after : Planned) × LeavesNext plan e.seen after
     × (after.file ≡ plan.file)
@@ -332,9 +342,11 @@ LeavesOut old plan e new = (after : Planned) × LeavesNext plan e.seen after
     × (is_some after.changed ≡ true)
 
 -- An entry as it is kept in the new file.
-abbrev pub kept_with : StoredEntry → Seen → StoredEntry
-kept_with e seen = record { number = e.number; epoch = e.epoch; seen = seen }
+abbrev pub kept_anew : StoredEntry → Seen → StoredEntry
+kept_anew e seen = record { number = e.number; epoch = e.epoch; seen = seen }
 
+-- An entry was kept in the plan of the current epoch, at its offset in the new file and with its commit
+-- there.
 pub record KeepsEntry (old : Planning) (plan : Planned) (e : StoredEntry)
     (content : Option Content) (new : Planning) : Type 0 where
   pub seen : Seen
@@ -343,25 +355,28 @@ pub record KeepsEntry (old : Planning) (plan : Planned) (e : StoredEntry)
   pub moved : (at : ℕ) × (commit : Id20) × IsMoved e.seen at commit seen
   pub file : after.file ≡ plan.file
   pub going : is_some after.changed ≡ is_some plan.changed
-  pub new_is : new ≡ with_entries old (old.entries ++ kept_with e seen ∷ []) old.gone after
+  pub new_is : new ≡ with_entries old (old.entries ++ kept_anew e seen ∷ []) old.gone after
 
--- It was refused: where the file has it, nothing is damaged.
+-- The refusal is not that a file is damaged.
 abbrev pub IsNoDamage : WalkRefusal → Type 0
 IsNoDamage walk.DiskFault = Unit {0}
 IsNoDamage walk.NoMemory = Unit {0}
 IsNoDamage (walk.Damaged at) = ⊥
 
+-- An entry was refused: where the file has it, nothing is damaged.
 abbrev pub RefusesEntry : Planned → StoredEntry → Option Content → WalkRefusal → Type 0
 RefusesEntry plan e content refusal = WhereTold (λ (k : Content).
     (es kept : List EpochEntry) (next : EpochEntry) → IsPlanned (texts_in k) es kept plan
     → HasNext (texts_in k) plan.file es next → e.seen ≡ seen_after es next → IsNoDamage refusal)
     content
 
--- The current epoch is closed, and the map is planned without the messages that are gone.
+-- The current epoch is closed, if there is one.
 abbrev pub ClosesLast : Planning → Option Planned → Planning → Type 0
 ClosesLast old None mid = mid ≡ old
 ClosesLast old (Some c) mid = Closes (without_current old) c mid
 
+-- The current epoch is closed, and the plan of the map without the messages that are left out was
+-- added.
 abbrev pub FinishesPlans : Planning → FileName → ℕ → Planning → Type 0
 FinishesPlans old map count new = (mid : Planning) × ClosesLast old old.current mid
     × ((plan : Plan) × PlansMap map count mid.gone plan × Pushes mid plan new)
@@ -371,11 +386,12 @@ abbrev pub PlansFirst : View → Id20 → ℕ → Planning → Content → Type 
 PlansFirst v blob n p k = (cache : List ℕ) (a : Archive) (text : List ℕ) → IsDiskWith v cache a k
     → PicksText a blob text → IsPlannedUpTo (texts_in k) v.root a (take n a.entries) text p
 
--- The number of bytes of an epoch after plans.
+-- The length of a part after its plan, or as before without one.
 abbrev pub length_by : ℕ → Option Plan → ℕ
 length_by before None = before
 length_by before (Some plan) = plan_count plan
 
+-- The length of an epoch of a root after plans.
 abbrev pub length_after : Root → List Plan → ℕ → ℕ
 length_after root plans epoch =
     length_by (get_or root.epochs epoch no_place).length (plan_of plans kind.Epoch epoch)
@@ -432,13 +448,14 @@ pub record KeepsPlanned (old : View) (p : Planning) (next : ℕ) (new : View) : 
   pub root : IsRootAfter old.root p.plans next new.root
   pub slot : new.slot ≡ 1 - old.slot
 
--- A record was added to the plan of the map.
+-- The plans, where that of the map has these bytes more.
 abbrev pub with_record : List Plan → List ℕ → List Plan
 with_record [] bytes = []
 with_record (plan ∷ plans) bytes =
     if same_kind plan.kind kind.Map && plan.number == 0 then with_bytes plan bytes ∷ plans
     else plan ∷ with_record plans bytes
 
+-- A record was added to the plan of the map, which is there.
 abbrev pub AppendsRecord : Planning → Record → Planning → Type 0
 AppendsRecord old line new = (new ≡ record {
   plans = with_record old.plans (record_bytes line);

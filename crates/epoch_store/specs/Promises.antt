@@ -1,19 +1,27 @@
--- What making and opening an archive promise, over the ghost members of a disk.
-use Rattle.std.specs.Prelude.{◌≡◌, ℕ, List, [], Option, Result, Err, IfOk, OnOk}
+-- What making an archive, opening one and changing one promise, over the ghost members of a disk.
+use Rattle.std.specs.Prelude.{◌≡◌, ◌+◌, ◌-◌, ◌<◌, ◌≤◌, ◌^◌, ℕ, List, [], Option, Some, None, Result, Err, IfOk, OnOk, OnErr}
 use Rattle.arch_base.specs.Counts.{RoseIf}
 use Rattle.arch_base.specs.declared.config.Config.{Config}
+use Rattle.arch_base.specs.declared.ids.Id20.{Id20}
 use Rattle.disk_model.specs.Disk.{Files, Content, Told, WhereTold, LeavesOnly}
 use Rattle.disk_model.specs.Synced.{IsSettled}
-use Rattle.arch_model.specs.Archives.{Archive, empty_archive}
+use Rattle.git_objects.specs.Objects.{blob_id_of}
+use Rattle.arch_model.specs.Archives.{Archive, empty_archive, live, messages, text_of, with_deletion, with_entry, without_entries}
+use Rattle.arch_model.specs.Delivery.{collision, new_epoch}
 use Rattle.arch_model.specs.declared.opening.OpenRefusal.{OpenRefusal}
 use Rattle.arch_model.specs.declared.opening.OpenRefusal.TheVariants as opening
+use Rattle.root_slots.specs.declared.root.Root.{Root}
+use Rattle.epoch_file.specs.Runs.{OnlyReads}
+use Rattle.epoch_file.specs.declared.refusal.StoreRefusal.{StoreRefusal}
+use Rattle.epoch_file.specs.declared.refusal.StoreRefusal.TheVariants as refusal
 use Rattle.epoch_store.specs.declared.refusal.InitRefusal.{InitRefusal}
 use Rattle.epoch_store.specs.declared.refusal.InitRefusal.TheVariants as making
 use Rattle.epoch_store.specs.Files.{as_read}
 use Rattle.epoch_store.specs.First.{MakingLeaves, MakingAnswers, RefusesToMake}
 use Rattle.epoch_store.specs.Opens.{RecoversOfWith, AllRecoverWith, ReadsWith, Opens, OpensWell, SyncsFirst, SyncsAtMost, OnSynced}
+use Rattle.epoch_store.specs.Planning.{PlansUndamaged}
 use Rattle.epoch_store.specs.Settling.{IsSettledBy}
-use Rattle.epoch_store.specs.Stores.{View, IsDiskOf, IsStoreWith, HasSizes}
+use Rattle.epoch_store.specs.Stores.{View, GoesOn, HasSizes, IsDiskOf, IsStoreWith, RecoversOneOf, GoesOnAnew, SeesNoDamage, UnlessFailed}
 
 -- An archive without entries is made, of these settings. At each moment a crash leaves what it might
 -- have left before; if no slot was open, it may also leave no open slot, or the archive. The answer
@@ -57,3 +65,88 @@ pub record OpensArchive {D : Type 0} (content : D → Option Content) (moment : 
   pub kept : IfOk result (λ (v : View). Told (IsSettledBy v.root v.slot) (content old) (content new))
   pub sizes : IfOk result (λ (v : View). WhereTold (HasSizes v) (content new))
   pub cause : RoseIf (result ≡ Err opening.DiskFault) (faults old) (faults new)
+
+-- How a command changes the files of an archive: it appends to them, or writes some of them anew.
+pub data Way : Type 0 where
+  Appends : Way
+  Renews : Way
+
+-- The cache after a command that was carried out. Files that are written anew leave none.
+abbrev pub cache_by : Way → List ℕ → List ℕ
+cache_by Appends cache = cache
+cache_by Renews cache = []
+
+-- How the root goes on from one to the next.
+abbrev pub GoesOnBy : Way → Root → Root → Type 0
+GoesOnBy Appends old new = GoesOn old new
+GoesOnBy Renews old new = GoesOnAnew old new
+
+-- What was done where nothing was written: nothing at all, or files were only read.
+abbrev pub StaysBy : {D : Type 0} → Way → (D → Option Content) → (D → ℕ)
+    → (D → ℕ → Files → Type 0) → (D → ℕ) → D → D → Type 0
+StaysBy Appends content moment left_since faults old new = new ≡ old
+StaysBy Renews content moment left_since faults old new =
+    OnlyReads content moment left_since faults old new
+
+-- Where no damage is found: anywhere, if nothing is read, and else on a store's own disk.
+abbrev pub UndamagedBy : {T : Type 0} → Way → View → Result T StoreRefusal → Option Content → Type 0
+UndamagedBy Appends v result content = SeesNoDamage result
+UndamagedBy Renews v result content = PlansUndamaged v result content
+
+-- How often a command reads: never, or as often as it has to.
+abbrev pub ReadsBy : Way → ℕ → ℕ → Type 0
+ReadsBy Appends before now = now ≡ before
+ReadsBy Renews before now = before ≤ now
+
+-- The second archive is the first with one more message. No other text has the blob id of its text.
+pub record Adds (text : List ℕ) (arrived : ℕ) (a b : Archive) : Type 0 where
+  pub alone : collision a.entries text ≡ None
+  pub is : b ≡ with_entry a (new_epoch a) text arrived
+
+-- The second archive is the first with the deletion of a live number, which has this text.
+pub record Ends (number : ℕ) (text : List ℕ) (arrived : ℕ) (a b : Archive) : Type 0 where
+  pub shown : text_of (live a.entries) number ≡ Some text
+  pub is : b ≡ with_deletion a number (new_epoch a) text arrived
+
+-- The second archive is the first without a text that has this blob id, which one of its messages has.
+pub record Drops (blob : Id20) (a b : Archive) : Type 0 where
+  pub number : ℕ
+  pub text : List ℕ
+  pub shown : text_of (messages a.entries) number ≡ Some text
+  pub blob_is : blob_id_of text ≡ blob
+  pub is : b ≡ without_entries a text
+
+-- The second archive is the first with a message in place of a live text that has this blob id. No other
+-- text has the blob id of the message.
+pub record Replaces (blob : Id20) (text : List ℕ) (arrived : ℕ) (a b : Archive) : Type 0 where
+  pub number : ℕ
+  pub gone : List ℕ
+  pub shown : text_of (live a.entries) number ≡ Some gone
+  pub blob_is : blob_id_of gone ≡ blob
+  pub alone : collision (without_entries a gone).entries text ≡ None
+  pub is : b ≡ with_entry (without_entries a gone) (new_epoch (without_entries a gone)) text arrived
+
+-- A command makes a second archive of the one on a disk. While the root's sequence can be raised, at
+-- each moment a crash leaves the first archive or the second, and after `Ok` the disk is the latter's
+-- own. On any disk, after `Ok` all that reads give is on the disk, the files that are named have their
+-- sizes, and the root, in the other slot, goes on from the one before. An error leaves what is kept in
+-- memory; but for a fault it comes before anything is written. It fails only if the count of faults rose.
+pub record ChangesStore {D : Type 0} (content : D → Option Content) (moment : D → ℕ)
+    (left_since : D → ℕ → Files → Type 0) (faults reads : D → ℕ) (old new : D) (before after : View)
+    (way : Way) (Makes : Archive → Archive → Type 0) (result : Result (Unit {0}) StoreRefusal)
+    : Type 0 where
+  pub any_moment : (a b : Archive) (cache : List ℕ) → IsStoreWith before cache a (content old)
+      → before.root.sequence + 1 < 2 ^ 64 → Makes a b
+      → LeavesOnly moment left_since old new (RecoversOneOf cache a (cache_by way cache) b)
+  pub done : (a b : Archive) (cache : List ℕ) → IsStoreWith before cache a (content old)
+      → before.root.sequence + 1 < 2 ^ 64 → Makes a b
+      → OnOk result (IsStoreWith after (cache_by way cache) b (content new))
+  pub settled : OnOk result (WhereTold IsSettled (content new))
+  pub sizes : OnOk result (WhereTold (HasSizes after) (content new))
+  pub goes_on : OnOk result (GoesOnBy way before.root after.root)
+  pub slot : OnOk result (after.slot ≡ 1 - before.slot)
+  pub same : OnErr result (after ≡ before)
+  pub untouched : UnlessFailed result (StaysBy way content moment left_since faults old new)
+  pub undamaged : UndamagedBy way before result (content old)
+  pub cause : RoseIf (result ≡ Err refusal.DiskFault) (faults old) (faults new)
+  pub count : ReadsBy way (reads old) (reads new)

@@ -73,10 +73,11 @@ abbrev pub IsStoreWith : View → List ℕ → Archive → Option Content → Ty
 IsStoreWith v cache a None = ⊥
 IsStoreWith v cache a (Some k) = IsDiskWith v cache a k
 
--- The same without a cache.
+-- A disk is a store's own, and holds this archive without a cache.
 abbrev pub IsDiskOf : View → Archive → Content → Type 0
 IsDiskOf v a k = IsDiskWith v [] a k
 
+-- The same for a disk that tells its content.
 abbrev pub IsStoreOf : View → Archive → Option Content → Type 0
 IsStoreOf v a content = IsStoreWith v [] a content
 
@@ -269,12 +270,16 @@ pub record EndsEntry (old new : View) (number : ℕ) (text : List ℕ) : Type 0 
   pub next : new.root.next ≡ old.root.next
   pub config : new.root.config ≡ old.root.config
 
+-- An error tells of no damage.
+abbrev pub IsUndamaged : StoreRefusal → Type 0
+IsUndamaged DiskFault = Unit {0}
+IsUndamaged NoMemory = Unit {0}
+IsUndamaged (Damaged file offset) = ⊥
+
 -- A call that doesn't read never returns `Damaged`.
 abbrev pub SeesNoDamage : {T : Type 0} → Result T StoreRefusal → Type 0
 SeesNoDamage (Ok given) = Unit {0}
-SeesNoDamage (Err DiskFault) = Unit {0}
-SeesNoDamage (Err NoMemory) = Unit {0}
-SeesNoDamage (Err (Damaged file offset)) = ⊥
+SeesNoDamage (Err why) = IsUndamaged why
 
 -- What holds of an error, unless the disk failed.
 abbrev pub UnlessFailed : {T : Type 0} → Result T StoreRefusal → Type 0 → Type 0
@@ -355,9 +360,10 @@ pub record EditsEntries (old new : View) (blob : Id20) (text : List ℕ) : Type 
   pub next : new.root.next ≡ old.root.next + 1
   pub config : new.root.config ≡ old.root.config
 
--- A root goes on from another one whose parts were written anew. Its sequence is one more, and there is
--- no cache. Each part stays in its file, or is in one whose generation is the new sequence.
-pub record Rewrites (old new : Root) : Type 0 where
+-- A root goes on from another one whose parts were written anew. Its sequence is one more, the map is in
+-- a file of that generation, and there is no cache. Each epoch stays in its file, or is in one of that
+-- generation, or has none.
+pub record GoesOnAnew (old new : Root) : Type 0 where
   pub sequence : new.sequence ≡ old.sequence + 1
   pub map : new.map.gen_ ≡ new.sequence
   pub cache : new.cache ≡ no_place
@@ -391,8 +397,8 @@ Grows old new epoch = ((0 < (get_or old.epochs epoch no_place).length)
     ⊎ (((get_or old.epochs epoch no_place).length ≡ 0)
     × ((get_or new.epochs epoch no_place).gen_ ≡ new.sequence))
 
--- Which files an edit keeps: those that a purge keeps. That of the epoch of the new entry, which is the
--- last one, grows.
+-- Which files an edit keeps: those that a purge keeps. But that of the epoch of the new entry, which is
+-- the last one, grows, unless the epoch loses an entry.
 pub record EditsFiles (old new : View) (blob : Id20) : Type 0 where
   pub front : List StoredEntry
   pub entry : StoredEntry

@@ -8,12 +8,15 @@ ghost use Rattle.epoch_file.specs.Runs.{OnlyReads};
 ghost use Rattle.root_slots.specs.RootName.{root_name};
 ghost use Rattle.root_slots.specs.Valid.{IsRoot, RootFits, no_place};
 ghost use Rattle.epoch_store.specs.Files.{as_read, epoch_file_of};
+ghost use Rattle.epoch_store.specs.Indexes.{IndexesStored};
 ghost use Rattle.epoch_store.specs.Joined.{AreBefore};
 ghost use Rattle.epoch_store.specs.Finding.{Finds, FindsRoot, FindsRecords, FindsEntries, KeepsBy, EndsWith, ReadsEach, ReadsEpoch, ReadsSeen, StopsEpoch, StopsSeen};
 
 use crate::entries::StoredEntry;
+use crate::indexing::IndexedEntries;
+use crate::join_refusal::JoinRefusal;
 use crate::joining::Joining;
-use crate::known::JoinRefusal;
+use arch_judge::Index;
 use arch_model::OpenRefusal;
 use disk_model::{Disk, EPOCHS, FileKind, FileName, WalkRefusal};
 use epoch_file::{SeenList, law_of_entries, law_of_epochs};
@@ -22,12 +25,14 @@ use root_change::{epoch_file, map_file};
 use root_slots::{Place, Root, RootRefusal, Slot, root_fits};
 use std::alloc::Global;
 
-/// An archive as found: its current root, the root's slot, and its entries without texts.
+/// An archive as found: its current root, the root's slot, its entries without texts, and their
+/// index.
 #[derive(Drop)]
 pub(crate) struct Found {
     pub(crate) root: Root,
     pub(crate) slot: Slot,
     pub(crate) entries: Vec<StoredEntry>,
+    pub(crate) index: Index,
 }
 
 /// Returns the name of the root file.
@@ -263,9 +268,9 @@ fn join_all<D: Disk>(
 /// Returns the entries if each record of the map that has a message has one.
 ///
 /// Otherwise the epoch of the first record without an entry is `Damaged`, at its end.
-fn finish(root: &Root, joining: Joining) -> Result<Vec<StoredEntry>, OpenRefusal>
+fn finish(root: &Root, joining: Joining) -> Result<IndexedEntries, OpenRefusal>
     ensures ends { EndsWith root.now joining result }
-    ensures kept { IfOk result (λ kept. kept.items ≡ joining.entries) }
+    ensures kept { IfOk result (λ kept. kept ≡ joining.entries) }
     ensures no_fault { result ≢ Err OpenRefusal.DiskFault }
 {
     match joining.finish() {
@@ -283,10 +288,10 @@ fn read_epochs<D: Disk>(
     disk: &mut D,
     root: &Root,
     records: &Records,
-) -> Result<Vec<StoredEntry>, OpenRefusal>
+) -> Result<IndexedEntries, OpenRefusal>
     ensures kept { WhereTold (λ k.
         KeepsBy root.now records.now result (as_read k)) (D.content disk.old) }
-    ensures small { IfOk result (λ kept. AreBefore epoch_count kept.items) }
+    ensures small { IfOk result (λ kept. AreBefore epoch_count kept) }
     ensures reads { OnlyReads D.content D.moment D.left_since D.faults disk.old disk.new }
     ensures fault { result ≡ Err OpenRefusal.DiskFault
         → Rose (D.faults disk.old) (D.faults disk.new) }
@@ -306,11 +311,11 @@ fn find_entries<D: Disk>(
     alloc: Global,
     disk: &mut D,
     root: &Root,
-) -> Result<Vec<StoredEntry>, OpenRefusal>
+) -> Result<IndexedEntries, OpenRefusal>
     requires root { IsRoot root.now }
     requires fits { RootFits root.now }
     ensures found { WhereTold (λ k. FindsEntries root.now (as_read k) result) (D.content disk.old) }
-    ensures small { IfOk result (λ kept. AreBefore epoch_count kept.items) }
+    ensures small { IfOk result (λ kept. AreBefore epoch_count kept) }
     ensures reads { OnlyReads D.content D.moment D.left_since D.faults disk.old disk.new }
     ensures fault { result ≡ Err OpenRefusal.DiskFault
         → Rose (D.faults disk.old) (D.faults disk.new) }
@@ -335,6 +340,7 @@ pub(crate) fn find<D: Disk>(alloc: Global, disk: &mut D) -> Result<Found, OpenRe
     // Whatever the disk tells, the result has a root, and entries of epochs 0 to 63.
     ensures root { IfOk result (λ found. IsRoot found.root) }
     ensures epochs { IfOk result (λ found. AreBefore epoch_count found.entries.items) }
+    ensures indexed { IfOk result (λ found. IndexesStored found.entries.items found.index) }
     ensures same { Told Unchanged (D.content disk.old) (D.content disk.new) }
     ensures any_moment { LeavesOnly D.moment D.left_since disk.old disk.new
         (Image (D.content disk.old)) }
@@ -342,11 +348,15 @@ pub(crate) fn find<D: Disk>(alloc: Global, disk: &mut D) -> Result<Found, OpenRe
 {
     match find_root(disk) {
         Ok((slot, root)) => match find_entries(alloc, disk, &root) {
-            Ok(entries) => Ok(Found {
-                root,
-                slot,
-                entries,
-            }),
+            Ok(indexed) => {
+                let IndexedEntries { entries, index } = indexed;
+                Ok(Found {
+                    root,
+                    slot,
+                    entries,
+                    index,
+                })
+            }
             Err(refusal) => Err(refusal),
         },
         Err(refusal) => Err(refusal),

@@ -1,5 +1,6 @@
 //! Joins the entries of the epochs to the records of the map.
-ghost use Rattle.std.specs.Prelude.{◌≡◌, ◌≢◌, ◌+◌, ◌<◌, ◌≤◌, ◌++◌, ◌∷◌, ℕ, List, [], true, Err, IfOk, IfErr};
+ghost use Rattle.std.specs.Prelude.{◌≡◌, ◌≢◌, ◌+◌, ◌<◌, ◌≤◌, ℕ, List, [], true, length, if◌then◌else◌, Err, IfOk, IfErr, OnOk, MatchOption};
+ghost use Rattle.arch_model.specs.Archives.{is_message};
 ghost use Rattle.arch_base.specs.Counts.{Rose};
 ghost use Rattle.disk_model.specs.Disk.{WhereTold, bytes_of};
 ghost use Rattle.disk_model.specs.Sizes.{epoch_count, greatest_epoch};
@@ -7,16 +8,15 @@ ghost use Rattle.epoch_store.specs.Damage.{messages};
 ghost use Rattle.git_objects.specs.declared.entry_kind.EntryKind.TheVariants.{Message, Deletion};
 ghost use Rattle.epoch_file.specs.Runs.{OnlyReads};
 ghost use Rattle.epoch_store.specs.Files.{as_read, epoch_file_of};
-ghost use Rattle.epoch_store.specs.Joined.{Wants, JoinsOne, AreBefore, ComparesText, JoinsByText, TakesEpoch, Finishes, TextIn, entry_seen};
-ghost use Rattle.epoch_store.specs.declared.known.JoinRefusal.{JoinRefusal};
+ghost use Rattle.epoch_store.specs.Joined.{Held, Wants, IsMessageOf, Ends, JoinsOne, AreBefore, ComparesText, JoinsByText, TakesEpoch, Finishes, TextIn, with_seen};
+ghost use Rattle.epoch_store.specs.declared.join_refusal.JoinRefusal.{JoinRefusal};
 
 use crate::entries::StoredEntry;
-use crate::known::{
-    JoinRefusal, Known, Unmatched, add_first, add_id, add_number, drop_id, known_of_none,
-    take_number,
-};
+use crate::indexing::{IndexedEntries, take_entry};
+use crate::join_refusal::{JoinRefusal, Unmatched};
 use crate::reads::read_text;
 use arch_base::NoMemory;
+use arch_judge::Index;
 use arch_model::TextRefusal;
 use disk_model::{Disk, EPOCHS};
 use epoch_file::{Seen, SeenList};
@@ -31,27 +31,27 @@ use std::marker::Model;
 ///
 /// If the disk tells what it holds, the messages among these are those of the first records, in
 /// order, the own ids of live entries differ, each deletion ends a live entry, and each blob id has
-/// one text. `known` is right of such entries.
+/// one text. `index` is the index of such entries.
 #[derive(Drop)]
 pub(crate) struct Joining {
     records: Vec<Record>,
-    known: Known,
     entries: Vec<StoredEntry>,
-    /// How many of the entries are messages.
-    count: usize,
+    /// The index of the entry of each of the first records.
+    places: Vec<usize>,
+    index: Index,
 }
 
 impl Model for Joining {
-    ghost use Rattle.std.specs.Prelude.{◌≡◌};
-    ghost use Rattle.epoch_store.specs.Joined.{Joined, Held, AreKnown, HaveEpochs, message_count};
+    ghost use Rattle.std.specs.Prelude.{◌≡◌, length};
+    ghost use Rattle.epoch_store.specs.Indexes.{IndexesStored};
+    ghost use Rattle.epoch_store.specs.Joined.{Joined, HaveEpochs, message_count};
 
     ghost Value = { Joined };
 
     ghost view = { λ j. record { records = j.records.items; entries = j.entries.items } };
 
-    ghost invariant = { λ j. Held (record { records = j.records.items; entries = j.entries.items })
-        (AreKnown j.entries.items j.known) × HaveEpochs j.records.items
-        × (j.count ≡ message_count j.entries.items) };
+    ghost invariant = { λ j. IndexesStored j.entries.items j.index × HaveEpochs j.records.items
+        × (length j.places.items ≡ message_count j.entries.items) };
 }
 
 /// Returns the records that have a message.
@@ -67,7 +67,7 @@ fn with_message(alloc: Global, records: &[Record]) -> Result<Vec<Record>, AllocE
 
 impl Joining {
     /// Starts with the records of a map, and no entry yet.
-    #[tactic(auto, using(crate::proofs::Firsts::messages_small))]
+    #[tactic(auto, using(crate::proofs::Firsts::messages_small, crate::proofs::Indexes::indexes_none))]
     pub(crate) fn new(alloc: Global, records: &Records) -> Result<Joining, NoMemory>
         ensures records { IfOk result (λ joining. joining.records ≡ messages records.now) }
         ensures entries { IfOk result (λ joining. joining.entries ≡ []) }
@@ -75,9 +75,9 @@ impl Joining {
         let records = with_message(alloc, records.as_slice())?;
         Ok(Joining {
             records,
-            known: known_of_none(alloc),
             entries: Vec::new(alloc),
-            count: 0,
+            places: Vec::new(alloc),
+            index: Index::new(alloc),
         })
     }
 
@@ -88,7 +88,7 @@ impl Joining {
         let EntryKind::Message = seen.kind else {
             return None;
         };
-        let record = self.records.get(self.count)?;
+        let record = self.records.get(self.places.len())?;
         if record.epoch != epoch {
             return None;
         }
@@ -96,6 +96,72 @@ impl Joining {
             return None;
         }
         Some(record.number)
+    }
+
+    /// Returns the message of a number among the entries.
+    fn message(&self, number: u32) -> Option<&StoredEntry>
+        ensures { MatchOption result (Unit {0}) (λ entry.
+            IsMessageOf self.now.entries number entry.now) }
+    {
+        let at = self
+            .records
+            .partition_point(|record| record.number < number);
+        let entry = self.entries.get(*self.places.get(at)?)?;
+        if entry.number != number {
+            return None;
+        }
+        match entry.seen.kind {
+            EntryKind::Message => Some(entry),
+            EntryKind::Deletion => None,
+        }
+    }
+
+    /// Returns the number of the live message that a deletion ends, if there is one.
+    ///
+    /// It has the deletion's own id and its blob id.
+    fn ended(&self, seen: &Seen) -> Result<Option<u32>, JoinRefusal>
+        requires { seen.now.kind ≡ Deletion }
+        ensures ended { IfOk result (λ found.
+            Held self.now (λ all. Ends all seen.now found)) }
+        ensures refused { IfErr result (λ refusal. refusal ≡ JoinRefusal.NoMemory) }
+    {
+        let Some(owner) = self.index.owner(seen.id.as_slice()) else {
+            return Ok(None);
+        };
+        // A message in the index is among the entries.
+        let Some(message) = self.message(owner.number) else {
+            return Err(JoinRefusal::NoMemory);
+        };
+        if message.seen.blob != seen.blob {
+            return Ok(None);
+        }
+        Ok(Some(owner.number))
+    }
+
+    /// Appends an entry, with its message's number.
+    fn with_entry(self, number: u32, epoch: u32, seen: Seen) -> Result<Joining, NoMemory>
+        ensures { IfOk result (λ joining. joining ≡ with_seen self number epoch seen) }
+    {
+        let Joining {
+            records,
+            mut entries,
+            mut places,
+            mut index,
+        } = self;
+        let entry = StoredEntry {
+            number,
+            epoch,
+            seen,
+        };
+        take_entry(*entries.allocator(), &mut index, &entry)?;
+        push_place(&mut places, &entry, entries.len())?;
+        entries.push(entry)?;
+        Ok(Joining {
+            records,
+            entries,
+            places,
+            index,
+        })
     }
 
     /// Joins one more message.
@@ -109,25 +175,10 @@ impl Joining {
         let Some(number) = self.wanted(epoch, &seen) else {
             return Err(JoinRefusal::Damaged { at });
         };
-        let Joining {
-            records,
-            mut known,
-            entries,
-            count,
-        } = self;
-        let alloc = *entries.allocator();
-        if !add_id(alloc, &mut known.ids, &seen.id)? {
+        if self.index.owner(seen.id.as_slice()).is_some() {
             return Err(JoinRefusal::Damaged { at });
         }
-        add_number(&mut known.numbers, &seen.blob, number)?;
-        add_first(&mut known.firsts, &seen.blob, entries.len())?;
-        let entries = with_entry(entries, number, epoch, seen)?;
-        Ok(Joining {
-            records,
-            known,
-            entries,
-            count: count + 1,
-        })
+        Ok(self.with_entry(number, epoch, seen)?)
     }
 
     /// Joins one more deletion.
@@ -138,23 +189,11 @@ impl Joining {
         ensures { JoinsOne self epoch seen true result }
     {
         let at = seen.at;
-        let Joining {
-            records,
-            mut known,
-            entries,
-            count,
-        } = self;
-        let Some(number) = take_number(&mut known.numbers, &seen.blob) else {
-            return Err(JoinRefusal::Damaged { at });
-        };
-        drop_id(&mut known.ids, &seen.id);
-        let entries = with_entry(entries, number, epoch, seen)?;
-        Ok(Joining {
-            records,
-            known,
-            entries,
-            count,
-        })
+        match self.ended(&seen) {
+            Ok(Some(number)) => Ok(self.with_entry(number, epoch, seen)?),
+            Ok(None) => Err(JoinRefusal::Damaged { at }),
+            Err(refusal) => Err(refusal),
+        }
     }
 
     /// Joins one more entry, if an older one with its blob id has the same text.
@@ -172,7 +211,7 @@ impl Joining {
         }
     }
 
-    /// Returns whether the first entry with the blob id of an entry, if there is one, has the same
+    /// Returns whether an older entry with the blob id of an entry, if there is one, has the same
     /// text. Both texts are read.
     fn has_same<D: Disk>(
         &self,
@@ -190,12 +229,16 @@ impl Joining {
             → Rose (D.faults disk.old) (D.faults disk.new) }
         ensures steady { result ≢ Err JoinRefusal.DiskFault → D.faults disk.new ≡ D.faults disk.old }
     {
-        let Some(first) = self.known.firsts.get(&seen.blob.0) else {
+        let Some(number) = self.index.number(&seen.blob) else {
             return Ok(true);
         };
-        let Some(older) = self.entries.get(*first) else {
-            return Ok(true);
+        // The number of a blob id is that of a message that has it.
+        let Some(older) = self.message(number) else {
+            return Err(JoinRefusal::NoMemory);
         };
+        if older.seen.blob != seen.blob {
+            return Err(JoinRefusal::NoMemory);
+        }
         let old = seen_text(alloc, disk, root, older.epoch, &older.seen)?;
         let new = seen_text(alloc, disk, root, epoch, seen)?;
         Ok(old.as_slice() == new.as_slice())
@@ -265,19 +308,19 @@ impl Joining {
     /// Returns the entries if each record of the map that has a message has one.
     ///
     /// Otherwise returns the epoch of the first message without an entry.
-    pub(crate) fn finish(self) -> Result<Vec<StoredEntry>, Unmatched>
+    pub(crate) fn finish(self) -> Result<IndexedEntries, Unmatched>
         ensures finished { Finishes self result }
-        ensures kept { IfOk result (λ kept. kept.items ≡ self.entries) }
+        ensures kept { IfOk result (λ kept. kept ≡ self.entries) }
         ensures small { IfErr result (λ refusal. refusal.epoch < epoch_count) }
     {
         let Joining {
             records,
-            known: _,
             entries,
-            count,
+            places,
+            index,
         } = self;
-        match records.get(count) {
-            None => Ok(entries),
+        match records.get(places.len()) {
+            None => Ok(IndexedEntries { entries, index }),
             Some(record) => Err(Unmatched {
                 epoch: record.epoch,
             }),
@@ -285,22 +328,15 @@ impl Joining {
     }
 }
 
-/// Appends an entry without its text.
-fn with_entry(
-    entries: Vec<StoredEntry>,
-    number: u32,
-    epoch: u32,
-    seen: Seen,
-) -> Result<Vec<StoredEntry>, NoMemory>
-    ensures { IfOk result (λ more. more.items ≡ entries.items ++ entry_seen number epoch seen ∷ []) }
+/// Appends the index of an entry, if that is a message.
+fn push_place(places: &mut Vec<usize>, entry: &StoredEntry, index: usize) -> Result<(), NoMemory>
+    ensures { OnOk result (length places.new.items ≡ (if is_message entry.now.seen.kind
+        then length places.old.items + 1 else length places.old.items)) }
 {
-    let mut entries = entries;
-    entries.push(StoredEntry {
-        number,
-        epoch,
-        seen,
-    })?;
-    Ok(entries)
+    if let EntryKind::Message = entry.seen.kind {
+        places.push(index)?;
+    }
+    Ok(())
 }
 
 /// Reads the text of an entry of an epoch.

@@ -7,8 +7,9 @@ mod entries;
 mod epochs;
 mod finding;
 mod first;
+mod indexing;
+mod join_refusal;
 mod joining;
-mod known;
 mod laws;
 mod next;
 mod opening_laws;
@@ -21,6 +22,7 @@ mod store;
 mod store_opening;
 
 pub use entries::StoredEntry;
+pub use indexing::take_entry;
 pub use laws::{law_of_recovery, law_of_stores};
 pub use opening_laws::{law_of_opening, law_of_undamaged_files};
 pub use refusal::InitRefusal;

@@ -10,7 +10,7 @@ ghost use Rattle.arch_model.specs.Archives.{Archive};
 ghost use Rattle.arch_model.specs.Validity.{IsArchive};
 ghost use Rattle.epoch_file.specs.Runs.{OnlyReads};
 ghost use Rattle.epoch_store.specs.Files.{epoch_file_of, map_file_of};
-ghost use Rattle.epoch_store.specs.Planning.{AppendsRecord, AreAnew, AreFrom, ArePlansIn, AreValid, AreWithin, ChangesNext, Closes, ClosesLast, FinishesPlans, IsIndexOf, IsReady, KeepsBut, KeepsEntry, LeavesOut, Opens, Pushes, RefusesEntry, TakesNext, no_planning, plans_with, refusal_in, with_gone};
+ghost use Rattle.epoch_store.specs.Planning.{AppendsRecord, AreAnew, AreFrom, ArePlansIn, AreValid, AreWithin, ChangesNext, Closes, ClosesLast, FinishesPlans, IsIndexOf, IsReady, KeepsBut, KeepsEntry, LeavesOut, OpensPlan, Pushes, RefusesEntry, PlansNext, no_planning, plans_with, refusal_in, with_gone};
 ghost use Rattle.epoch_store.specs.Stores.{InEpochs, IsEnd, stored_after};
 
 use crate::entries::StoredEntry;
@@ -89,7 +89,7 @@ impl Planner {
         blob: &ObjectId,
     ) -> Result<(), StoreRefusal>
         requires epoch { entry.now.epoch ≤ greatest_epoch }
-        ensures taken { TakesNext self.old file entry.now blob.now (D.content disk.old) self.new
+        ensures taken { PlansNext self.old file entry.now blob.now (D.content disk.old) self.new
             result }
         // Whatever the disk holds.
         ensures kept { OnOk result (KeepsBut (bytes_eq blob.now.0 entry.now.seen.blob.0)
@@ -160,7 +160,7 @@ impl Planner {
     /// Returns the plan of a file, which is the current one or a new one. Closes the current one if it
     /// is of another file.
     fn open(&mut self, file: FileName) -> Result<EpochPlan, NoMemory>
-        ensures opened { IfOk result (Opens self.old file self.new) }
+        ensures opened { IfOk result (OpensPlan self.old file self.new) }
     {
         let Some(plan) = self.current.take() else {
             return Ok(EpochPlan::new(file));

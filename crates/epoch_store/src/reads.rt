@@ -34,7 +34,7 @@ impl Store {
         self.root.next
     }
 
-    /// Returns the entries without their texts, in the order of their delivery.
+    /// Returns the entries without their texts, deletions among them, in the order in which they came.
     pub fn stored(&self) -> &[StoredEntry]
         ensures { result.now ≡ self.now.entries }
     {

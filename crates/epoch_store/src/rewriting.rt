@@ -1,21 +1,19 @@
 //! Purges and edits of the archive on a disk.
-ghost use Rattle.std.specs.Prelude.{◌≡◌, ◌+◌, ◌-◌, ◌^◌, ◌<◌, ◌≤◌, ℕ, List, [], Err, Some, None, IfOk, OnOk, OnErr, length};
+ghost use Rattle.std.specs.Prelude.{◌≡◌, ◌+◌, ◌-◌, ◌^◌, ◌<◌, ◌≤◌, ℕ, List, Err, Some, None, IfOk, OnOk, OnErr, length};
 ghost use Rattle.std.specs.List.{AllZip, Contains};
 ghost use Rattle.arch_base.specs.Counts.{RoseIf};
 ghost use Rattle.arch_base.specs.Moments.{last_moment};
-ghost use Rattle.disk_model.specs.Disk.{WhereTold, LeavesOnly};
+ghost use Rattle.disk_model.specs.Disk.{WhereTold};
 ghost use Rattle.disk_model.specs.Sizes.{greatest_epoch};
-ghost use Rattle.disk_model.specs.Synced.{IsSettled};
 ghost use Rattle.root_change.specs.Rewriting.{IsPlanWhole};
 ghost use Rattle.root_change.specs.Texts.{Measures, Texts};
 ghost use Rattle.mail_reader.specs.StorageTexts.{IsStorageText};
-ghost use Rattle.git_objects.specs.Objects.{blob_id_of};
-ghost use Rattle.arch_model.specs.Archives.{Archive, live, messages, text_of, with_entry, without_entries};
-ghost use Rattle.arch_model.specs.Delivery.{collision, new_epoch};
+ghost use Rattle.mail_commits.specs.Ids.{text_ids_of};
 ghost use Rattle.epoch_store.specs.declared.entries.StoredEntry.{StoredEntry};
 ghost use Rattle.epoch_store.specs.Planning.{AreFrom, ArePlansIn, AreUpTo, AreWhole, AreWithin, IsFrom, IsPlaceAfter, IsPlanWithin, IsReady, IsUpTo, Says, KeepsPlanned, PlansArchive, PlansEdit, PlansFirst, PlansOwn, PlansPurge, PlansUndamaged, is_anew, length_after, loses, no_planning};
 ghost use Rattle.epoch_file.specs.Runs.{OnlyReads};
-ghost use Rattle.epoch_store.specs.Stores.{DropsEntries, EditsEntries, EditsFiles, HasSizes, InEpochs, IsStoreWith, KeepsFiles, KeptOf, MayEdit, MayPurge, RecoversOneOf, Rewrites, SeesNoDamage, UnlessFailed, without_blob};
+ghost use Rattle.epoch_store.specs.Promises.{ChangesStore, Drops, Renews, Replaces};
+ghost use Rattle.epoch_store.specs.Stores.{DropsEntries, EditsEntries, EditsFiles, HasSizes, InEpochs, IsStoreWith, KeepsFiles, KeptOf, MayEdit, MayPurge, SeesNoDamage, without_blob};
 
 use crate::next::NextPlace;
 use crate::planning::Planner;
@@ -24,6 +22,7 @@ use arch_base::ObjectId;
 use disk_model::{Disk, FileKind, FileName, LAST_EPOCH};
 use epoch_file::{NewEntry, StoreRefusal, Written, entry_piece};
 use git_objects::EntryKind;
+use mail_commits::TextIds;
 use number_map::Record;
 use root_change::{PartPlan, RewriteRefusal, Source, map_file, place_at, rewrite};
 use root_slots::Root;
@@ -51,31 +50,10 @@ impl Store {
     ) -> Result<(), StoreRefusal>
         requires may { (number : ℕ) × MayPurge self.old number blob.now }
         requires sizes { WhereTold (HasSizes self.old) (D.content disk.old) }
-        ensures any_moment { (number : ℕ) (a : Archive) (cache text : List ℕ)
-            → IsStoreWith self.old cache a (D.content disk.old)
-            → self.old.root.sequence + 1 < 2 ^ 64
-            → text_of (messages a.entries) number ≡ Some text → blob_id_of text ≡ blob.now
-            → LeavesOnly D.moment D.left_since disk.old disk.new
-            (RecoversOneOf cache a [] (without_entries a text)) }
-        ensures done { (number : ℕ) (a : Archive) (cache text : List ℕ)
-            → IsStoreWith self.old cache a (D.content disk.old)
-            → self.old.root.sequence + 1 < 2 ^ 64
-            → text_of (messages a.entries) number ≡ Some text → blob_id_of text ≡ blob.now
-            → OnOk result (IsStoreWith self.new [] (without_entries a text) (D.content disk.new)) }
-        ensures settled { OnOk result (WhereTold IsSettled (D.content disk.new)) }
-        ensures sizes { OnOk result (WhereTold (HasSizes self.new) (D.content disk.new)) }
-        ensures goes_on { OnOk result (Rewrites self.old.root self.new.root) }
-        ensures slot { OnOk result (self.new.slot ≡ 1 - self.old.slot) }
+        ensures changes { ChangesStore D.content D.moment D.left_since D.faults D.reads disk.old disk.new
+            self.old self.new Renews (Drops blob.now) result }
         ensures dropped { OnOk result (DropsEntries self.old self.new blob.now) }
         ensures kept_files { OnOk result (KeepsFiles self.old self.new blob.now) }
-        ensures same { OnErr result (self.new ≡ self.old) }
-        // Memory runs out, and damage is found, before the first write: nothing changes on the disk.
-        ensures untouched { UnlessFailed result (OnlyReads D.content D.moment D.left_since D.faults
-            disk.old disk.new) }
-        ensures undamaged { PlansUndamaged self.old result (D.content disk.old) }
-        ensures cause { RoseIf (result ≡ Err StoreRefusal.DiskFault) (D.faults disk.old)
-            (D.faults disk.new) }
-        ensures fewest { D.reads disk.old ≤ D.reads disk.new }
     {
         let next = self.root.next;
         let planned = match self.plan_without(alloc, disk, blob) {
@@ -86,7 +64,8 @@ impl Store {
     }
 
     /// Drops each entry with the blob id of a live message, and appends a message in the same step: its
-    /// text takes the next number, at a moment in seconds since 1970.
+    /// text, which has these ids, takes the next number, at a moment in seconds since 1970 UTC. What is
+    /// said of archives here holds if no entry that stays has another text with its blob id.
     ///
     /// All is as at a purge. At each moment a crash leaves the archive before or the one after both.
     pub fn edit_text<D: Disk>(
@@ -95,44 +74,21 @@ impl Store {
         disk: &mut D,
         old: &ObjectId,
         text: &[u8],
+        ids: &TextIds,
         moment: u64,
     ) -> Result<(), StoreRefusal>
         requires may { (number : ℕ) × MayEdit self.old number old.now text.now }
+        requires ids { ids.now ≡ text_ids_of text.now }
         requires moment { moment ≤ last_moment }
         requires sizes { WhereTold (HasSizes self.old) (D.content disk.old) }
-        ensures any_moment { (number : ℕ) (a : Archive) (cache gone : List ℕ)
-            → IsStoreWith self.old cache a (D.content disk.old)
-            → self.old.root.sequence + 1 < 2 ^ 64
-            → text_of (live a.entries) number ≡ Some gone → blob_id_of gone ≡ old.now
-            → collision (without_entries a gone).entries text.now ≡ None
-            → LeavesOnly D.moment D.left_since disk.old disk.new
-            (RecoversOneOf cache a [] (with_entry (without_entries a gone)
-            (new_epoch (without_entries a gone)) text.now moment)) }
-        ensures done { (number : ℕ) (a : Archive) (cache gone : List ℕ)
-            → IsStoreWith self.old cache a (D.content disk.old)
-            → self.old.root.sequence + 1 < 2 ^ 64
-            → text_of (live a.entries) number ≡ Some gone → blob_id_of gone ≡ old.now
-            → collision (without_entries a gone).entries text.now ≡ None
-            → OnOk result (IsStoreWith self.new [] (with_entry (without_entries a gone)
-            (new_epoch (without_entries a gone)) text.now moment) (D.content disk.new)) }
-        ensures settled { OnOk result (WhereTold IsSettled (D.content disk.new)) }
-        ensures sizes { OnOk result (WhereTold (HasSizes self.new) (D.content disk.new)) }
-        ensures goes_on { OnOk result (Rewrites self.old.root self.new.root) }
-        ensures slot { OnOk result (self.new.slot ≡ 1 - self.old.slot) }
+        ensures changes { ChangesStore D.content D.moment D.left_since D.faults D.reads disk.old disk.new
+            self.old self.new Renews (Replaces old.now text.now moment) result }
         ensures edited { OnOk result (EditsEntries self.old self.new old.now text.now) }
         ensures kept_files { OnOk result (EditsFiles self.old self.new old.now) }
-        ensures same { OnErr result (self.new ≡ self.old) }
-        // Memory runs out, and damage is found, before the first write: nothing changes on the disk.
-        ensures untouched { UnlessFailed result (OnlyReads D.content D.moment D.left_since D.faults
-            disk.old disk.new) }
-        ensures undamaged { PlansUndamaged self.old result (D.content disk.old) }
-        ensures cause { RoseIf (result ≡ Err StoreRefusal.DiskFault) (D.faults disk.old)
-            (D.faults disk.new) }
-        ensures fewest { D.reads disk.old ≤ D.reads disk.new }
     {
         let next = self.root.next + 1;
         let mut planned = self.plan_without(alloc, disk, old)?;
-        self.plan_message(alloc, &mut planned, text, moment)?;
+        self.plan_message(alloc, &mut planned, text, ids, moment)?;
         self.carry_out(disk, planned, next)
     }
 
@@ -234,14 +190,16 @@ impl Store {
         }
     }
 
-    /// Plans one more message, with the next number.
+    /// Plans one more message, with the next number. Its text has these ids.
     fn plan_message(
         &self,
         alloc: Global,
         planned: &mut Planner,
         text: &[u8],
+        ids: &TextIds,
         moment: u64,
     ) -> Result<(), StoreRefusal>
+        requires ids { ids.now ≡ text_ids_of text.now }
         requires epochs { InEpochs planned.old.entries }
         requires storage { IsStorageText text.now }
         requires moment { moment ≤ last_moment }
@@ -257,21 +215,22 @@ impl Store {
         let entry = NewEntry {
             kind: EntryKind::Message,
             text,
+            ids: *ids,
             moment,
             parent: place.parent,
         };
-        let (piece, ids) = entry_piece(alloc, place.length, &entry)?;
+        let (piece, made) = entry_piece(alloc, place.length, &entry)?;
         planned.append(place.epoch, piece.as_slice())?;
         let line = Record {
             number: self.root.next,
             epoch: place.epoch,
-            blob: ids.blob,
+            blob: made.blob,
         };
         planned.append_record(&line)?;
         let written = Written {
             end: place.length + piece.as_slice().len() as u64,
-            blob: ids.blob,
-            commit: ids.commit,
+            blob: made.blob,
+            commit: made.commit,
         };
         let stored = self.new_entry(&place, self.root.next, &entry, &written, id);
         let Ok(()) = planned.entries.push(stored) else {
@@ -291,27 +250,11 @@ impl Store {
         requires next { (1 ≤ next) × (next ≤ 2147483648) }
         requires epochs { InEpochs planned.entries }
         requires sizes { WhereTold (HasSizes self.old) (D.content disk.old) }
-        ensures any_moment { (a b : Archive) (cache : List ℕ)
+        ensures changes { ChangesStore D.content D.moment D.left_since D.faults D.reads disk.old disk.new
+            self.old self.new Renews (λ a b. (cache : List ℕ)
             → IsStoreWith self.old cache a (D.content disk.old)
-            → self.old.root.sequence + 1 < 2 ^ 64
-            → PlansArchive self.old.root cache a b planned next
-            → LeavesOnly D.moment D.left_since disk.old disk.new (RecoversOneOf cache a [] b) }
-        ensures done { (a b : Archive) (cache : List ℕ)
-            → IsStoreWith self.old cache a (D.content disk.old)
-            → self.old.root.sequence + 1 < 2 ^ 64
-            → PlansArchive self.old.root cache a b planned next
-            → OnOk result (IsStoreWith self.new [] b (D.content disk.new)) }
-        ensures settled { OnOk result (WhereTold IsSettled (D.content disk.new)) }
-        ensures sizes { OnOk result (WhereTold (HasSizes self.new) (D.content disk.new)) }
-        ensures goes_on { OnOk result (Rewrites self.old.root self.new.root) }
+            → PlansArchive self.old.root cache a b planned next) result }
         ensures kept { OnOk result (KeepsPlanned self.old planned next self.new) }
-        ensures same { OnErr result (self.new ≡ self.old) }
-        ensures untouched { UnlessFailed result (OnlyReads D.content D.moment D.left_since D.faults
-            disk.old disk.new) }
-        ensures undamaged { WhereTold (λ _. SeesNoDamage result) (D.content disk.old) }
-        ensures cause { RoseIf (result ≡ Err StoreRefusal.DiskFault) (D.faults disk.old)
-            (D.faults disk.new) }
-        ensures fewest { D.reads disk.old ≤ D.reads disk.new }
     {
         // After the last sequence of 64 bits nothing is done. No archive takes so many commands.
         if self.root.sequence == u64::MAX {

@@ -1,5 +1,5 @@
 //! The archive on a disk, as it is kept in memory.
-ghost use Rattle.std.specs.Prelude.{◌≡◌, ◌≤◌, ◌<◌, ◌+◌, ◌-◌, ◌^◌, ℕ, List, [], Err, Some, None, IsSome, IfOk, OnOk, OnErr, ◌==◌, if◌then◌else◌, decimal, length};
+ghost use Rattle.std.specs.Prelude.{◌≡◌, ◌≤◌, ◌<◌, ◌+◌, ◌-◌, ◌^◌, ℕ, List, [], Err, Some, None, IsSome, IfOk, OnOk, ◌==◌, if◌then◌else◌, decimal, length};
 ghost use Rattle.arch_base.specs.Counts.{RoseIf};
 ghost use Rattle.disk_model.specs.Disk.{WhereTold, LeavesOnly};
 ghost use Rattle.disk_model.specs.Sizes.{greatest_epoch, epoch_count};
@@ -7,14 +7,15 @@ ghost use Rattle.disk_model.specs.Synced.{IsSettled};
 ghost use Rattle.mail_reader.specs.Ids.{own_id as own_id_in};
 ghost use Rattle.mail_reader.specs.Content.{content_id_of};
 ghost use Rattle.git_objects.specs.Objects.{blob_id_of};
-ghost use Rattle.arch_model.specs.Archives.{Archive, Entry, with_entry, with_deletion, live, text_of, empty_archive};
-ghost use Rattle.arch_model.specs.Delivery.{new_epoch, collision};
+ghost use Rattle.mail_commits.specs.Ids.{text_ids_of};
+ghost use Rattle.arch_model.specs.Archives.{Archive, Entry, empty_archive};
 ghost use Rattle.arch_base.specs.Moments.{last_moment};
 ghost use Rattle.epoch_file.specs.Appending.{written_of};
 ghost use Rattle.root_slots.specs.Valid.{IsRoot};
 ghost use Rattle.arch_base.specs.Configs.{IsConfig};
 ghost use Rattle.epoch_store.specs.First.{MakingLeaves, MakingAnswers, RefusesToMake};
 ghost use Rattle.epoch_store.specs.declared.refusal.InitRefusal.{InitRefusal};
+ghost use Rattle.epoch_store.specs.Promises.{Adds, Appends, ChangesStore, Ends};
 ghost use Rattle.epoch_store.specs.Stores.{IsDiskOf, IsStoreWith, Keeps, IsEnd, IsNextPlace, next_sequence, place_of, root_after, RecoversEitherWith, HasSizes, GoesOn, Accepts, MayEnd, IsMessage, IsDeletion, GoesNext, EndsNext, with_message, with_ending, view_after, view_ended, root_ended, stored_at, AddsEntry, EndsAt, EndsEntry, SeesNoDamage};
 
 use crate::entries::StoredEntry;
@@ -26,7 +27,8 @@ use disk_model::{Disk, LAST_EPOCH, RECORD_SIZE};
 use epoch_file::{NewEntry, Seen, StoreRefusal, Written, append_entry};
 use git_objects::EntryKind;
 use itoa::Buffer;
-use mail_reader::{content_id, own_id};
+use mail_commits::TextIds;
+use mail_reader::own_id;
 use number_map::{Record, append};
 use root_change::{epoch_file, map_file, replace_root};
 use root_slots::{Place, Root, Slot};
@@ -39,6 +41,10 @@ pub(crate) const MOST: u64 = 1 << 62;
 /// The archive on a disk.
 ///
 /// Keeps the current root, and each entry without its text. Its contract view is what it keeps.
+///
+/// A call that writes needs files of at least the sizes that the root names, as every call leaves them
+/// at which the disk didn't fail. What such a call promises of archives holds while the sequence of
+/// the root is below 2^64 - 1. Each `Ok` raises it by one.
 #[derive(Drop)]
 pub struct Store {
     pub(crate) root: Root,
@@ -203,6 +209,7 @@ impl Store {
         requires left { self.now.root.next ≤ self.now.root.config.max }
         requires sizes { WhereTold (HasSizes self.now) (D.content disk.old) }
         requires entry { IsMessage place.now entry.now }
+        requires ids { entry.now.ids ≡ text_ids_of entry.now.text.now }
         requires moment { entry.now.moment ≤ last_moment }
         ensures any_moment { (a : Archive) (cache : List ℕ)
             → IsStoreWith self.now cache a (D.content disk.old)
@@ -215,11 +222,8 @@ impl Store {
             → IfOk result (λ made. IsStoreWith (view_after self.now a made.0 place.now entry.now)
             cache (with_message a place.now entry.now) (D.content disk.new)) }
         ensures settled { OnOk result (WhereTold IsSettled (D.content disk.new)) }
-        ensures sizes { IfOk result (λ made. WhereTold (HasSizes (record {
-          root = made.0;
-          slot = 1 - self.now.slot;
-          entries = self.now.entries;
-        })) (D.content disk.new)) }
+        ensures sizes { IfOk result (λ made.
+            WhereTold (HasSizes (record self.now { root = made.0 })) (D.content disk.new)) }
         ensures root { IfOk result (λ made. made.0 ≡ root_after self.now.root place.now made.1.end) }
         ensures written { IfOk result (λ made. made.1 ≡ written_of place.now.length entry.now) }
         ensures valid { IfOk result (λ made. IsRoot made.0) }
@@ -259,6 +263,7 @@ impl Store {
         requires short { place.now.length < 2 ^ 62 }
         requires sizes { WhereTold (HasSizes self.now) (D.content disk.old) }
         requires entry { IsDeletion place.now entry.now }
+        requires ids { entry.now.ids ≡ text_ids_of entry.now.text.now }
         requires moment { entry.now.moment ≤ last_moment }
         ensures any_moment { (a : Archive) (cache : List ℕ)
             → IsStoreWith self.now cache a (D.content disk.old)
@@ -272,11 +277,8 @@ impl Store {
             IsStoreWith (view_ended self.now a made.0 place.now number entry.now)
             cache (with_ending a place.now number entry.now) (D.content disk.new)) }
         ensures settled { OnOk result (WhereTold IsSettled (D.content disk.new)) }
-        ensures sizes { IfOk result (λ made. WhereTold (HasSizes (record {
-          root = made.0;
-          slot = 1 - self.now.slot;
-          entries = self.now.entries;
-        })) (D.content disk.new)) }
+        ensures sizes { IfOk result (λ made.
+            WhereTold (HasSizes (record self.now { root = made.0 })) (D.content disk.new)) }
         ensures root { IfOk result (λ made. made.0 ≡ root_ended self.now.root place.now made.1.end) }
         ensures written { IfOk result (λ made. made.1 ≡ written_of place.now.length entry.now) }
         ensures valid { IfOk result (λ made. IsRoot made.0) }
@@ -308,6 +310,7 @@ impl Store {
         requires written { written.now ≡ written_of place.now.length entry.now }
         requires short { place.now.length < 2 ^ 62 }
         requires parent { entry.now.parent ≡ place.now.parent }
+        requires ids { entry.now.ids ≡ text_ids_of entry.now.text.now }
         requires id { own_id_in entry.now.text.now ≡ Some id }
         ensures epoch { result.epoch ≡ place.now.epoch }
         ensures number { result.number ≡ number }
@@ -347,12 +350,14 @@ impl Store {
                 commit: written.commit,
                 moment: entry.moment,
                 id,
-                content: content_id(entry.text),
+                content: entry.ids.content,
             },
         }
     }
 
-    /// Appends a message: its text takes the next number, at a moment in seconds since 1970.
+    /// Appends a message: its text, which has these ids, takes the next number, at a moment in seconds
+    /// since 1970 UTC. What is said of archives here holds if no entry has another text with the same
+    /// blob id.
     ///
     /// At each moment a crash leaves the archive before or the one with the message, and after `Ok`
     /// the latter. `DiskFault` comes only if the disk's count of faults rose: one of the two
@@ -363,35 +368,16 @@ impl Store {
         alloc: Global,
         disk: &mut D,
         text: &[u8],
+        ids: &TextIds,
         moment: u64,
     ) -> Result<(), StoreRefusal>
         requires accepts { Accepts self.old text.now }
+        requires ids { ids.now ≡ text_ids_of text.now }
         requires moment { moment ≤ last_moment }
         requires sizes { WhereTold (HasSizes self.old) (D.content disk.old) }
-        ensures any_moment { (a : Archive) (cache : List ℕ)
-            → IsStoreWith self.old cache a (D.content disk.old)
-            → self.old.root.sequence + 1 < 2 ^ 64 → collision a.entries text.now ≡ None
-            → LeavesOnly D.moment D.left_since disk.old disk.new
-            (RecoversEitherWith cache a (with_entry a (new_epoch a) text.now moment)) }
-        ensures done { (a : Archive) (cache : List ℕ)
-            → IsStoreWith self.old cache a (D.content disk.old)
-            → self.old.root.sequence + 1 < 2 ^ 64 → collision a.entries text.now ≡ None
-            → OnOk result (IsStoreWith self.new cache (with_entry a (new_epoch a) text.now moment)
-            (D.content disk.new)) }
-        ensures settled { OnOk result (WhereTold IsSettled (D.content disk.new)) }
-        ensures sizes { OnOk result (WhereTold (HasSizes self.new) (D.content disk.new)) }
-        ensures sequence { OnOk result (self.new.root.sequence
-            ≡ next_sequence self.old.root.sequence) }
-        // The root is committed to the other slot, and each file is where the formats have it.
-        ensures goes_on { OnOk result (GoesOn self.old.root self.new.root) }
-        ensures slot { OnOk result (self.new.slot ≡ 1 - self.old.slot) }
+        ensures changes { ChangesStore D.content D.moment D.left_since D.faults D.reads disk.old disk.new
+            self.old self.new Appends (Adds text.now moment) result }
         ensures added { OnOk result (AddsEntry self.old self.new text.now) }
-        ensures same { OnErr result (self.new ≡ self.old) }
-        ensures refused { result ≡ Err StoreRefusal.NoMemory → disk.new ≡ disk.old }
-        ensures undamaged { SeesNoDamage result }
-        ensures cause { RoseIf (result ≡ Err StoreRefusal.DiskFault) (D.faults disk.old)
-            (D.faults disk.new) }
-        ensures count { D.reads disk.new ≡ D.reads disk.old }
     {
         let place = self.next_place();
         if place.length >= MOST {
@@ -404,6 +390,7 @@ impl Store {
         let entry = NewEntry {
             kind: EntryKind::Message,
             text,
+            ids: *ids,
             moment,
             parent: place.parent,
         };
@@ -416,8 +403,8 @@ impl Store {
         Ok(())
     }
 
-    /// Appends the deletion of a live message, which has this number and text, at a moment in
-    /// seconds since 1970.
+    /// Appends the deletion of a live message, which has this number and text, and these ids of the text,
+    /// at a moment in seconds since 1970 UTC.
     ///
     /// No number is taken, and no record is written. At each moment a crash leaves the archive before
     /// or the one with the deletion, and after `Ok` the latter. `DiskFault` comes only if the disk's
@@ -430,37 +417,16 @@ impl Store {
         disk: &mut D,
         number: u32,
         text: &[u8],
+        ids: &TextIds,
         moment: u64,
     ) -> Result<(), StoreRefusal>
         requires may { MayEnd self.old number text.now }
+        requires ids { ids.now ≡ text_ids_of text.now }
         requires moment { moment ≤ last_moment }
         requires sizes { WhereTold (HasSizes self.old) (D.content disk.old) }
-        ensures any_moment { (a : Archive) (cache : List ℕ)
-            → IsStoreWith self.old cache a (D.content disk.old)
-            → self.old.root.sequence + 1 < 2 ^ 64
-            → text_of (live a.entries) number ≡ Some text.now
-            → LeavesOnly D.moment D.left_since disk.old disk.new
-            (RecoversEitherWith cache a (with_deletion a number (new_epoch a) text.now moment)) }
-        ensures done { (a : Archive) (cache : List ℕ)
-            → IsStoreWith self.old cache a (D.content disk.old)
-            → self.old.root.sequence + 1 < 2 ^ 64
-            → text_of (live a.entries) number ≡ Some text.now
-            → OnOk result (IsStoreWith self.new cache
-            (with_deletion a number (new_epoch a) text.now moment) (D.content disk.new)) }
-        ensures settled { OnOk result (WhereTold IsSettled (D.content disk.new)) }
-        ensures sizes { OnOk result (WhereTold (HasSizes self.new) (D.content disk.new)) }
-        ensures sequence { OnOk result (self.new.root.sequence
-            ≡ next_sequence self.old.root.sequence) }
-        // The root is committed to the other slot, and each file is where the formats have it.
-        ensures goes_on { OnOk result (GoesOn self.old.root self.new.root) }
-        ensures slot { OnOk result (self.new.slot ≡ 1 - self.old.slot) }
+        ensures changes { ChangesStore D.content D.moment D.left_since D.faults D.reads disk.old disk.new
+            self.old self.new Appends (Ends number text.now moment) result }
         ensures ended { OnOk result (EndsEntry self.old self.new number text.now) }
-        ensures same { OnErr result (self.new ≡ self.old) }
-        ensures refused { result ≡ Err StoreRefusal.NoMemory → disk.new ≡ disk.old }
-        ensures undamaged { SeesNoDamage result }
-        ensures cause { RoseIf (result ≡ Err StoreRefusal.DiskFault) (D.faults disk.old)
-            (D.faults disk.new) }
-        ensures count { D.reads disk.new ≡ D.reads disk.old }
     {
         let place = self.next_place();
         if place.length >= MOST {
@@ -473,6 +439,7 @@ impl Store {
         let entry = NewEntry {
             kind: EntryKind::Deletion,
             text,
+            ids: *ids,
             moment,
             parent: place.parent,
         };

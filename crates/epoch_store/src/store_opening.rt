@@ -13,17 +13,19 @@ ghost use Rattle.disk_files.specs.Listing.{AreAllNames};
 ghost use Rattle.root_change.specs.Texts.{Texts, StandsFor, OnDisk};
 ghost use Rattle.epoch_store.specs.Files.{as_read};
 ghost use Rattle.epoch_store.specs.Finding.{Finds};
+ghost use Rattle.epoch_store.specs.Indexes.{IndexesStored};
 ghost use Rattle.epoch_store.specs.Joined.{AreBefore};
 ghost use Rattle.epoch_store.specs.Settling.{FoundOn, IsSettledBy};
 ghost use Rattle.epoch_store.specs.Reads.{HasTexts};
 ghost use Rattle.epoch_store.specs.Stores.{IsStoreWith, HasSizes};
-ghost use Rattle.epoch_store.specs.Opens.{RecoversOfWith, AllRecoverWith, ReadsWith, Opens, OpensWell, SyncsBy, RefusesBefore, SyncsFirst, SyncsAtMost, OnSynced};
+ghost use Rattle.epoch_store.specs.Opens.{store_of, RecoversOfWith, AllRecoverWith, ReadsWith, Opens, OpensWell, SyncsBy, RefusesBefore, SyncsFirst, SyncsAtMost, OnSynced};
 
 use crate::finding::{Found, find};
 use crate::laws::law_of_recovery;
 use crate::opening_laws::{law_of_opening, law_of_undamaged_files};
 use crate::settling::sweep;
 use crate::store::Store;
+use arch_judge::Index;
 use arch_model::OpenRefusal;
 use disk_files::{FileNames, file_names};
 use disk_model::{Disk, WalkRefusal};
@@ -36,6 +38,7 @@ fn find_synced<D: Disk>(alloc: Global, disk: &mut D) -> Result<Found, OpenRefusa
     ensures synced { SyncsBy result (D.content disk.old) (D.content disk.new) }
     ensures root { IfOk result (λ found. IsRoot found.root) }
     ensures epochs { IfOk result (λ found. AreBefore epoch_count found.entries.items) }
+    ensures indexed { IfOk result (λ found. IndexesStored found.entries.items found.index) }
     ensures any_moment { LeavesOnly D.moment D.left_since disk.old disk.new
         (Image (D.content disk.old)) }
     ensures cause { RoseIf (result ≡ Err OpenRefusal.DiskFault) (D.faults disk.old) (D.faults disk.new) }
@@ -87,7 +90,7 @@ fn settle<D: Disk>(alloc: Global, disk: &mut D, slot: Slot, root: &Root) -> Resu
 }
 
 impl Store {
-    /// Opens the archive on a disk.
+    /// Opens the archive on a disk, and returns its store and the index of its entries.
     ///
     /// Syncs first, reads all that the current root names, and only then changes the disk: writes
     /// the current root to the other slot if that is shut, and leaves it shut; cuts tails; and
@@ -99,13 +102,14 @@ impl Store {
     /// epochs in order. Neither comes if the files stand for an archive. `DiskFault` comes only if
     /// the disk's count of faults rose, and `NoMemory` only if memory runs out. Every error but
     /// `DiskFault` leaves all files as they read.
-    pub fn open<D: Disk>(alloc: Global, disk: &mut D) -> Result<Store, OpenRefusal>
+    pub fn open<D: Disk>(alloc: Global, disk: &mut D) -> Result<(Store, Index), OpenRefusal>
         ensures any_moment { (may : List (Option Archive)) (cache : List ℕ)
             → AllRecoverWith cache may (D.content disk.old)
             → LeavesOnly D.moment D.left_since disk.old disk.new (RecoversOfWith cache may) }
-        ensures answer { WhereTold (λ k. Opens (as_read k) result) (D.content disk.old) }
+        ensures answer { WhereTold (λ k. Opens (as_read k) (store_of result)) (D.content disk.old) }
         ensures done { (a : Archive) (cache : List ℕ) → ReadsWith cache a (D.content disk.old)
-            → IfOk result (λ store. IsStoreWith store cache a (D.content disk.new)) }
+            → IfOk result (λ opened. IsStoreWith opened.0 cache a (D.content disk.new)) }
+        ensures indexed { IfOk result (λ opened. IndexesStored opened.0.entries opened.1) }
         ensures well { (a : Archive) (cache : List ℕ) → ReadsWith cache a (D.content disk.old)
             → OpensWell result }
         ensures refused { RefusesBefore result (D.content disk.old) (D.content disk.new) }
@@ -117,11 +121,11 @@ impl Store {
         ensures settled { OnOk result (WhereTold IsSettled (D.content disk.new)) }
         // Whatever the files are: all bytes that count stay, those of a cache too, no other file is
         // left, and no root is committed.
-        ensures kept { IfOk result (λ store. Told (IsSettledBy store.root store.slot)
+        ensures kept { IfOk result (λ opened. Told (IsSettledBy opened.0.root opened.0.slot)
             (D.content disk.old) (D.content disk.new)) }
-        ensures sizes { IfOk result (λ store. WhereTold (HasSizes store) (D.content disk.new)) }
+        ensures sizes { IfOk result (λ opened. WhereTold (HasSizes opened.0) (D.content disk.new)) }
         // Each text that was read when it was opened is in its place.
-        ensures texts { IfOk result (λ store. WhereTold (HasTexts store) (D.content disk.new)) }
+        ensures texts { IfOk result (λ opened. WhereTold (HasTexts opened.0) (D.content disk.new)) }
         ensures cause { RoseIf (result ≡ Err OpenRefusal.DiskFault) (D.faults disk.old)
             (D.faults disk.new) }
     {
@@ -134,11 +138,14 @@ impl Store {
             Err(refusal) => return Err(refusal),
         };
         match settle(alloc, disk, found.slot, &found.root) {
-            Ok(()) => Ok(Store {
-                root: found.root,
-                slot: found.slot,
-                entries: found.entries,
-            }),
+            Ok(()) => {
+                let store = Store {
+                    root: found.root,
+                    slot: found.slot,
+                    entries: found.entries,
+                };
+                Ok((store, found.index))
+            }
             Err(refusal) => Err(refusal),
         }
     }

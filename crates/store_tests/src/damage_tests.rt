@@ -302,7 +302,7 @@ fn has_one_root(disk: &mut MemDisk) -> Result<bool, DiskFault> {
 
 /// Appends the second message to the archive of one on a disk, and returns whether both are found.
 fn goes_on(alloc: Global, disk: &mut MemDisk) -> Result<bool, Fail> {
-    let mut store = Store::open(alloc, disk)?;
+    let (mut store, _index) = Store::open(alloc, disk)?;
     put(alloc, disk, &mut store, SECOND)?;
     is_opened(alloc, disk, 3)
 }

@@ -12,6 +12,7 @@ use epoch_file::{NewEntry, StoreRefusal};
 use epoch_store::{Store, StoredEntry};
 use epoch_tests::{FIRST, MOMENT, OTHER, SECOND, THIRD, add_entry, empty_disk, write};
 use git_objects::{EntryKind, blob_id};
+use mail_commits::text_ids;
 use number_map::{Record, append};
 use std::alloc::Global;
 use std::test::Fail;
@@ -91,6 +92,7 @@ fn write_epoch(
         let new = NewEntry {
             kind: *kind,
             text,
+            ids: text_ids(text),
             moment: MOMENT,
             parent,
         };
@@ -147,7 +149,7 @@ fn write_case(alloc: Global, disk: &mut MemDisk, case: &Case) -> Result<(), Stor
 /// Returns what the opening of a disk finds.
 fn opened(alloc: Global, disk: &mut MemDisk) -> Result<Outcome, OpenRefusal> {
     match Store::open(alloc, disk) {
-        Ok(store) => Ok(Outcome::Joined(store.stored().len())),
+        Ok((store, _index)) => Ok(Outcome::Joined(store.stored().len())),
         Err(OpenRefusal::Damaged { file, at }) if file.kind == FileKind::Epoch => {
             Ok(Outcome::Damaged {
                 epoch: file.number,
@@ -183,7 +185,7 @@ fn are_placed(entries: &[StoredEntry], wanted: &[Placed]) -> bool {
 /// Returns whether the opening of an archive finds entries with these numbers, epochs and offsets.
 pub(crate) fn opens_with(alloc: Global, case: &Case, wanted: &[Placed]) -> Result<bool, Fail> {
     let mut disk = written(alloc, case)?;
-    let store = Store::open(alloc, &mut disk)?;
+    let (store, _index) = Store::open(alloc, &mut disk)?;
     Ok(are_placed(store.stored(), wanted))
 }
 
@@ -367,7 +369,7 @@ static OWN: [Case; 7] = [
 /// No file can show this, since no two texts of one blob id are known.
 fn a_blob_id_has_one_text()
     ensures { (old new : Joined) (epoch : ℕ) (seen : Seen)
-        → JoinsOne old epoch seen false (Ok new) → Held old ⊥ }
+        → JoinsOne old epoch seen false (Ok new) → Held old (λ entries. ⊥) }
 {}
 
 #[test]

@@ -13,6 +13,7 @@ use epoch_file::StoreRefusal;
 use epoch_store::{InitRefusal, Store, StoredEntry};
 use epoch_tests::{FIRST, FIRST_ID, MOMENT, SECOND, SECOND_COMMIT, SECOND_ID, empty_disk, write};
 use git_objects::{EntryKind, blob_id};
+use mail_commits::text_ids;
 use mail_reader::{is_stored, own_id};
 use std::alloc::Global;
 use std::process::Abort;
@@ -100,7 +101,7 @@ pub(crate) fn put<D: Disk>(
     if !accepts(store, text) {
         return Err(StoreRefusal::Damaged { file: ROOT, at: 0 });
     }
-    store.deliver_entry(alloc, disk, text, MOMENT)
+    store.deliver_entry(alloc, disk, text, &text_ids(text), MOMENT)
 }
 
 /// Makes an archive.

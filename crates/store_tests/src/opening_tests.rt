@@ -43,7 +43,7 @@ fn listed(alloc: Global, store: &Store) -> Result<Listing, NoMemory> {
 /// Returns what the archive has that is opened on a disk, or `None` if there is no archive.
 pub(crate) fn opened<D: Disk>(alloc: Global, disk: &mut D) -> Result<Option<Listing>, OpenRefusal> {
     match Store::open(alloc, disk) {
-        Ok(store) => Ok(Some(listed(alloc, &store)?)),
+        Ok((store, _index)) => Ok(Some(listed(alloc, &store)?)),
         Err(OpenRefusal::NoArchive) => Ok(None),
         Err(refusal) => Err(refusal),
     }

@@ -21,6 +21,7 @@ use epoch_tests::{
     FIRST, FIRST_ID, LATER, MOMENT, OTHER, REMOVAL_COMMIT, SECOND, THIRD, empty_disk,
 };
 use git_objects::{EntryKind, blob_id};
+use mail_commits::text_ids;
 use mail_reader::own_id;
 use std::alloc::Global;
 use std::test::Fail;
@@ -78,7 +79,7 @@ pub(crate) fn remove_first<D: Disk>(
     if !may_end(store, 1, FIRST) {
         return Err(StoreRefusal::Damaged { file: ROOT, at: 3 });
     }
-    store.remove_entry(alloc, disk, 1, FIRST, LATER)
+    store.remove_entry(alloc, disk, 1, FIRST, &text_ids(FIRST), LATER)
 }
 
 /// Makes an archive, appends the first message to it, and removes it.

@@ -1,4 +1,4 @@
-use Rattle.std.proofs.Common.{◌≡◌, ◌+◌, ◌∙◌, sym, subst, ap, take, length, arith, List}
+use Rattle.std.proofs.Common.{◌≡◌, ◌+◌, sym, subst, take, arith, List}
 use Rattle.std.proofs.lemmas.List.{take_all}
 use Rattle.arch_judge.specs.declared.index.Index.{Index}
 use Rattle.epoch_store.specs.declared.entries.StoredEntry.{StoredEntry}

@@ -1,4 +1,4 @@
-use Rattle.std.proofs.Common.{◌≡◌, ◌+◌, ◌-◌, ◌<◌, ◌≤◌, ◌∙◌, sym, subst, ℕ, take, length, refl, arith}
+use Rattle.std.proofs.Common.{◌≡◌, ◌+◌, ◌-◌, ◌<◌, subst, ℕ, take, length, refl, arith}
 use Rattle.epoch_store.specs.declared.entries.StoredEntry.{StoredEntry}
 use Rattle.epoch_store.specs.Stores.{without_blob}
 use Rattle.archive_core.proofs.Dropping.{FrontWithout, is-other, is-same, none-ended, front-none, front-stays, front-goes, left-some, front-all}

@@ -1,6 +1,6 @@
 use Rattle.std.proofs.Common.{Ok, Err}
 use Rattle.arch_model.specs.declared.opening.OpenRefusal.TheVariants.{Damaged}
-use Rattle.epoch_store.specs.declared.known.JoinRefusal.TheVariants as join
+use Rattle.epoch_store.specs.declared.join_refusal.JoinRefusal.TheVariants as join
 use Rattle.epoch_store.specs.Joined.{TakesEpoch}
 use Rattle.epoch_store.specs.Finding.{ReadsSeen}
 use Rattle.epoch_store.proofs.FindingTold.{told_so}

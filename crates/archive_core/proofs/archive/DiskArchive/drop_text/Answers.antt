@@ -1,21 +1,19 @@
-use Rattle.std.proofs.Common.{◌≡◌, ◌∙◌, [], ap, subst, sym, ℕ, Option, Ok, Err, List}
-use Rattle.disk_model.specs.Disk.{LeavesOnly}
-use Rattle.arch_model.specs.Archives.{Archive}
+use Rattle.std.proofs.Common.{refl, ◌≡◌, ◌∙◌, ap, subst, sym, Ok, List}
 use Rattle.epoch_store.specs.declared.entries.StoredEntry.{StoredEntry}
-use Rattle.epoch_store.specs.Stores.{View, IsStoreWith, Keeps, RecoversOneOf, without_blob}
+use Rattle.epoch_store.specs.Stores.{View, Keeps, without_blob}
+use Rattle.epoch_store.specs.Promises.{ChangesStore, Drops, Renews}
+use Rattle.epoch_store.proofs.Changing.{unstarted}
 use Rattle.archive_core.specs.Kept.{IndexesKept}
 use Rattle.archive_core.specs.Placing.{message_places, PlacesRise, IsLiveWith}
-use Rattle.archive_core.specs.Rewriting.{Drops, RewritesAs}
 use Rattle.archive_core.proofs.Dropping.{indexes-dropped, places-dropped, rises-without}
-use Rattle.archive_core.proofs.Redone.{rewrites-none, rewrites-refused, rewrites-done}
 use Rattle.archive_core.proofs.WithoutText.{lost-live, message-agrees}
 use Rattle.archive_core.proofs.archive.DiskArchive.drop_text.Goals as goal
 
-pub returns-in_default-clause-drops : goal.returns-in_default-clause-drops
-returns-in_default-clause-drops g c = rewrites-none g.D.Disk.content g.D.Disk.moment g.D.Disk.left_since g.D.Disk.faults g.met.D.Disk.only_now c.law_of_stores.ensures.recovers c.args.disk.now c.args.self.now (Drops c.args.blob.now)
+pub returns-in_default-clause-changes : goal.returns-in_default-clause-changes
+returns-in_default-clause-changes g c = unstarted (g.met.D.Disk.only_now c.args.disk.now) refl refl
 
-pub returns-in_default-places_without-clause-drops : goal.returns-in_default-places_without-clause-drops
-returns-in_default-places_without-clause-drops g c = rewrites-none g.D.Disk.content g.D.Disk.moment g.D.Disk.left_since g.D.Disk.faults g.met.D.Disk.only_now c.law_of_stores.ensures.recovers c.args.disk.now c.args.self.now (Drops c.args.blob.now)
+pub returns-in_default-places_without-clause-changes : goal.returns-in_default-places_without-clause-changes
+returns-in_default-places_without-clause-changes g c = unstarted (g.met.D.Disk.only_now c.args.disk.now) refl refl
 
 pub invariant_of-self : goal.invariant_of-self
 invariant_of-self g c =
@@ -29,15 +27,6 @@ invariant_of-self g c =
       subst PlacesRise (sym placed) (rises-without gone.0 old.entries 0 0 0 rise),
     )
 
-pub returns-in-Ok-purge_text-clause-drops : goal.returns-in-Ok-purge_text-clause-drops
-returns-in-Ok-purge_text-clause-drops g c =
-    subst (λ (u : View). RewritesAs g.D.Disk.content g.D.Disk.moment g.D.Disk.left_since g.D.Disk.faults c.args.disk.now c.purge_text.new.disk u c.purge_text.new.self (Drops c.args.blob.now) (Ok c.live_with-live.result)) c.self.view_is
-    (rewrites-done g.D.Disk.content g.D.Disk.moment g.D.Disk.left_since g.D.Disk.faults g.met.D.Disk.only_now c.args.disk.now c.purge_text.new.disk c.self.inside.store c.purge_text.new.self (Drops c.args.blob.now)
-    (λ a b cache store room made. subst (λ (e : Archive). LeavesOnly g.D.Disk.moment g.D.Disk.left_since c.args.disk.now c.purge_text.new.disk (RecoversOneOf cache a [] e)) (sym made.is)
-    (c.purge_text.ensures.any_moment made.number a cache made.text store room made.shown made.blob_is))
-    c.live_with-live.result (λ a b cache store room made. subst (λ (e : Archive). IsStoreWith c.purge_text.new.self [] e (g.D.Disk.content c.purge_text.new.disk)) (sym made.is) (c.in-Ok-purge_text.ensures.done made.number a cache made.text store room made.shown made.blob_is))
-    c.in-Ok-purge_text.ensures.settled c.in-Ok-purge_text.ensures.sizes c.in-Ok-purge_text.ensures.goes_on c.in-Ok-purge_text.ensures.slot c.in-Ok-purge_text.ensures.cause)
-
 pub returns-in-Ok-purge_text-clause-lives : goal.returns-in-Ok-purge_text-clause-lives
 returns-in-Ok-purge_text-clause-lives g c = λ number a text keeps is blob_is.
     let v : View = c.self.inside.store in
@@ -46,10 +35,7 @@ returns-in-Ok-purge_text-clause-lives g c = λ number a text keeps is blob_is.
     let found : IsLiveWith places v.entries c.args.blob.now c.live_with-live.result = subst (λ (es : List StoredEntry). IsLiveWith places es c.args.blob.now c.live_with-live.result) c.stored-3.ensures c.live_with-live.ensures in
     lost-live v a places c.live_with-live.result c.args.blob.now text (subst (λ (u : View). Keeps u a) (sym c.self.view_is) keeps) placed (message-agrees a number text keeps.valid is) blob_is found
 
-pub returns-in-Err-clause-drops : goal.returns-in-Err-clause-drops
-returns-in-Err-clause-drops g c =
-    subst (λ (u : View). RewritesAs g.D.Disk.content g.D.Disk.moment g.D.Disk.left_since g.D.Disk.faults c.args.disk.now c.purge_text.new.disk u c.purge_text.new.self (Drops c.args.blob.now) (Err c.in-Err.refusal)) c.self.view_is
-    (rewrites-refused g.D.Disk.content g.D.Disk.moment g.D.Disk.left_since g.D.Disk.faults g.met.D.Disk.only_now c.args.disk.now c.purge_text.new.disk c.self.inside.store c.purge_text.new.self (Drops c.args.blob.now)
-    (λ a b cache store room made. subst (λ (e : Archive). LeavesOnly g.D.Disk.moment g.D.Disk.left_since c.args.disk.now c.purge_text.new.disk (RecoversOneOf cache a [] e)) (sym made.is)
-    (c.purge_text.ensures.any_moment made.number a cache made.text store room made.shown made.blob_is))
-    (Option ℕ) c.in-Err.refusal c.in-Err.ensures.same c.in-Err.ensures.untouched c.in-Err.ensures.undamaged c.in-Err.ensures.cause)
+pub returns-in-Ok-purge_text-clause-changes : goal.returns-in-Ok-purge_text-clause-changes
+returns-in-Ok-purge_text-clause-changes g c =
+    subst (λ (v : View). ChangesStore g.D.Disk.content g.D.Disk.moment g.D.Disk.left_since g.D.Disk.faults g.D.Disk.reads c.args.disk.now c.purge_text.new.disk v c.purge_text.new.self Renews (Drops c.args.blob.now) (Ok tt)) c.self.view_is
+    c.in-Ok-purge_text.ensures.changes

@@ -4,7 +4,7 @@ use Rattle.disk_model.specs.Disk.{LeavesOnly}
 use Rattle.arch_model.specs.Archives.{Archive}
 use Rattle.arch_model.specs.Delivery.{Done}
 use Rattle.arch_model.specs.declared.answer.Answer.TheVariants as answer
-use Rattle.arch_base.specs.declared.ids.Id20.{Id20}
+use Rattle.mail_commits.specs.declared.ids.TextIds.{TextIds}
 use Rattle.epoch_store.specs.Stores.{View, IsStoreWith, RecoversEitherWith}
 use Rattle.archive_core.specs.Placing.{message_places, ends_place, PlacesRise}
 use Rattle.archive_core.proofs.Indexes.{indexes-ended}
@@ -41,16 +41,16 @@ returns-in-Ok-clause-any_moment g c = λ a cache store room shown.
     let k = g.D.Disk.content c.args.disk.now in
     let is = removed-is c.args.self.now a c.args.number c.args.moment c.args.text.now (store_keeps c.args.self.now cache a k store) c.requires.writable shown in
     subst (λ (b : Archive). LeavesOnly g.D.Disk.moment g.D.Disk.left_since c.args.disk.now c.remove_entry.new.disk (RecoversEitherWith cache a b)) (sym (ap (λ (d : Done). d.archive) is))
-    (c.in-Ok.ensures.any_moment a cache (subst (λ (v : View). IsStoreWith v cache a k) (sym c.self.view_is) store) (subst (λ (v : View). v.root.sequence + 1 < 18446744073709551616) (sym c.self.view_is) room) shown)
+    (c.in-Ok.ensures.changes.any_moment a _ cache (subst (λ (v : View). IsStoreWith v cache a k) (sym c.self.view_is) store) (subst (λ (v : View). v.root.sequence + 1 < 18446744073709551616) (sym c.self.view_is) room) (record { shown = shown; is = refl }))
 
 pub returns-in-Ok-clause-done : goal.returns-in-Ok-clause-done
 returns-in-Ok-clause-done g c = λ a cache store room shown.
     let k = g.D.Disk.content c.args.disk.now in
     let is = removed-is c.args.self.now a c.args.number c.args.moment c.args.text.now (store_keeps c.args.self.now cache a k store) c.requires.writable shown in
     record {
-      answer_is = ap (λ (d : Done). d.answer) is ∙ ap (λ (i : Id20). answer.Ok c.args.number i) (sym c.blob_id.ensures.value);
+      answer_is = ap (λ (d : Done). d.answer) is ∙ ap (λ (i : TextIds). answer.Ok c.args.number i.blob) (sym c.text_ids-ids.ensures);
       store = subst (λ (b : Archive). IsStoreWith c.remove_entry.new.self cache b (g.D.Disk.content c.remove_entry.new.disk)) (sym (ap (λ (d : Done). d.archive) is))
-          (c.in-Ok.ensures.done a cache (subst (λ (v : View). IsStoreWith v cache a k) (sym c.self.view_is) store) (subst (λ (v : View). v.root.sequence + 1 < 18446744073709551616) (sym c.self.view_is) room) shown);
+          (c.in-Ok.ensures.changes.done a _ cache (subst (λ (v : View). IsStoreWith v cache a k) (sym c.self.view_is) store) (subst (λ (v : View). v.root.sequence + 1 < 18446744073709551616) (sym c.self.view_is) room) (record { shown = shown; is = refl }));
     }
 
 pub returns-in-Err-clause-any_moment : goal.returns-in-Err-clause-any_moment
@@ -58,7 +58,7 @@ returns-in-Err-clause-any_moment g c = λ a cache store room shown.
     let k = g.D.Disk.content c.args.disk.now in
     let is = removed-is c.args.self.now a c.args.number c.args.moment c.args.text.now (store_keeps c.args.self.now cache a k store) c.requires.writable shown in
     subst (λ (b : Archive). LeavesOnly g.D.Disk.moment g.D.Disk.left_since c.args.disk.now c.remove_entry.new.disk (RecoversEitherWith cache a b)) (sym (ap (λ (d : Done). d.archive) is))
-    (c.in-Err.ensures.any_moment a cache (subst (λ (v : View). IsStoreWith v cache a k) (sym c.self.view_is) store) (subst (λ (v : View). v.root.sequence + 1 < 18446744073709551616) (sym c.self.view_is) room) shown)
+    (c.in-Err.ensures.changes.any_moment a _ cache (subst (λ (v : View). IsStoreWith v cache a k) (sym c.self.view_is) store) (subst (λ (v : View). v.root.sequence + 1 < 18446744073709551616) (sym c.self.view_is) room) (record { shown = shown; is = refl }))
 
 pub returns-then-not-is_named-clause-read : goal.returns-then-not-is_named-clause-read
 returns-then-not-is_named-clause-read g c = if-damaged c.args.self.now _ c.damaged.result ⊥ c.damaged.ensures

@@ -1,4 +1,4 @@
-use Rattle.std.proofs.Common.{◌≡◌, ◌∙◌, ap, subst, sym, false, true, refl, Option, ℕ, List}
+use Rattle.std.proofs.Common.{◌≡◌, ◌∙◌, ap, subst, sym, refl, Option, ℕ, List}
 use Rattle.arch_base.specs.declared.config.Config.{Config}
 use Rattle.arch_base.specs.declared.ids.Id20.{Id20}
 use Rattle.arch_model.specs.Archives.{Archive, messages, text_of}
@@ -6,10 +6,11 @@ use Rattle.arch_model.specs.Delivery.{purged, purged_text}
 use Rattle.arch_model.specs.declared.answer.Answer.TheVariants as answer
 use Rattle.arch_model.specs.declared.command.Command.TheVariants.{Purge}
 use Rattle.epoch_store.specs.Stores.{View, IsStoreWith, KeepsFiles}
-use Rattle.archive_core.specs.Commands.{AnswersPurge, IfUnread}
+use Rattle.archive_core.specs.Commands.{AnswersPurge, FilesFor, IfUnread}
+use Rattle.archive_core.specs.Walks.{looks-same}
 use Rattle.archive_core.proofs.KeptTexts.{error-then}
 use Rattle.archive_core.proofs.Standing.{store_keeps}
-use Rattle.archive_core.proofs.Taking.{absent-refuses, failed-taken, mirror-refuses, quiet-taken, steady-cause}
+use Rattle.archive_core.proofs.Taking.{absent-refuses, done-taken, failed-taken, mirror-refuses, quiet-taken}
 use Rattle.archive_core.proofs.WithoutText.{may-read, purge-blob, purge-makes, shown-text, writable-of}
 use Rattle.archive_core.proofs.archive.DiskArchive.purge.Goals as goal
 
@@ -28,34 +29,18 @@ pub returns-in-Ok-clause-taken : goal.returns-in-Ok-clause-taken
 returns-in-Ok-clause-taken g c =
     let may = may-read c.args.self.now c.stored.result.now c.args.number c.in-Some.index c.index-stored-index.result (c.stored.ensures ∙ ap (λ (u : View). u.entries) c.self.view_is) c.in-Some.ensures.known (ap (λ (n : Config). n.mirror) (sym c.config.ensures) ∙ c.if-config.false) in
     let made = λ (a : Archive) (cache : List ℕ) (store : IsStoreWith c.args.self.now cache a (g.D.Disk.content c.args.disk.now)). (let keeps = store_keeps c.args.self.now cache a (g.D.Disk.content c.args.disk.now) store in purge-makes c.args.self.now a c.args.number _ keeps may (c.in-Some.ensures.message a keeps)) in
-    record {
-      any_moment = λ a cache store room. c.drop_text.ensures.drops.any_moment a (purged a c.args.number).archive cache store room (made a cache store).0;
-      done = λ a cache store room. record {
-        answer_is = (made a cache store).1;
-        store = c.in-Ok.ensures.drops.done a (purged a c.args.number).archive cache store room (made a cache store).0;
-      };
-      settled = c.in-Ok.ensures.drops.settled;
-      goes_on = c.in-Ok.ensures.drops.goes_on;
-      files = (may.entry, (may.is_there, may.kind, may.number_is), subst (λ (id : Id20). KeepsFiles c.args.self.now c.drop_text.new.self id) (sym may.blob_is) c.in-Ok.ensures.kept_files);
-      slot = c.in-Ok.ensures.drops.slot;
-      same = tt;
-      untouched = tt;
-      unmoved = tt;
-      sizes = c.in-Ok.ensures.drops.sizes;
-      cause = steady-cause _ _ _ (λ fault. absurd (cc fault)) (c.in-Ok.ensures.drops.cause.kept (λ fault. absurd (cc fault)));
-      for_command = refl;
-      count = c.drop_text.ensures.fewest;
-    }
+    let files : FilesFor (Purge c.args.number) c.args.self.now c.drop_text.new.self = (may.entry, (may.is_there, may.kind, may.number_is), subst (λ (id : Id20). KeepsFiles c.args.self.now c.drop_text.new.self id) (sym may.blob_is) c.in-Ok.ensures.kept_files) in
+    done-taken g.D.Disk.content g.D.Disk.moment g.D.Disk.left_since g.D.Disk.faults g.D.Disk.reads g.met.D.Disk.only_now c.law_of_stores.ensures.recovers (Purge c.args.number) (λ (a : Archive). purged a c.args.number) c.args.disk.now c.args.disk.now c.drop_text.new.disk c.args.self.now c.drop_text.new.self _
+    (looks-same g.D.Disk.content g.D.Disk.moment g.D.Disk.left_since g.met.D.Disk.only_now c.args.disk.now) refl (λ a cache store. (made a cache store).0) c.in-Ok.ensures.changes.count c.args.number _ c.in-Ok.ensures.changes (λ a cache store. (made a cache store).1) files tt refl
 
 pub returns-in-Err-clause-taken : goal.returns-in-Err-clause-taken
 returns-in-Err-clause-taken g c =
     let why = c.in-Err.refusal in
     let may = may-read c.args.self.now c.stored.result.now c.args.number c.in-Some.index c.index-stored-index.result (c.stored.ensures ∙ ap (λ (u : View). u.entries) c.self.view_is) c.in-Some.ensures.known (ap (λ (n : Config). n.mirror) (sym c.config.ensures) ∙ c.if-config.false) in
     let made = λ (a : Archive) (cache : List ℕ) (store : IsStoreWith c.args.self.now cache a (g.D.Disk.content c.args.disk.now)). (let keeps = store_keeps c.args.self.now cache a (g.D.Disk.content c.args.disk.now) store in purge-makes c.args.self.now a c.args.number _ keeps may (c.in-Some.ensures.message a keeps)) in
-    failed-taken g.D.Disk.content g.D.Disk.moment g.D.Disk.left_since g.D.Disk.faults g.D.Disk.reads g.met.D.Disk.only_now c.law_of_stores.ensures.recovers (Purge c.args.number) (λ (a : Archive). purged a c.args.number) (Option ℕ) c.args.disk.now c.drop_text.new.disk c.args.self.now c.drop_text.new.self why c.answer_of.result c.answer_of.ensures c.in-Err.ensures.drops.same c.requires.sizes
-    (λ a cache store room. c.drop_text.ensures.drops.any_moment a (purged a c.args.number).archive cache store room (made a cache store).0)
-    c.in-Err.ensures.drops.looks c.in-Err.ensures.drops.undamaged (error-then why (λ r. IfUnread r (c.drop_text.new.disk ≡ c.args.disk.now)) tt tt (λ file at. tt)) c.in-Err.ensures.drops.cause
-    (error-then why (AnswersPurge c.args.number) tt tt (λ file at. tt)) c.drop_text.ensures.fewest
+    failed-taken g.D.Disk.content g.D.Disk.moment g.D.Disk.left_since g.D.Disk.faults g.D.Disk.reads g.met.D.Disk.only_now c.law_of_stores.ensures.recovers (Purge c.args.number) (λ (a : Archive). purged a c.args.number) c.args.disk.now c.args.disk.now c.drop_text.new.disk c.args.self.now c.drop_text.new.self _
+    (looks-same g.D.Disk.content g.D.Disk.moment g.D.Disk.left_since g.met.D.Disk.only_now c.args.disk.now) refl (λ a cache store. (made a cache store).0) c.in-Err.ensures.changes.count why c.answer_of.result c.answer_of.ensures c.requires.sizes c.in-Err.ensures.changes
+    (error-then why (λ r. IfUnread r (c.drop_text.new.disk ≡ c.args.disk.now)) tt tt (λ file at. tt)) (error-then why (AnswersPurge c.args.number) tt tt (λ file at. tt))
 
 pub drop_text-requires-clause-may : goal.drop_text-requires-clause-may
 drop_text-requires-clause-may g c =

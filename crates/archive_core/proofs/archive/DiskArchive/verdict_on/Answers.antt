@@ -28,12 +28,12 @@ returns-in-Take-clause-judged g c = λ a cache gone own indexed.
       c.in-Take.ensures.judged (without_entries a gone)
           (known-without c.args.self.now a c.config-config.result.now c.args.index.now (length c.stored-count.result.now) c.next_number-next.result gone keeps (c.config-config.ensures ∙ ap (λ (v : View). v.root.config) c.self.view_is) (c.next_number-next.ensures ∙ ap (λ (v : View). v.root.next) c.self.view_is)
           (ap length (c.stored-count.ensures ∙ ap (λ (v : View). v.entries) c.self.view_is)) indexed),
-      alone-new (without_entries a gone) c.args.index.now c.in-Take.text c.in-Take.blob indexed c.in-Take.ensures.taken.0.comes.blob_is c.in-Take.ensures.taken.1,
+      alone-new (without_entries a gone) c.args.index.now c.in-Take.text c.in-Take.ids indexed c.in-Take.ensures.taken.0.comes.ids_are c.in-Take.ensures.taken.1,
     )
 
 pub returns-in-Take-clause-taken : goal.returns-in-Take-clause-taken
 returns-in-Take-clause-taken g c =
-    taken-by c.args.self.now c.config-config.result.now c.args.index.now c.next_number-next.result c.in-Take.text c.in-Take.blob c.in-Take.number (c.config-config.ensures ∙ ap (λ (v : View). v.root.config) c.self.view_is) (c.next_number-next.ensures ∙ ap (λ (v : View). v.root.next) c.self.view_is) c.in-Take.ensures.taken.0
+    taken-by c.args.self.now c.config-config.result.now c.args.index.now c.next_number-next.result c.in-Take.text c.in-Take.ids c.in-Take.number (c.config-config.ensures ∙ ap (λ (v : View). v.root.config) c.self.view_is) (c.next_number-next.ensures ∙ ap (λ (v : View). v.root.next) c.self.view_is) c.in-Take.ensures.taken.0
 
 pub returns-in-Ok-clause-judged : goal.returns-in-Ok-clause-judged
 returns-in-Ok-clause-judged g c = λ a cache gone own indexed.
@@ -47,13 +47,13 @@ returns-in-Ok-clause-judged g c = λ a cache gone own indexed.
     let still : ReadsMessage b c.in-Compare.number (Ok c.as_slice.result.now) = reads-without a gone c.in-Compare.number c.as_slice.result.now keeps.valid.blobs read in (
       judges-read b c.args.bytes.now c.compared.result
           (c.compared.ensures.judged b c.args.bytes.now (sym (c.config-config.ensures ∙ ap (λ (v : View). v.root.config) c.self.view_is ∙ keeps.names.config)) (sym (c.next_number-next.ensures ∙ ap (λ (v : View). v.root.next) c.self.view_is ∙ keeps.names.next))
-          (compares b c.args.bytes.now c.in-Compare.text c.as_slice.result.now c.in-Compare.blob c.in-Compare.number agree compared still)),
-      alone-same b c.config-config.result.now c.args.index.now c.next_number-next.result c.in-Compare.text c.as_slice.result.now c.in-Compare.blob c.in-Compare.number c.compared.result agree indexed c.in-Compare.ensures.taken.0.blob_is c.in-Compare.ensures.taken.1 still c.compared.ensures.taken c.compared.ensures.same,
+          (compares b c.args.bytes.now c.in-Compare.text c.as_slice.result.now c.in-Compare.ids.blob c.in-Compare.number agree compared still)),
+      alone-same b c.config-config.result.now c.args.index.now c.next_number-next.result c.in-Compare.text c.as_slice.result.now c.in-Compare.ids c.in-Compare.number c.compared.result agree indexed c.in-Compare.ensures.taken.0.ids_are c.in-Compare.ensures.taken.1 still c.compared.ensures.taken c.compared.ensures.same,
     )
 
 pub returns-in-Ok-clause-taken : goal.returns-in-Ok-clause-taken
 returns-in-Ok-clause-taken g c =
-    compared-by c.args.self.now c.config-config.result.now c.args.index.now c.next_number-next.result c.in-Compare.text c.in-Compare.blob c.compared.result (c.config-config.ensures ∙ ap (λ (v : View). v.root.config) c.self.view_is) (c.next_number-next.ensures ∙ ap (λ (v : View). v.root.next) c.self.view_is) c.in-Compare.ensures.taken.0 c.compared.ensures.taken
+    compared-by c.args.self.now c.config-config.result.now c.args.index.now c.next_number-next.result c.in-Compare.text c.in-Compare.ids c.compared.result (c.config-config.ensures ∙ ap (λ (v : View). v.root.config) c.self.view_is) (c.next_number-next.ensures ∙ ap (λ (v : View). v.root.next) c.self.view_is) c.in-Compare.ensures.taken.0 c.compared.ensures.taken
 
 pub returns-in-Err-clause-judged : goal.returns-in-Err-clause-judged
 returns-in-Err-clause-judged g c = λ a cache gone own indexed. (unread-judges a (without_entries a gone) c.args.bytes.now c.in-Compare.number c.in-Err.answer (c.in-Err.ensures.text a cache own), tt)

@@ -47,9 +47,9 @@ returns-clause-stands g c =
     wanted (cache_left c.args.command.now) reply (kept-or-none c.args.command.now) (λ needs. stale_is ∙ needs-stale (needs_opening reply) ok needs)
     (λ a cache store. c.command_keeping-answer.ensures.taken.any_moment a cache store room) (λ a cache store. c.command_keeping-answer.ensures.taken.done a cache store room)
     (λ a cache store old_is.
-    kept-up a c.args.command.now c.args.moment c.as_slice-kept.result.now c.command_keeping-answer.new.gone c.command_keeping-answer.new.self cache (cache_left c.args.command.now cache) (g.D.Disk.content c.command_keeping-answer.new.disk) c.self.inside.views c.follow-followed.new.views (not c.is_left_stale-self-inside.result) ok reply
+    kept-up a c.args.command.now c.args.moment c.command_keeping-answer.new.kept.text c.command_keeping-answer.new.gone c.command_keeping-answer.new.self cache (cache_left c.args.command.now cache) (g.D.Disk.content c.command_keeping-answer.new.disk) c.self.inside.views c.follow-followed.new.views (not c.is_left_stale-self-inside.result) ok reply
     (store_keeps c.self.inside.archive cache a (g.D.Disk.content c.self.inside.disk) store).valid old_is (c.command_keeping-answer.ensures.taken.done a cache store room)
-    (rw c.as_slice-kept.ensures (c.command_keeping-answer.ensures.kept a cache store)) (c.command_keeping-answer.ensures.gone a cache store) (λ ready. followed-ready (needs_opening reply) ok (ap not (sym stale_is) ∙ ready)) c.follow-followed.ensures.refused
+    (c.command_keeping-answer.ensures.kept a cache store) (c.command_keeping-answer.ensures.gone a cache store) (λ ready. followed-ready (needs_opening reply) ok (ap not (sym stale_is) ∙ ready)) c.follow-followed.ensures.refused
     (λ went. on-ok c.follow-followed.result _ c.follow-followed.ensures.rows went))
     c.command_keeping-answer.ensures.taken.untouched
 
@@ -57,7 +57,7 @@ pub returns-clause-ready : goal.returns-clause-ready
 returns-clause-ready g c = stays-ready c.is_left_stale-self-inside.result (is_ok c.follow-followed.result) c.command_keeping-answer.result c.is_left_stale-self-inside.ensures c.follow-followed.ensures.refused
 
 pub follow-followed-requires : goal.follow-followed-requires
-follow-followed-requires g c = record { text = rw c.as_slice-kept.ensures c.command_keeping-answer.ensures.text }
+follow-followed-requires g c = record { text = c.command_keeping-answer.ensures.text }
 
 pub returns-clause-cause : goal.returns-clause-cause
 returns-clause-cause g c = answer-cause-from g.D.Disk.content g.D.Disk.moment g.D.Disk.left_since g.met.D.Disk.counts_now g.met.D.Disk.only_now g.met.D.Disk.reads_fit
@@ -81,14 +81,14 @@ pub returns-clause-untouched : goal.returns-clause-untouched
 returns-clause-untouched g c = refused-from g.D.Disk.content g.D.Disk.moment g.D.Disk.left_since g.met.D.Disk.counts_now g.met.D.Disk.only_now g.met.D.Disk.reads_fit
     (record { disk = c.self.inside.disk; view = c.self.inside.archive; views = c.self.inside.views; stale = c.self.inside.stale }) c.args.self.now c.self.view_is
     (record { disk = c.command_keeping-answer.new.disk; view = c.command_keeping-answer.new.self; views = c.follow-followed.new.views; stale = c.is_left_stale-self-inside.result })
-    (is_ok c.follow-followed.result) c.args.command.now c.command_keeping-answer.new.gone c.as_slice-kept.result.now c.args.moment c.command_keeping-answer.result c.requires.ready c.is_left_stale-self-inside.ensures c.follow-followed.ensures.refused c.command_keeping-answer.ensures.taken.same
+    (is_ok c.follow-followed.result) c.args.command.now c.command_keeping-answer.new.gone c.command_keeping-answer.new.kept.text c.args.moment c.command_keeping-answer.result c.requires.ready c.is_left_stale-self-inside.ensures c.follow-followed.ensures.refused c.command_keeping-answer.ensures.taken.same
     (λ went. on-ok c.follow-followed.result _ c.follow-followed.ensures.rows went) c.command_keeping-answer.ensures.taken.untouched
 
 pub returns-clause-unmoved : goal.returns-clause-unmoved
 returns-clause-unmoved g c = unmoved-from g.D.Disk.content g.D.Disk.moment g.D.Disk.left_since g.met.D.Disk.counts_now g.met.D.Disk.only_now g.met.D.Disk.reads_fit
     (record { disk = c.self.inside.disk; view = c.self.inside.archive; views = c.self.inside.views; stale = c.self.inside.stale }) c.args.self.now c.self.view_is
     (record { disk = c.command_keeping-answer.new.disk; view = c.command_keeping-answer.new.self; views = c.follow-followed.new.views; stale = c.is_left_stale-self-inside.result })
-    (is_ok c.follow-followed.result) c.args.command.now c.command_keeping-answer.new.gone c.as_slice-kept.result.now c.args.moment c.command_keeping-answer.result c.requires.ready c.is_left_stale-self-inside.ensures c.follow-followed.ensures.refused c.command_keeping-answer.ensures.taken.same
+    (is_ok c.follow-followed.result) c.args.command.now c.command_keeping-answer.new.gone c.command_keeping-answer.new.kept.text c.args.moment c.command_keeping-answer.result c.requires.ready c.is_left_stale-self-inside.ensures c.follow-followed.ensures.refused c.command_keeping-answer.ensures.taken.same
     (λ went. on-ok c.follow-followed.result _ c.follow-followed.ensures.rows went) c.command_keeping-answer.ensures.taken.unmoved
 
 pub returns-then-not-has_next_root-clause-removed : goal.returns-then-not-has_next_root-clause-removed
@@ -100,4 +100,4 @@ returns-clause-removed g c =
     removed-from g.D.Disk.content g.D.Disk.moment g.D.Disk.left_since g.met.D.Disk.counts_now g.met.D.Disk.only_now g.met.D.Disk.reads_fit
     (record { disk = c.self.inside.disk; view = c.self.inside.archive; views = c.self.inside.views; stale = c.self.inside.stale }) c.args.self.now c.self.view_is
     (record { disk = c.command_keeping-answer.new.disk; view = c.command_keeping-answer.new.self; views = c.follow-followed.new.views; stale = c.is_left_stale-self-inside.result })
-    c.args.command.now c.args.moment c.as_slice-kept.result.now c.command_keeping-answer.new.gone c.command_keeping-answer.result (λ a cache store. c.command_keeping-answer.ensures.taken.done a cache store room) c.command_keeping-answer.ensures.gone c.follow-followed.ensures.removed
+    c.args.command.now c.args.moment c.command_keeping-answer.new.kept.text c.command_keeping-answer.new.gone c.command_keeping-answer.result (λ a cache store. c.command_keeping-answer.ensures.taken.done a cache store room) c.command_keeping-answer.ensures.gone c.follow-followed.ensures.removed

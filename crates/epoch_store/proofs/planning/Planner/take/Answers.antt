@@ -2,7 +2,7 @@
 use Rattle.std.proofs.Common.{◌≡◌, ◌∙◌, Err, sym, subst, true, false}
 use Rattle.std.specs.Str.{bytes_eq}
 use Rattle.epoch_file.specs.declared.refusal.StoreRefusal.{StoreRefusal}
-use Rattle.epoch_store.specs.Planning.{TakesNext}
+use Rattle.epoch_store.specs.Planning.{PlansNext}
 use Rattle.epoch_store.proofs.Losing.{kept_changes, left_changes}
 use Rattle.epoch_store.proofs.Taking.{take_left, take_kept, take_refused, kept_but, left_but, kept_in, left_in}
 use Rattle.epoch_store.proofs.planning.Planner.take.Goals as goal
@@ -48,5 +48,5 @@ returns-in-Ok-clause-changes g c =
 pub returns-in-Err-clause-taken : goal.returns-in-Err-clause-taken
 returns-in-Err-clause-taken g c =
     let content = g.D.Disk.content c.args.disk.now in
-    subst (λ (r : StoreRefusal). TakesNext c.args.self.now c.args.file c.args.entry.now c.args.blob.now content c.keep.new.self (Err r)) (sym c.damaged_in.ensures)
+    subst (λ (r : StoreRefusal). PlansNext c.args.self.now c.args.file c.args.entry.now c.args.blob.now content c.keep.new.self (Err r)) (sym c.damaged_in.ensures)
     (take_refused c.args.self.now c.args.file c.args.entry.now c.args.blob.now content c.open.new.self c.keep.new.self c.in_ok-plan.plan c.in-Err.refusal c.in_ok-plan.ensures.opened c.in-Err.ensures.refused)

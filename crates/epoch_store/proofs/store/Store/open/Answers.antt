@@ -1,5 +1,6 @@
 -- What is left while the archive is opened, and what is there then.
 use Rattle.std.proofs.Common.{inl, inr}
+use Rattle.arch_judge.specs.declared.index.Index.{Index}
 use Rattle.disk_model.specs.Disk.{Files, Image}
 use Rattle.disk_model.specs.Moments.{started, joined, weaker}
 use Rattle.root_change.specs.Texts.{StandsFor}
@@ -15,8 +16,8 @@ pub returns-in-Err-clause-well : goal.returns-in-Err-clause-well
 returns-in-Err-clause-well g c = λ a cache reads.
     opens_well c.law_of_spellings.ensures.differ c.law_of_undamaged_files.ensures.undamaged cache a (g.D.Disk.content c.args.disk.now) c.in-Err.refusal reads c.in-Err.ensures.found
 
-pub invariant_of-result : goal.invariant_of-result
-invariant_of-result g c = (c.in-Ok.ensures.root, in_epochs c.in-Ok.found.entries.items c.in-Ok.ensures.epochs)
+pub invariant_of-store : goal.invariant_of-store
+invariant_of-store g c = (c.in-Ok.ensures.root, in_epochs c.in-Ok.found.entries.items c.in-Ok.ensures.epochs)
 
 pub returns-in-Ok-settle-clause-any_moment : goal.returns-in-Ok-settle-clause-any_moment
 returns-in-Ok-settle-clause-any_moment g c = λ may cache all.
@@ -57,7 +58,7 @@ pub returns-in-Err-clause-first : goal.returns-in-Err-clause-first
 returns-in-Err-clause-first g c =
     let disk = c.args.disk.now in
     let d1 = c.find_synced.new.disk in
-    refused_first Found View (SyncsFirst g.D.Disk.content g.D.Disk.moment g.D.Disk.left_since disk d1) c.in-Err.refusal (g.D.Disk.content disk) (g.D.Disk.content d1) c.in-Err.ensures.synced
+    refused_first Found (View × Index) (SyncsFirst g.D.Disk.content g.D.Disk.moment g.D.Disk.left_since disk d1) c.in-Err.refusal (g.D.Disk.content disk) (g.D.Disk.content d1) c.in-Err.ensures.synced
     (λ only. record {
       synced = d1;
       only = only;
@@ -85,7 +86,7 @@ returns-in-Err-settle-clause-first g c =
     let disk = c.args.disk.now in
     let d1 = c.find_synced.new.disk in
     let found = c.in-Ok.found in
-    on_synced View (SyncsFirst g.D.Disk.content g.D.Disk.moment g.D.Disk.left_since disk c.settle.new.disk) c.in-Err-settle.refusal
+    on_synced (View × Index) (SyncsFirst g.D.Disk.content g.D.Disk.moment g.D.Disk.left_since disk c.settle.new.disk) c.in-Err-settle.refusal
     (record {
       synced = d1;
       only = c.in-Ok.ensures.synced;

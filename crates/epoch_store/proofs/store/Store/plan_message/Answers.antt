@@ -20,6 +20,6 @@ returns-clause-planned c =
     let id_is = c.in_ok-id.ensures ∙ ap (λ (i : List ℕ). Some i) (sym c.new_entry-stored.ensures.id) in
     let more = pushed (is_ok c.push.result) c.planned.inside.entries.items c.push.new.self.items stored c.push.ensures.items (ap is_ok c.in-Ok.is) in
     subst (λ (u : View). PlansEdit u old text c.args.moment (record { plans = c.planned.inside.plans.items; entries = c.push.new.self.items; gone = c.planned.inside.gone; current = c.planned.inside.current })) c.self.view_is
-    (message_planned v old c.append.new.self c.append_record.new.self p text c.args.moment c.as_slice.result.now c.in_ok-piece.ids.blob stored place c.place_after-place.ensures.small long c.if-place-ge-MOST.false piece_is c.in_ok-piece.ensures.blob
+    (message_planned v old c.append.new.self c.append_record.new.self p text c.args.moment c.as_slice.result.now c.in_ok-piece.made.blob stored place c.place_after-place.ensures.small long c.if-place-ge-MOST.false piece_is c.in_ok-piece.ensures.blob
     c.new_entry-stored.ensures.after c.in_ok-append.ensures.appended c.in_ok-append.ensures.valid.0 c.in_ok-append_record.ensures.appended c.in_ok-append_record.ensures.valid.1 c.planned.inside.plans.items c.planned.inside.entries.items c.planned.inside.gone c.planned.inside.current c.planned.view_is
     c.push.new.self.items more c.new_entry-stored.ensures.kind c.new_entry-stored.ensures.number id_is c.new_entry-stored.ensures.blob c.new_entry-stored.ensures.content c.new_entry-stored.ensures.epoch)

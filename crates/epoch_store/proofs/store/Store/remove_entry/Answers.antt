@@ -1,86 +1,71 @@
 -- What is kept, and what is on the disk.
-use Rattle.std.proofs.Common.{◌≡◌, ◌∙◌, ◌-◌, ◌++◌, ◌∷◌, [], List, ℕ, sym, ap, subst, is_ok, ◌≤◌, arith}
+use Rattle.std.proofs.Common.{refl, rules, ◌≡◌, ◌∙◌, ◌-◌, ◌++◌, ◌∷◌, [], List, ℕ, sym, ap, subst, is_ok, ◌≤◌, arith}
 use Rattle.disk_model.specs.Disk.{LeavesOnly}
-use Rattle.arch_model.specs.Archives.{deletion, with_deletion}
-use Rattle.arch_model.specs.Delivery.{new_epoch}
+use Rattle.arch_model.specs.Archives.{with_deletion}
 use Rattle.git_objects.specs.declared.entry_kind.EntryKind.TheVariants.{Deletion}
 use Rattle.root_slots.specs.Slots.{slot_number}
 use Rattle.epoch_store.specs.declared.entries.StoredEntry.{StoredEntry}
 use Rattle.epoch_file.specs.declared.entry.NewEntry.{NewEntry}
-use Rattle.epoch_store.specs.Stores.{View, InEpochs, stored_at, IsNextPlace, next_sequence, IsStoreWith, RecoversEitherWith, GoesOn}
-use Rattle.epoch_store.proofs.Kept.{in_epochs_more, pushed}
+use Rattle.epoch_store.specs.Promises.{Ends}
+use Rattle.epoch_store.specs.Stores.{EndsNext, View, InEpochs, IsStoreWith, RecoversEitherWith, GoesOn}
+use Rattle.epoch_store.proofs.Changing.{stopped, unless_short, unstarted}
+use Rattle.epoch_store.proofs.Kept.{in_epochs_more, pushed, same_view}
 use Rattle.epoch_store.proofs.Delivering.{store_keeps}
-use Rattle.epoch_store.proofs.EntryWriting.{has_room, ends_next, waiting_leaves}
+use Rattle.epoch_store.proofs.EntryWriting.{entered}
 use Rattle.epoch_store.proofs.store.Store.remove_entry.Goals as goal
 
-pub returns-then-place-ge-MOST-clause-any_moment : goal.returns-then-place-ge-MOST-clause-any_moment
-returns-then-place-ge-MOST-clause-any_moment g c = λ a cache store room shown.
-    let disk = c.args.disk.now in
-    waiting_leaves g.D.Disk.moment g.D.Disk.left_since disk c.args.self.now cache a (with_deletion a c.args.number (new_epoch a) c.args.text.now c.args.moment) (g.D.Disk.content disk) store (λ image left. g.met.D.Disk.only_now disk image left)
+pub returns-then-place-ge-MOST-clause-changes : goal.returns-then-place-ge-MOST-clause-changes
+returns-then-place-ge-MOST-clause-changes g c = unstarted (g.met.D.Disk.only_now c.args.disk.now) (search rules) refl
 
-pub returns-in_err-id-clause-any_moment : goal.returns-in_err-id-clause-any_moment
-returns-in_err-id-clause-any_moment g c = λ a cache store room shown.
-    let disk = c.args.disk.now in
-    waiting_leaves g.D.Disk.moment g.D.Disk.left_since disk c.args.self.now cache a (with_deletion a c.args.number (new_epoch a) c.args.text.now c.args.moment) (g.D.Disk.content disk) store (λ image left. g.met.D.Disk.only_now disk image left)
+pub returns-in_err-id-clause-changes : goal.returns-in_err-id-clause-changes
+returns-in_err-id-clause-changes g c = unstarted (g.met.D.Disk.only_now c.args.disk.now) (search rules) (search rules)
 
-pub returns-in_default-clause-any_moment : goal.returns-in_default-clause-any_moment
-returns-in_default-clause-any_moment g c = λ a cache store room shown.
-    let disk = c.args.disk.now in
-    waiting_leaves g.D.Disk.moment g.D.Disk.left_since disk c.args.self.now cache a (with_deletion a c.args.number (new_epoch a) c.args.text.now c.args.moment) (g.D.Disk.content disk) store (λ image left. g.met.D.Disk.only_now disk image left)
+pub returns-in_default-clause-changes : goal.returns-in_default-clause-changes
+returns-in_default-clause-changes g c = unstarted (g.met.D.Disk.only_now c.args.disk.now) (search rules) refl
 
-pub returns-in_err-root-clause-any_moment : goal.returns-in_err-root-clause-any_moment
-returns-in_err-root-clause-any_moment g c = λ a cache store room shown.
-    let v = c.args.self.now in
+pub returns-in_err-root-clause-changes : goal.returns-in_err-root-clause-changes
+returns-in_err-root-clause-changes g c =
     let p = c.next_place-place.result in
-    let text = c.args.text.now in
-    let moment = c.args.moment in
-    let e : NewEntry = record { kind = Deletion; text = c.args.text; moment = moment; parent = p.parent } in
-    let k0 = g.D.Disk.content c.args.disk.now in
-    let w : View = record { root = c.self.inside.root; slot = slot_number c.self.inside.slot; entries = c.reserve.new.self.items } in
-    let has = has_room v cache a p k0 c.self.inside.root (slot_number c.self.inside.slot) c.self.inside.entries.items c.reserve.new.self.items c.self.view_is c.reserve.ensures.items store (c.next_place-place.ensures.next a) in
-    let goes = ends_next v w cache a p c.args.number e k0 has room c.requires.may shown in
-    subst (λ (n : ℕ). LeavesOnly g.D.Disk.moment g.D.Disk.left_since c.args.disk.now c.write_deletion.new.disk (RecoversEitherWith cache a (with_deletion a c.args.number n text moment))) has.next.epoch (c.write_deletion.ensures.any_moment a cache has.owns goes)
+    let e : NewEntry = record { kind = Deletion; text = c.args.text; ids = c.args.ids.now; moment = c.args.moment; parent = p.parent } in
+    let why = c.in_err-root.field-0.0 in
+    let said = c.in_err-root.ensures in
+    stopped why (search rules)
+    (entered (g.D.Disk.content c.args.disk.now) (λ u a. EndsNext u a p c.args.number e) (λ a n. with_deletion a c.args.number n e.text.now e.moment) (Ends c.args.number e.text.now e.moment) (λ cache a to. LeavesOnly g.D.Disk.moment g.D.Disk.left_since c.args.disk.now c.write_deletion.new.disk (RecoversEitherWith cache a to))
+    (same_view _ _ _ _ c.reserve.ensures.items ∙ c.self.view_is) c.next_place-place.ensures.next (λ a b at room made. (record { place = at; may = c.requires.may; shown = made.shown; room = room }, sym made.is)) c.write_deletion.ensures.any_moment)
+    (search rules) (unless_short why said.refused said.undamaged) said.undamaged (search rules) said.count
 
-pub returns-clause-any_moment : goal.returns-clause-any_moment
-returns-clause-any_moment g c = λ a cache store room shown.
-    let v = c.args.self.now in
+pub returns-clause-changes : goal.returns-clause-changes
+returns-clause-changes g c =
     let p = c.next_place-place.result in
-    let text = c.args.text.now in
-    let moment = c.args.moment in
-    let e : NewEntry = record { kind = Deletion; text = c.args.text; moment = moment; parent = p.parent } in
+    let e : NewEntry = record { kind = Deletion; text = c.args.text; ids = c.args.ids.now; moment = c.args.moment; parent = p.parent } in
     let k0 = g.D.Disk.content c.args.disk.now in
+    let k3 = g.D.Disk.content c.write_deletion.new.disk in
     let w : View = record { root = c.self.inside.root; slot = slot_number c.self.inside.slot; entries = c.reserve.new.self.items } in
-    let has = has_room v cache a p k0 c.self.inside.root (slot_number c.self.inside.slot) c.self.inside.entries.items c.reserve.new.self.items c.self.view_is c.reserve.ensures.items store (c.next_place-place.ensures.next a) in
-    let goes = ends_next v w cache a p c.args.number e k0 has room c.requires.may shown in
-    subst (λ (n : ℕ). LeavesOnly g.D.Disk.moment g.D.Disk.left_since c.args.disk.now c.write_deletion.new.disk (RecoversEitherWith cache a (with_deletion a c.args.number n text moment))) has.next.epoch (c.write_deletion.ensures.any_moment a cache has.owns goes)
-
-pub returns-clause-done : goal.returns-clause-done
-returns-clause-done g c = λ a cache store room shown.
-    let v = c.args.self.now in
-    let p = c.next_place-place.result in
-    let text = c.args.text.now in
-    let moment = c.args.moment in
-    let e : NewEntry = record { kind = Deletion; text = c.args.text; moment = moment; parent = p.parent } in
-    let k0 = g.D.Disk.content c.args.disk.now in
-    let w : View = record { root = c.self.inside.root; slot = slot_number c.self.inside.slot; entries = c.reserve.new.self.items } in
-    let has = has_room v cache a p k0 c.self.inside.root (slot_number c.self.inside.slot) c.self.inside.entries.items c.reserve.new.self.items c.self.view_is c.reserve.ensures.items store (c.next_place-place.ensures.next a) in
-    let goes = ends_next v w cache a p c.args.number e k0 has room c.requires.may shown in
     let root = c.in_ok-root.root in
+    let view : ℕ → List StoredEntry → View = λ n es. record { root = root; slot = n; entries = es } in
     let stored = c.new_entry-stored.result in
-    let kept = c.new_entry-stored.ensures.stored a (store_keeps w cache a k0 has.owns) (subst (λ (u : View). IsNextPlace u.root a (next_sequence u.root.sequence) p) has.same has.next) in
     let full = c.in-Ok.ensures.ok in
     let more = pushed (is_ok c.push.result) c.reserve.new.self.items c.push.new.self.items stored c.push.ensures.items (c.push.ensures.succeeds (omega (arith, full))) in
-    let entries : List StoredEntry = w.entries ++ stored_at a.entries (deletion c.args.number p.epoch text moment) ∷ [] in
-    let all : entries ≡ c.push.new.self.items = sym (more ∙ ap (λ (s : StoredEntry). w.entries ++ s ∷ []) kept) in
-    let k3 = g.D.Disk.content c.write_deletion.new.disk in
-    let b = with_deletion a c.args.number p.epoch text moment in
-    let made : IsStoreWith (record { root = root; slot = 1 - slot_number c.self.inside.slot; entries = c.push.new.self.items }) cache b k3 =
-    subst (λ (es : List StoredEntry). IsStoreWith (record { root = root; slot = 1 - slot_number c.self.inside.slot; entries = es }) cache b k3) all (c.in_ok-root.ensures.done a cache has.owns goes) in
-    subst (λ (s : ℕ). IsStoreWith (record { root = root; slot = s; entries = c.push.new.self.items }) cache (with_deletion a c.args.number (new_epoch a) text moment) k3) (sym c.other-self-inside.ensures)
-    (subst (λ (n : ℕ). IsStoreWith (record { root = root; slot = 1 - slot_number c.self.inside.slot; entries = c.push.new.self.items }) cache (with_deletion a c.args.number n text moment) k3) has.next.epoch made)
-
-pub returns-clause-goes_on : goal.returns-clause-goes_on
-returns-clause-goes_on g c = subst (λ (v : View). GoesOn v.root c.in_ok-root.root) c.self.view_is c.in_ok-root.ensures.goes_on
+    record {
+      any_moment =
+          entered (g.D.Disk.content c.args.disk.now) (λ u a. EndsNext u a p c.args.number e) (λ a n. with_deletion a c.args.number n e.text.now e.moment) (Ends c.args.number e.text.now e.moment) (λ cache a to. LeavesOnly g.D.Disk.moment g.D.Disk.left_since c.args.disk.now c.write_deletion.new.disk (RecoversEitherWith cache a to))
+          (same_view _ _ _ _ c.reserve.ensures.items ∙ c.self.view_is) c.next_place-place.ensures.next (λ a b at room made. (record { place = at; may = c.requires.may; shown = made.shown; room = room }, sym made.is)) c.write_deletion.ensures.any_moment;
+      done =
+          entered (g.D.Disk.content c.args.disk.now) (λ u a. EndsNext u a p c.args.number e) (λ a n. with_deletion a c.args.number n e.text.now e.moment) (Ends c.args.number e.text.now e.moment) (λ cache a to. IsStoreWith (view (slot_number c.other-self-inside.result) c.push.new.self.items) cache to k3)
+          (same_view _ _ _ _ c.reserve.ensures.items ∙ c.self.view_is) c.next_place-place.ensures.next (λ a b at room made. (record { place = at; may = c.requires.may; shown = made.shown; room = room }, sym made.is)) (λ a cache store goes.
+          let kept = c.new_entry-stored.ensures.stored a (store_keeps w cache a k0 store) goes.place in
+          subst (λ (n : ℕ). IsStoreWith (view n c.push.new.self.items) cache (with_deletion a c.args.number p.epoch e.text.now e.moment) k3) (sym c.other-self-inside.ensures)
+          (subst (λ (es : List StoredEntry). IsStoreWith (view (1 - w.slot) es) cache (with_deletion a c.args.number p.epoch e.text.now e.moment) k3) (sym (more ∙ ap (λ (s : StoredEntry). w.entries ++ s ∷ []) kept)) (c.in_ok-root.ensures.done a cache store goes)));
+      settled = c.in_ok-root.ensures.settled;
+      sizes = search rules;
+      goes_on = subst (λ (u : View). GoesOn u.root root) c.self.view_is c.in_ok-root.ensures.goes_on;
+      slot = search rules;
+      same = tt;
+      untouched = tt;
+      undamaged = tt;
+      cause = search rules;
+      count = c.in_ok-root.ensures.count;
+    }
 
 pub invariant_of-self-4 : goal.invariant_of-self-4
 invariant_of-self-4 g c =

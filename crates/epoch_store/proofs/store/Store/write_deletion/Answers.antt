@@ -1,5 +1,5 @@
 -- One step for the entry, and one for the root.
-use Rattle.std.proofs.Common.{◌≡◌, ◌<◌, ◌+◌, ◌-◌, ◌∙◌, length, sym, ap, subst, arith}
+use Rattle.std.proofs.Common.{◌≡◌, ◌<◌, ◌+◌, ◌∙◌, length, sym, ap, subst, arith}
 use Rattle.disk_model.specs.Disk.{Told, WhereTold, OneFile, Wrote, IsAtMostLength}
 use Rattle.disk_model.specs.declared.name.FileName.{FileName}
 use Rattle.epoch_file.specs.declared.entry.Written.{Written}
@@ -112,5 +112,5 @@ returns-clause-sizes g c =
     let inside : WhereTold (IsAtMostLength (epoch_name p.epoch p.gen_) p.length) k0 = place_inside v p c.requires.place c.requires.small k0 c.requires.sizes in
     let one = subst (λ (f : FileName). Told (OneFile f (Wrote p.length (appended p.length e))) k0 k1) c.epoch_file-epoch.ensures c.in_ok-written.ensures.left in
     let kept = subst (λ (r : Root). Told (KeepsNamed r) k1 k2) c.ended_root-root.ensures.root c.in_ok-replace_root.ensures.kept in
-    subst (λ (r : Root). WhereTold (HasSizes (record { root = r; slot = 1 - v.slot; entries = v.entries })) k2) (sym c.ended_root-root.ensures.root)
-    (sizes_ended v p written.end (1 - v.slot) v.entries (appended p.length e) c.requires.place c.requires.small c.ended_root-root.ensures.count ends some k0 k1 k2 c.requires.sizes inside one kept)
+    subst (λ (r : Root). WhereTold (HasSizes (record v { root = r })) k2) (sym c.ended_root-root.ensures.root)
+    (sizes_ended v p written.end v.slot v.entries (appended p.length e) c.requires.place c.requires.small c.ended_root-root.ensures.count ends some k0 k1 k2 c.requires.sizes inside one kept)

@@ -1,5 +1,5 @@
 -- One step for the entry, one for its record, and one for the root.
-use Rattle.std.proofs.Common.{◌≡◌, ◌<◌, ◌+◌, ◌-◌, ◌∙◌, ℕ, List, length, sym, ap, subst, arith}
+use Rattle.std.proofs.Common.{◌≡◌, ◌<◌, ◌+◌, ◌∙◌, ℕ, List, length, sym, ap, subst, arith}
 use Rattle.std.specs.Prelude.{refl}
 use Rattle.disk_model.specs.Disk.{Told, WhereTold, OneFile, Wrote, IsAtMostLength}
 use Rattle.disk_model.specs.declared.name.FileName.{FileName}
@@ -140,5 +140,5 @@ returns-clause-sizes g c =
     let named = subst (λ (f : FileName). Told (OneFile f (Wrote c.self.inside.root.map.length line)) k1 k2) (c.map_file-map.ensures ∙ ap map_file_of root_is) c.in_ok-append.ensures.written in
     let two = subst (λ (r : Root). Told (OneFile (map_file_of v.root) (Wrote r.map.length line)) k1 k2) root_is named in
     let kept = subst (λ (r : Root). Told (KeepsNamed r) k2 k3) c.next_root-root.ensures.root c.in_ok-replace_root.ensures.kept in
-    subst (λ (r : Root). WhereTold (HasSizes (record { root = r; slot = 1 - v.slot; entries = v.entries })) k3) (sym c.next_root-root.ensures.root)
-    (sizes_after v p written.end (1 - v.slot) v.entries (appended p.length e) line c.requires.place c.requires.small c.next_root-root.ensures.count ends some c.append.ensures.size k0 k1 k2 k3 c.requires.sizes inside one two kept)
+    subst (λ (r : Root). WhereTold (HasSizes (record v { root = r })) k3) (sym c.next_root-root.ensures.root)
+    (sizes_after v p written.end v.slot v.entries (appended p.length e) line c.requires.place c.requires.small c.next_root-root.ensures.count ends some c.append.ensures.size k0 k1 k2 k3 c.requires.sizes inside one two kept)

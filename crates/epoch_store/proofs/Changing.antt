@@ -1,0 +1,164 @@
+-- What a command promises that ended with an error, or that was planned before it was carried out.
+use Rattle.std.specs.Prelude.{◌≡◌, ◌+◌, ◌-◌, ◌≤◌, ◌<◌, ◌^◌, ℕ, List, [], Option, Some, None, Result, Ok, Err, refl}
+use Rattle.std.proofs.Common.{◌∙◌, sym, ap, subst, arith}
+use Rattle.arch_base.specs.Counts.{RoseIf}
+use Rattle.disk_model.specs.declared.name.FileName.{FileName}
+use Rattle.disk_model.specs.Disk.{Content, Files, Image, LeavesOnly, WhereTold}
+use Rattle.disk_model.specs.Moments.{joined, started, weaker}
+use Rattle.arch_model.specs.Archives.{Archive}
+use Rattle.epoch_file.specs.Runs.{OnlyReads}
+use Rattle.epoch_file.specs.declared.refusal.StoreRefusal.{StoreRefusal}
+use Rattle.epoch_file.specs.declared.refusal.StoreRefusal.TheVariants.{DiskFault, NoMemory, Damaged}
+use Rattle.root_slots.specs.declared.root.Root.{Root}
+use Rattle.root_change.specs.declared.rewriting.RewriteRefusal.{RewriteRefusal}
+use Rattle.root_change.specs.declared.rewriting.RewriteRefusal.TheVariants as rewrite
+use Rattle.root_change.specs.Rewriting.{CarriesOut, Plan}
+use Rattle.epoch_store.specs.declared.entries.StoredEntry.{StoredEntry}
+use Rattle.epoch_store.specs.Planning.{IsReady, Planning, PlansArchive, PlansUndamaged}
+use Rattle.epoch_store.specs.Promises.{Appends, ChangesStore, ReadsBy, Renews, StaysBy, UndamagedBy, Way, cache_by}
+use Rattle.epoch_store.specs.Stores.{IsStoreWith, IsUndamaged, RecoversOneOf, UnlessFailed, View}
+use Rattle.epoch_store.proofs.CarriedOut.{reads_then, store_back, store_same}
+use Rattle.epoch_store.proofs.Carrying.{carried_leaves, carried_on, carried_store, sizes_carried}
+use Rattle.epoch_store.proofs.FindingTold.{reads_none}
+use Rattle.epoch_store.proofs.Kept.{stands_now}
+
+-- An error before which nothing was written, by one that was asked for.
+pub unless_short : {T : Type 0} {P : Type 0} (why : StoreRefusal) → (◌≡◌ {A = Result T StoreRefusal} (Err why) (Err NoMemory) → P) → IsUndamaged why → UnlessFailed {T = Unit {0}} (Err why) P
+unless_short DiskFault short sound = tt
+unless_short NoMemory short sound = short refl
+unless_short (Damaged file at) short sound = absurd sound
+
+-- An error where files were only read.
+pub unless_any : {P : Type 0} (why : StoreRefusal) → P → UnlessFailed {T = Unit {0}} (Err why) P
+unless_any DiskFault p = tt
+unless_any NoMemory p = p
+unless_any (Damaged file at) p = p
+
+-- A range is never short where the disk tells its content.
+never_short : (v : View) (why : StoreRefusal) (k : Option Content) → WhereTold (λ (c : Content). Unit {0} → ⊥) k → PlansUndamaged {T = Unit {0}} v (Err why) k
+never_short v why None whole = λ a cache store. absurd store
+never_short v why (Some k) whole = λ a cache store. absurd (whole tt)
+
+-- What a crash leaves of the archive on the disk while files are read.
+read_leaves : {D : Type 0} {content : D → Option Content} {moment : D → ℕ} {left_since : D → ℕ → Files → Type 0} {faults : D → ℕ} {old mid : D} (only : OnlyReads content moment left_since faults old mid) (v : View) (cache : List ℕ) (a b : Archive) → IsStoreWith v cache a (content old)
+    → LeavesOnly moment left_since old mid (RecoversOneOf cache a [] b)
+read_leaves {D} {content} {moment} {left_since} {faults} {old} {mid} only v cache a b store =
+    weaker moment left_since old mid (Image (content old)) (RecoversOneOf cache a [] b) only.any_moment (λ image now. stands_now v cache [] a b (content old) image store now)
+
+module _ {D : Type 0} {content : D → Option Content} {moment : D → ℕ} {left_since : D → ℕ → Files → Type 0} {faults reads : D → ℕ} where
+  -- An error, by what a crash leaves until then.
+  pub stopped : {old new : D} {before after : View} {way : Way} {Makes : Archive → Archive → Type 0} {result : Result (Unit {0}) StoreRefusal} (why : StoreRefusal) → result ≡ Err why
+      → ((a b : Archive) (cache : List ℕ) → IsStoreWith before cache a (content old) → before.root.sequence + 1 < 2 ^ 64 → Makes a b → LeavesOnly moment left_since old new (RecoversOneOf cache a (cache_by way cache) b))
+      → after ≡ before → UnlessFailed {T = Unit {0}} (Err why) (StaysBy way content moment left_since faults old new) → UndamagedBy {T = Unit {0}} way before (Err why) (content old) → RoseIf (result ≡ Err DiskFault) (faults old) (faults new) → ReadsBy way (reads old) (reads new)
+      → ChangesStore content moment left_since faults reads old new before after way Makes result
+  stopped {old} {new} {before} {after} {way} {Makes} {result} why is run same still sound cause count = subst (λ (r : Result (Unit {0}) StoreRefusal). ChangesStore content moment left_since faults reads old new before after way Makes r) (sym is) (record {
+    any_moment = run;
+    done = λ a b cache store room made. tt;
+    settled = tt;
+    sizes = tt;
+    goes_on = tt;
+    slot = tt;
+    same = same;
+    untouched = still;
+    undamaged = sound;
+    cause = subst (λ (r : Result (Unit {0}) StoreRefusal). RoseIf (r ≡ Err DiskFault) (faults old) (faults new)) is cause;
+    count = count;
+  })
+
+  -- Memory ran out before anything was done.
+  pub unstarted : {disk : D} {before after : View} {way : Way} {Makes : Archive → Archive → Type 0} {result : Result (Unit {0}) StoreRefusal} → ((image : Files) → left_since disk (moment disk) image → Image (content disk) image) → after ≡ before → result ≡ Err NoMemory
+      → ChangesStore content moment left_since faults reads disk disk before after way Makes result
+  unstarted {disk} {before} {after} {way} {Makes} {result} now same is =
+      stopped NoMemory is (λ a b cache store room made. started moment left_since disk (RecoversOneOf cache a (cache_by way cache) b) (λ image left. stands_now before cache (cache_by way cache) a b (content disk) image store (now image left))) same
+      (still way) (sound way) (record { later = omega arith; failed = λ fault. absurd (cc (sym is ∙ fault)); kept = λ never. refl }) (count way) where
+        still : (way : Way) → StaysBy way content moment left_since faults disk disk
+        still Appends = refl
+        still Renews = reads_none content moment left_since faults disk now
+
+        sound : (way : Way) → UndamagedBy {T = Unit {0}} way before (Err NoMemory) (content disk)
+        sound Appends = tt
+        sound Renews = λ a cache store. tt
+
+        count : (way : Way) → ReadsBy way (reads disk) (reads disk)
+        count Appends = refl
+        count Renews = omega arith
+
+  module _ {old mid : D} {before : View} (only : OnlyReads content moment left_since faults old mid) where
+    -- Planning failed.
+    pub unplanned : {Makes : Archive → Archive → Type 0} {result : Result (Unit {0}) StoreRefusal} (why : StoreRefusal) → result ≡ Err why → PlansUndamaged {T = Unit {0}} before (Err why) (content old) → RoseIf (result ≡ Err DiskFault) (faults old) (faults mid) → reads old ≤ reads mid
+        → ChangesStore content moment left_since faults reads old mid before before Renews Makes result
+    unplanned why is sound cause count = stopped why is (λ a b cache store room made. read_leaves only before cache a b store) refl (unless_any why only) sound cause count
+
+    -- What was planned was carried out, or wasn't.
+    pub planned : {new : D} {after : View} {Makes : Archive → Archive → Type 0} {result : Result (Unit {0}) StoreRefusal} (plans : Planning) (next : ℕ) → ((a b : Archive) (cache : List ℕ) → IsStoreWith before cache a (content old) → Makes a b → PlansArchive before.root cache a b plans next)
+        → faults mid ≡ faults old → reads old ≤ reads mid → ChangesStore content moment left_since faults reads mid new before after Renews (λ a b. (cache : List ℕ) → IsStoreWith before cache a (content mid) → PlansArchive before.root cache a b plans next) result
+        → ChangesStore content moment left_since faults reads old new before after Renews Makes result
+    planned {new} {after} {Makes} {result} plans next makes steady fewest carried = record {
+      any_moment = λ a b cache store room made.
+          joined moment left_since old mid new (RecoversOneOf cache a [] b) (RecoversOneOf cache a [] b) (RecoversOneOf cache a [] b) (read_leaves only before cache a b store) (carried.any_moment a b cache (still cache a store) room (planned_so a b made)) (λ image stands. stands) (λ image stands. stands);
+      done = λ a b cache store room made. carried.done a b cache (still cache a store) room (planned_so a b made);
+      settled = carried.settled;
+      sizes = carried.sizes;
+      goes_on = carried.goes_on;
+      slot = carried.slot;
+      same = carried.same;
+      untouched = reads_then content moment left_since faults result old mid new only carried.untouched;
+      undamaged = λ a cache store. carried.undamaged a cache (still cache a store);
+      cause = subst (λ (n : ℕ). RoseIf (result ≡ Err DiskFault) n (faults new)) steady carried.cause;
+      count = (let more = carried.count in omega (arith, fewest, more));
+    } where
+      still : (cache : List ℕ) (a : Archive) → IsStoreWith before cache a (content old) → IsStoreWith before cache a (content mid)
+      still cache a store = store_same before cache a (content old) (content mid) only.same store
+
+      planned_so : (a b : Archive) → Makes a b → (cache : List ℕ) → IsStoreWith before cache a (content mid) → PlansArchive before.root cache a b plans next
+      planned_so a b made cache own = makes a b cache (store_back before cache a (content old) (content mid) only.same own) made
+
+-- What carrying out promises, by the view of the store and of the planner.
+by_views : {D : Type 0} {content : D → Option Content} {moment : D → ℕ} {left_since : D → ℕ → Files → Type 0} {faults : D → ℕ} {old new : D} {w v : View} {free next : ℕ} {plans all : List Plan} {result : Result Root RewriteRefusal} → w ≡ v → free ≡ 1 - w.slot → plans ≡ all
+    → CarriesOut content moment left_since faults old new w.root free plans next result → CarriesOut content moment left_since faults old new v.root (1 - v.slot) all next result
+by_views {content = content} {moment} {left_since} {faults} {old} {new} {w} {v} {free} {next} {plans} {all} {result} same free_is plans_are carried =
+    subst (λ (u : View). CarriesOut content moment left_since faults old new u.root (1 - u.slot) all next result) same
+    (subst (λ (l : List Plan). CarriesOut content moment left_since faults old new w.root (1 - w.slot) l next result) plans_are
+    (subst (λ (n : ℕ). CarriesOut content moment left_since faults old new w.root n plans next result) free_is carried))
+
+module _ {D : Type 0} {content : D → Option Content} {moment : D → ℕ} {left_since : D → ℕ → Files → Type 0} {faults reads : D → ℕ} {old new : D} {w v : View} {free next : ℕ} {plans : List Plan} {p : Planning}
+    (same : w ≡ v) (free_is : free ≡ 1 - w.slot) (plans_are : plans ≡ p.plans) (fewest : reads old ≤ reads new) where
+  -- Plans were carried out.
+  pub carried_done : {root : Root} {entries : List StoredEntry} → entries ≡ p.entries → IsReady v.root p.plans next → CarriesOut content moment left_since faults old new w.root free plans next (Ok root)
+      → ChangesStore content moment left_since faults reads old new v (record { root = root; slot = free; entries = entries }) Renews (λ a b. (cache : List ℕ) → IsStoreWith v cache a (content old) → PlansArchive v.root cache a b p next) (Ok tt)
+  carried_done {root} {entries} entries_are ready carries =
+      let carried = by_views same free_is plans_are carries in
+      let slot : 1 - v.slot ≡ free = sym (free_is ∙ ap (λ (u : View). 1 - u.slot) same) in
+      subst (λ (n : ℕ). Changed (record { root = root; slot = n; entries = entries })) slot (subst (λ (es : List StoredEntry). Changed (record { root = root; slot = 1 - v.slot; entries = es })) (sym entries_are) (record {
+        any_moment = λ a b cache store room made. carried_leaves content moment left_since v cache a b p next old store (made cache store) new carried.any_moment;
+        done = λ a b cache store room made. carried_store content moment left_since v cache a b p next old store (made cache store) root (content new) carried.root_is carried.done;
+        settled = carried.settled;
+        sizes = sizes_carried root (1 - v.slot) p.entries (content new) carried.sizes;
+        goes_on = carried_on v.root root p.plans next ready carried.root_is;
+        slot = refl;
+        same = tt;
+        untouched = tt;
+        undamaged = λ a cache store. tt;
+        cause = record { later = carried.cause.later; failed = λ fault. absurd (cc fault); kept = λ never. carried.cause.kept (λ wrong. wrong) };
+        count = fewest;
+      })) where
+        Changed : View → Type 0
+        Changed after = ChangesStore content moment left_since faults reads old new v after Renews (λ a b. (cache : List ℕ) → IsStoreWith v cache a (content old) → PlansArchive v.root cache a b p next) (Ok tt)
+
+  -- The disk failed.
+  pub carried_failed : {refused : RewriteRefusal} → refused ≡ rewrite.DiskFault → CarriesOut content moment left_since faults old new w.root free plans next (Err refused)
+      → ChangesStore content moment left_since faults reads old new v v Renews (λ a b. (cache : List ℕ) → IsStoreWith v cache a (content old) → PlansArchive v.root cache a b p next) (Err DiskFault)
+  carried_failed {refused = rewrite.Short} is carries = absurd (cc is)
+  carried_failed {refused = rewrite.DiskFault} is carries =
+      let carried = by_views same free_is plans_are carries in
+      stopped DiskFault refl (λ a b cache store room made. carried_leaves content moment left_since v cache a b p next old store (made cache store) new carried.any_moment) refl tt (λ a cache store. tt)
+      (record { later = carried.cause.later; failed = λ fault. carried.cause.failed tt; kept = λ never. absurd (never refl) }) fewest
+
+  -- A range was short, so nothing was written.
+  pub carried_short : {refused : RewriteRefusal} {file : FileName} {at : ℕ} → refused ≡ rewrite.Short → CarriesOut content moment left_since faults old new w.root free plans next (Err refused)
+      → ChangesStore content moment left_since faults reads old new v v Renews (λ a b. (cache : List ℕ) → IsStoreWith v cache a (content old) → PlansArchive v.root cache a b p next) (Err (Damaged file at))
+  carried_short {refused = rewrite.DiskFault} is carries = absurd (cc is)
+  carried_short {refused = rewrite.Short} {file} {at} is carries =
+      let nothing = carries.short tt in
+      unplanned (record { same = nothing.0; any_moment = nothing.1; later = carries.cause.later }) (Damaged file at) refl (never_short v (Damaged file at) (content old) carries.whole)
+      (record { later = carries.cause.later; failed = λ fault. absurd (cc fault); kept = λ never. carries.cause.kept (λ wrong. wrong) }) fewest
