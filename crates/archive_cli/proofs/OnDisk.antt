@@ -13,7 +13,7 @@ use Rattle.root_slots.specs.declared.root.Root.{Root}
 use Rattle.std.specs.List.{Contains}
 use Rattle.arch_model.specs.Archives.{Archive, empty_archive, live as live_entries}
 use Rattle.arch_model.specs.Delivery.{Done}
-use Rattle.arch_model.specs.Keeping.{Settles, Comes, Obeys, Doubts, AnswerCause}
+use Rattle.arch_model.specs.Keeping.{Settles, Comes, Obeys, Doubts}
 use Rattle.arch_model.specs.Standing.{Standing, standing, one_of, IsFound}
 use Rattle.arch_model.specs.declared.command.Command.{Command}
 use Rattle.arch_model.specs.declared.command.Command.TheVariants.{Deliver, Remove, Purge, Edit}
@@ -29,13 +29,12 @@ use Rattle.epoch_store.specs.Files.{as_read}
 use Rattle.epoch_store.specs.Opens.{Opens, ReadsAs, ReadsWith, RecoversOf, RecoversOfWith, AllRecoverOf, AllRecoverWith, IsWant, SyncsFirst, OnSynced}
 use Rattle.epoch_store.specs.Recovery.{Recovers, RecoversSomeWith}
 use Rattle.epoch_store.specs.Finding.{IsCurrentRoot}
-use Rattle.epoch_store.specs.Stores.{View, IsStoreOf, IsStoreWith, IsDiskOf, RecoversEither, RecoversOneOf}
+use Rattle.epoch_store.specs.Stores.{View, IsStoreOf, IsStoreWith, IsDiskOf, RecoversEither}
 use Rattle.archive_core.specs.Commands.{DoneBy, cache_left}
-use Rattle.archive_core.specs.Engines.{Owning}
 use Rattle.archive_core.specs.Openings.{LeavesKindly}
 use Rattle.archive_core.proofs.Stored.{stored-length}
 use Rattle.archive_core.proofs.Engines.{all_recover, reads_one, stands_for}
-use Rattle.archive_cli.specs.DiskCommands.{Makes, unmade, IsFault, IsOpenedAs, Answers, TakesTo, ReindexesTo, ChecksTo, StandsAs, StaysUnopened, TakesOn, RunsOrStays, LeavesSame, LeavesEither}
+use Rattle.archive_cli.specs.DiskCommands.{Makes, unmade, IsFault, IsOpenedAs, IsOwn, IsDone, Answers, TakesTo, ReindexesTo, ChecksTo, StandsAs, StaysUnopened, TakesOn, RunsOrStays, LeavesSame, LeavesEither}
 use Rattle.archive_cli.specs.declared.outcome.Outcome.{Outcome}
 use Rattle.archive_cli.specs.declared.outcome.Outcome.TheVariants.{Made, Reindexed, Checked, Answered, Unopened}
 
@@ -119,11 +118,11 @@ refused-cause before now why rose = record { later = rose.later; failed = λ fau
     to_why (refusal.Damaged file at) same = absurd (cc same)
 
 -- A command was answered on what was opened.
-pub answered-cause : (before mid now : ℕ) (reply : Answer) → mid ≡ before → mid ≤ now → AnswerCause mid now reply → ((reply ≡ answer.DiskFault → ⊥) → now ≡ mid) → RoseIf (IsFault (Answered reply)) before now
-answered-cause before mid now reply same later cause steady = record {
-  later = omega (arith, same, later);
-  failed = λ fault. let rose : Rose mid now = subst (λ (r : Answer). AnswerCause mid now r) (of_answer fault) cause in omega (arith, same, rose);
-  kept = λ free. steady (λ is. free (inl (ap Answered is))) ∙ same;
+pub answered-cause : (before mid now : ℕ) (reply : Answer) → mid ≡ before → RoseIf (reply ≡ answer.DiskFault) mid now → RoseIf (IsFault (Answered reply)) before now
+answered-cause before mid now reply same rose = record {
+  later = omega (arith, same, rose.later);
+  failed = λ fault. let risen : Rose mid now = rose.failed (of_answer fault) in omega (arith, same, risen);
+  kept = λ free. rose.kept (λ is. free (inl (ap Answered is))) ∙ same;
 }
   where
     of_answer : IsFault (Answered reply) → reply ≡ answer.DiskFault
@@ -167,7 +166,7 @@ opened-as v None entries live next answer count following = tt
 opened-as v (Some k) entries live next answer count following = (v, answer, count, following)
 
 -- Where there was no cache a command leaves none.
-no-cache : (command : Command) → cache_left command [] ≡ []
+pub no-cache : (command : Command) → cache_left command [] ≡ []
 no-cache (Deliver bytes) = refl
 no-cache (Remove number) = refl
 no-cache (Purge number) = refl
@@ -249,20 +248,20 @@ module _ {D : Type 0} (content : D → Option Content) (moment : D → ℕ) (lef
       )
 
   -- An archive was opened.
-  module _ (old : D) (e : Owning D) (done : (a : Archive) (cache : List ℕ) → ReadsWith cache a (content old) → IsStoreWith e.view cache a (content e.disk)) (first : SyncsFirst content moment left_since old e.disk) where
+  module _ (old opened : D) (v : View) (done : (a : Archive) (cache : List ℕ) → ReadsWith cache a (content old) → IsStoreWith v cache a (content opened)) (first : SyncsFirst content moment left_since old opened) where
     -- It is the one that was found.
-    pub opened-stands : (s : Standing) → StandsAs s (content old) → (t : Standing) × StandsAs t (content e.disk) × (Settles s t × ReadsAs t.archive (content old))
+    pub opened-stands : (s : Standing) → StandsAs s (content old) → (t : Standing) × StandsAs t (content opened) × (Settles s t × ReadsAs t.archive (content old))
     opened-stands s all =
         let found = found-at s old all in (
           standing found.0 None,
-          one-stands found.0 e.disk (λ image left. now-left first.synced e.disk (λ (i : Files). Recovers i found.0) (first.after found.0 [] found.2) image left),
+          one-stands found.0 opened (λ image left. now-left first.synced opened (λ (i : Files). Recovers i found.0) (first.after found.0 [] found.2) image left),
           (record { found = found.1; sure = refl }, found.2),
         )
 
     -- What a crash leaves once it was opened, and after what is done then.
-    runs-then : (new : D) (leaves : Archive → Files → Type 0) → WhereTold (λ (k : Content). Opens (as_read k) (Ok e.view)) (content old) → ((a : Archive) → ReadsAs a (content old) → LeavesOnly moment left_since first.synced new (leaves a)) → RunsOrStays content moment left_since old new leaves
+    runs-then : (new : D) (leaves : Archive → Files → Type 0) → WhereTold (λ (k : Content). Opens (as_read k) (Ok v)) (content old) → ((a : Archive) → ReadsAs a (content old) → LeavesOnly moment left_since first.synced new (leaves a)) → RunsOrStays content moment left_since old new leaves
     runs-then new leaves answer after = λ may all.
-        let found = read-among may (content old) (reads_fit old) all e.view answer in
+        let found = read-among may (content old) (reads_fit old) all v answer in
         inr (record {
           found = found.0;
           is_among = found.1;
@@ -273,60 +272,49 @@ module _ {D : Type 0} (content : D → Option Content) (moment : D → ℕ) (lef
           after = after found.0 found.2;
         })
 
-    pub opened-runs : WhereTold (λ (k : Content). Opens (as_read k) (Ok e.view)) (content old) → RunsOrStays content moment left_since old e.disk LeavesSame
-    opened-runs answer = runs-then e.disk LeavesSame answer (λ a reads. first.after a [] reads)
+    pub opened-runs : WhereTold (λ (k : Content). Opens (as_read k) (Ok v)) (content old) → RunsOrStays content moment left_since old opened LeavesSame
+    opened-runs answer = runs-then opened LeavesSame answer (λ a reads. first.after a [] reads)
 
     -- A command was taken.
-    module _ (new : Owning D) (command : Command) (wanted : Archive → Done) (reply : Answer)
-        (taken : (a : Archive) (cache : List ℕ) → IsStoreWith e.view cache a (content e.disk) → DoneBy new.view cache (cache_left command cache) a (wanted a) reply (content new.disk))
-        (left : (a : Archive) (cache : List ℕ) → IsStoreWith e.view cache a (content e.disk) → LeavesOnly moment left_since e.disk new.disk (RecoversOneOf cache a (cache_left command cache) (wanted a).archive)) where
-      taken-bare : (a : Archive) → IsStoreOf e.view a (content e.disk) → DoneBy new.view [] [] a (wanted a) reply (content new.disk)
-      taken-bare a store = subst (λ (cache : List ℕ). DoneBy new.view [] cache a (wanted a) reply (content new.disk)) (no-cache command) (taken a [] store)
-
-      left-bare : (a : Archive) → IsStoreOf e.view a (content e.disk) → LeavesOnly moment left_since e.disk new.disk (RecoversEither a (wanted a).archive)
-      left-bare a store = subst (λ (cache : List ℕ). LeavesOnly moment left_since e.disk new.disk (RecoversOneOf [] a cache (wanted a).archive)) (no-cache command) (left a [] store)
-
-      pub taken-answers : (a : Archive) → ReadsAs a (content old) → Answers a (wanted a) reply (content new.disk)
-      taken-answers a reads = done-answers new.view a (wanted a) reply (content new.disk) (taken-bare a (done a [] reads))
-
-      pub taken-runs : WhereTold (λ (k : Content). Opens (as_read k) (Ok e.view)) (content old) → RunsOrStays content moment left_since old new.disk (LeavesEither wanted)
-      taken-runs answer = runs-then new.disk (LeavesEither wanted) answer (λ a reads. joined moment left_since first.synced e.disk new.disk (λ (i : Files). Recovers i a) (RecoversEither a (wanted a).archive) (RecoversEither a (wanted a).archive) (first.after a [] reads) (left-bare a (done a [] reads)) (λ image one. inl one) (λ image either. either))
+    module _ (new : D) (wanted : Archive → Done) (left : (a : Archive) → IsStoreOf v a (content opened) → LeavesOnly moment left_since opened new (LeavesEither wanted a)) where
+      pub taken-runs : WhereTold (λ (k : Content). Opens (as_read k) (Ok v)) (content old) → RunsOrStays content moment left_since old new (LeavesEither wanted)
+      taken-runs answer = runs-then new (LeavesEither wanted) answer (λ a reads. joined moment left_since first.synced opened new (λ (i : Files). Recovers i a) (RecoversEither a (wanted a).archive) (RecoversEither a (wanted a).archive) (first.after a [] reads) (left a (done a [] reads)) (λ image one. inl one) (λ image either. either))
 
       module _ (s : Standing) (b : Archive) (found : IsFound s b) (reads : ReadsAs b (content old)) where
         -- The disk of a store's archive.
-        own-stands : (a : Archive) → IsStoreOf new.view a (content new.disk) → StandsAs (standing a None) (content new.disk)
-        own-stands a store = one-stands a new.disk (λ image now. stands_for new.view [] a (content new.disk) image store now)
+        own-stands : (a : Archive) → IsOwn a (content new) → StandsAs (standing a None) (content new)
+        own-stands a own = one-stands a new (λ image now. stands_for own.0 [] a (content new) image own.1 now)
 
-        stands-done : (r : Answer) → reply ≡ r → (wanted b).answer ≡ r → IsStoreOf new.view (wanted b).archive (content new.disk) → ((t : Standing) → Obeys (standing b None) wanted r t → Comes true (standing b None) wanted r t) → (t : Standing) × StandsAs t (content new.disk) × TakesOn s (content old) wanted (Answered r) t
-        stands-done r is answer_is store comes =
-            let obeys : Obeys (standing b None) wanted r (standing (wanted b).archive None) = record { found = b; is_found = inl refl; answer_is = answer_is; stands = refl } in
-            (standing (wanted b).archive None, own-stands (wanted b).archive store, record { found = b; is_found = found; reads = reads; comes = comes (standing (wanted b).archive None) obeys })
+        stands-done : (r : Answer) → IsDone (wanted b) r (content new) → ((t : Standing) → Obeys (standing b None) wanted r t → Comes true (standing b None) wanted r t) → (t : Standing) × StandsAs t (content new) × TakesOn s (content old) wanted (Answered r) t
+        stands-done r is comes =
+            let obeys : Obeys (standing b None) wanted r (standing (wanted b).archive None) = record { found = b; is_found = inl refl; answer_is = is.answer_is; stands = refl } in
+            (standing (wanted b).archive None, own-stands (wanted b).archive is.own, record { found = b; is_found = found; reads = reads; comes = comes (standing (wanted b).archive None) obeys })
 
-        stands-by : (r : Answer) → reply ≡ r → DoneBy new.view [] [] b (wanted b) r (content new.disk) → (t : Standing) × StandsAs t (content new.disk) × TakesOn s (content old) wanted (Answered r) t
-        stands-by answer.NoMemory is store = (standing b None, own-stands b store, record { found = b; is_found = found; reads = reads; comes = inr (record { found = inl refl; sure = refl }) })
-        stands-by answer.DiskFault is nothing =
-            let run = left-bare b (done b [] reads) in
+        stands-by : (r : Answer) → Answers b (wanted b) r (content new) → (t : Standing) × StandsAs t (content new) × TakesOn s (content old) wanted (Answered r) t
+        stands-by answer.NoMemory own = (standing b None, own-stands b own, record { found = b; is_found = found; reads = reads; comes = inr (record { found = inl refl; sure = refl }) })
+        stands-by answer.DiskFault nothing =
+            let run = left b (done b [] reads) in
             let doubts : Doubts (standing b None) wanted (standing b (Some (wanted b).archive)) = record { found = b; is_found = inl refl; stands = refl } in (
               standing b (Some (wanted b).archive),
-              all_recover (standing b (Some (wanted b).archive)) [] (content new.disk) (λ image now. of_either image (now-left e.disk new.disk (RecoversEither b (wanted b).archive) run image now)),
+              all_recover (standing b (Some (wanted b).archive)) [] (content new) (λ image now. of_either image (now-left opened new (RecoversEither b (wanted b).archive) run image now)),
               record { found = b; is_found = found; reads = reads; comes = inr doubts },
             )
           where
             of_either : (image : Files) → RecoversEither b (wanted b).archive image → RecoversOf (one_of (standing b (Some (wanted b).archive))) image
             of_either image (inl before) = (Some b, (0, omega arith, refl), before)
             of_either image (inr after) = (Some (wanted b).archive, (1, omega arith, refl), after)
-        stands-by (answer.Ok number id) is d = stands-done (answer.Ok number id) is d.answer_is d.store (λ t obeys. obeys)
-        stands-by (answer.Duplicate number) is d = stands-done (answer.Duplicate number) is d.answer_is d.store (λ t obeys. obeys)
-        stands-by answer.NoFields is d = stands-done answer.NoFields is d.answer_is d.store (λ t obeys. obeys)
-        stands-by (answer.TooLarge len) is d = stands-done (answer.TooLarge len) is d.answer_is d.store (λ t obeys. obeys)
-        stands-by (answer.Full max) is d = stands-done (answer.Full max) is d.answer_is d.store (λ t obeys. obeys)
-        stands-by (answer.Collision number) is d = stands-done (answer.Collision number) is d.answer_is d.store (λ t obeys. obeys)
-        stands-by answer.IsMirror is d = stands-done answer.IsMirror is d.answer_is d.store (λ t obeys. obeys)
-        stands-by (answer.NotLive number) is d = stands-done (answer.NotLive number) is d.answer_is d.store (λ t obeys. obeys)
-        stands-by (answer.NoText number) is d = stands-done (answer.NoText number) is d.answer_is d.store (λ t obeys. obeys)
-        stands-by (answer.Damaged file at) is never = absurd never
+        stands-by (answer.Ok number id) is = stands-done (answer.Ok number id) is (λ t obeys. obeys)
+        stands-by (answer.Duplicate number) is = stands-done (answer.Duplicate number) is (λ t obeys. obeys)
+        stands-by answer.NoFields is = stands-done answer.NoFields is (λ t obeys. obeys)
+        stands-by (answer.TooLarge len) is = stands-done (answer.TooLarge len) is (λ t obeys. obeys)
+        stands-by (answer.Full max) is = stands-done (answer.Full max) is (λ t obeys. obeys)
+        stands-by (answer.Collision number) is = stands-done (answer.Collision number) is (λ t obeys. obeys)
+        stands-by answer.IsMirror is = stands-done answer.IsMirror is (λ t obeys. obeys)
+        stands-by (answer.NotLive number) is = stands-done (answer.NotLive number) is (λ t obeys. obeys)
+        stands-by (answer.NoText number) is = stands-done (answer.NoText number) is (λ t obeys. obeys)
+        stands-by (answer.Damaged file at) never = absurd never
 
-      pub taken-stands : (s : Standing) → StandsAs s (content old) → (t : Standing) × StandsAs t (content new.disk) × TakesOn s (content old) wanted (Answered reply) t
-      taken-stands s all =
+      pub taken-stands : (reply : Answer) → ((a : Archive) → IsStoreOf v a (content opened) → Answers a (wanted a) reply (content new)) → (s : Standing) → StandsAs s (content old) → (t : Standing) × StandsAs t (content new) × TakesOn s (content old) wanted (Answered reply) t
+      taken-stands reply answers s all =
           let found = found-at s old all in
-          stands-by s found.0 found.1 found.2 reply refl (taken-bare found.0 (done found.0 [] found.2))
+          stands-by s found.0 found.1 found.2 reply (answers found.0 (done found.0 [] found.2))

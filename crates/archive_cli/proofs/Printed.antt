@@ -23,7 +23,7 @@ use Rattle.edge_io.specs.Coming.{Moments, IsFirst}
 use Rattle.archive_cli.specs.Outcomes.{outcome_line, status_of}
 use Rattle.archive_cli.specs.declared.outcome.Outcome.{Outcome}
 use Rattle.archive_cli.specs.declared.outcome.Outcome.TheVariants.{Answered}
-use Rattle.archive_cli.specs.Program.{Edges, all_edges, NoneFailed, Acts, EndsBy, InitActs, CommandActs, MessageActs, putting, AsksForMessage, AsksForCommand, ReindexActs, CheckActs, PlaysPart, IsInput, IsDue, Ends, Ran, input_limit, message_of, TookAtMost}
+use Rattle.archive_cli.specs.Program.{Edges, all_edges, NoneFailed, JobActs, JobEnds, InitActs, CommandActs, MessageActs, putting, AsksForMessage, AsksForCommand, ReindexActs, CheckActs, PlaysPart, IsInput, IsDue, Ends, Ran, input_limit, message_of, TookAtMost}
 use Rattle.archive_cli.specs.Printing.{Printed, Exactly, IsLoadDue, IsReplayDue, Replayed, IsPieceRead, JobDone, InputDone, IsUnread}
 use Rattle.archive_cli.specs.declared.status.Status.{Status}
 use Rattle.archive_cli.specs.declared.status.Status.TheVariants as exit
@@ -123,7 +123,7 @@ ran-loaded words count seed status i j asked kept input clock disk p =
 pub ran-made : (words : List (List ℕ)) (config : Config) (status : Status) (i j : Edges) → AsksFor words (Init config) → JobDone (InitActs config) status i j → Ran words status i j
 ran-made words config status i j asked (inl p) =
     let given = some-input i.left in
-    ran-printed words given.0 status i j (EndsBy (InitActs config) i j) given.1 (λ s printed due. inl (record { job = Some (Init config); asked = asked; ends = due })) p
+    ran-printed words given.0 status i j (JobEnds (InitActs config) i j) given.1 (λ s printed due. inl (record { job = Some (Init config); asked = asked; ends = due })) p
 ran-made words config status i j asked (inr missed) = inr (inr (inl (record { asked = inl (config, asked); rose = missed.1; silent = missed.0 })))
 
 -- The job that puts the message on the input into the archive.
@@ -135,14 +135,14 @@ asks-put : (words : List (List ℕ)) (place : Option ℕ) → AsksFor words (put
 asks-put words None asked = inl asked
 asks-put words (Some number) asked = inr (number, asked)
 
-ends-put : (place : Option ℕ) (input : List ℕ) (i j : Edges) (s : Status) (printed : List ℕ) → EndsBy (MessageActs place (message_of input)) i j s printed → Ends (Some (putting_job place)) input i j s printed
+ends-put : (place : Option ℕ) (input : List ℕ) (i j : Edges) (s : Status) (printed : List ℕ) → JobEnds (MessageActs place (message_of input)) i j s printed → Ends (Some (putting_job place)) input i j s printed
 ends-put None input i j s printed ends = ends
 ends-put (Some number) input i j s printed ends = ends
 
 -- A message that was to be put there is a run.
 pub ran-put : (words : List (List ℕ)) (place : Option ℕ) (status : Status) (i j : Edges) → AsksFor words (putting_job place) → InputDone place status i j → Ran words status i j
 ran-put words place status i j asked (inl (input, told, inl p)) =
-    ran-printed words input status i j (EndsBy (MessageActs place (message_of input)) i j) told (λ s printed due. inl (record { job = Some (putting_job place); asked = asked; ends = ends-put place input i j s printed due })) p
+    ran-printed words input status i j (JobEnds (MessageActs place (message_of input)) i j) told (λ s printed due. inl (record { job = Some (putting_job place); asked = asked; ends = ends-put place input i j s printed due })) p
 ran-put words place status i j asked (inl (input, told, inr missed)) = inr (inr (inl (record { asked = inr (inl (asks-put words place asked)); rose = missed.1; silent = missed.0 })))
 ran-put words place status i j asked (inr (inl p)) =
     let given = some-input i.left in
@@ -150,22 +150,22 @@ ran-put words place status i j asked (inr (inl p)) =
 ran-put words place status i j asked (inr (inr failed)) = inr (inl (record { asked = inr (asks-put words place asked); rose = failed.1; silent = failed.0 }))
 
 -- A command without a message is a run.
-pub ran-command : (words : List (List ℕ)) (job : Job) (wanted : ℕ → Archive → Done) (status : Status) (i j : Edges) → AsksFor words job → AsksForCommand words → ((input : List ℕ) (s : Status) (printed : List ℕ) → EndsBy (CommandActs wanted) i j s printed → Ends (Some job) input i j s printed)
+pub ran-command : (words : List (List ℕ)) (job : Job) (wanted : ℕ → Archive → Done) (status : Status) (i j : Edges) → AsksFor words job → AsksForCommand words → ((input : List ℕ) (s : Status) (printed : List ℕ) → JobEnds (CommandActs wanted) i j s printed → Ends (Some job) input i j s printed)
     → JobDone (CommandActs wanted) status i j → Ran words status i j
 ran-command words job wanted status i j asked command ends (inl p) =
     let given = some-input i.left in
-    ran-printed words given.0 status i j (EndsBy (CommandActs wanted) i j) given.1 (λ s printed due. inl (record { job = Some job; asked = asked; ends = ends given.0 s printed due })) p
+    ran-printed words given.0 status i j (JobEnds (CommandActs wanted) i j) given.1 (λ s printed due. inl (record { job = Some job; asked = asked; ends = ends given.0 s printed due })) p
 ran-command words job wanted status i j asked command ends (inr missed) = inr (inr (inl (record { asked = inr command; rose = missed.1; silent = missed.0 })))
 
 -- A reindexing is a run.
-pub ran-reindexed : (words : List (List ℕ)) (status : Status) (i j : Edges) (o : Outcome) → AsksFor words Reindex → Acts ReindexActs i j o → Printed (Exactly (whole_line (outcome_line o)) (status_of o)) status i.taken i.lost j.taken j.lost → Ran words status i j
+pub ran-reindexed : (words : List (List ℕ)) (status : Status) (i j : Edges) (o : Outcome) → AsksFor words Reindex → JobActs ReindexActs i j o → Printed (Exactly (whole_line (outcome_line o)) (status_of o)) status i.taken i.lost j.taken j.lost → Ran words status i j
 ran-reindexed words status i j o asked acts p =
     let given = some-input i.left in
     ran-printed words given.0 status i j (Exactly (whole_line (outcome_line o)) (status_of o)) given.1
     (λ s printed e. inl (record { job = Some Reindex; asked = asked; ends = record { outcome = o; acts = acts; status_is = e.status_is; printed_is = e.words_is } })) p
 
 -- A check is a run.
-pub ran-checked : (words : List (List ℕ)) (status : Status) (i j : Edges) (o : Outcome) → AsksFor words Check → Acts CheckActs i j o → Printed (Exactly (whole_line (outcome_line o)) (status_of o)) status i.taken i.lost j.taken j.lost → Ran words status i j
+pub ran-checked : (words : List (List ℕ)) (status : Status) (i j : Edges) (o : Outcome) → AsksFor words Check → JobActs CheckActs i j o → Printed (Exactly (whole_line (outcome_line o)) (status_of o)) status i.taken i.lost j.taken j.lost → Ran words status i j
 ran-checked words status i j o asked acts p =
     let given = some-input i.left in
     ran-printed words given.0 status i j (Exactly (whole_line (outcome_line o)) (status_of o)) given.1
@@ -180,15 +180,15 @@ ran-served words turns port run status i j asked fault input clock p =
     (λ s printed e. inl (record { job = Some (Serve turns port); asked = asked; ends = record { run = run; status_is = e.status_is; printed_is = e.words_is; fault = fault; input_kept = input; clock_kept = clock } })) p
 
 -- What was printed of an outcome is due by it.
-pub outcome-due : (did : ℕ → Option Content → Option Content → Outcome → Type 0) (status : Status) (i j : Edges) (o : Outcome) → Acts did i j o → Printed (Exactly (whole_line (outcome_line o)) (status_of o)) status i.taken i.lost j.taken j.lost → Printed (EndsBy did i j) status i.taken i.lost j.taken j.lost
+pub outcome-due : (did : ℕ → Option Content → Option Content → Outcome → Type 0) (status : Status) (i j : Edges) (o : Outcome) → JobActs did i j o → Printed (Exactly (whole_line (outcome_line o)) (status_of o)) status i.taken i.lost j.taken j.lost → Printed (JobEnds did i j) status i.taken i.lost j.taken j.lost
 outcome-due did status i j o acts p =
-    printed-as i.taken i.lost j.taken j.lost (Exactly (whole_line (outcome_line o)) (status_of o)) (EndsBy did i j) status p
+    printed-as i.taken i.lost j.taken j.lost (Exactly (whole_line (outcome_line o)) (status_of o)) (JobEnds did i j) status p
     (λ s words e. record { outcome = o; acts = acts; status_is = e.status_is; printed_is = e.words_is })
 
 -- What a job did is also something else.
 pub job-as : (did other : ℕ → Option Content → Option Content → Outcome → Type 0) (status : Status) (i j : Edges) → ((moment : ℕ) (old new : Option Content) (o : Outcome) → did moment old new o → other moment old new o) → JobDone did status i j → JobDone other status i j
 job-as did other status i j also (inl p) =
-    inl (printed-as i.taken i.lost j.taken j.lost (EndsBy did i j) (EndsBy other i j) status p (λ s words due. record {
+    inl (printed-as i.taken i.lost j.taken j.lost (JobEnds did i j) (JobEnds other i j) status p (λ s words due. record {
       outcome = due.outcome;
       acts = record { moment = due.acts.moment; first = due.acts.first; acts = also due.acts.moment i.content j.content due.outcome due.acts.acts; fault = due.acts.fault; input_kept = due.acts.input_kept; clock_kept = due.acts.clock_kept; disk_kept = due.acts.disk_kept };
       status_is = due.status_is;

@@ -149,8 +149,8 @@ IsOpenedAs files (Made name) = ⊥
 IsOpenedAs files Exists = ⊥
 
 -- What can't be opened is left alone. Without an archive, and with a damaged file, all files are
--- synced and nothing more. Out of memory the files still read as the same archive. This says
--- nothing of any other outcome.
+-- synced and nothing more. Out of memory the files still read as the same archive. Nothing is
+-- said of a fault of the disk, nor of any other outcome.
 abbrev pub LeavesUnopened : Outcome → Option Content → Option Content → Type 0
 LeavesUnopened (Unopened why) old new = LeavesKindly why old new
 LeavesUnopened (Reindexed live) old new = Unit {0}

@@ -9,7 +9,7 @@ use Rattle.disk_model.specs.Disk.{Content}
 use Rattle.answer_lines.specs.Lines.{whole_line}
 use Rattle.archive_cli.specs.declared.outcome.Outcome.{Outcome}
 use Rattle.archive_cli.specs.Loading.{loaded_line}
-use Rattle.archive_cli.specs.Program.{Edges, NoneFailed, EndsBy, MessageActs, IsSilent, IsInput, input_limit, message_of, PlaysPart, Replays, StopsShort}
+use Rattle.archive_cli.specs.Program.{Edges, NoneFailed, JobEnds, MessageActs, IsSilent, IsInput, input_limit, message_of, PlaysPart, Replays, PlaysShort}
 use Rattle.edge_io.specs.Left.{before, IsUsedUp}
 use Rattle.archive_cli.specs.Serving.{ServeRun, run_line, run_status}
 use Rattle.archive_cli.specs.Statuses.{code_of}
@@ -42,7 +42,7 @@ pub record Exactly (words : List ℕ) (status due_status : Status) (printed : Li
 -- What a script on an input is due to print, over an archive with these settings.
 abbrev pub IsReplayDue : Config → List ℕ → Status → List ℕ → Type 0
 IsReplayDue config input status printed = Replays config input status printed
-    ⊎ StopsShort config input status printed
+    ⊎ PlaysShort config input status printed
 
 -- What a load is due to print: the line of its archive, or that memory ran out.
 abbrev pub IsLoadDue : ℕ → ℕ → Status → List ℕ → Type 0
@@ -108,7 +108,7 @@ MissesMoment status i j = IsSilent status i j × Rose i.missed j.missed
 -- failed.
 abbrev pub JobDone : (ℕ → Option Content → Option Content → Outcome → Type 0) → Status → Edges
     → Edges → Type 0
-JobDone did status i j = Printed (EndsBy did i j) status i.taken i.lost j.taken j.lost
+JobDone did status i j = Printed (JobEnds did i j) status i.taken i.lost j.taken j.lost
     ⊎ MissesMoment status i j
 
 -- The message was not read, because memory ran out. No device failed.

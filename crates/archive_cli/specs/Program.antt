@@ -184,7 +184,7 @@ pub record CheckActs (moment : ℕ) (old new : Option Content) (o : Outcome) : T
 -- the content of the disk before and after, and by the outcome. The input and the clock didn't fail.
 -- The disk's count of faults rose if the outcome tells that the disk failed, and otherwise stays. So
 -- no fault is told as out of memory.
-pub record Acts (did : ℕ → Option Content → Option Content → Outcome → Type 0) (i j : Edges)
+pub record JobActs (did : ℕ → Option Content → Option Content → Outcome → Type 0) (i j : Edges)
     (o : Outcome) : Type 0 where
   pub moment : ℕ
   pub first : IsFirst moment i.coming
@@ -195,10 +195,10 @@ pub record Acts (did : ℕ → Option Content → Option Content → Outcome →
   pub disk_kept : (IsFault o → ⊥) → j.broken ≡ i.broken
 
 -- What a job over the archive on a disk ends with, by what it did there.
-pub record EndsBy (did : ℕ → Option Content → Option Content → Outcome → Type 0) (i j : Edges)
+pub record JobEnds (did : ℕ → Option Content → Option Content → Outcome → Type 0) (i j : Edges)
     (status : Status) (printed : List ℕ) : Type 0 where
   pub outcome : Outcome
-  pub acts : Acts did i j outcome
+  pub acts : JobActs did i j outcome
   pub status_is : status ≡ status_of outcome
   pub printed_is : printed ≡ whole_line (outcome_line outcome)
 
@@ -222,17 +222,17 @@ Ends (Some Version) input i j status printed = (status ≡ exit.Done) × (printe
 Ends (Some (Replay config)) input i j status printed = Replays config input status printed
 Ends (Some (Load count seed)) input i j status printed = (status ≡ exit.Done)
     × (printed ≡ whole_line (loaded_line count seed))
-Ends (Some (Init config)) input i j status printed = EndsBy (InitActs config) i j status printed
+Ends (Some (Init config)) input i j status printed = JobEnds (InitActs config) i j status printed
 Ends (Some Deliver) input i j status printed =
-    EndsBy (DeliverActs (message_of input)) i j status printed
+    JobEnds (DeliverActs (message_of input)) i j status printed
 Ends (Some (Remove number)) input i j status printed =
-    EndsBy (CommandActs (removing number)) i j status printed
+    JobEnds (CommandActs (removing number)) i j status printed
 Ends (Some (Purge number)) input i j status printed =
-    EndsBy (CommandActs (purging number)) i j status printed
+    JobEnds (CommandActs (purging number)) i j status printed
 Ends (Some (Edit number)) input i j status printed =
-    EndsBy (CommandActs (editing number (message_of input))) i j status printed
-Ends (Some Reindex) input i j status printed = EndsBy ReindexActs i j status printed
-Ends (Some Check) input i j status printed = EndsBy CheckActs i j status printed
+    JobEnds (CommandActs (editing number (message_of input))) i j status printed
+Ends (Some Reindex) input i j status printed = JobEnds ReindexActs i j status printed
+Ends (Some Check) input i j status printed = JobEnds CheckActs i j status printed
 Ends (Some (Serve turns port)) input i j status printed = ServeEnds i j status printed
 
 -- What a run of words on an input ends with, by the rules.
@@ -252,7 +252,7 @@ pub record PlaysPart (config : Config) (input : List ℕ) (frames : List ℕ) : 
 
 -- Out of memory, a script isn't played; or all of it is, and the frames of its first events are
 -- printed, and then a line that tells of it.
-pub record StopsShort (config : Config) (input : List ℕ) (status : Status) (printed : List ℕ)
+pub record PlaysShort (config : Config) (input : List ℕ) (status : Status) (printed : List ℕ)
     : Type 0 where
   pub status_is : status ≡ exit.Memory
   pub frames : List ℕ
@@ -264,7 +264,7 @@ pub record ReplayRunsOut (words : List (List ℕ)) (input : List ℕ) (i j : Edg
     (printed : List ℕ) : Type 0 where
   pub config : Config
   pub asked : AsksFor words (Replay config)
-  pub stops : StopsShort config input status printed
+  pub stops : PlaysShort config input status printed
   pub spared : NoneFailed i j
 
 -- The words ask to edit a message.
@@ -275,7 +275,8 @@ AsksForEdit words = (number : ℕ) × AsksFor words (Edit number)
 abbrev pub AsksForMessage : List (List ℕ) → Type 0
 AsksForMessage words = AsksFor words Deliver ⊎ AsksForEdit words
 
--- Out of memory, a message isn't read, and the disk is unchanged. No device failed.
+-- The words ask for a delivery or an edit, whose message isn't read, since memory ran out. The disk is
+-- unchanged, and no device failed.
 pub record DeliverRunsOut (words : List (List ℕ)) (i j : Edges) (status : Status) (printed : List ℕ)
     : Type 0 where
   pub asked : AsksForMessage words

@@ -48,11 +48,12 @@ pub data ServeRun : Type 0 where
   Shut : OpenRefusal → ServeRun
   Ended : ServeEnd → ServeRun
 
--- Its status, and what is printed.
+-- The status of a run by how it ended.
 abbrev pub run_status : ServeRun → Status
 run_status (Shut why) = refusal_status why
 run_status (Ended how) = end_status how
 
+-- What is printed of it: a line of why the archive was not opened, or what serving ended with.
 abbrev pub run_line : ServeRun → List ℕ
 run_line (Shut why) = whole_line (refusal_line why)
 run_line (Ended how) = end_line how
@@ -65,6 +66,7 @@ pub record Hosted : Type 0 where
   pub faults : ℕ
   pub out : Outer
 
+-- The host of these four parts.
 abbrev pub hosted : hosts.Told → hosts.Told → ℕ → Outer → Hosted
 hosted given left faults out = record { given = given; left = left; faults = faults; out = out }
 
@@ -74,8 +76,8 @@ pub record TookFrom (arrivals : List Arrival) (i j : Hosted) : Type 0 where
   pub left_is : i.left ≡ before_all arrivals j.left
   pub later : i.faults ≤ j.faults
 
--- All of the host of a run stayed: it wasn't asked, and nothing was sent. The disk's count of faults
--- is its own.
+-- All of the host of a run stayed: it wasn't asked, and nothing was sent. Of the disk's count of
+-- faults nothing is said.
 pub record HostKept (i j : Hosted) : Type 0 where
   pub given_kept : j.given ≡ i.given
   pub left_kept : j.left ≡ i.left

@@ -11,11 +11,12 @@ use Rattle.node_serve.specs.Plain.{plain_turns, last_world}
 use Rattle.node_serve.specs.Turns.{Turn, Served}
 use Rattle.node_serve.specs.World.{World, outer}
 
--- The events up to the first stop, and that one if there is one.
+-- The events after one that is a stop or none: no more are kept after a stop.
 abbrev pub kept_after : Bool → List Arrival → List Arrival
 kept_after true arrivals = []
 kept_after false arrivals = arrivals
 
+-- The events up to the first stop, and that one if there is one.
 abbrev pub to_stop : List Arrival → List Arrival
 to_stop [] = []
 to_stop (e ∷ es) = e ∷ kept_after (is_stop e.0.what) (to_stop es)

@@ -136,7 +136,7 @@ pub record IsReplay (words : List (List ℕ)) (config : Config) : Type 0 where
   pub made : IsMade after settings config
   pub no_mirror : mirrors settings ≡ []
 
--- The word of a command, and then a number of a message, from 1 to 2147483647, in decimal.
+-- The word of a command, and then a number of a message, from 1 to 2,147,483,647, in decimal.
 pub record IsNumbered (command : List ℕ) (words : List (List ℕ)) (number : ℕ) : Type 0 where
   pub is : words ≡ command ∷ decimal number ∷ []
   pub range : IsUpTo 2147483647 number
@@ -183,7 +183,7 @@ pub record IsServe (words : List (List ℕ)) (turns port : ℕ) : Type 0 where
   pub ranges : All IsServeOption options
   pub gives : Gives options turns port
 
--- The word `load`, and then a count from 1 to 20000 and a seed below 2^64, in decimal.
+-- The word `load`, and then a count from 1 to 20,000 and a seed below 2^64, in decimal.
 pub record IsLoad (words : List (List ℕ)) (count seed : ℕ) : Type 0 where
   pub is : words ≡ codes "load" ∷ decimal count ∷ decimal seed ∷ []
   pub range : IsUpTo 20000 count

@@ -8,15 +8,17 @@ ghost use Rattle.arch_base.specs.Moments.{last_moment};
 ghost use Rattle.disk_model.specs.Disk.{WhereTold, LeavesOnly};
 ghost use Rattle.arch_model.specs.Archives.{Archive, empty_archive};
 ghost use Rattle.arch_model.specs.Standing.{Standing};
+ghost use Rattle.arch_model.specs.declared.answer.Answer.{Answer};
 ghost use Rattle.epoch_store.specs.Files.{as_read};
 ghost use Rattle.epoch_store.specs.First.{MakingLeaves};
 ghost use Rattle.epoch_store.specs.Opens.{ReadsAs};
-ghost use Rattle.archive_cli.specs.DiskCommands.{Makes, unmade, TakesTo, ReindexesTo, ChecksTo, IsOpenedAs, LeavesUnopened, IsReply, IsReindex, IsCheck, StandsAs, TakesOn, ReindexesOn, ChecksOn, RunsOrStays, LeavesSame, LeavesEither, IsFault, taking};
+ghost use Rattle.epoch_store.specs.Stores.{IsStoreOf, HasSizes};
+ghost use Rattle.archive_cli.specs.DiskCommands.{Makes, unmade, Answers, TakesTo, ReindexesTo, ChecksTo, IsOpenedAs, LeavesUnopened, IsReply, IsReindex, IsCheck, StandsAs, TakesOn, ReindexesOn, ChecksOn, RunsOrStays, LeavesSame, LeavesEither, IsFault, taking};
 
 use crate::outcome::Outcome;
 use arch_base::Config;
 use arch_model::{Answer, Command};
-use archive_core::{CountedArchive, Engine, NotMade, NotOpened};
+use archive_core::{CountedArchive, DiskArchive, Engine, NotMade, NotOpened};
 use disk_model::Disk;
 use epoch_store::InitRefusal;
 use std::alloc::Global;
@@ -66,14 +68,39 @@ pub(crate) fn take<D: Disk>(
     ensures kind { IsReply result.0 }
     ensures cause { RoseIf (IsFault result.0) (D.faults disk) (D.faults result.1) }
 {
-    match Engine::open(alloc, disk) {
-        Ok(engine) => {
-            let mut engine = engine;
-            let answer = engine.take(command, moment);
-            (Outcome::Answered(answer), engine.into_disk())
+    let mut disk = disk;
+    match DiskArchive::open(alloc, &mut disk) {
+        Ok(archive) => {
+            let answer = answered(archive, &mut disk, command, moment);
+            (Outcome::Answered(answer), disk)
         }
-        Err(NotOpened { disk, why }) => (Outcome::Unopened(why), disk),
+        Err(why) => (Outcome::Unopened(why), disk),
     }
+}
+
+/// Takes a command on the archive that was opened on a disk, and returns its answer.
+///
+/// After the last root it is refused as out of memory. No archive takes so many commands.
+fn answered<D: Disk>(
+    archive: DiskArchive,
+    disk: &mut D,
+    command: &Command<'_>,
+    moment: u64,
+) -> Answer
+    requires moment { moment ≤ last_moment }
+    requires sizes { WhereTold (HasSizes archive) (D.content disk.old) }
+    ensures any_moment { (a : Archive) → IsStoreOf archive a (D.content disk.old)
+        → LeavesOnly D.moment D.left_since disk.old disk.new
+        (LeavesEither (taking command.now moment) a) }
+    ensures done { (a : Archive) → IsStoreOf archive a (D.content disk.old)
+        → Answers a (taking command.now moment a) result (D.content disk.new) }
+    ensures cause { RoseIf (result ≡ Answer.DiskFault) (D.faults disk.old) (D.faults disk.new) }
+{
+    if !archive.has_next_root() {
+        return Answer::NoMemory;
+    }
+    let mut archive = archive;
+    archive.command(disk, command, moment)
 }
 
 /// Builds anew what is kept beside the files of the archive on a disk: the rows of its live messages,

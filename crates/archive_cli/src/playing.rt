@@ -43,9 +43,12 @@ impl CountedKeep for MemArchive {
     }
 }
 
-/// Plays a script over a keeper, and prints what its events write.
+/// Plays a script over a keeper of an empty archive, up to its first stop, and prints what its events
+/// write.
 ///
-/// If an allocation fails, the events are played on, and a line after the frames tells of it.
+/// If an allocation fails, or a call of the keeper's disk, the events are played on, and a line after
+/// the first frames tells that memory ran out. Over a keeper of another archive nothing is promised of
+/// what is printed.
 pub fn play_script<K: CountedKeep + Drop, O: Sink>(
     alloc: Global,
     keep: K,

@@ -300,7 +300,8 @@ fn print_bad<O: Sink>(event: u64, out: &mut O) -> Status
     Status::Script.if_taken(say_number(b"bad script ", event, out))
 }
 
-/// Prints that memory ran out.
+/// Prints that memory ran out, and returns the status to end with: `Memory`, or `Edges` if the output
+/// failed.
 pub fn print_no_memory<O: Sink>(out: &mut O) -> Status
     ensures printed { Printed (Exactly (whole_line (codes "12 no memory")) Status.Memory) result
         (O.taken out.old) (O.faults out.old) (O.taken out.new) (O.faults out.new) }

@@ -5,6 +5,7 @@ ghost use Rattle.archive_cli.specs.Words.{IsJob, IsLone, IsSetting, IsServeOptio
 ghost use Rattle.archive_cli.specs.Options.{IsCollected, IsConfigured, IsServing, IsWith, config_by};
 
 use arch_base::{Config, Name, read_decimal};
+use load_run::GREATEST_LOAD;
 
 /// The greatest limit of an epoch, in bytes.
 const MAX_LIMIT: u64 = 1_099_511_627_776;
@@ -22,7 +23,7 @@ const MAX_PORT: u64 = 65_500;
 const FIRST_PORT: u16 = 7100;
 
 /// The greatest count of messages of a load.
-const MAX_COUNT: u64 = 20_000;
+const MAX_COUNT: u64 = GREATEST_LOAD as u64;
 
 /// The greatest number that a message can have.
 const MAX_NUMBER: u64 = 2_147_483_647;

@@ -28,9 +28,13 @@ pub fn greatest_load_is_defined()
 /// each divisible by 25, rebuilds what is kept beside the files, and returns the counts of the
 /// archive then.
 ///
-/// What the rules refuse is passed over, as in the definition. `NoMemory` if an allocation fails,
+/// What the rules refuse is skipped, as in the definition. `NoMemory` if an allocation fails,
 /// `DiskFault` if the disk failed, and the count of faults rose; any other result leaves the count.
-/// `Damaged` never comes while an archive is held. A refusal ends the run where it came.
+/// `Damaged` never comes while an archive is held.
+///
+/// A refusal ends the run where it came. No clause says what the keeper stands for then: by the code it
+/// is what the commands before left, the last one perhaps in doubt. Nor does a clause say that what is
+/// kept beside the files is rebuilt before it is counted.
 pub fn load<K: Keep>(
     alloc: Global,
     keep: &mut K,

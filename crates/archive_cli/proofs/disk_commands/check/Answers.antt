@@ -1,11 +1,11 @@
-use Rattle.std.proofs.Common.{[], false, inl}
+use Rattle.std.proofs.Common.{[], inl}
 use Rattle.archive_core.proofs.Standing.{store_keeps}
 use Rattle.archive_cli.proofs.OnDisk.{opened-checks, opened-as, unopened-checks, opened-stands, opened-runs, unopened-stands, checked-cause, refused-cause}
 use Rattle.archive_cli.proofs.disk_commands.check.Goals as goal
 
 pub returns-in-Ok-clause-any_moment : goal.returns-in-Ok-clause-any_moment
-returns-in-Ok-clause-any_moment g c = opened-runs g.D.Disk.content g.D.Disk.moment g.D.Disk.left_since g.met.D.Disk.counts_now g.met.D.Disk.reads_fit c.args.disk
-    (record { disk = c.open.new.disk; view = c.in-Ok.counted; views = record { rows = []; words = [] }; stale = false }) c.in-Ok.ensures.opened.done c.in-Ok.ensures.opened.first c.in-Ok.ensures.opened.answer
+returns-in-Ok-clause-any_moment g c = opened-runs g.D.Disk.content g.D.Disk.moment g.D.Disk.left_since g.met.D.Disk.counts_now g.met.D.Disk.reads_fit c.args.disk c.open.new.disk c.in-Ok.counted
+    c.in-Ok.ensures.opened.done c.in-Ok.ensures.opened.first c.in-Ok.ensures.opened.answer
 
 pub returns-in-Ok-clause-done : goal.returns-in-Ok-clause-done
 returns-in-Ok-clause-done g c = λ a reads.
@@ -17,8 +17,8 @@ pub returns-in-Ok-clause-answer : goal.returns-in-Ok-clause-answer
 returns-in-Ok-clause-answer g c = opened-as c.in-Ok.counted (g.D.Disk.content c.args.disk) c.entry_count.result c.message_count.result c.next_of_root.result c.in-Ok.ensures.opened.answer c.entry_count.ensures c.next_of_root.ensures
 
 pub returns-in-Ok-clause-stands : goal.returns-in-Ok-clause-stands
-returns-in-Ok-clause-stands g c = opened-stands g.D.Disk.content g.D.Disk.moment g.D.Disk.left_since g.met.D.Disk.counts_now g.met.D.Disk.reads_fit c.args.disk
-    (record { disk = c.open.new.disk; view = c.in-Ok.counted; views = record { rows = []; words = [] }; stale = false }) c.in-Ok.ensures.opened.done c.in-Ok.ensures.opened.first
+returns-in-Ok-clause-stands g c = opened-stands g.D.Disk.content g.D.Disk.moment g.D.Disk.left_since g.met.D.Disk.counts_now g.met.D.Disk.reads_fit c.args.disk c.open.new.disk c.in-Ok.counted
+    c.in-Ok.ensures.opened.done c.in-Ok.ensures.opened.first
 
 pub returns-in-Ok-clause-cause : goal.returns-in-Ok-clause-cause
 returns-in-Ok-clause-cause g c = checked-cause (g.D.Disk.faults c.args.disk) (g.D.Disk.faults c.open.new.disk) c.entry_count.result c.message_count.result c.next_of_root.result (c.in-Ok.ensures.opened.cause.kept (λ fault. absurd (cc fault)))

@@ -4,7 +4,7 @@ use Rattle.archive_cli.proofs.disk_commands.reindex.Goals as goal
 
 pub returns-in-Ok-clause-any_moment : goal.returns-in-Ok-clause-any_moment
 returns-in-Ok-clause-any_moment g c = rw c.into_disk.ensures
-    (opened-runs g.D.Disk.content g.D.Disk.moment g.D.Disk.left_since g.met.D.Disk.counts_now g.met.D.Disk.reads_fit c.args.disk c.in-Ok.engine c.in-Ok.ensures.opened.done c.in-Ok.ensures.opened.first c.in-Ok.ensures.opened.answer)
+    (opened-runs g.D.Disk.content g.D.Disk.moment g.D.Disk.left_since g.met.D.Disk.counts_now g.met.D.Disk.reads_fit c.args.disk c.in-Ok.engine.disk c.in-Ok.engine.view c.in-Ok.ensures.opened.done c.in-Ok.ensures.opened.first c.in-Ok.ensures.opened.answer)
 
 pub returns-in-Ok-clause-done : goal.returns-in-Ok-clause-done
 returns-in-Ok-clause-done g c = λ a reads.
@@ -14,7 +14,7 @@ returns-in-Ok-clause-done g c = λ a reads.
 
 pub returns-in-Ok-clause-stands : goal.returns-in-Ok-clause-stands
 returns-in-Ok-clause-stands g c = rw c.into_disk.ensures
-    (opened-stands g.D.Disk.content g.D.Disk.moment g.D.Disk.left_since g.met.D.Disk.counts_now g.met.D.Disk.reads_fit c.args.disk c.in-Ok.engine c.in-Ok.ensures.opened.done c.in-Ok.ensures.opened.first)
+    (opened-stands g.D.Disk.content g.D.Disk.moment g.D.Disk.left_since g.met.D.Disk.counts_now g.met.D.Disk.reads_fit c.args.disk c.in-Ok.engine.disk c.in-Ok.engine.view c.in-Ok.ensures.opened.done c.in-Ok.ensures.opened.first)
 
 pub returns-in-Ok-clause-cause : goal.returns-in-Ok-clause-cause
 returns-in-Ok-clause-cause g c = rw c.into_disk.ensures
