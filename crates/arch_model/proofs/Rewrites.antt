@@ -5,7 +5,7 @@ use Rattle.arch_base.specs.declared.ids.Id20.{Id20}
 use Rattle.git_objects.specs.Objects.{blob_id_of}
 use Rattle.arch_model.specs.Archives.{Entry, Archive, live, messages, text_of, without_entries}
 use Rattle.arch_model.specs.Delivery.{Done, refused, delivered, removed, purged_text, purged, is_accepted, unless_refused, is_form, edited_text, edited}
-use Rattle.arch_model.specs.Laws.{IsNumbered, StaysNumbered, DropsText, EditsWhole}
+use Rattle.arch_model.specs.Laws.{IsNumbered, StaysNumbered, EditsWhole}
 use Rattle.arch_model.specs.Validity.{IsArchive}
 use Rattle.arch_model.specs.declared.answer.Answer.{Answer}
 use Rattle.arch_model.specs.declared.answer.Answer.TheVariants as named
@@ -92,14 +92,6 @@ edited_is a number bytes moment n id is = by (edited a number bytes moment) (edi
   by : (d : Done) → Edits a number bytes moment d → d.answer ≡ named.Ok n id → (text : List ℕ) × (text_of (live a.entries) number ≡ Some text) × (d ≡ delivered (without_entries a text) bytes moment)
   by d (Unedited answer other) is = absurd (other n id is)
   by d (Redelivered text found accepted) is = (text, found, refl)
-
-spared_by : (a : Archive) (number : ℕ) (d : Done) → Purges a number d → is_accepted d.answer ≡ false → d.archive ≡ a
-spared_by a number d (Spared answer other) is = refl
-spared_by a number d (Dropped text found) is = absurd (let wrong : true ≡ false = is in cc)
-
--- A purge drops the entries of a text, or it leaves the archive unchanged.
-pub drops_text : DropsText
-drops_text a number = (λ n id is. purged_is a number n id is, λ is. spared_by a number (purged a number) (purges a number) is)
 
 unedited_by : (a : Archive) (number : ℕ) (bytes : List ℕ) (moment : ℕ) (d : Done) → Edits a number bytes moment d → is_accepted d.answer ≡ false → d.archive ≡ a
 unedited_by a number bytes moment d (Unedited answer other) is = refl

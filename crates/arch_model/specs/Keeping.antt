@@ -94,6 +94,7 @@ pub data Ending : Type 0 where
   Fails : Ending
   Breaks : Ending
 
+-- The way in which each answer ends a command.
 abbrev pub ending : Answer → Ending
 ending (answer.Ok number id) = Accepts
 ending (answer.Duplicate number) = Refuses
@@ -155,7 +156,7 @@ abbrev pub StaysReady : Bool → Answer → Bool → Type 0
 StaysReady was reply now = ReadyBy was now (ending reply)
 
 -- The disk's count of faults rises exactly when the answer is that it failed. So no fault of the
--- disk is told as out of memory, and none is passed over.
+-- disk is told as out of memory, and none is left out.
 abbrev pub CauseBy : ℕ → ℕ → Ending → Type 0
 CauseBy before now Accepts = now ≡ before
 CauseBy before now Refuses = now ≡ before

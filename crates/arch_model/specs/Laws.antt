@@ -6,9 +6,9 @@ use Rattle.mail_reader.specs.StorageTexts.{IsStorageText}
 use Rattle.mail_reader.specs.Stored.{stored}
 use Rattle.mail_reader.specs.Ids.{own_id}
 use Rattle.mail_reader.specs.Content.{content_id_of}
-use Rattle.arch_model.specs.Archives.{Archive, without_entries, owner, live, messages, text_of}
+use Rattle.arch_model.specs.Archives.{Archive, without_entries, owner, live, text_of}
 use Rattle.arch_model.specs.Candidates.{made_id, with_made, met, choice_of}
-use Rattle.arch_model.specs.Delivery.{delivered, removed, purged, is_accepted, edited, applied}
+use Rattle.arch_model.specs.Delivery.{delivered, removed, is_accepted, edited, applied}
 use Rattle.arch_model.specs.Following.{Follows}
 use Rattle.arch_model.specs.Validity.{IsArchive}
 use Rattle.arch_model.specs.Standing.{Standing, standing}
@@ -43,19 +43,10 @@ TakesFromView = (a : Archive) (number moment : ℕ)
     × ((id : Id20) → (removed a number moment).answer ≡ answer.Ok number id
     → text_of (live (removed a number moment).archive.entries) number ≡ None)
 
--- After a command on a valid archive each live number is below the next one.
+-- After a command on a valid archive each live number is at least 1 and below the next one.
 abbrev pub StaysNumbered : Type 0
 StaysNumbered = (a : Archive) (command : Command) (moment : ℕ) → IsArchive a
     → (1 ≤ (applied a command moment).archive.next) × IsNumbered (applied a command moment).archive
-
--- A purge that is accepted leaves no entry with the text of its number, and leaves every other entry
--- as it was, in order. Any other purge leaves the archive unchanged.
-abbrev pub DropsText : Type 0
-DropsText = (a : Archive) (number : ℕ)
-    → ((n : ℕ) (id : Id20) → (purged a number).answer ≡ answer.Ok n id →
-    (text : List ℕ) × (text_of (messages a.entries) number ≡ Some text)
-    × ((purged a number).archive ≡ without_entries a text))
-    × (is_accepted (purged a number).answer ≡ false → (purged a number).archive ≡ a)
 
 -- An edit that is accepted is the delivery on the archive without the text of its number. Any other
 -- edit leaves the archive unchanged.

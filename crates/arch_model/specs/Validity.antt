@@ -18,7 +18,8 @@ pub record IsEntry (e : Entry) : Type 0 where
   pub epoch : e.epoch ≤ greatest_epoch
   pub moment : e.moment ≤ last_moment
 
--- The number of a message is at least this one. A deletion has an older number.
+-- If the entry is a message, its number is at least this one. Of a deletion, which has the number of
+-- a message before it, nothing is asked.
 abbrev pub IsFrom : EntryKind → ℕ → ℕ → Type 0
 IsFrom Message number own = number ≤ own
 IsFrom Deletion number own = Unit {0}

@@ -54,9 +54,10 @@ pub trait Keep: Shelf {
     /// messages, their threads and their words. Returns the number of live messages.
     ///
     /// Finds what `fresh` of a stale keeper finds: with no command in doubt, the archive that was
-    /// held, so each answer is the one that would be given without it. After a refusal the keeper is
-    /// stale. `DiskFault` if the disk failed, and the count of faults rose; any other result leaves
-    /// the count. `NoMemory` if an allocation fails.
+    /// held, so each answer is the one that would be given without it. No clause can tell then whether
+    /// the files were read: an engine that reads none of them, and counts what it holds, passes. After a
+    /// refusal the keeper is stale. `DiskFault` if the disk failed, and the count of faults rose; any
+    /// other result leaves the count. `NoMemory` if an allocation fails.
     fn reindex(&mut self) -> Result<u32, OpenRefusal>
         ensures found { (s : Standing) → Fits Self.holds Self.ready leaves self.old s
             → (t : Standing) × Moves Self.holds Self.ready leaves self.old s self.new t

@@ -2,7 +2,7 @@
 //! and of epochs that grow.
 ghost use Rattle.arch_model.specs.Epochs.{EpochGrows};
 ghost use Rattle.arch_model.specs.Following.{FollowsItself, FollowsThrough, FollowsWithEntry, FollowsWithDeletion, FollowsWithoutText, NumbersStay, ShownStay};
-ghost use Rattle.arch_model.specs.Laws.{CommandFollows, DropsText, EditsWhole, FirstDecides, KeepsNumbers, KeepsValid, ReindexStays, StaysNumbered, ShowsDelivered, TakenAreStorage, TakesFromView};
+ghost use Rattle.arch_model.specs.Laws.{CommandFollows, EditsWhole, FirstDecides, KeepsNumbers, KeepsValid, ReindexStays, StaysNumbered, ShowsDelivered, TakenAreStorage, TakesFromView};
 
 use mail_reader::{field_in_front, forms_are_short, id_line_is_kept, stored_once};
 
@@ -18,11 +18,10 @@ pub fn numbers_stay_below_the_next()
     ensures { StaysNumbered }
 {}
 
-/// Shows that a purge drops the entries of a text and nothing else, that an edit is a purge and a
-/// delivery, and that one that is refused leaves the archive unchanged.
-pub fn purges_and_edits_are_whole()
-    ensures purged { DropsText }
-    ensures edited { EditsWhole }
+/// Shows that an edit is the delivery on the archive without a text, and that one that is refused
+/// leaves the archive unchanged.
+pub fn edits_are_whole()
+    ensures { EditsWhole }
 {}
 
 /// Shows that the number of an accepted message has the text that the candidates for its id decided

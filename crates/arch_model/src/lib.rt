@@ -19,9 +19,9 @@ pub use choice::{Choice, Meeting};
 pub use command::Command;
 pub use keep::Keep;
 pub use laws::{
-    delivered_is_shown, epoch_grows, first_candidate_decides, law_of_commands, law_of_numbers,
-    law_of_taken_texts, numbers_keep_their_texts, numbers_stay_below_the_next,
-    purges_and_edits_are_whole, reindex_keeps_the_archive,
+    delivered_is_shown, edits_are_whole, epoch_grows, first_candidate_decides, law_of_commands,
+    law_of_numbers, law_of_taken_texts, numbers_keep_their_texts, numbers_stay_below_the_next,
+    reindex_keeps_the_archive,
 };
 pub use line::EntryLine;
 pub use mail_commits::{EntryIds, entry_commit, push_entry};

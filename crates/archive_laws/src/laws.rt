@@ -2,7 +2,7 @@
 ghost use Rattle.archive_laws.specs.Purges.{DropsOneText};
 ghost use Rattle.archive_laws.specs.Edits.{ExchangesOneText};
 
-use arch_model::{delivered_is_shown, law_of_numbers, purges_and_edits_are_whole};
+use arch_model::{delivered_is_shown, edits_are_whole, law_of_numbers};
 
 /// Shows that a purge that is accepted, on a valid archive, drops one text and nothing else.
 ///
@@ -14,7 +14,6 @@ pub fn purge_drops_one_text()
     ensures { DropsOneText }
 {
     law_of_numbers();
-    purges_and_edits_are_whole();
 }
 
 /// Shows that an edit that is accepted, on a valid archive, exchanges one text for a message.
@@ -26,5 +25,5 @@ pub fn edit_exchanges_one_text()
     ensures { ExchangesOneText }
 {
     delivered_is_shown();
-    purges_and_edits_are_whole();
+    edits_are_whole();
 }

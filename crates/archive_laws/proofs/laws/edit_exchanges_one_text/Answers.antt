@@ -9,7 +9,7 @@ use Rattle.archive_laws.proofs.laws.edit_exchanges_one_text.Goals as goal
 
 pub returns : goal.returns
 returns c a number n moment bytes id valid ok =
-    let whole = (c.purges_and_edits_are_whole.ensures.edited a number moment bytes).0 n id ok in
+    let whole = (c.edits_are_whole.ensures a number moment bytes).0 n id ok in
     let text = whole.0 in
     let rest = without_entries a text in
     let done = sym (ap (λ (d : Done). d.answer) whole.2) ∙ ok in
