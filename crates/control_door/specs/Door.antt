@@ -24,12 +24,12 @@ bad_word = whole_line (codes "13 bad line")
 abbrev pub busy_word : List ℕ
 busy_word = whole_line (codes "14 busy")
 
--- A line with the length of the text, and then the text; or a line that the number has none.
+-- A line with the length of the text, and then the text; or a line that the number is not live.
 abbrev pub shown : ℕ → Option (List ℕ) → List ℕ
 shown number None = whole_line (codes "7 not live " ++ decimal number)
 shown number (Some text) = whole_line (codes "text " ++ decimal (length text)) ++ text
 
--- The tree of the thread of a number, by its text: or a line that the number has none.
+-- The tree of the thread of a number, if it has a text; or a line that the number is not live.
 abbrev pub threaded : List Entry → ℕ → Option (List ℕ) → List ℕ
 threaded es number None = shown number None
 threaded es number (Some text) = tree_words es (tree_lines (thread_twigs es number))

@@ -52,6 +52,8 @@ pub record CallsJoin (moment later : ℕ) (bytes p q : List ℕ) (s : Standing) 
   pub left : LeftWith (said moment) has_request with_piece size_of q k rest v
   pub second : Fed (said later) has_request (talk (Some (waiting (k.bytes ++ q) false)) u i) z
 
+-- The law of two calls: a first call that left a session open, a reopening that found the archive, and
+-- a second call join so.
 abbrev pub TwoCalls : Type 0
 TwoCalls =
     (moment later : ℕ) (bytes p q : List ℕ) (s : Standing) (o : Outside) (v : Talk Waiting Standing)

@@ -41,7 +41,7 @@ edit_order None size = Bad
 edit_order (Some number) None = Bad
 edit_order (Some number) (Some size) = if nat_le size 9000000 then Edit number size else TooMuch
 
--- The same, where the first space is at this place of the words after `edit`.
+-- The same, where the first space of the words after `edit` is at this offset, if there is one.
 abbrev pub edit_parts : List ℕ → Option ℕ → Order
 edit_parts words None = Bad
 edit_parts words (Some at) =

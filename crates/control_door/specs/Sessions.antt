@@ -42,7 +42,7 @@ pub record IsPayload (bytes : List ℕ) (aim : Aim) (start end : ℕ) : Type 0 w
   pub ends : end ≡ start + size
   pub missing : length bytes < end
 
--- What is held is a part of a line, or the beginning of a delivery.
+-- What is held is a part of a line, or the beginning of a delivery or an edit.
 abbrev pub IsHeld : List ℕ → Option Payload → Type 0
 IsHeld bytes None = line.front line_limit bytes ≡ line.Partial
 IsHeld bytes (Some payload) = IsPayload bytes payload.aim payload.start payload.end

@@ -88,11 +88,12 @@ frames_from before (after ∷ later) = event_frame before after ++ frames_from a
 abbrev pub frames_of : List Outputs → List ℕ
 frames_of past = frames_from nothing past
 
--- The last of some outputs, or none if there are none.
+-- The last of some outputs, or those before them if there are none.
 abbrev pub last_from : Outputs → List Outputs → Outputs
 last_from before [] = before
 last_from before (after ∷ later) = last_from after later
 
+-- The last of some outputs, or those of connections that took nothing if there are none.
 abbrev pub last_of : List Outputs → Outputs
 last_of past = last_from nothing past
 

@@ -6,6 +6,7 @@ use Rattle.edge_io.specs.Hosts.{Told, SameEvents, SameElsewhere}
 
 module _ {H : Type 0} (left given : H → Told) (recorded : H → List Outputs → Type 0)
     (faults : H → ℕ) where
+  -- A host has the same events as itself.
   pub SameEvents-same : (h : H) → SameEvents left given recorded faults h h
   SameEvents-same h = record {
     left_same = refl;
@@ -14,6 +15,7 @@ module _ {H : Type 0} (left given : H → Told) (recorded : H → List Outputs �
     faults_same = refl;
   }
 
+  -- Two calls after each of which the events are the same leave them.
   pub SameEvents-joined : (h i j : H) → SameEvents left given recorded faults h i
       → SameEvents left given recorded faults i j → SameEvents left given recorded faults h j
   SameEvents-joined h i j p q = record {

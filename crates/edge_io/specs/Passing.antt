@@ -11,8 +11,10 @@ pub record Passing : Type 0 where
 abbrev pub unbegun : List Arrival → Passing
 unbegun arrivals = record { all = arrivals; at = 0 }
 
+-- The events that were given.
 abbrev pub given_of : Passing → List Arrival
 given_of p = take p.at p.all
 
+-- The events that are left.
 abbrev pub left_of : Passing → List Arrival
 left_of p = drop p.at p.all

@@ -133,6 +133,7 @@ reads_texts (ThreadFeedOf id) = true
 reads_texts TheMailbox = true
 reads_texts (ThreadMailboxOf id) = true
 
+-- Texts are read for what a path names, if it names anything.
 abbrev pub path_reads : Option Named → Bool
 path_reads None = false
 path_reads (Some named) = reads_texts named
@@ -153,6 +154,7 @@ texts_for (ThreadFeedOf id) = feed_len
 texts_for TheMailbox = 0
 texts_for (ThreadMailboxOf id) = 0
 
+-- How many texts are read at most to find what a path names, if it names anything.
 abbrev pub path_texts : Option Named → ℕ
 path_texts None = 0
 path_texts (Some named) = texts_for named

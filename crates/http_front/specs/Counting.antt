@@ -29,6 +29,7 @@ texts_said a (ThreadFeedOf id) = 0
 texts_said a TheMailbox = length (live a.entries)
 texts_said a (ThreadMailboxOf id) = thread_len a.entries (number_named a.entries id)
 
+-- How many texts are read at most while what a path names is said, if it names anything.
 abbrev pub path_said : Archive → Option Named → ℕ
 path_said a None = 0
 path_said a (Some named) = texts_said a named
@@ -46,6 +47,7 @@ body_texts false count = 0
 abbrev pub served_texts : Archive → List ℕ → Bool → ℕ
 served_texts a target sends = target_texts a target + body_texts sends (target_said a target)
 
+-- How many texts are read at most to answer a head by its verdict. A refusal reads none.
 abbrev pub verdict_texts : Archive → Asked → Verdict → ℕ
 verdict_texts a asked (Serve sends) = served_texts a asked.target sends
 verdict_texts a asked (Refuse status sends) = 0
@@ -60,6 +62,7 @@ abbrev pub reads_nothing : Archive → Option Asked → Bool
 reads_nothing a None = true
 reads_nothing a (Some asked) = not (target_reads a asked.target)
 
+-- The session may continue after a verdict, unless it is a refusal or the head asks to close.
 abbrev pub verdict_goes_on : Asked → Verdict → Bool
 verdict_goes_on asked (Serve sends) = not asked.closes
 verdict_goes_on asked (Refuse status sends) = false
@@ -95,7 +98,7 @@ texts_for_bytes reading a bytes = sum_by (head_texts a) (all_asked reading bytes
 abbrev pub bytes_read_nothing : Reading → Archive → List ℕ → Bool
 bytes_read_nothing reading a bytes = list_all (reads_nothing a) (all_asked reading bytes)
 
--- A call reads at most so many times, even if so many more reads follow.
+-- The reads of a call, and as many more as are still to follow, are at most so many.
 pub record ReadsAhead (most ahead before now : ℕ) : Type 0 where
   pub later : before ≤ now
   pub bound : now + ahead ≤ before + most

@@ -27,11 +27,12 @@ abbrev pub scan : Seen → List ℕ → Option ℕ
 scan seen [] = None
 scan seen (b ∷ bs) = scan_by (next_seen seen b) (λ (after : Seen). scan after bs)
 
--- What is seen after bytes that don't make it whole.
+-- What is seen after more bytes, by what is seen after the first of them.
 abbrev pub seen_by : Option Seen → (Seen → Seen) → Seen
 seen_by None more = Nothing
 seen_by (Some seen) more = more seen
 
+-- What is seen after bytes that don't make CR LF CR LF whole.
 abbrev pub seen_after : Seen → List ℕ → Seen
 seen_after seen [] = seen
 seen_after seen (b ∷ bs) = seen_by (next_seen seen b) (λ (after : Seen). seen_after after bs)

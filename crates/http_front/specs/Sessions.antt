@@ -47,8 +47,8 @@ Takes piece (Went n) = (0 < n) × (n ≤ length piece)
 Takes piece Kept = Unit {0}
 Takes piece Closed = Unit {0}
 
--- One act reads no more than leaves enough for the bytes after it. Other ends than a request leave no
--- bytes for which texts are read.
+-- One act reads no more than leaves enough for the bytes after it. A part of a head that is kept asks
+-- for no text, and nothing follows a close.
 abbrev pub IsTurnReads : Reading → Archive → List ℕ → List ℕ → Turn → List ℕ → ℕ → ℕ → Type 0
 IsTurnReads reading a old piece (Went n) new before now = ReadsAhead
     (texts_for_bytes reading a (old ++ piece)) (texts_for_bytes reading a (new ++ drop n piece)) before now

@@ -39,6 +39,7 @@ who_line name entries before (Live n) =
     flat_map (λ (row : Row). before ++ row_line name row) (row_at entries n)
 who_line name entries before (Ghost id) = before ++ codes "[not found] " ++ escaped id ++ codes "\n"
 
+-- A line of a tree as the page shows it, indented by its depth.
 abbrev pub tree_line : List ℕ → List Entry → Line → List ℕ
 tree_line name entries line = who_line name entries (indent line.depth) line.who
 

@@ -71,7 +71,7 @@ impl HttpSession {
     /// session continues.
     ///
     /// A request is a head up to its empty line. `moment` is in seconds since 1970 UTC, and is the
-    /// date of each reply.
+    /// date of each reply. The archive stays, and the shelf is ready after the call as before it.
     ///
     /// The session ends, and the remaining bytes are dropped:
     ///

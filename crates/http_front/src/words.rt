@@ -14,7 +14,8 @@ use edge_io::{Sink, SinkFault};
 use http_heads::Status;
 use itoa::Buffer;
 
-/// Writes that too many connections are open.
+/// Writes that too many connections are open, in a reply that closes this one. `moment` is its date,
+/// in seconds since 1970 UTC.
 pub fn say_busy<O: Sink>(moment: u64, out: &mut O) -> Result<(), SinkFault>
     requires { IsMoment moment }
     ensures said { Says (word Status.TooManyRequests moment true true) (O.taken out.old)
@@ -24,7 +25,8 @@ pub fn say_busy<O: Sink>(moment: u64, out: &mut O) -> Result<(), SinkFault>
     say_status(Status::TooManyRequests, moment, true, true, out)
 }
 
-/// Writes that memory ran out.
+/// Writes that memory ran out, in a reply that closes the connection. `moment` is its date, in seconds
+/// since 1970 UTC.
 pub fn say_no_memory<O: Sink>(moment: u64, out: &mut O) -> Result<(), SinkFault>
     requires { IsMoment moment }
     ensures said { Says (word Status.Unavailable moment true true) (O.taken out.old)
@@ -34,7 +36,8 @@ pub fn say_no_memory<O: Sink>(moment: u64, out: &mut O) -> Result<(), SinkFault>
     say_status(Status::Unavailable, moment, true, true, out)
 }
 
-/// Writes why an archive was not opened. If there is none, its root is called damaged.
+/// Writes why an archive was not opened, in a reply that closes the connection. If there is none, its
+/// root is called damaged. `moment` is the date of the reply, in seconds since 1970 UTC.
 pub fn say_unopened<O: Sink>(
     refusal: OpenRefusal,
     moment: u64,

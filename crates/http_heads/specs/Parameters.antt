@@ -32,11 +32,12 @@ first_value name (pair ∷ pairs) =
 unfoldable pub parameter : List ℕ → List ℕ → Option (List ℕ)
 parameter name query = first_value name (raw_pairs query)
 
--- How many rows are skipped: the number that a value spells, or 0.
+-- A number, or 0 without one.
 abbrev pub count_in : Option ℕ → ℕ
 count_in None = 0
 count_in (Some n) = n
 
+-- How many rows are skipped: the number that a value spells, or 0.
 abbrev pub skipped : Option (List ℕ) → ℕ
 skipped None = 0
 skipped (Some value) = count_in (decimal_of value)

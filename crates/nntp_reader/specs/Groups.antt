@@ -64,7 +64,7 @@ group_list a range = group_line a (codes " list follows")
 abbrev pub group_words : Archive → List ℕ → List ℕ
 group_words a name = if is_group a name then group_line a [] else notice_line notice.NoSuchGroup
 
--- The group after it.
+-- The group after GROUP: the archive's if it was named, and otherwise the one before.
 abbrev pub group_after : Archive → Group → List ℕ → Group
 group_after a g name = if is_group a name then selected a else g
 
@@ -73,6 +73,6 @@ abbrev pub list_group_words : Archive → Group → Option (List ℕ) → Range 
 list_group_words a g name range =
     if has_group a g name then group_list a range else no_group_line name
 
--- The group after it.
+-- The group after LISTGROUP: the archive's if it is there, and otherwise the one before.
 abbrev pub list_group_after : Archive → Group → Option (List ℕ) → Group
 list_group_after a g name = if has_group a g name then selected a else g

@@ -28,7 +28,7 @@ pub fn say_no_memory<O: Sink>(out: &mut O) -> Result<(), SinkFault>
     say(b"403 out of memory\r\n", out)
 }
 
-/// Writes why the archive was not opened.
+/// Writes why the archive was not opened. If there is none, its root is called damaged.
 pub fn say_unopened<O: Sink>(refusal: OpenRefusal, out: &mut O) -> Result<(), SinkFault>
     ensures said { Says (unopened_line refusal) (O.taken out.old) (O.faults out.old)
         (O.taken out.new) (O.faults out.new) result }

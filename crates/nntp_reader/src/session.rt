@@ -96,8 +96,9 @@ impl NntpSession {
     /// The contract then says nothing of what the session holds.
     ///
     /// ARTICLE, HEAD, BODY and HDR of a field say `403 out of memory` if an allocation fails, and
-    /// `403 disk fault` if the disk fails; the shelf's count of faults rose exactly then. The group
-    /// stays, and the session continues. Other commands read no text, and need neither.
+    /// `403 disk fault` if the disk fails; the shelf's count of faults rose exactly then. They say
+    /// `403 damaged` only if the shelf holds no archive. The group stays, and the session continues.
+    /// Other commands read no text, and need neither.
     pub fn feed<S: Shelf, O: Sink>(
         &mut self,
         piece: &[u8],

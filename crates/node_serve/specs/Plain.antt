@@ -17,14 +17,14 @@ use Rattle.node_serve.specs.Doors.{Held, Came, AtControl, AtNews, AtHttp, with_p
 use Rattle.node_serve.specs.Turns.{Turn}
 use Rattle.node_serve.specs.World.{World, outer, Around, Same, EndedAt, outside_at, others_open, one_if, closed_if, open_below}
 
--- The size of a session at work. Each request that leaves it open makes it smaller, and so does the
--- reopening before a piece.
+-- The size of a session at its door. Each request that leaves it open makes it smaller.
 abbrev pub size_at_door : Held → ℕ
 size_at_door (Came start piece) = 0
 size_at_door (AtControl w) = control.left w
 size_at_door (AtNews reader) = news.left reader
 size_at_door (AtHttp bytes) = length bytes
 
+-- The size of a session at work, which the reopening before a piece makes smaller, too.
 abbrev pub size_of : Held → ℕ
 size_of (Came start piece) = suc (size_at_door (with_piece start piece))
 size_of (AtControl w) = control.left w
@@ -35,21 +35,24 @@ size_of (AtHttp bytes) = length bytes
 abbrev pub piece_said : ℕ → Standing → Held → Said Held Standing
 piece_said moment s held = plain (said moment) is_asked size_of s held
 
--- What stands after each act of a piece: after each of at most `n` requests, and after the rest, unless
--- a request closes the session.
+-- What stands after an act, and after those that follow it, unless it closes the session.
 abbrev pub then_passed : {H A : Type 0} → Option H → A → (A → H → List A) → List A
 then_passed None a more = a ∷ []
 then_passed (Some h) a more = a ∷ more a h
 
+-- What stands after a request and the acts that follow, or, without one, after the rest is kept.
 abbrev pub passed_if : {H A : Type 0} → Bool → Said H A → A → (A → H → List A) → List A
 passed_if true s a more = then_passed s.next s.after more
 passed_if false s a more = a ∷ []
 
+-- What stands after each act of a piece: after each of at most `n` requests, and after the rest, unless
+-- a request closes the session.
 abbrev pub passed_from : {H A : Type 0} → (A → H → Way → Said H A) → (H → Bool) → ℕ → A → H → List A
 passed_from said is_request zero a h = a ∷ []
 passed_from said is_request (suc n) a h =
     passed_if (is_request h) (said a h Plain) a (passed_from said is_request n)
 
+-- The same for all requests of a session, which are no more than its size.
 unfoldable pub passed_by : {H A : Type 0} → (A → H → Way → Said H A) → (H → Bool) → (H → ℕ) → A → H
     → List A
 passed_by said is_request size a h = passed_from said is_request (suc (size h)) a h
@@ -147,10 +150,12 @@ pub record PlainFedAt (moment c : ℕ) (start : Session) (piece : List ℕ) (w :
   pub around : Around c w v
   pub passed_is : passed ≡ afters (acts ++ talk held v.standing (outside_at c v.out) ∷ [])
 
+-- A piece came to a connection, and each of its acts is a plain one. Without a session it is skipped.
 abbrev pub PlainCameTo : Option Session → ℕ → ℕ → List ℕ → World → List Standing → World → Type 0
 PlainCameTo None moment c piece w passed v = Same w v × (passed ≡ [])
 PlainCameTo (Some start) moment c piece w passed v = PlainFedAt moment c start piece w passed v
 
+-- What happened at a moment, by plain acts.
 abbrev pub PlainTurnedBy : What → ℕ → List ℕ → World → List Standing → World → Type 0
 PlainTurnedBy (what.Opened c door) moment piece w passed v =
     PlainActAt c (said_making moment door (others_open c w) w.standing Plain) w v × (passed ≡ [])

@@ -27,7 +27,7 @@ pub record FedAt (moment c : ℕ) (start : Session) (piece : List ℕ) (w : Worl
   pub around : Around c w v
   pub passed_is : passed ≡ afters (acts ++ talk held v.standing (outside_at c v.out) ∷ [])
 
--- A piece came to a connection. Without a session it is passed over.
+-- A piece came to a connection. Without a session it is skipped.
 abbrev pub CameTo : Option Session → ℕ → ℕ → List ℕ → World → List Standing → World → Type 0
 CameTo None moment c piece w passed v = Same w v × (passed ≡ [])
 CameTo (Some start) moment c piece w passed v = FedAt moment c start piece w passed v

@@ -44,9 +44,9 @@ abbrev pub closed_if : Option Session → Option ℕ → Option ℕ
 closed_if None n = one_more n
 closed_if (Some start) n = n
 
--- All that an act on a connection may change, but what it says there: the sessions and the outside of
--- other connections stay, the connection is closed if no session is left of it, and the count of open
--- sessions is kept.
+-- What an act on a connection leaves beside what it says there: the sessions and the outside of other
+-- connections stay, the connection is closed if no session is left of it, and the count of open
+-- sessions is kept right.
 pub record Around (c : ℕ) (w v : World) : Type 0 where
   pub sessions : OthersKept c w.session v.session
   pub taken : OthersKept c w.out.taken v.out.taken

@@ -64,7 +64,7 @@ impl<K: Keep> Node<K> {
     /// * A connection that opens ends its open session without a word, if it has one. Then its door
     ///   greets, or refuses it with its word if 256 others are open, or if memory runs out.
     /// * Bytes are answered by the session of their connection, once the archive was reopened. Without
-    ///   a session they are passed over.
+    ///   a session they are skipped.
     /// * A connection that ends ends its session.
     ///
     /// A failed send ends the session of that connection alone, and closes the connection. A crash
