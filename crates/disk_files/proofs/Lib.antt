@@ -1,3 +1,2 @@
 pub mod NameLists
 mod Removals
-mod Cuts

@@ -1,3 +1,2 @@
 pub mod Listing
 pub mod Removing
-pub mod Cutting

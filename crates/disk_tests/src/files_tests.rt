@@ -1,8 +1,8 @@
-//! Files on a disk in memory: their names, removals and cuts, and what a crash leaves of them.
+//! Files on a disk in memory: their names and removals, and what a crash leaves of them.
 use crate::crashes::{Stopped, stop};
 use crate::file_names::{A, B, M};
 use arch_base::Numbers;
-use disk_files::{FilePart, cut_files, file_names, law_of_fronts, remove_files};
+use disk_files::{file_names, remove_files};
 use disk_model::{Disk, DiskFault, FileKind, FileName, FuseDisk, MemDisk, WalkRefusal};
 use std::alloc::Global;
 use std::process::Abort;
@@ -135,60 +135,6 @@ fn each_file_is_removed_or_as_before(rt: HostRuntime) -> Result<(), Fail> {
         let mut stopped = stop_removals(rt.alloc(), passes)?;
         // Three removals.
         look_at_removals(&rt, rt.alloc(), &mut stopped, passes >= 3)?;
-    }
-    Ok(())
-}
-
-/// Stops the cuts of four files after `passes` calls.
-fn stop_cuts(alloc: Global, passes: u64) -> Result<Stopped, DiskFault> {
-    let parts = [
-        FilePart { file: A, length: 3 },
-        FilePart { file: M, length: 5 },
-        FilePart { file: B, length: 3 },
-        FilePart { file: C, length: 0 },
-    ];
-    let disk = filled(alloc)?;
-    Ok(stop(disk, passes, |fuse| cut_files(fuse, &parts)))
-}
-
-/// Returns whether each file has its part, and no file more is there.
-fn has_parts(image: &mut MemDisk) -> Result<bool, DiskFault> {
-    let first = begins_with(image, A, b"abc")?;
-    let second = reads_as(image, B, b"xyz")?;
-    let third = reads_as_or_nothing(image, C, b"cc")?;
-    let more = image.name_at(3)?;
-    Ok(first && second && third && more.is_none())
-}
-
-/// Returns whether all three files are cut to their parts.
-fn is_cut(alloc: Global, disk: &mut MemDisk) -> Result<bool, WalkRefusal> {
-    let first = reads_as(disk, A, b"abc")?;
-    let second = reads_as(disk, B, b"xyz")?;
-    let listed = lists(alloc, disk, &[A, B, C])?;
-    let third = disk.length(C)?;
-    Ok(first && second && listed && third == 0)
-}
-
-/// Checks each image since the cuts began, and the disk itself if they are done.
-fn look_at_cuts(
-    rt: &impl Abort,
-    alloc: Global,
-    stopped: &mut Stopped,
-    done: bool,
-) -> Result<(), Fail> {
-    let bad = stopped.first_bad_image(|image, _done| Ok(has_parts(image)?))?;
-    assert_eq!(rt; (stopped.done, bad), (done, None));
-    assert!(rt; !done || is_cut(alloc, &mut stopped.disk)?);
-    Ok(())
-}
-
-#[test]
-fn each_file_keeps_its_part(rt: HostRuntime) -> Result<(), Fail> {
-    law_of_fronts();
-    for passes in 0..8 {
-        let mut stopped = stop_cuts(rt.alloc(), passes)?;
-        // Four looks at a length, and two cuts.
-        look_at_cuts(&rt, rt.alloc(), &mut stopped, passes >= 6)?;
     }
     Ok(())
 }
