@@ -1,1 +1,2 @@
 mod Mailing
+mod Tags

@@ -1,7 +1,7 @@
 -- Mailbox files, piece by piece and line by line.
-use Rattle.std.proofs.Common.{◌≡◌, ℕ, ◌+◌, ◌-◌, ◌^◌, ◌<◌, ◌≤◌, min, List, [], ◌∷◌, ◌++◌, map, length, take, drop, sum_by, refl, sym, ap, ◌∙◌, arith, length-append, append_assoc, append-nil, length-take}
+use Rattle.std.proofs.Common.{◌≡◌, ℕ, ◌+◌, ◌-◌, ◌^◌, ◌<◌, min, List, [], ◌∷◌, ◌++◌, map, length, take, drop, sum_by, refl, sym, ap, ◌∙◌, arith, length-append, append_assoc, append-nil}
 use Rattle.std.specs.List.{flat_map}
-use Rattle.std.proofs.lemmas.List.{nil_from_length, take-take}
+use Rattle.std.proofs.lemmas.List.{nil_from_length}
 use Rattle.std.proofs.lemmas.List.Sums.{sum_by-cons}
 use Rattle.mail_reader.specs.Lines.{lines_of}
 use Rattle.mail_forms.specs.Mailboxes.{mbox_of, quoted}
@@ -39,10 +39,3 @@ lines-more old new all n rest line after l a e pushed so_far =
 pub lines-end : (new all rest : List ℕ) → length rest ≡ 0 → new ++ flat_map quoted (lines_of rest) ≡ all → new ≡ all
 lines-end new all rest none so_far =
     sym (append-nil new) ∙ ap (λ t. new ++ flat_map quoted (lines_of t)) (sym (nil_from_length rest none)) ∙ so_far
-
--- What stood there at first stays in front, step by step.
-pub kept-on : (old now new : List ℕ) → take (length old) now ≡ old → take (length now) new ≡ now → take (length old) new ≡ old
-kept-on old now new first second =
-    let within : length old ≤ length now = omega (arith, length-take (length old) now, ap length first) in
-    let shorter : take (length old) (take (length now) new) ≡ take (length old) new = take-take (length old) (length now) new within in
-    sym shorter ∙ ap (take (length old)) second ∙ first

@@ -1,5 +1,5 @@
 //! The pieces of a feed: what is before its entries, an entry, and what is after them.
-ghost use Rattle.std.specs.Prelude.{◌≡◌, ◌++◌, OnOk};
+ghost use Rattle.std.specs.Prelude.{◌≡◌, ◌++◌, length, take, OnOk, OnErr};
 ghost use Rattle.arch_base.specs.Moments.{IsMoment};
 ghost use Rattle.web_text.specs.Addresses.{address_of};
 ghost use Rattle.web_text.specs.Days.{moment_text};
@@ -14,11 +14,12 @@ use web_text::{push_address, push_escaped, push_moment, push_title};
 /// Appends what is before the entries of a feed: its title and its id by the name of the archive,
 /// and when it was updated, in seconds since 1970 UTC.
 ///
-/// The only error is `NoMemory`. It may leave a part appended.
+/// The only error is `NoMemory`. It may leave a part appended, after what stood there.
 #[tactic(auto, unfolding(crate::specs::Feeds::feed_start))]
 pub fn push_feed_start(name: &Name, updated: u64, into: &mut Bytes) -> Result<(), NoMemory>
     requires { IsMoment updated }
-    ensures { OnOk result (into.new ≡ into.old ++ feed_start name.now updated) }
+    ensures ok { OnOk result (into.new ≡ into.old ++ feed_start name.now updated) }
+    ensures kept { take (length into.old) into.new ≡ into.old }
 {
     into.push_slice(b"<?xml version=\"1.0\" encoding=\"utf-8\"?>\n")?;
     into.push_slice(b"<feed xmlns=\"http://www.w3.org/2005/Atom\">\n<title>")?;
@@ -35,7 +36,8 @@ pub fn push_feed_start(name: &Name, updated: u64, into: &mut Bytes) -> Result<()
 /// `NoMemory` leaves the bytes unchanged.
 #[tactic(auto, unfolding(crate::specs::Feeds::feed_end))]
 pub fn push_feed_end(into: &mut Bytes) -> Result<(), NoMemory>
-    ensures { OnOk result (into.new ≡ into.old ++ feed_end) }
+    ensures ok { OnOk result (into.new ≡ into.old ++ feed_end) }
+    ensures err { OnErr result (into.new ≡ into.old) }
 {
     into.push_slice(b"</feed>\n")
 }
@@ -44,7 +46,7 @@ pub fn push_feed_end(into: &mut Bytes) -> Result<(), NoMemory>
 /// with a name.
 ///
 /// The text is UTF-8, and bytes that aren't become U+FFFD. The only error is `NoMemory`. It may
-/// leave a part of the entry appended.
+/// leave a part of the entry appended, after what stood there.
 pub fn push_feed_entry(
     alloc: Global,
     name: &Name,
@@ -53,7 +55,8 @@ pub fn push_feed_entry(
     into: &mut Bytes,
 ) -> Result<(), NoMemory>
     requires { IsMoment row.now.arrived }
-    ensures { OnOk result (into.new ≡ into.old ++ entry_of name.now row.now body.now) }
+    ensures ok { OnOk result (into.new ≡ into.old ++ entry_of name.now row.now body.now) }
+    ensures kept { take (length into.old) into.new ≡ into.old }
 {
     push_author(alloc, row, into)?;
     push_place(name, row, into)?;
@@ -63,7 +66,8 @@ pub fn push_feed_entry(
 /// Appends the start of an entry: the author and the title.
 #[tactic(auto, unfolding(crate::specs::Feeds::entry_author))]
 fn push_author(alloc: Global, row: &Row, into: &mut Bytes) -> Result<(), NoMemory>
-    ensures { OnOk result (into.new ≡ into.old ++ entry_author row.now) }
+    ensures ok { OnOk result (into.new ≡ into.old ++ entry_author row.now) }
+    ensures kept { take (length into.old) into.new ≡ into.old }
 {
     into.push_slice(b"<entry><author><name>")?;
     push_escaped(alloc, row.from.as_slice(), into)?;
@@ -76,7 +80,8 @@ fn push_author(alloc: Global, row: &Row, into: &mut Bytes) -> Result<(), NoMemor
 #[tactic(auto, unfolding(crate::specs::Feeds::entry_place))]
 fn push_place(name: &Name, row: &Row, into: &mut Bytes) -> Result<(), NoMemory>
     requires { IsMoment row.now.arrived }
-    ensures { OnOk result (into.new ≡ into.old ++ entry_place name.now row.now) }
+    ensures ok { OnOk result (into.new ≡ into.old ++ entry_place name.now row.now) }
+    ensures kept { take (length into.old) into.new ≡ into.old }
 {
     into.push_slice(b"<id>mid:")?;
     push_address(row.id.as_slice(), into)?;
@@ -92,7 +97,8 @@ fn push_place(name: &Name, row: &Row, into: &mut Bytes) -> Result<(), NoMemory>
 /// Appends the end of an entry: the text of the body.
 #[tactic(auto, unfolding(crate::specs::Feeds::entry_body))]
 fn push_body(alloc: Global, body: &[u8], into: &mut Bytes) -> Result<(), NoMemory>
-    ensures { OnOk result (into.new ≡ into.old ++ entry_body body.now) }
+    ensures ok { OnOk result (into.new ≡ into.old ++ entry_body body.now) }
+    ensures kept { take (length into.old) into.new ≡ into.old }
 {
     into.push_slice(b"<content type=\"text\">")?;
     push_escaped(alloc, body, into)?;

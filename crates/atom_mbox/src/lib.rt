@@ -3,8 +3,10 @@
 
 mod entries;
 mod feeds;
+mod laws;
 mod mailbox;
 
 pub use entries::{push_feed_end, push_feed_entry, push_feed_start};
 pub use feeds::{Shown, feed, updated};
+pub use laws::feed_has_its_tags;
 pub use mailbox::{mbox_len, mbox_piece};

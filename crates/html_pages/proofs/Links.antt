@@ -6,38 +6,22 @@ use Rattle.std.specs.List.{flat_map}
 use Rattle.form_urlencoded.specs.Form.{byte_serialize}
 use Rattle.std.proofs.lemmas.Bool.{eqb-true, eqb-false}
 use Rattle.std.proofs.lemmas.Fmt.{decimal_by_steps_wide}
-use Rattle.std.proofs.lemmas.List.Elements.{filter-append}
 use Rattle.arch_base.specs.Names.{IsName}
 use Rattle.mail_reader.specs.Fields.{FieldText, fields_of, first_named}
 use Rattle.mail_reader.specs.Values.{flat_of}
 use Rattle.mime_words.specs.Decoding.{decoded}
 use Rattle.mail_forms.specs.declared.row.Row.{Row}
-use Rattle.web_text.specs.Days.{page_moment}
 use Rattle.web_text.specs.Escapes.{escaped, title_of}
-use Rattle.web_text.proofs.MomentBytes.{moment_bytes}
+use Rattle.web_text.specs.Markup.{markup}
+use Rattle.web_text.proofs.Markup.{digit, more, and_none, none-append, none-cons, text_none, title_none, name_none, page_moment_none}
 use Rattle.html_pages.specs.declared.thread_line.ThreadLine.{ThreadLine}
 use Rattle.html_pages.specs.declared.thread_line.ThreadEntry.{ThreadEntry}
 use Rattle.html_pages.specs.declared.thread_line.ThreadEntry.TheVariants.{Mail, Missing}
 use Rattle.html_pages.specs.Pieces.{page_date, address}
 use Rattle.html_pages.specs.Lines.{row_line, older_link, older_found, field_line, header_line, links_line, indent, entry_line, thread_line}
 use Rattle.html_pages.specs.Pages.{page_of, shown_fields, message_lines, listing_of, search_of, message_of, thread_of}
-use Rattle.html_pages.specs.Laws.{is_markup, markup, link_markup, links_markup, page_markup, is_of_mail, mail_count, ListingHasItsTags, SearchHasItsTags, MessageHasItsTags, ThreadHasItsTags}
-use Rattle.html_pages.proofs.Markup.{apart, none-all, none-append, none-cons, text_none, address_none, name_none, form_none}
-
--- One piece more, by its markup.
-more : (a b m n : List ℕ) → markup a ≡ m → markup b ≡ n → markup (a ++ b) ≡ m ++ n
-more a b m n e f = filter-append is_markup a b ∙ ap (λ t. t ++ markup b) e ∙ ap (λ t. m ++ t) f
-
--- A piece that has none.
-and_none : (a b m : List ℕ) → markup a ≡ m → markup b ≡ [] → markup (a ++ b) ≡ m
-and_none a b m e f = more a b m [] e f ∙ append-nil m
-
-title_by : (none : Bool) (subject : List ℕ) → markup (cond none (codes "(no subject)") (escaped subject)) ≡ []
-title_by true subject = refl
-title_by false subject = text_none subject
-
-title_none : (subject : List ℕ) → markup (title_of subject) ≡ []
-title_none subject = title_by (eqb (length subject) 0) subject
+use Rattle.html_pages.specs.Laws.{link_markup, links_markup, page_markup, is_of_mail, mail_count, ListingHasItsTags, SearchHasItsTags, MessageHasItsTags, ThreadHasItsTags}
+use Rattle.html_pages.proofs.Markup.{address_none, form_none}
 
 -- A page has the markup of its frame and of its lines.
 framed : (title lines : List ℕ) (count : ℕ) → markup title ≡ [] → markup lines ≡ links_markup count → markup (page_of title lines) ≡ page_markup count
@@ -51,13 +35,10 @@ framed title lines count e f =
     (more ((head ++ title) ++ between) lines (codes "<><><><><><><>") (links_markup count) front f) refl
 
 -- A moment has none.
-digit : (n : ℕ) → n ≤ 9 → is_markup (48 + n) ≡ false
-digit n h = apart (48 + n) (λ (f : 48 + n ≡ 60). omega arith) (λ (f : 48 + n ≡ 62). omega arith) (λ (f : 48 + n ≡ 34). omega arith)
-
-moment_none : (secs : ℕ) → markup (page_date secs) ≡ []
-moment_none secs =
+date_none : (secs : ℕ) → markup (page_date secs) ≡ []
+date_none secs =
     let least : min secs 253402300799 ≤ 253402300799 = grind (arith) in
-    none-all (page_moment (min secs 253402300799)) (moment_bytes (λ (b : ℕ). is_markup b ≡ false) digit refl refl refl (min secs 253402300799) least)
+    page_moment_none (min secs 253402300799) least
 
 -- The line of a mail has one link.
 row_one : (name : List ℕ) (row : Row) → IsName name → markup (row_line name row) ≡ link_markup
@@ -70,7 +51,7 @@ row_one name row h =
     let e = title_of row.subject in
     let f = codes "</a> " in
     let g = escaped row.from in
-    let start : markup (a ++ b) ≡ codes "<\"" = more a b [] (codes "<\"") (moment_none row.date.secs) refl in
+    let start : markup (a ++ b) ≡ codes "<\"" = more a b [] (codes "<\"") (date_none row.date.secs) refl in
     let first : markup (((a ++ b) ++ c) ++ d) ≡ codes "<\"\">" = more ((a ++ b) ++ c) d (codes "<\"") (codes "\">") (and_none (a ++ b) c (codes "<\"") start (address_none name row.id h)) refl in
     let last : markup (((((a ++ b) ++ c) ++ d) ++ e) ++ f) ≡ link_markup = more ((((a ++ b) ++ c) ++ d) ++ e) f (codes "<\"\">") (codes "<>") (and_none (((a ++ b) ++ c) ++ d) e (codes "<\"\">") first (title_none row.subject)) refl in
     and_none ((((((a ++ b) ++ c) ++ d) ++ e) ++ f) ++ g) (codes "\n") link_markup (and_none (((((a ++ b) ++ c) ++ d) ++ e) ++ f) g link_markup last (text_none row.from)) refl

@@ -1,105 +1,14 @@
--- The markup of texts and of addresses.
-use Rattle.std.proofs.Common.{◌≡◌, ℕ, suc, ◌+◌, ◌/◌, ◌%◌, ◌<◌, ◌≤◌, Bool, true, false, cond, eqb, ltb, List, [], ◌∷◌, ◌++◌, get_or, refl, sym, ap, ◌∙◌, arith}
-use Rattle.std.specs.Prelude.{◌||◌, codes}
-use Rattle.std.specs.Char.{encode_utf8}
+-- The markup of texts in forms and of addresses: they have none.
+use Rattle.std.proofs.Common.{◌≡◌, ℕ, ◌/◌, ◌%◌, Bool, true, false, cond, eqb, ltb, List, [], ◌∷◌, ◌++◌, refl}
+use Rattle.std.specs.Prelude.{codes}
 use Rattle.std.specs.Fmt.{digit_glyph}
-use Rattle.std.specs.List.{All, flat_map}
-use Rattle.std.specs.Str.{chars}
-use Rattle.std.specs.Str.Lossy.{utf8_lossy}
-use Rattle.std.proofs.lemmas.Bool.{ne_eqb, or_from}
-use Rattle.std.proofs.lemmas.Bool.Decides.{nat_tests}
-use Rattle.std.proofs.lemmas.List.Elements.{filter-append}
 use Rattle.form_urlencoded.specs.Form.{is_unchanged, serialize_byte, byte_serialize}
 use Rattle.percent_encoding.specs.Percent.{percent_encode_byte}
-use Rattle.arch_base.specs.Names.{IsName, is_name_byte}
-use Rattle.web_text.specs.Addresses.{is_plain, in_address, inside, escaped_bytes, address_of}
-use Rattle.web_text.specs.Escapes.{is_excluded, shown, spelled, escaped_chars}
+use Rattle.web_text.specs.Addresses.{address_of}
+use Rattle.web_text.specs.Markup.{markup}
+use Rattle.web_text.proofs.Markup.{none-append, none-cons, none-each, one, glyph_by, passes, id_none, name_none}
 use Rattle.html_pages.specs.Pieces.{address}
-use Rattle.html_pages.specs.Laws.{is_markup, markup, TextMakesNoTag, AddressMakesNoTag}
-
--- Bytes without markup.
-pub none-append : (a b : List ℕ) → markup a ≡ [] → markup b ≡ [] → markup (a ++ b) ≡ []
-none-append a b e f = filter-append is_markup a b ∙ ap (λ t. t ++ markup b) e ∙ f
-
-pub none-cons : (b : ℕ) (bs : List ℕ) → is_markup b ≡ false → markup bs ≡ [] → markup (b ∷ bs) ≡ []
-none-cons b bs e f = rw e f
-
-pub none-each : {A : Type 0} (f : A → List ℕ) → ((x : A) → markup (f x) ≡ []) → (xs : List A) → markup (flat_map f xs) ≡ []
-none-each f each [] = refl
-none-each f each (x ∷ xs) = none-append (f x) (flat_map f xs) (each x) (none-each f each xs)
-
-pub apart : (b : ℕ) → (b ≡ 60 → ⊥) → (b ≡ 62 → ⊥) → (b ≡ 34 → ⊥) → is_markup b ≡ false
-apart b f g h = or_from (eqb b 60 || eqb b 62) (eqb b 34) (or_from (eqb b 60) (eqb b 62) (ne_eqb b 60 f) (ne_eqb b 62 g)) (ne_eqb b 34 h)
-
-high : (b : ℕ) → 128 ≤ b → is_markup b ≡ false
-high b h = apart b (λ (e : b ≡ 60). omega arith) (λ (e : b ≡ 62). omega arith) (λ (e : b ≡ 34). omega arith)
-
-one : (a : ℕ) → is_markup a ≡ false → markup (a ∷ []) ≡ []
-one a e = none-cons a [] e refl
-
-two : (a b : ℕ) → 128 ≤ a → 128 ≤ b → markup (a ∷ b ∷ []) ≡ []
-two a b h k = none-cons a (b ∷ []) (high a h) (one b (high b k))
-
-encoded_by : (first few some : Bool) (c p q r s t u v w x : ℕ) → is_markup c ≡ false → 128 ≤ p → 128 ≤ q → 128 ≤ r → 128 ≤ s → 128 ≤ t → 128 ≤ u → 128 ≤ v → 128 ≤ w → 128 ≤ x
-    → markup (cond first (c ∷ []) (cond few (p ∷ q ∷ []) (cond some (r ∷ s ∷ t ∷ []) (u ∷ v ∷ w ∷ x ∷ [])))) ≡ []
-encoded_by true few some c p q r s t u v w x h a b d e f g i j k = one c h
-encoded_by false true some c p q r s t u v w x h a b d e f g i j k = two p q a b
-encoded_by false false true c p q r s t u v w x h a b d e f g i j k = none-cons r (s ∷ t ∷ []) (high r d) (two s t e f)
-encoded_by false false false c p q r s t u v w x h a b d e f g i j k = none-cons u (v ∷ w ∷ x ∷ []) (high u g) (none-cons v (w ∷ x ∷ []) (high v i) (two w x j k))
-
-encoded : (c : ℕ) → is_markup c ≡ false → markup (encode_utf8 c) ≡ []
-unfolding encode_utf8
-encoded c h =
-    encoded_by (ltb c 128) (ltb c 2048) (ltb c 65536) c (192 + c / 64) (128 + c % 64) (224 + c / 4096) (128 + c / 64 % 64) (128 + c % 64) (240 + c / 262144) (128 + c / 4096 % 64) (128 + c / 64 % 64) (128 + c % 64)
-    h (omega arith) (omega arith) (omega arith) (omega arith) (omega arith) (omega arith) (omega arith) (omega arith) (omega arith)
-
--- What a page has for a character.
-shown_by : (out : Bool) (c : ℕ) → is_markup c ≡ false → is_markup (cond out 0xFFFD c) ≡ false
-shown_by true c h = refl
-shown_by false c h = h
-
-spelled_by : (amp less more quote : Bool) (c : ℕ) → eqb c 60 ≡ less → eqb c 62 ≡ more → eqb c 34 ≡ quote
-    → markup (cond amp (codes "&amp;") (cond less (codes "&lt;") (cond more (codes "&gt;") (cond quote (codes "&quot;") (encode_utf8 (shown c)))))) ≡ []
-spelled_by true less more quote c e f g = refl
-spelled_by false true more quote c e f g = refl
-spelled_by false false true quote c e f g = refl
-spelled_by false false false true c e f g = refl
-spelled_by false false false false c e f g =
-    encoded (shown c) (shown_by (is_excluded c) c (or_from (eqb c 60 || eqb c 62) (eqb c 34) (or_from (eqb c 60) (eqb c 62) e f) g))
-
--- A text has none.
-pub text_none : TextMakesNoTag
-unfolding escaped_chars
-text_none text = none-each spelled (λ c. spelled_by (eqb c 38) (eqb c 60) (eqb c 62) (eqb c 34) c refl refl refl) (chars (utf8_lossy text))
-
--- A hexadecimal digit is none, and neither is what stands for any greater number.
-glyph_by : (small : Bool) (n : ℕ) → ltb n 10 ≡ small → is_markup (cond small (48 + n) (55 + n)) ≡ false
-glyph_by true n e =
-    let low : n < 10 = grind (arith, nat_tests, e) in
-    apart (48 + n) (λ (f : 48 + n ≡ 60). omega arith) (λ (f : 48 + n ≡ 62). omega arith) (λ (f : 48 + n ≡ 34). omega arith)
-glyph_by false n e =
-    let least : 10 ≤ n = grind (arith, nat_tests, e) in
-    apart (55 + n) (λ (f : 55 + n ≡ 60). omega arith) (λ (f : 55 + n ≡ 62). omega arith) (λ (f : 55 + n ≡ 34). omega arith)
-
-escape : (b : ℕ) → markup (37 ∷ digit_glyph true (b / 16) ∷ digit_glyph true (b % 16) ∷ []) ≡ []
-escape b =
-    none-cons 37 (digit_glyph true (b / 16) ∷ digit_glyph true (b % 16) ∷ []) refl
-    (none-cons (digit_glyph true (b / 16)) (digit_glyph true (b % 16) ∷ []) (glyph_by (ltb (b / 16) 10) (b / 16) refl)
-    (one (digit_glyph true (b % 16)) (glyph_by (ltb (b % 16) 10) (b % 16) refl)))
-
--- A byte that passes a test that the bytes of markup fail is none of them.
-passes : (test : ℕ → Bool) (b : ℕ) → test 60 ≡ false → test 62 ≡ false → test 34 ≡ false → test b ≡ true → is_markup b ≡ false
-passes test b f g h s = apart b (fails test b 60 f s) (fails test b 62 g s) (fails test b 34 h s) where
-  fails : (test : ℕ → Bool) (b n : ℕ) → test n ≡ false → test b ≡ true → b ≡ n → ⊥
-  fails test b n f s e = (let yes : test n ≡ true = ap test (sym e) ∙ s in cc (yes, f))
-
-byte_by : (plain : Bool) (b : ℕ) → is_plain b ≡ plain → markup (cond plain (b ∷ []) (37 ∷ digit_glyph true (b / 16) ∷ digit_glyph true (b % 16) ∷ [])) ≡ []
-byte_by true b e = one b (passes is_plain b refl refl refl e)
-byte_by false b e = escape b
-
-pub id_none : (id : List ℕ) → markup (address_of id) ≡ []
-unfolding escaped_bytes
-id_none id = none-each in_address (λ b. byte_by (is_plain b) b refl) (inside id)
+use Rattle.html_pages.specs.Laws.{AddressMakesNoTag}
 
 -- A text in a form has none.
 form_by : (plain blank : Bool) (b : ℕ) → is_unchanged b ≡ plain → markup (cond plain (b ∷ []) (cond blank (43 ∷ []) (percent_encode_byte b))) ≡ []
@@ -114,15 +23,6 @@ form_by false false b e =
 pub form_none : (text : List ℕ) → markup (byte_serialize text) ≡ []
 unfolding byte_serialize
 form_none text = none-each serialize_byte (λ b. form_by (is_unchanged b) (eqb b 32) b refl) text
-
--- Bytes of which none is one.
-pub none-all : (bs : List ℕ) → All (λ (b : ℕ). is_markup b ≡ false) bs → markup bs ≡ []
-none-all [] h = refl
-none-all (b ∷ bs) h = none-cons b bs (h 0 b (omega arith)) (none-all bs (λ k d l. h (suc k) d (omega arith)))
-
--- A name has none.
-pub name_none : (name : List ℕ) → IsName name → markup name ≡ []
-name_none name h = none-all name (λ k d l. passes is_name_byte (get_or name k d) refl refl refl (h.bytes k d l))
 
 -- An address has none.
 pub address_none : AddressMakesNoTag

@@ -1,24 +1,17 @@
 -- Laws of pages: no tag, and no value of an attribute, comes from a mail.
-use Rattle.std.specs.Prelude.{◌≡◌, ℕ, ◌^◌, ◌<◌, min, Bool, true, false, ◌||◌, ◌==◌, List, [], ◌++◌, length, filter, replicate, codes}
+use Rattle.std.specs.Prelude.{◌≡◌, ℕ, ◌^◌, ◌<◌, min, Bool, true, false, List, [], ◌++◌, length, filter, replicate, codes}
 use Rattle.std.specs.List.{concat}
 use Rattle.arch_base.specs.Names.{IsName}
 use Rattle.mail_forms.specs.declared.row.Row.{Row}
 use Rattle.web_text.specs.Escapes.{escaped}
+use Rattle.web_text.specs.Markup.{markup}
 use Rattle.html_pages.specs.Pieces.{address}
 use Rattle.html_pages.specs.Pages.{listing_of, search_of, message_of, thread_of}
 use Rattle.html_pages.specs.declared.thread_line.ThreadLine.{ThreadLine}
 use Rattle.html_pages.specs.declared.thread_line.ThreadEntry.{ThreadEntry}
 use Rattle.html_pages.specs.declared.thread_line.ThreadEntry.TheVariants.{Mail, Missing}
 
--- The byte begins or ends a tag, or the value of an attribute.
-abbrev pub is_markup : ℕ → Bool
-is_markup b = b == 60 || b == 62 || b == 34
-
--- Those bytes of a text.
-abbrev pub markup : List ℕ → List ℕ
-markup text = filter is_markup text
-
--- Those of a link: of its first tag, which has an address, and of its last tag.
+-- The bytes of markup of a link: of its first tag, which has an address, and of its last tag.
 abbrev pub link_markup : List ℕ
 link_markup = codes "<\"\"><>"
 

@@ -1,5 +1,5 @@
 //! What becomes of a head, and the head of a reply.
-ghost use Rattle.std.specs.Prelude.{◌≡◌, ◌++◌, OnOk, Some, option_map};
+ghost use Rattle.std.specs.Prelude.{◌≡◌, ◌++◌, length, take, OnOk, Some, option_map};
 ghost use Rattle.arch_base.specs.Moments.{IsMoment};
 ghost use Rattle.http_heads.specs.Heads.{shown};
 ghost use Rattle.http_heads.specs.Replies.{status_words, media_type, status_lines, body_lines, allow_line, close_line, reply_head, verdict_of};
@@ -115,7 +115,8 @@ impl Body {
 
 /// Appends the head of a reply, with the date of a moment, and the type and the length of its body.
 ///
-/// The moment is in seconds since 1970 UTC. `NoMemory` may leave a part of the head appended.
+/// The moment is in seconds since 1970 UTC. `NoMemory` may leave a part of the head appended, after
+/// what stood there.
 pub fn push_reply_head(
     status: Status,
     moment: u64,
@@ -125,7 +126,8 @@ pub fn push_reply_head(
     into: &mut Bytes,
 ) -> Result<(), NoMemory>
     requires { IsMoment moment }
-    ensures { OnOk result (into.new ≡ into.old ++ reply_head status moment body len closes) }
+    ensures ok { OnOk result (into.new ≡ into.old ++ reply_head status moment body len closes) }
+    ensures kept { take (length into.old) into.new ≡ into.old }
 {
     push_status(status, moment, into)?;
     push_body(body, len, into)?;
@@ -137,7 +139,8 @@ pub fn push_reply_head(
 /// Appends the line of a status, and the line of a moment's date.
 fn push_status(status: Status, moment: u64, into: &mut Bytes) -> Result<(), NoMemory>
     requires { IsMoment moment }
-    ensures { OnOk result (into.new ≡ into.old ++ status_lines status moment) }
+    ensures ok { OnOk result (into.new ≡ into.old ++ status_lines status moment) }
+    ensures kept { take (length into.old) into.new ≡ into.old }
 {
     into.push_slice(b"HTTP/1.1 ")?;
     into.push_slice(status.words())?;
@@ -148,7 +151,8 @@ fn push_status(status: Status, moment: u64, into: &mut Bytes) -> Result<(), NoMe
 
 /// Appends the lines of the type and the length of a body.
 fn push_body(body: Body, len: u128, into: &mut Bytes) -> Result<(), NoMemory>
-    ensures { OnOk result (into.new ≡ into.old ++ body_lines body len) }
+    ensures ok { OnOk result (into.new ≡ into.old ++ body_lines body len) }
+    ensures kept { take (length into.old) into.new ≡ into.old }
 {
     let mut digits = Buffer::new();
     into.push_slice(b"Content-Type: ")?;
@@ -160,7 +164,8 @@ fn push_body(body: Body, len: u128, into: &mut Bytes) -> Result<(), NoMemory>
 
 /// Appends the line that names the allowed methods, if the status refuses another one.
 fn push_allow(status: Status, into: &mut Bytes) -> Result<(), NoMemory>
-    ensures { OnOk result (into.new ≡ into.old ++ allow_line status) }
+    ensures ok { OnOk result (into.new ≡ into.old ++ allow_line status) }
+    ensures kept { take (length into.old) into.new ≡ into.old }
 {
     match status {
         Status::MethodNotAllowed => into.push_slice(b"Allow: GET, HEAD\r\n"),
@@ -170,7 +175,8 @@ fn push_allow(status: Status, into: &mut Bytes) -> Result<(), NoMemory>
 
 /// Appends the line that says that the connection is closed, if it is.
 fn push_close(closes: bool, into: &mut Bytes) -> Result<(), NoMemory>
-    ensures { OnOk result (into.new ≡ into.old ++ close_line closes) }
+    ensures ok { OnOk result (into.new ≡ into.old ++ close_line closes) }
+    ensures kept { take (length into.old) into.new ≡ into.old }
 {
     if closes {
         into.push_slice(b"Connection: close\r\n")

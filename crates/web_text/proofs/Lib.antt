@@ -1,4 +1,5 @@
 pub mod CivilDays
+pub mod Markup
 pub mod MomentBytes
 mod Pieces
 pub mod Pushing

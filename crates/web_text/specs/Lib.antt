@@ -1,3 +1,4 @@
 pub mod Addresses
 pub mod Days
 pub mod Escapes
+pub mod Markup

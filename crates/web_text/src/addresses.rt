@@ -1,5 +1,5 @@
 //! Ids of messages in addresses.
-ghost use Rattle.std.specs.Prelude.{◌≡◌, ◌++◌, ◌<◌, true, OnOk};
+ghost use Rattle.std.specs.Prelude.{◌≡◌, ◌++◌, ◌<◌, length, take, true, OnOk};
 ghost use Rattle.std.specs.Fmt.{digit_glyph};
 ghost use Rattle.web_text.specs.Addresses.{address_of, escaped_bytes, in_address, is_plain as plain, inside as inside_of};
 
@@ -9,9 +9,10 @@ use arch_base::{Bytes, NoMemory};
 ///
 /// The first and the last byte, which are its brackets, are left out. Each byte but ASCII letters,
 /// digits and `-._~@` becomes `%` and two upper-case hexadecimal digits. The only error is
-/// `NoMemory`. It may leave a part of the id appended.
+/// `NoMemory`. It may leave a part of the id appended, after what stood there.
 pub fn push_address(id: &[u8], into: &mut Bytes) -> Result<(), NoMemory>
-    ensures { OnOk result (into.new ≡ into.old ++ address_of id.now) }
+    ensures ok { OnOk result (into.new ≡ into.old ++ address_of id.now) }
+    ensures kept { take (length into.old) into.new ≡ into.old }
 {
     push_bytes(inside(id), into)
 }
@@ -28,7 +29,8 @@ fn inside(id: &[u8]) -> &[u8]
 
 /// Appends bytes as an address has them.
 fn push_bytes(bytes: &[u8], into: &mut Bytes) -> Result<(), NoMemory>
-    ensures { OnOk result (into.new ≡ into.old ++ escaped_bytes bytes.now) }
+    ensures ok { OnOk result (into.new ≡ into.old ++ escaped_bytes bytes.now) }
+    ensures kept { take (length into.old) into.new ≡ into.old }
 {
     for byte in bytes {
         push_byte(*byte, into)?;
@@ -38,7 +40,8 @@ fn push_bytes(bytes: &[u8], into: &mut Bytes) -> Result<(), NoMemory>
 
 /// Appends a byte as an address has it.
 fn push_byte(byte: u8, into: &mut Bytes) -> Result<(), NoMemory>
-    ensures { OnOk result (into.new ≡ into.old ++ in_address byte) }
+    ensures ok { OnOk result (into.new ≡ into.old ++ in_address byte) }
+    ensures kept { take (length into.old) into.new ≡ into.old }
 {
     if is_plain(byte) {
         into.push(byte)

@@ -1,5 +1,5 @@
 //! Text between the tags of a page or a feed, and in quoted attributes.
-ghost use Rattle.std.specs.Prelude.{◌≡◌, ◌++◌, OnOk};
+ghost use Rattle.std.specs.Prelude.{◌≡◌, ◌++◌, length, take, OnOk};
 ghost use Rattle.std.specs.Char.{encode_utf8};
 ghost use Rattle.web_text.specs.Escapes.{escaped, escaped_chars, spelled, shown, is_excluded as excluded, title_of};
 
@@ -10,9 +10,10 @@ use std::alloc::Global;
 ///
 /// `&`, `<`, `>` and `"` are appended by their names. Control characters, other than tabs and line
 /// feeds, U+FFFE, U+FFFF and bytes that aren't UTF-8 become U+FFFD. The only error is `NoMemory`. It
-/// may leave a part of the text appended.
+/// may leave a part of the text appended, after what stood there.
 pub fn push_escaped(alloc: Global, text: &[u8], into: &mut Bytes) -> Result<(), NoMemory>
-    ensures { OnOk result (into.new ≡ into.old ++ escaped text.now) }
+    ensures ok { OnOk result (into.new ≡ into.old ++ escaped text.now) }
+    ensures kept { take (length into.old) into.new ≡ into.old }
 {
     let read = String::from_utf8_lossy(alloc, text)?;
     push_chars(read.as_str(), into)
@@ -21,9 +22,10 @@ pub fn push_escaped(alloc: Global, text: &[u8], into: &mut Bytes) -> Result<(), 
 /// Appends the title of a mail: its subject as [`push_escaped`] appends it, or `(no subject)` if it is
 /// empty.
 ///
-/// The only error is `NoMemory`. It may leave a part of the title appended.
+/// The only error is `NoMemory`. It may leave a part of the title appended, after what stood there.
 pub fn push_title(alloc: Global, subject: &[u8], into: &mut Bytes) -> Result<(), NoMemory>
-    ensures { OnOk result (into.new ≡ into.old ++ title_of subject.now) }
+    ensures ok { OnOk result (into.new ≡ into.old ++ title_of subject.now) }
+    ensures kept { take (length into.old) into.new ≡ into.old }
 {
     if subject.is_empty() {
         into.push_slice(b"(no subject)")
@@ -34,7 +36,8 @@ pub fn push_title(alloc: Global, subject: &[u8], into: &mut Bytes) -> Result<(),
 
 /// Appends the characters of a text as a page has them.
 fn push_chars(text: &str, into: &mut Bytes) -> Result<(), NoMemory>
-    ensures { OnOk result (into.new ≡ into.old ++ escaped_chars text.now) }
+    ensures ok { OnOk result (into.new ≡ into.old ++ escaped_chars text.now) }
+    ensures kept { take (length into.old) into.new ≡ into.old }
 {
     for c in text.chars() {
         push_char(c, into)?;
@@ -44,7 +47,8 @@ fn push_chars(text: &str, into: &mut Bytes) -> Result<(), NoMemory>
 
 /// Appends a character as a page has it.
 fn push_char(c: char, into: &mut Bytes) -> Result<(), NoMemory>
-    ensures { OnOk result (into.new ≡ into.old ++ spelled c) }
+    ensures ok { OnOk result (into.new ≡ into.old ++ spelled c) }
+    ensures kept { take (length into.old) into.new ≡ into.old }
 {
     match c {
         '&' => into.push_slice(b"&amp;"),
@@ -71,7 +75,8 @@ fn is_excluded(c: char) -> bool
 
 /// Appends the UTF-8 of a character.
 fn push_utf8(c: char, into: &mut Bytes) -> Result<(), NoMemory>
-    ensures { OnOk result (into.new ≡ into.old ++ encode_utf8 c) }
+    ensures ok { OnOk result (into.new ≡ into.old ++ encode_utf8 c) }
+    ensures kept { take (length into.old) into.new ≡ into.old }
 {
     let mut room = [0u8; 4];
     let spelled = c.encode_utf8(&mut room);

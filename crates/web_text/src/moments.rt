@@ -1,5 +1,5 @@
 //! Moments in feeds and pages.
-ghost use Rattle.std.specs.Prelude.{◌≡◌, ◌++◌, OnOk};
+ghost use Rattle.std.specs.Prelude.{◌≡◌, ◌++◌, OnOk, OnErr};
 ghost use Rattle.arch_base.specs.Moments.{IsMoment};
 ghost use Rattle.web_text.specs.Days.{moment_text, page_moment};
 
@@ -11,7 +11,8 @@ use mail_date::{print_page, print_rfc3339, printed_date_is_one};
 /// `NoMemory` leaves the bytes unchanged.
 pub fn push_moment(secs: u64, into: &mut Bytes) -> Result<(), NoMemory>
     requires { IsMoment secs }
-    ensures { OnOk result (into.new ≡ into.old ++ moment_text secs) }
+    ensures ok { OnOk result (into.new ≡ into.old ++ moment_text secs) }
+    ensures err { OnErr result (into.new ≡ into.old) }
 {
     printed_date_is_one();
     into.push_slice(&print_rfc3339(secs))
@@ -22,7 +23,8 @@ pub fn push_moment(secs: u64, into: &mut Bytes) -> Result<(), NoMemory>
 /// `NoMemory` leaves the bytes unchanged.
 pub fn push_page_moment(secs: u64, into: &mut Bytes) -> Result<(), NoMemory>
     requires { IsMoment secs }
-    ensures { OnOk result (into.new ≡ into.old ++ page_moment secs) }
+    ensures ok { OnOk result (into.new ≡ into.old ++ page_moment secs) }
+    ensures err { OnErr result (into.new ≡ into.old) }
 {
     printed_date_is_one();
     into.push_slice(&print_page(secs))

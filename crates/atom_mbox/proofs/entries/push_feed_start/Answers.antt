@@ -4,9 +4,9 @@ use Rattle.atom_mbox.specs.Feeds.{feed_start}
 use Rattle.web_text.proofs.Pushing.{grown, last_grown}
 use Rattle.atom_mbox.proofs.entries.push_feed_start.Goals as goal
 
-pub returns : goal.returns
+pub returns-clause-ok : goal.returns-clause-ok
 unfolding feed_start
-returns c =
+returns-clause-ok c =
     let first = c.args.into.now in
     let front_1 : List ℕ = codes "<?xml version=\"1.0\" encoding=\"utf-8\"?>\n" in
     let is_1 : c.push_slice.new.self ≡ first ++ front_1 = c.in_ok-push_slice.ensures in
@@ -21,5 +21,5 @@ returns c =
     let front_6 : List ℕ = front_5 ++ codes "@piv2.invalid</id>\n<updated>" in
     let is_6 : c.push_slice-6.new.self ≡ first ++ front_6 = grown first c.push_slice-5.new.self c.push_slice-6.new.self front_5 (codes "@piv2.invalid</id>\n<updated>") is_5 c.in_ok-push_slice-6.ensures in
     let front_7 : List ℕ = front_6 ++ moment_text c.args.updated in
-    let is_7 : c.push_moment.new.into ≡ first ++ front_7 = grown first c.push_slice-6.new.self c.push_moment.new.into front_6 (moment_text c.args.updated) is_6 c.in_ok-push_moment.ensures in
+    let is_7 : c.push_moment.new.into ≡ first ++ front_7 = grown first c.push_slice-6.new.self c.push_moment.new.into front_6 (moment_text c.args.updated) is_6 c.in_ok-push_moment.ensures.ok in
     last_grown c.push_slice-7.result first c.push_moment.new.into c.push_slice-7.new.self front_7 (codes "</updated>\n") is_7 c.push_slice-7.ensures

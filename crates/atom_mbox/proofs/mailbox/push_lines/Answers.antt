@@ -1,6 +1,7 @@
 use Rattle.std.proofs.Common.{◌≡◌, length, arith}
 use Rattle.std.proofs.lemmas.Bool.Decides.{nat_tests}
-use Rattle.atom_mbox.proofs.Mailing.{lines-more, lines-end, kept-on}
+use Rattle.web_text.proofs.Pushing.{kept-on}
+use Rattle.atom_mbox.proofs.Mailing.{lines-more, lines-end}
 use Rattle.atom_mbox.proofs.mailbox.push_lines.Goals as goal
 
 pub loop-rest-preserved : goal.loop-rest-preserved

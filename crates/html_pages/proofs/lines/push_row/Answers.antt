@@ -18,9 +18,9 @@ returns c =
     let front_4 : List ℕ = front_3 ++ codes "\">" in
     let is_4 : c.push_slice-2.new.self ≡ first ++ front_4 = grown first c.push_place.new.into c.push_slice-2.new.self front_3 (codes "\">") is_3 c.in_ok-push_slice-2.ensures in
     let front_5 : List ℕ = front_4 ++ title_of c.args.row.now.subject in
-    let is_5 : c.push_title.new.into ≡ first ++ front_5 = grown first c.push_slice-2.new.self c.push_title.new.into front_4 (title_of c.args.row.now.subject) is_4 (c.in_ok-push_title.ensures ∙ ap (λ t. c.push_slice-2.new.self ++ title_of t) c.as_slice-2.ensures) in
+    let is_5 : c.push_title.new.into ≡ first ++ front_5 = grown first c.push_slice-2.new.self c.push_title.new.into front_4 (title_of c.args.row.now.subject) is_4 (c.in_ok-push_title.ensures.ok ∙ ap (λ t. c.push_slice-2.new.self ++ title_of t) c.as_slice-2.ensures) in
     let front_6 : List ℕ = front_5 ++ codes "</a> " in
     let is_6 : c.push_slice-3.new.self ≡ first ++ front_6 = grown first c.push_title.new.into c.push_slice-3.new.self front_5 (codes "</a> ") is_5 c.in_ok-push_slice-3.ensures in
     let front_7 : List ℕ = front_6 ++ escaped c.args.row.now.from in
-    let is_7 : c.push_escaped.new.into ≡ first ++ front_7 = grown first c.push_slice-3.new.self c.push_escaped.new.into front_6 (escaped c.args.row.now.from) is_6 (c.in_ok-push_escaped.ensures ∙ ap (λ t. c.push_slice-3.new.self ++ escaped t) c.as_slice-3.ensures) in
+    let is_7 : c.push_escaped.new.into ≡ first ++ front_7 = grown first c.push_slice-3.new.self c.push_escaped.new.into front_6 (escaped c.args.row.now.from) is_6 (c.in_ok-push_escaped.ensures.ok ∙ ap (λ t. c.push_slice-3.new.self ++ escaped t) c.as_slice-3.ensures) in
     last_grown c.push_slice-4.result first c.push_escaped.new.into c.push_slice-4.new.self front_7 (codes "\n") is_7 c.push_slice-4.ensures

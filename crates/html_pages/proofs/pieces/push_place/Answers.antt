@@ -15,5 +15,5 @@ returns c =
     let front_3 : List ℕ = front_2 ++ codes "/" in
     let is_3 : c.push_slice-3.new.self ≡ first ++ front_3 = grown first c.push_slice-2.new.self c.push_slice-3.new.self front_2 (codes "/") is_2 c.in_ok-push_slice-3.ensures in
     let front_4 : List ℕ = front_3 ++ address_of c.args.id.now in
-    let is_4 : c.push_address.new.into ≡ first ++ front_4 = grown first c.push_slice-3.new.self c.push_address.new.into front_3 (address_of c.args.id.now) is_3 c.in_ok-push_address.ensures in
+    let is_4 : c.push_address.new.into ≡ first ++ front_4 = grown first c.push_slice-3.new.self c.push_address.new.into front_3 (address_of c.args.id.now) is_3 c.in_ok-push_address.ensures.ok in
     last_grown c.push_slice-4.result first c.push_address.new.into c.push_slice-4.new.self front_4 (codes "/") is_4 c.push_slice-4.ensures

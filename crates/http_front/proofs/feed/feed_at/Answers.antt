@@ -7,4 +7,4 @@ returns-in-Err-push_mails-clause-found g c = λ a held. finds-refused a (feed_fo
 
 pub returns-in-Ok-push_feed_end-clause-found : goal.returns-in-Ok-push_feed_end-clause-found
 returns-in-Ok-push_feed_end-clause-found g c = λ a held.
-    feed-made a c.args.numbers.now c.new-made.result c.start_feed.new.into c.push_mails.new.into c.push_feed_end.new.into c.new-made.ensures (c.in-Ok.ensures a held) (c.in-Ok-push_mails.ensures.entries a held) c.in-Ok-push_feed_end.ensures
+    feed-made a c.args.numbers.now c.new-made.result c.start_feed.new.into c.push_mails.new.into c.push_feed_end.new.into c.new-made.ensures (c.in-Ok.ensures a held) (c.in-Ok-push_mails.ensures.entries a held) c.in-Ok-push_feed_end.ensures.ok

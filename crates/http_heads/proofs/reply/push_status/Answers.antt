@@ -4,9 +4,9 @@ use Rattle.http_heads.specs.Replies.{status_words, line_end, status_lines}
 use Rattle.web_text.proofs.Pushing.{grown, last_grown}
 use Rattle.http_heads.proofs.reply.push_status.Goals as goal
 
-pub returns : goal.returns
+pub returns-clause-ok : goal.returns-clause-ok
 unfolding status_lines
-returns c =
+returns-clause-ok c =
     let first = c.args.into.now in
     let front_1 : List ℕ = codes "HTTP/1.1 " in
     let is_1 : c.push_slice.new.self ≡ first ++ front_1 = c.in_ok-push_slice.ensures in
