@@ -22,6 +22,8 @@ impl Host for Absent {
 
     ghost lost = { λ s. 0 };
 
+    ghost closed_at = { λ s conn. None };
+
     fn next(&mut self, _into: &mut [u8]) -> Result<Option<Event>, HostFault> {
         Ok(None)
     }

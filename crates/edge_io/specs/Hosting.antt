@@ -25,22 +25,25 @@ module _ {H : Type 0} (left given : H → Told) (recorded : H → List Outputs �
     faults_same = q.faults_same ∙ p.faults_same;
   }
 
-  module _ (taken : H → ℕ → Option (List ℕ)) (closings : H → ℕ → Option ℕ) where
+  module _ (taken : H → ℕ → Option (List ℕ)) (closings : H → ℕ → Option ℕ)
+      (closed_at : H → ℕ → Option (List ℕ)) where
     pub SameElsewhere-same : (conn : ℕ) (h : H)
-        → SameElsewhere left given recorded faults taken closings conn h h
+        → SameElsewhere left given recorded faults taken closings closed_at conn h h
     SameElsewhere-same conn h = record {
       events = SameEvents-same h;
       others = λ other apart. refl;
       closings_same = λ other. refl;
+      closed_at_same = λ other. refl;
     }
 
     -- The second step is one on the same connection.
     pub SameElsewhere-joined : (conn next : ℕ) (h i j : H) → next ≡ conn
-        → SameElsewhere left given recorded faults taken closings conn h i
-        → SameElsewhere left given recorded faults taken closings next i j
-        → SameElsewhere left given recorded faults taken closings conn h j
+        → SameElsewhere left given recorded faults taken closings closed_at conn h i
+        → SameElsewhere left given recorded faults taken closings closed_at next i j
+        → SameElsewhere left given recorded faults taken closings closed_at conn h j
     SameElsewhere-joined conn next h i j e p q = record {
       events = SameEvents-joined h i j p.events q.events;
       others = λ other apart. q.others other (λ same. apart (same ∙ e)) ∙ p.others other apart;
       closings_same = λ other. q.closings_same other ∙ p.closings_same other;
+      closed_at_same = λ other. q.closed_at_same other ∙ p.closed_at_same other;
     }

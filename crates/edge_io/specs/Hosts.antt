@@ -47,6 +47,16 @@ abbrev pub one_more : Option ℕ → Option ℕ
 one_more None = None
 one_more (Some count) = Some (min (count + 1) (2 ^ 64 - 1))
 
+-- What a connection had taken when it was last closed, after one more closing: what it has taken by
+-- then. None stays None.
+abbrev pub closed_with : Option (List ℕ) → Option (List ℕ) → Option (List ℕ)
+closed_with taken None = None
+closed_with taken (Some before) = taken
+
+-- A host doesn't tell what its connections had taken when they were closed.
+abbrev pub untold : {H : Type 0} → H → ℕ → Option (List ℕ)
+untold host conn = None
+
 -- Nothing changed at the other connections.
 abbrev pub OthersKept : {X : Type 0} → ℕ → (ℕ → X) → (ℕ → X) → Type 0
 OthersKept conn old new = (other : ℕ) → other ≢ conn → new other ≡ old other
@@ -63,7 +73,8 @@ module _ {H : Type 0} (left given : H → Told) (recorded : H → List Outputs �
 
   -- Nothing but the bytes of one connection changed, and the count of lost calls.
   pub record SameElsewhere (taken : H → ℕ → Option (List ℕ)) (closings : H → ℕ → Option ℕ)
-      (conn : ℕ) (old new : H) : Type 0 where
+      (closed_at : H → ℕ → Option (List ℕ)) (conn : ℕ) (old new : H) : Type 0 where
     pub events : SameEvents old new
     pub others : OthersKept conn (taken old) (taken new)
     pub closings_same : (other : ℕ) → closings new other ≡ closings old other
+    pub closed_at_same : (other : ℕ) → closed_at new other ≡ closed_at old other

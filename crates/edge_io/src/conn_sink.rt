@@ -21,14 +21,14 @@ impl<'a, H: Host> Sink for ConnSink<'a, H> {
     ghost faults = { λ s. H.lost s.host.now };
 
     ghost alike = { λ s t. (t.host.ghost_name ≡ s.host.ghost_name) × (t.conn ≡ s.conn)
-        × SameElsewhere H.left H.given H.recorded H.faults H.taken H.closings s.conn s.host.now
-        t.host.now };
+        × SameElsewhere H.left H.given H.recorded H.faults H.taken H.closings H.closed_at s.conn
+        s.host.now t.host.now };
 
     ghost alike_same = { λ s. (
       refl,
       refl,
       SameElsewhere-same H.left H.given H.recorded H.faults
-          H.taken H.closings s.conn s.host.now,
+          H.taken H.closings H.closed_at s.conn s.host.now,
     ) };
 
     fn write(&mut self, bytes: &[u8]) -> Result<(), SinkFault> {
@@ -42,7 +42,7 @@ impl<'a, H: Host> Sink for ConnSink<'a, H> {
       q.0 ∙ p.0,
       q.1 ∙ p.1,
       SameElsewhere-joined H.left H.given
-          H.recorded H.faults H.taken H.closings s.conn t.conn s.host.now t.host.now u.host.now p.1
-          p.2 q.2,
+          H.recorded H.faults H.taken H.closings H.closed_at s.conn t.conn s.host.now t.host.now
+          u.host.now p.1 p.2 q.2,
     ) };
 }

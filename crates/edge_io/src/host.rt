@@ -3,7 +3,7 @@ ghost use Rattle.std.specs.Prelude.{◌≡◌, ◌≤◌, ◌++◌, ◌∷◌, [
 ghost use Rattle.arch_base.specs.Counts.{HasCause};
 ghost use Rattle.edge_io.specs.Taken.{Took};
 ghost use Rattle.edge_io.specs.Frames.{Outputs, outputs};
-ghost use Rattle.edge_io.specs.Hosts.{Told, Gave, SameEvents, OthersKept, one_more};
+ghost use Rattle.edge_io.specs.Hosts.{Told, Gave, SameEvents, OthersKept, one_more, closed_with};
 
 use crate::events::Event;
 use thiserror::Error;
@@ -39,6 +39,9 @@ pub trait Host {
     /// The count of calls of `send` that failed.
     ghost lost: { Self → ℕ };
 
+    /// What a connection had taken when it was last closed, if it is told.
+    ghost closed_at: { Self → ℕ → Option (List ℕ) };
+
     /// Returns the next event, with its piece at the front of a buffer, or `None` if none is left.
     ///
     /// The rest of `into` may have any content. `HostFault` leaves the events unchanged, and the
@@ -57,7 +60,8 @@ pub trait Host {
         ensures taken { (conn : ℕ) → taken self.new conn ≡ taken self.old conn }
         ensures closings { (conn : ℕ) → closings self.new conn ≡ closings self.old conn }
         ensures cause { HasCause (faults self.old) (faults self.new) result }
-        ensures lost { lost self.new ≡ lost self.old };
+        ensures lost { lost self.new ≡ lost self.old }
+        ensures closed_at { (conn : ℕ) → closed_at self.new conn ≡ closed_at self.old conn };
 
     /// Sends bytes to a connection.
     ///
@@ -68,7 +72,8 @@ pub trait Host {
         ensures others { OthersKept conn (taken self.old) (taken self.new) }
         ensures closings { (other : ℕ) → closings self.new other ≡ closings self.old other }
         ensures events { SameEvents left given recorded faults self.old self.new }
-        ensures cause { HasCause (lost self.old) (lost self.new) result };
+        ensures cause { HasCause (lost self.old) (lost self.new) result }
+        ensures closed_at { (other : ℕ) → closed_at self.new other ≡ closed_at self.old other };
 
     /// Closes a connection. Allocates nothing.
     fn close(&mut self, conn: u32)
@@ -76,5 +81,8 @@ pub trait Host {
         ensures others { OthersKept conn (closings self.old) (closings self.new) }
         ensures taken { (other : ℕ) → taken self.new other ≡ taken self.old other }
         ensures events { SameEvents left given recorded faults self.old self.new }
-        ensures lost { lost self.new ≡ lost self.old };
+        ensures lost { lost self.new ≡ lost self.old }
+        ensures closed_at { closed_at self.new conn
+            ≡ closed_with (taken self.old conn) (closed_at self.old conn) }
+        ensures closed_at_others { OthersKept conn (closed_at self.old) (closed_at self.new) };
 }

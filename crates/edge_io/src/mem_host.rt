@@ -3,7 +3,7 @@ ghost use Rattle.std.specs.Prelude.{◌≡◌, ◌≤◌, ◌++◌, ◌∷◌, [
 ghost use Rattle.arch_base.specs.Counts.{HasCause};
 ghost use Rattle.edge_io.specs.Taken.{Took};
 ghost use Rattle.edge_io.specs.Passing.{given_of, left_of};
-ghost use Rattle.edge_io.specs.Hosts.{Gave, SameEvents, OthersKept};
+ghost use Rattle.edge_io.specs.Hosts.{Gave, SameEvents, OthersKept, untold};
 ghost use Rattle.edge_io.specs.Frames.{Outputs};
 ghost use Rattle.edge_io.specs.Listed.{raised, is_listed};
 ghost use Rattle.edge_io.specs.MemHosts.{Hosting, outputs_in, IsNewHost, Counted, NextFails, SendFails, is_closed};
@@ -116,6 +116,8 @@ impl Host for MemHost {
 
     ghost lost = { λ s. s.outgoing.lost };
 
+    ghost closed_at = { untold };
+
     fn next(&mut self, into: &mut [u8]) -> Result<Option<Event>, HostFault>
         requires { 1048576 ≤ length into.old }
         ensures gave { IfOk result (λ event. Gave event into.new (Some (left_of self.old.events))
@@ -133,6 +135,7 @@ impl Host for MemHost {
             ≡ (outputs_in self.old.outgoing).closings conn }
         ensures cause { HasCause self.old.faults self.new.faults result }
         ensures lost { self.new.outgoing.lost ≡ self.old.outgoing.lost }
+        ensures closed_at { (conn : ℕ) → untold self.new conn ≡ untold self.old conn }
         ensures fails { NextFails result self.old self.new }
         ensures counted { Counted self.old self.new }
     {
@@ -154,6 +157,7 @@ impl Host for MemHost {
             (λ (s : Hosting). Some (given_of s.events)) (λ (s : Hosting) past. Unit {0})
             (λ (s : Hosting). s.faults) self.old self.new }
         ensures cause { HasCause self.old.outgoing.lost self.new.outgoing.lost result }
+        ensures closed_at { (other : ℕ) → untold self.new other ≡ untold self.old other }
         ensures untaken { OnErr result ((outputs_in self.new.outgoing).taken conn
             ≡ (outputs_in self.old.outgoing).taken conn) }
         ensures fails { SendFails result self.old self.new }

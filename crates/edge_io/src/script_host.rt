@@ -6,7 +6,7 @@ ghost use Rattle.edge_io.specs.Frames.{Outputs, event_frame, frames_of, FirstFra
 ghost use Rattle.edge_io.specs.Listed.{raised};
 ghost use Rattle.edge_io.specs.MemHosts.{outputs_in};
 ghost use Rattle.edge_io.specs.Passing.{given_of, left_of};
-ghost use Rattle.edge_io.specs.Hosts.{Gave, SameEvents, OthersKept};
+ghost use Rattle.edge_io.specs.Hosts.{Gave, SameEvents, OthersKept, untold};
 ghost use Rattle.edge_io.specs.ScriptHosts.{Scripting, Recorded, IsNewScriptHost, AgreeOn, Collected, begun_of};
 ghost use Rattle.edge_io.specs.Scripts.{IsArrival};
 
@@ -171,6 +171,8 @@ impl Host for ScriptHost {
 
     ghost lost = { λ s. s.outgoing.lost };
 
+    ghost closed_at = { untold };
+
     fn next(&mut self, into: &mut [u8]) -> Result<Option<Event>, HostFault>
         requires { 1048576 ≤ length into.old }
         ensures gave { IfOk result (λ event. Gave event into.new (Some (left_of self.old.events))
@@ -190,6 +192,7 @@ impl Host for ScriptHost {
             ≡ (outputs_in self.old.outgoing).closings conn }
         ensures cause { HasCause 0 0 result }
         ensures lost { self.new.outgoing.lost ≡ self.old.outgoing.lost }
+        ensures closed_at { (conn : ℕ) → untold self.new conn ≡ untold self.old conn }
         ensures never_fails { IsOk result }
     {
         self.end_event();
@@ -207,6 +210,7 @@ impl Host for ScriptHost {
             (λ (s : Scripting). Some (given_of s.events)) Recorded (λ (s : Scripting). 0) self.old
             self.new }
         ensures cause { HasCause self.old.outgoing.lost self.new.outgoing.lost result }
+        ensures closed_at { (other : ℕ) → untold self.new other ≡ untold self.old other }
         ensures untaken { OnErr result ((outputs_in self.new.outgoing).taken conn
             ≡ (outputs_in self.old.outgoing).taken conn) }
         ensures starved { OnErr result (self.new.starved ≡ raised self.old.starved) }

@@ -108,6 +108,8 @@ impl<'a> Host for SocketHost<'a> {
 
     ghost lost = { λ s. s.lost };
 
+    ghost closed_at = { λ s conn. None };
+
     fn next(&mut self, into: &mut [u8]) -> Result<Option<Event>, HostFault> {
         let (port, progress) = (self.port, self.progress);
         match event_of(
