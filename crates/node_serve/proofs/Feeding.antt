@@ -19,7 +19,7 @@ use Rattle.nntp_reader.specs.Door.{Reader}
 use Rattle.http_front.specs.Door as pages
 use Rattle.http_front.specs.Reading.{asked_in}
 use Rattle.node_serve.specs.Doors.{Came, AtControl, AtNews, AtHttp, with_piece, rest_if, said, is_asked}
-use Rattle.node_serve.specs.Nodes.{FedFrom}
+use Rattle.node_serve.specs.Nodes.{FedFrom, ReadsAt, ReadsCame}
 use Rattle.node_serve.specs.declared.session.Session.{Session}
 use Rattle.node_serve.specs.declared.session.Session.TheVariants as session
 
@@ -118,3 +118,12 @@ module _ {K : Type 0} (holds : K → Archive → Type 0) (ready : K → Bool) (l
     rest_is = refl;
     course = coming-last leaves (said moment) is_asked old old new (talk (Some (Came start piece)) s i) (Came start piece) s i None t j (coming-same leaves (said moment) is_asked old (talk (Some (Came start piece)) s i)) acts (inl refl) moves.passes;
   }
+
+module _ {K : Type 0} (holds : K → Archive → Type 0) (ready : K → Bool) where
+  -- What a piece reads after a reopening that does nothing.
+  pub reads-from : (start : Session) (piece : List ℕ) (reads : K → ℕ) (old mid : K) (now : ℕ) → mid ≡ old → ReadsAt holds ready start piece mid (reads mid) now → ReadsAt holds ready start piece old (reads old) now
+  reads-from start piece reads old mid now same read = subst (λ (k : K). ReadsAt holds ready start piece k (reads k) now) same read
+
+  -- What a piece reads that came to the session of a place, if it has one.
+  pub reads-there : (here there : Option Session) (piece : List ℕ) (old : K) (before now : ℕ) → here ≡ there → ReadsCame holds ready here piece old before now → ReadsCame holds ready there piece old before now
+  reads-there here there piece old before now same read = subst (λ (x : Option Session). ReadsCame holds ready x piece old before now) same read

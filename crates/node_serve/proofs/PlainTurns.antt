@@ -16,7 +16,7 @@ use Rattle.node_serve.specs.Doors.{Held, Came, rest_if, said, is_asked, said_mak
 use Rattle.node_serve.specs.Laws.{PlainLaws, PlainIsServed}
 use Rattle.node_serve.specs.Plain.{size_of, piece_said, piece_passed, then_passed, passed_if, passed_from, passed_by, set_at, between_pieces, after_said, after_end, plain_piece, plain_event, plain_turn, plain_turns, last_world, IsCounted, PlainActAt, PlainFedAt, PlainCameTo, PlainTurnedBy, PlainServed}
 use Rattle.node_serve.specs.Turns.{Turn, CameTo, TurnedBy, Served}
-use Rattle.node_serve.specs.World.{World, outer, Around, Same, EndedAt, outside_at, others_open, one_if, closed_if, open_below}
+use Rattle.node_serve.specs.World.{World, outer, Around, Same, EndedAt, outside_at, others_open, one_if, closed_if, closed_at_if, open_below}
 use Rattle.node_serve.specs.declared.session.Session.{Session}
 use Rattle.node_serve.proofs.Counting.{below-same, below-one, this-or}
 use Rattle.node_serve.proofs.NodeDoor.{node_cuts, node_laws, more_bytes}
@@ -111,13 +111,13 @@ set-other {X} c x f d other = by (d == c) refl
     by false e = refl
 
 -- A world of these parts.
-world-is : (v : World) (a : Standing) (f : ℕ → Option Session) (n : ℕ) (t : ℕ → Option (List ℕ)) (c : ℕ → Option ℕ) (disk lost : ℕ) → v.standing ≡ a → ((d : ℕ) → v.session d ≡ f d) → v.count ≡ n → ((d : ℕ) → v.out.taken d ≡ t d) → ((d : ℕ) → v.out.closings d ≡ c d) → v.out.disk ≡ disk → v.out.lost ≡ lost
-    → v ≡ record { standing = a; session = f; count = n; out = outer t c disk lost }
-world-is v a f n t c disk lost p q r x y z l = λ i. record {
+world-is : (v : World) (a : Standing) (f : ℕ → Option Session) (n : ℕ) (t : ℕ → Option (List ℕ)) (c : ℕ → Option ℕ) (disk lost : ℕ) (e : ℕ → Option (List ℕ)) → v.standing ≡ a → ((d : ℕ) → v.session d ≡ f d) → v.count ≡ n → ((d : ℕ) → v.out.taken d ≡ t d) → ((d : ℕ) → v.out.closings d ≡ c d) → v.out.disk ≡ disk → v.out.lost ≡ lost → ((d : ℕ) → v.out.closed_at d ≡ e d)
+    → v ≡ record { standing = a; session = f; count = n; out = outer t c disk lost e }
+world-is v a f n t c disk lost e p q r x y z l k = λ i. record {
   standing = p i;
   session = λ (d : ℕ). q d i;
   count = r i;
-  out = record { taken = λ (d : ℕ). x d i; closings = λ (d : ℕ). y d i; disk = z i; lost = l i };
+  out = record { taken = λ (d : ℕ). x d i; closings = λ (d : ℕ). y d i; disk = z i; lost = l i; closed_at = λ (d : ℕ). k d i };
 }
 
 -- One act.
@@ -128,10 +128,13 @@ acted-is c s w v act =
     let around = act.around in
     let now : one_if (v.session c) ≡ one_if s.next = ap (λ (x : Option Session). one_if x) whole.held_is in
     let count = around.count in
+    let closed_at : v.out.closed_at c ≡ closed_at_if s.next (plus (w.out.taken c) s.words) (w.out.closed_at c) =
+    around.closed_at ∙ ap (λ (x : Option Session). closed_at_if x (v.out.taken c) (w.out.closed_at c)) whole.held_is ∙ ap (λ (t : Option (List ℕ)). closed_at_if s.next t (w.out.closed_at c)) whole.out_is in
     world-is v s.after (set_at c s.next w.session) ((w.count + one_if s.next) - one_if (w.session c)) (set_at c (plus (w.out.taken c) s.words) w.out.taken) (set_at c (closed_if s.next (w.out.closings c)) w.out.closings) w.out.disk w.out.lost
-    whole.after_is (λ d. set-by c s.next w.session v.session d whole.held_is around.sessions) (omega (arith, count, now))
+    (set_at c (closed_at_if s.next (plus (w.out.taken c) s.words) (w.out.closed_at c)) w.out.closed_at) whole.after_is (λ d. set-by c s.next w.session v.session d whole.held_is around.sessions) (omega (arith, count, now))
     (λ d. set-by c (plus (w.out.taken c) s.words) w.out.taken v.out.taken d whole.out_is around.taken)
     (λ d. set-by c (closed_if s.next (w.out.closings c)) w.out.closings v.out.closings d (around.closed ∙ ap (λ (x : Option Session). closed_if x (w.out.closings c)) whole.held_is) around.closings) act.acts.disk_kept whole.lost_kept
+    (λ d. set-by c (closed_at_if s.next (plus (w.out.taken c) s.words) (w.out.closed_at c)) w.out.closed_at v.out.closed_at d closed_at around.closed_at_others)
 
 counted-at : (c : ℕ) (w : World) → IsCounted w → one_if (w.session c) ≤ w.count
 counted-at c w counted = let all : open_below c w.session + one_if (w.session c) ≤ w.count = counted (suc c) in omega (arith, all)
@@ -141,12 +144,16 @@ around-after c s w counted =
     let here = set-here c s.next w.session in
     let now : one_if (set_at c s.next w.session c) ≡ one_if s.next = ap (λ (x : Option Session). one_if x) here in
     let few = counted-at c w counted in
+    let said : Option (List ℕ) = plus (w.out.taken c) s.words in
     record {
       sessions = set-other c s.next w.session;
       taken = set-other c (plus (w.out.taken c) s.words) w.out.taken;
       closings = set-other c (closed_if s.next (w.out.closings c)) w.out.closings;
       closed = set-here c (closed_if s.next (w.out.closings c)) w.out.closings ∙ sym (ap (λ (x : Option Session). closed_if x (w.out.closings c)) here);
       count = omega (arith, now, few);
+      closed_at = set-here c (closed_at_if s.next said (w.out.closed_at c)) w.out.closed_at ∙ sym (ap (λ (x : Option Session). closed_at_if x said (w.out.closed_at c)) here)
+          ∙ sym (ap (λ (t : Option (List ℕ)). closed_at_if (set_at c s.next w.session c) t (w.out.closed_at c)) (set-here c said w.out.taken));
+      closed_at_others = set-other c (closed_at_if s.next said (w.out.closed_at c)) w.out.closed_at;
     }
 
 acts-after : (c : ℕ) (s : Said Session Standing) (w : World) → PlainActs s (outside_at c w.out) ((after_said c s w).session c) s.after (outside_at c (after_said c s w).out)

@@ -71,8 +71,8 @@ pub took-nothing : {K : Type 0} (node : Serving K) (i : Outer) (given left : Tol
 took-nothing node i given left = record { node_kept = refl; out_kept = refl; given_kept = refl; left_kept = refl }
 
 -- The outside stays where what is told of it does.
-pub outer-same : (taken taken' : ℕ → Option (List ℕ)) (closings closings' : ℕ → Option ℕ) (disk lost lost' : ℕ) → ((c : ℕ) → taken' c ≡ taken c) → ((c : ℕ) → closings' c ≡ closings c) → lost' ≡ lost → outer taken' closings' disk lost' ≡ outer taken closings disk lost
-outer-same taken taken' closings closings' disk lost lost' t c l = λ i. record { taken = λ (n : ℕ). t n i; closings = λ (n : ℕ). c n i; disk = disk; lost = l i }
+pub outer-same : (taken taken' : ℕ → Option (List ℕ)) (closings closings' : ℕ → Option ℕ) (disk lost lost' : ℕ) (closed_at closed_at' : ℕ → Option (List ℕ)) → ((c : ℕ) → taken' c ≡ taken c) → ((c : ℕ) → closings' c ≡ closings c) → lost' ≡ lost → ((c : ℕ) → closed_at' c ≡ closed_at c) → outer taken' closings' disk lost' closed_at' ≡ outer taken closings disk lost closed_at
+outer-same taken taken' closings closings' disk lost lost' closed_at closed_at' t c l a = λ i. record { taken = λ (n : ℕ). t n i; closings = λ (n : ℕ). c n i; disk = disk; lost = l i; closed_at = λ (n : ℕ). a n i }
 
 -- How the archive stands after an event, if those before it and after each of its acts are told.
 
@@ -255,9 +255,9 @@ module _ {K : Type 0} (holds : K → Archive → Type 0) (ready : K → Bool) (l
 
   -- The ends.
 
-  pub ends-stopped : (n turns : ℕ) → n < turns → (old mid new : Serving K) (i j k : Outer) (given given' given'' left left' left'' : Told) (faults faults' : ℕ) (recorded recorded' recorded'' : List Outputs → Type 0) → SoFar n old i mid j given given' left left' recorded recorded' → TookOne holds ready leaves mid j new k given' given'' left' left'' recorded' recorded'' true
+  pub ends-stopped : (n turns : ℕ) → n < turns → (old mid new : Serving K) (i j k : Outer) (given given' given'' left left' left'' : Told) (faults faults' : ℕ) (recorded recorded' recorded'' : List Outputs → Type 0) → SoFar n old i mid j given given' left left' recorded recorded' → TookOne holds ready leaves mid j new k given' given'' left' left'' recorded' recorded'' true → faults' ≡ faults
       → ServesTo holds ready leaves end.Stopped turns old i new k given given'' left left'' faults faults' recorded recorded''
-  ends-stopped n turns before old mid new i j k given given' given'' left left' left'' faults faults' recorded recorded' recorded'' far took = record {
+  ends-stopped n turns before old mid new i j k given given' given'' left left' left'' faults faults' recorded recorded' recorded'' far took kept = record {
     arrivals = far.arrivals ++ took.arrival ∷ [];
     given_is = took.given_is ∙ ap (λ (g : Told). then_given g took.arrival) far.given_is ∙ sym (given-more given far.arrivals took.arrival);
     left_is = far.left_is ∙ ap (before_all far.arrivals) took.left_is ∙ sym (left-more far.arrivals took.arrival left'');
@@ -265,18 +265,19 @@ module _ {K : Type 0} (holds : K → Archive → Type 0) (ready : K → Bool) (l
     ends = (
       record { before = far.arrivals; last = took.arrival; none = far.none; stops = took.stop_is; are = refl },
       (let len = length-append far.arrivals (took.arrival ∷ []) in omega (arith, len, far.count, before)),
+      kept,
     );
     runs = λ s fits. over-more far.arrivals s old mid new i j k given' given'' left' left'' recorded recorded' recorded'' true fits (far.runs s fits) took;
   }
 
   pub ends-none : (n turns : ℕ) → n < turns → (old mid new : Serving K) (i j k : Outer) (given given' given'' left left' left'' : Told) (faults faults' : ℕ) (recorded recorded' recorded'' : List Outputs → Type 0) → SoFar n old i mid j given given' left left' recorded recorded' → TookNone mid j new k given' given'' left' left'' → NoneLeft left''
-      → ((past : List Outputs) → recorded' past → recorded'' (past ++ outputs j.taken j.closings j.lost ∷ [])) → ServesTo holds ready leaves end.Stopped turns old i new k given given'' left left'' faults faults' recorded recorded''
-  ends-none n turns before old mid new i j k given given' given'' left left' left'' faults faults' recorded recorded' recorded'' far took none noted = record {
+      → ((past : List Outputs) → recorded' past → recorded'' (past ++ outputs j.taken j.closings j.lost ∷ [])) → faults' ≡ faults → ServesTo holds ready leaves end.Stopped turns old i new k given given'' left left'' faults faults' recorded recorded''
+  ends-none n turns before old mid new i j k given given' given'' left left' left'' faults faults' recorded recorded' recorded'' far took none noted kept = record {
     arrivals = far.arrivals;
     given_is = took.given_kept ∙ far.given_is;
     left_is = far.left_is ∙ ap (before_all far.arrivals) (sym took.left_kept);
     none = true;
-    ends = (far.none, none, (omega (arith, far.count, before)));
+    ends = (far.none, none, (omega (arith, far.count, before)), kept);
     runs = λ s fits.
         let over = far.runs s fits in
         subst (λ (node : Serving K). RunsOver holds ready leaves recorded recorded'' true far.arrivals s old i node k) (sym took.node_kept) (subst (λ (o : Outer). RunsOver holds ready leaves recorded recorded'' true far.arrivals s old i mid o) (sym took.out_kept) (record {
@@ -286,9 +287,9 @@ module _ {K : Type 0} (holds : K → Archive → Type 0) (ready : K → Bool) (l
   }
 
   -- No memory for the first event.
-  pub ends-starved : (turns : ℕ) (node : Serving K) (i : Outer) (given left : Told) (faults faults' : ℕ) (recorded : List Outputs → Type 0) → ServesTo holds ready leaves end.NoMemory turns node i node i given given left left faults faults' recorded recorded
+  pub ends-starved : (turns : ℕ) (node : Serving K) (i : Outer) (given left : Told) (faults : ℕ) (recorded : List Outputs → Type 0) → ServesTo holds ready leaves end.NoMemory turns node i node i given given left left faults faults recorded recorded
   unfolding sofar-none
-  ends-starved turns node i given left faults faults' recorded = record { arrivals = []; given_is = refl; left_is = refl; none = false; ends = refl; runs = (sofar-none node i given left recorded).runs }
+  ends-starved turns node i given left faults recorded = record { arrivals = []; given_is = refl; left_is = refl; none = false; ends = (refl, refl); runs = (sofar-none node i given left recorded).runs }
 
   -- The host failed, or enough was taken.
   pub ends-early : (how : ServeEnd) (n turns : ℕ) (old mid new : Serving K) (i j k : Outer) (given given' given'' left left' left'' : Told) (faults faults' : ℕ) (recorded recorded' recorded'' : List Outputs → Type 0) → (far : SoFar n old i mid j given given' left left' recorded recorded') → TookNone mid j new k given' given'' left' left''

@@ -2,7 +2,7 @@
 use Rattle.std.proofs.Common.{◌≡◌, ◌≤◌, ◌<◌, ◌+◌, ℕ, Bool, true, false, nat_lt, List, [], ◌∷◌, ◌++◌, Option, Some, None, Result, refl, sym, ap, subst, ◌∙◌, arith, inl, inr, if◌then◌else◌}
 use Rattle.std.proofs.lemmas.Bool.{false≢true}
 use Rattle.std.proofs.lemmas.Bool.Decides.{nat_tests}
-use Rattle.edge_io.specs.Hosts.{OthersKept, one_more}
+use Rattle.edge_io.specs.Hosts.{OthersKept, one_more, closed_with}
 use Rattle.edge_io.specs.Phrases.{Says}
 use Rattle.edge_io.specs.declared.sink.SinkFault.{SinkFault}
 use Rattle.edge_io.specs.Scripts.{Arrival}
@@ -23,9 +23,9 @@ use Rattle.keep_course.proofs.Courses.{all-own}
 use Rattle.nntp_reader.specs.Door.{Reader, new_reader, greeting}
 use Rattle.nntp_reader.specs.Notices.{welcome_line}
 use Rattle.node_serve.specs.Doors.{Came, said, session_limit, busy_words, memory_words, greets, made, unmade, said_making}
-use Rattle.node_serve.specs.Nodes.{Places, serving, session_of, places_of, world_of, Refused, Makes, Ends, IsPlaced, IsPut, FedFrom, TurnsTo}
+use Rattle.node_serve.specs.Nodes.{Places, serving, session_of, places_of, world_of, Refused, Makes, Ends, IsPlaced, IsPut, FedFrom, TurnsTo, TurnsStill, CameAnyway}
 use Rattle.node_serve.specs.Turns.{FedAt, CameTo, Turned}
-use Rattle.node_serve.specs.World.{Outer, Around, Same, EndedAt, others_open, outside_at, one_if, closed_if}
+use Rattle.node_serve.specs.World.{Outer, Around, Same, EndedAt, others_open, outside_at, one_if, closed_if, closed_at_if}
 use Rattle.node_serve.specs.declared.session.Session.{Session}
 use Rattle.node_serve.specs.declared.session.Session.TheVariants as session
 
@@ -52,18 +52,26 @@ around-refused c words s p i j none refused = record {
   closings = refused.closings;
   closed = refused.closed ∙ sym (ap (λ (x : Option Session). closed_if x (i.closings c)) none);
   count = refl;
+  closed_at = refused.closed_at ∙ sym (ap (λ (x : Option Session). closed_at_if x (j.taken c) (i.closed_at c)) none);
+  closed_at_others = refused.closed_at_others;
 }
+
+-- A connection was closed after the last of its words was taken.
+closed-last : (c : ℕ) (i j k : Outer) → ((d : ℕ) → j.closed_at d ≡ i.closed_at d) → ((d : ℕ) → k.taken d ≡ j.taken d) → k.closed_at c ≡ closed_with (j.taken c) (j.closed_at c) → k.closed_at c ≡ closed_with (k.taken c) (i.closed_at c)
+closed-last c i j k kept same closed = closed ∙ ap (λ (t : Option (List ℕ)). closed_with t (j.closed_at c)) (sym (same c)) ∙ ap (λ (t : Option (List ℕ)). closed_with (k.taken c) t) (kept c)
 
 -- Words were written, and then the connection was closed.
 pub refused-closed : (c : ℕ) (words : List ℕ) (sent : Result Unit SinkFault) (i j k : Outer) → Says words (i.taken c) i.lost (j.taken c) j.lost sent → OthersKept c i.taken j.taken → ((d : ℕ) → j.closings d ≡ i.closings d) → ((d : ℕ) → k.taken d ≡ j.taken d) → OthersKept c j.closings k.closings
-    → k.closings c ≡ one_more (j.closings c) → k.lost ≡ j.lost → k.disk ≡ i.disk → Refused c words i k
-refused-closed c words sent i j k said taken closings same others closed lost disk = record {
+    → k.closings c ≡ one_more (j.closings c) → k.lost ≡ j.lost → k.disk ≡ i.disk → ((d : ℕ) → j.closed_at d ≡ i.closed_at d) → OthersKept c j.closed_at k.closed_at → k.closed_at c ≡ closed_with (j.taken c) (j.closed_at c) → Refused c words i k
+refused-closed c words sent i j k said taken closings same others closed lost disk at_kept at_others at_closed = record {
   sent = sent;
   said = subst (λ (t : Option (List ℕ)). Says words (i.taken c) i.lost t k.lost sent) (sym (same c)) (subst (λ (n : ℕ). Says words (i.taken c) i.lost (j.taken c) n sent) (sym lost) said);
   taken = λ d other. same d ∙ taken d other;
   closings = λ d other. others d other ∙ closings d;
   closed = closed ∙ ap one_more (closings c);
   disk = disk;
+  closed_at = closed-last c i j k at_kept same at_closed;
+  closed_at_others = λ d other. at_others d other ∙ at_kept d;
 }
 
 -- The acts of a refusal are those of the making.
@@ -90,9 +98,9 @@ makes-unbuilt moment at c p i j unbuilt none few refused = refusing moment at (b
     acts-closing (said_making moment at p.count s) Plain (closes s (busy_words moment at)) (outside_at c i) (outside_at c j) s refused.sent (made-few moment at p.count s few ∙ unbuilt s) refl refused.disk (omega (arith, refused.disk)) refused.said refl)
 
 -- All around a connection that got a session.
-around-placed : (c : ℕ) (start : Session) (s : Standing) (p q : Places) (i j : Outer) → p.session c ≡ None → q.session c ≡ Some start → OthersKept c p.session q.session → q.count ≡ p.count + 1 → OthersKept c i.taken j.taken → ((d : ℕ) → j.closings d ≡ i.closings d)
+around-placed : (c : ℕ) (start : Session) (s : Standing) (p q : Places) (i j : Outer) → p.session c ≡ None → q.session c ≡ Some start → OthersKept c p.session q.session → q.count ≡ p.count + 1 → OthersKept c i.taken j.taken → ((d : ℕ) → j.closings d ≡ i.closings d) → ((d : ℕ) → j.closed_at d ≡ i.closed_at d)
     → Around c (world_of s p i) (world_of s q j)
-around-placed c start s p q i j none some others count taken closings =
+around-placed c start s p q i j none some others count taken closings at_kept =
     let zero : one_if (p.session c) ≡ 0 = ap (λ (x : Option Session). one_if x) none in
     let one : one_if (q.session c) ≡ 1 = ap (λ (x : Option Session). one_if x) some in
     record {
@@ -101,6 +109,8 @@ around-placed c start s p q i j none some others count taken closings =
       closings = λ d other. closings d;
       closed = closings c ∙ sym (ap (λ (x : Option Session). closed_if x (i.closings c)) some);
       count = omega (arith, count, zero, one);
+      closed_at = at_kept c ∙ sym (ap (λ (x : Option Session). closed_at_if x (j.taken c) (i.closed_at c)) some);
+      closed_at_others = λ d other. at_kept d;
     }
 
 -- A door that doesn't greet makes its session without a word.
@@ -108,7 +118,7 @@ pub makes-silent : (moment : ℕ) (at : Door) (start : Session) (c : ℕ) (p q :
 makes-silent moment at start c p q i silent placed some few = λ s. record {
   acts = subst (λ (n : ℕ). Acts (said_making moment at n s) (outside_at c i) (q.session c) s (outside_at c i)) (sym (others-none c s p i placed.none))
       (acts-silent (said_making moment at p.count s) (says s start []) (outside_at c i) (outside_at c i) (q.session c) s (made-few moment at p.count s few ∙ silent s) refl refl refl refl some refl);
-  around = around-placed c start s p q i i placed.none some placed.others placed.count (λ d other. refl) (λ d. refl);
+  around = around-placed c start s p q i i placed.none some placed.others placed.count (λ d other. refl) (λ d. refl) (λ d. refl);
 }
 
 -- An act that says the same in each way is one by the rules, where the disk's count stayed.
@@ -137,17 +147,17 @@ greeting-made moment n s i j held few kept acts =
 
 -- A reader's session was made, and its greeting was sent.
 pub makes-news : (moment c : ℕ) (p q r : Places) (i j : Outer) (reader : Reader) → IsPlaced c p q → IsPut c (session.News reader) q r → p.count < session_limit → j.disk ≡ i.disk
-    → ((a : Archive) → Acts (greeting a) (outside_at c i) (Some reader) a (outside_at c j)) → OthersKept c i.taken j.taken → ((d : ℕ) → j.closings d ≡ i.closings d) → Makes moment door.Nntp c p i r j
-makes-news moment c p q r i j reader placed put few kept acts taken closings = λ s. record {
+    → ((a : Archive) → Acts (greeting a) (outside_at c i) (Some reader) a (outside_at c j)) → OthersKept c i.taken j.taken → ((d : ℕ) → j.closings d ≡ i.closings d) → ((d : ℕ) → j.closed_at d ≡ i.closed_at d) → Makes moment door.Nntp c p i r j
+makes-news moment c p q r i j reader placed put few kept acts taken closings at_kept = λ s. record {
   acts = subst (λ (n : ℕ). Acts (said_making moment door.Nntp n s) (outside_at c i) (r.session c) s (outside_at c j)) (sym (others-none c s p i placed.none))
       (subst (λ (x : Option Session). Acts (said_making moment door.Nntp p.count s) (outside_at c i) x s (outside_at c j)) (sym put.here) (greeting-made moment p.count s (outside_at c i) (outside_at c j) (Some reader) few kept (acts s.archive)));
-  around = around-placed c (session.News reader) s p r i j placed.none put.here (λ d other. put.others d other ∙ placed.others d other) (put.count ∙ placed.count) taken closings;
+  around = around-placed c (session.News reader) s p r i j placed.none put.here (λ d other. put.others d other ∙ placed.others d other) (put.count ∙ placed.count) taken closings at_kept;
 }
 
 -- Its greeting was lost, and it ended.
 pub makes-lost : (moment c : ℕ) (p q r : Places) (i j k : Outer) → IsPlaced c p q → Ends c q r → p.count < session_limit → j.disk ≡ i.disk → k.disk ≡ j.disk → k.lost ≡ j.lost → ((d : ℕ) → k.taken d ≡ j.taken d)
-    → ((a : Archive) → Acts (greeting a) (outside_at c i) None a (outside_at c j)) → OthersKept c i.taken j.taken → ((d : ℕ) → j.closings d ≡ i.closings d) → OthersKept c j.closings k.closings → k.closings c ≡ one_more (j.closings c) → Makes moment door.Nntp c p i r k
-makes-lost moment c p q r i j k placed ends few kept disk lost same acts taken closings others closed = λ s.
+    → ((a : Archive) → Acts (greeting a) (outside_at c i) None a (outside_at c j)) → OthersKept c i.taken j.taken → ((d : ℕ) → j.closings d ≡ i.closings d) → OthersKept c j.closings k.closings → k.closings c ≡ one_more (j.closings c) → ((d : ℕ) → j.closed_at d ≡ i.closed_at d) → OthersKept c j.closed_at k.closed_at → k.closed_at c ≡ closed_with (j.taken c) (j.closed_at c) → Makes moment door.Nntp c p i r k
+makes-lost moment c p q r i j k placed ends few kept disk lost same acts taken closings others closed at_kept at_others at_closed = λ s.
     let ended = ends in
     let zero : one_if (p.session c) ≡ 0 = ap (λ (x : Option Session). one_if x) placed.none in
     let one : one_if (q.session c) ≡ 1 = ap (λ (x : Option Session). one_if x) placed.some in
@@ -164,6 +174,8 @@ makes-lost moment c p q r i j k placed ends few kept disk lost same acts taken c
         closings = λ d other. others d other ∙ closings d;
         closed = closed ∙ ap one_more (closings c) ∙ sym (ap (λ (x : Option Session). closed_if x (i.closings c)) ended.gone);
         count = omega (arith, ended.count, placed.count, zero, one, none);
+        closed_at = closed-last c i j k at_kept same at_closed ∙ sym (ap (λ (x : Option Session). closed_at_if x (k.taken c) (i.closed_at c)) ended.gone);
+        closed_at_others = λ d other. at_others d other ∙ at_kept d;
       };
     }
 
@@ -182,6 +194,8 @@ makes-after moment at c p q r i j ends makes = λ s.
         closings = act.around.closings;
         closed = act.around.closed;
         count = omega (arith, ended.count, act.around.count, zero);
+        closed_at = act.around.closed_at;
+        closed_at_others = act.around.closed_at_others;
       };
     }
 
@@ -192,6 +206,16 @@ makes-unchanged moment at c p old new i j same makes = subst (λ (sessions : Lis
 -- An end is one of a world.
 pub ended-world : (c : ℕ) (p q : Places) (s : Standing) (o : Outer) → Ends c p q → EndedAt c (world_of s p o) (world_of s q o)
 ended-world c p q s o ends = record { standing = refl; gone = ends.gone; sessions = ends.sessions; count = ends.count; out = refl }
+
+-- What an event changes, whatever the keeper holds.
+module _ {K : Type 0} (arrival : Arrival) (c : ℕ) (old new : K) (p q : List (ℕ × Session)) (i j : Outer) where
+  -- No session took a piece.
+  pub came-unfed : session_of p c ≡ None → TurnsStill arrival (serving old p) i (serving new q) j → CameAnyway (session_of p c) c arrival (serving old p) i (serving new q) j
+  came-unfed none still = subst (λ (x : Option Session). CameAnyway x c arrival (serving old p) i (serving new q) j) (sym none) still
+
+  -- One took it.
+  pub came-fed : (start : Session) → session_of p c ≡ Some start → ((s t : Standing) → Around c (world_of s (places_of p) i) (world_of t (places_of q) j)) → CameAnyway (session_of p c) c arrival (serving old p) i (serving new q) j
+  came-fed start here around = subst (λ (x : Option Session). CameAnyway x c arrival (serving old p) i (serving new q) j) (sym here) around
 
 -- Turns.
 module _ {K : Type 0} (holds : K → Archive → Type 0) (ready : K → Bool) (leaves : K → K → List (Option Archive) → Type 0) where
@@ -239,8 +263,8 @@ module _ {K : Type 0} (holds : K → Archive → Type 0) (ready : K → Bool) (l
       }
 
 -- All around a session that goes on.
-pub around-went : (c : ℕ) (start left : Session) (s t : Standing) (p q : Places) (i j : Outer) → p.session c ≡ Some start → IsPut c left p q → OthersKept c i.taken j.taken → ((d : ℕ) → j.closings d ≡ i.closings d) → Around c (world_of s p i) (world_of t q j)
-around-went c start left s t p q i j here put taken closings =
+pub around-went : (c : ℕ) (start left : Session) (s t : Standing) (p q : Places) (i j : Outer) → p.session c ≡ Some start → IsPut c left p q → OthersKept c i.taken j.taken → ((d : ℕ) → j.closings d ≡ i.closings d) → ((d : ℕ) → j.closed_at d ≡ i.closed_at d) → Around c (world_of s p i) (world_of t q j)
+around-went c start left s t p q i j here put taken closings at_kept =
     let one : one_if (p.session c) ≡ 1 = ap (λ (x : Option Session). one_if x) here in
     let still : one_if (q.session c) ≡ 1 = ap (λ (x : Option Session). one_if x) put.here in
     record {
@@ -249,12 +273,14 @@ around-went c start left s t p q i j here put taken closings =
       closings = λ d other. closings d;
       closed = closings c ∙ sym (ap (λ (x : Option Session). closed_if x (i.closings c)) put.here);
       count = omega (arith, put.count, one, still);
+      closed_at = at_kept c ∙ sym (ap (λ (x : Option Session). closed_at_if x (j.taken c) (i.closed_at c)) put.here);
+      closed_at_others = λ d other. at_kept d;
     }
 
 -- All around one that ended.
 pub around-shut : (c : ℕ) (start left : Session) (s t : Standing) (p q r : Places) (i j k : Outer) → p.session c ≡ Some start → IsPut c left p q → Ends c q r → OthersKept c i.taken j.taken → ((d : ℕ) → j.closings d ≡ i.closings d) → ((d : ℕ) → k.taken d ≡ j.taken d) → OthersKept c j.closings k.closings
-    → k.closings c ≡ one_more (j.closings c) → Around c (world_of s p i) (world_of t r k)
-around-shut c start left s t p q r i j k here put ends taken closings same others closed =
+    → k.closings c ≡ one_more (j.closings c) → ((d : ℕ) → j.closed_at d ≡ i.closed_at d) → OthersKept c j.closed_at k.closed_at → k.closed_at c ≡ closed_with (j.taken c) (j.closed_at c) → Around c (world_of s p i) (world_of t r k)
+around-shut c start left s t p q r i j k here put ends taken closings same others closed at_kept at_others at_closed =
     let ended = ends in
     let one : one_if (p.session c) ≡ 1 = ap (λ (x : Option Session). one_if x) here in
     let still : one_if (q.session c) ≡ 1 = ap (λ (x : Option Session). one_if x) put.here in
@@ -265,4 +291,6 @@ around-shut c start left s t p q r i j k here put ends taken closings same other
       closings = λ d other. others d other ∙ closings d;
       closed = closed ∙ ap one_more (closings c) ∙ sym (ap (λ (x : Option Session). closed_if x (i.closings c)) ended.gone);
       count = omega (arith, ended.count, put.count, one, still, none);
+      closed_at = closed-last c i j k at_kept same at_closed ∙ sym (ap (λ (x : Option Session). closed_at_if x (k.taken c) (i.closed_at c)) ended.gone);
+      closed_at_others = λ d other. at_others d other ∙ at_kept d;
     }

@@ -41,16 +41,18 @@ before_all (e ∷ es) left = before_left e (before_all es left)
 
 -- How serving ended, by whether the host answered that none is left: at a stop, or with none left
 -- before as many events were taken as were allowed; after that many; because the host failed before
--- that; or, before the first event, because memory ran out.
+-- that; or, before the first event, because memory ran out. Only where it ended because the host
+-- failed did the host fail: no failure is passed over.
 abbrev pub EndsBy : ServeEnd → Bool → List Arrival → ℕ → Told → ℕ → ℕ → Type 0
-EndsBy Stopped false es turns left faults faults' = EndsWithStop es × (length es ≤ turns)
+EndsBy Stopped false es turns left faults faults' =
+    EndsWithStop es × (length es ≤ turns) × (faults' ≡ faults)
 EndsBy Stopped true es turns left faults faults' =
-    NoStop es × NoneLeft left × (length es < turns)
+    NoStop es × NoneLeft left × (length es < turns) × (faults' ≡ faults)
 EndsBy (Spent n) false es turns left faults faults' =
-    (n ≡ turns) × (length es ≡ turns) × NoStop es
+    (n ≡ turns) × (length es ≡ turns) × NoStop es × (faults' ≡ faults)
 EndsBy (Spent n) true es turns left faults faults' = ⊥
 EndsBy HostFault false es turns left faults faults' =
     NoStop es × Rose faults faults' × (length es < turns)
 EndsBy HostFault true es turns left faults faults' = ⊥
-EndsBy NoMemory false es turns left faults faults' = es ≡ []
+EndsBy NoMemory false es turns left faults faults' = (es ≡ []) × (faults' ≡ faults)
 EndsBy NoMemory true es turns left faults faults' = ⊥

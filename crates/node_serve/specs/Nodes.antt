@@ -5,23 +5,27 @@ use Rattle.std.specs.BTreeMap.{is_at}
 use Rattle.std.specs.Map.{lookup}
 use Rattle.arch_base.specs.Counts.{Rose}
 use Rattle.edge_io.specs.Frames.{Outputs, outputs}
-use Rattle.edge_io.specs.Hosts.{Told, then_given, before_left, NoneLeft, OthersKept, one_more}
+use Rattle.edge_io.specs.Hosts.{Told, then_given, before_left, NoneLeft, OthersKept, one_more, closed_with}
 use Rattle.edge_io.specs.Phrases.{Says}
 use Rattle.edge_io.specs.Scripts.{Arrival}
 use Rattle.edge_io.specs.declared.events.Door.{Door}
+use Rattle.edge_io.specs.declared.events.What.{What}
+use Rattle.edge_io.specs.declared.events.What.TheVariants as what
 use Rattle.edge_io.specs.declared.sink.SinkFault.{SinkFault}
 use Rattle.line_door.specs.Acts.{Outside, Way, held_if}
 use Rattle.line_door.specs.Course.{talk}
 use Rattle.keep_course.specs.Answering as answering
 use Rattle.keep_course.specs.Courses.{Course, archives_of}
+use Rattle.http_front.specs.Sessions.{ReadsBytes, ReadsNothing}
 use Rattle.arch_model.specs.Archives.{Archive}
 use Rattle.arch_model.specs.Keeping.{Passes, Fits}
 use Rattle.arch_model.specs.Standing.{Standing}
 use Rattle.node_serve.specs.Doors.{Held, Came, rest_if, said, is_asked, with_piece, said_making}
 use Rattle.node_serve.specs.Ends.{EndsBy, given_after, before_all, is_stop}
 use Rattle.node_serve.specs.Turns.{Turn, Turned, Served, passed_in, outputs_of, outputs_before}
-use Rattle.node_serve.specs.World.{Outer, World, ActAt, others_open, one_if}
+use Rattle.node_serve.specs.World.{Outer, World, ActAt, Around, others_open, one_if}
 use Rattle.node_serve.specs.declared.session.Session.{Session}
+use Rattle.node_serve.specs.declared.session.Session.TheVariants as kind
 use Rattle.node_serve.specs.declared.serving.ServeEnd.{ServeEnd}
 use Rattle.node_serve.specs.declared.serving.Taken.{Taken}
 use Rattle.node_serve.specs.declared.serving.Taken.TheVariants.{Went, Stops, Nothing, Fault}
@@ -56,7 +60,7 @@ places_in node = places_of node.sessions
 abbrev pub world_of : Standing → Places → Outer → World
 world_of s p o = record { standing = s; session = p.session; count = p.count; out = o }
 
--- A connection was refused: words of a door were written to it, and it was closed.
+-- A connection was refused: words of a door were written to it, and then it was closed.
 pub record Refused (c : ℕ) (words : List ℕ) (i j : Outer) : Type 0 where
   pub sent : Result Unit SinkFault
   pub said : Says words (i.taken c) i.lost (j.taken c) j.lost sent
@@ -64,6 +68,8 @@ pub record Refused (c : ℕ) (words : List ℕ) (i j : Outer) : Type 0 where
   pub closings : OthersKept c i.closings j.closings
   pub closed : j.closings c ≡ one_more (i.closings c)
   pub disk : j.disk ≡ i.disk
+  pub closed_at : j.closed_at c ≡ closed_with (j.taken c) (i.closed_at c)
+  pub closed_at_others : OthersKept c i.closed_at j.closed_at
 
 -- A session of a door was made at a connection at a moment, or refused.
 abbrev pub Makes : ℕ → Door → ℕ → Places → Outer → Places → Outer → Type 0
@@ -105,6 +111,63 @@ pub record TookNone {K : Type 0} (old : Serving K) (i : Outer) (new : Serving K)
   pub out_kept : j ≡ i
   pub given_kept : given' ≡ given
   pub left_kept : left' ≡ left
+
+-- An event was taken to its end without the keeper, which stays: so it was over any archive.
+pub record TurnsStill {K : Type 0} (arrival : Arrival) (old : Serving K) (i : Outer)
+    (new : Serving K) (j : Outer) : Type 0 where
+  pub kept : new.keep ≡ old.keep
+  pub turned : (s : Standing) → Turned arrival (world_of s (places_in old) i) []
+      (world_of s (places_in new) j)
+
+-- A piece came to a connection, and whatever the keeper answered, that is all that changed: other
+-- connections stay, this one is closed exactly where it has no session left, and the count of open
+-- sessions is right. Without a session the piece is skipped.
+abbrev pub CameAnyway : {K : Type 0} → Option Session → ℕ → Arrival → Serving K → Outer → Serving K
+    → Outer → Type 0
+CameAnyway None c arrival old i new j = TurnsStill arrival old i new j
+CameAnyway (Some start) c arrival old i new j =
+    (s t : Standing) → Around c (world_of s (places_in old) i) (world_of t (places_in new) j)
+
+-- What an event changes, by what it says happened. This asks nothing of the keeper: it is so where no
+-- archive is held, too, as after a file was found damaged.
+abbrev pub AnywayBy : {K : Type 0} → What → Arrival → Serving K → Outer → Serving K → Outer → Type 0
+AnywayBy (what.Opened c door) arrival old i new j = TurnsStill arrival old i new j
+AnywayBy (what.Bytes c len) arrival old i new j =
+    CameAnyway ((places_in old).session c) c arrival old i new j
+AnywayBy (what.Ended c) arrival old i new j = TurnsStill arrival old i new j
+AnywayBy what.Quiet arrival old i new j = TurnsStill arrival old i new j
+AnywayBy what.Stop arrival old i new j = TurnsStill arrival old i new j
+
+-- The same of an event.
+abbrev pub TurnsAnyway : {K : Type 0} → Arrival → Serving K → Outer → Serving K → Outer → Type 0
+TurnsAnyway arrival old i new j = AnywayBy arrival.0.what arrival old i new j
+
+-- A keeper: the archives that it holds, and whether it is ready.
+module _ {K : Type 0} (holds : K → Archive → Type 0) (ready : K → Bool) where
+  -- How many texts a piece reads at most at a ready keeper, by its session. At the door of pages these
+  -- are no more than the heads ask for that the piece makes whole, and none where none of them asks
+  -- for one: so the archive isn't read anew before it. Of the other doors nothing is said.
+  abbrev pub ReadsAt : Session → List ℕ → K → ℕ → ℕ → Type 0
+  ReadsAt (kind.Control bytes) piece keep before now = Unit {0}
+  ReadsAt (kind.News reader) piece keep before now = Unit {0}
+  ReadsAt (kind.Http bytes) piece keep before now =
+      ReadsBytes holds (bytes ++ piece) keep before now
+      × ReadsNothing holds (bytes ++ piece) keep before now
+
+  -- The same of a piece that came to a connection. Without a session nothing is read.
+  abbrev pub ReadsCame : Option Session → List ℕ → K → ℕ → ℕ → Type 0
+  ReadsCame None piece keep before now = now ≡ before
+  ReadsCame (Some start) piece keep before now =
+      ready keep ≡ true → ReadsAt start piece keep before now
+
+  -- The same of what happened. Only a piece reads.
+  abbrev pub ReadsBy : What → List ℕ → Serving K → ℕ → ℕ → Type 0
+  ReadsBy (what.Opened c door) piece old before now = now ≡ before
+  ReadsBy (what.Bytes c len) piece old before now =
+      ReadsCame ((places_in old).session c) piece old.keep before now
+  ReadsBy (what.Ended c) piece old before now = now ≡ before
+  ReadsBy what.Quiet piece old before now = now ≡ before
+  ReadsBy what.Stop piece old before now = now ≡ before
 
 -- A keeper: the archives that it holds, whether it is ready, and what each crash since a state may
 -- have left.

@@ -15,7 +15,7 @@ use Rattle.nntp_reader.specs.Door as news
 use Rattle.node_serve.specs.declared.session.Session.{Session}
 use Rattle.node_serve.specs.Doors.{Held, Came, AtControl, AtNews, AtHttp, with_piece, rest_if, said, is_asked, said_making}
 use Rattle.node_serve.specs.Turns.{Turn}
-use Rattle.node_serve.specs.World.{World, outer, Around, Same, EndedAt, outside_at, others_open, one_if, closed_if, open_below}
+use Rattle.node_serve.specs.World.{World, outer, Around, Same, EndedAt, outside_at, others_open, one_if, closed_if, closed_at_if, open_below}
 
 -- The size of a session at its door. Each request that leaves it open makes it smaller.
 abbrev pub size_at_door : Held → ℕ
@@ -78,7 +78,9 @@ after_said c s w = record {
   session = set_at c s.next w.session;
   count = (w.count + one_if s.next) - one_if (w.session c);
   out = outer (set_at c (plus (w.out.taken c) s.words) w.out.taken)
-      (set_at c (closed_if s.next (w.out.closings c)) w.out.closings) w.out.disk w.out.lost;
+      (set_at c (closed_if s.next (w.out.closings c)) w.out.closings) w.out.disk w.out.lost
+      (set_at c (closed_at_if s.next (plus (w.out.taken c) s.words) (w.out.closed_at c))
+      w.out.closed_at);
 }
 
 -- The world after the session of a connection ended without a word, if it had one.

@@ -1,22 +1,28 @@
 -- The world of a server, and what an act on one connection may do to it.
 use Rattle.std.specs.Prelude.{◌≡◌, ◌+◌, ◌-◌, ℕ, zero, suc, List, Option, Some, None}
-use Rattle.edge_io.specs.Hosts.{OthersKept, one_more}
+use Rattle.edge_io.specs.Hosts.{OthersKept, one_more, closed_with}
 use Rattle.line_door.specs.Acts.{Outside, Said, Way, Acts, outside}
 use Rattle.arch_model.specs.Standing.{Standing}
 use Rattle.node_serve.specs.declared.session.Session.{Session}
 
 -- What connections took and how often each was closed, if that is told, the disk's count of faults,
--- and the count of lost sends.
+-- the count of lost sends, and what each connection had taken when it was last closed, if told.
 pub record Outer : Type 0 where
   pub taken : ℕ → Option (List ℕ)
   pub closings : ℕ → Option ℕ
   pub disk : ℕ
   pub lost : ℕ
+  pub closed_at : ℕ → Option (List ℕ)
 
--- The outside of these four parts.
-abbrev pub outer : (ℕ → Option (List ℕ)) → (ℕ → Option ℕ) → ℕ → ℕ → Outer
-outer taken closings disk lost =
-    record { taken = taken; closings = closings; disk = disk; lost = lost }
+-- The outside of these five parts.
+abbrev pub outer : (ℕ → Option (List ℕ)) → (ℕ → Option ℕ) → ℕ → ℕ → (ℕ → Option (List ℕ)) → Outer
+outer taken closings disk lost closed_at = record {
+  taken = taken;
+  closings = closings;
+  disk = disk;
+  lost = lost;
+  closed_at = closed_at;
+}
 
 -- The archive, with the one in doubt, if any; the session of each connection, if it is open; how many
 -- sessions are open; and the outside.
@@ -44,15 +50,24 @@ abbrev pub closed_if : Option Session → Option ℕ → Option ℕ
 closed_if None n = one_more n
 closed_if (Some start) n = n
 
+-- What a connection had taken when it was last closed, after it was closed once more if no session is
+-- left of it: what it has taken in all.
+abbrev pub closed_at_if : Option Session → Option (List ℕ) → Option (List ℕ) → Option (List ℕ)
+closed_at_if None taken before = closed_with taken before
+closed_at_if (Some start) taken before = before
+
 -- What an act on a connection leaves beside what it says there: the sessions and the outside of other
--- connections stay, the connection is closed if no session is left of it, and the count of open
--- sessions is kept right.
+-- connections stay, the connection is closed if no session is left of it, after all that is said
+-- there, and the count of open sessions is kept right.
 pub record Around (c : ℕ) (w v : World) : Type 0 where
   pub sessions : OthersKept c w.session v.session
   pub taken : OthersKept c w.out.taken v.out.taken
   pub closings : OthersKept c w.out.closings v.out.closings
   pub closed : v.out.closings c ≡ closed_if (v.session c) (w.out.closings c)
   pub count : v.count + one_if (w.session c) ≡ w.count + one_if (v.session c)
+  pub closed_at : v.out.closed_at c
+      ≡ closed_at_if (v.session c) (v.out.taken c) (w.out.closed_at c)
+  pub closed_at_others : OthersKept c w.out.closed_at v.out.closed_at
 
 -- One act on a connection, which says these words there.
 pub record ActAt (c : ℕ) (words : Way → Said Session Standing) (w v : World) : Type 0 where

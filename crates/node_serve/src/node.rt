@@ -3,7 +3,7 @@ ghost use Rattle.std.specs.Prelude.{◌≡◌, ◌≤◌, ℕ, length, None};
 ghost use Rattle.arch_base.specs.Moments.{last_moment};
 ghost use Rattle.edge_io.specs.Events.{piece_len};
 ghost use Rattle.edge_io.specs.Hosts.{SameEvents};
-ghost use Rattle.node_serve.specs.Nodes.{Turns, places_in};
+ghost use Rattle.node_serve.specs.Nodes.{Turns, TurnsAnyway, ReadsBy, places_in};
 ghost use Rattle.node_serve.specs.World.{outer};
 
 use crate::places::{Sessions, admit, end, feed};
@@ -67,17 +67,31 @@ impl<K: Keep> Node<K> {
     ///   a session they are skipped.
     /// * A connection that ends ends its session.
     ///
-    /// A failed send ends the session of that connection alone, and closes the connection. A crash
-    /// since the call began leaves an archive that stood before it or after one of its acts, or one
-    /// that was in doubt there.
+    /// A failed send ends the session of that connection alone, and closes the connection. One that
+    /// the event closes is closed after all that is written to it. A crash since the call began
+    /// leaves an archive that stood before it or after one of its acts, or one that was in doubt
+    /// there.
+    ///
+    /// A ready keeper isn't reopened: a piece for pages reads no more texts than its heads ask for, and
+    /// an event that is no piece reads none.
+    ///
+    /// Where the keeper holds no archive, as after a file was found damaged, nothing is said of what is
+    /// written to the connection. Nothing of other connections changes all the same.
     pub fn turn<H: Host>(&mut self, event: &Event, piece: &[u8], host: &mut H)
         requires moment { event.now.moment ≤ last_moment }
         requires whole { length piece.now ≡ piece_len event.now.what }
         ensures turned { Turns K.holds K.ready K.leaves (event.now, piece.now) self.old
             (outer (H.taken host.old) (H.closings host.old) (K.faults self.old.keep)
-            (H.lost host.old)) self.new
+            (H.lost host.old) (H.closed_at host.old)) self.new
             (outer (H.taken host.new) (H.closings host.new) (K.faults self.new.keep)
-            (H.lost host.new)) }
+            (H.lost host.new) (H.closed_at host.new)) }
+        ensures anyway { TurnsAnyway (event.now, piece.now) self.old
+            (outer (H.taken host.old) (H.closings host.old) (K.faults self.old.keep)
+            (H.lost host.old) (H.closed_at host.old)) self.new
+            (outer (H.taken host.new) (H.closings host.new) (K.faults self.new.keep)
+            (H.lost host.new) (H.closed_at host.new)) }
+        ensures reads { ReadsBy K.holds K.ready event.now.what piece.now self.old
+            (K.reads self.old.keep) (K.reads self.new.keep) }
         ensures later { K.faults self.old.keep ≤ K.faults self.new.keep }
         ensures events { SameEvents H.left H.given H.recorded H.faults host.old host.new }
     {

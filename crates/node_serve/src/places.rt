@@ -6,7 +6,7 @@ ghost use Rattle.edge_io.specs.Hosts.{SameEvents};
 ghost use Rattle.edge_io.specs.declared.events.What.TheVariants.{Bytes};
 ghost use Rattle.line_door.specs.Making.{says};
 ghost use Rattle.node_serve.specs.Doors.{session_limit, greets};
-ghost use Rattle.node_serve.specs.Nodes.{Places, Makes, Ends, IsPlaced, IsPut, Turns, places_of, serving};
+ghost use Rattle.node_serve.specs.Nodes.{Places, Makes, Ends, IsPlaced, IsPut, Turns, TurnsAnyway, ReadsCame, places_of, serving};
 ghost use Rattle.node_serve.specs.World.{outer};
 
 use crate::session::{Session, feed_one};
@@ -42,9 +42,11 @@ pub(crate) fn admit<H: Host>(
 )
     requires moment { moment ≤ last_moment }
     ensures made { (disk : ℕ) → Makes moment door conn (places_of sessions.old.entries)
-        (outer (H.taken host.old) (H.closings host.old) disk (H.lost host.old))
+        (outer (H.taken host.old) (H.closings host.old) disk (H.lost host.old)
+        (H.closed_at host.old))
         (places_of sessions.new.entries)
-        (outer (H.taken host.new) (H.closings host.new) disk (H.lost host.new)) }
+        (outer (H.taken host.new) (H.closings host.new) disk (H.lost host.new)
+        (H.closed_at host.new)) }
     ensures events { SameEvents H.left H.given H.recorded H.faults host.old host.new }
 {
     end(conn, sessions);
@@ -81,9 +83,11 @@ fn open_silent<H: Host>(
     requires none { (places_of sessions.old.entries).session conn ≡ None }
     requires few { (places_of sessions.old.entries).count < session_limit }
     ensures made { (disk : ℕ) → Makes moment door conn (places_of sessions.old.entries)
-        (outer (H.taken host.old) (H.closings host.old) disk (H.lost host.old))
+        (outer (H.taken host.old) (H.closings host.old) disk (H.lost host.old)
+        (H.closed_at host.old))
         (places_of sessions.new.entries)
-        (outer (H.taken host.new) (H.closings host.new) disk (H.lost host.new)) }
+        (outer (H.taken host.new) (H.closings host.new) disk (H.lost host.new)
+        (H.closed_at host.new)) }
     ensures events { SameEvents H.left H.given H.recorded H.faults host.old host.new }
 {
     match sessions.insert(conn, session) {
@@ -101,9 +105,11 @@ fn open_news<H: Host>(alloc: Global, conn: u32, moment: u64, sessions: &mut Sess
     requires none { (places_of sessions.old.entries).session conn ≡ None }
     requires few { (places_of sessions.old.entries).count < session_limit }
     ensures made { (disk : ℕ) → Makes moment Door.Nntp conn (places_of sessions.old.entries)
-        (outer (H.taken host.old) (H.closings host.old) disk (H.lost host.old))
+        (outer (H.taken host.old) (H.closings host.old) disk (H.lost host.old)
+        (H.closed_at host.old))
         (places_of sessions.new.entries)
-        (outer (H.taken host.new) (H.closings host.new) disk (H.lost host.new)) }
+        (outer (H.taken host.new) (H.closings host.new) disk (H.lost host.new)
+        (H.closed_at host.new)) }
     ensures events { SameEvents H.left H.given H.recorded H.faults host.old host.new }
 {
     match sessions.insert(conn, Session::Control(ControlSession::open(alloc))) {
@@ -117,9 +123,11 @@ fn open_news<H: Host>(alloc: Global, conn: u32, moment: u64, sessions: &mut Sess
 fn greet<H: Host>(alloc: Global, conn: u32, sessions: &mut Sessions, host: &mut H)
     ensures made { (disk moment : ℕ) (p : Places) → IsPlaced conn p (places_of sessions.old.entries)
         → p.count < session_limit → Makes moment Door.Nntp conn p
-        (outer (H.taken host.old) (H.closings host.old) disk (H.lost host.old))
+        (outer (H.taken host.old) (H.closings host.old) disk (H.lost host.old)
+        (H.closed_at host.old))
         (places_of sessions.new.entries)
-        (outer (H.taken host.new) (H.closings host.new) disk (H.lost host.new)) }
+        (outer (H.taken host.new) (H.closings host.new) disk (H.lost host.new)
+        (H.closed_at host.new)) }
     ensures events { SameEvents H.left H.given H.recorded H.faults host.old host.new }
 {
     let (session, next) = greet_reader(alloc, conn, host);
@@ -155,9 +163,21 @@ pub(crate) fn feed<K: Keep, H: Host>(
     ensures turned { (len : ℕ) → Turns K.holds K.ready K.leaves
         (record { moment = moment; what = Bytes conn len }, piece.now)
         (serving keep.old sessions.old.entries)
-        (outer (H.taken host.old) (H.closings host.old) (K.faults keep.old) (H.lost host.old))
+        (outer (H.taken host.old) (H.closings host.old) (K.faults keep.old) (H.lost host.old)
+        (H.closed_at host.old))
         (serving keep.new sessions.new.entries)
-        (outer (H.taken host.new) (H.closings host.new) (K.faults keep.new) (H.lost host.new)) }
+        (outer (H.taken host.new) (H.closings host.new) (K.faults keep.new) (H.lost host.new)
+        (H.closed_at host.new)) }
+    ensures anyway { (len : ℕ) → TurnsAnyway
+        (record { moment = moment; what = Bytes conn len }, piece.now)
+        (serving keep.old sessions.old.entries)
+        (outer (H.taken host.old) (H.closings host.old) (K.faults keep.old) (H.lost host.old)
+        (H.closed_at host.old))
+        (serving keep.new sessions.new.entries)
+        (outer (H.taken host.new) (H.closings host.new) (K.faults keep.new) (H.lost host.new)
+        (H.closed_at host.new)) }
+    ensures reads { ReadsCame K.holds K.ready ((places_of sessions.old.entries).session conn)
+        piece.now keep.old (K.reads keep.old) (K.reads keep.new) }
     ensures later { K.faults keep.old ≤ K.faults keep.new }
     ensures events { SameEvents H.left H.given H.recorded H.faults host.old host.new }
 {

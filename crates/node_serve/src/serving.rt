@@ -40,7 +40,7 @@ pub(crate) enum Taken {
 }
 
 /// Takes events from a host and turns each, until a stop comes or none is left, or as many were taken
-/// as are allowed.
+/// as are allowed, or the host fails. It isn't asked again after it failed.
 ///
 /// A crash since the call began leaves an archive that stood before it or after one of the acts, or
 /// one that was in doubt there.
@@ -51,9 +51,11 @@ pub fn serve<K: Keep, H: Host>(
     turns: u64,
 ) -> ServeEnd
     ensures served { ServesTo K.holds K.ready K.leaves result turns node.old
-        (outer (H.taken host.old) (H.closings host.old) (K.faults node.old.keep) (H.lost host.old))
+        (outer (H.taken host.old) (H.closings host.old) (K.faults node.old.keep) (H.lost host.old)
+        (H.closed_at host.old))
         node.new
-        (outer (H.taken host.new) (H.closings host.new) (K.faults node.new.keep) (H.lost host.new))
+        (outer (H.taken host.new) (H.closings host.new) (K.faults node.new.keep) (H.lost host.new)
+        (H.closed_at host.new))
         (H.given host.old) (H.given host.new) (H.left host.old) (H.left host.new) (H.faults host.old)
         (H.faults host.new) (H.recorded host.old) (H.recorded host.new) }
     ensures later { H.faults host.old ≤ H.faults host.new }
@@ -74,9 +76,11 @@ fn serve_with<K: Keep, H: Host>(
 ) -> ServeEnd
     requires { 1048576 ≤ length buffer.old }
     ensures served { ServesTo K.holds K.ready K.leaves result turns node.old
-        (outer (H.taken host.old) (H.closings host.old) (K.faults node.old.keep) (H.lost host.old))
+        (outer (H.taken host.old) (H.closings host.old) (K.faults node.old.keep) (H.lost host.old)
+        (H.closed_at host.old))
         node.new
-        (outer (H.taken host.new) (H.closings host.new) (K.faults node.new.keep) (H.lost host.new))
+        (outer (H.taken host.new) (H.closings host.new) (K.faults node.new.keep) (H.lost host.new)
+        (H.closed_at host.new))
         (H.given host.old) (H.given host.new) (H.left host.old) (H.left host.new) (H.faults host.old)
         (H.faults host.new) (H.recorded host.old) (H.recorded host.new) }
     ensures later { H.faults host.old ≤ H.faults host.new }
@@ -100,16 +104,19 @@ fn new_buffer(alloc: Global) -> Result<Vec<u8>, AllocError>
     vec![in alloc; 0u8; PIECE_LIMIT]
 }
 
-/// Takes one event and turns it.
+/// Takes one event and turns it. The host fails only where that is the result.
 fn take_one<K: Keep, H: Host>(node: &mut Node<K>, host: &mut H, buffer: &mut [u8]) -> Taken
     requires { 1048576 ≤ length buffer.old }
     ensures taken { TakesOne K.holds K.ready K.leaves result node.old
-        (outer (H.taken host.old) (H.closings host.old) (K.faults node.old.keep) (H.lost host.old))
+        (outer (H.taken host.old) (H.closings host.old) (K.faults node.old.keep) (H.lost host.old)
+        (H.closed_at host.old))
         node.new
-        (outer (H.taken host.new) (H.closings host.new) (K.faults node.new.keep) (H.lost host.new))
+        (outer (H.taken host.new) (H.closings host.new) (K.faults node.new.keep) (H.lost host.new)
+        (H.closed_at host.new))
         (H.given host.old) (H.given host.new) (H.left host.old) (H.left host.new) (H.faults host.old)
         (H.faults host.new) (H.recorded host.old) (H.recorded host.new) }
     ensures later { H.faults host.old ≤ H.faults host.new }
+    ensures kept { (result ≡ Taken.Fault → ⊥) → H.faults host.new ≡ H.faults host.old }
     ensures disk_later { K.faults node.old.keep ≤ K.faults node.new.keep }
 {
     match host.next(buffer) {

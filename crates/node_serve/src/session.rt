@@ -8,7 +8,7 @@ ghost use Rattle.edge_io.specs.Hosts.{SameElsewhere};
 ghost use Rattle.edge_io.specs.Phrases.{Says};
 ghost use Rattle.line_door.specs.Acts.{outside};
 ghost use Rattle.node_serve.specs.Doors.{unopened_words, with_piece};
-ghost use Rattle.node_serve.specs.Nodes.{Opens, Feeds, FedFrom};
+ghost use Rattle.node_serve.specs.Nodes.{Opens, Feeds, FedFrom, ReadsAt};
 
 use answer_lines::say_unopened;
 use arch_model::{Keep, Next, OpenRefusal};
@@ -45,9 +45,11 @@ pub(crate) fn feed_one<K: Keep, H: Host>(
         (outside (H.taken host.old conn) (K.faults keep.old) (H.lost host.old))
         (continues result) session.new keep.new
         (outside (H.taken host.new conn) (K.faults keep.new) (H.lost host.new)) }
+    ensures reads { K.ready keep.old ≡ true → ReadsAt K.holds K.ready session.old piece.now
+        keep.old (K.reads keep.old) (K.reads keep.new) }
     ensures later { K.faults keep.old ≤ K.faults keep.new }
-    ensures host { SameElsewhere H.left H.given H.recorded H.faults H.taken H.closings conn host.old
-        host.new }
+    ensures host { SameElsewhere H.left H.given H.recorded H.faults H.taken H.closings H.closed_at conn
+        host.old host.new }
 {
     let mut sink = ConnSink {
         host: &mut *host,
@@ -69,6 +71,8 @@ fn take<K: Keep, O: Sink>(
         (outside (O.taken out.old) (K.faults keep.old) (O.faults out.old))
         (continues result) session.new keep.new
         (outside (O.taken out.new) (K.faults keep.new) (O.faults out.new)) }
+    ensures reads { K.ready keep.old ≡ true → ReadsAt K.holds K.ready session.old piece.now
+        keep.old (K.reads keep.old) (K.reads keep.new) }
     ensures later { K.faults keep.old ≤ K.faults keep.new }
     ensures sink { O.alike out.old out.new }
 {
@@ -88,6 +92,8 @@ fn reopen<K: Keep, O: Sink>(session: &Session, moment: u64, keep: &mut K, out: &
         (continues result) keep.new
         (outside (O.taken out.new) (K.faults keep.new) (O.faults out.new)) }
     ensures ready { continues result ≡ true → K.ready keep.new ≡ true }
+    ensures nothing { K.ready keep.old ≡ true
+        → (continues result ≡ true) × (keep.new ≡ keep.old) }
     ensures later { K.faults keep.old ≤ K.faults keep.new }
     ensures sink { O.alike out.old out.new }
 {
@@ -135,6 +141,8 @@ fn feed<K: Keep, O: Sink>(
         (outside (O.taken out.old) (K.faults keep.old) (O.faults out.old))
         (continues result) session.new keep.new
         (outside (O.taken out.new) (K.faults keep.new) (O.faults out.new)) }
+    ensures reads { ReadsAt K.holds K.ready session.old piece.now keep.old (K.reads keep.old)
+        (K.reads keep.new) }
     ensures later { K.faults keep.old ≤ K.faults keep.new }
     ensures sink { O.alike out.old out.new }
 {

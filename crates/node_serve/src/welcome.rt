@@ -52,8 +52,10 @@ fn say_starved<O: Sink>(door: Door, moment: u64, out: &mut O) -> Result<(), Sink
 pub(crate) fn refuse<H: Host>(door: Door, conn: u32, moment: u64, host: &mut H)
     requires { moment ≤ last_moment }
     ensures refused { (disk : ℕ) → Refused conn (busy_words moment door)
-        (outer (H.taken host.old) (H.closings host.old) disk (H.lost host.old))
-        (outer (H.taken host.new) (H.closings host.new) disk (H.lost host.new)) }
+        (outer (H.taken host.old) (H.closings host.old) disk (H.lost host.old)
+        (H.closed_at host.old))
+        (outer (H.taken host.new) (H.closings host.new) disk (H.lost host.new)
+        (H.closed_at host.new)) }
     ensures events { SameEvents H.left H.given H.recorded H.faults host.old host.new }
 {
     let _ = write_busy(door, conn, moment, host);
@@ -64,8 +66,10 @@ pub(crate) fn refuse<H: Host>(door: Door, conn: u32, moment: u64, host: &mut H)
 pub(crate) fn refuse_starved<H: Host>(door: Door, conn: u32, moment: u64, host: &mut H)
     requires { moment ≤ last_moment }
     ensures refused { (disk : ℕ) → Refused conn (memory_words moment door)
-        (outer (H.taken host.old) (H.closings host.old) disk (H.lost host.old))
-        (outer (H.taken host.new) (H.closings host.new) disk (H.lost host.new)) }
+        (outer (H.taken host.old) (H.closings host.old) disk (H.lost host.old)
+        (H.closed_at host.old))
+        (outer (H.taken host.new) (H.closings host.new) disk (H.lost host.new)
+        (H.closed_at host.new)) }
     ensures events { SameEvents H.left H.given H.recorded H.faults host.old host.new }
 {
     let _ = write_starved(door, conn, moment, host);
@@ -77,8 +81,8 @@ fn write_busy<H: Host>(door: Door, conn: u32, moment: u64, host: &mut H) -> Resu
     requires { moment ≤ last_moment }
     ensures said { Says (busy_words moment door) (H.taken host.old conn) (H.lost host.old)
         (H.taken host.new conn) (H.lost host.new) result }
-    ensures host { SameElsewhere H.left H.given H.recorded H.faults H.taken H.closings conn host.old
-        host.new }
+    ensures host { SameElsewhere H.left H.given H.recorded H.faults H.taken H.closings H.closed_at conn
+        host.old host.new }
 {
     let mut sink = ConnSink {
         host: &mut *host,
@@ -92,8 +96,8 @@ fn write_starved<H: Host>(door: Door, conn: u32, moment: u64, host: &mut H) -> R
     requires { moment ≤ last_moment }
     ensures said { Says (memory_words moment door) (H.taken host.old conn) (H.lost host.old)
         (H.taken host.new conn) (H.lost host.new) result }
-    ensures host { SameElsewhere H.left H.given H.recorded H.faults H.taken H.closings conn host.old
-        host.new }
+    ensures host { SameElsewhere H.left H.given H.recorded H.faults H.taken H.closings H.closed_at conn
+        host.old host.new }
 {
     let mut sink = ConnSink {
         host: &mut *host,
@@ -109,8 +113,8 @@ pub(crate) fn greet_reader<H: Host>(alloc: Global, conn: u32, host: &mut H) -> (
         (held_if (continues result.1) result.0) a
         (outside (H.taken host.new conn) disk (H.lost host.new)) }
     ensures session { result.0 ≡ new_reader }
-    ensures host { SameElsewhere H.left H.given H.recorded H.faults H.taken H.closings conn host.old
-        host.new }
+    ensures host { SameElsewhere H.left H.given H.recorded H.faults H.taken H.closings H.closed_at conn
+        host.old host.new }
 {
     let mut sink = ConnSink {
         host: &mut *host,

@@ -15,3 +15,12 @@ returns-in-News-clause-fed g c = λ s fits. rw c.in-News.is (
 pub returns-in-Http-clause-fed : goal.returns-in-Http-clause-fed
 returns-in-Http-clause-fed g c = λ s fits. rw c.in-Http.is (
     http-fed g.K.Shelf.holds g.K.Shelf.ready g.K.Keep.leaves c.args.moment g.met.K.Keep.holds_left (c.in-Http.pages ++ c.args.piece.now) s c.args.keep.now _ _ _ c.feed-in-Http.new.shelf _ (c.feed-in-Http.ensures.fed asked_in reads-heads) (g.met.K.Keep.alike_kept _ _ c.feed-in-Http.ensures.shelf.same) c.requires.ready fits)
+
+pub returns-in-Control-clause-reads : goal.returns-in-Control-clause-reads
+returns-in-Control-clause-reads g c = rw c.in-Control.is tt
+
+pub returns-in-News-clause-reads : goal.returns-in-News-clause-reads
+returns-in-News-clause-reads g c = rw c.in-News.is tt
+
+pub returns-in-Http-clause-reads : goal.returns-in-Http-clause-reads
+returns-in-Http-clause-reads g c = rw c.in-Http.is (c.feed-in-Http.ensures.reads, c.feed-in-Http.ensures.unread)

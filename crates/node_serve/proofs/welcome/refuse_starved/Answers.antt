@@ -6,5 +6,5 @@ use Rattle.node_serve.proofs.welcome.refuse_starved.Goals as goal
 
 pub returns-clause-refused : goal.returns-clause-refused
 returns-clause-refused g c = λ disk.
-    refused-closed c.args.conn (memory_words c.args.moment c.args.door) c.write_starved.result _ (outer (g.H.Host.taken c.write_starved.new.host) (g.H.Host.closings c.write_starved.new.host) disk (g.H.Host.lost c.write_starved.new.host)) _
-    c.write_starved.ensures.said c.write_starved.ensures.host.others c.write_starved.ensures.host.closings_same c.close.ensures.taken c.close.ensures.others c.close.ensures.closed c.close.ensures.lost refl
+    refused-closed c.args.conn (memory_words c.args.moment c.args.door) c.write_starved.result _ (outer (g.H.Host.taken c.write_starved.new.host) (g.H.Host.closings c.write_starved.new.host) disk (g.H.Host.lost c.write_starved.new.host) (g.H.Host.closed_at c.write_starved.new.host)) _
+    c.write_starved.ensures.said c.write_starved.ensures.host.others c.write_starved.ensures.host.closings_same c.close.ensures.taken c.close.ensures.others c.close.ensures.closed c.close.ensures.lost refl c.write_starved.ensures.host.closed_at_same c.close.ensures.closed_at_others c.close.ensures.closed_at

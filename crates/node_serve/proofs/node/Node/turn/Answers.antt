@@ -21,3 +21,45 @@ returns-in-Quiet-clause-turned g c = rw (← c.self.view_is) (λ s fits.
 pub returns-in-Stop-clause-turned : goal.returns-in-Stop-clause-turned
 returns-in-Stop-clause-turned g c = rw (← c.self.view_is) (λ s fits.
     turns-still g.K.Shelf.holds g.K.Shelf.ready g.K.Keep.leaves (c.args.event.now, c.args.piece.now) s c.self.inside.keep c.self.inside.sessions.entries c.self.inside.sessions.entries _ _ fits (rw c.in-Stop.is (same-world g.K.Shelf.holds g.K.Shelf.ready g.K.Keep.leaves s _ _, refl)))
+
+pub returns-in-Opened-clause-anyway : goal.returns-in-Opened-clause-anyway
+returns-in-Opened-clause-anyway g c = rw (← c.self.view_is, c.in-Opened.is) (record {
+  kept = refl;
+  turned = λ s. (c.admit.ensures.made (g.K.Shelf.faults c.self.inside.keep) s, refl);
+})
+
+pub returns-in-Bytes-clause-anyway : goal.returns-in-Bytes-clause-anyway
+returns-in-Bytes-clause-anyway g c = rw (← c.self.view_is, c.in-Bytes.is) (c.feed.ensures.anyway _)
+
+pub returns-in-Ended-clause-anyway : goal.returns-in-Ended-clause-anyway
+returns-in-Ended-clause-anyway g c = rw (← c.self.view_is, c.in-Ended.is) (record {
+  kept = refl;
+  turned = λ s. (ended-world c.in-Ended.conn (places_of c.self.inside.sessions.entries) (places_of c.end.new.sessions.entries) s _ c.end.ensures, refl);
+})
+
+pub returns-in-Quiet-clause-anyway : goal.returns-in-Quiet-clause-anyway
+returns-in-Quiet-clause-anyway g c = rw (← c.self.view_is, c.in-Quiet.is) (record {
+  kept = refl;
+  turned = λ s. (same-world g.K.Shelf.holds g.K.Shelf.ready g.K.Keep.leaves s _ _, refl);
+})
+
+pub returns-in-Stop-clause-anyway : goal.returns-in-Stop-clause-anyway
+returns-in-Stop-clause-anyway g c = rw (← c.self.view_is, c.in-Stop.is) (record {
+  kept = refl;
+  turned = λ s. (same-world g.K.Shelf.holds g.K.Shelf.ready g.K.Keep.leaves s _ _, refl);
+})
+
+pub returns-in-Opened-clause-reads : goal.returns-in-Opened-clause-reads
+returns-in-Opened-clause-reads g c = rw (← c.self.view_is, c.in-Opened.is) refl
+
+pub returns-in-Bytes-clause-reads : goal.returns-in-Bytes-clause-reads
+returns-in-Bytes-clause-reads g c = rw (← c.self.view_is, c.in-Bytes.is) c.feed.ensures.reads
+
+pub returns-in-Ended-clause-reads : goal.returns-in-Ended-clause-reads
+returns-in-Ended-clause-reads g c = rw (← c.self.view_is, c.in-Ended.is) refl
+
+pub returns-in-Quiet-clause-reads : goal.returns-in-Quiet-clause-reads
+returns-in-Quiet-clause-reads g c = rw (← c.self.view_is, c.in-Quiet.is) refl
+
+pub returns-in-Stop-clause-reads : goal.returns-in-Stop-clause-reads
+returns-in-Stop-clause-reads g c = rw (← c.self.view_is, c.in-Stop.is) refl
