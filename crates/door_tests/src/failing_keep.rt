@@ -1,11 +1,13 @@
 //! A keeper of an archive of which one kind of call fails.
-ghost use Rattle.std.specs.Prelude.{◌≡◌, ◌≤◌, true, false, not, refl};
+ghost use Rattle.std.specs.Prelude.{◌≡◌, ◌≤◌, ℕ, true, false, not, refl};
 ghost use Rattle.arch_model.specs.Keeping.{StaysReady, AnswerCause};
+ghost use Rattle.arch_model.specs.Shelves.{ReadingWhy};
 ghost use Rattle.arch_model.specs.Untold.{HoldsNone, LeavesUntold, untold-read};
 ghost use Rattle.arch_base.specs.Moments.{last_moment};
 
-use arch_base::{Bytes, Config, NoMemory, Numbers, ObjectId};
+use arch_base::{Bytes, Config, Id20, NoMemory, Numbers, ObjectId};
 use arch_model::{Answer, Command, EntryLine, Keep, OpenRefusal, Query, Row, Shelf, TextRefusal};
+use disk_model::{FileKind, FileName};
 use mem_archive::MemArchive;
 
 /// The call of a keeper that fails.
@@ -18,13 +20,40 @@ pub enum Failing {
     /// A command, which isn't carried out, and the reopening after it, which runs out of memory; and
     /// so does a rebuilding.
     OpeningWithoutMemory,
+    /// A command, which isn't carried out, and the reopening after it, which finds no archive; and so
+    /// does a rebuilding.
+    OpeningWithoutArchive,
+    /// A command, which finds a damaged epoch, and the reopening after it, which finds it, too; and so
+    /// does a rebuilding.
+    OpeningOfDamage,
     /// A read of a text.
     Text,
     /// A read of a text but the first message's.
     LaterText,
     /// A read of an epoch.
     Epoch,
+    /// A read of a text or of an epoch, which finds another text.
+    Damage,
 }
+
+/// The id of each text that is damaged: df7a16e6b23ee491f39d84e89298f10b0d4ae4e0.
+const NAMED: ObjectId = Id20([
+    0xdf, 0x7a, 0x16, 0xe6, 0xb2, 0x3e, 0xe4, 0x91, 0xf3, 0x9d, 0x84, 0xe8, 0x92, 0x98, 0xf1, 0x0b,
+    0x0d, 0x4a, 0xe4, 0xe0,
+]);
+
+/// The id of what is found in its place: 1d023c572ccd6f3cc82ae855343346b043adaba5.
+const FOUND: ObjectId = Id20([
+    0x1d, 0x02, 0x3c, 0x57, 0x2c, 0xcd, 0x6f, 0x3c, 0xc8, 0x2a, 0xe8, 0x55, 0x34, 0x33, 0x46, 0xb0,
+    0x43, 0xad, 0xab, 0xa5,
+]);
+
+/// The file that is damaged.
+const EPOCH: FileName = FileName {
+    kind: FileKind::Epoch,
+    number: 2,
+    gen_: 1,
+};
 
 /// An archive in memory of which one kind of call always fails. It tells nothing of what it holds.
 #[derive(Drop)]
@@ -66,7 +95,7 @@ impl FailingKeep {
         ensures cause { AnswerCause self.old.faults self.new.faults result }
     {
         match self.failing {
-            Failing::Text | Failing::LaterText | Failing::Epoch => Keep::command(
+            Failing::Text | Failing::LaterText | Failing::Epoch | Failing::Damage => Keep::command(
                 &mut self.archive,
                 command,
                 moment,
@@ -77,12 +106,29 @@ impl FailingKeep {
                 self.fail();
                 Answer::DiskFault
             }
-            Failing::Command(false) | Failing::Opening | Failing::OpeningWithoutMemory => {
+            Failing::OpeningOfDamage => {
+                self.stale = true;
+                Answer::Damaged { file: EPOCH, at: 5 }
+            }
+            Failing::Command(false)
+            | Failing::Opening
+            | Failing::OpeningWithoutMemory
+            | Failing::OpeningWithoutArchive => {
                 self.stale = true;
                 self.fail();
                 Answer::DiskFault
             }
         }
+    }
+}
+
+/// Returns the refusal for a text in whose place another one was found.
+fn damage() -> TextRefusal
+    ensures { (faults : ℕ) → ReadingWhy faults faults result }
+{
+    TextRefusal::Damaged {
+        named: NAMED,
+        found: FOUND,
     }
 }
 
@@ -146,6 +192,9 @@ impl Shelf for FailingKeep {
             self.fail();
             return Err(TextRefusal::DiskFault);
         }
+        if self.failing == Failing::Damage {
+            return Err(damage());
+        }
         match self.archive.text(n) {
             None => Ok(()),
             Some(text) => {
@@ -187,6 +236,8 @@ impl Keep for FailingKeep {
                 Err(OpenRefusal::DiskFault)
             }
             Failing::OpeningWithoutMemory => Err(OpenRefusal::NoMemory),
+            Failing::OpeningWithoutArchive => Err(OpenRefusal::NoArchive),
+            Failing::OpeningOfDamage => Err(OpenRefusal::Damaged { file: EPOCH, at: 5 }),
             _ => {
                 self.stale = false;
                 Ok(())
@@ -204,6 +255,14 @@ impl Keep for FailingKeep {
             Failing::OpeningWithoutMemory => {
                 self.stale = true;
                 Err(OpenRefusal::NoMemory)
+            }
+            Failing::OpeningWithoutArchive => {
+                self.stale = true;
+                Err(OpenRefusal::NoArchive)
+            }
+            Failing::OpeningOfDamage => {
+                self.stale = true;
+                Err(OpenRefusal::Damaged { file: EPOCH, at: 5 })
             }
             _ => {
                 self.stale = false;
@@ -223,6 +282,9 @@ impl Keep for FailingKeep {
         if self.failing == Failing::Epoch {
             self.fail();
             return Err(TextRefusal::DiskFault);
+        }
+        if self.failing == Failing::Damage {
+            return Err(damage());
         }
         match self.archive.push_epoch(epoch, into) {
             Ok(found) => Ok(found),

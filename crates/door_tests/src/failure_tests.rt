@@ -1,5 +1,5 @@
-//! Streams to an archive whose disk fails. A stale keeper is reopened before the next whole request,
-//! and not before a part of one.
+//! Streams to an archive whose disk fails or is damaged. A stale keeper is reopened before the next
+//! whole request, and not before a part of one.
 use crate::connection::archive;
 use crate::failing_keep::{Failing, FailingKeep};
 use arch_base::Numbers;
@@ -8,7 +8,7 @@ use control_door::Session;
 use edge_io::MemSink;
 use std::alloc::Global;
 
-/// A stream that comes in one piece, and what it gets from a disk that fails.
+/// A stream that comes in one piece, and what it gets from a keeper that fails.
 struct Stream {
     bytes: &'static [u8],
     /// The call that fails.
@@ -18,8 +18,8 @@ struct Stream {
     next: Next,
 }
 
-/// Streams to disks that fail.
-const STREAMS: [Stream; 16] = [
+/// Streams to keepers that fail.
+const STREAMS: [Stream; 22] = [
     Stream {
         bytes: b"deliver 18\nMessage-ID: <a@x>\nshow 1\n",
         failing: Failing::Command(false),
@@ -116,6 +116,42 @@ const STREAMS: [Stream; 16] = [
         answers: b"10 disk fault\n12 no memory\n",
         next: Next::Close,
     },
+    Stream {
+        bytes: b"deliver 18\nMessage-ID: <a@x>\nshow 1\nshow 2\n",
+        failing: Failing::Damage,
+        answers: b"1 ok 1 df7a16e6b23ee491f39d84e89298f10b0d4ae4e0\n11 damaged df7a16e6b23ee491f39d84e89298f10b0d4ae4e0 1d023c572ccd6f3cc82ae855343346b043adaba5\n7 not live 2\n",
+        next: Next::Go,
+    },
+    Stream {
+        bytes: b"deliver 18\nMessage-ID: <a@x>\nepochs\nshow 2\n",
+        failing: Failing::Damage,
+        answers: b"1 ok 1 df7a16e6b23ee491f39d84e89298f10b0d4ae4e0\n11 damaged df7a16e6b23ee491f39d84e89298f10b0d4ae4e0 1d023c572ccd6f3cc82ae855343346b043adaba5\n7 not live 2\n",
+        next: Next::Go,
+    },
+    Stream {
+        bytes: b"deliver 18\nMessage-ID: <a@x>\nshow 1\nshow 1\n",
+        failing: Failing::OpeningWithoutArchive,
+        answers: b"10 disk fault\n11 damaged root 0\n",
+        next: Next::Close,
+    },
+    Stream {
+        bytes: b"reindex\nshow 1\nx\n",
+        failing: Failing::OpeningWithoutArchive,
+        answers: b"11 damaged root 0\n11 damaged root 0\n",
+        next: Next::Close,
+    },
+    Stream {
+        bytes: b"deliver 18\nMessage-ID: <a@x>\nshow 1\nshow 1\n",
+        failing: Failing::OpeningOfDamage,
+        answers: b"11 damaged epoch 2 5\n11 damaged epoch 2 5\n",
+        next: Next::Close,
+    },
+    Stream {
+        bytes: b"reindex\nremove 1\nx\n",
+        failing: Failing::OpeningOfDamage,
+        answers: b"11 damaged epoch 2 5\n11 damaged epoch 2 5\n",
+        next: Next::Close,
+    },
 ];
 
 /// Returns whether a stream is answered as its row says.
@@ -131,7 +167,7 @@ fn is_answered(alloc: Global, stream: &Stream) -> bool {
 }
 
 #[test]
-fn a_disk_that_fails_is_said_and_reopened(rt: HostRuntime) {
+fn a_keeper_that_fails_is_told_and_reopened(rt: HostRuntime) {
     for stream in &STREAMS {
         assert!(rt; is_answered(rt.alloc(), stream), "{:?}", stream.bytes);
     }

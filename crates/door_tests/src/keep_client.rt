@@ -78,6 +78,13 @@ fn a_refused_rebuilding_leaves_the_keeper_stale(rt: HostRuntime) {
             OpenRefusal::NoMemory
         )
     );
+    assert!(rt;
+        is_refused(
+            rt.alloc(),
+            Failing::OpeningWithoutArchive,
+            OpenRefusal::NoArchive
+        )
+    );
 }
 
 /// Returns whether a rebuilding is refused so, and leaves the keeper stale.

@@ -22,7 +22,7 @@ struct Request {
 /// Requests to disks that fail. Those of the first two don't, since no epoch is read.
 ///
 /// A text ends with the empty line after its header, and each text has a line feed after it.
-const REQUESTS: [Request; 4] = [
+const REQUESTS: [Request; 5] = [
     Request {
         removed: None,
         failing: Failing::Epoch,
@@ -39,6 +39,12 @@ const REQUESTS: [Request; 4] = [
         removed: None,
         failing: Failing::Text,
         words: b"10 disk fault\n",
+        goes_on: true,
+    },
+    Request {
+        removed: None,
+        failing: Failing::Damage,
+        words: b"11 damaged df7a16e6b23ee491f39d84e89298f10b0d4ae4e0 1d023c572ccd6f3cc82ae855343346b043adaba5\n",
         goes_on: true,
     },
     Request {

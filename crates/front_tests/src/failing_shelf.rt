@@ -1,9 +1,10 @@
 //! A shelf whose texts can't be read from a number on.
 ghost use Rattle.std.specs.Prelude.{◌≡◌, ◌≤◌, true, refl};
 ghost use Rattle.arch_base.specs.Counts.{Rose};
+ghost use Rattle.arch_model.specs.Shelves.{ReadingWhy};
 ghost use Rattle.arch_model.specs.Untold.{HoldsNone};
 
-use arch_base::{Bytes, Config, NoMemory, Numbers, ObjectId};
+use arch_base::{Bytes, Config, Id20, NoMemory, Numbers, ObjectId};
 use arch_model::{EntryLine, Query, Row, Shelf, TextRefusal};
 use mem_archive::MemArchive;
 
@@ -14,7 +15,21 @@ pub(crate) enum Failing {
     Disk,
     /// Memory runs out.
     Memory,
+    /// Another text stands in its place.
+    Damage,
 }
+
+/// The id of each text that is damaged: 1d023c572ccd6f3cc82ae855343346b043adaba5.
+const NAMED: ObjectId = Id20([
+    0x1d, 0x02, 0x3c, 0x57, 0x2c, 0xcd, 0x6f, 0x3c, 0xc8, 0x2a, 0xe8, 0x55, 0x34, 0x33, 0x46, 0xb0,
+    0x43, 0xad, 0xab, 0xa5,
+]);
+
+/// The id of what is found in its place: 553eb54ab0cac30f5588ebce77f475c0dee4a364.
+const FOUND: ObjectId = Id20([
+    0x55, 0x3e, 0xb5, 0x4a, 0xb0, 0xca, 0xc3, 0x0f, 0x55, 0x88, 0xeb, 0xce, 0x77, 0xf4, 0x75, 0xc0,
+    0xde, 0xe4, 0xa3, 0x64,
+]);
 
 /// An archive in memory whose texts can't be read from a number on. It tells nothing of what it holds.
 #[derive(Drop)]
@@ -42,6 +57,24 @@ impl FailingShelf {
         ensures later { self.old.faults ≤ self.new.faults }
     {
         self.faults = self.faults.saturating_add(1);
+    }
+
+    /// Returns why a text is not read, and counts the fault if the disk fails.
+    fn refuse(&mut self) -> TextRefusal
+        ensures why { ReadingWhy self.old.faults self.new.faults result }
+        ensures later { self.old.faults ≤ self.new.faults }
+    {
+        match self.failing {
+            Failing::Disk => {
+                self.fail();
+                TextRefusal::DiskFault
+            }
+            Failing::Memory => TextRefusal::NoMemory,
+            Failing::Damage => TextRefusal::Damaged {
+                named: NAMED,
+                found: FOUND,
+            },
+        }
     }
 }
 
@@ -102,11 +135,7 @@ impl Shelf for FailingShelf {
 
     fn text(&mut self, n: u32, into: &mut Bytes) -> Result<(), TextRefusal> {
         if n >= self.from {
-            if self.failing == Failing::Memory {
-                return Err(TextRefusal::NoMemory);
-            }
-            self.fail();
-            return Err(TextRefusal::DiskFault);
+            return Err(self.refuse());
         }
         match self.archive.text(n) {
             None => Ok(()),

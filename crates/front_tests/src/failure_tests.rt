@@ -20,7 +20,7 @@ struct Failure {
 }
 
 /// Requests that read such a text before a part of the reply is written.
-static FAILURES: [Failure; 7] = [
+static FAILURES: [Failure; 13] = [
     Failure {
         from: 1,
         failing: Failing::Disk,
@@ -62,6 +62,42 @@ static FAILURES: [Failure; 7] = [
         failing: Failing::Memory,
         request: b"GET /list/b%2F2@x/t.mbox HTTP/1.1\r\n\r\n",
         reply: b"HTTP/1.1 503 Service Unavailable\r\nDate: Thu, 01 Feb 2024 10:03:20 GMT\r\nContent-Type: text/plain; charset=utf-8\r\nContent-Length: 14\r\nConnection: close\r\n\r\nout of memory\n",
+    },
+    Failure {
+        from: 1,
+        failing: Failing::Damage,
+        request: b"GET /list/a@x/ HTTP/1.1\r\n\r\n",
+        reply: b"HTTP/1.1 500 Internal Server Error\r\nDate: Thu, 01 Feb 2024 10:03:20 GMT\r\nContent-Type: text/plain; charset=utf-8\r\nContent-Length: 90\r\nConnection: close\r\n\r\ndamaged 1d023c572ccd6f3cc82ae855343346b043adaba5 553eb54ab0cac30f5588ebce77f475c0dee4a364\n",
+    },
+    Failure {
+        from: 1,
+        failing: Failing::Damage,
+        request: b"HEAD /list/a@x/raw HTTP/1.1\r\n\r\n",
+        reply: b"HTTP/1.1 500 Internal Server Error\r\nDate: Thu, 01 Feb 2024 10:03:20 GMT\r\nContent-Type: text/plain; charset=utf-8\r\nContent-Length: 90\r\nConnection: close\r\n\r\n",
+    },
+    Failure {
+        from: 1,
+        failing: Failing::Damage,
+        request: b"GET /list/a@x/raw HTTP/1.1\r\n\r\n",
+        reply: b"HTTP/1.1 500 Internal Server Error\r\nDate: Thu, 01 Feb 2024 10:03:20 GMT\r\nContent-Type: text/plain; charset=utf-8\r\nContent-Length: 90\r\nConnection: close\r\n\r\ndamaged 1d023c572ccd6f3cc82ae855343346b043adaba5 553eb54ab0cac30f5588ebce77f475c0dee4a364\n",
+    },
+    Failure {
+        from: 2,
+        failing: Failing::Damage,
+        request: b"GET /list/new.atom HTTP/1.1\r\n\r\n",
+        reply: b"HTTP/1.1 500 Internal Server Error\r\nDate: Thu, 01 Feb 2024 10:03:20 GMT\r\nContent-Type: text/plain; charset=utf-8\r\nContent-Length: 90\r\nConnection: close\r\n\r\ndamaged 1d023c572ccd6f3cc82ae855343346b043adaba5 553eb54ab0cac30f5588ebce77f475c0dee4a364\n",
+    },
+    Failure {
+        from: 2,
+        failing: Failing::Damage,
+        request: b"GET /list/a@x/t.atom HTTP/1.1\r\n\r\n",
+        reply: b"HTTP/1.1 500 Internal Server Error\r\nDate: Thu, 01 Feb 2024 10:03:20 GMT\r\nContent-Type: text/plain; charset=utf-8\r\nContent-Length: 90\r\nConnection: close\r\n\r\ndamaged 1d023c572ccd6f3cc82ae855343346b043adaba5 553eb54ab0cac30f5588ebce77f475c0dee4a364\n",
+    },
+    Failure {
+        from: 2,
+        failing: Failing::Damage,
+        request: b"GET /list/all.mbox HTTP/1.1\r\n\r\n",
+        reply: b"HTTP/1.1 500 Internal Server Error\r\nDate: Thu, 01 Feb 2024 10:03:20 GMT\r\nContent-Type: text/plain; charset=utf-8\r\nContent-Length: 90\r\nConnection: close\r\n\r\ndamaged 1d023c572ccd6f3cc82ae855343346b043adaba5 553eb54ab0cac30f5588ebce77f475c0dee4a364\n",
     },
 ];
 
@@ -143,6 +179,7 @@ fn a_mailbox_file_stops_where_a_text_is_not_read(rt: HostRuntime) {
     assert!(rt; mailbox_has(rt.alloc(), Failing::Disk, 3, 70316, Next::Go));
     assert!(rt; mailbox_has(rt.alloc(), Failing::Disk, 2, 70173, Next::Close));
     assert!(rt; mailbox_has(rt.alloc(), Failing::Memory, 2, 70173, Next::Close));
+    assert!(rt; mailbox_has(rt.alloc(), Failing::Damage, 2, 70173, Next::Close));
 }
 
 /// Returns whether a request whose reply is lost, and another one, end the connection.

@@ -71,15 +71,15 @@ fn unopened_is(alloc: Global, refusal: OpenRefusal, reply: &[u8]) -> bool {
     say_unopened(refusal, MOMENT, &mut out).is_ok() && out.taken() == reply
 }
 
-/// Returns the refusal of an archive with a damaged epoch.
-fn damage() -> OpenRefusal {
+/// Returns the refusal of an archive with a damaged file of a kind.
+fn damage(kind: FileKind, number: u32, at: u64) -> OpenRefusal {
     OpenRefusal::Damaged {
         file: FileName {
-            kind: FileKind::Epoch,
-            number: 3,
+            kind,
+            number,
             gen_: 5,
         },
-        at: 8,
+        at,
     }
 }
 
@@ -105,9 +105,20 @@ fn an_archive_that_does_not_open_is_told(rt: HostRuntime) {
         b"HTTP/1.1 500 Internal Server Error\r\nDate: Thu, 01 Feb 2024 10:03:20 GMT\r\nContent-Type: text/plain; charset=utf-8\r\nContent-Length: 11\r\nConnection: close\r\n\r\ndisk fault\n";
     let root =
         b"HTTP/1.1 500 Internal Server Error\r\nDate: Thu, 01 Feb 2024 10:03:20 GMT\r\nContent-Type: text/plain; charset=utf-8\r\nContent-Length: 15\r\nConnection: close\r\n\r\ndamaged root 0\n";
-    let epoch =
-        b"HTTP/1.1 500 Internal Server Error\r\nDate: Thu, 01 Feb 2024 10:03:20 GMT\r\nContent-Type: text/plain; charset=utf-8\r\nContent-Length: 18\r\nConnection: close\r\n\r\ndamaged epoch 3 8\n";
     assert!(rt; unopened_is(rt.alloc(), OpenRefusal::DiskFault, fault));
     assert!(rt; unopened_is(rt.alloc(), OpenRefusal::NoArchive, root));
-    assert!(rt; unopened_is(rt.alloc(), damage(), epoch));
+    assert!(rt; unopened_is(rt.alloc(), damage(FileKind::Root, 0, 0), root));
+}
+
+#[test]
+fn a_damaged_file_is_named(rt: HostRuntime) {
+    let epoch =
+        b"HTTP/1.1 500 Internal Server Error\r\nDate: Thu, 01 Feb 2024 10:03:20 GMT\r\nContent-Type: text/plain; charset=utf-8\r\nContent-Length: 18\r\nConnection: close\r\n\r\ndamaged epoch 3 8\n";
+    let map =
+        b"HTTP/1.1 500 Internal Server Error\r\nDate: Thu, 01 Feb 2024 10:03:20 GMT\r\nContent-Type: text/plain; charset=utf-8\r\nContent-Length: 15\r\nConnection: close\r\n\r\ndamaged map 48\n";
+    let cache =
+        b"HTTP/1.1 500 Internal Server Error\r\nDate: Thu, 01 Feb 2024 10:03:20 GMT\r\nContent-Type: text/plain; charset=utf-8\r\nContent-Length: 35\r\nConnection: close\r\n\r\ndamaged cache 18446744073709551615\n";
+    assert!(rt; unopened_is(rt.alloc(), damage(FileKind::Epoch, 3, 8), epoch));
+    assert!(rt; unopened_is(rt.alloc(), damage(FileKind::Map, 0, 48), map));
+    assert!(rt; unopened_is(rt.alloc(), damage(FileKind::Cache, 0, u64::MAX), cache));
 }

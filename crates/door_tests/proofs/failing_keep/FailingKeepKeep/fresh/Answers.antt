@@ -10,5 +10,11 @@ returns-in-Opening-clause-found c = λ s fits. absurd (untold-fits _ c.args.self
 pub returns-in-OpeningWithoutMemory-clause-found : goal.returns-in-OpeningWithoutMemory-clause-found
 returns-in-OpeningWithoutMemory-clause-found c = λ s fits. absurd (untold-fits _ c.args.self.now s fits)
 
+pub returns-in-OpeningWithoutArchive-clause-found : goal.returns-in-OpeningWithoutArchive-clause-found
+returns-in-OpeningWithoutArchive-clause-found c = λ s fits. absurd (untold-fits _ c.args.self.now s fits)
+
+pub returns-in-OpeningOfDamage-clause-found : goal.returns-in-OpeningOfDamage-clause-found
+returns-in-OpeningOfDamage-clause-found c = λ s fits. absurd (untold-fits _ c.args.self.now s fits)
+
 pub returns-in_default-clause-found : goal.returns-in_default-clause-found
 returns-in_default-clause-found c = λ s fits. absurd (untold-fits _ c.args.self.now s fits)
