@@ -22,7 +22,7 @@ use Rattle.root_change.proofs.Pushes.{whole_with_bytes, whole_with_range}
 use Rattle.epoch_file.specs.declared.entry.Seen.{Seen}
 use Rattle.epoch_file.specs.declared.planning.NewCommit.{NewCommit}
 use Rattle.epoch_file.specs.Entries.{EpochEntry, bytes_after, commit_after, epoch_of, last_of}
-use Rattle.epoch_file.specs.Planning.{Checks, CommitsAnew, CopiesEntry, Finishes, HasNext, IsAnew, IsMoved, IsPlanOf, IsPlanned, KeepsNext, LeavesNext, Planned, file_of, seen_after, texts_in}
+use Rattle.epoch_file.specs.Planning.{Checks, CommitsAnew, CopiesEntry, Finishes, HasNext, IsAnew, IsMoved, IsPlanOf, IsPlanned, KeepsNext, LacksText, LeavesNext, Planned, TellsLack, file_of, seen_after, texts_in}
 use Rattle.epoch_file.specs.Walking.{blob_front, seen_at}
 use Rattle.epoch_file.proofs.Chains.{epoch-push, last-push}
 use Rattle.epoch_file.proofs.Sizes.{head_first, head_of, length-blob, length-head, length-tree}
@@ -318,3 +318,7 @@ checks_now (Damaged at) old seen k commits = λ some. commits
 
 pub checks_refused : (refusal : WalkRefusal) (old : Planned) (seen : Seen) (k : Option Content) → WhereTold (CommitsAnew old.file seen old.parent (Err refusal)) k → WhereTold (Checks old seen (Err refusal)) k
 checks_refused refusal old seen k commits = where_then (CommitsAnew old.file seen old.parent (Err refusal)) (Checks old seen (Err refusal)) k (λ c told. checks_now refusal old seen c told) commits
+
+-- A text of which no commit is made isn't in its place.
+pub lacks_text : (file : FileName) (seen : Seen) (parent : Option Id20) (k : Option Content) → WhereTold (CommitsAnew file seen parent (Err (Damaged seen.at))) k → TellsLack file seen k (Damaged seen.at)
+lacks_text file seen parent k commits = (refl, where_then (CommitsAnew file seen parent (Err (Damaged seen.at))) (LacksText file seen) k (λ c told. told.1) commits)

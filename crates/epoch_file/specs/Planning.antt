@@ -6,7 +6,7 @@ use Rattle.disk_model.specs.declared.name.FileName.{FileName}
 use Rattle.disk_model.specs.declared.name.FileKind.TheVariants.{Epoch}
 use Rattle.disk_model.specs.declared.refusal.WalkRefusal.{WalkRefusal}
 use Rattle.disk_model.specs.declared.refusal.WalkRefusal.TheVariants.{DiskFault, NoMemory, Damaged}
-use Rattle.disk_model.specs.Disk.{Content, Unchanged, bytes_of}
+use Rattle.disk_model.specs.Disk.{Content, Unchanged, WhereTold, bytes_of}
 use Rattle.root_change.specs.declared.plan.Target.TheVariants.{Anew}
 use Rattle.root_change.specs.Rewriting.{Plan, IsPlan, IsPlanFrom, IsPlanWhole, with_bytes, with_range, written_by}
 use Rattle.root_change.specs.Copying.{file_range}
@@ -225,3 +225,15 @@ ChecksText file seen (Err (Damaged at)) k = (at ≡ seen.at)
 -- So it is where an entry was left out before.
 abbrev pub Checks : Planned → Seen → Result Seen WalkRefusal → Content → Type 0
 Checks old seen result k = is_some old.changed ≡ true → ChecksText old.file seen result k
+
+-- A file doesn't have the text of an entry in its place: so many bytes with the blob id.
+abbrev pub LacksText : FileName → Seen → Content → Type 0
+LacksText file seen k = length (file_range k file seen.text_at seen.size) ≡ seen.size
+    → blob_id_of (file_range k file seen.text_at seen.size) ≡ seen.blob → ⊥
+
+-- An error that tells of damage tells the offset of the entry, whose text isn't in its place where the
+-- disk tells its content.
+abbrev pub TellsLack : FileName → Seen → Option Content → WalkRefusal → Type 0
+TellsLack file seen content DiskFault = Unit {0}
+TellsLack file seen content NoMemory = Unit {0}
+TellsLack file seen content (Damaged at) = (at ≡ seen.at) × WhereTold (LacksText file seen) content

@@ -1,9 +1,9 @@
 //! Plans how an epoch's file is written anew without some of its entries.
-ghost use Rattle.std.specs.Prelude.{◌≡◌, ◌≤◌, ◌+◌, ℕ, true, None, Err, is_some, length, IfOk, OnOk, OnErr};
+ghost use Rattle.std.specs.Prelude.{◌≡◌, ◌≤◌, ◌+◌, ℕ, true, None, Err, is_some, length, IfOk, IfErr, OnOk, OnErr};
 ghost use Rattle.arch_base.specs.declared.ids.Id20.{Id20};
 ghost use Rattle.arch_base.specs.Counts.{RoseIf};
 ghost use Rattle.disk_model.specs.Disk.{Image, Told, WhereTold, Unchanged, LeavesOnly};
-ghost use Rattle.epoch_file.specs.Planning.{Checks, CommitsAnew, CopiesEntry, Finishes, IsAnewOf, IsMoved, IsOfEpoch, KeepsNext, LeavesNext};
+ghost use Rattle.epoch_file.specs.Planning.{Checks, CommitsAnew, CopiesEntry, Finishes, IsAnewOf, IsMoved, IsOfEpoch, KeepsNext, LeavesNext, TellsLack};
 ghost use Rattle.epoch_file.specs.Sights.{tree_size};
 
 use crate::entry::Seen;
@@ -78,6 +78,8 @@ impl EpochPlan {
     ) -> Result<Seen, WalkRefusal>
         ensures kept { WhereTold (KeepsNext self.old seen.now self.new result) (D.content disk.old) }
         ensures checked { WhereTold (Checks self.old seen.now result) (D.content disk.old) }
+        // Also where the disk doesn't tell its content, and before an entry is left out.
+        ensures damage { IfErr result (TellsLack self.old.file seen.now (D.content disk.old)) }
         ensures file { self.new.file ≡ self.old.file }
         ensures moved { IfOk result (λ made. (at : ℕ) × (commit : Id20)
             × IsMoved seen.now at commit made) }
@@ -185,6 +187,7 @@ fn new_commit<D: Disk>(
     parent: Option<ObjectId>,
 ) -> Result<NewCommit, WalkRefusal>
     ensures commit { WhereTold (CommitsAnew file seen.now parent result) (D.content disk.old) }
+    ensures damage { IfErr result (TellsLack file seen.now (D.content disk.old)) }
     ensures same { Told Unchanged (D.content disk.old) (D.content disk.new) }
     ensures any_moment { LeavesOnly D.moment D.left_since disk.old disk.new
         (Image (D.content disk.old)) }
@@ -207,6 +210,7 @@ fn commit_read<D: Disk>(
 ) -> Result<NewCommit, WalkRefusal>
     requires room { length room.old ≡ seen.now.size }
     ensures commit { WhereTold (CommitsAnew file seen.now parent result) (D.content disk.old) }
+    ensures damage { IfErr result (TellsLack file seen.now (D.content disk.old)) }
     ensures same { Told Unchanged (D.content disk.old) (D.content disk.new) }
     ensures any_moment { LeavesOnly D.moment D.left_since disk.old disk.new
         (Image (D.content disk.old)) }

@@ -30,7 +30,7 @@ enum Command {
     Remake,
 }
 
-/// Plans bytes of a part. `Short` if memory runs out.
+/// Plans bytes of a part. `DiskFault` if memory runs out.
 fn planned(
     alloc: Global,
     kind: FileKind,
@@ -44,7 +44,7 @@ fn planned(
     let mut plan = PartPlan::new(alloc, kind, number, target);
     match plan.push_bytes(bytes) {
         Ok(()) => Ok(plan),
-        Err(_) => Err(RewriteRefusal::Short),
+        Err(_) => Err(RewriteRefusal::DiskFault),
     }
 }
 
@@ -66,7 +66,7 @@ fn fill<D: Disk>(alloc: Global, disk: &mut D) -> Result<Root, RewriteRefusal>
     ensures sizes { IfOk result (λ root. WhereTold (HasSizes root) (D.content disk.new)) }
 {
     let Some(root) = bare() else {
-        return Err(RewriteRefusal::Short);
+        return Err(RewriteRefusal::DiskFault);
     };
     begin(disk)?;
     fill_bare(alloc, disk, &root)
@@ -114,10 +114,10 @@ fn run<D: Disk>(
     requires sizes { WhereTold (HasSizes root.now) (D.content disk.old) }
 {
     if root.sequence > 9 || root.next > 9 {
-        return Err(RewriteRefusal::Short);
+        return Err(RewriteRefusal::DiskFault);
     }
     if epoch_place(root, 0).length > 9 || epoch_place(root, 2).length > 9 {
-        return Err(RewriteRefusal::Short);
+        return Err(RewriteRefusal::DiskFault);
     }
     match command {
         Command::Grow => grow(alloc, disk, root, 0, b"fgh"),

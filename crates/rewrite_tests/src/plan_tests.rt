@@ -129,7 +129,7 @@ pub(crate) fn carry_out<D: Disk>(
     ensures sizes { IfOk result (λ made. WhereTold (HasSizes made) (D.content disk.new)) }
 {
     if disk.length(ROOT)? != 4096 {
-        return Err(RewriteRefusal::Short);
+        return Err(RewriteRefusal::DiskFault);
     }
     rewrite(disk, Slot::Second, root, plans, number)
 }

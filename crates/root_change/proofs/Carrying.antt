@@ -1,29 +1,35 @@
 -- What carrying out plans promises, by how it ends.
-use Rattle.std.specs.Prelude.{◌≡◌, ℕ, ◌-◌, List, Option, Some, None, Result, Ok, Err}
+use Rattle.std.specs.Prelude.{◌≡◌, ℕ, ◌-◌, List, Option, Some, None, Result, Ok, Err, refl}
 use Rattle.std.specs.Result.{IsErrAnd}
-use Rattle.std.proofs.Common.{sym, subst, inl, inr, arith}
+use Rattle.std.proofs.Common.{◌∙◌, sym, ap, subst, inl, inr, arith}
 use Rattle.arch_base.specs.Counts.{Rose, HasCause, RoseIf}
-use Rattle.disk_model.specs.Disk.{Files, Content, Image, Told, WhereTold, Unchanged, LeavesOnly}
-use Rattle.disk_model.specs.Beside.{Bounds, Beside, WentBeside, RunsBeside}
+use Rattle.disk_model.specs.Disk.{Content, File, Files, Image, LeavesOnly, Told, Unchanged, WhereTold, bytes_of}
+use Rattle.disk_model.specs.Beside.{Beside, Bounds, RunsBeside, WentBeside}
 use Rattle.disk_model.specs.Moments.{weaker}
+use Rattle.disk_model.specs.Tells.{told_then}
 use Rattle.root_slots.specs.declared.root.Root.{Root}
+use Rattle.root_slots.specs.RootName.{root_name}
+use Rattle.root_slots.specs.Between.{RunsBetween, joined_between}
+use Rattle.root_slots.specs.Slots.{HasNewRoot, with_root}
 use Rattle.root_slots.specs.Valid.{IsRoot, RootFits}
 use Rattle.root_change.specs.declared.rewriting.RewriteRefusal.{RewriteRefusal}
 use Rattle.root_change.specs.declared.rewriting.RewriteRefusal.TheVariants.{DiskFault, Short}
 use Rattle.root_change.specs.Names.{bounds_of}
 use Rattle.root_change.specs.Parts.{Parts, texts_of, IsOwn}
 use Rattle.root_change.specs.Replacing.{ToReplace, StandsForEither}
-use Rattle.root_change.specs.Rewriting.{Plan, CarriesOut, IsFailed, IsRootAfter, IsShort, MayCarryAll, RecoversPlanned, rewritten}
+use Rattle.root_change.specs.Rewriting.{Plan, CarriesOut, IfShort, IsFailed, IsPlannedPart, IsRootAfter, IsShort, MayCarryAll, RecoversPlanned, rewritten}
 use Rattle.root_change.specs.Parts.{RecoversBy}
 use Rattle.root_change.specs.Texts.{Texts, OnDisk}
 use Rattle.root_change.specs.Writing.{WritesPlans}
 use Rattle.root_change.proofs.Changes.{writing_by, changing_by, to_replace, changed}
+use Rattle.root_change.proofs.Phases.{beside_between, beside_went}
 use Rattle.root_change.proofs.Rewritten.{reading, reads_told, becomes_told, fit_told}
+use Rattle.root_change.proofs.Written.{part_isnt_root, short_handed}
 
 -- A refusal is the same whatever the call returns otherwise.
 short_as : (refusal : RewriteRefusal) → IsShort {T = Root} (Err refusal) → IsShort {T = Unit {0}} (Err refusal)
 short_as DiskFault short = absurd short
-short_as Short short = tt
+short_as (Short file at) short = tt
 
 whole_as : (refusal : RewriteRefusal) (k : Option Content) → WhereTold (λ (c : Content). IsShort {T = Unit {0}} (Err refusal) → ⊥) k → WhereTold (λ (c : Content). IsShort {T = Root} (Err refusal) → ⊥) k
 whole_as refusal None whole = tt
@@ -31,7 +37,7 @@ whole_as refusal (Some k) whole = λ short. whole (short_as refusal short)
 
 rose_as : (refusal : RewriteRefusal) (m n : ℕ) → RoseIf (IsFailed {T = Unit {0}} (Err refusal)) m n → RoseIf (IsFailed {T = Root} (Err refusal)) m n
 rose_as DiskFault m n rose = rose
-rose_as Short m n rose = rose
+rose_as (Short file at) m n rose = rose
 
 -- A fault after calls without one.
 pub later_fault : {T E : Type 0} (before mid now : ℕ) (fault : E) → mid ≡ before → HasCause {T = T} mid now (Err fault) → RoseIf (Unit {0}) before now
@@ -55,58 +61,63 @@ not_short None = tt
 not_short (Some k) = λ short. short
 
 module _ {D : Type 0} (content : D → Option Content) (moment : D → ℕ) (left_since : D → ℕ → Files → Type 0) (faults : D → ℕ) (disk d : D) (old : Root) (free : ℕ) (plans : List Plan) (number : ℕ) where
-  -- Where something is short the disk doesn't tell its content.
-  short_image : (IsSo : Type 0) (k : Option Content) (image : Files) → WhereTold (λ (c : Content). IsSo → ⊥) k → IsSo → Image k image
-  short_image IsSo None image whole short = tt
-  short_image IsSo (Some k) image whole short = absurd (whole short)
-
-  short_unchanged : (IsSo : Type 0) (bounds : Bounds) (k m : Option Content) → WhereTold (λ (c : Content). IsSo → ⊥) k → IsSo → Told (WentBeside bounds) k m → Told Unchanged k m
-  short_unchanged IsSo bounds None None whole short went = tt
-  short_unchanged IsSo bounds None (Some m) whole short went = absurd went
-  short_unchanged IsSo bounds (Some k) m whole short went = absurd (whole short)
-
   failed_now : (refusal : RewriteRefusal) → ((parts : Parts) → IsOwn old free parts (content disk) → LeavesOnly moment left_since disk d (RecoversPlanned old plans number parts)) → RunsBeside content moment left_since (bounds_of old) disk d → WhereTold (λ (c : Content). IsShort {T = Root} (Err refusal) → ⊥) (content disk)
-      → RoseIf (IsFailed {T = Root} (Err refusal)) (faults disk) (faults d) → CarriesOut content moment left_since faults disk d old free plans number (Err refusal)
-  failed_now refusal leaves run whole rose = record {
+      → IfShort {T = Root} (Err refusal) (IsPlannedPart old plans) → RoseIf (IsFailed {T = Root} (Err refusal)) (faults disk) (faults d) → CarriesOut content moment left_since faults disk d old free plans number (Err refusal)
+  failed_now refusal leaves run whole told rose = record {
     any_moment = leaves;
     done = λ parts own. tt;
     whole = whole;
-    short = λ short. (
-      short_unchanged (IsShort {T = Root} (Err refusal)) (bounds_of old) (content disk) (content d) whole short run.told,
-      weaker moment left_since disk d (Beside (bounds_of old) (content disk)) (Image (content disk)) run.moments (λ image beside. short_image (IsShort {T = Root} (Err refusal)) (content disk) image whole short),
-    );
+    short = told;
     settled = tt;
     root_is = tt;
     valid = tt;
     sizes = tt;
     cause = rose;
+    rooted = tt;
+    between = beside_between content moment left_since old disk d run;
+    beside = λ short. run;
   }
 
   -- The plans weren't carried out: what a crash leaves stands for the old parts.
-  pub writing_failed : (new : Root) (result : Result Root RewriteRefusal) (refusal : RewriteRefusal) → IsErrAnd result (λ r. r ≡ refusal) → RunsBeside content moment left_since (bounds_of old) disk d → WhereTold (λ (c : Content). IsShort {T = Unit {0}} (Err refusal) → ⊥) (content disk) → RoseIf (IsFailed {T = Unit {0}} (Err refusal)) (faults disk) (faults d)
+  pub writing_failed : (new : Root) (result : Result Root RewriteRefusal) (refusal : RewriteRefusal) → IsErrAnd result (λ r. r ≡ refusal) → RunsBeside content moment left_since (bounds_of old) disk d → WhereTold (λ (c : Content). IsShort {T = Unit {0}} (Err refusal) → ⊥) (content disk) → IfShort {T = Unit {0}} (Err refusal) (IsPlannedPart old plans) → RoseIf (IsFailed {T = Unit {0}} (Err refusal)) (faults disk) (faults d)
       → CarriesOut content moment left_since faults disk d old free plans number result
-  writing_failed new (Ok made) refusal is run whole rose = absurd is
-  writing_failed new (Err r) refusal is run whole rose =
+  writing_failed new (Ok made) refusal is run whole told rose = absurd is
+  writing_failed new (Err r) refusal is run whole told rose =
       subst (λ (x : RewriteRefusal). CarriesOut content moment left_since faults disk d old free plans number (Err x)) (sym is)
       (failed_now refusal
       (λ parts own. weaker moment left_since disk d (RecoversBy old parts) (RecoversPlanned old plans number parts) (writing_by free old new parts (rewritten old plans parts) content moment left_since disk d own run) (λ image stands. inl stands))
-      run (whole_as refusal (content disk) whole) (rose_as refusal (faults disk) (faults d) rose))
+      run (whole_as refusal (content disk) whole) (short_handed {T = Root} (IsPlannedPart old plans) (IsPlannedPart old plans) (Err refusal) refusal (λ file at part. part) refl told) (rose_as refusal (faults disk) (faults d) rose))
 
   -- The disk failed while the root was replaced.
-  pub replacing_failed : (result : Result Root RewriteRefusal) → IsErrAnd result (λ r. r ≡ DiskFault) → ((parts : Parts) → IsOwn old free parts (content disk) → LeavesOnly moment left_since disk d (RecoversPlanned old plans number parts)) → RoseIf (Unit {0}) (faults disk) (faults d)
+  pub replacing_failed : (result : Result Root RewriteRefusal) → IsErrAnd result (λ r. r ≡ DiskFault) → ((parts : Parts) → IsOwn old free parts (content disk) → LeavesOnly moment left_since disk d (RecoversPlanned old plans number parts)) → RoseIf (Unit {0}) (faults disk) (faults d) → RunsBetween content moment left_since disk d
       → CarriesOut content moment left_since faults disk d old free plans number result
-  replacing_failed (Ok made) is leaves rose = absurd is
-  replacing_failed (Err r) is leaves rose = subst (λ (x : RewriteRefusal). CarriesOut content moment left_since faults disk d old free plans number (Err x)) (sym is) (record {
+  replacing_failed (Ok made) is leaves rose between = absurd is
+  replacing_failed (Err r) is leaves rose between = subst (λ (x : RewriteRefusal). CarriesOut content moment left_since faults disk d old free plans number (Err x)) (sym is) (record {
     any_moment = leaves;
     done = λ parts own. tt;
     whole = not_short (content disk);
-    short = λ short. absurd short;
+    short = tt;
     settled = tt;
     root_is = tt;
     valid = tt;
     sizes = tt;
     cause = rose;
+    rooted = tt;
+    between = between;
+    beside = λ short. absurd short;
   })
+
+-- The bytes of the root file between its gates and its bodies, while plans are carried out and the root is replaced.
+pub planned_between : {D : Type 0} (content : D → Option Content) (moment : D → ℕ) (left_since : D → ℕ → Files → Type 0) (old : Root) (disk d1 d2 : D) → RunsBeside content moment left_since (bounds_of old) disk d1 → RunsBetween content moment left_since d1 d2 → RunsBetween content moment left_since disk d2
+planned_between content moment left_since old disk d1 d2 run replaces =
+    joined_between content moment left_since disk d1 d2 (beside_between content moment left_since old disk d1 run) (beside_went old (content disk) (content d1) run.told) replaces
+
+-- No plan is written to the root file, so it has only the new root then.
+pub planned_rooted : (old new : Root) (plans : List Plan) (free : ℕ) (body : List ℕ) (k m o : Option Content) → MayCarryAll old plans → Told (WritesPlans old new plans) k m → Told (HasNewRoot free body) m o → Told (HasNewRoot free body) k o
+planned_rooted old new plans free body k m o may wrote rooted =
+    told_then (WritesPlans old new plans) (HasNewRoot free body) (HasNewRoot free body) k m o
+    (λ a b c is told one two. two ∙ ap (λ (f : File). Some (with_root free body (bytes_of f))) (one.others root_name (λ i plan here same. part_isnt_root new plan.kind plan.number (may.each i plan here).part (sym same))))
+    wrote rooted
 
 -- Plans were carried out, and the root is replaced.
 module _ (old new : Root) (plans : List Plan) (number : ℕ) (valid : IsRoot old) (fits : RootFits old) (may : MayCarryAll old plans) (after : IsRootAfter old plans number new) (new_valid : IsRoot new) (new_fits : RootFits new) (free : ℕ) {D : Type 0} (content : D → Option Content) (moment : D → ℕ) (left_since : D → ℕ → Files → Type 0) (disk d1 d2 : D) (run : RunsBeside content moment left_since (bounds_of old) disk d1) (wrote : Told (WritesPlans old new plans) (content disk) (content d1)) (parts : Parts) (own : IsOwn old free parts (content disk)) where

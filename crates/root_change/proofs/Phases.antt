@@ -6,14 +6,15 @@ use Rattle.disk_model.specs.declared.name.FileName.{FileName}
 use Rattle.disk_model.specs.Disk.{File, Files, Sure, Kept, Content, Image, Told, WhereTold, Synced, Fits, ReadsFit, Elapses, LeavesOnly, bytes_of, exact, overlay}
 use Rattle.disk_model.specs.Laws.{FrontOrigin, Fits-Within, Fits-exact, overlay-size}
 use Rattle.disk_model.specs.Synced.{IsSettled}
-use Rattle.disk_model.specs.Moments.{started, goes_on, joined}
+use Rattle.disk_model.specs.Moments.{started, goes_on, joined, weaker}
 use Rattle.root_slots.specs.declared.root.Root.{Root}
 use Rattle.root_slots.specs.RootName.{root_name}
+use Rattle.root_slots.specs.Between.{BetweenStays, RunsBetween, WentBetween, joined_between, looks_between, went_committed, went_synced, went_then}
 use Rattle.root_slots.specs.Each.{IfThere, EachRoot}
 use Rattle.root_slots.specs.Slots.{HasRootSize, Current, HasRoot, Ready, OldOrNew, IsOldOrNew, HasNewRoot, IsCommitted, with_root, body_offset, sequence_of}
 use Rattle.root_slots.specs.Spelling.{spelling}
-use Rattle.disk_model.specs.Tells.{told_where}
-use Rattle.disk_model.specs.Beside.{StaysUpTo, AreBeside, Beside, RunsBeside}
+use Rattle.disk_model.specs.Tells.{told_weaker, told_where}
+use Rattle.disk_model.specs.Beside.{StaysUpTo, AreBeside, Beside, WentBeside, RunsBeside}
 use Rattle.root_change.specs.Names.{names_file, named_end, bounds_of, other_bound, named_none}
 use Rattle.root_change.specs.Texts.{Texts, Fronts, StandsFor, IsOn, OnDisk, Measures, EachFronts, HasLengths, HasSizes, KeepsNamed}
 use Rattle.root_change.specs.Leaving.{ready_has}
@@ -220,6 +221,53 @@ module _ (slot : ℕ) (body : List ℕ) (old new : Root) (in_range : slot < 2) (
   kept_told (Some k) (Some m) (Some n) None p size synced root committed dropped last = absurd dropped
   kept_told (Some k) (Some m) (Some n) (Some o) None size synced root committed dropped last = absurd last
   kept_told (Some k) (Some m) (Some n) (Some o) (Some p) size synced root committed dropped last = kept k m n o p size synced root committed dropped last
+
+-- The root file is that of the commit in the end.
+module _ (slot : ℕ) (body : List ℕ) (old new : Root) where
+  rooted : (k m n o p : Content) → Synced k m → HasNewRoot slot body m n → Dropped IsAny old new n o → Synced o p → HasNewRoot slot body k p
+  rooted k m n o p synced root dropped last =
+      last.seen root_name
+      ∙ (ap (λ (kept_ : Kept). kept_.seen) (dropped.kept root_name refl) ∙ (root ∙ ap (λ (f : File). Some (with_root slot body (bytes_of f))) (synced.seen root_name)))
+
+  pub rooted_told : (k m n o p : Option Content) → Told Synced k m → Told (HasNewRoot slot body) m n → Told (Dropped IsAny old new) n o → Told Synced o p → Told (HasNewRoot slot body) k p
+  rooted_told None None None None None synced root dropped last = tt
+  rooted_told None None None None (Some p) synced root dropped last = absurd last
+  rooted_told None None None (Some o) p synced root dropped last = absurd dropped
+  rooted_told None None (Some n) o p synced root dropped last = absurd root
+  rooted_told None (Some m) n o p synced root dropped last = absurd synced
+  rooted_told (Some k) None n o p synced root dropped last = absurd synced
+  rooted_told (Some k) (Some m) None o p synced root dropped last = absurd root
+  rooted_told (Some k) (Some m) (Some n) None p synced root dropped last = absurd dropped
+  rooted_told (Some k) (Some m) (Some n) (Some o) None synced root dropped last = absurd last
+  rooted_told (Some k) (Some m) (Some n) (Some o) (Some p) synced root dropped last = rooted k m n o p synced root dropped last
+
+-- The bytes between the gates and the bodies, while files other than the root file change.
+pub beside_between : {D : Type 0} (content : D → Option Content) (moment : D → ℕ) (left_since : D → ℕ → Files → Type 0) (root : Root) (old new : D) → RunsBeside content moment left_since (bounds_of root) old new → RunsBetween content moment left_since old new
+beside_between content moment left_since root old new run = weaker moment left_since old new (Beside (bounds_of root) (content old)) (BetweenStays (content old)) run.moments (λ image. stays (content old) image) where
+  stays : (k : Option Content) (image : Files) → Beside (bounds_of root) k image → BetweenStays k image
+  stays None image beside = tt
+  stays (Some k) image beside = record { from = image root_name; fits = beside.each root_name; same = refl }
+
+pub beside_went : (root : Root) (k m : Option Content) → Told (WentBeside (bounds_of root)) k m → Told WentBetween k m
+beside_went root k m went = told_weaker (WentBeside (bounds_of root)) WentBetween k m (λ a b is told one file fits. record { from = file; fits = one.each root_name file fits; same = refl }) went
+
+-- The same while the root is replaced, call by call.
+module _ {D : Type 0} (content : D → Option Content) (moment : D → ℕ) (left_since : D → ℕ → Files → Type 0) (reads_fit : (d : D) → ReadsFit (content d)) (slot : ℕ) (body : List ℕ) (low : slot < 2) (disk d1 : D) where
+  pub sync_between : ((image : Files) → left_since disk (moment disk) image → Image (content disk) image) → Elapses (moment disk) (moment d1) (left_since disk) (left_since d1) (content d1) → ((image : Files) → Image (content d1) image → Image (content disk) image) → RunsBetween content moment left_since disk d1
+  sync_between now time earlier =
+      looks_between content moment left_since disk d1 (goes_on moment left_since disk disk d1 (Image (content disk)) (content d1) (started moment left_since disk (Image (content disk)) now) time earlier)
+
+  module _ (d2 : D) (synced : Told Synced (content disk) (content d1)) (first : RunsBetween content moment left_since disk d1) (commits : RunsBetween content moment left_since d1 d2) where
+    pub commit_between : RunsBetween content moment left_since disk d2
+    commit_between = joined_between content moment left_since disk d1 d2 first (went_synced (content disk) (content d1) (reads_fit disk) synced) commits
+
+    pub drops_between : (new : Root) (d3 : D) → WhereTold HasRootSize (content disk) → length body ≡ 1536 → Told (HasNewRoot slot body) (content d1) (content d2) → Told IsCommitted (content d1) (content d2) → RunsBeside content moment left_since (bounds_of new) d2 d3 → RunsBetween content moment left_since disk d3
+    drops_between new d3 size whole root committed run =
+        joined_between content moment left_since disk d2 d3 commit_between
+        (went_then (content disk) (content d1) (content d2) (went_synced (content disk) (content d1) (reads_fit disk) synced) (went_committed slot body (content d1) (content d2) low whole (reads_fit d1) size1 root committed))
+        (beside_between content moment left_since new d2 d3 run) where
+          size1 : WhereTold HasRootSize (content d1)
+          size1 = told_where Synced HasRootSize HasRootSize (content disk) (content d1) (λ a b is told one was. ap (λ (f : File). length (bytes_of f)) (one.seen root_name) ∙ was) synced size
 
 -- Files that are as long as a root says are so still.
 module _ (root : Root) (k m : Content) (same : KeepsNamed root k m) (long : HasLengths root k) where

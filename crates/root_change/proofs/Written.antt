@@ -12,14 +12,16 @@ use Rattle.disk_model.specs.Disk.{File, Content, Told, WhereTold, IsAtMostLength
 use Rattle.disk_model.specs.Images.{same_or_other}
 use Rattle.disk_model.specs.Name.{kind_index}
 use Rattle.disk_model.specs.Tells.{told_weaker, told_then, told_where}
+use Rattle.root_slots.specs.declared.root.Place.{Place}
 use Rattle.root_slots.specs.declared.root.Root.{Root}
 use Rattle.root_slots.specs.RootName.{root_name}
 use Rattle.root_change.specs.declared.rewriting.RewriteRefusal.{RewriteRefusal}
+use Rattle.root_change.specs.declared.rewriting.RewriteRefusal.TheVariants.{DiskFault, Short}
 use Rattle.root_change.specs.declared.sources.Source.{Source}
 use Rattle.root_change.specs.declared.sources.Source.TheVariants.{Bytes, Range}
 use Rattle.root_change.specs.Gathering.{source_count, source_bytes, gathered, HasSource, PutSources}
 use Rattle.root_change.specs.Names.{named_end, place_of}
-use Rattle.root_change.specs.Rewriting.{Plan, IsPartToPlan, IsPlanFrom, IsShort, IsSourceFrom, IsWithin, MayBeSource, MayCarry, MayCarryAll, file_by, plan_count}
+use Rattle.root_change.specs.Rewriting.{Plan, IfShort, IsPartOf, IsPartToPlan, IsPlanFrom, IsShort, IsSourceFrom, IsWithin, MayBeSource, MayCarry, MayCarryAll, file_by, plan_count}
 use Rattle.root_change.specs.Texts.{HasPartSizes}
 use Rattle.root_change.specs.Writing.{HasPlan, Writes, WritesAlone, WritesPlans}
 use Rattle.root_change.proofs.Drops.{not_both}
@@ -32,6 +34,13 @@ use Rattle.root_change.proofs.Pushes.{each_more}
 -- The file of a part whose kind and number were asked.
 pub file_of_part : (root : Root) (k j : FileKind) (n m : ℕ) (file : FileName) → file ≡ file_by root j m → j ≡ k → m ≡ n → file ≡ file_by root k n
 file_of_part root k j n m file is kind_is number_is = is ∙ (ap (λ (i : FileKind). file_by root i m) kind_is ∙ ap (λ (i : ℕ). file_by root k i) number_is)
+
+-- The file of a plan's part, and its bytes that count, where kind and number were asked.
+pub part_asked : (root : Root) (plan : Plan) (k : FileKind) (n : ℕ) (file : FileName) (place : Place) → k ≡ plan.kind → n ≡ plan.number → file ≡ file_by root k n → place ≡ place_of root k n → IsPartOf root plan file place.length
+part_asked root plan k n file place kind_is number_is file_is place_is = record {
+  file_is = file_of_part root plan.kind k plan.number n file file_is kind_is number_is;
+  at_is = ap (λ (p : Place). p.length) (place_is ∙ (ap (λ (j : FileKind). place_of root j n) kind_is ∙ ap (λ (m : ℕ). place_of root plan.kind m) number_is));
+}
 
 -- Sources without a byte give none.
 none_taken : (n : ℕ) (bytes : List ℕ) → n ≡ 0 → take n bytes ≡ []
@@ -192,3 +201,11 @@ module _ (old new : Root) (plans : List Plan) (may : MayCarryAll old plans) wher
 pub same_refusal : {T : Type 0} (result : Result T RewriteRefusal) (refusal : RewriteRefusal) → IsErrAnd result (λ r. r ≡ refusal) → IsShort result → IsShort {T = Unit {0}} (Err refusal)
 same_refusal (Ok v) refusal is short = absurd short
 same_refusal (Err r) refusal is short = subst (λ (x : RewriteRefusal). IsShort {T = Unit {0}} (Err x)) is short
+
+-- And what is told of a short file still holds.
+pub short_handed : {T : Type 0} (P Q : FileName → ℕ → Type 0) (result : Result T RewriteRefusal) (refusal : RewriteRefusal) → ((file : FileName) (at : ℕ) → P file at → Q file at) → IsErrAnd result (λ r. r ≡ refusal) → IfShort {T = Unit {0}} (Err refusal) P → IfShort result Q
+short_handed P Q (Ok v) refusal weaken is short = absurd is
+short_handed {T} P Q (Err r) refusal weaken is short = subst (λ (x : RewriteRefusal). IfShort {T = T} (Err x) Q) (sym is) (by refusal short) where
+  by : (x : RewriteRefusal) → IfShort {T = Unit {0}} (Err x) P → IfShort {T = T} (Err x) Q
+  by DiskFault told = tt
+  by (Short file at) told = weaken file at told

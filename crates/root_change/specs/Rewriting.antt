@@ -5,11 +5,15 @@ use Rattle.arch_base.specs.Counts.{RoseIf}
 use Rattle.disk_model.specs.declared.name.FileKind.{FileKind}
 use Rattle.disk_model.specs.declared.name.FileKind.TheVariants as kind
 use Rattle.disk_model.specs.declared.name.FileName.{FileName}
-use Rattle.disk_model.specs.Disk.{Files, Content, Image, Told, WhereTold, Unchanged, LeavesOnly}
+use Rattle.disk_model.specs.Beside.{RunsBeside}
+use Rattle.disk_model.specs.Disk.{Files, Content, Told, WhereTold, LeavesOnly}
 use Rattle.disk_model.specs.Sizes.{epoch_count, record_size}
 use Rattle.disk_model.specs.Synced.{IsSettled}
 use Rattle.root_slots.specs.declared.root.Place.{Place}
 use Rattle.root_slots.specs.declared.root.Root.{Root}
+use Rattle.root_slots.specs.Between.{RunsBetween}
+use Rattle.root_slots.specs.Slots.{HasNewRoot}
+use Rattle.root_slots.specs.Spelling.{spelling}
 use Rattle.root_slots.specs.Valid.{IsRoot, no_place}
 use Rattle.root_change.specs.declared.plan.Target.{Target}
 use Rattle.root_change.specs.declared.plan.Target.TheVariants.{Anew, Behind}
@@ -19,7 +23,7 @@ use Rattle.root_change.specs.declared.sources.Source.{Source}
 use Rattle.root_change.specs.declared.sources.Source.TheVariants.{Bytes, Range}
 use Rattle.root_change.specs.Copying.{range_of}
 use Rattle.root_change.specs.Gathering.{source_count}
-use Rattle.root_change.specs.Names.{place_of, named_end}
+use Rattle.root_change.specs.Names.{bounds_of, place_of, named_end}
 use Rattle.root_change.specs.Texts.{Texts, HasSizes}
 use Rattle.root_change.specs.Parts.{Parts, texts_of, RecoversBy, IsOwn}
 
@@ -248,13 +252,31 @@ MapFits old plans number =
 abbrev pub IsShort : {T : Type 0} → Result T RewriteRefusal → Type 0
 IsShort (Ok x) = ⊥
 IsShort (Err DiskFault) = ⊥
-IsShort (Err Short) = Unit {0}
+IsShort (Err (Short file at)) = Unit {0}
+
+-- What holds of the file and the offset with which it is told that a range wasn't whole.
+abbrev pub IfShort : {T : Type 0} → Result T RewriteRefusal → (FileName → ℕ → Type 0) → Type 0
+IfShort (Ok x) P = Unit {0}
+IfShort (Err DiskFault) P = Unit {0}
+IfShort (Err (Short file at)) P = P file at
+
+-- The file of a plan's part by a root, and how many of its bytes count there.
+pub record IsPartOf (root : Root) (plan : Plan) (file : FileName) (at : ℕ) : Type 0 where
+  pub file_is : file ≡ file_by root plan.kind plan.number
+  pub at_is : at ≡ (place_of root plan.kind plan.number).length
+
+-- The same of the part of one of several plans.
+pub record IsPlannedPart (root : Root) (plans : List Plan) (file : FileName) (at : ℕ) : Type 0 where
+  pub index : ℕ
+  pub plan : Plan
+  pub there : slice_get plans index ≡ Some plan
+  pub part : IsPartOf root plan file at
 
 -- The disk failed.
 abbrev pub IsFailed : {T : Type 0} → Result T RewriteRefusal → Type 0
 IsFailed (Ok x) = ⊥
 IsFailed (Err DiskFault) = Unit {0}
-IsFailed (Err Short) = ⊥
+IsFailed (Err (Short file at)) = ⊥
 
 -- Files stand for parts by the old root, or for those after plans by the root after them.
 abbrev pub RecoversPlanned : Root → List Plan → ℕ → Parts → Files → Type 0
@@ -266,7 +288,8 @@ RecoversPlanned root plans number parts image = RecoversBy root parts image
 -- or for those after the plans. After `Ok` the disk is exactly that of the latter by the root that is
 -- returned, and all that reads give is on it. Whatever the disk held, that root is the one after the
 -- plans, and the files are as long as it says. It fails only if the count of faults rose. A disk that
--- tells its content is never found short, and then nothing changes.
+-- tells its content is never found short. On any other the file of a planned part may be: that is told
+-- with the number of bytes that count there, and all that the old root names stays.
 pub record CarriesOut {D : Type 0} (content : D → Option Content) (moment : D → ℕ)
     (left_since : D → ℕ → Files → Type 0) (faults : D → ℕ) (old new : D) (root : Root) (free : ℕ)
     (plans : List Plan) (number : ℕ) (result : Result Root RewriteRefusal) : Type 0 where
@@ -275,10 +298,14 @@ pub record CarriesOut {D : Type 0} (content : D → Option Content) (moment : D 
   pub done : (parts : Parts) → IsOwn root free parts (content old)
       → IfOk result (λ made. IsOwn made (1 - free) (rewritten root plans parts) (content new))
   pub whole : WhereTold (λ (k : Content). IsShort result → ⊥) (content old)
-  pub short : IsShort result → Told Unchanged (content old) (content new)
-      × LeavesOnly moment left_since old new (Image (content old))
+  pub short : IfShort result (IsPlannedPart root plans)
   pub settled : OnOk result (WhereTold IsSettled (content new))
   pub root_is : IfOk result (λ made. IsRootAfter root plans number made)
   pub valid : IfOk result (λ made. IsRoot made)
   pub sizes : IfOk result (λ made. WhereTold (HasSizes made) (content new))
   pub cause : RoseIf (IsFailed result) (faults old) (faults new)
+  -- The root file has that root in the slot, whose gate is open, and is otherwise as it was.
+  pub rooted : IfOk result (λ made. Told (HasNewRoot free (spelling made)) (content old) (content new))
+  -- At each moment its bytes between the gates and the bodies are as before.
+  pub between : RunsBetween content moment left_since old new
+  pub beside : IsShort result → RunsBeside content moment left_since (bounds_of root) old new

@@ -4,7 +4,9 @@ ghost use Rattle.arch_base.specs.Counts.{HasCause};
 ghost use Rattle.disk_model.specs.Disk.{Told, WhereTold, LeavesOnly};
 ghost use Rattle.disk_model.specs.Sizes.{epoch_count};
 ghost use Rattle.disk_model.specs.Synced.{IsSettled};
-ghost use Rattle.root_slots.specs.Slots.{slot_number, HasRootSize};
+ghost use Rattle.root_slots.specs.Between.{RunsBetween};
+ghost use Rattle.root_slots.specs.Slots.{slot_number, HasNewRoot, HasRootSize};
+ghost use Rattle.root_slots.specs.Spelling.{spelling};
 ghost use Rattle.root_slots.specs.Valid.{IsRoot};
 ghost use Rattle.disk_model.specs.Beside.{RunsBeside};
 ghost use Rattle.root_change.specs.Names.{bounds_of};
@@ -93,6 +95,11 @@ pub fn replace_root<D: Disk>(
     // The files that the new root names read as before, whatever the disk held.
     ensures kept { OnOk result
         (Told (KeepsNamed new.now) (D.content disk.old) (D.content disk.new)) }
+    // The root file has the new root in the slot, whose gate is open, and is otherwise as it was.
+    ensures rooted { OnOk result (Told (HasNewRoot (slot_number slot) (spelling new.now))
+        (D.content disk.old) (D.content disk.new)) }
+    // At each moment its bytes between the gates and the bodies are as before.
+    ensures between { RunsBetween D.content D.moment D.left_since disk.old disk.new }
     ensures cause { HasCause (D.faults disk.old) (D.faults disk.new) result }
     ensures count { D.reads disk.new ≡ D.reads disk.old }
 {

@@ -8,7 +8,7 @@ ghost use Rattle.root_slots.specs.Slots.{slot_number};
 ghost use Rattle.root_slots.specs.Valid.{IsRoot};
 ghost use Rattle.root_change.specs.Names.{bounds_of, place_of};
 ghost use Rattle.root_change.specs.Texts.{HasPartSizes};
-ghost use Rattle.root_change.specs.Rewriting.{CarriesOut, IsFailed, IsPartToPlan, IsRootAfter, IsShort, MapFits, MayCarryAll, file_by, map_by, place_by, plan_count};
+ghost use Rattle.root_change.specs.Rewriting.{CarriesOut, IfShort, IsFailed, IsPartOf, IsPartToPlan, IsPlannedPart, IsRootAfter, IsShort, MapFits, MayCarryAll, file_by, map_by, place_by, plan_count};
 ghost use Rattle.root_change.specs.declared.plan.Target.{Target};
 ghost use Rattle.root_change.specs.Writing.{HasPlan, MayWrite, MayWriteAll, SetsPlace, WritesAlone, WritesPlans};
 
@@ -28,8 +28,13 @@ pub enum RewriteRefusal {
     #[error("the disk failed")]
     DiskFault,
     /// A range isn't whole in its file.
-    #[error("a file is too short")]
-    Short,
+    #[error("a file is shorter than {at}")]
+    Short {
+        /// The name of the file.
+        file: FileName,
+        /// The number of bytes that count there by the root.
+        at: u64,
+    },
 }
 
 impl From<DiskFault> for RewriteRefusal {
@@ -134,7 +139,7 @@ fn file_of(root: &Root, kind: FileKind, number: u32) -> FileName
 /// Writes the bytes of a plan to a file, after those that count there by a root.
 ///
 /// All that the root names stays, whatever the call returns. `Short` if a range isn't whole in its
-/// file.
+/// file, with that file.
 fn write_plan<D: Disk>(
     disk: &mut D,
     root: &Root,
@@ -149,6 +154,7 @@ fn write_plan<D: Disk>(
         (Told (WritesAlone root.now plan.now to) (D.content disk.old) (D.content disk.new)) }
     ensures sizes { OnOk result (WhereTold (HasPartSizes root.now) (D.content disk.new)) }
     ensures whole { HasPlan (D.content disk.old) plan.now → IsShort result → ⊥ }
+    ensures short { IfShort result (IsPartOf root.now plan.now) }
     ensures fewest { D.reads disk.old ≤ D.reads disk.new }
     ensures cause { RoseIf (IsFailed result) (D.faults disk.old) (D.faults disk.new) }
 {
@@ -158,7 +164,12 @@ fn write_plan<D: Disk>(
     let end = end_of(root, to);
     let whole = put_sources(disk, plan.bytes(), plan.sources(), to, end)?;
     if !whole {
-        return Err(RewriteRefusal::Short);
+        let kind = plan.kind();
+        let number = plan.number();
+        return Err(RewriteRefusal::Short {
+            file: file_of(root, kind, number),
+            at: place_at(root, kind, number).length,
+        });
     }
     Ok(())
 }
@@ -180,6 +191,7 @@ fn write_plans<D: Disk>(
         (Told (WritesPlans old.now new.now plans.now) (D.content disk.old) (D.content disk.new)) }
     ensures sizes { OnOk result (WhereTold (HasPartSizes old.now) (D.content disk.new)) }
     ensures whole { WhereTold (λ k. IsShort result → ⊥) (D.content disk.old) }
+    ensures short { IfShort result (IsPlannedPart old.now plans.now) }
     ensures fewest { D.reads disk.old ≤ D.reads disk.new }
     ensures cause { RoseIf (IsFailed result) (D.faults disk.old) (D.faults disk.new) }
 {
@@ -197,7 +209,9 @@ fn write_plans<D: Disk>(
 /// nothing.
 ///
 /// `DiskFault` comes only if the count of faults rose. `Short` comes if a range isn't whole in its
-/// file, which never happens on a disk that tells its content.
+/// file, which never happens on a disk that tells its content: it has the file, of a planned part by the
+/// old root, and the number of bytes that count there. That is found while bytes are copied, so some may
+/// be written by then, beside all that the old root names, which stays.
 pub fn rewrite<D: Disk>(
     disk: &mut D,
     slot: Slot,

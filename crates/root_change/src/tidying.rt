@@ -94,6 +94,10 @@ pub fn tidy<D: Disk>(disk: &mut D, root: &Root, names: &[FileName]) -> Result<()
     // And the listed files are tidied: all bytes that count stay.
     ensures tidied { OnOk result (Told (Tidied (Contains names.now) root.now)
         (D.content disk.old) (D.content disk.new)) }
+    // At each moment the root file is as a crash before might have left it, and so are the bytes
+    // that count.
+    ensures beside { RunsBeside D.content D.moment D.left_since (bounds_of root.now)
+        disk.old disk.new }
     ensures cause { HasCause (D.faults disk.old) (D.faults disk.new) result }
     ensures count { D.reads disk.new ≡ D.reads disk.old }
 {

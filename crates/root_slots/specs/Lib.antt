@@ -4,4 +4,5 @@ pub mod Valid
 pub mod Each
 pub mod Slots
 pub mod Sizes
+pub mod Between
 pub mod Laws

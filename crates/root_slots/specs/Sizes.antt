@@ -1,5 +1,5 @@
 -- The lengths of the parts of a root, and where its sequence is.
-use Rattle.std.specs.Prelude.{◌≡◌, ◌<◌, ◌^◌, ◌*◌, ℕ, List, [], ◌∷◌, ◌++◌, length, replicate, ◌-◌}
+use Rattle.std.specs.Prelude.{◌≡◌, ◌<◌, ◌≤◌, ◌^◌, ◌*◌, ℕ, List, [], ◌∷◌, ◌++◌, length, replicate, ◌-◌}
 use Rattle.std.specs.List.{flat_map}
 use Rattle.std.proofs.Common.{arith, length-append}
 use Rattle.std.proofs.lemmas.List.{length-replicate}
@@ -113,6 +113,16 @@ spelling_length r valid count = let size = fields_length r valid count in
       length-append (fields r) (replicate (body_size - length (fields r)) 0),
       length-replicate {A = ℕ} (body_size - length (fields r)) 0,
     )
+
+-- A spelling is never shorter.
+pub spelling_least : (r : Root) → body_size ≤ length (spelling r)
+unfolding spelling
+spelling_least r = omega (
+  arith,
+  length-append (fields r)
+      (replicate (body_size - length (fields r)) 0),
+  length-replicate {A = ℕ} (body_size - length (fields r)) 0,
+)
 
 -- A spelling starts with its root's sequence.
 pub sequence-spelling : (r : Root) → r.sequence < 2 ^ 64 → sequence_of (spelling r) ≡ r.sequence

@@ -114,6 +114,10 @@ abbrev pub HasNewRoot : ℕ → List ℕ → Content → Content → Type 0
 HasNewRoot slot body old new =
     (new root_name).seen ≡ Some (with_root slot body (bytes_of (old root_name).seen))
 
+-- The root file has this body in the first slot, whose gate is open, and is otherwise zeros.
+abbrev pub HasFirstRoot : List ℕ → Content → Type 0
+HasFirstRoot body k = (k root_name).seen ≡ Some (with_root 0 body (replicate root_size 0))
+
 -- After a commit what reads give is on the disk, and every other file reads as before.
 pub record IsCommitted (old new : Content) : Type 0 where
   pub elsewhere : (other : FileName) → other ≢ root_name → (new other).seen ≡ (old other).seen

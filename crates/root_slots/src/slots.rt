@@ -4,6 +4,7 @@ ghost use Rattle.arch_base.specs.Counts.{HasCause};
 ghost use Rattle.disk_model.specs.Disk.{Image, Told, WhereTold, Unchanged, LeavesOnly};
 ghost use Rattle.disk_model.specs.Synced.{Writing, IsWritten};
 ghost use Rattle.root_slots.specs.RootName.{root_name};
+ghost use Rattle.root_slots.specs.Between.{RunsBetween};
 ghost use Rattle.root_slots.specs.Each.{EachRoot};
 ghost use Rattle.root_slots.specs.Spelling.{body_size, spelling};
 ghost use Rattle.root_slots.specs.Valid.{IsRoot};
@@ -111,6 +112,8 @@ pub fn commit<D: Disk>(disk: &mut D, slot: Slot, root: &Root) -> Result<(), Disk
         (D.content disk.old) (D.content disk.new)) }
     ensures whole { OnOk result (length (spelling root.now) ≡ body_size) }
     ensures committed { OnOk result (Told IsCommitted (D.content disk.old) (D.content disk.new)) }
+    // At each moment the bytes between the gates and the bodies are as before.
+    ensures between { RunsBetween D.content D.moment D.left_since disk.old disk.new }
     ensures cause { HasCause (D.faults disk.old) (D.faults disk.new) result }
     ensures count { D.reads disk.new ≡ D.reads disk.old }
 {

@@ -1,7 +1,7 @@
 -- The text that was read is the entry's.
 use Rattle.std.proofs.Common.{◌≡◌, ◌∙◌, ◌<◌, ◌≤◌, arith, sym}
 use Rattle.git_objects.specs.Objects.{blob_id_of}
-use Rattle.epoch_file.proofs.Planned.{commits_other, commits_read, commits_short, ids_differ, ids_same}
+use Rattle.epoch_file.proofs.Planned.{commits_other, commits_read, commits_short, ids_differ, ids_same, lacks_text}
 use Rattle.epoch_file.proofs.planning.commit_read.Goals as goal
 use Rattle.epoch_file.proofs.planning.commit_read.Goals.{then-count-room-via-then-count-room, then-count-room-via-else-count-room+then-ne}
 
@@ -20,6 +20,10 @@ returns-then-count-room-clause-commit g c =
           commits_other c.args.file seen c.args.parent c.in_ok-count.count before after content read c.requires.room (λ same.
           ids_differ w.blob_id.result seen.blob w.ne.result w.ne.ensures w.if-ne.true (w.blob_id.ensures.value ∙ same))
     ]
+
+pub returns-then-count-room-clause-damage : goal.returns-then-count-room-clause-damage
+returns-then-count-room-clause-damage g c =
+    lacks_text c.args.file c.args.seen.now c.args.parent (g.D.Disk.content c.args.disk.now) (returns-then-count-room-clause-commit g c)
 
 pub returns-clause-commit : goal.returns-clause-commit
 returns-clause-commit g c =

@@ -6,7 +6,7 @@ use Rattle.root_change.specs.declared.sources.Source.{Source}
 use Rattle.root_change.specs.Gathering.{PutSources}
 use Rattle.root_change.specs.Names.{bounds_of}
 use Rattle.root_change.proofs.Sizes.{end_respects}
-use Rattle.root_change.proofs.Written.{part_inside, none_written, put_written, sizes_still}
+use Rattle.root_change.proofs.Written.{part_asked, part_inside, none_written, put_written, sizes_still}
 use Rattle.root_change.proofs.rewriting.write_plan.Goals as goal
 
 pub put_sources-requires-clause-inside : goal.put_sources-requires-clause-inside
@@ -27,6 +27,10 @@ pub returns-then-not-whole-clause-beside : goal.returns-then-not-whole-clause-be
 returns-then-not-whole-clause-beside g c =
     let bounds = bounds_of c.args.root.now in
     c.put_sources.ensures.beside bounds (subst (λ (n : ℕ). Respects (bounds c.args.to) n) (sym c.end_of-end.ensures) (end_respects c.args.root.now c.args.to c.requires.to.other))
+
+pub returns-then-not-whole-clause-short : goal.returns-then-not-whole-clause-short
+returns-then-not-whole-clause-short g c =
+    part_asked c.args.root.now c.args.plan.now c.kind-kind.result c.number-number.result c.file_of.result c.place_at.result c.kind-kind.ensures c.number-number.ensures c.file_of.ensures c.place_at.ensures
 
 pub returns-clause-beside : goal.returns-clause-beside
 returns-clause-beside g c =

@@ -5,9 +5,9 @@ use Rattle.disk_model.specs.declared.name.FileName.{FileName}
 use Rattle.disk_model.specs.Disk.{Told}
 use Rattle.disk_model.specs.BesideLaws.{run_started, run_joined}
 use Rattle.root_change.specs.Names.{bounds_of}
-use Rattle.root_change.specs.Rewriting.{IsShort}
+use Rattle.root_change.specs.Rewriting.{IsPartOf, IsPlannedPart, IsShort}
 use Rattle.root_change.specs.Writing.{WritesAlone}
-use Rattle.root_change.proofs.Written.{file_of_part, first_written, next_written, never_short, same_refusal}
+use Rattle.root_change.proofs.Written.{file_of_part, first_written, next_written, never_short, same_refusal, short_handed}
 use Rattle.root_change.proofs.rewriting.write_plans.Goals as goal
 
 pub loop-plan-init : goal.loop-plan-init
@@ -32,6 +32,16 @@ returns-in_err-write_plan-clause-whole g c =
     let i = c.loop-plan.plan-index in
     never_short c.args.old.now c.args.new.now plans c.requires.plans i c.plan-item.result (slice_get_read plans (length plans) i c.plan-item.result refl c.loop-plan-test.true c.plan-item.is) (g.D.Disk.content c.args.disk.now) (g.D.Disk.content c.loop-plan.disk) (IsShort c.from_residual.result) c.loop-plan.invariant.written c.loop-plan.invariant.sizes
     (λ has short. c.in_err-write_plan.ensures.whole has (same_refusal c.from_residual.result c.in_err-write_plan.field-0.0 c.from_residual.ensures.1 short))
+
+pub returns-in_err-write_plan-clause-short : goal.returns-in_err-write_plan-clause-short
+returns-in_err-write_plan-clause-short g c =
+    let old = c.args.old.now in
+    let plans = c.args.plans.now in
+    let i = c.loop-plan.plan-index in
+    let plan = c.plan-item.result in
+    short_handed (IsPartOf old plan) (IsPlannedPart old plans) c.from_residual.result c.in_err-write_plan.field-0.0
+    (λ file at part. record { index = i; plan = plan; there = slice_get_read plans (length plans) i plan refl c.loop-plan-test.true c.plan-item.is; part = part })
+    c.from_residual.ensures.1 c.in_err-write_plan.ensures.short
 
 pub loop-plan-preserved : goal.loop-plan-preserved
 loop-plan-preserved g c =

@@ -37,3 +37,13 @@ pub returns-clause-tidied : goal.returns-clause-tidied
 returns-clause-tidied g c =
     let content = g.D.Disk.content in
     on_ok_weaker c.sync.result (synced_told c.args.root.now (Contains c.args.names.now) (content c.args.disk.now) (content c.tidy_files.new.disk) (content c.sync.new.self) c.in_ok-tidy_files.ensures.tidied) c.sync.ensures.durable
+
+pub returns-clause-beside : goal.returns-clause-beside
+returns-clause-beside g c =
+    let disk = c.args.disk.now in
+    let d1 = c.tidy_files.new.disk in
+    let d2 = c.sync.new.self in
+    let root = c.args.root.now in
+    let content = g.D.Disk.content in
+    run_on content g.D.Disk.moment g.D.Disk.left_since (bounds_of root) disk d1 d2 c.tidy_files.ensures.beside c.sync.ensures.time
+    (sync_told c.sync.result (bounds_of root) (content d1) (content d2) (g.met.D.Disk.reads_fit d1) c.sync.ensures.durable c.sync.ensures.torn)

@@ -3,7 +3,7 @@ use Rattle.std.proofs.Common.{◌≡◌, ap, subst, rules, ℕ, List, Option, So
 use Rattle.std.proofs.lemmas.Result.{err_from_is_err_and}
 use Rattle.disk_model.specs.Disk.{WhereTold}
 use Rattle.root_change.specs.Rewriting.{Plan, plan_count}
-use Rattle.epoch_file.specs.Planning.{Checks, CopiesEntry, KeepsNext, Planned}
+use Rattle.epoch_file.specs.Planning.{Checks, CopiesEntry, KeepsNext, Planned, TellsLack}
 use Rattle.epoch_file.proofs.Planned.{checks_copied, checks_refused, checks_same, keep_copied, keep_refused, keep_same}
 use Rattle.epoch_file.proofs.planning.EpochPlan.keep.Goals as goal
 
@@ -76,3 +76,11 @@ returns-in_ok-made-in-Some-clause-checked g c =
     let made = c.in_ok-made-in-Some.made in
     let was : Planned = record { file = inside.file; changed = inside.changed; end_ = inside.end; parent = inside.parent } in
     subst (λ (old : Planned). WhereTold (Checks old seen (Ok made)) k) c.self.view_is (checks_copied was seen made c.in_ok-commit-in-Some.commit k c.in_ok-commit-in-Some.ensures.commit)
+
+pub returns-in_err-commit-in-Some-clause-damage : goal.returns-in_err-commit-in-Some-clause-damage
+returns-in_err-commit-in-Some-clause-damage g c =
+    let seen = c.args.seen.now in
+    let k = g.D.Disk.content c.args.disk.now in
+    let refusal = c.in_err-commit-in-Some.field-0.0 in
+    let p = err_from_is_err_and c.from_residual-in_err-commit-in-Some.result c.from_residual-in_err-commit-in-Some.ensures.1 in
+    rw (p.1, p.2) (subst (λ (old : Planned). TellsLack old.file seen k refusal) c.self.view_is c.in_err-commit-in-Some.ensures.damage)
