@@ -1,13 +1,15 @@
 -- A purge and an edit: what is planned, and then carried out.
-use Rattle.std.specs.Prelude.{◌≡◌, ◌≢◌, ◌+◌, ◌≤◌, ◌==◌, ◌||◌, nat_lt, not, ℕ, zero, suc, Bool, true, false, if◌then◌else◌, List, [], ◌∷◌, length, Option, Some, None, Result, Ok, Err, refl}
+use Rattle.std.specs.Prelude.{◌≡◌, ◌≢◌, ◌+◌, ◌≤◌, ◌==◌, ◌||◌, nat_lt, not, ℕ, zero, suc, Bool, true, false, if◌then◌else◌, List, [], ◌∷◌, length, Option, Some, None, Result, Ok, Err, OnOk, refl}
 use Rattle.std.specs.List.{AllZip}
 use Rattle.std.specs.Str.{bytes_eq}
 use Rattle.std.proofs.Common.{◌∙◌, sym, ap, subst, arith}
 use Rattle.std.proofs.lemmas.Bool.Decides.{nat_tests}
 use Rattle.std.proofs.lemmas.Option.{same_Some}
+use Rattle.std.proofs.lemmas.Result.{on_ok_weaker}
 use Rattle.arch_base.specs.declared.ids.Id20.{Id20}
 use Rattle.arch_base.specs.Moments.{last_moment}
-use Rattle.disk_model.specs.Disk.{Content, Files, Told, Unchanged, WhereTold}
+use Rattle.disk_model.specs.Disk.{Content, Files, Kept, Told, Unchanged, WhereTold, bytes_of}
+use Rattle.disk_model.specs.Tells.{told_then}
 use Rattle.mail_reader.specs.StorageTexts.{IsStorageText}
 use Rattle.arch_model.specs.Archives.{Entry, Archive, IsFree, in_epoch, live, with_entry, without_entries, without_text}
 use Rattle.arch_model.specs.Delivery.{collision, last_epoch, new_epoch, takes_more}
@@ -17,6 +19,8 @@ use Rattle.arch_model.proofs.Commands.{apart_ids, agrees-alone}
 use Rattle.arch_model.proofs.Purging.{valid_without}
 use Rattle.arch_model.proofs.ValidArchives.{all_weaker, archive_grows, not_before}
 use Rattle.epoch_file.specs.Runs.{OnlyReads}
+use Rattle.root_slots.specs.RootName.{root_name}
+use Rattle.root_slots.specs.Slots.{HasNewRoot, with_root}
 use Rattle.epoch_file.specs.declared.refusal.StoreRefusal.{StoreRefusal}
 use Rattle.epoch_file.specs.declared.refusal.StoreRefusal.TheVariants.{DiskFault, NoMemory, Damaged}
 use Rattle.epoch_store.specs.declared.entries.StoredEntry.{StoredEntry}
@@ -42,6 +46,11 @@ sizes_same v None None same sizes = tt
 sizes_same v None (Some m) same sizes = absurd same
 sizes_same v (Some k) None same sizes = absurd same
 sizes_same v (Some k) (Some m) same sizes = subst (HasSizes v) (sym (one_content k m same)) sizes
+
+-- The root file after a commit, if it reads as before until then.
+pub rooted_since : {T : Type 0} (result : Result T StoreRefusal) (free : ℕ) (body : List ℕ) (k m o : Option Content) → Told Unchanged k m → OnOk result (Told (HasNewRoot free body) m o) → OnOk result (Told (HasNewRoot free body) k o)
+rooted_since result free body k m o same = on_ok_weaker result (told_then Unchanged (HasNewRoot free body) (HasNewRoot free body) k m o
+    (λ a b c is told kept rooted. rooted ∙ ap (λ (it : Kept). Some (with_root free body (bytes_of it.seen))) (kept root_name)) same)
 
 unless_weaker : {T : Type 0} (P Q : Type 0) (result : Result T StoreRefusal) → (P → Q) → UnlessFailed result P → UnlessFailed result Q
 unless_weaker P Q (Ok given) less p = tt

@@ -1,26 +1,33 @@
 -- What a command promises that ended with an error, or that was planned before it was carried out.
 use Rattle.std.specs.Prelude.{◌≡◌, ◌+◌, ◌-◌, ◌≤◌, ◌<◌, ◌^◌, ℕ, List, [], Option, Some, None, Result, Ok, Err, refl}
-use Rattle.std.proofs.Common.{◌∙◌, sym, ap, subst, arith}
+use Rattle.std.proofs.Common.{◌∙◌, sym, ap, subst, inr, arith}
 use Rattle.arch_base.specs.Counts.{RoseIf}
 use Rattle.disk_model.specs.declared.name.FileName.{FileName}
-use Rattle.disk_model.specs.Disk.{Content, Files, Image, LeavesOnly, WhereTold}
+use Rattle.disk_model.specs.Beside.{Beside, Bounds, RunsBeside, WentBeside}
+use Rattle.disk_model.specs.Disk.{Content, Files, Image, LeavesOnly, Told, Unchanged, WhereTold}
 use Rattle.disk_model.specs.Moments.{joined, started, weaker}
 use Rattle.arch_model.specs.Archives.{Archive}
 use Rattle.epoch_file.specs.Runs.{OnlyReads}
 use Rattle.epoch_file.specs.declared.refusal.StoreRefusal.{StoreRefusal}
 use Rattle.epoch_file.specs.declared.refusal.StoreRefusal.TheVariants.{DiskFault, NoMemory, Damaged}
 use Rattle.root_slots.specs.declared.root.Root.{Root}
+use Rattle.root_slots.specs.Between.{RunsBetween, looks_between}
+use Rattle.root_slots.specs.Spelling.{spelling}
 use Rattle.root_change.specs.declared.rewriting.RewriteRefusal.{RewriteRefusal}
 use Rattle.root_change.specs.declared.rewriting.RewriteRefusal.TheVariants as rewrite
+use Rattle.root_change.specs.Names.{bounds_of}
 use Rattle.root_change.specs.Rewriting.{CarriesOut, Plan}
 use Rattle.epoch_store.specs.declared.entries.StoredEntry.{StoredEntry}
+use Rattle.epoch_store.specs.DamagedTexts.{DamageBy, IfDamaged, IsDamageIn}
 use Rattle.epoch_store.specs.Planning.{IsReady, Planning, PlansArchive, PlansUndamaged}
 use Rattle.epoch_store.specs.Promises.{Appends, ChangesStore, ReadsBy, Renews, StaysBy, UndamagedBy, Way, cache_by}
 use Rattle.epoch_store.specs.Stores.{IsStoreWith, IsUndamaged, RecoversOneOf, UnlessFailed, View}
-use Rattle.epoch_store.proofs.CarriedOut.{reads_then, store_back, store_same}
+use Rattle.epoch_store.proofs.CarriedOut.{reads_then, rooted_since, store_back, store_same}
 use Rattle.epoch_store.proofs.Carrying.{carried_leaves, carried_on, carried_store, sizes_carried}
 use Rattle.epoch_store.proofs.FindingTold.{reads_none}
 use Rattle.epoch_store.proofs.Kept.{stands_now}
+use Rattle.epoch_store.proofs.Readying.{read_between}
+use Rattle.epoch_store.proofs.TextDamage.{content_is, short_told}
 
 -- An error before which nothing was written, by one that was asked for.
 pub unless_short : {T : Type 0} {P : Type 0} (why : StoreRefusal) → (◌≡◌ {A = Result T StoreRefusal} (Err why) (Err NoMemory) → P) → IsUndamaged why → UnlessFailed {T = Unit {0}} (Err why) P
@@ -39,6 +46,24 @@ never_short : (v : View) (why : StoreRefusal) (k : Option Content) → WhereTold
 never_short v why None whole = λ a cache store. absurd store
 never_short v why (Some k) whole = λ a cache store. absurd (whole tt)
 
+-- So then the disk was only read.
+short_image : (k : Option Content) (image : Files) → WhereTold (λ (c : Content). Unit {0} → ⊥) k → Image k image
+short_image None image whole = tt
+short_image (Some k) image whole = absurd (whole tt)
+
+short_unchanged : (bounds : Bounds) (k m : Option Content) → WhereTold (λ (c : Content). Unit {0} → ⊥) k → Told (WentBeside bounds) k m → Told Unchanged k m
+short_unchanged bounds None None whole went = tt
+short_unchanged bounds None (Some m) whole went = absurd went
+short_unchanged bounds (Some k) m whole went = absurd (whole tt)
+
+short_reads : {D : Type 0} {content : D → Option Content} {moment : D → ℕ} {left_since : D → ℕ → Files → Type 0} {faults : D → ℕ} {old new : D} (bounds : Bounds) → WhereTold (λ (c : Content). Unit {0} → ⊥) (content old) → RunsBeside content moment left_since bounds old new → faults old ≤ faults new
+    → OnlyReads content moment left_since faults old new
+short_reads {D} {content} {moment} {left_since} {faults} {old} {new} bounds whole run later = record {
+  same = short_unchanged bounds (content old) (content new) whole run.told;
+  any_moment = weaker moment left_since old new (Beside bounds (content old)) (Image (content old)) run.moments (λ image beside. short_image (content old) image whole);
+  later = later;
+}
+
 -- What a crash leaves of the archive on the disk while files are read.
 read_leaves : {D : Type 0} {content : D → Option Content} {moment : D → ℕ} {left_since : D → ℕ → Files → Type 0} {faults : D → ℕ} {old mid : D} (only : OnlyReads content moment left_since faults old mid) (v : View) (cache : List ℕ) (a b : Archive) → IsStoreWith v cache a (content old)
     → LeavesOnly moment left_since old mid (RecoversOneOf cache a [] b)
@@ -49,9 +74,9 @@ module _ {D : Type 0} {content : D → Option Content} {moment : D → ℕ} {lef
   -- An error, by what a crash leaves until then.
   pub stopped : {old new : D} {before after : View} {way : Way} {Makes : Archive → Archive → Type 0} {result : Result (Unit {0}) StoreRefusal} (why : StoreRefusal) → result ≡ Err why
       → ((a b : Archive) (cache : List ℕ) → IsStoreWith before cache a (content old) → before.root.sequence + 1 < 2 ^ 64 → Makes a b → LeavesOnly moment left_since old new (RecoversOneOf cache a (cache_by way cache) b))
-      → after ≡ before → UnlessFailed {T = Unit {0}} (Err why) (StaysBy way content moment left_since faults old new) → UndamagedBy {T = Unit {0}} way before (Err why) (content old) → RoseIf (result ≡ Err DiskFault) (faults old) (faults new) → ReadsBy way (reads old) (reads new)
+      → after ≡ before → UnlessFailed {T = Unit {0}} (Err why) (StaysBy way content moment left_since faults old new) → UndamagedBy {T = Unit {0}} way before (Err why) (content old) → DamageBy why (λ (file : FileName) (at : ℕ). IsDamageIn before file at (content old)) → RoseIf (result ≡ Err DiskFault) (faults old) (faults new) → ReadsBy way (reads old) (reads new) → RunsBetween content moment left_since old new
       → ChangesStore content moment left_since faults reads old new before after way Makes result
-  stopped {old} {new} {before} {after} {way} {Makes} {result} why is run same still sound cause count = subst (λ (r : Result (Unit {0}) StoreRefusal). ChangesStore content moment left_since faults reads old new before after way Makes r) (sym is) (record {
+  stopped {old} {new} {before} {after} {way} {Makes} {result} why is run same still sound told cause count between = subst (λ (r : Result (Unit {0}) StoreRefusal). ChangesStore content moment left_since faults reads old new before after way Makes r) (sym is) (record {
     any_moment = run;
     done = λ a b cache store room made. tt;
     settled = tt;
@@ -63,6 +88,9 @@ module _ {D : Type 0} {content : D → Option Content} {moment : D → ℕ} {lef
     undamaged = sound;
     cause = subst (λ (r : Result (Unit {0}) StoreRefusal). RoseIf (r ≡ Err DiskFault) (faults old) (faults new)) is cause;
     count = count;
+    rooted = tt;
+    between = between;
+    damage = told;
   })
 
   -- Memory ran out before anything was done.
@@ -70,7 +98,8 @@ module _ {D : Type 0} {content : D → Option Content} {moment : D → ℕ} {lef
       → ChangesStore content moment left_since faults reads disk disk before after way Makes result
   unstarted {disk} {before} {after} {way} {Makes} {result} now same is =
       stopped NoMemory is (λ a b cache store room made. started moment left_since disk (RecoversOneOf cache a (cache_by way cache) b) (λ image left. stands_now before cache (cache_by way cache) a b (content disk) image store (now image left))) same
-      (still way) (sound way) (record { later = omega arith; failed = λ fault. absurd (cc (sym is ∙ fault)); kept = λ never. refl }) (count way) where
+      (still way) (sound way) tt (record { later = omega arith; failed = λ fault. absurd (cc (sym is ∙ fault)); kept = λ never. refl }) (count way)
+      (looks_between content moment left_since disk disk (started moment left_since disk (Image (content disk)) now)) where
         still : (way : Way) → StaysBy way content moment left_since faults disk disk
         still Appends = refl
         still Renews = reads_none content moment left_since faults disk now
@@ -85,9 +114,9 @@ module _ {D : Type 0} {content : D → Option Content} {moment : D → ℕ} {lef
 
   module _ {old mid : D} {before : View} (only : OnlyReads content moment left_since faults old mid) where
     -- Planning failed.
-    pub unplanned : {Makes : Archive → Archive → Type 0} {result : Result (Unit {0}) StoreRefusal} (why : StoreRefusal) → result ≡ Err why → PlansUndamaged {T = Unit {0}} before (Err why) (content old) → RoseIf (result ≡ Err DiskFault) (faults old) (faults mid) → reads old ≤ reads mid
+    pub unplanned : {Makes : Archive → Archive → Type 0} {result : Result (Unit {0}) StoreRefusal} (why : StoreRefusal) → result ≡ Err why → PlansUndamaged {T = Unit {0}} before (Err why) (content old) → DamageBy why (λ (file : FileName) (at : ℕ). IsDamageIn before file at (content old)) → RoseIf (result ≡ Err DiskFault) (faults old) (faults mid) → reads old ≤ reads mid
         → ChangesStore content moment left_since faults reads old mid before before Renews Makes result
-    unplanned why is sound cause count = stopped why is (λ a b cache store room made. read_leaves only before cache a b store) refl (unless_any why only) sound cause count
+    unplanned why is sound told cause count = stopped why is (λ a b cache store room made. read_leaves only before cache a b store) refl (unless_any why only) sound told cause count (looks_between content moment left_since old mid only.any_moment)
 
     -- What was planned was carried out, or wasn't.
     pub planned : {new : D} {after : View} {Makes : Archive → Archive → Type 0} {result : Result (Unit {0}) StoreRefusal} (plans : Planning) (next : ℕ) → ((a b : Archive) (cache : List ℕ) → IsStoreWith before cache a (content old) → Makes a b → PlansArchive before.root cache a b plans next)
@@ -106,6 +135,9 @@ module _ {D : Type 0} {content : D → Option Content} {moment : D → ℕ} {lef
       undamaged = λ a cache store. carried.undamaged a cache (still cache a store);
       cause = subst (λ (n : ℕ). RoseIf (result ≡ Err DiskFault) n (faults new)) steady carried.cause;
       count = (let more = carried.count in omega (arith, fewest, more));
+      rooted = rooted_since result after.slot (spelling after.root) (content old) (content mid) (content new) only.same carried.rooted;
+      between = read_between content moment left_since old mid new only.same only.any_moment carried.between;
+      damage = subst (λ (k : Option Content). IfDamaged result (λ (file : FileName) (at : ℕ). IsDamageIn before file at k)) (content_is (content old) (content mid) only.same) carried.damage;
     } where
       still : (cache : List ℕ) (a : Archive) → IsStoreWith before cache a (content old) → IsStoreWith before cache a (content mid)
       still cache a store = store_same before cache a (content old) (content mid) only.same store
@@ -141,6 +173,9 @@ module _ {D : Type 0} {content : D → Option Content} {moment : D → ℕ} {lef
         undamaged = λ a cache store. tt;
         cause = record { later = carried.cause.later; failed = λ fault. absurd (cc fault); kept = λ never. carried.cause.kept (λ wrong. wrong) };
         count = fewest;
+        rooted = carried.rooted;
+        between = carried.between;
+        damage = tt;
       })) where
         Changed : View → Type 0
         Changed after = ChangesStore content moment left_since faults reads old new v after Renews (λ a b. (cache : List ℕ) → IsStoreWith v cache a (content old) → PlansArchive v.root cache a b p next) (Ok tt)
@@ -148,17 +183,16 @@ module _ {D : Type 0} {content : D → Option Content} {moment : D → ℕ} {lef
   -- The disk failed.
   pub carried_failed : {refused : RewriteRefusal} → refused ≡ rewrite.DiskFault → CarriesOut content moment left_since faults old new w.root free plans next (Err refused)
       → ChangesStore content moment left_since faults reads old new v v Renews (λ a b. (cache : List ℕ) → IsStoreWith v cache a (content old) → PlansArchive v.root cache a b p next) (Err DiskFault)
-  carried_failed {refused = rewrite.Short} is carries = absurd (cc is)
+  carried_failed {refused = rewrite.Short file at} is carries = absurd (cc is)
   carried_failed {refused = rewrite.DiskFault} is carries =
       let carried = by_views same free_is plans_are carries in
-      stopped DiskFault refl (λ a b cache store room made. carried_leaves content moment left_since v cache a b p next old store (made cache store) new carried.any_moment) refl tt (λ a cache store. tt)
-      (record { later = carried.cause.later; failed = λ fault. carried.cause.failed tt; kept = λ never. absurd (never refl) }) fewest
+      stopped DiskFault refl (λ a b cache store room made. carried_leaves content moment left_since v cache a b p next old store (made cache store) new carried.any_moment) refl tt (λ a cache store. tt) tt
+      (record { later = carried.cause.later; failed = λ fault. carried.cause.failed tt; kept = λ never. absurd (never refl) }) fewest carried.between
 
-  -- A range was short, so nothing was written.
-  pub carried_short : {refused : RewriteRefusal} {file : FileName} {at : ℕ} → refused ≡ rewrite.Short → CarriesOut content moment left_since faults old new w.root free plans next (Err refused)
+  -- A range was short.
+  pub carried_short : {refused : RewriteRefusal} {file : FileName} {at : ℕ} → refused ≡ rewrite.Short file at → IsReady v.root p.plans next → CarriesOut content moment left_since faults old new w.root free plans next (Err refused)
       → ChangesStore content moment left_since faults reads old new v v Renews (λ a b. (cache : List ℕ) → IsStoreWith v cache a (content old) → PlansArchive v.root cache a b p next) (Err (Damaged file at))
-  carried_short {refused = rewrite.DiskFault} is carries = absurd (cc is)
-  carried_short {refused = rewrite.Short} {file} {at} is carries =
-      let nothing = carries.short tt in
-      unplanned (record { same = nothing.0; any_moment = nothing.1; later = carries.cause.later }) (Damaged file at) refl (never_short v (Damaged file at) (content old) carries.whole)
-      (record { later = carries.cause.later; failed = λ fault. absurd (cc fault); kept = λ never. carries.cause.kept (λ wrong. wrong) }) fewest
+  carried_short {refused} {file} {at} is ready carries =
+      let carried = by_views same free_is plans_are (subst (λ (r : RewriteRefusal). CarriesOut content moment left_since faults old new w.root free plans next (Err r)) is carries) in
+      unplanned (short_reads (bounds_of v.root) carried.whole (carried.beside tt) carried.cause.later) (Damaged file at) refl (never_short v (Damaged file at) (content old) carried.whole) (inr (short_told v p next file at (content old) ready carried.whole carried.short))
+      (record { later = carried.cause.later; failed = λ fault. absurd (cc fault); kept = λ never. carried.cause.kept (λ wrong. wrong) }) fewest

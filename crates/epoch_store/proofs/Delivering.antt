@@ -10,7 +10,9 @@ use Rattle.arch_base.specs.declared.ids.Id20.{Id20}
 use Rattle.disk_model.specs.declared.name.FileKind.{FileKind}
 use Rattle.disk_model.specs.declared.name.FileKind.TheVariants as file_kind
 use Rattle.disk_model.specs.declared.name.FileName.{FileName}
-use Rattle.disk_model.specs.Disk.{File, Kept, Content, Told, WhereTold, OneFile, Wrote, IsAtMostLength, bytes_of, overlay}
+use Rattle.disk_model.specs.Beside.{RunsBeside}
+use Rattle.disk_model.specs.Disk.{File, Files, Kept, Content, Told, WhereTold, OneFile, Wrote, IsAtMostLength, bytes_of, overlay}
+use Rattle.disk_model.specs.Tells.{told_then}
 use Rattle.git_objects.specs.declared.entry_kind.EntryKind.{EntryKind}
 use Rattle.git_objects.specs.declared.entry_kind.EntryKind.TheVariants.{Message, Deletion}
 use Rattle.git_objects.specs.Objects.{blob_id_of, blob_spelling}
@@ -28,12 +30,14 @@ use Rattle.epoch_file.specs.Appending.{front_at, appended, entry_of}
 use Rattle.root_slots.specs.declared.root.Place.{Place}
 use Rattle.root_slots.specs.declared.root.Root.{Root}
 use Rattle.root_slots.specs.RootName.{root_name}
-use Rattle.root_slots.specs.Slots.{HasRootSize}
+use Rattle.root_slots.specs.Between.{RunsBetween, joined_between}
+use Rattle.root_slots.specs.Slots.{HasNewRoot, HasRootSize, with_root}
 use Rattle.root_slots.specs.Valid.{IsRoot, RootFits, PlaceFits, PlaceIsValid, no_place}
-use Rattle.root_change.specs.Names.{map_name, epoch_name, names_file, named_end, named_some}
+use Rattle.root_change.specs.Names.{map_name, epoch_name, names_file, named_end, named_some, bounds_of}
 use Rattle.root_change.specs.Texts.{OnDisk, KeepsNamed}
 use Rattle.root_change.specs.Parts.{texts_of}
 use Rattle.root_change.specs.Changing.{grown, with_epoch, place_after, root_grown}
+use Rattle.root_change.proofs.Phases.{beside_between, beside_went}
 use Rattle.root_change.proofs.Sizes.{end_at_most, overlay_least}
 use Rattle.root_change.proofs.Roots.{none_at_most, equal_or_not, same_test, other_test, after_some, after_none}
 use Rattle.root_change.proofs.Grown.{epoch_isnt_root, map_isnt_root, epoch_isnt_map, epoch_is_named, map_is_named}
@@ -539,3 +543,15 @@ root_beside file at bytes (Some k) (Some l) apart sized one = ap (λ (it : Kept)
 pub root_sized : (v : View) (k : Option Content) → WhereTold (HasSizes v) k → WhereTold HasRootSize k
 root_sized v None sizes = tt
 root_sized v (Some k) sizes = sizes.root
+
+-- A root that is committed after another file was written.
+pub rooted_beside : (file : FileName) (at : ℕ) (bytes : List ℕ) (free : ℕ) (body : List ℕ) (k l m : Option Content) → file ≢ root_name → Told (OneFile file (Wrote at bytes)) k l → Told (HasNewRoot free body) l m → Told (HasNewRoot free body) k m
+rooted_beside file at bytes free body k l m apart one rooted =
+    told_then (OneFile file (Wrote at bytes)) (HasNewRoot free body) (HasNewRoot free body) k l m
+    (λ a b c is told first second. second ∙ ap (λ (it : Kept). Some (with_root free body (bytes_of it.seen))) (first.elsewhere root_name (λ same. apart (sym same))))
+    one rooted
+
+-- The bytes of the root file between its gates and its bodies, while files are written beside a root and it is replaced.
+pub replaced_between : {D : Type 0} (content : D → Option Content) (moment : D → ℕ) (left_since : D → ℕ → Files → Type 0) (root : Root) (disk mid new : D) → RunsBeside content moment left_since (bounds_of root) disk mid → RunsBetween content moment left_since mid new → RunsBetween content moment left_since disk new
+replaced_between content moment left_since root disk mid new run replaces =
+    joined_between content moment left_since disk mid new (beside_between content moment left_since root disk mid run) (beside_went root (content disk) (content mid) run.told) replaces

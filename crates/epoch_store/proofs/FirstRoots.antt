@@ -8,9 +8,10 @@ use Rattle.std.proofs.lemmas.Grind.{common_steps, same_number_lists}
 use Rattle.disk_model.specs.Disk.{File, Files, Content, Told, WhereTold, bytes_of, overlay, ReadsFit}
 use Rattle.disk_model.specs.Laws.{SameOutside, overlay-torn, overlay-size, overlay-inside, overlay_kept}
 use Rattle.disk_model.specs.Synced.{Writing, IsWritten}
+use Rattle.disk_model.specs.Tells.{told_then}
 use Rattle.root_slots.specs.RootName.{root_name}
 use Rattle.root_slots.specs.Each.{IfThere, EachRoot, part_stays, each_writing, each_written, elsewhere_before}
-use Rattle.root_slots.specs.Slots.{HasRootSize, gate, body_offset, body_at, sequence_of, Current, HasRoot, Ready, IsShut, IsShutFile, IsCommitted}
+use Rattle.root_slots.specs.Slots.{HasRootSize, gate, body_offset, body_at, sequence_of, Current, HasRoot, Ready, IsShut, IsShutFile, IsCommitted, HasNewRoot}
 use Rattle.epoch_store.specs.First.{AreZeros, ShutOrFirst}
 use Rattle.root_change.proofs.Roots.{equal_or_not}
 
@@ -166,3 +167,9 @@ first_committed body None (Some m) n a b = absurd a
 first_committed body (Some k) None n a b = absurd a
 first_committed body (Some k) (Some m) None a b = absurd b
 first_committed body (Some k) (Some m) (Some n) a b = record { elsewhere = λ other apart. b.elsewhere other apart ∙ a.elsewhere other apart; settled = b.settled }
+
+-- The root file after both writes.
+pub first_written : (body : List ℕ) (k m n : Option Content) → Told (IsWritten root_name (body_offset 0) body) k m → Told (IsWritten root_name 0 (1 ∷ [])) m n → Told (HasNewRoot 0 body) k n
+first_written body k m n one two =
+    told_then (IsWritten root_name (body_offset 0) body) (IsWritten root_name 0 (1 ∷ [])) (HasNewRoot 0 body) k m n
+    (λ a b c is told first second. second.here ∙ ap (λ (f : File). Some (overlay 0 (1 ∷ []) (bytes_of f))) first.here) one two

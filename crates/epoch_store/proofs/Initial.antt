@@ -19,7 +19,7 @@ use Rattle.root_slots.specs.declared.root.Place.{Place}
 use Rattle.root_slots.specs.declared.root.Root.{Root}
 use Rattle.root_slots.specs.RootName.{root_name}
 use Rattle.root_slots.specs.Each.{IfThere}
-use Rattle.root_slots.specs.Slots.{HasRoot, Ready, IsShutFile, EachShut}
+use Rattle.root_slots.specs.Slots.{HasFirstRoot, HasRoot, Ready, IsShutFile, EachShut}
 use Rattle.root_slots.specs.Spelling.{spelling}
 use Rattle.root_slots.specs.Valid.{PlaceFits, no_place}
 use Rattle.root_change.specs.Names.{names_file}
@@ -114,6 +114,11 @@ owns_empty config (Some k) name valid fit only = record {
 pub only_settled : (config : Config) (k : Option Content) → WhereTold (HasOnly (spelling (first_root_of config))) k → WhereTold IsSettled k
 only_settled config None only = tt
 only_settled config (Some k) only = only.settled
+
+-- Its root file has the first root, and is otherwise zeros.
+pub only_rooted : (config : Config) (k : Option Content) → WhereTold (HasOnly (spelling (first_root_of config))) k → WhereTold (HasFirstRoot (spelling (first_root_of config))) k
+only_rooted config None only = tt
+only_rooted config (Some k) only = only.first
 
 -- Its files have their sizes.
 pub sized_empty : (config : Config) (k : Option Content) → ReadsFit k → WhereTold (HasOnly (spelling (first_root_of config))) k → WhereTold (HasSizes (record { root = first_root_of config; slot = 0; entries = [] })) k

@@ -31,7 +31,7 @@ use Rattle.arch_model.specs.Validity.{IsEntry}
 use Rattle.epoch_store.specs.Stores.{in_file, stored_at, stored_after}
 use Rattle.epoch_store.specs.Damage.{record_of, AreFirst, AreWhole}
 use Rattle.epoch_store.specs.Indexes.{IndexesStored}
-use Rattle.epoch_store.specs.Joined.{Joined, Holds, Held, AreBefore, message_count, entry_seen, IsMessageOf, IsWanted, TextIn, JoinsMessage, JoinsDeletion, JoinsNext, Ends, IsSameText, with_seen, JoinsByText, JoinsAll, AreJoined, StopsAt}
+use Rattle.epoch_store.specs.Joined.{Joined, Holds, Held, AreBefore, message_count, entry_seen, IsMessageOf, IsWanted, TextIn, JoinsMessage, JoinsDeletion, JoinsNext, EndedBy, IsSameText, with_seen, JoinsByText, JoinsAll, AreJoined, StopsAt}
 use Rattle.arch_model.proofs.LiveEntries.{ids-now, live-all, live-one, HasText}
 use Rattle.arch_judge.specs.Indexes.{IsIndex, owner_of, owner_in}
 use Rattle.arch_judge.specs.declared.index.Index.{Index}
@@ -240,7 +240,7 @@ is_taken v index seen o indexed found rs after all holds none =
     cc
 
 -- What a deletion ends.
-pub ends_none : (v : Joined) (index : Index) (seen : Seen) → IndexesStored v.entries index → owner_in index.owners seen.id ≡ None → Held v (λ (all : List Entry). Ends all seen None)
+pub ends_none : (v : Joined) (index : Index) (seen : Seen) → IndexesStored v.entries index → owner_in index.owners seen.id ≡ None → Held v (λ (all : List Entry). EndedBy all seen None)
 ends_none v index seen indexed none rs after all holds number joins = (let wrong : None ≡ Some joins.ended = sym (is_free v index seen indexed none rs after all holds) ∙ joins.live in cc)
 
 module _ (v : Joined) (index : Index) (seen : Seen) (o : Owner) (s : StoredEntry) (indexed : IndexesStored v.entries index) (found : owner_in index.owners seen.id ≡ Some o) (message : IsMessageOf v.entries o.number s) where
@@ -248,12 +248,12 @@ module _ (v : Joined) (index : Index) (seen : Seen) (o : Owner) (s : StoredEntry
   its_blob rs after all holds it = message_is v rs after all o.number s it.entry.text holds message
       (subst (λ (n : ℕ). text_of (live all) n ≡ Some it.entry.text) it.number_is (owner_text (live all) 1 seen.id it.entry (live_ascends 1 0 all holds.first.order) it.is))
 
-  pub ends_one : seen.kind ≡ Deletion → s.seen.blob ≡ seen.blob → Held v (λ (all : List Entry). Ends all seen (Some o.number))
+  pub ends_one : seen.kind ≡ Deletion → s.seen.blob ≡ seen.blob → Held v (λ (all : List Entry). EndedBy all seen (Some o.number))
   ends_one deletion same rs after all holds =
       let it = owns all index seen.id o (index_held v index rs after all indexed holds) found in
       record { deletion = deletion; ended = it.entry; live = it.is; blob = sym (its_blob rs after all holds it) ∙ same; number_is = it.number_is }
 
-  pub ends_other : s.seen.blob ≢ seen.blob → Held v (λ (all : List Entry). Ends all seen None)
+  pub ends_other : s.seen.blob ≢ seen.blob → Held v (λ (all : List Entry). EndedBy all seen None)
   ends_other apart rs after all holds number joins =
       let it = owns all index seen.id o (index_held v index rs after all indexed holds) found in
       let same : it.entry ≡ joins.ended = found_is (owner (live all) seen.id) it.entry joins.ended it.is joins.live in

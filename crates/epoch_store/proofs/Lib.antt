@@ -16,7 +16,7 @@ mod Unique
 mod FirstRoots
 mod Making
 mod Initial
-mod Readying
+pub mod Readying
 mod Opening
 mod Opened
 mod Undamaged
@@ -42,6 +42,7 @@ mod Purged
 mod Finishing
 mod Ranges
 mod CarriedOut
+mod TextDamage
 pub mod Changing
 mod Edited
 mod Losing

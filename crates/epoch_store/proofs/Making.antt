@@ -16,7 +16,7 @@ use Rattle.disk_files.proofs.NameLists.{contains_or_not}
 use Rattle.disk_files.specs.Removing.{Fewer, AreRemoved}
 use Rattle.root_slots.specs.RootName.{root_name}
 use Rattle.root_slots.specs.Each.{IfThere, EachRoot}
-use Rattle.root_slots.specs.Slots.{HasRootSize, Ready, IsShutFile, EachShut, LeavesShut, IsBegun, IsCommitted}
+use Rattle.root_slots.specs.Slots.{HasRootSize, Ready, IsShutFile, EachShut, LeavesShut, IsBegun, IsCommitted, HasNewRoot, with_root}
 use Rattle.epoch_store.specs.First.{first_root_of, AreZeros, ShutOrFirst, MakesRoot, HasOnly}
 
 -- A removal leaves a file missing, or as before.
@@ -87,15 +87,16 @@ module _ (body : List ℕ) (names : List FileName) where
   first_made (Some k) (Some m) (Some n) image removed begun first = first.root
 
   -- The state at the end.
-  pub only_first : (k m n o : Option Content) → WhereTold (AreAllNames names) k → Told (AreRemoved names) k m → Told IsBegun m n → Told IsCommitted n o → ((n ≡ None → ⊥) → EachRoot (Ready 1 body) o) → WhereTold (HasOnly body) o
-  only_first k m n None all removed begun committed ready = tt
-  only_first k m None (Some o) all removed begun committed ready = absurd committed
-  only_first k None (Some n) (Some o) all removed begun committed ready = absurd begun
-  only_first None (Some m) (Some n) (Some o) all removed begun committed ready = absurd removed
-  only_first (Some k) (Some m) (Some n) (Some o) all removed begun committed ready = record {
+  pub only_first : (k m n o : Option Content) → WhereTold (AreAllNames names) k → Told (AreRemoved names) k m → Told IsBegun m n → Told IsCommitted n o → ((n ≡ None → ⊥) → EachRoot (Ready 1 body) o) → Told (HasNewRoot 0 body) n o → WhereTold (HasOnly body) o
+  only_first k m n None all removed begun committed ready written = tt
+  only_first k m None (Some o) all removed begun committed ready written = absurd committed
+  only_first k None (Some n) (Some o) all removed begun committed ready written = absurd begun
+  only_first None (Some m) (Some n) (Some o) all removed begun committed ready written = absurd removed
+  only_first (Some k) (Some m) (Some n) (Some o) all removed begun committed ready written = record {
     roots = ready (λ none. let wrong : Some n ≡ None = none in cc);
     others = λ name apart. committed.elsewhere name apart ∙ (begun.elsewhere name apart ∙ gone name);
     settled = committed.settled;
+    first = written ∙ ap (λ (f : File). Some (with_root 0 body (bytes_of f))) begun.root;
   } where
     gone : (name : FileName) → (m name).seen ≡ None
     gone name = elim (contains_or_not names name) [
@@ -130,14 +131,14 @@ first_step moment left_since content old mid begun new body names (Some k) (Some
 
 -- The state at the end if the last step returns `Ok`.
 pub only_on_ok : {T E : Type 0} (result : Result T E) (body : List ℕ) (names : List FileName) (k m n o : Option Content) → WhereTold (AreAllNames names) k → Told (AreRemoved names) k m → Told IsBegun m n → OnOk result (Told IsCommitted n o)
-    → (EachRoot AreZeros n → OnOk result (EachRoot (Ready 1 body) o)) → OnOk result (WhereTold (HasOnly body) o)
-only_on_ok (Ok v) body names k m n o all removed begun committed ready = only_first body names k m n o all removed begun committed (λ some. ready (zeros body names m n some begun)) where
+    → (EachRoot AreZeros n → OnOk result (EachRoot (Ready 1 body) o)) → OnOk result (Told (HasNewRoot 0 body) n o) → OnOk result (WhereTold (HasOnly body) o)
+only_on_ok (Ok v) body names k m n o all removed begun committed ready written = only_first body names k m n o all removed begun committed (λ some. ready (zeros body names m n some begun)) written where
   zeros : (body : List ℕ) (names : List FileName) (m n : Option Content) → (n ≡ None → ⊥) → Told IsBegun m n → EachRoot AreZeros n
   zeros body names None None some begun = absurd (some refl)
   zeros body names None (Some n) some begun = absurd begun
   zeros body names (Some m) None some begun = absurd begun
   zeros body names (Some m) (Some n) some begun = zeros_each body names (Some m) (Some n) tt (λ none. (let wrong : Some m ≡ None = none in cc)) begun
-only_on_ok (Err e) body names k m n o all removed begun committed ready = tt
+only_on_ok (Err e) body names k m n o all removed begun committed ready written = tt
 
 -- The first root is valid.
 pub first_is_root : (config : Config) → IsConfig config → IsRoot (first_root_of config)

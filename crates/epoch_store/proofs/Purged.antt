@@ -18,9 +18,8 @@ use Rattle.root_slots.specs.declared.root.Root.{Root}
 use Rattle.root_slots.specs.Slots.{slot_number}
 use Rattle.root_slots.specs.Valid.{IsRoot}
 use Rattle.root_slots.specs.declared.slot.Slot.{Slot}
-use Rattle.root_change.specs.Parts.{texts_of}
 use Rattle.root_change.specs.Rewriting.{Plan}
-use Rattle.root_change.specs.Texts.{Measures, Texts}
+use Rattle.root_change.specs.Texts.{Texts}
 use Rattle.arch_model.specs.Archives.{Entry, Archive, is_message, messages}
 use Rattle.arch_model.specs.Validity.{BlobsAgree}
 use Rattle.arch_model.proofs.LiveEntries.{HasText, found-has}
@@ -30,11 +29,9 @@ use Rattle.epoch_file.specs.declared.refusal.StoreRefusal.{StoreRefusal}
 use Rattle.epoch_file.specs.declared.refusal.StoreRefusal.TheVariants.{DiskFault, NoMemory, Damaged}
 use Rattle.epoch_store.specs.declared.entries.StoredEntry.{StoredEntry}
 use Rattle.epoch_store.specs.Files.{epoch_file_of, map_file_of}
-use Rattle.epoch_store.specs.Planning.{AreAnew, AreFrom, ArePlansIn, AreWhole, AreWithin, ClosesAs, ClosesLast, FinishesPlans, GivesNext, IsPlannedUpTo, IsReady, KeepsBut, PicksText, Planning, PlansFirst, PlansLost, PlansOwn, PlansPurge, PlansUndamaged, PlansNext, no_planning, without_current}
-use Rattle.epoch_store.specs.Recovery.{parts_of}
+use Rattle.epoch_store.specs.Planning.{AreAnew, AreFrom, ArePlansIn, AreWithin, ClosesAs, ClosesLast, FinishesPlans, GivesNext, IsPlannedUpTo, IsReady, KeepsBut, PicksText, Planning, PlansFirst, PlansLost, PlansOwn, PlansPurge, PlansUndamaged, PlansNext, no_planning, without_current}
 use Rattle.epoch_store.specs.Stores.{KeptOf, SeesNoDamage, View, IsDiskWith, stored_after, stored_at, without_blob}
 use Rattle.epoch_store.proofs.Finished.{entries_are, finished_without}
-use Rattle.epoch_store.proofs.Parted.{texts_measure}
 use Rattle.epoch_store.proofs.Texts.{kept_found}
 
 -- Before the first entry.
@@ -218,25 +215,15 @@ module _ (v : View) (blob : Id20) (p new : Planning) (map : FileName) (map_is : 
       let all = up_all k cache a text own picks up in
       (finished_without k v cache a own text p all map map_is count count_is new finishes from, entries_are k v cache a own text p all map map_is count count_is new finishes from)
 
-  pub whole_own : (content : Option Content) (T : Type 0) (refusal : StoreRefusal) → (e : StoredEntry) × Contains v.entries e × (e.seen.blob ≡ blob) → WhereTold (PlansFirst v blob (length v.entries) p) content → ((texts : Texts) → Measures v.root texts → AreWhole texts new.plans → SeesNoDamage {T = Unit {0}} (Err refusal)) → PlansUndamaged {T = T} v (Err refusal) content
-  whole_own None T refusal there up undamaged = λ a cache store. absurd store
-  whole_own (Some k) T refusal there up undamaged = λ a cache own.
-      let text = picked v cache a k blob own there in
-      let all = up_all k cache a text.0 own text.1 up in
-      let plans = finished_without k v cache a own text.0 p all map map_is count count_is new finishes from in
-      undamaged (texts_of v.root (parts_of a cache)) (texts_measure v.root a cache own.keeps.valid own.keeps.names own.cache_long) plans.whole
-
 -- What is known once a planner is finished, of a store that was looked into.
-pub record ReadyOf (T : Type 0) (v : View) (root : Root) (p new : Planning) : Type 0 where
+pub record ReadyOf (v : View) (root : Root) (p new : Planning) : Type 0 where
   pub from_inside : AreFrom root new.plans
   pub purge : (blob : Id20) → AllZip KeptOf (without_blob v.entries blob.0) p.entries → PlansLost v.entries blob new.plans → AreWithin root new.plans → PlansPurge v blob new.entries new.plans
   pub own : (blob : Id20) (content : Option Content) → WhereTold (PlansFirst v blob (length v.entries) p) content → PlansOwn v blob new.entries new.plans content
-  pub undamaged : (blob : Id20) (content : Option Content) (refusal : StoreRefusal) → (e : StoredEntry) × Contains v.entries e × (e.seen.blob ≡ blob) → WhereTold (PlansFirst v blob (length v.entries) p) content
-      → (plans : List Plan) → plans ≡ new.plans → ((texts : Texts) → Measures root texts → AreWhole texts plans → SeesNoDamage {T = Unit {0}} (Err refusal)) → PlansUndamaged {T = T} v (Err refusal) content
 
-pub ready_of : (T : Type 0) (v : View) (root : Root) (slot : ℕ) (entries : List StoredEntry) (map : FileName) (p new : Planning) → ◌≡◌ {A = View} (record { root = root; slot = slot; entries = entries }) v → IsRoot root → map ≡ map_file_of root → ArePlansIn v.root p → FinishesPlans p map (root.next - 1) new
-    → ((r : Root) → IsRoot r → map ≡ map_file_of r → ArePlansIn r p → AreFrom r new.plans × AreAnew new.plans × (AreWithin r new.plans → IsReady r new.plans (root.next - 1 + 1))) → ReadyOf T v root p new
-ready_of T v root slot entries map p new view_is valid map_is are finishes ready =
+pub ready_of : (v : View) (root : Root) (slot : ℕ) (entries : List StoredEntry) (map : FileName) (p new : Planning) → ◌≡◌ {A = View} (record { root = root; slot = slot; entries = entries }) v → IsRoot root → map ≡ map_file_of root → ArePlansIn v.root p → FinishesPlans p map (root.next - 1) new
+    → ((r : Root) → IsRoot r → map ≡ map_file_of r → ArePlansIn r p → AreFrom r new.plans × AreAnew new.plans × (AreWithin r new.plans → IsReady r new.plans (root.next - 1 + 1))) → ReadyOf v root p new
+ready_of v root slot entries map p new view_is valid map_is are finishes ready =
     let root_is : root ≡ v.root = ap (λ (u : View). u.root) view_is in
     let are_inside = subst (λ (r : Root). ArePlansIn r p) (sym root_is) are in
     let so = ready root valid map_is are_inside in
@@ -254,6 +241,4 @@ ready_of T v root slot entries map p new view_is valid map_is are finishes ready
         lost = lost;
       };
       own = λ blob content up. plans_own v blob p new map map_so (root.next - 1) count_so finishes from content up;
-      undamaged = λ blob content refusal there up plans plans_are sees. whole_own v blob p new map map_so (root.next - 1) count_so finishes from content T refusal there up
-          (λ texts measures whole. sees texts (subst (λ (r : Root). Measures r texts) (sym root_is) measures) (subst (AreWhole texts) (sym plans_are) whole));
     }

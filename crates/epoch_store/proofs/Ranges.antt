@@ -12,12 +12,10 @@ use Rattle.root_slots.specs.Valid.{no_place}
 use Rattle.root_change.specs.declared.sources.Source.{Source}
 use Rattle.root_change.specs.declared.sources.Source.TheVariants.{Bytes, Range}
 use Rattle.root_change.specs.Names.{map_name, named_end, named_some, place_of}
-use Rattle.root_change.specs.Rewriting.{Plan, IsPartToPlan, IsPlanWhole, IsSourceFrom, IsWholeIn, IsWithin, file_by}
-use Rattle.root_change.specs.Texts.{Measures, Texts}
+use Rattle.root_change.specs.Rewriting.{Plan, IsPartToPlan, IsSourceFrom, IsWithin, file_by}
 use Rattle.root_change.proofs.Grown.{epoch_is_named, map_is_named}
 use Rattle.root_change.proofs.Sizes.{end_at_most}
 use Rattle.epoch_store.specs.Planning.{AreUpTo, AreWithin, IsFrom, IsPlanWithin, IsUpTo}
-use Rattle.epoch_store.proofs.Finished.{part_isnt_root}
 
 -- All bytes of a part count.
 counts_all : (root : Root) (k : FileKind) (n : ℕ) → IsPartToPlan k n → named_end root (file_by root k n) ≡ (place_of root k n).length
@@ -33,12 +31,6 @@ source_within : (root : Root) (file : FileName) (s : Source) (end_ : ℕ) → Is
 source_within root file (Bytes offset count) end_ own is up = tt
 source_within root file (Range range) end_ own is up = subst (λ (f : FileName). range.offset + range.count ≤ named_end root f) (sym own) (omega (arith, is, up))
 
-source_up : (texts : Texts) (file : FileName) (bytes : List ℕ) (s : Source) (end_ : ℕ) → IsSourceFrom file s → length (texts file) ≡ end_ → IsWholeIn bytes texts s → IsUpTo end_ s
-source_up texts file bytes (Bytes offset count) end_ own is whole = tt
-source_up texts file bytes (Range range) end_ own is whole =
-    let there : range.offset + range.count ≤ length (texts file) = subst (λ (f : FileName). range.offset + range.count ≤ length (texts f)) own whole in
-    omega (arith, there, is)
-
 -- A plan whose ranges end up to the length of its part.
 module _ (root : Root) (plan : Plan) (sources : List Source) (place : Place) (k : FileKind) (n : ℕ) (sources_are : sources ≡ plan.sources) (kind_is : k ≡ plan.kind) (number_is : n ≡ plan.number) (place_is : place ≡ place_of root k n) (own : IsFrom root plan) where
   length_is : place.length ≡ named_end root (file_by root plan.kind plan.number)
@@ -48,12 +40,6 @@ module _ (root : Root) (plan : Plan) (sources : List Source) (place : Place) (k 
 
   pub plan_within : AreUpTo sources place.length true → IsPlanWithin root plan
   plan_within up = λ j s found. source_within root (file_by root plan.kind plan.number) s place.length (own.1 j s found) length_is (up j s (ap (λ (l : List Source). slice_get l j) sources_are ∙ found))
-
-  pub plan_past : AreUpTo sources place.length false → (texts : Texts) → Measures root texts → IsPlanWhole texts plan → ⊥
-  plan_past none texts measures whole =
-      let file = file_by root plan.kind plan.number in
-      none (λ j s found.
-      (let there = sym (ap (λ (l : List Source). slice_get l j) sources_are) ∙ found in source_up texts file plan.bytes s place.length (own.1 j s there) (measures file (part_isnt_root root plan.kind plan.number own.0) ∙ sym length_is) (whole j s there)))
 
 -- The plans so far have ranges that lie in the bytes that count.
 abbrev pub WithinBefore : Root → List Plan → ℕ → Type 0

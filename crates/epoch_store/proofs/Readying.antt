@@ -1,12 +1,18 @@
 -- The other slot is made ready for the next root.
-use Rattle.std.specs.Prelude.{◌≡◌, ◌≢◌, ◌⊎◌, ◌+◌, ◌-◌, ◌<◌, ◌≤◌, ℕ, zero, suc, true, false, List, length, take, drop, Option, Some, None, refl}
-use Rattle.std.proofs.Common.{◌∙◌, sym, ap, subst, inl, inr, arith}
-use Rattle.disk_model.specs.Disk.{File, Files, Kept, Content, Image, Told, WhereTold, Unchanged, Fits, Within, exact, bytes_of, overlay, ReadsFit}
-use Rattle.disk_model.specs.Laws.{SameOutside, overlay-torn, overlay-inside, Fits-exact, Fits-Within}
+use Rattle.std.specs.Prelude.{◌≡◌, ◌≢◌, ◌⊎◌, ◌+◌, ◌-◌, ◌<◌, ◌≤◌, ℕ, zero, suc, true, false, List, [], ◌∷◌, ◌++◌, length, take, drop, Option, Some, None, refl}
+use Rattle.std.proofs.Common.{◌∙◌, sym, ap, subst, inl, inr, arith, length-append}
+use Rattle.std.proofs.lemmas.List.{length-take-le, take-append-le, take_at, drop_at, drop-drop}
+use Rattle.disk_model.specs.Disk.{File, Files, Kept, Content, Image, Told, WhereTold, Unchanged, Fits, Within, LeavesOnly, exact, bytes_of, overlay, ReadsFit}
+use Rattle.disk_model.specs.Laws.{SameOutside, overlay-torn, overlay-size, overlay-inside, Fits-exact, Fits-Within}
+use Rattle.disk_model.specs.Moments.{weaker}
 use Rattle.disk_model.specs.Synced.{Writing, IsWritten, IsSettled}
+use Rattle.disk_model.specs.Tells.{told_weaker, told_where}
+use Rattle.root_slots.specs.Between.{BetweenStays, RunsBetween, WentBetween, between, between_writing, joined_between, looks_between, went_settled, went_then, went_unchanged, went_written}
 use Rattle.root_slots.specs.RootName.{root_name}
 use Rattle.root_slots.specs.Each.{IfThere, EachRoot, part_stays, each_writing, each_written}
-use Rattle.root_slots.specs.Slots.{HasRootSize, IsGateOpen, gate, body_offset, body_at, Current, Ready}
+use Rattle.root_slots.specs.Slots.{HasRootSize, IsGateOpen, gate, body_offset, body_at, with_root, Current, Ready}
+use Rattle.root_change.proofs.Roots.{equal_or_not}
+use Rattle.epoch_store.specs.Opens.{IsOnlySynced}
 use Rattle.epoch_store.specs.Settling.{Rests, StaysCurrent, IsReadied, KeepsSlots, ReadiesSlot}
 
 -- The other slot of the other slot.
@@ -120,21 +126,54 @@ module _ (slot : ℕ) (body : List ℕ) where
 
 -- The slots of a root file that isn't changed, if the other gate is open.
 slots_same : (slot : ℕ) (body a : List ℕ) → gate a (1 - slot) ≡ 1 → KeepsSlots slot body a a
-slots_same slot body a opened = record { size = refl; gates = λ s below. refl; current = refl; other = λ is. refl; filled = λ shut. absurd (shut opened) }
+slots_same slot body a opened = record { opened = λ is. refl; filled = λ shut. absurd (shut opened) }
 
 -- The slots of a root file whose other body was written.
-slots_filled : (slot : ℕ) (body a : List ℕ) → slot < 2 → length body ≡ 1536 → length a ≡ 4096 → gate a (1 - slot) ≢ 1 → KeepsSlots slot body a (overlay (body_offset (1 - slot)) body a)
-unfolding body_at
-slots_filled slot body a low whole size shut =
-    let b = overlay (body_offset (1 - slot)) body a in
-    let same : SameOutside (body_offset (1 - slot)) 1536 a b = subst (λ (n : ℕ). SameOutside (body_offset (1 - slot)) n a b) whole (overlay-torn (body_offset (1 - slot)) body a (omega (arith, size, whole, low))) in
-    record {
-      size = same.size;
-      gates = λ s below. same.bytes s (inl (omega (arith, below)));
-      current = body_kept (body_offset (1 - slot)) 1536 slot a b same (bodies_apart slot low);
-      other = λ opened. absurd (shut opened);
-      filled = λ still. ap (λ (n : ℕ). take n (drop (body_offset (1 - slot)) b)) (sym whole) ∙ overlay-inside (body_offset (1 - slot)) body a (omega (arith, size, low));
-    }
+slots_filled : (slot : ℕ) (body a : List ℕ) → gate a (1 - slot) ≢ 1 → KeepsSlots slot body a (overlay (body_offset (1 - slot)) body a)
+slots_filled slot body a shut = record { opened = λ is. absurd (shut is); filled = λ still. refl }
+
+-- Their file keeps its size.
+pub slots_size : (slot : ℕ) (body a b : List ℕ) → slot < 2 → length body ≡ 1536 → length a ≡ 4096 → KeepsSlots slot body a b → length b ≡ 4096
+slots_size slot body a b low whole size kept = elim (equal_or_not (gate a (1 - slot)) 1) [
+  | inl is ↦ ap length (kept.opened is) ∙ size
+  | inr isnt ↦ ap length (kept.filled isnt) ∙ (overlay-size (body_offset (1 - slot)) body a (omega (arith, size, whole, low)) ∙ size)
+]
+
+-- A range that is written over another one at the same offset leaves nothing of that.
+overlay_over : (at : ℕ) (first second old : List ℕ) → length first ≤ length second → at ≤ length old → overlay at second (overlay at first old) ≡ overlay at second old
+overlay_over at first second old less inside =
+    ap (λ (l : List ℕ). l ++ second ++ drop (at + length second) (overlay at first old)) front
+    ∙ ap (λ (l : List ℕ). take at old ++ second ++ l) back where
+      size : length (take at old) ≡ at
+      size = length-take-le at old inside
+
+      long : length (take at old ++ first) ≡ at + length first
+      long = omega (arith, size, length-append (take at old) first)
+
+      front : take at (overlay at first old) ≡ take at old
+      front = take-append-le at (take at old ++ first) (drop (at + length first) old) (omega (arith, long)) ∙ take_at (take at old) first at size
+
+      more : ℕ
+      more = length second - length first
+
+      count : at + length second ≡ at + length first + more
+      count = omega (arith, less)
+
+      back : drop (at + length second) (overlay at first old) ≡ drop (at + length second) old
+      back =
+          ap (λ (n : ℕ). drop n (overlay at first old)) count
+          ∙ (sym (drop-drop more (at + length first) (overlay at first old))
+          ∙ (ap (drop more) (drop_at (take at old ++ first) (drop (at + length first) old) (at + length first) long)
+          ∙ (drop-drop more (at + length first) old ∙ sym (ap (λ (n : ℕ). drop n old) count))))
+
+-- The next commit writes the other slot whole, so its file is that without the slot made ready.
+pub committed_over : (slot : ℕ) (body next a b : List ℕ) → slot < 2 → length body ≡ 1536 → 1536 ≤ length next → length a ≡ 4096 → KeepsSlots slot body a b → with_root (1 - slot) next b ≡ with_root (1 - slot) next a
+committed_over slot body next a b low whole long size kept = elim (equal_or_not (gate a (1 - slot)) 1) [
+  | inl is ↦ ap (with_root (1 - slot) next) (kept.opened is)
+  | inr isnt ↦
+      ap (with_root (1 - slot) next) (kept.filled isnt)
+      ∙ ap (overlay (1 - slot) (1 ∷ [])) (overlay_over (body_offset (1 - slot)) body next a (omega (arith, whole, long)) (omega (arith, size, low)))
+]
 
 -- The same of disks that may tell their content.
 pub slots_open : (slot : ℕ) (body : List ℕ) (k m : Option Content) → Told Unchanged k m → WhereTold (IsGateOpen (1 - slot) true) k → Told (ReadiesSlot slot body) k m
@@ -146,15 +185,43 @@ slots_open slot body (Some k) (Some m) same opened = record {
   elsewhere = λ other apart. ap (λ (kept : Kept). kept.seen) (same other);
 }
 
-pub slots_written : (slot : ℕ) (body : List ℕ) (k m n : Option Content) → slot < 2 → length body ≡ 1536 → WhereTold HasRootSize k → Told Unchanged k m → WhereTold (IsGateOpen (1 - slot) false) k → Told (IsWritten root_name (body_offset (1 - slot)) body) m n → Told (ReadiesSlot slot body) k n
-slots_written slot body None None None low whole size same shut written = tt
-slots_written slot body None None (Some n) low whole size same shut written = absurd written
-slots_written slot body None (Some m) n low whole size same shut written = absurd same
-slots_written slot body (Some k) None n low whole size same shut written = absurd same
-slots_written slot body (Some k) (Some m) None low whole size same shut written = absurd written
-slots_written slot body (Some k) (Some m) (Some n) low whole size same shut written =
+pub slots_written : (slot : ℕ) (body : List ℕ) (k m n : Option Content) → Told Unchanged k m → WhereTold (IsGateOpen (1 - slot) false) k → Told (IsWritten root_name (body_offset (1 - slot)) body) m n → Told (ReadiesSlot slot body) k n
+slots_written slot body None None None same shut written = tt
+slots_written slot body None None (Some n) same shut written = absurd written
+slots_written slot body None (Some m) n same shut written = absurd same
+slots_written slot body (Some k) None n same shut written = absurd same
+slots_written slot body (Some k) (Some m) None same shut written = absurd written
+slots_written slot body (Some k) (Some m) (Some n) same shut written =
     let is : bytes_of (n root_name).seen ≡ overlay (body_offset (1 - slot)) body (bytes_of (k root_name).seen) = ap bytes_of written.here ∙ ap (λ (kept : Kept). overlay (body_offset (1 - slot)) body (bytes_of kept.seen)) (same root_name) in
     record {
-      slots = subst (λ (bytes : List ℕ). KeepsSlots slot body (bytes_of (k root_name).seen) bytes) (sym is) (slots_filled slot body (bytes_of (k root_name).seen) low whole size shut);
+      slots = subst (λ (bytes : List ℕ). KeepsSlots slot body (bytes_of (k root_name).seen) bytes) (sym is) (slots_filled slot body (bytes_of (k root_name).seen) shut);
       elsewhere = λ other apart. written.elsewhere other apart ∙ ap (λ (kept : Kept). kept.seen) (same other);
     }
+
+-- The size of the root file of a disk that is unchanged.
+size_still : (k m : Option Content) → Told Unchanged k m → WhereTold HasRootSize k → WhereTold HasRootSize m
+size_still k m same size = told_where Unchanged HasRootSize HasRootSize k m (λ a b is told kept was. ap (λ (it : Kept). length (bytes_of it.seen)) (kept root_name) ∙ was) same size
+
+-- The bytes between the gates and the bodies, while the other slot is filled, and then.
+pub fill_went : (slot : ℕ) → slot < 2 → (body : List ℕ) (k m n : Option Content) → length body ≡ 1536 → ReadsFit m → WhereTold HasRootSize k → Told Unchanged k m → Told (IsWritten root_name (body_offset (1 - slot)) body) m n → Told WentBetween k n
+fill_went slot low body k m n whole fit size same written =
+    went_then k m n (went_unchanged k m same)
+    (went_written (body_offset (1 - slot)) body m n (inl (omega arith)) (omega (arith, whole, low)) fit (size_still k m same size) written)
+
+pub fill_between : {D : Type 0} (content : D → Option Content) (moment : D → ℕ) (left_since : D → ℕ → Files → Type 0) (slot : ℕ) → slot < 2 → (disk mid new : D) → ReadsFit (content mid) → WhereTold HasRootSize (content disk) → Told Unchanged (content disk) (content mid) → LeavesOnly moment left_since disk mid (Image (content disk))
+    → LeavesOnly moment left_since mid new (Writing root_name (body_offset (1 - slot)) 1536 (content mid)) → RunsBetween content moment left_since disk new
+fill_between content moment left_since slot low disk mid new fit size same looks writes =
+    joined_between content moment left_since disk mid new (looks_between content moment left_since disk mid looks) (went_unchanged (content disk) (content mid) same)
+    (weaker moment left_since mid new (Writing root_name (body_offset (1 - slot)) 1536 (content mid)) (BetweenStays (content mid)) writes
+    (λ image. between_writing (body_offset (1 - slot)) 1536 (content mid) image (inl (omega arith)) (omega arith) (omega (arith, low)) fit (size_still (content disk) (content mid) same size)))
+
+-- The same while files are read, and in what comes after it.
+pub read_between : {D : Type 0} (content : D → Option Content) (moment : D → ℕ) (left_since : D → ℕ → Files → Type 0) (disk mid new : D) → Told Unchanged (content disk) (content mid) → LeavesOnly moment left_since disk mid (Image (content disk)) → RunsBetween content moment left_since mid new → RunsBetween content moment left_since disk new
+read_between content moment left_since disk mid new same looks run =
+    joined_between content moment left_since disk mid new (looks_between content moment left_since disk mid looks) (went_unchanged (content disk) (content mid) same) run
+
+-- While a disk is synced, and in what comes after it.
+pub synced_between : {D : Type 0} (content : D → Option Content) (moment : D → ℕ) (left_since : D → ℕ → Files → Type 0) (disk mid new : D) → ReadsFit (content disk) → Told IsOnlySynced (content disk) (content mid) → LeavesOnly moment left_since disk mid (Image (content disk)) → RunsBetween content moment left_since mid new → RunsBetween content moment left_since disk new
+synced_between content moment left_since disk mid new fit synced looks run =
+    joined_between content moment left_since disk mid new (looks_between content moment left_since disk mid looks)
+    (told_weaker IsOnlySynced WentBetween (content disk) (content mid) (λ a b is told one. went_settled a b (λ k same. fit k (is ∙ same)) one.settled (ap (λ (f : File). between (bytes_of f)) (one.seen root_name))) synced) run

@@ -20,6 +20,7 @@ use Rattle.root_slots.specs.RootName.{root_name}
 use Rattle.root_slots.specs.Each.{IfThere}
 use Rattle.root_slots.specs.Slots.{slot_number, HasRootSize, Current, HasRoot, body_at}
 use Rattle.root_slots.specs.Slots as slots
+use Rattle.root_slots.specs.Sizes.{spelling_length}
 use Rattle.root_slots.specs.Spelling.{spelling}
 use Rattle.root_slots.specs.Valid.{no_place}
 use Rattle.root_change.specs.Names.{named_end, named_some}
@@ -35,13 +36,14 @@ use Rattle.epoch_store.specs.Finding.{Finds, IsFoundIn, IsCurrentRoot, IsDamaged
 use Rattle.epoch_store.specs.Joined.{AreBefore}
 use Rattle.epoch_store.specs.Laws.{RecoversOne}
 use Rattle.epoch_store.specs.Openings.{archive_of, HasMap, OpenedRecovers, RecoversUndamaged}
-use Rattle.epoch_store.specs.Opens.{RecoversOfWith, AllRecoverWith, ReadsWith, Opens, IsWant, IsOnlySynced, SyncsBy, RefusesBefore, OnSynced}
+use Rattle.epoch_store.specs.Opens.{RecoversOfWith, AllRecoverWith, ReadsWith, Opens, OpensNone, IsWant, IsOnlySynced, SyncsBy, RefusesBefore, OnSynced}
 use Rattle.epoch_store.specs.Reads.{HasTexts}
 use Rattle.epoch_store.specs.Recovery.{parts_of, RecoversWith, RecoversBy}
 use Rattle.epoch_store.specs.Settling.{IsFound, FoundOn, KeepsSlots, IsSettledBy}
 use Rattle.epoch_store.specs.Stores.{View, IsStoreWith, HasSizes, InEpochs, stored_after}
 use Rattle.epoch_store.proofs.TextsOpened.{fronts-kept, texts-stand}
 use Rattle.epoch_store.proofs.Parted.{parts_front, texts_measure}
+use Rattle.epoch_store.proofs.Readying.{slots_size}
 use Rattle.epoch_store.proofs.UniqueRoots.{root_is_one, not_shut}
 
 -- What is found after a sync is found of the files as they read before it.
@@ -153,6 +155,11 @@ found_archive found cache a k m is r synced =
 abbrev pub view_of : Found → View
 view_of found = record { root = found.root; slot = slot_number found.slot; entries = found.entries.items }
 
+-- Files of which an archive was found can be opened.
+pub opens_found : (found : Found) (k : Option Content) → WhereTold (λ c. IsFoundIn (as_read c) found) k → OpensNone k → ⊥
+opens_found found None is none = none
+opens_found found (Some k) is none = none (view_of found) (record { records = is.records; root = is.root; has = is.has; read = is.read })
+
 -- A file with the bytes that count has at least as many.
 still_long : (root : Root) (name : FileName) (k n : Content) → named_end root name ≤ length (bytes_of (k name).seen) → take (named_end root name) (bytes_of (n name).seen) ≡ take (named_end root name) (bytes_of (k name).seen) → named_end root name ≤ length (bytes_of (n name).seen)
 still_long root name k n long same =
@@ -162,7 +169,10 @@ still_long root name k n long same =
 -- The files have their sizes at the end, with or without a cache.
 sized_so : (found : Found) (k n : Content) → IsFoundIn (as_read k) found → IsSettledBy found.root (slot_number found.slot) k n → HasSizes (view_of found) n
 sized_so found k n is kept = record {
-  root = kept.slots.size ∙ sized_root (slot_number found.slot) (spelling found.root) (k root_name).seen is.root.current;
+  root =
+      let slot = slot_number found.slot in
+      let body = spelling found.root in
+      slots_size slot body (bytes_of (k root_name).seen) (bytes_of (n root_name).seen) is.root.in_range (spelling_length found.root is.root.fits.name is.root.fits.count) (sized_root slot body (k root_name).seen is.root.current) kept.slots;
   map_long = map_there;
   epochs_long = λ e below. elim (cases_lt 0 (get_or found.root.epochs e no_place).length) [
     | inl some ↦ epoch_there e below some

@@ -14,9 +14,10 @@ use Rattle.root_change.specs.Rewriting.{Plan}
 use Rattle.root_change.specs.Texts.{Texts}
 use Rattle.arch_model.specs.Archives.{Entry, Archive, in_epoch, without_text}
 use Rattle.epoch_file.specs.Entries.{EpochEntry}
-use Rattle.epoch_file.specs.Planning.{HasNext, IsMoved, IsOfEpoch, KeepsNext, Planned, Stays, texts_in}
+use Rattle.epoch_file.specs.Planning.{HasNext, IsMoved, IsOfEpoch, KeepsNext, LacksText, Planned, Stays, TellsLack, texts_in}
 use Rattle.epoch_file.specs.declared.entry.Seen.{Seen}
 use Rattle.epoch_store.specs.declared.entries.StoredEntry.{StoredEntry}
+use Rattle.epoch_store.specs.DamagedTexts.{DamageBy, IsDamageOf}
 use Rattle.epoch_store.specs.Files.{epoch_file_of}
 use Rattle.epoch_store.specs.Planning.{ArePlansIn, ClosesAs, GivesNext, IsFileIn, IsNoDamage, IsPlanIn, IsPlannedUpTo, KeepsBut, KeepsEntry, LeavesOut, OpensPlan, OpensBy, Planning, RefusesEntry, PlansNext, gone_with, in_files, kept_anew, refusal_in, with_entries, without_current}
 use Rattle.epoch_store.specs.Stores.{KeptOf, in_file, stored_at}
@@ -80,6 +81,18 @@ refuses_entry plan after stored (Some k) refusal keeps = λ es kept e planned_so
 pub refuses_any : (plan : Planned) (stored : StoredEntry) (content : Option Content) (refusal : WalkRefusal) → IsNoDamage refusal → RefusesEntry plan stored content refusal
 refuses_any plan stored None refusal none = tt
 refuses_any plan stored (Some k) refusal none = λ es kept e planned_so next is. none
+
+-- The plan that is opened is that of the file, so the damage of an entry is in it.
+opened_file : (old : Planning) (file : FileName) (current : Option Planned) (mid : Planning) (plan : Planned) → OpensBy old file current mid plan → plan.file ≡ file
+opened_file old file None mid plan by = ap (λ (c : Planned). c.file) by.1
+opened_file old file (Some c) mid plan (inl here) = ap (λ (d : Planned). d.file) here.1 ∙ here.0
+opened_file old file (Some c) mid plan (inr next) = ap (λ (d : Planned). d.file) next.1
+
+pub take_damage : (old : Planning) (file : FileName) (stored : StoredEntry) (content : Option Content) (mid : Planning) (plan : Planned) (refusal : WalkRefusal) → OpensPlan old file mid plan → TellsLack plan.file stored.seen content refusal → DamageBy (refusal_in file refusal) (IsDamageOf file stored content)
+take_damage old file stored content mid plan DiskFault opens lack = tt
+take_damage old file stored content mid plan NoMemory opens lack = tt
+take_damage old file stored content mid plan (Damaged at) opens lack =
+    (refl, lack.0, subst (λ (f : FileName). WhereTold (LacksText f stored.seen) content) (opened_file old file old.current mid plan opens) lack.1)
 
 -- Opening the plan of a file leaves what is kept of the entries.
 closed_entries : (old : Planning) (finished : Option Plan) (new : Planning) → ClosesAs old finished new → new.entries ≡ old.entries

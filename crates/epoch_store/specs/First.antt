@@ -12,7 +12,7 @@ use Rattle.disk_model.specs.Synced.{IsSettled}
 use Rattle.arch_model.specs.Archives.{Archive}
 use Rattle.root_slots.specs.RootName.{root_name}
 use Rattle.root_slots.specs.Each.{IfThere}
-use Rattle.root_slots.specs.Slots.{root_size, Elsewhere, HasRoot, Ready, IsShutFile}
+use Rattle.root_slots.specs.Slots.{root_size, Elsewhere, HasFirstRoot, HasRoot, Ready, IsShutFile}
 use Rattle.epoch_store.specs.Recovery.{Recovers}
 use Rattle.epoch_store.specs.Opens.{IsOnlySynced}
 
@@ -57,12 +57,13 @@ first_root_of config = record {
   cache = no_place;
 }
 
--- A disk has a root of this body in the first slot, the other slot is ready for the next one, there
--- is no other file, and all that reads give is on the disk.
+-- A disk has a root of this body in the first slot of a root file that is otherwise zeros, the other
+-- slot is ready for the next one, there is no other file, and all that reads give is on the disk.
 pub record HasOnly (body : List ℕ) (k : Content) : Type 0 where
   pub roots : (file : File) → Fits (k root_name).sure file → IfThere (Ready 1 body) file
   pub others : (name : FileName) → name ≢ root_name → (k name).seen ≡ None
   pub settled : IsSettled k
+  pub first : HasFirstRoot body k
 
 -- The results of creating an archive, by the root file as it reads: a store if no slot is open, and
 -- otherwise `Exists`.

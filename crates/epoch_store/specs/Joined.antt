@@ -95,9 +95,9 @@ pub record JoinsDeletion (all : List Entry) (seen : Seen) (number : ℕ) : Type 
   pub number_is : ended.number ≡ number
 
 -- The number of the message that a deletion ends, or that it ends none.
-abbrev pub Ends : List Entry → Seen → Option ℕ → Type 0
-Ends all seen (Some number) = JoinsDeletion all seen number
-Ends all seen None = (number : ℕ) → JoinsDeletion all seen number → ⊥
+abbrev pub EndedBy : List Entry → Seen → Option ℕ → Type 0
+EndedBy all seen (Some number) = JoinsDeletion all seen number
+EndedBy all seen None = (number : ℕ) → JoinsDeletion all seen number → ⊥
 
 -- An entry joins others, and an older one with its blob id, if there is one, has the same text.
 abbrev pub JoinsNext : Joined → List Entry → ℕ → Seen → Bool → ℕ → Type 0

@@ -11,6 +11,7 @@ pub mod Settling
 pub mod Openings
 pub mod Finding
 pub mod Reads
+pub mod DamagedTexts
 pub mod Opens
 pub mod Planning
 pub mod Promises

@@ -103,15 +103,31 @@ RefusesBefore (Err (Damaged file at)) old new = Told IsOnlySynced old new
 RefusesBefore (Err DiskFault) old new = Unit {0}
 RefusesBefore (Err NoMemory) old new = Told IsOnlySynced old new
 
--- The disk was synced first: until then a crash leaves what it might have left before, and from then
--- on what stands for the archive as which the files read.
-pub record SyncsFirst {D : Type 0} (content : D → Option Content) (moment : D → ℕ)
-    (left_since : D → ℕ → Files → Type 0) (old new : D) : Type 0 where
+-- Nothing can be opened of what a disk that tells its content reads as: there is no archive, or a
+-- file is damaged.
+abbrev pub OpensNone : Option Content → Type 0
+OpensNone None = ⊥
+OpensNone (Some k) = (v : View) → IsOpenedIn (as_read k) v → ⊥
+
+-- The disk was synced before anything else was done. Until then a crash leaves what it might have left
+-- before, and from then on what is said of the archive as which the files read and of its cache. Where
+-- nothing can be opened it then leaves the files as they read.
+pub record SyncsThen {D : Type 0} (content : D → Option Content) (moment : D → ℕ)
+    (left_since : D → ℕ → Files → Type 0) (leaves : List ℕ → Archive → Files → Type 0) (old new : D)
+    : Type 0 where
   pub synced : D
   pub only : Told IsOnlySynced (content old) (content synced)
   pub before : LeavesOnly moment left_since old synced (Image (content old))
   pub after : (a : Archive) (cache : List ℕ) → ReadsWith cache a (content old)
-      → LeavesOnly moment left_since synced new (λ (image : Files). RecoversWith cache image a)
+      → LeavesOnly moment left_since synced new (leaves cache a)
+  pub none : OpensNone (content old)
+      → LeavesOnly moment left_since synced new (Image (content synced))
+
+-- From the sync on a crash leaves what stands for the archive as which the files read.
+abbrev pub SyncsFirst : {D : Type 0} → (D → Option Content) → (D → ℕ) → (D → ℕ → Files → Type 0) → D
+    → D → Type 0
+SyncsFirst content moment left_since old new =
+    SyncsThen content moment left_since (λ cache a image. RecoversWith cache image a) old new
 
 -- Nothing was done but to sync the disk, or it was synced first.
 abbrev pub SyncsAtMost : {D : Type 0} → (D → Option Content) → (D → ℕ) → (D → ℕ → Files → Type 0) → D

@@ -188,11 +188,6 @@ abbrev pub AreWithin : Root → List Plan → Type 0
 AreWithin root plans = (i : ℕ) (plan : Plan) → slice_get plans i ≡ Some plan
     → IsPlanWithin root plan
 
--- The sources of each plan are whole.
-abbrev pub AreWhole : Texts → List Plan → Type 0
-AreWhole texts plans = (i : ℕ) (plan : Plan) → slice_get plans i ≡ Some plan
-    → IsPlanWhole texts plan
-
 -- A source that is a range ends up to an offset.
 abbrev pub IsUpTo : ℕ → Source → Type 0
 IsUpTo end_ (Bytes offset count) = Unit {0}

@@ -3,6 +3,7 @@ use Rattle.std.specs.Prelude.{◌≡◌, ◌+◌, ◌-◌, ◌<◌, ◌≤◌, �
 use Rattle.arch_base.specs.Counts.{RoseIf}
 use Rattle.arch_base.specs.declared.config.Config.{Config}
 use Rattle.arch_base.specs.declared.ids.Id20.{Id20}
+use Rattle.disk_model.specs.declared.name.FileName.{FileName}
 use Rattle.disk_model.specs.Disk.{Files, Content, Told, WhereTold, LeavesOnly}
 use Rattle.disk_model.specs.Synced.{IsSettled}
 use Rattle.git_objects.specs.Objects.{blob_id_of}
@@ -11,13 +12,17 @@ use Rattle.arch_model.specs.Delivery.{collision, new_epoch}
 use Rattle.arch_model.specs.declared.opening.OpenRefusal.{OpenRefusal}
 use Rattle.arch_model.specs.declared.opening.OpenRefusal.TheVariants as opening
 use Rattle.root_slots.specs.declared.root.Root.{Root}
+use Rattle.root_slots.specs.Between.{RunsBetween}
+use Rattle.root_slots.specs.Slots.{HasFirstRoot, HasNewRoot}
+use Rattle.root_slots.specs.Spelling.{spelling}
 use Rattle.epoch_file.specs.Runs.{OnlyReads}
 use Rattle.epoch_file.specs.declared.refusal.StoreRefusal.{StoreRefusal}
 use Rattle.epoch_file.specs.declared.refusal.StoreRefusal.TheVariants as refusal
 use Rattle.epoch_store.specs.declared.refusal.InitRefusal.{InitRefusal}
 use Rattle.epoch_store.specs.declared.refusal.InitRefusal.TheVariants as making
 use Rattle.epoch_store.specs.Files.{as_read}
-use Rattle.epoch_store.specs.First.{MakingLeaves, MakingAnswers, RefusesToMake}
+use Rattle.epoch_store.specs.First.{MakingAnswers, MakingLeaves, RefusesToMake, first_root_of}
+use Rattle.epoch_store.specs.DamagedTexts.{IfDamaged, IsDamageIn}
 use Rattle.epoch_store.specs.Opens.{RecoversOfWith, AllRecoverWith, ReadsWith, Opens, OpensWell, SyncsFirst, SyncsAtMost, OnSynced}
 use Rattle.epoch_store.specs.Planning.{PlansUndamaged}
 use Rattle.epoch_store.specs.Settling.{IsSettledBy}
@@ -42,13 +47,15 @@ pub record MakesArchive {D : Type 0} (content : D → Option Content) (moment : 
   pub slot : IfOk result (λ (v : View). v.slot ≡ 0)
   pub none : IfOk result (λ (v : View). v.entries ≡ [])
   pub cause : RoseIf (result ≡ Err making.DiskFault) (faults old) (faults new)
+  -- The root file has the first root, and is otherwise zeros.
+  pub rooted : OnOk result (WhereTold (HasFirstRoot (spelling (first_root_of config))) (content new))
 
 -- The archive on a disk is opened, with whatever cache. At each moment a crash leaves an archive
 -- that might have been there before. The answer is by the files as they read, and no archive is
 -- refused but for want of memory or a fault. Once the disk is synced, a crash leaves only the archive
--- as which the files read. After `Ok` the disk is the archive's own. Whatever it
--- held, all bytes that count stay, no other file is left, no root is committed, and all that reads
--- give is on the disk. It fails only if the count of faults rose.
+-- as which the files read, or, where nothing can be opened, the files as they read. After `Ok` the disk
+-- is the archive's own. Whatever it held, all bytes that count stay, no other file is left, no root is
+-- committed, and all that reads give is on the disk. It fails only if the count of faults rose.
 pub record OpensArchive {D : Type 0} (content : D → Option Content) (moment : D → ℕ)
     (left_since : D → ℕ → Files → Type 0) (faults : D → ℕ) (old new : D)
     (result : Result View OpenRefusal) : Type 0 where
@@ -65,6 +72,8 @@ pub record OpensArchive {D : Type 0} (content : D → Option Content) (moment : 
   pub kept : IfOk result (λ (v : View). Told (IsSettledBy v.root v.slot) (content old) (content new))
   pub sizes : IfOk result (λ (v : View). WhereTold (HasSizes v) (content new))
   pub cause : RoseIf (result ≡ Err opening.DiskFault) (faults old) (faults new)
+  -- At each moment the bytes of the root file between its gates and its bodies are as before.
+  pub between : RunsBetween content moment left_since old new
 
 -- How a command changes the files of an archive: it appends to them, or writes some of them anew.
 pub data Way : Type 0 where
@@ -130,7 +139,9 @@ pub record Replaces (blob : Id20) (text : List ℕ) (arrived : ℕ) (a b : Archi
 -- each moment a crash leaves the first archive or the second, and after `Ok` the disk is the latter's
 -- own. On any disk, after `Ok` all that reads give is on the disk, the files that are named have their
 -- sizes, and the root, in the other slot, goes on from the one before. An error leaves what is kept in
--- memory; but for a fault it comes before anything is written. It fails only if the count of faults rose.
+-- memory; but for a fault it comes before anything is written, where the disk tells its content. It fails
+-- only if the count of faults rose. Damage is told with the place of an entry that was kept and whose text
+-- isn't there, or with a file that is shorter than the root says.
 pub record ChangesStore {D : Type 0} (content : D → Option Content) (moment : D → ℕ)
     (left_since : D → ℕ → Files → Type 0) (faults reads : D → ℕ) (old new : D) (before after : View)
     (way : Way) (Makes : Archive → Archive → Type 0) (result : Result (Unit {0}) StoreRefusal)
@@ -150,3 +161,10 @@ pub record ChangesStore {D : Type 0} (content : D → Option Content) (moment : 
   pub undamaged : UndamagedBy way before result (content old)
   pub cause : RoseIf (result ≡ Err refusal.DiskFault) (faults old) (faults new)
   pub count : ReadsBy way (reads old) (reads new)
+  -- The root file has the new root in its slot, whose gate is open, and is otherwise as it was.
+  pub rooted : OnOk result
+      (Told (HasNewRoot after.slot (spelling after.root)) (content old) (content new))
+  -- At each moment its bytes between the gates and the bodies are as before.
+  pub between : RunsBetween content moment left_since old new
+  pub damage : IfDamaged result
+      (λ (file : FileName) (at : ℕ). IsDamageIn before file at (content old))

@@ -3,12 +3,12 @@
 use Rattle.std.specs.Prelude.{◌≡◌, ◌≢◌, ◌-◌, ◌<◌, ◌≤◌, ℕ, false, List, length, take, Option, Some, None, IsSome}
 use Rattle.std.specs.List.{Contains}
 use Rattle.disk_model.specs.declared.name.FileName.{FileName}
-use Rattle.disk_model.specs.Disk.{Files, Content, bytes_of}
+use Rattle.disk_model.specs.Disk.{Files, Content, bytes_of, overlay}
 use Rattle.disk_model.specs.Synced.{IsSettled}
 use Rattle.root_slots.specs.declared.root.Root.{Root}
 use Rattle.root_slots.specs.RootName.{root_name}
 use Rattle.root_slots.specs.Each.{IfThere}
-use Rattle.root_slots.specs.Slots.{Current, Ready, Elsewhere, gate, body_at}
+use Rattle.root_slots.specs.Slots.{Current, Ready, Elsewhere, gate, body_offset}
 use Rattle.root_slots.specs.Spelling.{spelling}
 use Rattle.root_change.specs.Names.{names_file, named_end}
 use Rattle.root_change.specs.Texts.{Texts, StandsFor, Measures, as_read}
@@ -42,14 +42,11 @@ pub record IsReadied (slot : ℕ) (body : List ℕ) (old new : Content) : Type 0
   pub elsewhere : (other : FileName) → other ≢ root_name → (new other).seen ≡ (old other).seen
   pub settled : IsSettled new
 
--- A root file whose gates and whose current body are as before. The other body is as before if its
--- gate is open, and is this one if it is shut.
+-- A root file that is as before if the gate of the other slot is open. If it is shut, that slot has
+-- this body, and all else is as before.
 pub record KeepsSlots (slot : ℕ) (body old new : List ℕ) : Type 0 where
-  pub size : length new ≡ length old
-  pub gates : (s : ℕ) → s < 2 → gate new s ≡ gate old s
-  pub current : body_at new slot ≡ body_at old slot
-  pub other : gate old (1 - slot) ≡ 1 → body_at new (1 - slot) ≡ body_at old (1 - slot)
-  pub filled : gate old (1 - slot) ≢ 1 → body_at new (1 - slot) ≡ body
+  pub opened : gate old (1 - slot) ≡ 1 → new ≡ old
+  pub filled : gate old (1 - slot) ≢ 1 → new ≡ overlay (body_offset (1 - slot)) body old
 
 -- The same of the root file of a disk.
 abbrev pub SlotsKept : ℕ → List ℕ → Content → Content → Type 0

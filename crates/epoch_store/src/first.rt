@@ -3,7 +3,7 @@ ghost use Rattle.std.specs.Prelude.{◌≡◌, ◌≢◌, ◌<◌, ◌≤◌, Er
 ghost use Rattle.arch_base.specs.Counts.{RoseIf, HasCause};
 ghost use Rattle.disk_model.specs.Disk.{Image, Told, WhereTold, Unchanged, Synced, LeavesOnly};
 ghost use Rattle.root_slots.specs.Each.{EachRoot};
-ghost use Rattle.root_slots.specs.Slots.{HasRootSize, Ready, IsCommitted};
+ghost use Rattle.root_slots.specs.Slots.{HasNewRoot, HasRootSize, Ready, IsCommitted};
 ghost use Rattle.root_slots.specs.Spelling.{spelling};
 ghost use Rattle.root_slots.specs.Valid.{IsRoot};
 ghost use Rattle.root_slots.specs.Slots.{EachShut};
@@ -70,6 +70,8 @@ pub fn raise_first<D: Disk>(disk: &mut D, root: &Root) -> Result<(), DiskFault>
     ensures done { EachRoot AreZeros (D.content disk.old) → 0 < root.now.sequence
         → OnOk result (EachRoot (Ready 1 (spelling root.now)) (D.content disk.new)) }
     ensures committed { OnOk result (Told IsCommitted (D.content disk.old) (D.content disk.new)) }
+    ensures written { OnOk result (Told (HasNewRoot 0 (spelling root.now))
+        (D.content disk.old) (D.content disk.new)) }
     ensures cause { HasCause (D.faults disk.old) (D.faults disk.new) result }
     ensures count { D.reads disk.new ≡ D.reads disk.old }
 {

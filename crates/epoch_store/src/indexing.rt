@@ -1,6 +1,6 @@
 //! The index of the entries that are kept.
-ghost use Rattle.std.specs.Prelude.{OnOk};
-ghost use Rattle.arch_judge.specs.Indexes.{Puts};
+ghost use Rattle.std.specs.Prelude.{OnOk, OnErr};
+ghost use Rattle.arch_judge.specs.Indexes.{HasSame, Puts};
 ghost use Rattle.epoch_store.specs.Indexes.{Takes, owner_kept};
 
 use crate::entries::StoredEntry;
@@ -32,8 +32,11 @@ impl Model for IndexedEntries {
 }
 
 /// Adds a message to an index, or removes the own id of a message that an entry ends.
+///
+/// `NoMemory` leaves what the index has.
 pub fn take_entry(alloc: Global, index: &mut Index, entry: &StoredEntry) -> Result<(), NoMemory>
-    ensures { OnOk result (Takes index.old index.new entry.now) }
+    ensures ok { OnOk result (Takes index.old index.new entry.now) }
+    ensures err { OnErr result (HasSame index.old index.new) }
 {
     match entry.seen.kind {
         EntryKind::Message => put_entry(alloc, index, entry),
@@ -46,8 +49,9 @@ pub fn take_entry(alloc: Global, index: &mut Index, entry: &StoredEntry) -> Resu
 
 /// Adds a message to an index. An older entry with its blob id stays.
 fn put_entry(alloc: Global, index: &mut Index, entry: &StoredEntry) -> Result<(), NoMemory>
-    ensures { OnOk result (Puts index.old index.new entry.now.seen.id entry.now.seen.blob
+    ensures ok { OnOk result (Puts index.old index.new entry.now.seen.id entry.now.seen.blob
         (owner_kept entry.now)) }
+    ensures err { OnErr result (HasSame index.old index.new) }
 {
     let id = Vec::from_slice(alloc, entry.seen.id.as_slice())?;
     let owner = Owner {

@@ -8,7 +8,7 @@ ghost use Rattle.epoch_store.specs.Damage.{messages};
 ghost use Rattle.git_objects.specs.declared.entry_kind.EntryKind.TheVariants.{Message, Deletion};
 ghost use Rattle.epoch_file.specs.Runs.{OnlyReads};
 ghost use Rattle.epoch_store.specs.Files.{as_read, epoch_file_of};
-ghost use Rattle.epoch_store.specs.Joined.{Held, Wants, IsMessageOf, Ends, JoinsOne, AreBefore, ComparesText, JoinsByText, TakesEpoch, Finishes, TextIn, with_seen};
+ghost use Rattle.epoch_store.specs.Joined.{Held, Wants, IsMessageOf, EndedBy, JoinsOne, AreBefore, ComparesText, JoinsByText, TakesEpoch, Finishes, TextIn, with_seen};
 ghost use Rattle.epoch_store.specs.declared.join_refusal.JoinRefusal.{JoinRefusal};
 
 use crate::entries::StoredEntry;
@@ -122,7 +122,7 @@ impl Joining {
     fn ended(&self, seen: &Seen) -> Result<Option<u32>, JoinRefusal>
         requires { seen.now.kind ≡ Deletion }
         ensures ended { IfOk result (λ found.
-            Held self.now (λ all. Ends all seen.now found)) }
+            Held self.now (λ all. EndedBy all seen.now found)) }
         ensures refused { IfErr result (λ refusal. refusal ≡ JoinRefusal.NoMemory) }
     {
         let Some(owner) = self.index.owner(seen.id.as_slice()) else {

@@ -8,7 +8,9 @@ ghost use Rattle.root_slots.specs.Valid.{IsRoot};
 ghost use Rattle.root_change.specs.Rewriting.{IsPlan};
 ghost use Rattle.arch_model.specs.Archives.{Archive};
 ghost use Rattle.arch_model.specs.Validity.{IsArchive};
+ghost use Rattle.epoch_file.specs.Planning.{TellsLack};
 ghost use Rattle.epoch_file.specs.Runs.{OnlyReads};
+ghost use Rattle.epoch_store.specs.DamagedTexts.{IfDamaged, IsDamageOf};
 ghost use Rattle.epoch_store.specs.Files.{epoch_file_of, map_file_of};
 ghost use Rattle.epoch_store.specs.Planning.{AppendsRecord, AreAnew, AreFrom, ArePlansIn, AreValid, AreWithin, ChangesNext, Closes, ClosesLast, FinishesPlans, IsIndexOf, IsReady, KeepsBut, KeepsEntry, LeavesOut, OpensPlan, Pushes, RefusesEntry, PlansNext, no_planning, plans_with, refusal_in, with_gone};
 ghost use Rattle.epoch_store.specs.Stores.{InEpochs, IsEnd, stored_after};
@@ -79,8 +81,8 @@ impl Planner {
 
     /// Takes the next entry, which stays unless it has this blob id. `file` is that of its epoch.
     ///
-    /// `Damaged` if the text of an entry that gets another commit has another blob id. The plan is of
-    /// no more use after an error.
+    /// `Damaged`, at the offset of the entry, if the text of one that gets another commit has another
+    /// blob id. The plan is of no more use after an error.
     pub(crate) fn take<D: Disk>(
         &mut self,
         disk: &mut D,
@@ -91,6 +93,7 @@ impl Planner {
         requires epoch { entry.now.epoch ≤ greatest_epoch }
         ensures taken { PlansNext self.old file entry.now blob.now (D.content disk.old) self.new
             result }
+        ensures damage { IfDamaged result (IsDamageOf file entry.now (D.content disk.old)) }
         // Whatever the disk holds.
         ensures kept { OnOk result (KeepsBut (bytes_eq blob.now.0 entry.now.seen.blob.0)
             self.old.entries entry.now self.new.entries) }
@@ -135,6 +138,7 @@ impl Planner {
         ensures kept { OnOk result (KeepsEntry self.old plan entry.now (D.content disk.old) self.new) }
         ensures refused { IfErr result (λ refusal.
             RefusesEntry plan entry.now (D.content disk.old) refusal) }
+        ensures damage { IfErr result (TellsLack plan.file entry.now.seen (D.content disk.old)) }
         ensures reads { OnlyReads D.content D.moment D.left_since D.faults disk.old disk.new }
         ensures fewest { D.reads disk.old ≤ D.reads disk.new }
         ensures cause { RoseIf (result ≡ Err WalkRefusal.DiskFault) (D.faults disk.old)

@@ -5,21 +5,20 @@ ghost use Rattle.arch_base.specs.Counts.{RoseIf};
 ghost use Rattle.arch_base.specs.Moments.{last_moment};
 ghost use Rattle.disk_model.specs.Disk.{WhereTold};
 ghost use Rattle.disk_model.specs.Sizes.{greatest_epoch};
-ghost use Rattle.root_change.specs.Rewriting.{IsPlanWhole};
-ghost use Rattle.root_change.specs.Texts.{Measures, Texts};
 ghost use Rattle.mail_reader.specs.StorageTexts.{IsStorageText};
 ghost use Rattle.mail_commits.specs.Ids.{text_ids_of};
 ghost use Rattle.epoch_store.specs.declared.entries.StoredEntry.{StoredEntry};
-ghost use Rattle.epoch_store.specs.Planning.{AreFrom, ArePlansIn, AreUpTo, AreWhole, AreWithin, IsFrom, IsPlaceAfter, IsPlanWithin, IsReady, IsUpTo, Says, KeepsPlanned, PlansArchive, PlansEdit, PlansFirst, PlansOwn, PlansPurge, PlansUndamaged, is_anew, length_after, loses, no_planning};
+ghost use Rattle.epoch_store.specs.Planning.{AreFrom, ArePlansIn, AreUpTo, AreWithin, IsFrom, IsPlaceAfter, IsPlanWithin, IsReady, IsUpTo, Says, KeepsPlanned, PlansArchive, PlansEdit, PlansFirst, PlansOwn, PlansPurge, PlansUndamaged, is_anew, length_after, loses, no_planning};
 ghost use Rattle.epoch_file.specs.Runs.{OnlyReads};
+ghost use Rattle.epoch_store.specs.DamagedTexts.{IfDamaged, IsDamagedEntry};
 ghost use Rattle.epoch_store.specs.Promises.{ChangesStore, Drops, Renews, Replaces};
-ghost use Rattle.epoch_store.specs.Stores.{DropsEntries, EditsEntries, EditsFiles, HasSizes, InEpochs, IsStoreWith, KeepsFiles, KeptOf, MayEdit, MayPurge, SeesNoDamage, without_blob};
+ghost use Rattle.epoch_store.specs.Stores.{DropsEntries, EditsEntries, EditsFiles, HasSizes, InEpochs, IsStoreWith, KeepsFiles, KeptOf, MayEdit, MayPurge, without_blob};
 
 use crate::next::NextPlace;
 use crate::planning::Planner;
 use crate::store::{MOST, Store, own_id_of};
-use arch_base::ObjectId;
-use disk_model::{Disk, FileKind, FileName, LAST_EPOCH};
+use arch_base::{NoMemory, ObjectId};
+use disk_model::{Disk, FileKind, LAST_EPOCH};
 use epoch_file::{NewEntry, StoreRefusal, Written, entry_piece};
 use git_objects::EntryKind;
 use mail_commits::TextIds;
@@ -36,12 +35,18 @@ impl Store {
     /// replaced by the one that names them. After `Ok` the old files are gone, and no file has an entry
     /// with the text.
     ///
+    /// The root file then has the new root in the other slot and is otherwise as it was, so no text
+    /// stays there: each slot has a root, and the bytes between the gates and the bodies, which `init`
+    /// makes zeros, aren't changed by any call.
+    ///
     /// At each moment a crash leaves the archive before or the one without the text, and after `Ok` the
     /// latter. `DiskFault` comes only if the disk's count of faults rose: one of the two archives is
-    /// then there, and the store has to be reopened. `NoMemory` and `Damaged` come before the first
-    /// write: the former if memory runs out, if a file would have 2^62 bytes or more, or if what is kept
-    /// isn't of an archive; the latter if a text that is read has another blob id than its entry, or a
-    /// file is too short. `Damaged` never comes on the disk of an archive.
+    /// then there, and the store has to be reopened. `NoMemory` comes before the first write: if memory
+    /// runs out, if a file would have 2^62 bytes or more, or if what is kept isn't of an archive.
+    /// `Damaged` comes if a text that is read isn't that of its entry, before the first write, with the
+    /// entry's file and offset; or if a file is shorter than the root says, with the number of bytes that
+    /// should be there. That is found while bytes are copied, and all that the root names stays. `Damaged`
+    /// never comes on the disk of an archive.
     pub fn purge_text<D: Disk>(
         &mut self,
         alloc: Global,
@@ -104,6 +109,8 @@ impl Store {
         ensures own { IfOk result (λ p.
             PlansOwn self.now blob.now p.entries p.plans (D.content disk.old)) }
         ensures undamaged { PlansUndamaged self.now result (D.content disk.old) }
+        ensures damage { IfDamaged result (λ file at.
+            IsDamagedEntry self.now file at (D.content disk.old)) }
         ensures reads { OnlyReads D.content D.moment D.left_since D.faults disk.old disk.new }
         ensures fewest { D.reads disk.old ≤ D.reads disk.new }
         ensures cause { RoseIf (result ≡ Err StoreRefusal.DiskFault) (D.faults disk.old)
@@ -115,10 +122,8 @@ impl Store {
             Err(refusal) => return Err(refusal),
         }
         planned.finish(map_file(self.root.map.gen_), self.root.next - 1)?;
-        match check_ranges(&self.root, planned.plans.as_slice()) {
-            Ok(()) => Ok(planned),
-            Err(refusal) => Err(refusal),
-        }
+        check_ranges(&self.root, planned.plans.as_slice())?;
+        Ok(planned)
     }
 
     /// Lets a planner take each entry.
@@ -138,6 +143,8 @@ impl Store {
         ensures all { OnOk result (WhereTold
             (PlansFirst self.now blob.now (length self.now.entries) planned.new) (D.content disk.old)) }
         ensures undamaged { PlansUndamaged self.now result (D.content disk.old) }
+        ensures damage { IfDamaged result (λ file at.
+            IsDamagedEntry self.now file at (D.content disk.old)) }
         ensures reads { OnlyReads D.content D.moment D.left_since D.faults disk.old disk.new }
         ensures fewest { D.reads disk.old ≤ D.reads disk.new }
         ensures cause { RoseIf (result ≡ Err StoreRefusal.DiskFault) (D.faults disk.old)
@@ -269,22 +276,15 @@ impl Store {
                 Ok(())
             }
             Err(RewriteRefusal::DiskFault) => Err(StoreRefusal::DiskFault),
-            Err(RewriteRefusal::Short) => Err(StoreRefusal::Damaged {
-                file: map_file(self.root.map.gen_),
-                at: 0,
-            }),
+            Err(RewriteRefusal::Short { file, at }) => Err(StoreRefusal::Damaged { file, at }),
         }
     }
 }
 
-/// Refuses plans with a range that ends past the bytes of its part, which the disk of an archive never
-/// has.
-fn check_ranges(root: &Root, plans: &[PartPlan]) -> Result<(), StoreRefusal>
+/// Refuses plans with a range that ends past the bytes of its part, which no archive's entries lead to.
+fn check_ranges(root: &Root, plans: &[PartPlan]) -> Result<(), NoMemory>
     requires { AreFrom root.now plans.now }
-    ensures within { OnOk result (AreWithin root.now plans.now) }
-    ensures undamaged { (texts : Texts) → Measures root.now texts → AreWhole texts plans.now
-        → SeesNoDamage result }
-    ensures failed { result ≡ Err StoreRefusal.DiskFault → ⊥ }
+    ensures { OnOk result (AreWithin root.now plans.now) }
 {
     for plan in plans {
         check_plan(root, plan)?;
@@ -293,28 +293,17 @@ fn check_ranges(root: &Root, plans: &[PartPlan]) -> Result<(), StoreRefusal>
 }
 
 /// Refuses a plan with such a range.
-fn check_plan(root: &Root, plan: &PartPlan) -> Result<(), StoreRefusal>
+fn check_plan(root: &Root, plan: &PartPlan) -> Result<(), NoMemory>
     requires { IsFrom root.now plan.now }
-    ensures within { OnOk result (IsPlanWithin root.now plan.now) }
-    ensures undamaged { (texts : Texts) → Measures root.now texts → IsPlanWhole texts plan.now
-        → SeesNoDamage result }
-    ensures failed { result ≡ Err StoreRefusal.DiskFault → ⊥ }
+    ensures { OnOk result (IsPlanWithin root.now plan.now) }
 {
     let kind = plan.kind();
     let number = plan.number();
     let place = place_at(root, kind, number);
-    if ends_by(plan.sources(), place.length) {
-        return Ok(());
+    if !ends_by(plan.sources(), place.length) {
+        return Err(NoMemory);
     }
-    let file = FileName {
-        kind,
-        number,
-        gen_: place.gen_,
-    };
-    Err(StoreRefusal::Damaged {
-        file,
-        at: place.length,
-    })
+    Ok(())
 }
 
 /// Returns whether each range among sources ends up to this offset.

@@ -3,6 +3,7 @@ ghost use Rattle.std.specs.Prelude.{◌-◌, OnOk};
 ghost use Rattle.arch_base.specs.Counts.{HasCause};
 ghost use Rattle.disk_model.specs.Disk.{Told, WhereTold, LeavesOnly};
 ghost use Rattle.disk_model.specs.Synced.{IsSettled};
+ghost use Rattle.root_slots.specs.Between.{RunsBetween, WentBetween};
 ghost use Rattle.root_slots.specs.Slots.{slot_number, HasRootSize};
 ghost use Rattle.root_slots.specs.Spelling.{spelling};
 ghost use Rattle.root_slots.specs.Valid.{IsRoot};
@@ -28,6 +29,9 @@ pub(crate) fn ready_other<D: Disk>(disk: &mut D, slot: Slot, root: &Root) -> Res
     // Whatever the root file holds, only the body of a shut slot is written.
     ensures readies { OnOk result (Told (ReadiesSlot (slot_number slot) (spelling root.now))
         (D.content disk.old) (D.content disk.new)) }
+    // The bytes of the root file between its gates and its bodies are as before.
+    ensures went { OnOk result (Told WentBetween (D.content disk.old) (D.content disk.new)) }
+    ensures between { RunsBetween D.content D.moment D.left_since disk.old disk.new }
     ensures cause { HasCause (D.faults disk.old) (D.faults disk.new) result }
 {
     let other = slot.other();
@@ -60,6 +64,7 @@ pub(crate) fn sweep<D: Disk>(
     ensures settled { OnOk result (WhereTold IsSettled (D.content disk.new)) }
     ensures swept { OnOk result (Told (IsSwept root.now (slot_number slot) names.now)
         (D.content disk.old) (D.content disk.new)) }
+    ensures between { RunsBetween D.content D.moment D.left_since disk.old disk.new }
     ensures cause { HasCause (D.faults disk.old) (D.faults disk.new) result }
 {
     ready_other(disk, slot, root)?;

@@ -1,7 +1,7 @@
 //! The archive on a disk, as it is kept in memory.
 ghost use Rattle.std.specs.Prelude.{◌≡◌, ◌≤◌, ◌<◌, ◌+◌, ◌-◌, ◌^◌, ℕ, List, [], Err, Some, None, IsSome, IfOk, OnOk, ◌==◌, if◌then◌else◌, decimal, length};
 ghost use Rattle.arch_base.specs.Counts.{RoseIf};
-ghost use Rattle.disk_model.specs.Disk.{WhereTold, LeavesOnly};
+ghost use Rattle.disk_model.specs.Disk.{Told, WhereTold, LeavesOnly};
 ghost use Rattle.disk_model.specs.Sizes.{greatest_epoch, epoch_count};
 ghost use Rattle.disk_model.specs.Synced.{IsSettled};
 ghost use Rattle.mail_reader.specs.Ids.{own_id as own_id_in};
@@ -11,9 +11,12 @@ ghost use Rattle.mail_commits.specs.Ids.{text_ids_of};
 ghost use Rattle.arch_model.specs.Archives.{Archive, Entry, empty_archive};
 ghost use Rattle.arch_base.specs.Moments.{last_moment};
 ghost use Rattle.epoch_file.specs.Appending.{written_of};
+ghost use Rattle.root_slots.specs.Between.{RunsBetween};
+ghost use Rattle.root_slots.specs.Slots.{HasFirstRoot, HasNewRoot};
+ghost use Rattle.root_slots.specs.Spelling.{spelling};
 ghost use Rattle.root_slots.specs.Valid.{IsRoot};
 ghost use Rattle.arch_base.specs.Configs.{IsConfig};
-ghost use Rattle.epoch_store.specs.First.{MakingLeaves, MakingAnswers, RefusesToMake};
+ghost use Rattle.epoch_store.specs.First.{MakingLeaves, MakingAnswers, RefusesToMake, first_root_of};
 ghost use Rattle.epoch_store.specs.declared.refusal.InitRefusal.{InitRefusal};
 ghost use Rattle.epoch_store.specs.Promises.{Adds, Appends, ChangesStore, Ends};
 ghost use Rattle.epoch_store.specs.Stores.{IsDiskOf, IsStoreWith, Keeps, IsEnd, IsNextPlace, next_sequence, place_of, root_after, RecoversEitherWith, HasSizes, GoesOn, Accepts, MayEnd, IsMessage, IsDeletion, GoesNext, EndsNext, with_message, with_ending, view_after, view_ended, root_ended, stored_at, AddsEntry, EndsAt, EndsEntry, SeesNoDamage};
@@ -91,6 +94,9 @@ impl Store {
         ensures none { IfOk result (λ store. store.entries ≡ []) }
         ensures cause { RoseIf (result ≡ Err InitRefusal.DiskFault) (D.faults disk.old)
             (D.faults disk.new) }
+        // The root file has the first root in slot 0, and is otherwise zeros.
+        ensures rooted { OnOk result (WhereTold
+            (HasFirstRoot (spelling (first_root_of config.now))) (D.content disk.new)) }
     {
         no_archive(disk)?;
         let names = all_names(alloc, disk)?;
@@ -233,6 +239,9 @@ impl Store {
         ensures cause { RoseIf (result ≡ Err StoreRefusal.DiskFault) (D.faults disk.old)
             (D.faults disk.new) }
         ensures count { D.reads disk.new ≡ D.reads disk.old }
+        ensures rooted { IfOk result (λ made. Told (HasNewRoot (1 - self.now.slot)
+            (spelling made.0)) (D.content disk.old) (D.content disk.new)) }
+        ensures between { RunsBetween D.content D.moment D.left_since disk.old disk.new }
     {
         let epoch = epoch_file(place.epoch, place.gen_);
         let written = append_entry(alloc, disk, epoch, place.length, entry)?;
@@ -288,6 +297,9 @@ impl Store {
         ensures cause { RoseIf (result ≡ Err StoreRefusal.DiskFault) (D.faults disk.old)
             (D.faults disk.new) }
         ensures count { D.reads disk.new ≡ D.reads disk.old }
+        ensures rooted { IfOk result (λ made. Told (HasNewRoot (1 - self.now.slot)
+            (spelling made.0)) (D.content disk.old) (D.content disk.new)) }
+        ensures between { RunsBetween D.content D.moment D.left_since disk.old disk.new }
     {
         let epoch = epoch_file(place.epoch, place.gen_);
         let written = append_entry(alloc, disk, epoch, place.length, entry)?;

@@ -7,6 +7,7 @@ ghost use Rattle.disk_model.specs.Synced.{IsSettled};
 ghost use Rattle.arch_model.specs.Archives.{Archive};
 ghost use Rattle.arch_model.specs.declared.opening.OpenRefusal.{OpenRefusal};
 ghost use Rattle.epoch_file.specs.Runs.{OnlyReads};
+ghost use Rattle.root_slots.specs.Between.{RunsBetween};
 ghost use Rattle.root_slots.specs.Slots.{slot_number, HasRootSize};
 ghost use Rattle.root_slots.specs.Valid.{IsRoot};
 ghost use Rattle.disk_files.specs.Listing.{AreAllNames};
@@ -75,6 +76,7 @@ fn settle<D: Disk>(alloc: Global, disk: &mut D, slot: Slot, root: &Root) -> Resu
     ensures settled { OnOk result (WhereTold IsSettled (D.content disk.new)) }
     ensures kept { OnOk result (Told (IsSettledBy root.now (slot_number slot)) (D.content disk.old)
         (D.content disk.new)) }
+    ensures between { RunsBetween D.content D.moment D.left_since disk.old disk.new }
     ensures well { OpensWell result }
     ensures unchanged { result ≡ Err OpenRefusal.NoMemory
         → Told Unchanged (D.content disk.old) (D.content disk.new) }
@@ -113,7 +115,8 @@ impl Store {
         ensures well { (a : Archive) (cache : List ℕ) → ReadsWith cache a (D.content disk.old)
             → OpensWell result }
         ensures refused { RefusesBefore result (D.content disk.old) (D.content disk.new) }
-        // Once it is synced, only the archive as which the files read is left.
+        // Once it is synced, only the archive as which the files read is left. Where nothing can be
+        // opened, the files are left as they read.
         ensures first { OnSynced result
             (SyncsFirst D.content D.moment D.left_since disk.old disk.new) }
         // Until then a crash leaves what it might have left before, whatever the answer.
@@ -126,6 +129,8 @@ impl Store {
         ensures sizes { IfOk result (λ opened. WhereTold (HasSizes opened.0) (D.content disk.new)) }
         // Each text that was read when it was opened is in its place.
         ensures texts { IfOk result (λ opened. WhereTold (HasTexts opened.0) (D.content disk.new)) }
+        // At each moment the bytes of the root file between its gates and its bodies are as before.
+        ensures between { RunsBetween D.content D.moment D.left_since disk.old disk.new }
         ensures cause { RoseIf (result ≡ Err OpenRefusal.DiskFault) (D.faults disk.old)
             (D.faults disk.new) }
     {

@@ -1,8 +1,9 @@
 -- One step for the files that are removed, one for the root file, and one for the root.
+use Rattle.std.proofs.lemmas.Result.{on_ok_weaker}
 use Rattle.disk_model.specs.Moments.{joined}
 use Rattle.root_slots.specs.Spelling.{spelling}
 use Rattle.epoch_store.specs.First.{MakesRoot}
-use Rattle.epoch_store.proofs.Making.{shut_fewer, shut_removed, shut_begun, first_step, only_on_ok}
+use Rattle.epoch_store.proofs.Making.{shut_fewer, shut_removed, shut_begun, first_step, only_on_ok, told_through}
 use Rattle.epoch_store.proofs.first.make.Goals as goal
 
 pub returns-in_err-begin-clause-any_moment : goal.returns-in_err-begin-clause-any_moment
@@ -42,4 +43,9 @@ returns-clause-done g c = λ all some.
     let k3 = g.D.Disk.content c.raise_first.new.disk in
     let body = spelling c.args.root.now in
     let names = c.args.names.now in
-    only_on_ok c.raise_first.result body names k0 k1 k2 k3 all c.in_ok-remove_files.ensures.done c.in_ok-begin.ensures.made c.raise_first.ensures.committed (λ zeros. c.raise_first.ensures.done zeros some)
+    only_on_ok c.raise_first.result body names k0 k1 k2 k3 all c.in_ok-remove_files.ensures.done c.in_ok-begin.ensures.made c.raise_first.ensures.committed (λ zeros. c.raise_first.ensures.done zeros some) c.raise_first.ensures.written
+
+pub returns-clause-told : goal.returns-clause-told
+returns-clause-told g c =
+    let content = g.D.Disk.content in
+    on_ok_weaker c.raise_first.result (told_through (spelling c.args.root.now) c.args.names.now (content c.args.disk.now) (content c.remove_files.new.disk) (content c.begin.new.disk) (content c.raise_first.new.disk) c.in_ok-remove_files.ensures.done c.in_ok-begin.ensures.made) c.raise_first.ensures.committed

@@ -6,7 +6,7 @@ use Rattle.root_slots.specs.Slots.{sequence_of}
 use Rattle.root_slots.specs.Sizes.{sequence-spelling}
 use Rattle.root_slots.specs.Spelling.{spelling}
 use Rattle.epoch_store.specs.First.{ShutOrFirst}
-use Rattle.epoch_store.proofs.FirstRoots.{during_body, body_filled, during_gate, gate_opened, size_filled, first_committed}
+use Rattle.epoch_store.proofs.FirstRoots.{during_body, body_filled, during_gate, gate_opened, size_filled, first_committed, first_written}
 use Rattle.epoch_store.proofs.first.raise_first.Goals as goal
 
 pub returns-in_err-fill-clause-any_moment : goal.returns-in_err-fill-clause-any_moment
@@ -49,3 +49,7 @@ returns-clause-committed g c =
 
 pub raise-requires : goal.raise-requires
 raise-requires g c = record { size = size_filled (spelling c.args.root.now) c.fill.ensures.whole (g.D.Disk.content c.args.disk.now) (g.D.Disk.content c.fill.new.disk) c.requires.size c.in_ok-fill.ensures.written }
+
+pub returns-clause-written : goal.returns-clause-written
+returns-clause-written g c =
+    on_ok_weaker c.raise.result (first_written (spelling c.args.root.now) (g.D.Disk.content c.args.disk.now) (g.D.Disk.content c.fill.new.disk) (g.D.Disk.content c.raise.new.disk) c.in_ok-fill.ensures.written) c.raise.ensures.written

@@ -4,9 +4,10 @@ use Rattle.std.proofs.lemmas.Result.{on_ok_weaker}
 use Rattle.disk_model.specs.Disk.{WhereTold}
 use Rattle.disk_model.specs.Moments.{joined}
 use Rattle.root_slots.specs.Slots.{slot_number, slot_below, IsGateOpen}
+use Rattle.root_slots.specs.Between.{looks_between, went_unchanged}
 use Rattle.root_slots.specs.Spelling.{spelling}
 use Rattle.epoch_store.specs.Settling.{StaysCurrent}
-use Rattle.epoch_store.proofs.Readying.{current_now, filling, readied_filled, slots_open, slots_written}
+use Rattle.epoch_store.proofs.Readying.{current_now, fill_between, fill_went, filling, readied_filled, slots_open, slots_written}
 use Rattle.epoch_store.proofs.settling.ready_other.Goals as goal
 
 pub returns-clause-any_moment : goal.returns-clause-any_moment
@@ -55,4 +56,28 @@ returns-clause-readies g c =
     let other = slot_number c.other-other.result in
     let here : WhereTold (IsGateOpen other false) k0 = subst (λ (b : Bool). WhereTold (IsGateOpen other b) k0) c.if-branch.false c.in_ok-is_open.ensures.gate in
     let shut = subst (λ (s : ℕ). WhereTold (IsGateOpen s false) k0) c.other-other.ensures here in
-    on_ok_weaker c.fill.result (slots_written slot (spelling c.args.root.now) k0 k1 k2 (slot_below c.args.slot) c.fill.ensures.whole c.requires.size c.is_open.ensures.same shut) (rw c.other-other.ensures at c.fill.ensures.written)
+    on_ok_weaker c.fill.result (slots_written slot (spelling c.args.root.now) k0 k1 k2 c.is_open.ensures.same shut) (rw c.other-other.ensures at c.fill.ensures.written)
+
+pub returns-in_err-is_open-clause-between : goal.returns-in_err-is_open-clause-between
+returns-in_err-is_open-clause-between g c = looks_between g.D.Disk.content g.D.Disk.moment g.D.Disk.left_since c.args.disk.now c.is_open.new.disk c.is_open.ensures.any_moment
+
+pub returns-then-branch-clause-between : goal.returns-then-branch-clause-between
+returns-then-branch-clause-between g c = looks_between g.D.Disk.content g.D.Disk.moment g.D.Disk.left_since c.args.disk.now c.is_open.new.disk c.is_open.ensures.any_moment
+
+pub returns-then-branch-clause-went : goal.returns-then-branch-clause-went
+returns-then-branch-clause-went g c = went_unchanged (g.D.Disk.content c.args.disk.now) (g.D.Disk.content c.is_open.new.disk) c.is_open.ensures.same
+
+pub returns-clause-between : goal.returns-clause-between
+returns-clause-between g c =
+    let disk = c.args.disk.now in
+    let mid = c.is_open.new.disk in
+    let content = g.D.Disk.content in
+    let slot = slot_number c.args.slot in
+    fill_between content g.D.Disk.moment g.D.Disk.left_since slot (slot_below c.args.slot) disk mid c.fill.new.disk (g.met.D.Disk.reads_fit mid) c.requires.size c.is_open.ensures.same c.is_open.ensures.any_moment
+    (rw c.other-other.ensures at c.fill.ensures.any_moment)
+
+pub returns-clause-went : goal.returns-clause-went
+returns-clause-went g c =
+    let mid = c.is_open.new.disk in
+    let content = g.D.Disk.content in
+    on_ok_weaker c.fill.result (fill_went (slot_number c.args.slot) (slot_below c.args.slot) (spelling c.args.root.now) (content c.args.disk.now) (content mid) (content c.fill.new.disk) c.fill.ensures.whole (g.met.D.Disk.reads_fit mid) c.requires.size c.is_open.ensures.same) (rw c.other-other.ensures at c.fill.ensures.written)

@@ -2,9 +2,11 @@
 use Rattle.std.proofs.Common.{◌-◌}
 use Rattle.std.proofs.lemmas.Result.{on_ok_weaker}
 use Rattle.disk_model.specs.Moments.{weaker, joined}
+use Rattle.root_slots.specs.Between.{joined_between}
 use Rattle.root_slots.specs.Slots.{slot_number}
 use Rattle.root_slots.specs.Spelling.{spelling}
 use Rattle.root_change.specs.Texts.{StandsFor}
+use Rattle.root_change.proofs.Phases.{beside_between}
 use Rattle.epoch_store.specs.Settling.{StaysCurrent}
 use Rattle.epoch_store.proofs.Settles.{to_settle_rests, readying_stands, tidy_ready, swept_told}
 use Rattle.epoch_store.proofs.settling.sweep.Goals as goal
@@ -46,3 +48,11 @@ pub returns-clause-swept : goal.returns-clause-swept
 returns-clause-swept g c =
     let content = g.D.Disk.content in
     on_ok_weaker c.tidy.result (swept_told c.args.root.now (slot_number c.args.slot) c.args.names.now (content c.args.disk.now) (content c.ready_other.new.disk) (content c.tidy.new.disk) c.in_ok-ready_other.ensures.readies) c.tidy.ensures.tidied
+
+pub returns-clause-between : goal.returns-clause-between
+returns-clause-between g c =
+    let disk = c.args.disk.now in
+    let d1 = c.ready_other.new.disk in
+    let content = g.D.Disk.content in
+    joined_between content g.D.Disk.moment g.D.Disk.left_since disk d1 c.tidy.new.disk c.ready_other.ensures.between c.in_ok-ready_other.ensures.went
+    (beside_between content g.D.Disk.moment g.D.Disk.left_since c.args.root.now d1 c.tidy.new.disk c.tidy.ensures.beside)

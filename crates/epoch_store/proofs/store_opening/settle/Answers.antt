@@ -5,8 +5,10 @@ use Rattle.disk_files.specs.Listing.{AreAllNames}
 use Rattle.disk_model.specs.declared.name.FileName.{FileName}
 use Rattle.disk_model.specs.Disk.{Image, WhereTold}
 use Rattle.disk_model.specs.Moments.{weaker}
+use Rattle.root_slots.specs.Between.{looks_between}
 use Rattle.root_slots.specs.Slots.{slot_number}
 use Rattle.root_change.specs.Texts.{StandsFor}
+use Rattle.epoch_store.proofs.Readying.{read_between}
 use Rattle.epoch_store.proofs.Settles.{found_image, listed_to_settle, settling_leaves, settled_told}
 use Rattle.epoch_store.proofs.store_opening.settle.Goals as goal
 
@@ -57,3 +59,20 @@ returns-in-Ok-sweep-clause-kept g c =
     let names = c.as_slice.result.now in
     let all = subst (λ (l : List FileName). WhereTold (AreAllNames l) k0) (sym c.as_slice.ensures) c.in-Ok.ensures.names in
     settled_told c.args.root.now (slot_number c.args.slot) names k0 (content c.present_files.new.disk) (content c.sweep.new.disk) all c.present_files.ensures.reads.same c.in-Ok-sweep.ensures.swept
+
+pub returns-clause-between : goal.returns-clause-between
+returns-clause-between g c = looks_between g.D.Disk.content g.D.Disk.moment g.D.Disk.left_since c.args.disk.now c.present_files.new.disk c.present_files.ensures.reads.any_moment
+
+pub returns-in-Ok-sweep-clause-between : goal.returns-in-Ok-sweep-clause-between
+returns-in-Ok-sweep-clause-between g c =
+    let disk = c.args.disk.now in
+    let mid = c.present_files.new.disk in
+    let content = g.D.Disk.content in
+    read_between content g.D.Disk.moment g.D.Disk.left_since disk mid c.sweep.new.disk c.present_files.ensures.reads.same c.present_files.ensures.reads.any_moment c.sweep.ensures.between
+
+pub returns-in-Ok-clause-between : goal.returns-in-Ok-clause-between
+returns-in-Ok-clause-between g c =
+    let disk = c.args.disk.now in
+    let mid = c.present_files.new.disk in
+    let content = g.D.Disk.content in
+    read_between content g.D.Disk.moment g.D.Disk.left_since disk mid c.sweep.new.disk c.present_files.ensures.reads.same c.present_files.ensures.reads.any_moment c.sweep.ensures.between

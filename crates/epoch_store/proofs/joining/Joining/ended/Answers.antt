@@ -2,7 +2,7 @@
 use Rattle.std.proofs.Common.{◌≡◌, List, Some, None, rules, subst}
 use Rattle.arch_model.specs.Archives.{Entry}
 use Rattle.arch_judge.specs.Indexes.{owner_in}
-use Rattle.epoch_store.specs.Joined.{Joined, Held, Ends, IsMessageOf}
+use Rattle.epoch_store.specs.Joined.{Joined, Held, EndedBy, IsMessageOf}
 use Rattle.epoch_store.proofs.Joins.{ends_one, ends_other, blobs_differ, blobs_same}
 use Rattle.epoch_store.proofs.joining.Joining.ended.Goals as goal
 
@@ -14,7 +14,7 @@ returns-then-ne-clause-ended c =
     let s = c.in-Some-message.message.now in
     let found : owner_in c.self.inside.index.owners seen.id ≡ Some owner = search rules in
     let of : IsMessageOf v.entries owner.number s = search rules in
-    subst (λ (w : Joined). Held w (λ (all : List Entry). Ends all seen None)) c.self.view_is
+    subst (λ (w : Joined). Held w (λ (all : List Entry). EndedBy all seen None)) c.self.view_is
     (ends_other v c.self.inside.index seen owner s c.self.invariant.0 found of (blobs_differ s.seen.blob seen.blob c.ne.result c.ne.ensures c.if-ne.true))
 
 pub returns-clause-ended : goal.returns-clause-ended
@@ -25,5 +25,5 @@ returns-clause-ended c =
     let s = c.in-Some-message.message.now in
     let found : owner_in c.self.inside.index.owners seen.id ≡ Some owner = search rules in
     let of : IsMessageOf v.entries owner.number s = search rules in
-    subst (λ (w : Joined). Held w (λ (all : List Entry). Ends all seen (Some owner.number))) c.self.view_is
+    subst (λ (w : Joined). Held w (λ (all : List Entry). EndedBy all seen (Some owner.number))) c.self.view_is
     (ends_one v c.self.inside.index seen owner s c.self.invariant.0 found of c.requires (blobs_same s.seen.blob seen.blob c.ne.result c.ne.ensures c.if-ne.false))

@@ -13,7 +13,7 @@ invariant_of-result c =
     let old = c.self.inside in
     let entry = entry_seen c.args.number c.args.epoch c.args.seen in
     let entries : c.push.new.self.items ≡ old.entries.items ++ entry ∷ [] = c.in_ok-push.ensures.items in (
-      subst (λ (l : List StoredEntry). IndexesStored l c.take_entry.new.index) (sym entries) (indexes_more old.entries.items entry old.index c.take_entry.new.index c.self.invariant.0 c.in_ok-take_entry.ensures),
+      subst (λ (l : List StoredEntry). IndexesStored l c.take_entry.new.index) (sym entries) (indexes_more old.entries.items entry old.index c.take_entry.new.index c.self.invariant.0 c.in_ok-take_entry.ensures.ok),
       c.self.invariant.1,
       c.in_ok-push_place.ensures ∙ (ap (λ (n : ℕ). if is_message c.args.seen.kind then n + 1 else n) c.self.invariant.2 ∙ (sym (count_by c.args.seen.kind old.entries.items entry refl) ∙ ap message_count (sym entries))),
     )

@@ -2,9 +2,10 @@
 use Rattle.std.proofs.Common.{◌≡◌, ◌∙◌, Err, sym, subst, true, false}
 use Rattle.std.specs.Str.{bytes_eq}
 use Rattle.epoch_file.specs.declared.refusal.StoreRefusal.{StoreRefusal}
+use Rattle.epoch_store.specs.DamagedTexts.{DamageBy, IsDamageOf}
 use Rattle.epoch_store.specs.Planning.{PlansNext}
 use Rattle.epoch_store.proofs.Losing.{kept_changes, left_changes}
-use Rattle.epoch_store.proofs.Taking.{take_left, take_kept, take_refused, kept_but, left_but, kept_in, left_in}
+use Rattle.epoch_store.proofs.Taking.{take_damage, take_left, take_kept, take_refused, kept_but, left_but, kept_in, left_in}
 use Rattle.epoch_store.proofs.planning.Planner.take.Goals as goal
 
 pub returns-then-eq-clause-taken : goal.returns-then-eq-clause-taken
@@ -50,3 +51,9 @@ returns-in-Err-clause-taken g c =
     let content = g.D.Disk.content c.args.disk.now in
     subst (λ (r : StoreRefusal). PlansNext c.args.self.now c.args.file c.args.entry.now c.args.blob.now content c.keep.new.self (Err r)) (sym c.damaged_in.ensures)
     (take_refused c.args.self.now c.args.file c.args.entry.now c.args.blob.now content c.open.new.self c.keep.new.self c.in_ok-plan.plan c.in-Err.refusal c.in_ok-plan.ensures.opened c.in-Err.ensures.refused)
+
+pub returns-in-Err-clause-damage : goal.returns-in-Err-clause-damage
+returns-in-Err-clause-damage g c =
+    let content = g.D.Disk.content c.args.disk.now in
+    subst (λ (r : StoreRefusal). DamageBy r (IsDamageOf c.args.file c.args.entry.now content)) (sym c.damaged_in.ensures)
+    (take_damage c.args.self.now c.args.file c.args.entry.now content c.open.new.self c.in_ok-plan.plan c.in-Err.refusal c.in_ok-plan.ensures.opened c.in-Err.ensures.damage)

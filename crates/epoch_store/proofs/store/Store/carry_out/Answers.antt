@@ -14,4 +14,4 @@ pub returns-in-Err-DiskFault-clause-changes : goal.returns-in-Err-DiskFault-clau
 returns-in-Err-DiskFault-clause-changes g c = carried_failed c.self.view_is c.other-slot.ensures (c.as_slice.ensures.value ∙ ap (λ (p : Planning). p.plans) c.planned.view_is) c.rewrite.ensures.fewest c.in-Err-DiskFault.field-0-is c.in-Err-DiskFault.ensures.carried
 
 pub returns-clause-changes : goal.returns-clause-changes
-returns-clause-changes g c = carried_short c.self.view_is c.other-slot.ensures (c.as_slice.ensures.value ∙ ap (λ (p : Planning). p.plans) c.planned.view_is) c.rewrite.ensures.fewest c.in-Err-Short.field-0-is c.in-Err-Short.ensures.carried
+returns-clause-changes g c = rw (c.in-Err-Short.file-is, c.in-Err-Short.at-is) (carried_short {p = c.args.planned} c.self.view_is c.other-slot.ensures (c.as_slice.ensures.value ∙ ap (λ (p : Planning). p.plans) c.planned.view_is) c.rewrite.ensures.fewest c.in-Err-Short.field-0-is c.requires.ready c.in-Err-Short.ensures.carried)

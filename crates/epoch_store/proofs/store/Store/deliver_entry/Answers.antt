@@ -1,14 +1,16 @@
 -- What is kept, and what is on the disk.
 use Rattle.std.proofs.Common.{refl, rules, ◌≡◌, ◌∙◌, ◌-◌, ◌++◌, ◌∷◌, [], List, ℕ, sym, ap, subst, is_ok, ◌≤◌, arith}
-use Rattle.disk_model.specs.Disk.{LeavesOnly}
+use Rattle.disk_model.specs.Disk.{LeavesOnly, Told}
 use Rattle.arch_model.specs.Archives.{message, with_entry}
 use Rattle.git_objects.specs.declared.entry_kind.EntryKind.TheVariants.{Message}
-use Rattle.root_slots.specs.Slots.{slot_number}
+use Rattle.root_slots.specs.Slots.{slot_number, HasNewRoot}
+use Rattle.root_slots.specs.Spelling.{spelling}
 use Rattle.epoch_store.specs.declared.entries.StoredEntry.{StoredEntry}
 use Rattle.epoch_file.specs.declared.entry.NewEntry.{NewEntry}
 use Rattle.epoch_store.specs.Promises.{Adds}
 use Rattle.epoch_store.specs.Stores.{GoesNext, View, InEpochs, stored_at, IsStoreWith, RecoversEitherWith, GoesOn}
 use Rattle.epoch_store.proofs.Changing.{stopped, unless_short, unstarted}
+use Rattle.epoch_store.proofs.TextDamage.{none_told}
 use Rattle.epoch_store.proofs.Kept.{in_epochs_more, pushed, same_view}
 use Rattle.epoch_store.proofs.Delivering.{store_keeps}
 use Rattle.epoch_store.proofs.EntryWriting.{entered}
@@ -32,7 +34,7 @@ returns-in_err-root-clause-changes g c =
     stopped why (search rules)
     (entered (g.D.Disk.content c.args.disk.now) (λ u a. GoesNext u a p e) (λ a n. with_entry a n e.text.now e.moment) (Adds e.text.now e.moment) (λ cache a to. LeavesOnly g.D.Disk.moment g.D.Disk.left_since c.args.disk.now c.write_entry.new.disk (RecoversEitherWith cache a to))
     (same_view _ _ _ _ c.reserve.ensures.items ∙ c.self.view_is) c.next_place-place.ensures.next (λ a b at room made. (record { place = at; accepts = c.requires.accepts; alone = made.alone; room = room }, sym made.is)) c.write_entry.ensures.any_moment)
-    (search rules) (unless_short why said.refused said.undamaged) said.undamaged (search rules) said.count
+    (search rules) (unless_short why said.refused said.undamaged) said.undamaged (none_told _ why said.undamaged) (search rules) said.count c.write_entry.ensures.between
 
 pub returns-clause-changes : goal.returns-clause-changes
 returns-clause-changes g c =
@@ -64,8 +66,11 @@ returns-clause-changes g c =
       same = tt;
       untouched = tt;
       undamaged = tt;
+      damage = tt;
       cause = search rules;
       count = c.in_ok-root.ensures.count;
+      rooted = subst (λ (n : ℕ). Told (HasNewRoot n (spelling root)) k0 k3) (sym c.other-self-inside.ensures) c.in_ok-root.ensures.rooted;
+      between = c.write_entry.ensures.between;
     }
 
 pub invariant_of-self-4 : goal.invariant_of-self-4

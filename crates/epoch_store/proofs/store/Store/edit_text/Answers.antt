@@ -10,10 +10,11 @@ use Rattle.epoch_store.proofs.Changing.{planned, unplanned}
 use Rattle.epoch_file.specs.declared.refusal.StoreRefusal.TheVariants.{NoMemory}
 use Rattle.epoch_store.proofs.Edited.{edit_low, edited_archive}
 use Rattle.epoch_store.proofs.KeptFiles.{edit_files}
+use Rattle.epoch_store.proofs.TextDamage.{entry_told}
 use Rattle.epoch_store.proofs.store.Store.edit_text.Goals as goal
 
 pub returns-in_err-planned-clause-changes : goal.returns-in_err-planned-clause-changes
-returns-in_err-planned-clause-changes g c = unplanned c.plan_without.ensures.reads c.in_err-planned.field-0.0 (search rules) c.in_err-planned.ensures.undamaged (search rules) c.plan_without.ensures.fewest
+returns-in_err-planned-clause-changes g c = unplanned c.plan_without.ensures.reads c.in_err-planned.field-0.0 (search rules) c.in_err-planned.ensures.undamaged (entry_told c.args.self.now (g.D.Disk.content c.args.disk.now) c.in_err-planned.field-0.0 c.in_err-planned.ensures.damage) (search rules) c.plan_without.ensures.fewest
 
 pub plan_message-requires-clause-epochs : goal.plan_message-requires-clause-epochs
 plan_message-requires-clause-epochs g c =
@@ -21,7 +22,7 @@ plan_message-requires-clause-epochs g c =
     kept_low c.args.self.now.entries c.in_ok-planned.planned.entries c.args.old.now.0 low c.in_ok-planned.ensures.planned.kept
 
 pub returns-in_err-plan_message-clause-changes : goal.returns-in_err-plan_message-clause-changes
-returns-in_err-plan_message-clause-changes g c = unplanned c.plan_without.ensures.reads NoMemory (search rules) (λ a cache store. tt) (search rules) c.plan_without.ensures.fewest
+returns-in_err-plan_message-clause-changes g c = unplanned c.plan_without.ensures.reads NoMemory (search rules) (λ a cache store. tt) tt (search rules) c.plan_without.ensures.fewest
 
 pub carry_out-requires-clause-epochs : goal.carry_out-requires-clause-epochs
 carry_out-requires-clause-epochs g c =

@@ -5,7 +5,7 @@ use Rattle.arch_model.specs.Archives.{empty_archive}
 use Rattle.epoch_store.specs.declared.entries.StoredEntry.{StoredEntry}
 use Rattle.root_slots.specs.declared.root.Root.{Root}
 use Rattle.epoch_store.specs.Stores.{IsDiskOf, HasSizes}
-use Rattle.epoch_store.proofs.Initial.{making_leaves, makes_only, owns_empty, only_settled, sized_empty}
+use Rattle.epoch_store.proofs.Initial.{making_leaves, makes_only, owns_empty, only_settled, only_rooted, sized_empty}
 use Rattle.epoch_store.proofs.store.Store.init.Goals as goal
 
 pub returns-in_err-make-clause-any_moment : goal.returns-in_err-make-clause-any_moment
@@ -59,3 +59,11 @@ returns-clause-settled g c =
     let k3 = g.D.Disk.content c.make.new.disk in
     let config = c.args.config.now in
     only_settled config k3 (makes_only config c.first_root-root.result c.first_root-root.ensures.root c.as_slice.result.now _ c.as_slice.ensures k1 k2 k3 c.all_names.ensures.same c.in_ok-names.ensures.names c.in_ok-make.ensures.done)
+
+pub returns-clause-rooted : goal.returns-clause-rooted
+returns-clause-rooted g c =
+    let k1 = g.D.Disk.content c.no_archive.new.disk in
+    let k2 = g.D.Disk.content c.all_names.new.disk in
+    let k3 = g.D.Disk.content c.make.new.disk in
+    let config = c.args.config.now in
+    only_rooted config k3 (makes_only config c.first_root-root.result c.first_root-root.ensures.root c.as_slice.result.now _ c.as_slice.ensures k1 k2 k3 c.all_names.ensures.same c.in_ok-names.ensures.names c.in_ok-make.ensures.done)

@@ -4,12 +4,14 @@ use Rattle.arch_judge.specs.declared.index.Index.{Index}
 use Rattle.disk_model.specs.Disk.{Files, Image}
 use Rattle.disk_model.specs.Moments.{started, joined, weaker}
 use Rattle.root_change.specs.Texts.{StandsFor}
+use Rattle.root_slots.specs.Between.{looks_between}
 use Rattle.root_slots.specs.Slots.{slot_number}
 use Rattle.epoch_store.specs.Opens.{RecoversOfWith, SyncsFirst}
 use Rattle.epoch_store.specs.Recovery.{RecoversWith}
 use Rattle.epoch_store.specs.Stores.{View}
 use Rattle.epoch_store.specs.declared.finding.Found.{Found}
-use Rattle.epoch_store.proofs.Reopening.{texts_found, opening_stands, reading_stands, synced_recovers, refused_first, on_synced, opened_store, opened_kept, opened_sizes, opened_texts, opens_well, in_epochs, at_first}
+use Rattle.epoch_store.proofs.Readying.{synced_between}
+use Rattle.epoch_store.proofs.Reopening.{at_first, in_epochs, on_synced, opened_kept, opened_sizes, opened_store, opened_texts, opening_stands, opens_found, opens_well, reading_stands, refused_first, synced_recovers, texts_found}
 use Rattle.epoch_store.proofs.store.Store.open.Goals as goal
 
 pub returns-in-Err-clause-well : goal.returns-in-Err-clause-well
@@ -65,6 +67,7 @@ returns-in-Err-clause-first g c =
       before = c.find_synced.ensures.any_moment;
       after = λ a cache reads. started g.D.Disk.moment g.D.Disk.left_since d1 (λ (image : Files). RecoversWith cache image a)
           (λ image left. synced_recovers cache a (g.D.Disk.content disk) (g.D.Disk.content d1) image reads only (g.met.D.Disk.only_now d1 image left));
+      none = λ none. started g.D.Disk.moment g.D.Disk.left_since d1 (Image (g.D.Disk.content d1)) (λ image left. g.met.D.Disk.only_now d1 image left);
     })
 
 pub returns-in-Ok-settle-clause-first : goal.returns-in-Ok-settle-clause-first
@@ -79,6 +82,7 @@ returns-in-Ok-settle-clause-first g c =
       after = λ a cache reads.
           let so = reading_stands c.law_of_spellings.ensures.differ found cache a (g.D.Disk.content disk) (g.D.Disk.content d1) c.in-Ok.ensures.found reads c.in-Ok.ensures.synced in
           weaker g.D.Disk.moment g.D.Disk.left_since d1 c.settle.new.disk (StandsFor found.root (texts_found found cache a)) (λ (image : Files). RecoversWith cache image a) (c.settle.ensures.any_moment (texts_found found cache a) so.0) so.1;
+      none = λ none. absurd (opens_found found (g.D.Disk.content disk) c.in-Ok.ensures.found none);
     }
 
 pub returns-in-Err-settle-clause-first : goal.returns-in-Err-settle-clause-first
@@ -94,6 +98,7 @@ returns-in-Err-settle-clause-first g c =
       after = λ a cache reads.
           let so = reading_stands c.law_of_spellings.ensures.differ found cache a (g.D.Disk.content disk) (g.D.Disk.content d1) c.in-Ok.ensures.found reads c.in-Ok.ensures.synced in
           weaker g.D.Disk.moment g.D.Disk.left_since d1 c.settle.new.disk (StandsFor found.root (texts_found found cache a)) (λ (image : Files). RecoversWith cache image a) (c.settle.ensures.any_moment (texts_found found cache a) so.0) so.1;
+      none = λ none. absurd (opens_found found (g.D.Disk.content disk) c.in-Ok.ensures.found none);
     })
 
 pub returns-in-Ok-settle-clause-texts : goal.returns-in-Ok-settle-clause-texts
@@ -115,6 +120,7 @@ returns-in-Ok-settle-clause-before g c =
       after = λ a cache reads.
           let so = reading_stands c.law_of_spellings.ensures.differ found cache a (g.D.Disk.content disk) (g.D.Disk.content d1) c.in-Ok.ensures.found reads c.in-Ok.ensures.synced in
           weaker g.D.Disk.moment g.D.Disk.left_since d1 c.settle.new.disk (StandsFor found.root (texts_found found cache a)) (λ (image : Files). RecoversWith cache image a) (c.settle.ensures.any_moment (texts_found found cache a) so.0) so.1;
+      none = λ none. absurd (opens_found found (g.D.Disk.content disk) c.in-Ok.ensures.found none);
     })
 
 pub returns-in-Err-settle-clause-before : goal.returns-in-Err-settle-clause-before
@@ -129,4 +135,18 @@ returns-in-Err-settle-clause-before g c =
       after = λ a cache reads.
           let so = reading_stands c.law_of_spellings.ensures.differ found cache a (g.D.Disk.content disk) (g.D.Disk.content d1) c.in-Ok.ensures.found reads c.in-Ok.ensures.synced in
           weaker g.D.Disk.moment g.D.Disk.left_since d1 c.settle.new.disk (StandsFor found.root (texts_found found cache a)) (λ (image : Files). RecoversWith cache image a) (c.settle.ensures.any_moment (texts_found found cache a) so.0) so.1;
+      none = λ none. absurd (opens_found found (g.D.Disk.content disk) c.in-Ok.ensures.found none);
     })
+
+pub returns-in-Err-clause-between : goal.returns-in-Err-clause-between
+returns-in-Err-clause-between g c = looks_between g.D.Disk.content g.D.Disk.moment g.D.Disk.left_since c.args.disk.now c.find_synced.new.disk c.find_synced.ensures.any_moment
+
+pub returns-in-Ok-settle-clause-between : goal.returns-in-Ok-settle-clause-between
+returns-in-Ok-settle-clause-between g c =
+    let disk = c.args.disk.now in
+    synced_between g.D.Disk.content g.D.Disk.moment g.D.Disk.left_since disk c.find_synced.new.disk c.settle.new.disk (g.met.D.Disk.reads_fit disk) c.in-Ok.ensures.synced c.find_synced.ensures.any_moment c.settle.ensures.between
+
+pub returns-in-Err-settle-clause-between : goal.returns-in-Err-settle-clause-between
+returns-in-Err-settle-clause-between g c =
+    let disk = c.args.disk.now in
+    synced_between g.D.Disk.content g.D.Disk.moment g.D.Disk.left_since disk c.find_synced.new.disk c.settle.new.disk (g.met.D.Disk.reads_fit disk) c.in-Ok.ensures.synced c.find_synced.ensures.any_moment c.settle.ensures.between

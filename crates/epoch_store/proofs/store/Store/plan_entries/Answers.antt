@@ -10,6 +10,7 @@ use Rattle.epoch_store.specs.Stores.{KeptOf, View, without_blob}
 use Rattle.epoch_store.proofs.FindingTold.{reads_none, reads_both}
 use Rattle.epoch_store.proofs.Losing.{lost_more}
 use Rattle.epoch_store.proofs.Purged.{entry_at, first_none, first_more, first_stops, first_whole, kept_more, plans_none, rose_later_than}
+use Rattle.epoch_store.proofs.TextDamage.{entry_damage}
 use Rattle.epoch_store.proofs.store.Store.plan_entries.Goals as goal
 
 pub loop-entry-init : goal.loop-entry-init
@@ -35,6 +36,14 @@ returns-in-Err-clause-undamaged g c =
     let e = c.entry-item.result in
     let here = entry_at v c.self.inside.root c.self.inside.slot c.self.inside.entries.items c.as_slice-entry-items.result.now i e c.self.view_is c.as_slice-entry-items.ensures.value c.loop-entry-test.true c.entry-item.is in
     first_stops v c.args.blob.now i c.loop-entry.planned c.take.new.self (g.D.Disk.content c.args.disk.now) (g.D.Disk.content c.loop-entry.disk) e c.file_of.result c.in-Err.refusal (Unit {0}) inv.reads.same here c.file_of.ensures c.requires.there inv.first c.in-Err.ensures.taken
+
+pub returns-in-Err-clause-damage : goal.returns-in-Err-clause-damage
+returns-in-Err-clause-damage g c =
+    let v = c.args.self.now in
+    let i = c.loop-entry.entry-index in
+    let e = c.entry-item.result in
+    let here = entry_at v c.self.inside.root c.self.inside.slot c.self.inside.entries.items c.as_slice-entry-items.result.now i e c.self.view_is c.as_slice-entry-items.ensures.value c.loop-entry-test.true c.entry-item.is in
+    entry_damage v i e c.file_of.result (g.D.Disk.content c.args.disk.now) (g.D.Disk.content c.loop-entry.disk) c.in-Err.refusal here c.file_of.ensures c.loop-entry.invariant.reads.same c.in-Err.ensures.damage
 
 pub returns-in-Err-clause-reads : goal.returns-in-Err-clause-reads
 returns-in-Err-clause-reads g c = reads_both g.D.Disk.content g.D.Disk.moment g.D.Disk.left_since g.D.Disk.faults c.args.disk.now c.loop-entry.disk c.take.new.disk c.loop-entry.invariant.reads c.take.ensures.reads

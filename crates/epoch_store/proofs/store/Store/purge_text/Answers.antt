@@ -8,10 +8,11 @@ use Rattle.epoch_store.proofs.CarriedOut.{kept_low, purged_archive}
 use Rattle.epoch_store.proofs.Changing.{planned, unplanned}
 use Rattle.epoch_store.proofs.Delivering.{store_keeps}
 use Rattle.epoch_store.proofs.KeptFiles.{purge_keeps}
+use Rattle.epoch_store.proofs.TextDamage.{entry_told}
 use Rattle.epoch_store.proofs.store.Store.purge_text.Goals as goal
 
 pub returns-in-Err-clause-changes : goal.returns-in-Err-clause-changes
-returns-in-Err-clause-changes g c = unplanned c.plan_without.ensures.reads c.in-Err.refusal refl c.in-Err.ensures.undamaged (search rules) c.plan_without.ensures.fewest
+returns-in-Err-clause-changes g c = unplanned c.plan_without.ensures.reads c.in-Err.refusal refl c.in-Err.ensures.undamaged (entry_told c.args.self.now (g.D.Disk.content c.args.disk.now) c.in-Err.refusal c.in-Err.ensures.damage) (search rules) c.plan_without.ensures.fewest
 
 pub carry_out-requires-clause-epochs : goal.carry_out-requires-clause-epochs
 carry_out-requires-clause-epochs g c = kept_low c.args.self.now.entries c.in-Ok.planned.entries c.args.blob.now.0 (subst (λ (u : View). InEpochs u.entries) c.self.view_is c.self.invariant.1) c.in-Ok.ensures.planned.kept

@@ -1,19 +1,21 @@
 -- One step for the entry, and one for the root.
-use Rattle.std.proofs.Common.{◌≡◌, ◌<◌, ◌+◌, ◌∙◌, length, sym, ap, subst, arith}
+use Rattle.std.proofs.Common.{◌≡◌, ◌<◌, ◌+◌, ◌-◌, ◌∙◌, ℕ, length, sym, ap, subst, arith}
 use Rattle.disk_model.specs.Disk.{Told, WhereTold, OneFile, Wrote, IsAtMostLength}
 use Rattle.disk_model.specs.declared.name.FileName.{FileName}
 use Rattle.epoch_file.specs.declared.entry.Written.{Written}
 use Rattle.epoch_file.specs.Appending.{appended}
 use Rattle.root_slots.specs.declared.root.Root.{Root}
-use Rattle.root_slots.specs.Slots.{slot_number}
+use Rattle.root_slots.specs.Slots.{slot_number, HasNewRoot}
+use Rattle.root_slots.specs.Spelling.{spelling}
 use Rattle.root_change.specs.Names.{epoch_name, bounds_of}
 use Rattle.root_change.specs.Parts.{texts_of}
 use Rattle.root_change.specs.Texts.{KeepsNamed}
 use Rattle.root_change.proofs.Grown.{epoch_isnt_root}
+use Rattle.root_change.proofs.Phases.{beside_between}
 use Rattle.epoch_store.specs.Recovery.{parts_of}
 use Rattle.epoch_store.specs.Stores.{View, HasSizes, IsStoreWith, EndsNext, place_of, root_ended, with_ending, view_ended}
 use Rattle.epoch_store.proofs.Kept.{place_inside}
-use Rattle.epoch_store.proofs.Delivering.{appended_some, sizes_ended, root_beside, root_sized}
+use Rattle.epoch_store.proofs.Delivering.{appended_some, sizes_ended, root_beside, root_sized, rooted_beside, replaced_between}
 use Rattle.epoch_store.proofs.EntryWriting.{entry_respects, entry_leaves, to_replace, replacing_leaves, replaced, deletion_texts, deletion_written, deletion_stored}
 use Rattle.epoch_store.proofs.store.Store.write_deletion.Goals as goal
 
@@ -114,3 +116,32 @@ returns-clause-sizes g c =
     let kept = subst (λ (r : Root). Told (KeepsNamed r) k1 k2) c.ended_root-root.ensures.root c.in_ok-replace_root.ensures.kept in
     subst (λ (r : Root). WhereTold (HasSizes (record v { root = r })) k2) (sym c.ended_root-root.ensures.root)
     (sizes_ended v p written.end v.slot v.entries (appended p.length e) c.requires.place c.requires.small c.ended_root-root.ensures.count ends some k0 k1 k2 c.requires.sizes inside one kept)
+
+pub returns-clause-rooted : goal.returns-clause-rooted
+returns-clause-rooted g c =
+    let content = g.D.Disk.content in
+    let p = c.args.place.now in
+    let k0 = content c.args.disk.now in
+    let k1 = content c.append_entry.new.disk in
+    let k2 = content c.replace_root.new.disk in
+    let body = spelling c.ended_root-root.result in
+    subst (λ (n : ℕ). Told (HasNewRoot n body) k0 k2) (c.other-other.ensures ∙ ap (λ (u : View). 1 - u.slot) c.self.view_is)
+    (rooted_beside c.epoch_file-epoch.result p.length (appended p.length c.args.entry.now) (slot_number c.other-other.result) body k0 k1 k2 (λ is. epoch_isnt_root p.epoch p.gen_ (sym c.epoch_file-epoch.ensures ∙ is)) c.in_ok-written.ensures.left c.in_ok-replace_root.ensures.rooted)
+
+pub returns-in_err-written-clause-between : goal.returns-in_err-written-clause-between
+returns-in_err-written-clause-between g c =
+    let v = c.args.self.now in
+    let run = c.append_entry.ensures.beside (bounds_of v.root) (entry_respects v.root c.args.place.now c.epoch_file-epoch.result c.epoch_file-epoch.ensures c.requires.place c.requires.small) in
+    beside_between g.D.Disk.content g.D.Disk.moment g.D.Disk.left_since v.root c.args.disk.now c.append_entry.new.disk run
+
+pub returns-in_err-replace_root-clause-between : goal.returns-in_err-replace_root-clause-between
+returns-in_err-replace_root-clause-between g c =
+    let v = c.args.self.now in
+    let run = c.append_entry.ensures.beside (bounds_of v.root) (entry_respects v.root c.args.place.now c.epoch_file-epoch.result c.epoch_file-epoch.ensures c.requires.place c.requires.small) in
+    replaced_between g.D.Disk.content g.D.Disk.moment g.D.Disk.left_since v.root c.args.disk.now c.append_entry.new.disk c.replace_root.new.disk run c.replace_root.ensures.between
+
+pub returns-clause-between : goal.returns-clause-between
+returns-clause-between g c =
+    let v = c.args.self.now in
+    let run = c.append_entry.ensures.beside (bounds_of v.root) (entry_respects v.root c.args.place.now c.epoch_file-epoch.result c.epoch_file-epoch.ensures c.requires.place c.requires.small) in
+    replaced_between g.D.Disk.content g.D.Disk.moment g.D.Disk.left_since v.root c.args.disk.now c.append_entry.new.disk c.replace_root.new.disk run c.replace_root.ensures.between

@@ -1,5 +1,5 @@
 -- One step for the entry, one for its record, and one for the root.
-use Rattle.std.proofs.Common.{◌≡◌, ◌<◌, ◌+◌, ◌∙◌, ℕ, List, length, sym, ap, subst, arith}
+use Rattle.std.proofs.Common.{◌≡◌, ◌<◌, ◌+◌, ◌-◌, ◌∙◌, ℕ, List, length, sym, ap, subst, arith}
 use Rattle.std.specs.Prelude.{refl}
 use Rattle.disk_model.specs.Disk.{Told, WhereTold, OneFile, Wrote, IsAtMostLength}
 use Rattle.disk_model.specs.declared.name.FileName.{FileName}
@@ -8,16 +8,18 @@ use Rattle.number_map.specs.Records.{record_bytes}
 use Rattle.epoch_file.specs.declared.entry.Written.{Written}
 use Rattle.epoch_file.specs.Appending.{appended}
 use Rattle.root_slots.specs.declared.root.Root.{Root}
-use Rattle.root_slots.specs.Slots.{slot_number}
+use Rattle.root_slots.specs.Slots.{slot_number, HasNewRoot}
+use Rattle.root_slots.specs.Spelling.{spelling}
 use Rattle.root_change.specs.Names.{epoch_name, bounds_of}
 use Rattle.root_change.specs.Parts.{texts_of}
 use Rattle.root_change.specs.Texts.{KeepsNamed}
 use Rattle.root_change.proofs.Grown.{epoch_isnt_root, map_isnt_root}
+use Rattle.root_change.proofs.Phases.{beside_between}
 use Rattle.epoch_store.specs.Files.{map_file_of}
 use Rattle.epoch_store.specs.Recovery.{parts_of}
 use Rattle.epoch_store.specs.Stores.{View, HasSizes, IsStoreWith, GoesNext, place_of, root_after, with_message, view_after}
 use Rattle.epoch_store.proofs.Kept.{place_inside}
-use Rattle.epoch_store.proofs.Delivering.{appended_some, sizes_after, root_beside, root_sized}
+use Rattle.epoch_store.proofs.Delivering.{appended_some, sizes_after, root_beside, root_sized, rooted_beside, replaced_between}
 use Rattle.epoch_store.proofs.EntryWriting.{entry_respects, map_respects, entry_leaves, to_replace, replacing_leaves, replaced, message_texts, message_written, message_stored}
 use Rattle.epoch_store.proofs.store.Store.write_entry.Goals as goal
 
@@ -142,3 +144,62 @@ returns-clause-sizes g c =
     let kept = subst (λ (r : Root). Told (KeepsNamed r) k2 k3) c.next_root-root.ensures.root c.in_ok-replace_root.ensures.kept in
     subst (λ (r : Root). WhereTold (HasSizes (record v { root = r })) k3) (sym c.next_root-root.ensures.root)
     (sizes_after v p written.end v.slot v.entries (appended p.length e) line c.requires.place c.requires.small c.next_root-root.ensures.count ends some c.append.ensures.size k0 k1 k2 k3 c.requires.sizes inside one two kept)
+
+pub returns-clause-rooted : goal.returns-clause-rooted
+returns-clause-rooted g c =
+    let content = g.D.Disk.content in
+    let p = c.args.place.now in
+    let k0 = content c.args.disk.now in
+    let k1 = content c.append_entry.new.disk in
+    let k2 = content c.append.new.disk in
+    let k3 = content c.replace_root.new.disk in
+    let free = slot_number c.other-slot.result in
+    let body = spelling c.next_root-root.result in
+    subst (λ (n : ℕ). Told (HasNewRoot n body) k0 k3) (c.other-slot.ensures ∙ ap (λ (u : View). 1 - u.slot) c.self.view_is)
+    (rooted_beside c.epoch_file-epoch.result p.length (appended p.length c.args.entry.now) free body k0 k1 k3 (λ is. epoch_isnt_root p.epoch p.gen_ (sym c.epoch_file-epoch.ensures ∙ is)) c.in_ok-written.ensures.left
+    (rooted_beside c.map_file-map.result c.self.inside.root.map.length _ free body k1 k2 k3 (λ is. map_isnt_root c.self.inside.root.map.gen_ (sym c.map_file-map.ensures ∙ is)) c.in_ok-append.ensures.written c.in_ok-replace_root.ensures.rooted))
+
+pub returns-in_err-written-clause-between : goal.returns-in_err-written-clause-between
+returns-in_err-written-clause-between g c =
+    let v = c.args.self.now in
+    let run = c.append_entry.ensures.beside (bounds_of v.root) (entry_respects v.root c.args.place.now c.epoch_file-epoch.result c.epoch_file-epoch.ensures c.requires.place c.requires.small) in
+    beside_between g.D.Disk.content g.D.Disk.moment g.D.Disk.left_since v.root c.args.disk.now c.append_entry.new.disk run
+
+pub returns-in_err-append-clause-between : goal.returns-in_err-append-clause-between
+returns-in_err-append-clause-between g c =
+    let disk = c.args.disk.now in
+    let d1 = c.append_entry.new.disk in
+    let d2 = c.append.new.disk in
+    let content = g.D.Disk.content in
+    let p = c.args.place.now in
+    let root = c.self.inside.root in
+    let bounds = bounds_of root in
+    let place = subst (λ (u : View). p ≡ place_of u.root p.epoch p.parent) (sym c.self.view_is) c.requires.place in
+    let run = run_joined content g.D.Disk.moment g.D.Disk.left_since bounds disk d1 d2 (c.append_entry.ensures.beside bounds (entry_respects root p c.epoch_file-epoch.result c.epoch_file-epoch.ensures place c.requires.small)) (c.append.ensures.beside bounds (map_respects root c.map_file-map.result c.map_file-map.ensures)) in
+    beside_between content g.D.Disk.moment g.D.Disk.left_since root disk d2 run
+
+pub returns-in_err-replace_root-clause-between : goal.returns-in_err-replace_root-clause-between
+returns-in_err-replace_root-clause-between g c =
+    let disk = c.args.disk.now in
+    let d1 = c.append_entry.new.disk in
+    let d2 = c.append.new.disk in
+    let content = g.D.Disk.content in
+    let p = c.args.place.now in
+    let root = c.self.inside.root in
+    let bounds = bounds_of root in
+    let place = subst (λ (u : View). p ≡ place_of u.root p.epoch p.parent) (sym c.self.view_is) c.requires.place in
+    let run = run_joined content g.D.Disk.moment g.D.Disk.left_since bounds disk d1 d2 (c.append_entry.ensures.beside bounds (entry_respects root p c.epoch_file-epoch.result c.epoch_file-epoch.ensures place c.requires.small)) (c.append.ensures.beside bounds (map_respects root c.map_file-map.result c.map_file-map.ensures)) in
+    replaced_between content g.D.Disk.moment g.D.Disk.left_since root disk d2 c.replace_root.new.disk run c.replace_root.ensures.between
+
+pub returns-clause-between : goal.returns-clause-between
+returns-clause-between g c =
+    let disk = c.args.disk.now in
+    let d1 = c.append_entry.new.disk in
+    let d2 = c.append.new.disk in
+    let content = g.D.Disk.content in
+    let p = c.args.place.now in
+    let root = c.self.inside.root in
+    let bounds = bounds_of root in
+    let place = subst (λ (u : View). p ≡ place_of u.root p.epoch p.parent) (sym c.self.view_is) c.requires.place in
+    let run = run_joined content g.D.Disk.moment g.D.Disk.left_since bounds disk d1 d2 (c.append_entry.ensures.beside bounds (entry_respects root p c.epoch_file-epoch.result c.epoch_file-epoch.ensures place c.requires.small)) (c.append.ensures.beside bounds (map_respects root c.map_file-map.result c.map_file-map.ensures)) in
+    replaced_between content g.D.Disk.moment g.D.Disk.left_since root disk d2 c.replace_root.new.disk run c.replace_root.ensures.between
