@@ -1,5 +1,5 @@
 -- What was walked through so far, and the views of its live messages.
-use Rattle.std.specs.Prelude.{◌≡◌, ◌+◌, ◌<◌, ◌≤◌, ◌&&◌, ℕ, zero, suc, Bool, true, false, not, List, [], ◌∷◌, ◌++◌, length, take, slice_get, Some, None, Err, refl, if◌then◌else◌}
+use Rattle.std.specs.Prelude.{◌≡◌, ◌+◌, ◌<◌, ◌≤◌, ◌&&◌, ℕ, zero, suc, Bool, true, false, not, List, [], ◌∷◌, ◌++◌, length, take, drop, slice_get, Some, None, Err, refl, if◌then◌else◌}
 use Rattle.std.proofs.Common.{◌∙◌, sym, ap, subst, arith}
 use Rattle.git_objects.specs.declared.entry_kind.EntryKind.{EntryKind}
 use Rattle.git_objects.specs.declared.entry_kind.EntryKind.TheVariants.{Message, Deletion}
@@ -15,7 +15,7 @@ use Rattle.arch_model.specs.declared.line.EntryLine.{EntryLine}
 use Rattle.arch_model.proofs.LiveEntries.{live-message, live-deletion, without as without_number}
 use Rattle.overview_index.proofs.Messages.{AllBelow, Ascends}
 use Rattle.view_set.specs.Viewed.{Viewed, with_mail, without_mail, views_of}
-use Rattle.view_set.specs.Walks.{AddsRowAt, IsDamagedAt, NamesBlob}
+use Rattle.view_set.specs.Walks.{AddsRowAt, IsDamagedAt, NamesBlob, message_count, reads_of}
 use Rattle.view_set.proofs.MailLists.{mails-added, mails-taken}
 
 only : {X : Type 0} (x y : X) → Some x ≡ Some y → x ≡ y
@@ -131,10 +131,11 @@ views-deletion a i line old new valid is kind old_is new_is =
     ∙ ap views_of (sym (ap live more ∙ shrinks))
 
 -- What was walked through so far.
-pub record Filled {W : Type 0} (holds : W → Archive → Type 0) (sound : W → Type 0) (lines : W → List EntryLine) (alike : W → W → Type 0) (faults : W → ℕ) (old new : W) (index : ℕ) (views : Viewed) : Type 0 where
+pub record Filled {W : Type 0} (holds : W → Archive → Type 0) (sound : W → Type 0) (lines : W → List EntryLine) (alike : W → W → Type 0) (faults reads : W → ℕ) (old new : W) (index : ℕ) (views : Viewed) : Type 0 where
   pub walk : WalksOn holds sound lines alike faults old new
   pub views_are : (a : Archive) → holds old a → views ≡ views_of (live (take index a.entries))
   pub steady : faults new ≡ faults old
+  pub few : reads new + message_count (drop index (lines old)) ≤ reads old + message_count (lines old)
 
 module _ {W : Type 0} (holds : W → Archive → Type 0) (sound : W → Type 0) (lines : W → List EntryLine) (alike : W → W → Type 0) (faults : W → ℕ) (alike_same : (w : W) → alike w w) (alike_joined : (w x y : W) → alike w x → alike x y → alike w y) where
   pub walks-same : (w : W) → WalksOn holds sound lines alike faults w w
@@ -159,3 +160,12 @@ pub damaged-at : (lines : List EntryLine) (index : ℕ) (line : EntryLine) (why 
 damaged-at lines index line refusal.DiskFault here kind names = tt
 damaged-at lines index line (refusal.Damaged named found) here kind names = (line, here, kind, names.0, names.1)
 damaged-at lines index line refusal.NoMemory here kind names = tt
+
+-- The messages from an index on are that of the line there and those after it.
+count-more : (ls : List EntryLine) (i : ℕ) (line : EntryLine) → slice_get ls i ≡ Some line → message_count (drop i ls) ≡ reads_of line.kind + message_count (drop (i + 1) ls)
+count-more [] i line is = absurd (cc)
+count-more (l ∷ ls) zero line is = ap (λ (x : EntryLine). reads_of x.kind + message_count ls) (only l line is)
+count-more (l ∷ ls) (suc i) line is = let on : suc i + 1 ≡ suc (i + 1) = omega arith in rw on (count-more ls i line is)
+
+pub messages-from : (ls now : List EntryLine) (i : ℕ) (line : EntryLine) → now ≡ ls → slice_get now i ≡ Some line → message_count (drop i ls) ≡ reads_of line.kind + message_count (drop (i + 1) ls)
+messages-from ls now i line same is = count-more ls i line (ap (λ (l : List EntryLine). slice_get l i) (sym same) ∙ is)

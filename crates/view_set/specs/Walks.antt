@@ -1,7 +1,8 @@
 -- What a walk through entries makes of the rows of live messages.
-use Rattle.std.specs.Prelude.{◌≡◌, ◌≢◌, ◌<◌, ℕ, List, Some, slice_get, Result, Ok, Err}
+use Rattle.std.specs.Prelude.{◌≡◌, ◌≢◌, ◌+◌, ◌<◌, ℕ, List, [], ◌∷◌, Some, slice_get, Result, Ok, Err}
 use Rattle.arch_base.specs.declared.ids.Id20.{Id20}
-use Rattle.git_objects.specs.declared.entry_kind.EntryKind.TheVariants.{Message}
+use Rattle.git_objects.specs.declared.entry_kind.EntryKind.{EntryKind}
+use Rattle.git_objects.specs.declared.entry_kind.EntryKind.TheVariants.{Message, Deletion}
 use Rattle.arch_model.specs.Archives.{Entry}
 use Rattle.arch_model.specs.Rows.{row_of}
 use Rattle.arch_model.specs.Shelves.{ReadingWhy, IsUndamaged}
@@ -52,3 +53,13 @@ abbrev pub AddsRowAt : List Entry → ℕ → ℕ → ℕ → Viewed → Viewed 
 AddsRowAt entries index number moment old new =
     (text : List ℕ) × HasTextAt entries index text
     × (new ≡ with_mail old (row_of number text moment) (mail_words text))
+
+-- How often the text of an entry of a kind is read: once, if it is a message.
+abbrev pub reads_of : EntryKind → ℕ
+reads_of Message = 1
+reads_of Deletion = 0
+
+-- How many of these entries are messages.
+abbrev pub message_count : List EntryLine → ℕ
+message_count [] = 0
+message_count (line ∷ lines) = reads_of line.kind + message_count lines

@@ -1,10 +1,10 @@
 //! The views of what is walked through.
-ghost use Rattle.std.specs.Prelude.{◌≡◌, ◌+◌, ◌<◌, ℕ, Some, take, length, slice_get, IfOk, IfErr, OnOk};
+ghost use Rattle.std.specs.Prelude.{◌≡◌, ◌+◌, ◌<◌, ◌≤◌, ℕ, Some, take, length, slice_get, IfOk, IfErr, OnOk};
 ghost use Rattle.arch_model.specs.Archives.{Archive, live};
 ghost use Rattle.view_set.specs.Viewed.{views_of, no_mails};
-ghost use Rattle.arch_model.specs.Shelves.{line_at, ReadCause, IsUndamaged};
+ghost use Rattle.arch_model.specs.Shelves.{line_at, ReadCause, ReadsOnce, IsUndamaged};
 ghost use Rattle.arch_model.specs.Walking.{WalksOn};
-ghost use Rattle.view_set.specs.Walks.{AddsRowAt, IsDamagedAt, NamesBlob, TellsDamage, WalkWhy, WalksUndamaged, StopsWithin};
+ghost use Rattle.view_set.specs.Walks.{AddsRowAt, IsDamagedAt, NamesBlob, TellsDamage, WalkWhy, WalksUndamaged, StopsWithin, message_count, reads_of};
 
 use crate::rows::add_if_stored;
 use crate::views::Views;
@@ -25,7 +25,7 @@ pub struct Unread {
 }
 
 /// Returns the views of the live messages of what is walked through: those that its deliveries and
-/// removals would have made. Reads each message once, for its row and its words.
+/// removals would have made. Reads each message at most once, for its row and its words.
 ///
 /// A refusal has the index of the entry at which the walk stopped. `DiskFault` if a read failed, and
 /// the count of faults rose; `Damaged` if the text of that entry, a message, has another id than its
@@ -39,6 +39,7 @@ pub fn rebuild<W: Walked>(alloc: Global, walked: &mut W) -> Result<Views, Unread
     ensures damage { TellsDamage (W.lines walked.old) result }
     ensures walk { WalksOn W.holds W.sound W.lines W.alike W.faults walked.old walked.new }
     ensures cause { WalkWhy (W.faults walked.old) (W.faults walked.new) result }
+    ensures reads { W.reads walked.new ≤ W.reads walked.old + message_count (W.lines walked.old) }
 {
     let mut views = Views::new(alloc);
     match fill(alloc, walked, &mut views) {
@@ -58,6 +59,7 @@ fn fill<W: Walked>(alloc: Global, walked: &mut W, views: &mut Views) -> Result<(
     ensures damage { TellsDamage (W.lines walked.old) result }
     ensures walk { WalksOn W.holds W.sound W.lines W.alike W.faults walked.old walked.new }
     ensures cause { WalkWhy (W.faults walked.old) (W.faults walked.new) result }
+    ensures reads { W.reads walked.new ≤ W.reads walked.old + message_count (W.lines walked.old) }
 {
     let mut index: u64 = 0;
     while let Some(line) = walked.entry(index) {
@@ -96,6 +98,7 @@ fn take_line<W: Walked>(
     ensures damage { IfErr result (λ why. IsDamagedAt (W.lines walked.old) index why) }
     ensures walk { WalksOn W.holds W.sound W.lines W.alike W.faults walked.old walked.new }
     ensures cause { ReadCause (W.faults walked.old) (W.faults walked.new) result }
+    ensures reads { W.reads walked.new ≤ W.reads walked.old + reads_of line.now.kind }
 {
     match line.kind {
         EntryKind::Message => add_message(alloc, walked, views, index, line),
@@ -123,6 +126,7 @@ fn add_message<W: Walked>(
     ensures damage { IfErr result (NamesBlob line.now.blob) }
     ensures walk { WalksOn W.holds W.sound W.lines W.alike W.faults walked.old walked.new }
     ensures cause { ReadCause (W.faults walked.old) (W.faults walked.new) result }
+    ensures reads { ReadsOnce (W.reads walked.old) (W.reads walked.new) }
 {
     let mut text = Bytes::new(alloc);
     if let Err(why) = walked.text(index, &mut text) {

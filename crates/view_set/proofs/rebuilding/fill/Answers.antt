@@ -3,7 +3,7 @@ use Rattle.arch_model.specs.Archives.{live}
 use Rattle.view_set.specs.Viewed.{views_of}
 use Rattle.view_set.specs.Walks.{IsDamagedAt}
 use Rattle.arch_model.proofs.Shelving.{why-earlier}
-use Rattle.view_set.proofs.Walking.{walks-same, walks-joined, take-zero, take-all, line-within}
+use Rattle.view_set.proofs.Walking.{walks-same, walks-joined, take-zero, take-all, line-within, messages-from}
 use Rattle.view_set.proofs.rebuilding.fill.Goals as goal
 
 pub loop-line-init : goal.loop-line-init
@@ -11,6 +11,7 @@ loop-line-init g c = record {
   walk = walks-same g.W.Walked.holds g.W.Walked.sound g.W.Walked.lines g.W.Walked.alike g.W.Walked.faults g.met.W.Walked.alike_same g.met.W.Walked.alike_joined c.args.walked.now;
   views_are = λ a held. c.requires.none ∙ ap (λ es. views_of (live es)) (sym (take-zero a.entries));
   steady = search rules;
+  few = omega arith;
 }
 
 pub take_line-requires : goal.take_line-requires
@@ -31,6 +32,11 @@ loop-line-preserved g c = record {
   walk = walks-joined g.W.Walked.holds g.W.Walked.sound g.W.Walked.lines g.W.Walked.alike g.W.Walked.faults g.met.W.Walked.alike_same g.met.W.Walked.alike_joined c.args.walked.now c.loop-line.walked c.take_line.new.walked c.loop-line.invariant.walk c.take_line.ensures.walk;
   views_are = λ a held. rw c.in-Some-checked_add.ensures.1 (c.in_default-take_line.ensures.rows a (c.loop-line.invariant.walk.kept a held) (c.loop-line.invariant.views_are a held));
   steady = c.in_default-take_line.ensures.cause ∙ c.loop-line.invariant.steady;
+  few =
+      let more = messages-from (g.W.Walked.lines c.args.walked.now) (g.W.Walked.lines c.loop-line.walked) c.loop-line.index c.in-Some.line c.loop-line.invariant.walk.lines_are (sym c.in-Some.ensures.line) in
+      let before = c.loop-line.invariant.few in
+      let read = c.take_line.ensures.reads in
+      rw c.in-Some-checked_add.ensures.1 (omega (arith, more, before, read));
 }
 
 pub returns-clause-rows : goal.returns-clause-rows
@@ -56,3 +62,20 @@ returns-in-Err-clause-within g c =
 
 pub returns-in-Err-clause-damage : goal.returns-in-Err-clause-damage
 returns-in-Err-clause-damage g c = subst (λ ls. IsDamagedAt ls c.loop-line.index c.in-Err.why) c.loop-line.invariant.walk.lines_are c.in-Err.ensures.damage
+
+pub returns-clause-reads : goal.returns-clause-reads
+returns-clause-reads g c = (let before = c.loop-line.invariant.few in omega (arith, before))
+
+pub returns-in-Err-clause-reads : goal.returns-in-Err-clause-reads
+returns-in-Err-clause-reads g c =
+    let more = messages-from (g.W.Walked.lines c.args.walked.now) (g.W.Walked.lines c.loop-line.walked) c.loop-line.index c.in-Some.line c.loop-line.invariant.walk.lines_are (sym c.in-Some.ensures.line) in
+    let before = c.loop-line.invariant.few in
+    let read = c.take_line.ensures.reads in
+    omega (arith, more, before, read)
+
+pub returns-in_default-checked_add-clause-reads : goal.returns-in_default-checked_add-clause-reads
+returns-in_default-checked_add-clause-reads g c =
+    let more = messages-from (g.W.Walked.lines c.args.walked.now) (g.W.Walked.lines c.loop-line.walked) c.loop-line.index c.in-Some.line c.loop-line.invariant.walk.lines_are (sym c.in-Some.ensures.line) in
+    let before = c.loop-line.invariant.few in
+    let read = c.take_line.ensures.reads in
+    omega (arith, more, before, read)
