@@ -12,12 +12,13 @@ mod ByIndex
 mod Removing
 mod RisingPlaces
 mod KeepingUp
-mod Replies
+pub mod Replies
 mod KeptTexts
 mod OpeningRows
 mod Unmoved
 mod Dropping
 mod WithoutText
+mod TellingDamage
 mod EditCompares
 mod EditDone
 mod EditKept

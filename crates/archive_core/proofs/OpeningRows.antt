@@ -5,6 +5,7 @@ use Rattle.arch_base.specs.Counts.{RoseIf}
 use Rattle.disk_model.specs.Disk.{Files, Content, Image, Told, WhereTold, Unchanged, LeavesOnly}
 use Rattle.disk_model.specs.Moments.{joined}
 use Rattle.disk_model.specs.Synced.{IsSettled}
+use Rattle.root_slots.specs.Between.{BetweenStays}
 use Rattle.arch_model.specs.Archives.{Archive}
 use Rattle.arch_model.specs.declared.opening.OpenRefusal.{OpenRefusal}
 use Rattle.arch_model.specs.declared.opening.OpenRefusal.TheVariants as opening
@@ -37,6 +38,7 @@ module _ {D : Type 0} (content : D → Option Content) (moment : D → ℕ) (lef
     only = first.only;
     before = first.before;
     after = λ a cache reads. run-read first.synced mid new (λ (image : Files). RecoversWith cache image a) (first.after a cache reads) looks;
+    none = λ none. run-read first.synced mid new (Image (content first.synced)) (first.none none) looks;
   }
 
   before-read : (old mid new : D) → SyncsAtMost content moment left_since old mid → OnlyLooks content moment left_since mid new → SyncsAtMost content moment left_since old new
@@ -60,6 +62,7 @@ module _ {D : Type 0} (content : D → Option Content) (moment : D → ℕ) (lef
       kept = subst (λ (k : Option Content). Told (IsSettledBy v.root v.slot) (content old) k) (sym same) opened.kept;
       sizes = subst (WhereTold (HasSizes v)) (sym same) opened.sizes;
       cause = subst (λ (n : ℕ). RoseIf (◌≡◌ {A = Result View OpenRefusal} (Ok v) (Err opening.DiskFault)) (faults old) n) (sym steady) opened.cause;
+      between = run-read old mid new (BetweenStays (content old)) opened.between looks;
     }
 
     -- They weren't, and the archive isn't opened.
@@ -76,6 +79,7 @@ module _ {D : Type 0} (content : D → Option Content) (moment : D → ℕ) (lef
       kept = tt;
       sizes = tt;
       cause = subst (λ (n : ℕ). RoseIf (◌≡◌ {A = Result View OpenRefusal} (Err why) (Err opening.DiskFault)) n (faults new)) (opened.cause.kept (λ never. absurd (cc never))) cause;
+      between = run-read old mid new (BetweenStays (content old)) opened.between looks;
     }
       where
         by_why : (w : OpenRefusal) → OnSynced {T = View} (Err w) (SyncsFirst content moment left_since old new)
@@ -132,16 +136,16 @@ cause-of {T} {U} w before now cause = record {
   back fault = (let same : w ≡ opening.DiskFault = cc in ap (λ (x : OpenRefusal). Err x) same)
 
 -- What a refusal by a read leaves.
-pub kindly-read : (v : View) (before now after : Option Content) (w : OpenRefusal) → Told (IsSettledBy v.root v.slot) before now → WhereTold (HasTexts v) now → (IsSound v now → OpensWell {T = View} (Err w)) → Told Unchanged now after → StillReads before after → LeavesKindly w before after
-kindly-read v before now after opening.DiskFault told texts sound unchanged still = tt
-kindly-read v before now after opening.NoMemory told texts sound unchanged still = still
-kindly-read v None None None opening.NoArchive told texts sound unchanged still = tt
-kindly-read v None None (Some n) opening.NoArchive told texts sound unchanged still = absurd unchanged
-kindly-read v None (Some m) after opening.NoArchive told texts sound unchanged still = absurd told
-kindly-read v (Some k) None after opening.NoArchive told texts sound unchanged still = absurd told
-kindly-read v (Some k) (Some m) after opening.NoArchive told texts sound unchanged still = absurd (sound texts)
-kindly-read v None None None (opening.Damaged file at) told texts sound unchanged still = tt
-kindly-read v None None (Some n) (opening.Damaged file at) told texts sound unchanged still = absurd unchanged
-kindly-read v None (Some m) after (opening.Damaged file at) told texts sound unchanged still = absurd told
-kindly-read v (Some k) None after (opening.Damaged file at) told texts sound unchanged still = absurd told
-kindly-read v (Some k) (Some m) after (opening.Damaged file at) told texts sound unchanged still = absurd (sound texts)
+pub kindly-read : (v : View) (before now after : Option Content) (w : OpenRefusal) → WhereTold (λ (k : Content). Opens (as_read k) (Ok v)) before → Told (IsSettledBy v.root v.slot) before now → WhereTold (HasTexts v) now → (IsSound v now → OpensWell {T = View} (Err w)) → Told Unchanged now after → StillReads before after → LeavesKindly w before after
+kindly-read v before now after opening.DiskFault opens told texts sound unchanged still = tt
+kindly-read v before now after opening.NoMemory opens told texts sound unchanged still = (still, inr (v, opens, subst (λ (k : Option Content). Told (IsSettledBy v.root v.slot) before k) (sym (unchanged-is now after unchanged)) told))
+kindly-read v None None None opening.NoArchive opens told texts sound unchanged still = tt
+kindly-read v None None (Some n) opening.NoArchive opens told texts sound unchanged still = absurd unchanged
+kindly-read v None (Some m) after opening.NoArchive opens told texts sound unchanged still = absurd told
+kindly-read v (Some k) None after opening.NoArchive opens told texts sound unchanged still = absurd told
+kindly-read v (Some k) (Some m) after opening.NoArchive opens told texts sound unchanged still = absurd (sound texts)
+kindly-read v None None None (opening.Damaged file at) opens told texts sound unchanged still = tt
+kindly-read v None None (Some n) (opening.Damaged file at) opens told texts sound unchanged still = absurd unchanged
+kindly-read v None (Some m) after (opening.Damaged file at) opens told texts sound unchanged still = absurd told
+kindly-read v (Some k) None after (opening.Damaged file at) opens told texts sound unchanged still = absurd told
+kindly-read v (Some k) (Some m) after (opening.Damaged file at) opens told texts sound unchanged still = absurd (sound texts)

@@ -17,8 +17,12 @@ use Rattle.arch_judge.specs.declared.judging.Verdict.TheVariants.{Take, Refuse}
 use Rattle.epoch_file.specs.declared.refusal.StoreRefusal.{StoreRefusal}
 use Rattle.epoch_store.specs.Laws.{StoreRecovers}
 use Rattle.epoch_store.specs.Promises.{ChangesStore, Renews, Replaces}
+use Rattle.root_slots.specs.Between.{looks_between}
+use Rattle.root_slots.specs.Spelling.{spelling}
+use Rattle.epoch_store.proofs.Readying.{read_between}
 use Rattle.epoch_store.specs.Stores.{View, HasSizes, IsStoreWith, Keeps, MayPurge, RecoversOneOf, without_blob}
 use Rattle.archive_core.specs.Commands.{AnswersDelivery, DoneBy, IfUnreadEdit, OnDone, OnlyLooks, refusal_answer}
+use Rattle.archive_core.specs.DamageTold.{TellsEntry}
 use Rattle.archive_core.specs.Engines.{unchanged-is}
 use Rattle.archive_core.specs.Kept.{IndexesKept}
 use Rattle.archive_core.specs.Rewriting.{EditsAs, JudgesEdit, late_answer}
@@ -26,7 +30,8 @@ use Rattle.archive_core.specs.Walks.{looks-same}
 use Rattle.archive_core.proofs.KeptTexts.{error-done, error-then}
 use Rattle.archive_core.proofs.Replies.{when-refused, unless-failed}
 use Rattle.archive_core.proofs.Standing.{not-started, only-read, read-first, still_own, store_keeps}
-use Rattle.archive_core.proofs.Taking.{error-cause, error-unless, failed-done, still-sized, store-looks}
+use Rattle.archive_core.proofs.Taking.{error-cause, error-unless, failed-done, rooted-read, still-sized, store-looks}
+use Rattle.archive_core.proofs.TellingDamage.{late-damage, store-damage}
 use Rattle.archive_core.proofs.WithoutText.{index-without, live-message-is, message-agrees, purge-blob, refused-edit, unless-taken}
 
 -- What a refusal that comes late is, by the one that was given.
@@ -91,8 +96,8 @@ module _ {D : Type 0} (content : D → Option Content) (moment : D → ℕ) (lef
     (only_now : (disk : D) (image : Files) → left_since disk (moment disk) image → Image (content disk) image) where
   -- A delivery in place of a text was refused, after the disk was only read.
   pub edits-refused : StoreRecovers → (old mid : D) (v : View) (index : Index) (blob : Id20) (number : ℕ) (bytes : List ℕ) (arrived : ℕ) (reply : Answer) → MayPurge v number blob → IndexesKept (without_blob v.entries blob.0) index → WhereTold (HasSizes v) (content old)
-      → JudgesEdit content old v index bytes (Refuse reply) → OnlyLooks content moment left_since old mid → RoseIf (reply ≡ answer.DiskFault) (faults old) (faults mid) → EditsAs content moment left_since faults old mid v v number bytes arrived (late_answer reply)
-  edits-refused law old mid v index blob number bytes arrived reply may indexed sizes judges looks cause = record {
+      → JudgesEdit content old v index bytes (Refuse reply) → OnlyLooks content moment left_since old mid → RoseIf (reply ≡ answer.DiskFault) (faults old) (faults mid) → TellsEntry v (content old) reply → EditsAs content moment left_since faults old mid v v number bytes arrived (late_answer reply)
+  edits-refused law old mid v index blob number bytes arrived reply may indexed sizes judges looks cause damage = record {
     any_moment = λ a cache gone store room shown. only-read moment left_since law v cache [] a (unless_refused a (delivered (without_entries a gone) bytes arrived)).archive (content old) old mid store looks.any_moment;
     done = λ a cache gone store room shown. (
         let own = still_own v cache a (content old) (content mid) looks.same store in
@@ -107,6 +112,9 @@ module _ {D : Type 0} (content : D → Option Content) (moment : D → ℕ) (lef
     sizes = unless-failed (late_answer reply) _ (subst (WhereTold (HasSizes v)) (sym (unchanged-is (content old) (content mid) looks.same)) sizes);
     cause = late-cause reply (faults old) (faults mid) cause;
     for_command = late-delivery reply;
+    rooted = late-never reply _;
+    between = looks_between content moment left_since old mid looks.any_moment;
+    damage = late-damage v (content old) reply damage;
   }
 
   -- Memory ran out before the verdict.
@@ -123,6 +131,9 @@ module _ {D : Type 0} (content : D → Option Content) (moment : D → ℕ) (lef
     sizes = sizes;
     cause = record { later = omega arith; failed = λ fault. absurd (cc fault); kept = λ never. refl };
     for_command = tt;
+    rooted = tt;
+    between = (let looks = looks-same content moment left_since only_now disk in looks_between content moment left_since disk disk looks.any_moment);
+    damage = tt;
   }
 
   -- The verdict was to keep a text.
@@ -160,6 +171,9 @@ module _ {D : Type 0} (content : D → Option Content) (moment : D → ℕ) (lef
       sizes = error-unless why _ _ (still-sized content moment left_since old new v after keeps.same sizes) looked;
       cause = subst (λ (m : ℕ). RoseIf (refusal_answer why ≡ answer.DiskFault) m (faults new)) steady (error-cause why (faults mid) (faults new) keeps.cause);
       for_command = error-then why AnswersDelivery tt tt (λ file at. tt);
+      rooted = error-done why (refusal_answer why) _ refl;
+      between = read_between content moment left_since old mid new looks.same looks.any_moment keeps.between;
+      damage = store-damage v (content old) (content mid) why (refusal_answer why) refl looks.same keeps.damage;
     })
 
     -- It was kept.
@@ -182,4 +196,7 @@ module _ {D : Type 0} (content : D → Option Content) (moment : D → ℕ) (lef
       sizes = keeps.sizes;
       cause = subst (λ (m : ℕ). RoseIf (answer.Ok n ids.blob ≡ answer.DiskFault) m (faults new)) steady (record { later = keeps.cause.later; failed = λ fault. absurd (cc fault); kept = λ never. keeps.cause.kept (λ fault. absurd (cc fault)) });
       for_command = tt;
+      rooted = rooted-read after.slot (spelling after.root) (content old) (content mid) (content new) looks.same keeps.rooted;
+      between = read_between content moment left_since old mid new looks.same looks.any_moment keeps.between;
+      damage = tt;
     }

@@ -2,7 +2,10 @@
 use Rattle.std.specs.Prelude.{◌≡◌, ◌+◌, ◌<◌, ◌^◌, ℕ, Bool, true, false, List, Option, Some, None, Result, Ok, Err, is_some, refl, if◌then◌else◌}
 use Rattle.std.proofs.Common.{◌∙◌, sym, ap, subst, arith}
 use Rattle.arch_base.specs.Counts.{RoseIf}
-use Rattle.disk_model.specs.Disk.{Files, Content, Image, WhereTold, LeavesOnly}
+use Rattle.disk_model.specs.Disk.{Files, Content, Image, Told, Unchanged, WhereTold, LeavesOnly}
+use Rattle.root_slots.specs.Between.{looks_between}
+use Rattle.root_slots.specs.Slots.{HasNewRoot}
+use Rattle.root_slots.specs.Spelling.{spelling}
 use Rattle.mail_reader.specs.Stored.{stored}
 use Rattle.arch_model.specs.Archives.{Archive, live, messages, text_of}
 use Rattle.arch_model.specs.Delivery.{Done, applied, delivered_form, edited_text, is_accepted, purged_text, refused, removed_text}
@@ -17,12 +20,15 @@ use Rattle.epoch_store.specs.Laws.{StoreRecovers}
 use Rattle.arch_base.specs.declared.ids.Id20.{Id20}
 use Rattle.epoch_store.specs.Promises.{Appends, ChangesStore, Renews, StaysBy, Way}
 use Rattle.epoch_store.specs.Stores.{View, HasSizes, IsStoreWith, IsUndamaged, Keeps, RecoversOneOf, UnlessFailed}
+use Rattle.epoch_store.proofs.Readying.{read_between}
 use Rattle.archive_core.specs.Commands.{DoneBy, FilesFor, IfUnreadFor, IsForCommand, OnDone, OnlyLooks, TakesCommand, UnlessFault, cache_left, refusal_answer, way_of}
+use Rattle.archive_core.specs.DamageTold.{TellsDamage}
 use Rattle.archive_core.specs.Engines.{unchanged-is}
 use Rattle.archive_core.specs.Walks.{looks-joined, looks-same}
 use Rattle.archive_core.proofs.KeptTexts.{error-done}
 use Rattle.archive_core.proofs.Replies.{done-then, when-refused, unless-failed}
 use Rattle.archive_core.proofs.Standing.{only-read, read-first, store_keeps, still_own}
+use Rattle.archive_core.proofs.TellingDamage.{none-damaged, store-damage}
 use Rattle.archive_core.proofs.WithoutText.{is_damage, left-done}
 
 -- A mirror refuses each command.
@@ -60,6 +66,10 @@ pub error-cause : (why : StoreRefusal) (before now : ℕ) → RoseIf (◌≡◌ 
 error-cause refusal.DiskFault before now cause = record { later = cause.later; failed = λ fault. cause.failed refl; kept = λ never. absurd (never refl) }
 error-cause refusal.NoMemory before now cause = record { later = cause.later; failed = λ fault. absurd (cc fault); kept = λ never. cause.kept (λ fault. absurd (cc fault)) }
 error-cause (refusal.Damaged file at) before now cause = record { later = cause.later; failed = λ fault. absurd (cc fault); kept = λ never. cause.kept (λ fault. absurd (cc fault)) }
+
+-- The root file after a commit, if it reads as before until then.
+pub rooted-read : (free : ℕ) (body : List ℕ) (k m o : Option Content) → Told Unchanged k m → Told (HasNewRoot free body) m o → Told (HasNewRoot free body) k o
+rooted-read free body k m o same rooted = subst (λ (c : Option Content). Told (HasNewRoot free body) c o) (unchanged-is k m same) rooted
 
 -- What never is the cause leaves the count.
 pub steady-cause : (P : Type 0) (before now : ℕ) → (P → ⊥) → now ≡ before → RoseIf P before now
@@ -101,8 +111,8 @@ module _ {D : Type 0} (content : D → Option Content) (moment : D → ℕ) (lef
   pub refused-taken : (old new : D) (v : View) (reply : Answer) → OnDone reply ⊥ → WhereTold (HasSizes v) (content old) → OnlyLooks content moment left_since old new
       → ((a : Archive) (cache : List ℕ) → IsStoreWith v cache a (content old) → IsStoreWith v cache a (content new) → DoneBy v cache (cache_left m cache) a (wanted a) reply (content new))
       → IfUnreadFor m reply (new ≡ old) → RoseIf (reply ≡ answer.DiskFault) (faults old) (faults new) → IsForCommand m reply → ReadsFor m (reads old) (reads new)
-      → TakesCommand content moment left_since faults reads old new v v m wanted reply
-  refused-taken old new v reply never sizes looks done unmoved cause for_command count = record {
+      → TellsDamage v (content old) reply → TakesCommand content moment left_since faults reads old new v v m wanted reply
+  refused-taken old new v reply never sizes looks done unmoved cause for_command count damage = record {
     any_moment = λ a cache store room. only-read moment left_since law v cache (cache_left m cache) a (wanted a).archive (content old) old new store looks.any_moment;
     done = λ a cache store room. done a cache store (still_own v cache a (content old) (content new) looks.same store);
     settled = done-then reply ⊥ _ (λ wrong. absurd wrong) never;
@@ -116,6 +126,9 @@ module _ {D : Type 0} (content : D → Option Content) (moment : D → ℕ) (lef
     cause = cause;
     for_command = for_command;
     count = count;
+    rooted = done-then reply ⊥ _ (λ wrong. absurd wrong) never;
+    between = looks_between content moment left_since old new looks.any_moment;
+    damage = damage;
   }
 
   -- It was refused before anything was read.
@@ -124,7 +137,7 @@ module _ {D : Type 0} (content : D → Option Content) (moment : D → ℕ) (lef
   quiet-taken disk v reply never declined fine sound sizes is unmoved for_command =
       refused-taken disk disk v reply never sizes (looks-same content moment left_since only_now disk)
       (λ a cache store own. left-done v cache (cache_left m cache) a (wanted a) (content disk) reply own declined fine (is a (store_keeps v cache a (content disk) own)))
-      unmoved (record { later = omega arith; failed = λ fault. absurd (sound fault); kept = λ never. refl }) for_command (reads_none m (reads disk))
+      unmoved (record { later = omega arith; failed = λ fault. absurd (sound fault); kept = λ never. refl }) for_command (reads_none m (reads disk)) (none-damaged reply _ fine)
 
   -- The store was asked, after the disk was only read.
   module _ (old mid new : D) (v after : View) (Makes : Archive → Archive → Type 0) (looks : OnlyLooks content moment left_since old mid) (steady : faults mid ≡ faults old)
@@ -154,6 +167,9 @@ module _ {D : Type 0} (content : D → Option Content) (moment : D → ℕ) (lef
           cause = subst (λ (n : ℕ). RoseIf (refusal_answer why ≡ answer.DiskFault) n (faults new)) steady (error-cause why (faults mid) (faults new) changes.cause);
           for_command = for_command;
           count = count;
+          rooted = error-done why (refusal_answer why) _ refl;
+          between = read_between content moment left_since old mid new looks.same looks.any_moment changes.between;
+          damage = store-damage v (content old) (content mid) why (refusal_answer why) refl looks.same changes.damage;
         })
 
     -- It was carried out.
@@ -173,4 +189,7 @@ module _ {D : Type 0} (content : D → Option Content) (moment : D → ℕ) (lef
       cause = steady-cause _ _ _ (λ fault. absurd (cc fault)) (changes.cause.kept (λ fault. absurd (cc fault)) ∙ steady);
       for_command = for_command;
       count = count;
+      rooted = rooted-read after.slot (spelling after.root) (content old) (content mid) (content new) looks.same changes.rooted;
+      between = read_between content moment left_since old mid new looks.same looks.any_moment changes.between;
+      damage = tt;
     }

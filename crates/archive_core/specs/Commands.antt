@@ -18,6 +18,9 @@ use Rattle.epoch_store.specs.Files.{epoch_file_of}
 use Rattle.arch_model.specs.Keeping.{ReadsFor}
 use Rattle.arch_model.specs.Shelves.{blob_text}
 use Rattle.disk_model.specs.Synced.{IsSettled}
+use Rattle.root_slots.specs.Between.{RunsBetween}
+use Rattle.root_slots.specs.Slots.{HasNewRoot}
+use Rattle.root_slots.specs.Spelling.{spelling}
 use Rattle.arch_model.specs.Archives.{Archive, Entry, blob_number, live, messages, text_of, with_entry, without_entries}
 use Rattle.arch_model.specs.Delivery.{Done, collision, new_epoch}
 use Rattle.arch_model.specs.declared.command.Command.{Command}
@@ -29,6 +32,7 @@ use Rattle.epoch_file.specs.declared.refusal.StoreRefusal.TheVariants as refusal
 use Rattle.epoch_store.specs.Promises.{Appends, GoesOnBy, Renews, Way, cache_by}
 use Rattle.epoch_store.specs.Stores.{View, IsStoreWith, HasSizes, RecoversOneOf, KeepsFiles, EditsFiles}
 use Rattle.epoch_store.specs.Reads.{IsTextOf}
+use Rattle.archive_core.specs.DamageTold.{TellsDamage}
 use Rattle.archive_core.specs.declared.texts.KeptText.{KeptText}
 
 -- The definition's answer was given, and the disk is the own one of a store that keeps the
@@ -320,7 +324,7 @@ pub record OnlyLooks {D : Type 0} (content : D → Option Content) (moment : D �
 -- edit keep the file of each epoch that loses no entry. Any other answer leaves what is kept in
 -- memory, and, but for a fault, the content of the disk; one before which no text is read leaves the
 -- disk as it was. The command fails only if the count of faults rose, and reads as often as the
--- command may.
+-- command may. Damage is told with the place of an entry that was kept, or with a file that is too short.
 pub record TakesCommand {D : Type 0} (content : D → Option Content) (moment : D → ℕ)
     (left_since : D → ℕ → Files → Type 0) (faults reads : D → ℕ) (old new : D)
     (before after : View) (command : Command) (wanted : Archive → Done) (reply : Answer)
@@ -343,6 +347,12 @@ pub record TakesCommand {D : Type 0} (content : D → Option Content) (moment : 
   pub cause : RoseIf (reply ≡ answer.DiskFault) (faults old) (faults new)
   pub for_command : IsForCommand command reply
   pub count : ReadsFor command (reads old) (reads new)
+  -- The root file has the new root in its slot, whose gate is open, and is otherwise as it was.
+  pub rooted : OnDone reply
+      (Told (HasNewRoot after.slot (spelling after.root)) (content old) (content new))
+  -- At each moment its bytes between the gates and the bodies are as before.
+  pub between : RunsBetween content moment left_since old new
+  pub damage : TellsDamage before (content old) reply
 
 -- The command delivers a message: it is a delivery or an edit.
 abbrev pub is_delivery : Command → Bool

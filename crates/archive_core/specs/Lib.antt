@@ -1,3 +1,4 @@
+pub mod DamageTold
 pub mod Commands
 pub mod Kept
 pub mod Openings

@@ -2,8 +2,11 @@
 use Rattle.std.specs.Prelude.{◌≡◌, ◌+◌, ◌-◌, ◌<◌, ◌^◌, ℕ, Bool, List, [], Option, Some, Result, Ok, Err}
 use Rattle.arch_base.specs.Counts.{RoseIf}
 use Rattle.arch_base.specs.declared.ids.Id20.{Id20}
-use Rattle.disk_model.specs.Disk.{Files, Content, WhereTold, LeavesOnly}
+use Rattle.disk_model.specs.Disk.{Files, Content, Told, WhereTold, LeavesOnly}
 use Rattle.disk_model.specs.Synced.{IsSettled}
+use Rattle.root_slots.specs.Between.{RunsBetween}
+use Rattle.root_slots.specs.Slots.{HasNewRoot}
+use Rattle.root_slots.specs.Spelling.{spelling}
 use Rattle.mail_reader.specs.declared.storing.StoredRefusal.{StoredRefusal}
 use Rattle.mail_reader.specs.declared.storing.StoredRefusal.TheVariants as storing
 use Rattle.git_objects.specs.Objects.{blob_id_of}
@@ -20,6 +23,7 @@ use Rattle.arch_judge.specs.declared.judging.Verdict.{Verdict}
 use Rattle.arch_judge.specs.declared.judging.Verdict.TheVariants.{Take, Compare, Refuse}
 use Rattle.epoch_file.specs.declared.refusal.StoreRefusal.{StoreRefusal}
 use Rattle.epoch_store.specs.Stores.{View, HasSizes, IsStoreWith, MayEdit, RecoversOneOf, GoesOnAnew}
+use Rattle.archive_core.specs.DamageTold.{TellsDamage}
 use Rattle.archive_core.specs.Commands.{AnswersDelivery, DoneBy, IfUnreadEdit, IsAlone, JudgesRead, OnDone, OnRefusal, OnlyLooks, UnlessFault}
 
 -- The answers where there is no storage form to compare, or a text wasn't read.
@@ -103,3 +107,7 @@ pub record EditsAs {D : Type 0} (content : D → Option Content) (moment : D →
   pub sizes : UnlessFault reply (WhereTold (HasSizes after) (content new))
   pub cause : RoseIf (reply ≡ answer.DiskFault) (faults old) (faults new)
   pub for_command : AnswersDelivery reply
+  pub rooted : OnDone reply
+      (Told (HasNewRoot after.slot (spelling after.root)) (content old) (content new))
+  pub between : RunsBetween content moment left_since old new
+  pub damage : TellsDamage before (content old) reply

@@ -2,8 +2,11 @@
 ghost use Rattle.std.specs.Prelude.{true, false, Some, None, ◌≡◌, ◌≤◌, ◌<◌, ◌+◌, ◌-◌, ◌^◌, ℕ, length, slice_get, Err, IfOk, IfErr, List};
 ghost use Rattle.arch_base.specs.Configs.{IsConfig};
 ghost use Rattle.arch_base.specs.Counts.{RoseIf};
-ghost use Rattle.disk_model.specs.Disk.{WhereTold, LeavesOnly};
+ghost use Rattle.disk_model.specs.Disk.{Told, WhereTold, LeavesOnly};
 ghost use Rattle.disk_model.specs.Synced.{IsSettled};
+ghost use Rattle.root_slots.specs.Between.{RunsBetween};
+ghost use Rattle.root_slots.specs.Slots.{HasNewRoot};
+ghost use Rattle.root_slots.specs.Spelling.{spelling};
 ghost use Rattle.arch_model.specs.Archives.{Archive, live, text_of};
 ghost use Rattle.arch_model.specs.Delivery.{applied, delivered, removed};
 ghost use Rattle.arch_model.specs.Keeping.{form_known, text_known};
@@ -19,6 +22,7 @@ ghost use Rattle.archive_core.specs.Openings.{RefusesKindly};
 ghost use Rattle.epoch_store.specs.Promises.{Adds, Appends, ChangesStore, MakesArchive, OpensArchive};
 ghost use Rattle.epoch_store.specs.Reads.{HasTexts};
 ghost use Rattle.epoch_store.specs.Stores.{IsStoreWith, HasSizes, RecoversEitherWith, GoesOn};
+ghost use Rattle.archive_core.specs.DamageTold.{RefusesEntry, TellsDamage, TellsEntry};
 ghost use Rattle.archive_core.specs.Commands.{DoneBy, OnDone, OnRefusal, UnlessFault, OnlyLooks, AnswersRemoval, IfUnread, IfRefusedUnread, IsFaultRead, JudgesRead, IsAlone, TakesCommand, refusal_answer, unread_answer, damaged_place, IsNamed, IsTextAt, ReadsMessage, IsUnread, is_delivery, IfDelivery, TellsText, KeepsText, KeepsTextFor, IsGone};
 
 use crate::placing::{MessagePlace, are_rising, end_place, may_follow, places_of};
@@ -98,7 +102,8 @@ impl DiskArchive {
     /// names isn't in its form; it has the first such offset, in the root, then the map, then the
     /// epochs in order. Neither comes if the files stand for an archive, and after either all files
     /// read as before. `DiskFault` comes only if the disk's count of faults rose. `NoMemory` comes
-    /// only if memory runs out, and the files still stand for the archive that they stood for.
+    /// only if memory runs out: the files still stand for the archive that they stood for, and where
+    /// none can be opened, all files read as before.
     pub fn open<D: Disk>(alloc: Global, disk: &mut D) -> Result<DiskArchive, OpenRefusal>
         ensures opened { OpensArchive D.content D.moment D.left_since D.faults disk.old disk.new
             result }
@@ -159,8 +164,9 @@ impl DiskArchive {
     /// `Ok` the latter. `DiskFault` comes only if the disk's count of faults rose: one of the two
     /// archives is then there, and the archive has to be reopened. `NoMemory` comes only if memory
     /// runs out, or if the epoch's file has 2^62 bytes or more; then nothing was done. `Damaged` comes
-    /// only if a text that is read isn't that of its entry, or a file is too short, which never happens
-    /// on the disk of an archive.
+    /// only if a text that is read isn't that of its entry, with the entry's file and offset, or if a file
+    /// is shorter than the root says, with the number of bytes that should be there. Neither happens on
+    /// the disk of an archive.
     ///
     /// `kept` is left with the text that an accepted delivery or edit kept and its content id, and `gone`
     /// with the live number that a purge or an edit took with its text, if there is one.
@@ -252,6 +258,7 @@ impl DiskArchive {
         ensures looks { OnlyLooks D.content D.moment D.left_since disk.old disk.new }
         ensures unmoved { IfRefusedUnread result (disk.new ≡ disk.old) }
         ensures cause { RoseIf (IsFaultRead result) (D.faults disk.old) (D.faults disk.new) }
+        ensures damage { RefusesEntry self.now (D.content disk.old) result }
         ensures count { ReadsOnce (D.reads disk.old) (D.reads disk.new) }
         ensures unread { (a : Archive) (cache : List ℕ)
             → IsStoreWith self.now cache a (D.content disk.old) → form_known a (stored bytes.now) ≡ false
@@ -290,6 +297,7 @@ impl DiskArchive {
         ensures text { (a : Archive) (cache : List ℕ)
             → IsStoreWith self.now cache a (D.content disk.old) → ReadsMessage a number result }
         ensures unread { IfErr result IsUnread }
+        ensures damage { IfErr result (TellsEntry self.now (D.content disk.old)) }
         ensures looks { OnlyLooks D.content D.moment D.left_since disk.old disk.new }
         ensures cause { RoseIf (result ≡ Err Answer.DiskFault) (D.faults disk.old) (D.faults disk.new) }
         ensures count { ReadsOnce (D.reads disk.old) (D.reads disk.new) }
@@ -397,7 +405,11 @@ impl DiskArchive {
         ensures sizes { UnlessFault result (WhereTold (HasSizes self.new) (D.content disk.new)) }
         ensures cause { RoseIf (result ≡ Answer.DiskFault) (D.faults disk.old) (D.faults disk.new) }
         ensures for_command { AnswersRemoval number result }
+        ensures damage { TellsDamage self.old (D.content disk.old) result }
         ensures count { D.reads disk.new ≡ D.reads disk.old }
+        ensures rooted { OnDone result (Told (HasNewRoot self.new.slot (spelling self.new.root))
+            (D.content disk.old) (D.content disk.new)) }
+        ensures between { RunsBetween D.content D.moment D.left_since disk.old disk.new }
     {
         if !self.is_named(index, text) {
             return self.damaged(index);

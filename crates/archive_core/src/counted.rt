@@ -35,7 +35,7 @@ impl Model for CountedArchive {
 }
 
 impl CountedArchive {
-    /// Opens the archive on a disk, and counts its live messages. Reads each text once.
+    /// Opens the archive on a disk, and counts its live messages.
     ///
     /// The promises and the refusals are those of `DiskArchive::open`.
     pub fn open<D: Disk>(alloc: Global, disk: &mut D) -> Result<CountedArchive, OpenRefusal>

@@ -13,6 +13,7 @@ ghost use Rattle.epoch_store.specs.Opens.{ReadsWith};
 ghost use Rattle.epoch_store.specs.Promises.{MakesArchive, OpensArchive};
 ghost use Rattle.epoch_store.specs.Stores.{IsStoreWith, RecoversOneOf};
 ghost use Rattle.archive_core.specs.Commands.{DoneBy, OnDone, IfUnreadFor, IfRemoval, cache_left, IsForCommand, is_delivery};
+ghost use Rattle.archive_core.specs.DamageTold.{TellsDamage};
 ghost use Rattle.archive_core.specs.Engines.{Holds, IfRefused, Leaves, ReadsOn, is_ready, needs_opening as needs_opening_after, reading-same, reading-joined, store-left, now-left, reading-kept};
 ghost use Rattle.archive_core.specs.HandedBack.{disk_made, made_or_why, disk_opened, opened_or_why};
 ghost use Rattle.archive_core.specs.Numbers.{GivesTextKept, GivesBlobKept, Names};
@@ -101,7 +102,8 @@ impl<D: Disk> Engine<D> {
     /// names isn't in its form; it has the first such offset, in the root, then the map, then the
     /// epochs in order. Neither comes if the files stand for an archive, and after either all files
     /// read as before. `DiskFault` comes only if the disk's count of faults rose. `NoMemory` comes
-    /// only if memory runs out, and the files still stand for the archive that they stood for.
+    /// only if memory runs out: the files still stand for the archive that they stood for, and where
+    /// none can be opened, all files read as before.
     pub fn open(alloc: Global, disk: D) -> Result<Engine<D>, NotOpened<D>>
         ensures opened { OpensArchive D.content D.moment D.left_since D.faults disk
             (disk_opened result) (opened_or_why result) }
@@ -206,6 +208,8 @@ impl<D: Disk> Engine<D> {
             self.new) }
         ensures unmoved { IfUnreadFor command.now result (self.new ≡ self.old) }
         ensures for_command { IsForCommand command.now result }
+        // `Damaged` has the place of an entry whose text isn't there, or a file that is too short.
+        ensures damage { TellsDamage self.old.view (D.content self.old.disk) result }
         ensures later { D.faults self.old.disk ≤ D.faults self.new.disk }
         ensures cause { AnswerCause (D.faults self.old.disk) (D.faults self.new.disk) result }
         // Each fault of the disk is told.

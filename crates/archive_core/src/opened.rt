@@ -56,7 +56,7 @@ impl Opened {
 }
 
 impl DiskArchive {
-    /// Returns the rows, threads and words of the live messages. Reads the text of each message once.
+    /// Returns the rows, threads and words of the live messages, as `rebuild` does.
     ///
     /// `DiskFault` comes only if the disk's count of faults rose, and `NoMemory` only if memory runs
     /// out. `Damaged` comes if a text has another id than its entry, with the entry's file and offset,

@@ -10,6 +10,7 @@ ghost use Rattle.arch_model.specs.Delivery.{delivered, edited, purged, unless_re
 ghost use Rattle.epoch_store.specs.Promises.{ChangesStore, Drops, Renews, Replaces};
 ghost use Rattle.epoch_store.specs.Stores.{EditsFiles, HasSizes, IsStoreWith, Keeps, KeepsFiles, MayPurge, without_blob};
 ghost use Rattle.archive_core.specs.Commands.{IsFaultRead, IfUnread, IsGone, IsLiveOf, KeepsText, KeepsTextFor, OnDone, OnlyLooks, TakesCommand, TellsText};
+ghost use Rattle.archive_core.specs.DamageTold.{RefusesEntry, TellsEntry};
 ghost use Rattle.archive_core.specs.Numbers.{IsLiveAt};
 ghost use Rattle.archive_core.specs.Kept.{IndexesKept};
 ghost use Rattle.archive_core.specs.Rewriting.{ComparesForm, EditsAs, IsUnformed, JudgesEdit, MayReplace, TakesWhatMayBy, bare, late_answer};
@@ -155,6 +156,7 @@ impl DiskArchive {
             → IsStoreWith self.now cache a (D.content disk.old)
             → ComparesForm a number (stored_of bytes.now) result }
         ensures refused { IfErr result IsUnformed }
+        ensures damage { IfErr result (TellsEntry self.now (D.content disk.old)) }
         ensures looks { OnlyLooks D.content D.moment D.left_since disk.old disk.new }
         ensures unmoved { IfErr result (λ reply. IfUnread reply (disk.new ≡ disk.old)) }
         ensures cause { RoseIf (result ≡ Err Answer.DiskFault) (D.faults disk.old) (D.faults disk.new) }
@@ -239,6 +241,7 @@ impl DiskArchive {
         ensures taken { TakesWhatMayBy self.now index.now result }
         ensures looks { OnlyLooks D.content D.moment D.left_since disk.old disk.new }
         ensures cause { RoseIf (IsFaultRead result) (D.faults disk.old) (D.faults disk.new) }
+        ensures damage { RefusesEntry self.now (D.content disk.old) result }
         ensures fewest { D.reads disk.old ≤ D.reads disk.new }
     {
         let count = self.store.stored().len();

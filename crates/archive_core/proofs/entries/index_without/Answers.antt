@@ -20,7 +20,7 @@ loop-entry-preserved c =
     elim c.if-ne.branch [
       | then-ne+in_ok-take_entry w ↦
           subst (λ (x : Index). IndexesKept (without_blob (take (i + 1) es) blob) x) (sym w.index-is)
-          (kept-stays blob es i s c.loop-entry.index w.take_entry.new.index c.loop-entry-test.true c.entry-item.is (is-other s.seen.blob.0 blob c.ne.result c.ne.ensures w.if-ne.true) c.loop-entry.invariant w.in_ok-take_entry.ensures)
+          (kept-stays blob es i s c.loop-entry.index w.take_entry.new.index c.loop-entry-test.true c.entry-item.is (is-other s.seen.blob.0 blob c.ne.result c.ne.ensures w.if-ne.true) c.loop-entry.invariant w.in_ok-take_entry.ensures.ok)
       | else-ne w ↦
           subst (λ (x : Index). IndexesKept (without_blob (take (i + 1) es) blob) x) (sym w.index-is)
           (kept-goes blob es i s c.loop-entry.index c.loop-entry-test.true c.entry-item.is (is-same s.seen.blob.0 blob c.ne.result c.ne.ensures w.if-ne.false) c.loop-entry.invariant)

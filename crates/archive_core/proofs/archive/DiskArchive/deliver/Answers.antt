@@ -9,6 +9,7 @@ use Rattle.epoch_store.specs.Stores.{IsStoreWith}
 use Rattle.archive_core.specs.Commands.{AnswersDelivery, IfUnread}
 use Rattle.archive_core.proofs.KeptTexts.{refuse-answers, refuse-tells, refuse-done, error-tells, error-done, error-then}
 use Rattle.archive_core.proofs.Standing.{adds-taken, archive_taken, refusal-done}
+use Rattle.archive_core.proofs.TellingDamage.{entry-damage}
 use Rattle.archive_core.proofs.Taking.{done-taken, failed-taken, refused-taken}
 use Rattle.archive_core.proofs.archive.DiskArchive.deliver.Goals as goal
 
@@ -17,7 +18,7 @@ returns-in-Refuse-clause-taken g c =
     refused-taken g.D.Disk.content g.D.Disk.moment g.D.Disk.left_since g.D.Disk.faults g.D.Disk.reads g.met.D.Disk.only_now c.law_of_stores.ensures.recovers (Deliver c.args.bytes) (λ (a : Archive). delivered a c.args.bytes.now c.args.moment) c.args.disk.now c.verdict.new.disk c.args.self.now c.in-Refuse.answer
     (refuse-done c.args.self.now c.in-Refuse.answer ⊥ c.in-Refuse.ensures.taken) c.requires.sizes c.verdict.ensures.looks
     (λ a cache store own. refusal-done c.args.self.now cache a c.args.bytes.now c.args.moment (g.D.Disk.content c.verdict.new.disk) c.in-Refuse.answer own (c.in-Refuse.ensures.judged a cache store))
-    c.in-Refuse.ensures.unmoved c.in-Refuse.ensures.cause (refuse-answers c.args.self.now c.in-Refuse.answer c.in-Refuse.ensures.taken) c.verdict.ensures.count
+    c.in-Refuse.ensures.unmoved c.in-Refuse.ensures.cause (refuse-answers c.args.self.now c.in-Refuse.answer c.in-Refuse.ensures.taken) c.verdict.ensures.count (entry-damage c.args.self.now (g.D.Disk.content c.args.disk.now) c.in-Refuse.answer c.in-Refuse.ensures.damage)
 
 pub returns-in-Ok-clause-taken : goal.returns-in-Ok-clause-taken
 returns-in-Ok-clause-taken g c =

@@ -3,10 +3,12 @@ use Rattle.arch_base.specs.Counts.{RoseIf}
 use Rattle.arch_base.specs.declared.config.Config.{Config}
 use Rattle.arch_base.specs.declared.ids.Id20.{Id20}
 use Rattle.disk_model.specs.Disk.{LeavesOnly}
+use Rattle.root_slots.specs.Spelling.{spelling}
 use Rattle.arch_model.specs.Archives.{Archive, live, text_of}
 use Rattle.arch_model.specs.Delivery.{Done, edited, edited_text}
 use Rattle.arch_model.specs.declared.answer.Answer.TheVariants as answer
 use Rattle.arch_model.specs.declared.command.Command.TheVariants.{Edit}
+use Rattle.epoch_store.proofs.Readying.{read_between}
 use Rattle.epoch_store.specs.Stores.{View, IsStoreWith, EditsFiles, RecoversOneOf}
 use Rattle.archive_core.specs.Commands.{DoneBy}
 use Rattle.archive_core.specs.Walks.{looks-joined}
@@ -14,7 +16,8 @@ use Rattle.archive_core.proofs.EditDone.{unformed-unmoved, unformed-answers, unf
 use Rattle.archive_core.proofs.KeptTexts.{delivery-edit}
 use Rattle.archive_core.proofs.Replies.{done-then, refused-then}
 use Rattle.archive_core.proofs.Standing.{store_keeps, still_own, read-first}
-use Rattle.archive_core.proofs.Taking.{absent-refuses, mirror-refuses, quiet-taken, refused-taken, steady-cause}
+use Rattle.archive_core.proofs.Taking.{absent-refuses, mirror-refuses, quiet-taken, refused-taken, rooted-read, steady-cause}
+use Rattle.archive_core.proofs.TellingDamage.{damage-back, entry-damage}
 use Rattle.archive_core.proofs.Unmoved.{if-read-edit}
 use Rattle.archive_core.proofs.WithoutText.{edit-makes, may-read, shown-text, writable-of}
 use Rattle.archive_core.proofs.archive.DiskArchive.edit.Goals as goal
@@ -41,7 +44,7 @@ returns-in-Err-clause-taken g c =
     let text = shown-text (live a.entries) c.args.number (c.in-Some.ensures.live a keeps) in
     unformed-done v cache a c.args.number c.args.bytes.now c.args.moment text.0 (g.D.Disk.content c.is_same.new.disk) c.in-Err.answer own (writable-of v a keeps writable) text.1 (c.in-Err.ensures.compared a cache store))
     (unformed-unmoved c.in-Err.answer _ c.in-Err.ensures.refused c.in-Err.ensures.unmoved) (cause-compared c.in-Err.answer (g.D.Disk.faults c.args.disk.now) (g.D.Disk.faults c.is_same.new.disk) c.in-Err.ensures.cause)
-    (unformed-answers c.args.number c.in-Err.answer c.in-Err.ensures.refused) c.is_same.ensures.fewest
+    (unformed-answers c.args.number c.in-Err.answer c.in-Err.ensures.refused) c.is_same.ensures.fewest (entry-damage c.args.self.now (g.D.Disk.content c.args.disk.now) c.in-Err.answer c.in-Err.ensures.damage)
 
 pub returns-in-Ok-true-clause-taken : goal.returns-in-Ok-true-clause-taken
 returns-in-Ok-true-clause-taken g c =
@@ -54,7 +57,7 @@ returns-in-Ok-true-clause-taken g c =
     let text = shown-text (live a.entries) c.args.number (c.in-Some.ensures.live a keeps) in
     let told : c.in-Ok-true.field-0 ≡ true = search (rules, tests) in
     same-done v cache a c.args.number c.args.bytes.now c.args.moment text.0 (g.D.Disk.content c.is_same.new.disk) own (writable-of v a keeps writable) text.1 (sym told ∙ c.in-Ok-true.ensures.compared a cache store text.0 text.1))
-    tt (steady-cause _ _ _ (λ fault. absurd (cc fault)) (c.in-Ok-true.ensures.cause.kept (λ fault. absurd (cc fault)))) tt c.is_same.ensures.fewest
+    tt (steady-cause _ _ _ (λ fault. absurd (cc fault)) (c.in-Ok-true.ensures.cause.kept (λ fault. absurd (cc fault)))) tt c.is_same.ensures.fewest tt
 
 pub returns-in-Ok-false-clause-taken : goal.returns-in-Ok-false-clause-taken
 returns-in-Ok-false-clause-taken g c =
@@ -85,6 +88,9 @@ returns-in-Ok-false-clause-taken g c =
       cause = subst (λ (n : ℕ). RoseIf (reply ≡ answer.DiskFault) n (g.D.Disk.faults c.replace.new.disk)) (c.in-Ok-false.ensures.cause.kept (λ fault. absurd (cc fault))) edits.cause;
       for_command = delivery-edit c.args.number reply edits.for_command;
       count = (let first = c.is_same.ensures.fewest in let more = c.replace.ensures.fewest in omega arith);
+      rooted = done-then reply _ _ (rooted-read c.replace.new.self.slot (spelling c.replace.new.self.root) (g.D.Disk.content c.args.disk.now) (g.D.Disk.content c.is_same.new.disk) (g.D.Disk.content c.replace.new.disk) c.is_same.ensures.looks.same) edits.rooted;
+      between = read_between g.D.Disk.content g.D.Disk.moment g.D.Disk.left_since c.args.disk.now c.is_same.new.disk c.replace.new.disk c.is_same.ensures.looks.same c.is_same.ensures.looks.any_moment edits.between;
+      damage = damage-back c.args.self.now (g.D.Disk.content c.args.disk.now) (g.D.Disk.content c.is_same.new.disk) reply c.is_same.ensures.looks.same edits.damage;
     }
 
 pub returns-in-Err-clause-gone : goal.returns-in-Err-clause-gone

@@ -5,12 +5,17 @@ use Rattle.arch_model.specs.Archives.{Archive}
 use Rattle.arch_model.specs.Delivery.{Done}
 use Rattle.arch_model.specs.declared.answer.Answer.TheVariants as answer
 use Rattle.mail_commits.specs.declared.ids.TextIds.{TextIds}
+use Rattle.root_slots.specs.Between.{looks_between}
 use Rattle.epoch_store.specs.Stores.{View, IsStoreWith, RecoversEitherWith}
+use Rattle.archive_core.specs.DamageTold.{TellsDamage}
+use Rattle.archive_core.specs.Engines.{told-same}
 use Rattle.archive_core.specs.Placing.{message_places, ends_place, PlacesRise}
+use Rattle.archive_core.specs.Walks.{looks-same}
 use Rattle.archive_core.proofs.Indexes.{indexes-ended}
 use Rattle.archive_core.proofs.Removing.{named-at, removed-is, places-ended, written-back}
 use Rattle.archive_core.proofs.RisingPlaces.{rise-ended}
 use Rattle.archive_core.proofs.Standing.{store_keeps}
+use Rattle.archive_core.proofs.TellingDamage.{misnamed-damage, store-damage}
 use Rattle.archive_core.proofs.Unmoved.{if-error, if-damaged}
 use Rattle.archive_core.proofs.archive.DiskArchive.end_message.Goals as goal
 
@@ -65,3 +70,19 @@ returns-then-not-is_named-clause-read g c = if-damaged c.args.self.now _ c.damag
 
 pub returns-in-Err-clause-read : goal.returns-in-Err-clause-read
 returns-in-Err-clause-read g c = if-error c.in-Err.refusal c.answer_of.result ⊥ c.answer_of.ensures
+
+pub returns-then-not-is_named-clause-between : goal.returns-then-not-is_named-clause-between
+returns-then-not-is_named-clause-between g c =
+    let disk = c.args.disk.now in
+    let looks = looks-same g.D.Disk.content g.D.Disk.moment g.D.Disk.left_since g.met.D.Disk.only_now disk in
+    looks_between g.D.Disk.content g.D.Disk.moment g.D.Disk.left_since disk disk looks.any_moment
+
+pub returns-then-not-is_named-clause-damage : goal.returns-then-not-is_named-clause-damage
+returns-then-not-is_named-clause-damage g c =
+    misnamed-damage c.args.self.now c.args.index c.args.text.now c.damaged.result (g.D.Disk.content c.args.disk.now) c.requires.text (c.if-not-is_named.ensures.other refl) c.damaged.ensures
+
+pub returns-in-Err-clause-damage : goal.returns-in-Err-clause-damage
+returns-in-Err-clause-damage g c =
+    let k = g.D.Disk.content c.args.disk.now in
+    subst (λ (v : View). TellsDamage v k c.answer_of.result) c.self.view_is
+    (store-damage c.self.inside.store k k c.in-Err.refusal c.answer_of.result c.answer_of.ensures (told-same k) c.in-Err.ensures.changes.damage)

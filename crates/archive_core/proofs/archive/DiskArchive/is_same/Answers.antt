@@ -4,6 +4,7 @@ use Rattle.epoch_store.specs.Stores.{View, IsStoreWith}
 use Rattle.archive_core.proofs.ByNumber.{inside-message}
 use Rattle.archive_core.proofs.EditCompares.{compares-other, compares-read, compares-unread}
 use Rattle.archive_core.proofs.Standing.{store_keeps}
+use Rattle.archive_core.proofs.TellingDamage.{unread-damage}
 use Rattle.archive_core.proofs.archive.DiskArchive.is_same.Goals as goal
 
 pub returns-then-ne-clause-compared : goal.returns-then-ne-clause-compared
@@ -27,3 +28,7 @@ returns-clause-compared g c = λ a cache own.
     let k = g.D.Disk.content c.args.disk.now in
     compares-unread c.args.self.now a c.args.number c.args.index c.new-text.result c.text.new.into (stored_of c.args.bytes.now) c.in-Err.refusal c.unread.result c.unread.ensures
     (c.in-Err.ensures.archive a cache (subst (λ (v : View). IsStoreWith v cache a k) (sym c.self.view_is) own))
+
+pub returns-clause-damage : goal.returns-clause-damage
+returns-clause-damage g c =
+    unread-damage c.self.inside.store c.args.self.now c.args.index c.new-text.result c.text.new.into c.in-Err.refusal c.unread.result (g.D.Disk.content c.args.disk.now) c.self.view_is c.unread.ensures c.in-Err.ensures.text c.in-Err.ensures.found

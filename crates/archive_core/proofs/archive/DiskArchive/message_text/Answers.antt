@@ -3,6 +3,7 @@ use Rattle.epoch_store.specs.Reads.{GivesTextOf}
 use Rattle.epoch_store.specs.Stores.{View, IsStoreWith}
 use Rattle.archive_core.proofs.ByNumber.{inside-message}
 use Rattle.archive_core.proofs.Standing.{store_keeps}
+use Rattle.archive_core.proofs.TellingDamage.{unread-damage}
 use Rattle.archive_core.proofs.Verdicts.{reads-message, refuses-message}
 use Rattle.archive_core.proofs.archive.DiskArchive.message_text.Goals as goal
 
@@ -20,3 +21,7 @@ pub returns-in-Err-clause-text : goal.returns-in-Err-clause-text
 returns-in-Err-clause-text g c = λ a cache own.
     refuses-message c.args.self.now a c.args.number c.in-Some.index c.new-text.result c.text.new.into c.in-Err.refusal c.unread.result c.unread.ensures
     (c.in-Err.ensures.archive a cache (subst (λ (v : View). IsStoreWith v cache a (g.D.Disk.content c.args.disk.now)) (sym c.self.view_is) own))
+
+pub returns-in-Err-clause-damage : goal.returns-in-Err-clause-damage
+returns-in-Err-clause-damage g c =
+    unread-damage c.self.inside.store c.args.self.now c.in-Some.index c.new-text.result c.text.new.into c.in-Err.refusal c.unread.result (g.D.Disk.content c.args.disk.now) c.self.view_is c.unread.ensures c.in-Err.ensures.text c.in-Err.ensures.found

@@ -1,6 +1,7 @@
 use Rattle.std.proofs.Common.{◌≡◌, ◌∙◌, [], sym, ap, subst, refl, ℕ, List, Some, Ok}
 use Rattle.arch_base.specs.Counts.{RoseIf}
 use Rattle.arch_base.specs.declared.config.Config.{Config}
+use Rattle.root_slots.specs.Spelling.{spelling}
 use Rattle.arch_model.specs.Archives.{Archive, live, text_of}
 use Rattle.arch_model.specs.Delivery.{removed, removed_text}
 use Rattle.arch_model.specs.Shelves.{ReadsOnce}
@@ -8,12 +9,14 @@ use Rattle.arch_model.specs.declared.answer.Answer.{Answer}
 use Rattle.arch_model.specs.declared.answer.Answer.TheVariants as answer
 use Rattle.arch_model.specs.declared.command.Command.TheVariants.{Remove}
 use Rattle.epoch_store.specs.Reads.{GivesTextOf}
+use Rattle.epoch_store.proofs.Readying.{read_between}
 use Rattle.epoch_store.specs.Stores.{View, IsStoreWith}
 use Rattle.archive_core.specs.Commands.{AnswersRemoval, IfUnread, OnDone}
 use Rattle.archive_core.proofs.ByNumber.{inside-message, text-gives}
-use Rattle.archive_core.proofs.Replies.{refused-then, when-done}
+use Rattle.archive_core.proofs.Replies.{done-then, refused-then, when-done}
 use Rattle.archive_core.proofs.Standing.{store_keeps, still_own, read-first, unread-done}
-use Rattle.archive_core.proofs.Taking.{absent-refuses, mirror-refuses, quiet-taken, refused-taken}
+use Rattle.archive_core.proofs.Taking.{absent-refuses, mirror-refuses, quiet-taken, refused-taken, rooted-read}
+use Rattle.archive_core.proofs.TellingDamage.{damage-back, entry-damage, unread-damage}
 use Rattle.archive_core.proofs.Unmoved.{if-read, unread-cause, unread-then}
 use Rattle.archive_core.proofs.WithoutText.{writable-of}
 use Rattle.archive_core.proofs.archive.DiskArchive.remove.Goals as goal
@@ -67,6 +70,9 @@ returns-in-Ok g c = record {
     cause = subst (λ (n : ℕ). RoseIf (c.end_message.result ≡ answer.DiskFault) n (g.D.Disk.faults c.end_message.new.disk)) (c.in-Ok.ensures.cause.kept (λ fault. absurd (cc fault))) c.end_message.ensures.cause;
     for_command = c.end_message.ensures.for_command;
     count = subst (λ (n : ℕ). ReadsOnce (g.D.Disk.reads c.args.disk.now) n) (sym c.end_message.ensures.count) (record { later = c.text.ensures.fewest; most = c.text.ensures.count });
+    rooted = done-then c.end_message.result _ _ (rooted-read c.end_message.new.self.slot (spelling c.end_message.new.self.root) (g.D.Disk.content c.args.disk.now) (g.D.Disk.content c.text.new.disk) (g.D.Disk.content c.end_message.new.disk) c.text.ensures.same) c.end_message.ensures.rooted;
+    between = read_between g.D.Disk.content g.D.Disk.moment g.D.Disk.left_since c.args.disk.now c.text.new.disk c.end_message.new.disk c.text.ensures.same c.text.ensures.any_moment c.end_message.ensures.between;
+    damage = damage-back c.args.self.now (g.D.Disk.content c.args.disk.now) (g.D.Disk.content c.text.new.disk) c.end_message.result c.text.ensures.same c.end_message.ensures.damage;
   };
 }
 
@@ -79,5 +85,6 @@ returns g c =
           (λ a cache store own. unread-done v cache cache a c.in-Some.index c.new-text.result c.text.new.into c.in-Err.refusal c.unread.result (removed a c.args.number c.args.moment) (g.D.Disk.content c.text.new.disk) c.unread.ensures
           (c.in-Err.ensures.archive a cache (subst (λ (u : View). IsStoreWith u cache a (g.D.Disk.content c.args.disk.now)) (sym c.self.view_is) store)) own)
           (told (λ (r : Answer). IfUnread r (c.text.new.disk ≡ c.args.disk.now)) tt tt (λ file at. tt)) (unread-cause v c.in-Some.index c.in-Err.refusal c.unread.result _ _ c.unread.ensures c.in-Err.ensures.cause)
-          (told (AnswersRemoval c.args.number) tt tt (λ file at. tt)) (record { later = c.text.ensures.fewest; most = c.text.ensures.count });
+          (told (AnswersRemoval c.args.number) tt tt (λ file at. tt)) (record { later = c.text.ensures.fewest; most = c.text.ensures.count })
+          (entry-damage v (g.D.Disk.content c.args.disk.now) c.unread.result (unread-damage c.self.inside.store v c.in-Some.index c.new-text.result c.text.new.into c.in-Err.refusal c.unread.result (g.D.Disk.content c.args.disk.now) c.self.view_is c.unread.ensures c.in-Err.ensures.text c.in-Err.ensures.found));
     }

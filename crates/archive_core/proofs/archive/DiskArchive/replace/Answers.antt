@@ -26,7 +26,7 @@ returns-in-Refuse-clause-edits g c =
     let entries : c.stored.result.now ≡ v.entries = c.stored.ensures ∙ ap (λ (u : View). u.entries) c.self.view_is in
     let indexed : IndexesKept (without_blob v.entries c.args.blob.now.0) c.in-Ok.index = subst (λ (es : List StoredEntry). IndexesKept (without_blob es c.args.blob.now.0) c.in-Ok.index) entries c.in-Ok.ensures in
     subst (λ (r : Answer). EditsAs g.D.Disk.content g.D.Disk.moment g.D.Disk.left_since g.D.Disk.faults c.args.disk.now c.verdict_on.new.disk v v c.args.number c.args.bytes.now c.args.moment r) (sym c.late_refusal.ensures)
-    (edits-refused g.D.Disk.content g.D.Disk.moment g.D.Disk.left_since g.D.Disk.faults g.met.D.Disk.only_now c.law_of_stores.ensures.recovers c.args.disk.now c.verdict_on.new.disk v c.in-Ok.index c.args.blob.now c.args.number c.args.bytes.now c.args.moment c.in-Refuse.answer c.requires.may indexed c.requires.sizes c.in-Refuse.ensures.judged c.verdict_on.ensures.looks c.in-Refuse.ensures.cause)
+    (edits-refused g.D.Disk.content g.D.Disk.moment g.D.Disk.left_since g.D.Disk.faults g.met.D.Disk.only_now c.law_of_stores.ensures.recovers c.args.disk.now c.verdict_on.new.disk v c.in-Ok.index c.args.blob.now c.args.number c.args.bytes.now c.args.moment c.in-Refuse.answer c.requires.may indexed c.requires.sizes c.in-Refuse.ensures.judged c.verdict_on.ensures.looks c.in-Refuse.ensures.cause c.in-Refuse.ensures.damage)
 
 pub returns-in-Ok-keep_instead-clause-edits : goal.returns-in-Ok-keep_instead-clause-edits
 returns-in-Ok-keep_instead-clause-edits g c =

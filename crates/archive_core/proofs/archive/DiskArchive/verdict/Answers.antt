@@ -5,6 +5,7 @@ use Rattle.epoch_store.specs.Indexes.{IndexesStored}
 use Rattle.archive_core.specs.Commands.{ReadsMessage}
 use Rattle.archive_core.proofs.Indexes.{index-of_kept}
 use Rattle.archive_core.proofs.Standing.{store_keeps}
+use Rattle.archive_core.proofs.TellingDamage.{compared-damage, judged-damage}
 use Rattle.archive_core.proofs.Verdicts.{known, judges-read, unread-judges, compares, alone-new, alone-same, compared-taken}
 use Rattle.archive_core.proofs.Unmoved.{if-unread, if-none-read, if-compared}
 use Rattle.archive_core.proofs.archive.DiskArchive.verdict.Goals as goal
@@ -88,3 +89,9 @@ returns-in-Ok-clause-unmoved g c = if-compared c.compared.result _ c.compared.en
 
 pub returns-in-Err-clause-unmoved : goal.returns-in-Err-clause-unmoved
 returns-in-Err-clause-unmoved g c = if-none-read c.in-Err.answer _ c.in-Err.ensures.unread
+
+pub returns-in-Refuse-clause-damage : goal.returns-in-Refuse-clause-damage
+returns-in-Refuse-clause-damage g c = judged-damage c.args.self.now (g.D.Disk.content c.args.disk.now) c.in-Refuse.answer c.in-Refuse.ensures.taken
+
+pub returns-in-Ok-clause-damage : goal.returns-in-Ok-clause-damage
+returns-in-Ok-clause-damage g c = compared-damage c.args.self.now (g.D.Disk.content c.args.disk.now) c.compared.result c.compared.ensures.last

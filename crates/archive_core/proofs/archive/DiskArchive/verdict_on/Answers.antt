@@ -5,6 +5,7 @@ use Rattle.arch_judge.specs.declared.judging.Verdict.TheVariants.{Refuse}
 use Rattle.epoch_store.specs.Stores.{View}
 use Rattle.archive_core.specs.Commands.{ReadsMessage}
 use Rattle.archive_core.proofs.Standing.{store_keeps}
+use Rattle.archive_core.proofs.TellingDamage.{compared-damage, judged-damage}
 use Rattle.archive_core.proofs.Verdicts.{judges-read, unread-judges, compares, alone-new, alone-same}
 use Rattle.archive_core.proofs.WithoutText.{known-without, reads-without, refuses-by, unread-by, taken-by, compared-by}
 use Rattle.archive_core.proofs.archive.DiskArchive.verdict_on.Goals as goal
@@ -60,3 +61,9 @@ returns-in-Err-clause-judged g c = λ a cache gone own indexed. (unread-judges a
 
 pub returns-in-Err-clause-taken : goal.returns-in-Err-clause-taken
 returns-in-Err-clause-taken g c = unread-by c.args.self.now c.args.index.now c.in-Err.answer c.in-Err.ensures.unread
+
+pub returns-in-Refuse-clause-damage : goal.returns-in-Refuse-clause-damage
+returns-in-Refuse-clause-damage g c = judged-damage c.args.self.now (g.D.Disk.content c.args.disk.now) c.in-Refuse.answer c.in-Refuse.ensures.taken
+
+pub returns-in-Ok-clause-damage : goal.returns-in-Ok-clause-damage
+returns-in-Ok-clause-damage g c = compared-damage c.args.self.now (g.D.Disk.content c.args.disk.now) c.compared.result c.compared.ensures.last

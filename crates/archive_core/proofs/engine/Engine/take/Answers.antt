@@ -1,6 +1,7 @@
 use Rattle.std.proofs.Common.{◌≡◌, ◌∙◌, ◌||◌, ℕ, List, false, not, is_ok, ap, sym, subst}
 use Rattle.arch_model.specs.Keeping.{text_known}
 use Rattle.archive_core.specs.Commands.{cache_left, is_delivery}
+use Rattle.archive_core.specs.DamageTold.{TellsDamage}
 use Rattle.epoch_store.specs.Stores.{IsStoreWith}
 use Rattle.archive_core.specs.Engines.{Owning, needs_opening, reading-same}
 use Rattle.arch_model.specs.Archives.{Archive}
@@ -101,3 +102,6 @@ returns-clause-removed g c =
     (record { disk = c.self.inside.disk; view = c.self.inside.archive; views = c.self.inside.views; stale = c.self.inside.stale }) c.args.self.now c.self.view_is
     (record { disk = c.command_keeping-answer.new.disk; view = c.command_keeping-answer.new.self; views = c.follow-followed.new.views; stale = c.is_left_stale-self-inside.result })
     c.args.command.now c.args.moment c.command_keeping-answer.new.kept.text c.command_keeping-answer.new.gone c.command_keeping-answer.result (λ a cache store. c.command_keeping-answer.ensures.taken.done a cache store room) c.command_keeping-answer.ensures.gone c.follow-followed.ensures.removed
+
+pub returns-clause-damage : goal.returns-clause-damage
+returns-clause-damage g c = subst (λ (e : Owning g.row.D.Denot). TellsDamage e.view (g.D.Disk.content e.disk) c.command_keeping-answer.result) c.self.view_is c.command_keeping-answer.ensures.taken.damage

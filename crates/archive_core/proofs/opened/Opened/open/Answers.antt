@@ -20,5 +20,5 @@ returns-in-Err-rows-clause-refused g c =
     let before = g.D.Disk.content c.args.disk.now in
     let now = g.D.Disk.content c.open.new.disk in
     let after = g.D.Disk.content c.rows.new.disk in
-    kindly-read v before now after c.in-Err-rows.refusal c.in-Ok.ensures.opened.kept c.in-Ok.ensures.texts c.in-Err-rows.ensures.sound c.rows.ensures.looks.same
+    kindly-read v before now after c.in-Err-rows.refusal c.in-Ok.ensures.opened.answer c.in-Ok.ensures.opened.kept c.in-Ok.ensures.texts c.in-Err-rows.ensures.sound c.rows.ensures.looks.same
     (opened_reads c.law_of_stores.ensures.recovers c.law_of_stores.ensures.exact v before after (λ a cache reads. still_own v cache a now after c.rows.ensures.looks.same (c.in-Ok.ensures.opened.done a cache reads)))

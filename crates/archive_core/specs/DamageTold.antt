@@ -1,0 +1,59 @@
+-- The damage that a command tells: which file it is in, and where.
+use Rattle.std.specs.Prelude.{◌≡◌, ◌≢◌, ◌⊎◌, ℕ, List, slice_get, Option, Some}
+use Rattle.disk_model.specs.declared.name.FileName.{FileName}
+use Rattle.disk_model.specs.Disk.{Content}
+use Rattle.mail_reader.specs.Ids.{own_id}
+use Rattle.arch_model.specs.declared.answer.Answer.{Answer}
+use Rattle.arch_model.specs.declared.answer.Answer.TheVariants as answer
+use Rattle.arch_judge.specs.declared.judging.Verdict.{Verdict}
+use Rattle.arch_judge.specs.declared.judging.Verdict.TheVariants.{Take, Compare, Refuse}
+use Rattle.epoch_store.specs.declared.entries.StoredEntry.{StoredEntry}
+use Rattle.epoch_store.specs.DamagedTexts.{IsDamageIn, IsDamagedEntry}
+use Rattle.epoch_store.specs.Files.{epoch_file_of}
+use Rattle.epoch_store.specs.Reads.{IsTextOf}
+use Rattle.epoch_store.specs.Stores.{View}
+
+-- What holds of the file and the offset of the damage that an answer tells.
+abbrev pub OnDamage : Answer → (FileName → ℕ → Type 0) → Type 0
+OnDamage (answer.Damaged file at) P = P file at
+OnDamage (answer.Ok number id) P = Unit {0}
+OnDamage (answer.Duplicate number) P = Unit {0}
+OnDamage answer.NoFields P = Unit {0}
+OnDamage (answer.TooLarge len) P = Unit {0}
+OnDamage (answer.Full max) P = Unit {0}
+OnDamage (answer.Collision number) P = Unit {0}
+OnDamage (answer.NotLive number) P = Unit {0}
+OnDamage (answer.NoText number) P = Unit {0}
+OnDamage answer.IsMirror P = Unit {0}
+OnDamage answer.DiskFault P = Unit {0}
+OnDamage answer.NoMemory P = Unit {0}
+
+-- A file and an offset are those of an entry that is kept with another own id than that of a text of its
+-- size and its blob id.
+pub record IsMisnamed (v : View) (file : FileName) (at : ℕ) : Type 0 where
+  pub index : ℕ
+  pub entry : StoredEntry
+  pub there : slice_get v.entries index ≡ Some entry
+  pub file_is : file ≡ epoch_file_of v.root entry.epoch
+  pub at_is : at ≡ entry.seen.at
+  pub text : List ℕ
+  pub is_text : IsTextOf entry text
+  pub other : own_id text ≢ Some entry.seen.id
+
+-- The answer is damaged only with the place of an entry whose text isn't there, where the disk tells its
+-- content.
+abbrev pub TellsEntry : View → Option Content → Answer → Type 0
+TellsEntry v content reply =
+    OnDamage reply (λ (file : FileName) (at : ℕ). IsDamagedEntry v file at content)
+
+-- The same of a verdict that refuses.
+abbrev pub RefusesEntry : View → Option Content → Verdict → Type 0
+RefusesEntry v content (Take text ids number) = Unit {0}
+RefusesEntry v content (Compare text ids number) = Unit {0}
+RefusesEntry v content (Refuse reply) = TellsEntry v content reply
+
+-- The answer is damaged only so, or with a file that is shorter than the root says, or with the place of
+-- an entry that has another own id.
+abbrev pub TellsDamage : View → Option Content → Answer → Type 0
+TellsDamage v content reply = OnDamage reply
+    (λ (file : FileName) (at : ℕ). IsDamageIn v file at content ⊎ IsMisnamed v file at)
