@@ -1,22 +1,16 @@
 -- What `init`, `reindex`, `check` and a command do, by the calls below them.
-use Rattle.std.specs.Prelude.{◌≡◌, ◌≢◌, ◌<◌, ◌≤◌, ℕ, zero, suc, true, List, [], length, Option, Some, None, Result, Ok, Err, refl}
+use Rattle.std.specs.Prelude.{◌≡◌, ◌≤◌, ℕ, true, List, [], length, Option, Some, None, Result, Ok, Err, refl}
 use Rattle.std.proofs.Common.{◌∙◌, sym, ap, subst, inl, inr, arith}
 use Rattle.arch_base.specs.Counts.{Rose, RoseIf}
 use Rattle.arch_base.specs.declared.config.Config.{Config}
-use Rattle.disk_model.specs.Disk.{File, Files, Content, Image, WhereTold, ReadsFit, LeavesOnly}
+use Rattle.disk_model.specs.Disk.{Files, Content, Image, WhereTold, ReadsFit, LeavesOnly}
 use Rattle.disk_model.specs.Moments.{joined, weaker}
 use Rattle.root_slots.specs.RootName.{root_name}
-use Rattle.root_slots.specs.Slots.{IsShutFile, Current, gate}
-use Rattle.root_slots.specs.Each.{IfThere}
-use Rattle.root_slots.specs.Spelling.{spelling}
-use Rattle.root_slots.specs.declared.root.Root.{Root}
-use Rattle.std.specs.List.{Contains}
+use Rattle.root_slots.specs.Slots.{IsShutFile}
 use Rattle.arch_model.specs.Archives.{Archive, empty_archive, live as live_entries}
 use Rattle.arch_model.specs.Delivery.{Done}
 use Rattle.arch_model.specs.Keeping.{Settles, Comes, Obeys, Doubts}
 use Rattle.arch_model.specs.Standing.{Standing, standing, one_of, IsFound}
-use Rattle.arch_model.specs.declared.command.Command.{Command}
-use Rattle.arch_model.specs.declared.command.Command.TheVariants.{Deliver, Remove, Purge, Edit}
 use Rattle.arch_model.specs.declared.answer.Answer.{Answer}
 use Rattle.arch_model.specs.declared.answer.Answer.TheVariants as answer
 use Rattle.arch_model.specs.declared.opening.OpenRefusal.{OpenRefusal}
@@ -26,15 +20,15 @@ use Rattle.epoch_store.specs.declared.refusal.InitRefusal.{InitRefusal}
 use Rattle.epoch_store.specs.declared.refusal.InitRefusal.TheVariants as making
 use Rattle.epoch_store.specs.First.{MakingAnswers, RefusesToMake}
 use Rattle.epoch_store.specs.Files.{as_read}
-use Rattle.epoch_store.specs.Opens.{Opens, ReadsAs, ReadsWith, RecoversOf, RecoversOfWith, AllRecoverOf, AllRecoverWith, IsWant, SyncsFirst, OnSynced}
-use Rattle.epoch_store.specs.Recovery.{Recovers, RecoversSomeWith}
-use Rattle.epoch_store.specs.Finding.{IsCurrentRoot}
-use Rattle.epoch_store.specs.Stores.{View, IsStoreOf, IsStoreWith, IsDiskOf, RecoversEither}
-use Rattle.archive_core.specs.Commands.{DoneBy, cache_left}
+use Rattle.epoch_store.specs.Opens.{Opens, OpensNone, ReadsAs, ReadsWith, RecoversOf, RecoversOfWith, AllRecoverWith, IsWant, SyncsFirst, SyncsAtMost, OnSynced}
+use Rattle.epoch_store.specs.Promises.{Way, Appends, Renews, cache_by}
+use Rattle.epoch_store.specs.Recovery.{Recovers, RecoversWith}
+use Rattle.epoch_store.specs.Stores.{View, IsStoreOf, IsStoreWith, IsDiskOf, RecoversEither, RecoversOneOf}
+use Rattle.archive_core.specs.Commands.{DoneBy, IsDone}
 use Rattle.archive_core.specs.Openings.{LeavesKindly}
 use Rattle.archive_core.proofs.Stored.{stored-length}
 use Rattle.archive_core.proofs.Engines.{all_recover, reads_one, stands_for}
-use Rattle.archive_cli.specs.DiskCommands.{Makes, unmade, IsFault, IsOpenedAs, IsOwn, IsDone, Answers, TakesTo, ReindexesTo, ChecksTo, StandsAs, StaysUnopened, TakesOn, RunsOrStays, LeavesSame, LeavesEither}
+use Rattle.archive_cli.specs.DiskCommands.{Makes, unmade, IsFault, IsOpenedAs, TakesTo, ReindexesTo, ChecksTo, StandsAs, StaysUnopened, TakesOn, RunsOrStays, LeavesEither}
 use Rattle.archive_cli.specs.declared.outcome.Outcome.{Outcome}
 use Rattle.archive_cli.specs.declared.outcome.Outcome.TheVariants.{Made, Reindexed, Checked, Answered, Unopened}
 
@@ -130,34 +124,34 @@ answered-cause before mid now reply same rose = record {
     of_answer (inr other) = absurd (cc other)
 
 -- What a refusal to open leaves of an archive that a command was for.
-pub unopened-takes : (a : Archive) (wanted : Done) (why : OpenRefusal) (old new : Option Content) → ReadsAs a old → IsWant why → LeavesKindly why old new → TakesTo a wanted (Unopened why) new
-unopened-takes a wanted refusal.NoArchive old new reads want kind = absurd want
-unopened-takes a wanted (refusal.Damaged file at) old new reads want kind = absurd want
-unopened-takes a wanted refusal.DiskFault old new reads want kind = tt
-unopened-takes a wanted refusal.NoMemory old new reads want kind = kind a [] reads
+pub unopened-takes : (way : Way) (cache : List ℕ) (a : Archive) (wanted : Done) (why : OpenRefusal) (old new : Option Content) → ReadsWith cache a old → IsWant why → LeavesKindly why old new → TakesTo way cache a wanted (Unopened why) new
+unopened-takes way cache a wanted refusal.NoArchive old new reads want kind = absurd want
+unopened-takes way cache a wanted (refusal.Damaged file at) old new reads want kind = absurd want
+unopened-takes way cache a wanted refusal.DiskFault old new reads want kind = tt
+unopened-takes way cache a wanted refusal.NoMemory old new reads want kind = kind.0 a cache reads
 
 -- What a refusal to open leaves of an archive that was to be reindexed.
-pub unopened-reindexes : (a : Archive) (why : OpenRefusal) (old new : Option Content) → ReadsAs a old → IsWant why → LeavesKindly why old new → ReindexesTo a (Unopened why) new
-unopened-reindexes a refusal.NoArchive old new reads want kind = absurd want
-unopened-reindexes a (refusal.Damaged file at) old new reads want kind = absurd want
-unopened-reindexes a refusal.DiskFault old new reads want kind = tt
-unopened-reindexes a refusal.NoMemory old new reads want kind = kind a [] reads
+pub unopened-reindexes : (cache : List ℕ) (a : Archive) (why : OpenRefusal) (old new : Option Content) → ReadsWith cache a old → IsWant why → LeavesKindly why old new → ReindexesTo cache a (Unopened why) new
+unopened-reindexes cache a refusal.NoArchive old new reads want kind = absurd want
+unopened-reindexes cache a (refusal.Damaged file at) old new reads want kind = absurd want
+unopened-reindexes cache a refusal.DiskFault old new reads want kind = tt
+unopened-reindexes cache a refusal.NoMemory old new reads want kind = kind.0 a cache reads
 
 -- What a refusal to open leaves of an archive that was to be checked.
-pub unopened-checks : (a : Archive) (why : OpenRefusal) (old new : Option Content) → ReadsAs a old → IsWant why → LeavesKindly why old new → ChecksTo a (Unopened why) new
-unopened-checks a refusal.NoArchive old new reads want kind = absurd want
-unopened-checks a (refusal.Damaged file at) old new reads want kind = absurd want
-unopened-checks a refusal.DiskFault old new reads want kind = tt
-unopened-checks a refusal.NoMemory old new reads want kind = kind a [] reads
+pub unopened-checks : (cache : List ℕ) (a : Archive) (why : OpenRefusal) (old new : Option Content) → ReadsWith cache a old → IsWant why → LeavesKindly why old new → ChecksTo cache a (Unopened why) new
+unopened-checks cache a refusal.NoArchive old new reads want kind = absurd want
+unopened-checks cache a (refusal.Damaged file at) old new reads want kind = absurd want
+unopened-checks cache a refusal.DiskFault old new reads want kind = tt
+unopened-checks cache a refusal.NoMemory old new reads want kind = kind.0 a cache reads
 
 -- The count of a store's live messages is that of its archive.
-pub opened-reindexes : (v : View) (a : Archive) (content : Option Content) (live : ℕ) → IsStoreOf v a content → live ≡ length (live_entries a.entries) → ReindexesTo a (Reindexed live) content
-opened-reindexes v a content live store lives = (lives, (v, store))
+pub opened-reindexes : (v : View) (cache : List ℕ) (a : Archive) (content : Option Content) (live : ℕ) → IsStoreWith v cache a content → live ≡ length (live_entries a.entries) → ReindexesTo cache a (Reindexed live) content
+opened-reindexes v cache a content live store lives = (lives, (v, store))
 
 -- The counts of a store are those of its archive.
-pub opened-checks : (v : View) (a : Archive) (content : Option Content) (entries live next : ℕ) → IsStoreOf v a content → entries ≡ length v.entries → live ≡ length (live_entries a.entries) → next ≡ v.root.next → ChecksTo a (Checked entries live next) content
-opened-checks v a None entries live next store count lives following = absurd store
-opened-checks v a (Some k) entries live next store count lives following =
+pub opened-checks : (v : View) (cache : List ℕ) (a : Archive) (content : Option Content) (entries live next : ℕ) → IsStoreWith v cache a content → entries ≡ length v.entries → live ≡ length (live_entries a.entries) → next ≡ v.root.next → ChecksTo cache a (Checked entries live next) content
+opened-checks v cache a None entries live next store count lives following = absurd store
+opened-checks v cache a (Some k) entries live next store count lives following =
     (count ∙ (ap (λ (es : List StoredEntry). length es) store.keeps.kept ∙ stored-length [] a.entries), lives, following ∙ store.keeps.names.next, (v, store))
 
 -- They are those of what was opened.
@@ -166,54 +160,14 @@ opened-as v None entries live next answer count following = tt
 opened-as v (Some k) entries live next answer count following = (v, answer, count, following)
 
 -- Where there was no cache a command leaves none.
-pub no-cache : (command : Command) → cache_left command [] ≡ []
-no-cache (Deliver bytes) = refl
-no-cache (Remove number) = refl
-no-cache (Purge number) = refl
-no-cache (Edit number bytes) = refl
+no-cache : (way : Way) → cache_by way [] ≡ []
+no-cache Appends = refl
+no-cache Renews = refl
 
--- The answer of an open archive is the answer on the disk.
-pub done-answers : (v : View) (a : Archive) (wanted : Done) (reply : Answer) (content : Option Content) → DoneBy v [] [] a wanted reply content → Answers a wanted reply content
-done-answers v a wanted answer.NoMemory content done = (v, done)
-done-answers v a wanted answer.DiskFault content done = tt
-done-answers v a wanted (answer.Ok number id) content done = record { answer_is = done.answer_is; own = (v, done.store) }
-done-answers v a wanted (answer.Duplicate number) content done = record { answer_is = done.answer_is; own = (v, done.store) }
-done-answers v a wanted answer.NoFields content done = record { answer_is = done.answer_is; own = (v, done.store) }
-done-answers v a wanted (answer.TooLarge len) content done = record { answer_is = done.answer_is; own = (v, done.store) }
-done-answers v a wanted (answer.Full max) content done = record { answer_is = done.answer_is; own = (v, done.store) }
-done-answers v a wanted (answer.Collision number) content done = record { answer_is = done.answer_is; own = (v, done.store) }
-done-answers v a wanted answer.IsMirror content done = record { answer_is = done.answer_is; own = (v, done.store) }
-done-answers v a wanted (answer.NotLive number) content done = record { answer_is = done.answer_is; own = (v, done.store) }
-done-answers v a wanted (answer.NoText number) content done = record { answer_is = done.answer_is; own = (v, done.store) }
-done-answers v a wanted (answer.Damaged file at) content done = absurd done
-
--- A disk that stands so leaves nothing else at first.
-pub image-all : (may : List (Option Archive)) (k : Option Content) (image : Files) → AllRecoverOf may k → Image k image → RecoversOf may image
-image-all may None image all left = absurd all
-image-all may (Some k) image all left = all image left
-
--- A file with a current root isn't shut.
-open-not-shut : (root : Root) (slot : ℕ) (files : Files) → IsCurrentRoot root slot files → IsShutFile (files root_name) → ⊥
-open-not-shut root slot files is shut = by_file (files root_name) is.current shut
-  where
-    by_slot : (bytes : List ℕ) (n : ℕ) → n < 2 → gate bytes n ≡ 1 → (gate bytes 0 ≢ 1) × (gate bytes 1 ≢ 1) → ⊥
-    by_slot bytes zero low opened gates = gates.0 opened
-    by_slot bytes (suc zero) low opened gates = gates.1 opened
-    by_slot bytes (suc (suc n)) low opened gates = absurd (omega (arith, low))
-
-    by_file : (f : File) → IfThere (Current slot (spelling root)) f → IsShutFile f → ⊥
-    by_file None never closed = never
-    by_file (Some bytes) current (inl other) = other current.size
-    by_file (Some bytes) current (inr gates) = by_slot bytes slot current.in_range current.opened gates
-
--- What was opened is one of the archives that the disk may have stood for.
-pub read-among : (may : List (Option Archive)) (k : Option Content) → ReadsFit k → AllRecoverOf may k → (v : View) → WhereTold (λ (c : Content). Opens (as_read c) (Ok v)) k → (b : Archive) × Contains may (Some b) × ReadsAs b k
-read-among may None fit all v answer = absurd all
-read-among may (Some k) fit all v answer = let one = all (as_read k) (λ name. fit k refl name) in by one.0 one.1 one.2
-  where
-    by : (o : Option Archive) → Contains may o → RecoversSomeWith [] (as_read k) o → (b : Archive) × Contains may (Some b) × ReadsAs b (Some k)
-    by None has shut = absurd (open-not-shut v.root v.slot (as_read k) answer.root shut)
-    by (Some b) has recovers = (b, has, recovers)
+-- What was opened can be.
+opened-none : (v : View) (k : Option Content) → WhereTold (λ (c : Content). Opens (as_read c) (Ok v)) k → OpensNone k → ⊥
+opened-none v None answer none = none
+opened-none v (Some k) answer none = none v answer
 
 module _ {D : Type 0} (content : D → Option Content) (moment : D → ℕ) (left_since : D → ℕ → Files → Type 0)
     (counts_now : (disk : D) (t : ℕ) (image : Files) → t ≤ moment disk → Image (content disk) image → left_since disk t image)
@@ -247,6 +201,17 @@ module _ {D : Type 0} (content : D → Option Content) (moment : D → ℕ) (lef
         (record { found = found.1; sure = refl }, found.2),
       )
 
+  -- A command didn't run, since the archive wasn't opened.
+  pub unopened-runs : (old new : D) (way : Way) (wanted : Archive → Done) → SyncsAtMost content moment left_since old new → RunsOrStays content moment left_since old new (LeavesEither way wanted)
+  unopened-runs old new way wanted (inl only) = inl only
+  unopened-runs old new way wanted (inr first) = inr (record {
+    synced = first.synced;
+    only = first.only;
+    before = first.before;
+    after = λ a cache reads. weaker moment left_since first.synced new (λ (i : Files). RecoversWith cache i a) (LeavesEither way wanted cache a) (first.after a cache reads) (λ image one. inl one);
+    none = first.none;
+  })
+
   -- An archive was opened.
   module _ (old opened : D) (v : View) (done : (a : Archive) (cache : List ℕ) → ReadsWith cache a (content old) → IsStoreWith v cache a (content opened)) (first : SyncsFirst content moment left_since old opened) where
     -- It is the one that was found.
@@ -258,42 +223,31 @@ module _ {D : Type 0} (content : D → Option Content) (moment : D → ℕ) (lef
           (record { found = found.1; sure = refl }, found.2),
         )
 
-    -- What a crash leaves once it was opened, and after what is done then.
-    runs-then : (new : D) (leaves : Archive → Files → Type 0) → WhereTold (λ (k : Content). Opens (as_read k) (Ok v)) (content old) → ((a : Archive) → ReadsAs a (content old) → LeavesOnly moment left_since first.synced new (leaves a)) → RunsOrStays content moment left_since old new leaves
-    runs-then new leaves answer after = λ may all.
-        let found = read-among may (content old) (reads_fit old) all v answer in
-        inr (record {
-          found = found.0;
-          is_among = found.1;
-          reads = found.2;
-          synced = first.synced;
-          only = first.only;
-          before = weaker moment left_since old first.synced (Image (content old)) (RecoversOf may) first.before (λ image now. image-all may (content old) image all now);
-          after = after found.0 found.2;
-        })
-
-    pub opened-runs : WhereTold (λ (k : Content). Opens (as_read k) (Ok v)) (content old) → RunsOrStays content moment left_since old opened LeavesSame
-    opened-runs answer = runs-then opened LeavesSame answer (λ a reads. first.after a [] reads)
-
     -- A command was taken.
-    module _ (new : D) (wanted : Archive → Done) (left : (a : Archive) → IsStoreOf v a (content opened) → LeavesOnly moment left_since opened new (LeavesEither wanted a)) where
-      pub taken-runs : WhereTold (λ (k : Content). Opens (as_read k) (Ok v)) (content old) → RunsOrStays content moment left_since old new (LeavesEither wanted)
-      taken-runs answer = runs-then new (LeavesEither wanted) answer (λ a reads. joined moment left_since first.synced opened new (λ (i : Files). Recovers i a) (RecoversEither a (wanted a).archive) (RecoversEither a (wanted a).archive) (first.after a [] reads) (left a (done a [] reads)) (λ image one. inl one) (λ image either. either))
+    module _ (new : D) (way : Way) (wanted : Archive → Done) (left : (a : Archive) (cache : List ℕ) → IsStoreWith v cache a (content opened) → LeavesOnly moment left_since opened new (LeavesEither way wanted cache a)) where
+      pub taken-runs : WhereTold (λ (k : Content). Opens (as_read k) (Ok v)) (content old) → RunsOrStays content moment left_since old new (LeavesEither way wanted)
+      taken-runs answer = inr (record {
+        synced = first.synced;
+        only = first.only;
+        before = first.before;
+        after = λ a cache reads. joined moment left_since first.synced opened new (λ (i : Files). RecoversWith cache i a) (LeavesEither way wanted cache a) (LeavesEither way wanted cache a) (first.after a cache reads) (left a cache (done a cache reads)) (λ image one. inl one) (λ image either. either);
+        none = λ none. absurd (opened-none v (content old) answer none);
+      })
 
       module _ (s : Standing) (b : Archive) (found : IsFound s b) (reads : ReadsAs b (content old)) where
         -- The disk of a store's archive.
-        own-stands : (a : Archive) → IsOwn a (content new) → StandsAs (standing a None) (content new)
-        own-stands a own = one-stands a new (λ image now. stands_for own.0 [] a (content new) image own.1 now)
+        own-stands : (u : View) (a : Archive) → IsStoreOf u a (content new) → StandsAs (standing a None) (content new)
+        own-stands u a own = one-stands a new (λ image now. stands_for u [] a (content new) image own now)
 
-        stands-done : (r : Answer) → IsDone (wanted b) r (content new) → ((t : Standing) → Obeys (standing b None) wanted r t → Comes true (standing b None) wanted r t) → (t : Standing) × StandsAs t (content new) × TakesOn s (content old) wanted (Answered r) t
-        stands-done r is comes =
+        stands-done : (r : Answer) (u : View) → IsDone u [] (wanted b) r (content new) → ((t : Standing) → Obeys (standing b None) wanted r t → Comes true (standing b None) wanted r t) → (t : Standing) × StandsAs t (content new) × TakesOn s (content old) wanted (Answered r) t
+        stands-done r u is comes =
             let obeys : Obeys (standing b None) wanted r (standing (wanted b).archive None) = record { found = b; is_found = inl refl; answer_is = is.answer_is; stands = refl } in
-            (standing (wanted b).archive None, own-stands (wanted b).archive is.own, record { found = b; is_found = found; reads = reads; comes = comes (standing (wanted b).archive None) obeys })
+            (standing (wanted b).archive None, own-stands u (wanted b).archive is.store, record { found = b; is_found = found; reads = reads; comes = comes (standing (wanted b).archive None) obeys })
 
-        stands-by : (r : Answer) → Answers b (wanted b) r (content new) → (t : Standing) × StandsAs t (content new) × TakesOn s (content old) wanted (Answered r) t
-        stands-by answer.NoMemory own = (standing b None, own-stands b own, record { found = b; is_found = found; reads = reads; comes = inr (record { found = inl refl; sure = refl }) })
-        stands-by answer.DiskFault nothing =
-            let run = left b (done b [] reads) in
+        stands-by : (r : Answer) (u : View) → DoneBy u [] [] b (wanted b) r (content new) → (t : Standing) × StandsAs t (content new) × TakesOn s (content old) wanted (Answered r) t
+        stands-by answer.NoMemory u own = (standing b None, own-stands u b own, record { found = b; is_found = found; reads = reads; comes = inr (record { found = inl refl; sure = refl }) })
+        stands-by answer.DiskFault u nothing =
+            let run = subst (λ (cache : List ℕ). LeavesOnly moment left_since opened new (RecoversOneOf [] b cache (wanted b).archive)) (no-cache way) (left b [] (done b [] reads)) in
             let doubts : Doubts (standing b None) wanted (standing b (Some (wanted b).archive)) = record { found = b; is_found = inl refl; stands = refl } in (
               standing b (Some (wanted b).archive),
               all_recover (standing b (Some (wanted b).archive)) [] (content new) (λ image now. of_either image (now-left opened new (RecoversEither b (wanted b).archive) run image now)),
@@ -303,18 +257,19 @@ module _ {D : Type 0} (content : D → Option Content) (moment : D → ℕ) (lef
             of_either : (image : Files) → RecoversEither b (wanted b).archive image → RecoversOf (one_of (standing b (Some (wanted b).archive))) image
             of_either image (inl before) = (Some b, (0, omega arith, refl), before)
             of_either image (inr after) = (Some (wanted b).archive, (1, omega arith, refl), after)
-        stands-by (answer.Ok number id) is = stands-done (answer.Ok number id) is (λ t obeys. obeys)
-        stands-by (answer.Duplicate number) is = stands-done (answer.Duplicate number) is (λ t obeys. obeys)
-        stands-by answer.NoFields is = stands-done answer.NoFields is (λ t obeys. obeys)
-        stands-by (answer.TooLarge len) is = stands-done (answer.TooLarge len) is (λ t obeys. obeys)
-        stands-by (answer.Full max) is = stands-done (answer.Full max) is (λ t obeys. obeys)
-        stands-by (answer.Collision number) is = stands-done (answer.Collision number) is (λ t obeys. obeys)
-        stands-by answer.IsMirror is = stands-done answer.IsMirror is (λ t obeys. obeys)
-        stands-by (answer.NotLive number) is = stands-done (answer.NotLive number) is (λ t obeys. obeys)
-        stands-by (answer.NoText number) is = stands-done (answer.NoText number) is (λ t obeys. obeys)
-        stands-by (answer.Damaged file at) never = absurd never
+        stands-by (answer.Ok number id) u is = stands-done (answer.Ok number id) u is (λ t obeys. obeys)
+        stands-by (answer.Duplicate number) u is = stands-done (answer.Duplicate number) u is (λ t obeys. obeys)
+        stands-by answer.NoFields u is = stands-done answer.NoFields u is (λ t obeys. obeys)
+        stands-by (answer.TooLarge len) u is = stands-done (answer.TooLarge len) u is (λ t obeys. obeys)
+        stands-by (answer.Full max) u is = stands-done (answer.Full max) u is (λ t obeys. obeys)
+        stands-by (answer.Collision number) u is = stands-done (answer.Collision number) u is (λ t obeys. obeys)
+        stands-by answer.IsMirror u is = stands-done answer.IsMirror u is (λ t obeys. obeys)
+        stands-by (answer.NotLive number) u is = stands-done (answer.NotLive number) u is (λ t obeys. obeys)
+        stands-by (answer.NoText number) u is = stands-done (answer.NoText number) u is (λ t obeys. obeys)
+        stands-by (answer.Damaged file at) u never = absurd never
 
-      pub taken-stands : (reply : Answer) → ((a : Archive) → IsStoreOf v a (content opened) → Answers a (wanted a) reply (content new)) → (s : Standing) → StandsAs s (content old) → (t : Standing) × StandsAs t (content new) × TakesOn s (content old) wanted (Answered reply) t
+      pub taken-stands : (reply : Answer) → ((a : Archive) (cache : List ℕ) → IsStoreWith v cache a (content opened) → (u : View) × DoneBy u cache (cache_by way cache) a (wanted a) reply (content new)) → (s : Standing) → StandsAs s (content old) → (t : Standing) × StandsAs t (content new) × TakesOn s (content old) wanted (Answered reply) t
       taken-stands reply answers s all =
           let found = found-at s old all in
-          stands-by s found.0 found.1 found.2 reply (answers found.0 (done found.0 [] found.2))
+          let own = answers found.0 [] (done found.0 [] found.2) in
+          stands-by s found.0 found.1 found.2 reply own.0 (subst (λ (cache : List ℕ). DoneBy own.0 [] cache found.0 (wanted found.0) reply (content new)) (no-cache way) own.1)

@@ -121,7 +121,7 @@ part-of (end.Spent n) config text script es left true turns first after taken fr
 part-of end.HostFault config text script es left false turns first after taken frames short is_script many is fresh served ends part = absurd (omega (arith, ends.1))
 part-of end.HostFault config text script es left true turns first after taken frames short is_script many is fresh served ends part = absurd ends
 part-of end.NoMemory config text script es left false turns first after taken frames short is_script many is fresh served ends part =
-    let none_taken : Served [] first taken after = subst (λ (xs : List Arrival). Served xs first taken after) ends served in
+    let none_taken : Served [] first taken after = subst (λ (xs : List Arrival). Served xs first taken after) ends.0 served in
     let none_asked : outputs_asked false first taken after ≡ [] = none-asked first after taken none_taken in
     inl (no-frames frames (subst (λ (past : List Outputs). FirstFrames past frames) none_asked part))
 part-of end.NoMemory config text script es left true turns first after taken frames short is_script many is fresh served ends part = absurd ends

@@ -12,18 +12,21 @@ use Rattle.arch_model.specs.Archives.{Archive}
 use Rattle.arch_model.specs.Delivery.{Done}
 use Rattle.arch_model.specs.declared.answer.Answer.TheVariants as answer
 use Rattle.archive_core.proofs.Answered.{delivery-lives}
-use Rattle.archive_cli.specs.DiskCommands.{IsDone, TakesTo, delivering}
+use Rattle.archive_cli.specs.DiskCommands.{TakesTo, delivering}
+use Rattle.epoch_store.specs.Promises.{Way, Appends}
+use Rattle.epoch_store.specs.Stores.{View}
+use Rattle.archive_core.specs.Commands.{IsDone}
 use Rattle.archive_cli.specs.Words.{IsJob, AsksFor}
 use Rattle.archive_cli.specs.Turns.{Transcript}
 use Rattle.archive_cli.specs.Serving.{ServeRun, Shut, run_line, run_status}
 use Rattle.arch_model.specs.declared.opening.OpenRefusal.TheVariants as opening
 use Rattle.arch_base.specs.Counts.{Rose}
 use Rattle.disk_model.specs.Disk.{Content}
-use Rattle.edge_io.specs.Coming.{Moments, IsFirst}
+use Rattle.edge_io.specs.Coming.{Moments, IsFirst, after_first}
 use Rattle.archive_cli.specs.Outcomes.{outcome_line, status_of}
 use Rattle.archive_cli.specs.declared.outcome.Outcome.{Outcome}
 use Rattle.archive_cli.specs.declared.outcome.Outcome.TheVariants.{Answered}
-use Rattle.archive_cli.specs.Program.{Edges, all_edges, NoneFailed, JobActs, JobEnds, InitActs, CommandActs, MessageActs, putting, AsksForMessage, AsksForCommand, ReindexActs, CheckActs, PlaysPart, IsInput, IsDue, Ends, Ran, input_limit, message_of, TookAtMost}
+use Rattle.archive_cli.specs.Program.{Edges, all_edges, NoneFailed, JobActs, JobEnds, InitActs, CommandActs, MessageActs, putting, putting_way, AsksForMessage, AsksForCommand, ReindexActs, CheckActs, PlaysPart, IsInput, IsDue, unasked, Ends, Ran, input_limit, message_of, TookAtMost}
 use Rattle.archive_cli.specs.Printing.{Printed, Exactly, IsLoadDue, IsReplayDue, Replayed, IsPieceRead, JobDone, InputDone, IsUnread}
 use Rattle.archive_cli.specs.declared.status.Status.{Status}
 use Rattle.archive_cli.specs.declared.status.Status.TheVariants as exit
@@ -99,32 +102,32 @@ ran-exactly words job text code status i j asked ends p =
     ran-printed words given.0 status i j (Exactly text code) given.1 (λ s printed e. inl (record { job = job; asked = asked; ends = subst (λ w. Ends job given.0 i j s w) (sym e.words_is) (subst (λ c. Ends job given.0 i j c text) (sym e.status_is) (ends given.0)) })) p
 
 due_job : (words : List (List ℕ)) (config : Config) (input : List ℕ) (i j : Edges) (s : Status) (printed : List ℕ) → AsksFor words (Replay config) → NoneFailed i j → IsReplayDue config input s printed → IsDue words input i j s printed
-due_job words config input i j s printed asked spared (inl replays) = inl (record { job = Some (Replay config); asked = asked; ends = replays })
+due_job words config input i j s printed asked spared (inl replays) = inl (record { job = Some (Replay config); asked = asked; ends = (replays, spared) })
 due_job words config input i j s printed asked spared (inr short) = inr (inl (record { config = config; asked = asked; stops = short; spared = spared }))
 
 -- A script that was run is a run.
-pub ran-replayed : (words : List (List ℕ)) (config : Config) (status : Status) (i j : Edges) → AsksFor words (Replay config) → Replayed config status i j → j.content ≡ i.content → j.missed ≡ i.missed → j.broken ≡ i.broken → Ran words status i j
-ran-replayed words config status i j asked (inl r) kept clock disk =
-    ran-printed words r.0 status i j (IsReplayDue config r.0) r.1 (λ s printed due. due_job words config r.0 i j s printed asked (record { input = r.2; clock = clock; disk = disk }) due) r.3
-ran-replayed words config status i j asked (inr r) kept clock disk = inr (inl (record { asked = inl (config, asked); rose = r.1; silent = record { status_is = r.0; taken_is = r.2; lost_kept = r.3; kept = kept } }))
+pub ran-replayed : (words : List (List ℕ)) (config : Config) (status : Status) (i j : Edges) → AsksFor words (Replay config) → Replayed config status i j → j.content ≡ i.content → j.missed ≡ i.missed → j.coming ≡ i.coming → j.broken ≡ i.broken → Ran words status i j
+ran-replayed words config status i j asked (inl r) kept clock coming disk =
+    ran-printed words r.0 status i j (IsReplayDue config r.0) r.1 (λ s printed due. due_job words config r.0 i j s printed asked (record { input = r.2; clock = clock; disk = disk; coming = coming }) due) r.3
+ran-replayed words config status i j asked (inr r) kept clock coming disk = inr (inl (record { asked = inl (config, asked); rose = r.1; clock_kept = clock; silent = record { status_is = r.0; taken_is = r.2; lost_kept = r.3; coming_kept = coming; kept = kept; disk_kept = disk } }))
 
 -- What is due of a load.
 due_load : (words : List (List ℕ)) (count seed : ℕ) (input : List ℕ) (i j : Edges) (s : Status) (printed : List ℕ) → AsksFor words (Load count seed) → j.content ≡ i.content → NoneFailed i j → IsLoadDue count seed s printed → IsDue words input i j s printed
-due_load words count seed input i j s printed asked kept spared (inl line) = inl (record { job = Some (Load count seed); asked = asked; ends = (line.status_is, line.words_is) })
+due_load words count seed input i j s printed asked kept spared (inl line) = inl (record { job = Some (Load count seed); asked = asked; ends = (line.status_is, line.words_is, spared) })
 due_load words count seed input i j s printed asked kept spared (inr short) = inr (inr (inl (record { count = count; seed = seed; asked = asked; status_is = short.status_is; printed_is = short.words_is; kept = kept; spared = spared })))
 
 -- A load is a run.
-pub ran-loaded : (words : List (List ℕ)) (count seed : ℕ) (status : Status) (i j : Edges) → AsksFor words (Load count seed) → j.content ≡ i.content → j.unread ≡ i.unread → j.missed ≡ i.missed → j.broken ≡ i.broken → Printed (IsLoadDue count seed) status i.taken i.lost j.taken j.lost → Ran words status i j
-ran-loaded words count seed status i j asked kept input clock disk p =
+pub ran-loaded : (words : List (List ℕ)) (count seed : ℕ) (status : Status) (i j : Edges) → AsksFor words (Load count seed) → j.content ≡ i.content → j.unread ≡ i.unread → j.missed ≡ i.missed → j.coming ≡ i.coming → j.broken ≡ i.broken → Printed (IsLoadDue count seed) status i.taken i.lost j.taken j.lost → Ran words status i j
+ran-loaded words count seed status i j asked kept input clock coming disk p =
     let given = some-input i.left in
-    ran-printed words given.0 status i j (IsLoadDue count seed) given.1 (λ s printed due. due_load words count seed given.0 i j s printed asked kept (record { input = input; clock = clock; disk = disk }) due) p
+    ran-printed words given.0 status i j (IsLoadDue count seed) given.1 (λ s printed due. due_load words count seed given.0 i j s printed asked kept (record { input = input; clock = clock; disk = disk; coming = coming }) due) p
 
 -- An archive that was to be made is a run.
 pub ran-made : (words : List (List ℕ)) (config : Config) (status : Status) (i j : Edges) → AsksFor words (Init config) → JobDone (InitActs config) status i j → Ran words status i j
 ran-made words config status i j asked (inl p) =
     let given = some-input i.left in
-    ran-printed words given.0 status i j (JobEnds (InitActs config) i j) given.1 (λ s printed due. inl (record { job = Some (Init config); asked = asked; ends = due })) p
-ran-made words config status i j asked (inr missed) = inr (inr (inl (record { asked = inl (config, asked); rose = missed.1; silent = missed.0 })))
+    ran-printed words given.0 status i j (JobEnds (InitActs config) after_first i j) given.1 (λ s printed due. inl (record { job = Some (Init config); asked = asked; ends = due })) p
+ran-made words config status i j asked (inr missed) = inr (inr (inl (record { asked = inl (config, asked); rose = missed.1; input_kept = missed.2; silent = missed.0 })))
 
 -- The job that puts the message on the input into the archive.
 abbrev pub putting_job : Option ℕ → Job
@@ -135,80 +138,81 @@ asks-put : (words : List (List ℕ)) (place : Option ℕ) → AsksFor words (put
 asks-put words None asked = inl asked
 asks-put words (Some number) asked = inr (number, asked)
 
-ends-put : (place : Option ℕ) (input : List ℕ) (i j : Edges) (s : Status) (printed : List ℕ) → JobEnds (MessageActs place (message_of input)) i j s printed → Ends (Some (putting_job place)) input i j s printed
+ends-put : (place : Option ℕ) (input : List ℕ) (i j : Edges) (s : Status) (printed : List ℕ) → JobEnds (MessageActs place (message_of input)) after_first i j s printed → Ends (Some (putting_job place)) input i j s printed
 ends-put None input i j s printed ends = ends
 ends-put (Some number) input i j s printed ends = ends
 
 -- A message that was to be put there is a run.
 pub ran-put : (words : List (List ℕ)) (place : Option ℕ) (status : Status) (i j : Edges) → AsksFor words (putting_job place) → InputDone place status i j → Ran words status i j
 ran-put words place status i j asked (inl (input, told, inl p)) =
-    ran-printed words input status i j (JobEnds (MessageActs place (message_of input)) i j) told (λ s printed due. inl (record { job = Some (putting_job place); asked = asked; ends = ends-put place input i j s printed due })) p
-ran-put words place status i j asked (inl (input, told, inr missed)) = inr (inr (inl (record { asked = inr (inl (asks-put words place asked)); rose = missed.1; silent = missed.0 })))
+    ran-printed words input status i j (JobEnds (MessageActs place (message_of input)) after_first i j) told (λ s printed due. inl (record { job = Some (putting_job place); asked = asked; ends = ends-put place input i j s printed due })) p
+ran-put words place status i j asked (inl (input, told, inr missed)) = inr (inr (inl (record { asked = inr (inl (asks-put words place asked)); rose = missed.1; input_kept = missed.2; silent = missed.0 })))
 ran-put words place status i j asked (inr (inl p)) =
     let given = some-input i.left in
     ran-printed words given.0 status i j (IsUnread i j) given.1 (λ s printed unread. inr (inr (inr (record { asked = asks-put words place asked; status_is = unread.status_is; printed_is = unread.printed_is; kept = unread.kept; spared = unread.spared })))) p
-ran-put words place status i j asked (inr (inr failed)) = inr (inl (record { asked = inr (asks-put words place asked); rose = failed.1; silent = failed.0 }))
+ran-put words place status i j asked (inr (inr failed)) = inr (inl (record { asked = inr (asks-put words place asked); rose = failed.1; clock_kept = failed.2; silent = failed.0 }))
 
 -- A command without a message is a run.
-pub ran-command : (words : List (List ℕ)) (job : Job) (wanted : ℕ → Archive → Done) (status : Status) (i j : Edges) → AsksFor words job → AsksForCommand words → ((input : List ℕ) (s : Status) (printed : List ℕ) → JobEnds (CommandActs wanted) i j s printed → Ends (Some job) input i j s printed)
-    → JobDone (CommandActs wanted) status i j → Ran words status i j
-ran-command words job wanted status i j asked command ends (inl p) =
+pub ran-command : (words : List (List ℕ)) (job : Job) (way : Way) (wanted : ℕ → Archive → Done) (status : Status) (i j : Edges) → AsksFor words job → AsksForCommand words → ((input : List ℕ) (s : Status) (printed : List ℕ) → JobEnds (CommandActs way wanted) after_first i j s printed → Ends (Some job) input i j s printed)
+    → JobDone (CommandActs way wanted) status i j → Ran words status i j
+ran-command words job way wanted status i j asked command ends (inl p) =
     let given = some-input i.left in
-    ran-printed words given.0 status i j (JobEnds (CommandActs wanted) i j) given.1 (λ s printed due. inl (record { job = Some job; asked = asked; ends = ends given.0 s printed due })) p
-ran-command words job wanted status i j asked command ends (inr missed) = inr (inr (inl (record { asked = inr command; rose = missed.1; silent = missed.0 })))
+    ran-printed words given.0 status i j (JobEnds (CommandActs way wanted) after_first i j) given.1 (λ s printed due. inl (record { job = Some job; asked = asked; ends = ends given.0 s printed due })) p
+ran-command words job way wanted status i j asked command ends (inr missed) = inr (inr (inl (record { asked = inr command; rose = missed.1; input_kept = missed.2; silent = missed.0 })))
 
 -- A reindexing is a run.
-pub ran-reindexed : (words : List (List ℕ)) (status : Status) (i j : Edges) (o : Outcome) → AsksFor words Reindex → JobActs ReindexActs i j o → Printed (Exactly (whole_line (outcome_line o)) (status_of o)) status i.taken i.lost j.taken j.lost → Ran words status i j
+pub ran-reindexed : (words : List (List ℕ)) (status : Status) (i j : Edges) (o : Outcome) → AsksFor words Reindex → JobActs ReindexActs unasked i j o → Printed (Exactly (whole_line (outcome_line o)) (status_of o)) status i.taken i.lost j.taken j.lost → Ran words status i j
 ran-reindexed words status i j o asked acts p =
     let given = some-input i.left in
     ran-printed words given.0 status i j (Exactly (whole_line (outcome_line o)) (status_of o)) given.1
     (λ s printed e. inl (record { job = Some Reindex; asked = asked; ends = record { outcome = o; acts = acts; status_is = e.status_is; printed_is = e.words_is } })) p
 
 -- A check is a run.
-pub ran-checked : (words : List (List ℕ)) (status : Status) (i j : Edges) (o : Outcome) → AsksFor words Check → JobActs CheckActs i j o → Printed (Exactly (whole_line (outcome_line o)) (status_of o)) status i.taken i.lost j.taken j.lost → Ran words status i j
+pub ran-checked : (words : List (List ℕ)) (status : Status) (i j : Edges) (o : Outcome) → AsksFor words Check → JobActs CheckActs unasked i j o → Printed (Exactly (whole_line (outcome_line o)) (status_of o)) status i.taken i.lost j.taken j.lost → Ran words status i j
 ran-checked words status i j o asked acts p =
     let given = some-input i.left in
     ran-printed words given.0 status i j (Exactly (whole_line (outcome_line o)) (status_of o)) given.1
     (λ s printed e. inl (record { job = Some Check; asked = asked; ends = record { outcome = o; acts = acts; status_is = e.status_is; printed_is = e.words_is } })) p
 
 -- Serving is a run.
-pub ran-served : (words : List (List ℕ)) (turns port : ℕ) (run : ServeRun) (status : Status) (i j : Edges) → AsksFor words (Serve turns port) → (run ≡ Shut opening.DiskFault → Rose i.broken j.broken) → j.unread ≡ i.unread → j.missed ≡ i.missed
+pub ran-served : (words : List (List ℕ)) (turns port : ℕ) (run : ServeRun) (status : Status) (i j : Edges) → AsksFor words (Serve turns port) → (run ≡ Shut opening.DiskFault → Rose i.broken j.broken) → j.unread ≡ i.unread → j.missed ≡ i.missed → j.coming ≡ i.coming
     → Printed (Exactly (run_line run) (run_status run)) status i.taken i.lost j.taken j.lost → Ran words status i j
-ran-served words turns port run status i j asked fault input clock p =
+ran-served words turns port run status i j asked fault input clock coming p =
     let given = some-input i.left in
     ran-printed words given.0 status i j (Exactly (run_line run) (run_status run)) given.1
-    (λ s printed e. inl (record { job = Some (Serve turns port); asked = asked; ends = record { run = run; status_is = e.status_is; printed_is = e.words_is; fault = fault; input_kept = input; clock_kept = clock } })) p
+    (λ s printed e. inl (record { job = Some (Serve turns port); asked = asked; ends = record { run = run; status_is = e.status_is; printed_is = e.words_is; fault = fault; input_kept = input; clock_kept = clock; coming_kept = coming } })) p
 
 -- What was printed of an outcome is due by it.
-pub outcome-due : (did : ℕ → Option Content → Option Content → Outcome → Type 0) (status : Status) (i j : Edges) (o : Outcome) → JobActs did i j o → Printed (Exactly (whole_line (outcome_line o)) (status_of o)) status i.taken i.lost j.taken j.lost → Printed (JobEnds did i j) status i.taken i.lost j.taken j.lost
+pub outcome-due : (did : ℕ → Option Content → Option Content → Outcome → Type 0) (status : Status) (i j : Edges) (o : Outcome) → JobActs did after_first i j o → Printed (Exactly (whole_line (outcome_line o)) (status_of o)) status i.taken i.lost j.taken j.lost → Printed (JobEnds did after_first i j) status i.taken i.lost j.taken j.lost
 outcome-due did status i j o acts p =
-    printed-as i.taken i.lost j.taken j.lost (Exactly (whole_line (outcome_line o)) (status_of o)) (JobEnds did i j) status p
+    printed-as i.taken i.lost j.taken j.lost (Exactly (whole_line (outcome_line o)) (status_of o)) (JobEnds did after_first i j) status p
     (λ s words e. record { outcome = o; acts = acts; status_is = e.status_is; printed_is = e.words_is })
 
 -- What a job did is also something else.
 pub job-as : (did other : ℕ → Option Content → Option Content → Outcome → Type 0) (status : Status) (i j : Edges) → ((moment : ℕ) (old new : Option Content) (o : Outcome) → did moment old new o → other moment old new o) → JobDone did status i j → JobDone other status i j
 job-as did other status i j also (inl p) =
-    inl (printed-as i.taken i.lost j.taken j.lost (JobEnds did i j) (JobEnds other i j) status p (λ s words due. record {
+    inl (printed-as i.taken i.lost j.taken j.lost (JobEnds did after_first i j) (JobEnds other after_first i j) status p (λ s words due. record {
       outcome = due.outcome;
-      acts = record { moment = due.acts.moment; first = due.acts.first; acts = also due.acts.moment i.content j.content due.outcome due.acts.acts; fault = due.acts.fault; input_kept = due.acts.input_kept; clock_kept = due.acts.clock_kept; disk_kept = due.acts.disk_kept };
+      acts = record { moment = due.acts.moment; first = due.acts.first; coming = due.acts.coming; acts = also due.acts.moment i.content j.content due.outcome due.acts.acts; fault = due.acts.fault; input_kept = due.acts.input_kept; clock_kept = due.acts.clock_kept; disk_kept = due.acts.disk_kept };
       status_is = due.status_is;
       printed_is = due.printed_is;
     }))
 job-as did other status i j also (inr missed) = inr missed
 
 -- On the disk of an archive a delivery isn't answered that a number isn't live.
-never-dead : (bytes : List ℕ) (moment : ℕ) (a : Archive) (number : ℕ) (o : Outcome) (new : Option Content) → TakesTo a (delivering bytes moment a) o new → o ≢ Answered (answer.NotLive number)
-never-dead bytes moment a number o new takes is =
-    let done : IsDone (delivering bytes moment a) (answer.NotLive number) new = subst (λ (p : Outcome). TakesTo a (delivering bytes moment a) p new) is takes in
-    delivery-lives a bytes moment number done.answer_is
+never-dead : (bytes : List ℕ) (moment : ℕ) (cache : List ℕ) (a : Archive) (number : ℕ) (o : Outcome) (new : Option Content) → TakesTo Appends cache a (delivering bytes moment a) o new → o ≢ Answered (answer.NotLive number)
+never-dead bytes moment cache a number o new takes is =
+    let done : (v : View) × IsDone v cache (delivering bytes moment a) (answer.NotLive number) new = subst (λ (p : Outcome). TakesTo Appends cache a (delivering bytes moment a) p new) is takes in
+    delivery-lives a bytes moment number done.1.answer_is
 
 -- The command that puts the message on an input into the archive did what the job does.
-pub message-as : (place : Option ℕ) (bytes input : List ℕ) (wanted : ℕ → Archive → Done) → wanted ≡ putting place bytes → bytes ≡ message_of input → (moment : ℕ) (old new : Option Content) (o : Outcome) → CommandActs wanted moment old new o → MessageActs place (message_of input) moment old new o
-message-as place bytes input wanted is front moment old new o acts =
-    by place (subst (λ (b : List ℕ). CommandActs (putting place b) moment old new o) front (subst (λ (w : ℕ → Archive → Done). CommandActs w moment old new o) is acts))
+pub message-as : (place : Option ℕ) (bytes input : List ℕ) (way : Way) (wanted : ℕ → Archive → Done) → way ≡ putting_way place → wanted ≡ putting place bytes → bytes ≡ message_of input → (moment : ℕ) (old new : Option Content) (o : Outcome) → CommandActs way wanted moment old new o → MessageActs place (message_of input) moment old new o
+message-as place bytes input way wanted way_is is front moment old new o acts =
+    by place (subst (λ (y : Way). CommandActs y (putting place (message_of input)) moment old new o) way_is
+    (subst (λ (b : List ℕ). CommandActs way (putting place b) moment old new o) front (subst (λ (w : ℕ → Archive → Done). CommandActs way w moment old new o) is acts)))
   where
-    by : (p : Option ℕ) → CommandActs (putting p (message_of input)) moment old new o → MessageActs p (message_of input) moment old new o
-    by None done = record { acts = done; lives = λ a reads number. never-dead (message_of input) moment a number o new (done.done a reads) }
+    by : (p : Option ℕ) → CommandActs (putting_way p) (putting p (message_of input)) moment old new o → MessageActs p (message_of input) moment old new o
+    by None done = record { acts = done; lives = λ a cache reads number. never-dead (message_of input) moment cache a number o new (done.done a cache reads) }
     by (Some number) done = done
 
 -- A job over the disk does not depend on the end of the input.
@@ -218,12 +222,12 @@ pub job-moved : (did : ℕ → Option Content → Option Content → Outcome →
 job-moved did status left left' unread unread' taken taken' lost lost' coming coming' missed missed' content content' broken broken' same (inl p) =
     inl (printed-as taken lost taken' lost' _ _ status p (λ s words due. record {
       outcome = due.outcome;
-      acts = record { moment = due.acts.moment; first = due.acts.first; acts = due.acts.acts; fault = due.acts.fault; input_kept = same; clock_kept = due.acts.clock_kept; disk_kept = due.acts.disk_kept };
+      acts = record { moment = due.acts.moment; first = due.acts.first; coming = due.acts.coming; acts = due.acts.acts; fault = due.acts.fault; input_kept = same; clock_kept = due.acts.clock_kept; disk_kept = due.acts.disk_kept };
       status_is = due.status_is;
       printed_is = due.printed_is;
     }))
 job-moved did status left left' unread unread' taken taken' lost lost' coming coming' missed missed' content content' broken broken' same (inr m) =
-    inr (record { status_is = m.0.status_is; taken_is = m.0.taken_is; lost_kept = m.0.lost_kept; kept = m.0.kept }, m.1)
+    inr (record { status_is = m.0.status_is; taken_is = m.0.taken_is; lost_kept = m.0.lost_kept; coming_kept = m.0.coming_kept; kept = m.0.kept; disk_kept = m.0.disk_kept }, m.1, same)
 
 -- The line for out of memory is due if a message wasn't read.
 pub unread-due : (status : Status) (i j : Edges) (out : Option (List ℕ)) (lost : ℕ) (out' : Option (List ℕ)) (lost' : ℕ) → j.content ≡ i.content → NoneFailed i j → Printed (Exactly (whole_line (codes "12 no memory")) exit.Memory) status out lost out' lost' → Printed (IsUnread i j) status out lost out' lost'

@@ -5,7 +5,7 @@ use Rattle.std.proofs.lemmas.Bool.{false≢true}
 use Rattle.std.specs.Borrow.{Bor}
 use Rattle.arch_base.specs.declared.config.Config.{Config}
 use Rattle.disk_model.specs.Disk.{Files, Content, Image, WhereTold}
-use Rattle.edge_io.specs.Coming.{IsFirst}
+use Rattle.edge_io.specs.Coming.{IsFirst, after_first}
 use Rattle.arch_model.specs.Archives.{Archive, empty_archive, live, text_of}
 use Rattle.arch_model.specs.Delivery.{Done}
 use Rattle.arch_model.specs.Keeping.{Settles, Comes, Obeys, Doubts}
@@ -19,6 +19,7 @@ use Rattle.arch_model.specs.declared.opening.OpenRefusal.{OpenRefusal}
 use Rattle.arch_model.specs.declared.opening.OpenRefusal.TheVariants as refusal
 use Rattle.arch_model.proofs.Keepers.{found-one}
 use Rattle.epoch_store.specs.Opens.{RecoversOf}
+use Rattle.epoch_store.specs.Promises.{Appends, Renews}
 use Rattle.epoch_store.specs.Stores.{View, IsDiskOf}
 use Rattle.archive_core.specs.Engines.{store-recovers}
 use Rattle.archive_core.proofs.Engines.{recovers_either}
@@ -31,7 +32,7 @@ use Rattle.archive_cli.specs.declared.words.Job.TheVariants.{Help, Version, Repl
 use Rattle.archive_cli.specs.DiskCommands.{Makes, StandsAs, StaysUnopened, TakesOn, ReindexesOn, ChecksOn, delivering, removing, purging, editing}
 use Rattle.archive_cli.specs.Laws.{WithMessage, WithRemoval, WithPurge, WithEdit, Goes, RunsInARow}
 use Rattle.archive_cli.specs.Outcomes.{status_of}
-use Rattle.archive_cli.specs.Program.{Edges, JobEnds, InitActs, CommandActs, DeliverActs, ReindexActs, CheckActs, IsDue, Ends, Ran, IsInput, IsOnArchive, AsksForInit, AsksOfArchive, message_of, made_at}
+use Rattle.archive_cli.specs.Program.{Edges, JobEnds, InitActs, CommandActs, DeliverActs, ReindexActs, CheckActs, IsDue, Ends, Ran, IsInput, IsOnArchive, AsksForInit, AsksOfArchive, message_of, made_at, unasked}
 use Rattle.archive_cli.specs.Statuses.{code_of}
 use Rattle.archive_cli.specs.Words.{AsksFor, IsJob, serve_word}
 
@@ -185,34 +186,34 @@ module _ (words : List (List ℕ)) (i : Edges) where
     leads-kept : j.content ≡ i.content → Leads s j
     leads-kept same = (s, subst (λ (k : Option Content). StandsAs s k) (sym same) all, steps-same s s refl)
 
-    leads-delivered : AsksFor words Deliver → (input : List ℕ) → IsInput i.left input → (status : Status) (printed : List ℕ) → JobEnds (DeliverActs (message_of input)) i j status printed → Leads s j
+    leads-delivered : AsksFor words Deliver → (input : List ℕ) → IsInput i.left input → (status : Status) (printed : List ℕ) → JobEnds (DeliverActs (message_of input)) after_first i j status printed → Leads s j
     leads-delivered asked input told status printed ends =
         let at = ends.acts.moment in
         let t = ends.acts.acts.acts.stands s all in
         (t.0, t.1, steps-done (delivering (message_of input) at) (λ a b is. inr (inl (record { asked = asked; input = input; told = told; at = at; first = ends.acts.first; is = is }))) s t.0 i.content ends.outcome t.2)
 
-    leads-edited : (number : ℕ) → AsksFor words (Edit number) → (input : List ℕ) → IsInput i.left input → (status : Status) (printed : List ℕ) → JobEnds (CommandActs (editing number (message_of input))) i j status printed → Leads s j
+    leads-edited : (number : ℕ) → AsksFor words (Edit number) → (input : List ℕ) → IsInput i.left input → (status : Status) (printed : List ℕ) → JobEnds (CommandActs Renews (editing number (message_of input))) after_first i j status printed → Leads s j
     leads-edited number asked input told status printed ends =
         let at = ends.acts.moment in
         let t = ends.acts.acts.stands s all in
         (t.0, t.1, steps-done (editing number (message_of input) at) (λ a b is. inr (inr (inr (inr (record { number = number; asked = asked; input = input; told = told; at = at; first = ends.acts.first; is = is }))))) s t.0 i.content ends.outcome t.2)
 
-    leads-removed : (number : ℕ) → AsksFor words (Remove number) → (status : Status) (printed : List ℕ) → JobEnds (CommandActs (removing number)) i j status printed → Leads s j
+    leads-removed : (number : ℕ) → AsksFor words (Remove number) → (status : Status) (printed : List ℕ) → JobEnds (CommandActs Appends (removing number)) after_first i j status printed → Leads s j
     leads-removed number asked status printed ends =
         let at = ends.acts.moment in
         let t = ends.acts.acts.stands s all in
         (t.0, t.1, steps-done (removing number at) (λ a b is. inr (inr (inl (record { number = number; asked = asked; at = at; first = ends.acts.first; is = is })))) s t.0 i.content ends.outcome t.2)
 
-    leads-purged : (number : ℕ) → AsksFor words (Purge number) → (status : Status) (printed : List ℕ) → JobEnds (CommandActs (purging number)) i j status printed → Leads s j
+    leads-purged : (number : ℕ) → AsksFor words (Purge number) → (status : Status) (printed : List ℕ) → JobEnds (CommandActs Renews (purging number)) after_first i j status printed → Leads s j
     leads-purged number asked status printed ends =
         let at = ends.acts.moment in
         let t = ends.acts.acts.stands s all in
         (t.0, t.1, steps-done (purging number at) (λ a b is. inr (inr (inr (inl (record { number = number; asked = asked; is = is }))))) s t.0 i.content ends.outcome t.2)
 
-    leads-reindexed : (status : Status) (printed : List ℕ) → JobEnds ReindexActs i j status printed → Leads s j
+    leads-reindexed : (status : Status) (printed : List ℕ) → JobEnds ReindexActs unasked i j status printed → Leads s j
     leads-reindexed status printed ends = let t = ends.acts.acts.stands s all in (t.0, t.1, steps-reindexed s t.0 i.content ends.outcome t.2)
 
-    leads-checked : (status : Status) (printed : List ℕ) → JobEnds CheckActs i j status printed → Leads s j
+    leads-checked : (status : Status) (printed : List ℕ) → JobEnds CheckActs unasked i j status printed → Leads s j
     leads-checked status printed ends = let t = ends.acts.acts.stands s all in (t.0, t.1, steps-checked s t.0 i.content ends.outcome t.2)
 
     module _ (asked : AsksOfArchive words) where
@@ -278,7 +279,7 @@ module _ (words : List (List ℕ)) (asked : AsksForInit words) (i j : Edges) (k 
   made-job input status printed None asks ends done = absurd (asks (Init asked.0) asked.1)
   made-job input status printed (Some job) asks ends done =
       let same = only-makes words job asked asks in
-      let made : JobEnds (InitActs same.0) i j status printed = subst (λ (x : Job). Ends (Some x) input i j status printed) same.1 ends in
+      let made : JobEnds (InitActs same.0) after_first i j status printed = subst (λ (x : Job). Ends (Some x) input i j status printed) same.1 ends in
       made-by same.0 (subst (λ (x : Job). AsksFor words x) same.1 asks) made.acts.moment made.acts.first made.outcome made.acts.acts (sym made.status_is ∙ done)
 
   made-due : (input : List ℕ) (status : Status) (printed : List ℕ) → IsDue words input i j status printed → status ≡ exit.Done → IsMadeOn words i k

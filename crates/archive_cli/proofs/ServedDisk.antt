@@ -3,8 +3,9 @@ use Rattle.std.proofs.Common.{◌≡◌, ◌≤◌, ℕ, Bool, List, [], ◌∷�
 use Rattle.std.specs.List.{Contains}
 use Rattle.std.proofs.lemmas.List.Elements.{Contains-append_left, Contains-append_right}
 use Rattle.arch_base.specs.Counts.{Rose, RoseIf}
-use Rattle.disk_model.specs.Disk.{Files, Content, Image, WhereTold, ReadsFit, LeavesOnly}
+use Rattle.disk_model.specs.Disk.{Content, Files, Image, LeavesOnly, ReadsFit, WhereTold}
 use Rattle.disk_model.specs.Moments.{weaker}
+use Rattle.edge_io.specs.Frames.{Outputs}
 use Rattle.edge_io.specs.Scripts.{Arrival}
 use Rattle.arch_model.specs.Archives.{Archive, live}
 use Rattle.arch_model.specs.Following.{FollowsItself}
@@ -18,23 +19,22 @@ use Rattle.arch_model.proofs.Keepers.{has-own, fits-held, all-split}
 use Rattle.archive_core.specs.Engines.{Owning, Holds, Leaves, AllRecoverOrBare, is_ready}
 use Rattle.archive_core.proofs.Engines.{all_or_bare}
 use Rattle.epoch_store.specs.Files.{as_read}
-use Rattle.epoch_store.specs.Opens.{Opens, ReadsWith, RecoversOf, RecoversOfWith, AllRecoverOf, AllRecoverWith, SyncsFirst}
+use Rattle.epoch_store.specs.Opens.{Opens, ReadsWith, RecoversOfWith, AllRecoverWith, SyncsFirst}
 use Rattle.epoch_store.specs.Stores.{View, IsStoreWith}
 use Rattle.keep_course.specs.Courses.{archives_of}
 use Rattle.keep_course.proofs.Courses.{all-own}
-use Rattle.node_serve.specs.Nodes.{Serving, StepsTo, RunsTo, places_in, world_of}
+use Rattle.node_serve.specs.Nodes.{Serving, StepsTo, RunsOver, places_in, world_of}
 use Rattle.node_serve.specs.Plain.{last_world}
 use Rattle.node_serve.specs.Turns.{Turn, Served, passed_in}
 use Rattle.node_serve.specs.World.{Outer, World}
 use Rattle.node_serve.proofs.Running.{turned-has}
 use Rattle.archive_cli.specs.Serving.{ServeRun, Shut, Ended, Hosted, ServesDisk, ServedOn, StoodFor}
-use Rattle.archive_cli.proofs.OnDisk.{image-all, read-among}
 use Rattle.archive_cli.proofs.ServedNumbers.{served-follows}
 
 -- Files that stand for one of some archives stand for one of more.
-widened : (may more : List (Option Archive)) (k : Option Content) → AllRecoverOf may k → AllRecoverOf (may ++ more) k
-widened may more None all = all
-widened may more (Some k) all = λ image left. let one = all image left in (one.0, Contains-append_left may more one.0 one.1, one.2)
+widened : (cache : List ℕ) (may more : List (Option Archive)) (k : Option Content) → AllRecoverWith cache may k → AllRecoverWith cache (may ++ more) k
+widened cache may more None all = all
+widened cache may more (Some k) all = λ image left. let one = all image left in (one.0, Contains-append_left may more one.0 one.1, one.2)
 
 -- Standings whose archives are among some are so among more.
 has-later : (more may : List (Option Archive)) (d : Option Archive) → HasDoubt may d → HasDoubt (more ++ may) d
@@ -62,9 +62,9 @@ pub shut-cause : (before now : ℕ) (why : OpenRefusal) → RoseIf (shut_by why 
 shut-cause before now why rose = record { later = rose.later; failed = λ is. rose.failed (ap shut_by is); kept = λ free. rose.kept (λ same. free (cc same)) }
 
 -- The disk's count of faults rose, if that is why.
-pub shut-faults : {D : Type 0} (content : D → Option Content) (moment : D → ℕ) (left_since : D → ℕ → Files → Type 0) (turns : ℕ) (run : ServeRun) (old new : D) (i j : Hosted) → ServesDisk content moment left_since turns run old new i j → run ≡ Shut opening.DiskFault → Rose i.out.disk j.out.disk
-shut-faults content moment left_since turns (Shut why) old new i j shut is = shut.cause.failed (why-is why opening.DiskFault is)
-shut-faults content moment left_since turns (Ended how) old new i j served is = absurd (cc is)
+pub shut-faults : {D : Type 0} (content : D → Option Content) (moment : D → ℕ) (left_since : D → ℕ → Files → Type 0) (turns : ℕ) (run : ServeRun) (old new : D) (i j : Hosted) (recorded recorded' : List Outputs → Type 0) → ServesDisk content moment left_since turns run old new i j recorded recorded' → run ≡ Shut opening.DiskFault → Rose i.out.disk j.out.disk
+shut-faults content moment left_since turns (Shut why) old new i j recorded recorded' shut is = shut.cause.failed (why-is why opening.DiskFault is)
+shut-faults content moment left_since turns (Ended how) old new i j recorded recorded' served is = absurd (cc is)
 
 -- Turns by steps.
 module _ {K : Type 0} (holds : K → Archive → Type 0) (ready : K → Bool) (leaves : K → K → List (Option Archive) → Type 0) where
@@ -80,7 +80,6 @@ module _ {K : Type 0} (holds : K → Archive → Type 0) (ready : K → Bool) (l
 
 module _ {D : Type 0} (content : D → Option Content) (moment : D → ℕ) (left_since : D → ℕ → Files → Type 0)
     (counts_now : (disk : D) (t : ℕ) (image : Files) → t ≤ moment disk → Image (content disk) image → left_since disk t image)
-    (reads_fit : (disk : D) → ReadsFit (content disk))
     (holds_left : (k : Owning D) (a : Archive) (may : List (Option Archive)) → Holds content k a → Contains may (Some a) → Leaves moment left_since k k may) where
   -- How the disk of an engine stands that fits a standing.
   fits-stand : (k : Owning D) (s : Standing) → Fits (Holds content) is_ready (Leaves moment left_since) k s → (cache : List ℕ) × AllRecoverOrBare cache (one_of s) (content k.disk)
@@ -109,37 +108,26 @@ module _ {D : Type 0} (content : D → Option Content) (moment : D → ℕ) (lef
       subst (λ (x : Turn). StoodFor content moment left_since (last_world x.after earlier).standing later m.disk) same (stood-at es u.after us v steps.0 m run.1 steps.1 steps.3 earlier later (cc is))
 
   -- An archive was opened, and events were served by a node without sessions.
-  pub served-on : FollowsItself → CommandFollows → (may : List (Option Archive)) (old : D) (e : Owning D) (node new : Serving (Owning D)) (arrivals : List Arrival) (i j : Hosted) (o : Outer) → node.keep ≡ e → ((c : ℕ) → (places_in node).session c ≡ None) → (places_in node).count ≡ 0 → o ≡ i.out
-      → WhereTold (λ (k : Content). Opens (as_read k) (Ok e.view)) (content old) → ((a : Archive) (cache : List ℕ) → ReadsWith cache a (content old) → IsStoreWith e.view cache a (content e.disk))
-      → ((a : Archive) (cache : List ℕ) → ReadsWith cache a (content old) → e.views ≡ views_of (live a.entries))
+  pub served-on : FollowsItself → CommandFollows → (a : Archive) (cache : List ℕ) (old : D) (e : Owning D) (node new : Serving (Owning D)) (arrivals : List Arrival) (i j : Hosted) (o : Outer) (none_left : Bool) (recorded recorded' : List Outputs → Type 0) → node.keep ≡ e → ((c : ℕ) → (places_in node).session c ≡ None) → (places_in node).count ≡ 0 → o ≡ i.out
+      → IsStoreWith e.view cache a (content e.disk) → e.views ≡ views_of (live a.entries)
       → ((may : List (Option Archive)) (cache : List ℕ) → AllRecoverWith cache may (content old) → LeavesOnly moment left_since old e.disk (RecoversOfWith cache may)) → SyncsFirst content moment left_since old e.disk
-      → ((t : Standing) → Fits (Holds content) is_ready (Leaves moment left_since) node.keep t → RunsTo (Holds content) is_ready (Leaves moment left_since) arrivals t node o new j.out)
-      → AllRecoverOf may (content old) → ServedOn content moment left_since may old new.keep.disk arrivals i j
-  served-on itself commands may old e node new arrivals i j o keep none count out answer done rows opened sync runs all =
-      let found = read-among may (content old) (reads_fit old) all e.view answer in
-      let a = found.0 in
-      let held : Holds content e a = ([], done a [] found.2, rows a [] found.2) in
+      → ((t : Standing) → Fits (Holds content) is_ready (Leaves moment left_since) node.keep t → RunsOver (Holds content) is_ready (Leaves moment left_since) recorded recorded' none_left arrivals t node o new j.out)
+      → ReadsWith cache a (content old) → ServedOn content moment left_since a old new.keep.disk arrivals i j none_left recorded recorded'
+  served-on itself commands a cache old e node new arrivals i j o none_left recorded recorded' keep none count out store rows opened sync runs reads =
+      let held : Holds content e a = (cache, store, rows) in
       let start : Fits (Holds content) is_ready (Leaves moment left_since) node.keep (standing a None) =
       subst (λ (k : Owning D). Fits (Holds content) is_ready (Leaves moment left_since) k (standing a None)) (sym keep) (fits-held (Holds content) is_ready (Leaves moment left_since) holds_left e a held) in
-      let run = runs (standing a None) start in
+      let over = runs (standing a None) start in
+      let run = over.runs in
       let first = world_of (standing a None) (places_in node) o in
       let last = world_of run.after (places_in new) j.out in
       let more = passed_in run.turns in
-      let wide = may ++ archives_of more in
-      let begun : Owning D = record e { disk = old } in
-      let all-from = opened wide [] (widened may (archives_of more) (content old) all) in
-      let since : Leaves moment left_since begun e wide = (all-from.later, [], λ image is. inl (all-from.each image is)) in
-      let has : HasAll wide (standing a None ∷ more) = (record { archive = Contains-append_left may (archives_of more) (Some a) found.1; doubt = tt }, all-later may (archives_of more) more (all-own more)) in
-      let left = run.passes begun wide has (subst (λ (k : Owning D). Leaves moment left_since begun k wide) (sym keep) since) in
       let narrow = archives_of (standing a None ∷ more) in
       let halted : Owning D = record e { disk = sync.synced } in
-      let one-from = sync.after a [] found.2 in
-      let after : Leaves moment left_since halted e narrow = (one-from.later, [], λ image is. inl (Some a, (0, omega arith, refl), one-from.each image is)) in
+      let one-from = sync.after a cache reads in
+      let after : Leaves moment left_since halted e narrow = (one-from.later, cache, λ image is. inl (Some a, (0, omega arith, refl), one-from.each image is)) in
       let kept = run.passes halted narrow (all-own (standing a None ∷ more)) (subst (λ (k : Owning D). Leaves moment left_since halted k narrow) (sym keep) after) in
       record {
-        found = a;
-        is_among = found.1;
-        reads = found.2;
         first = first;
         starts = record { stands = refl; none = none; count = count };
         first_out = out;
@@ -150,9 +138,17 @@ module _ {D : Type 0} (content : D → Option Content) (moment : D → ℕ) (lef
         stands = fits-stand new.keep run.after run.fits;
         synced = sync.synced;
         only = sync.only;
-        before = weaker moment left_since old sync.synced (Image (content old)) (RecoversOf may) sync.before (λ image now. image-all may (content old) image all now);
+        before = sync.before;
         after = (kept.1, record { later = kept.0; each = kept.2 });
-        crash = (left.1, record { later = left.0; each = left.2 });
+        crash = λ may known has-found all.
+            let wide = may ++ archives_of more in
+            let begun : Owning D = record e { disk = old } in
+            let all-from = opened wide known (widened known may (archives_of more) (content old) all) in
+            let since : Leaves moment left_since begun e wide = (all-from.later, known, λ image is. inl (all-from.each image is)) in
+            let has : HasAll wide (standing a None ∷ more) = (record { archive = Contains-append_left may (archives_of more) (Some a) has-found; doubt = tt }, all-later may (archives_of more) more (all-own more)) in
+            let left = run.passes begun wide has (subst (λ (k : Owning D). Leaves moment left_since begun k wide) (sym keep) since) in
+            (left.1, record { later = left.0; each = left.2 });
         stood = λ earlier later is. stood-at arrivals first run.turns last node.keep new.keep run.served start run.steps earlier later is;
         numbers = served-follows itself commands arrivals first run.turns last run.served (λ b is. absurd (cc is));
+        records = over.records;
       }

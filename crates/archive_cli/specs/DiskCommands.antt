@@ -1,9 +1,8 @@
 -- What `init`, `reindex`, `check` and a command on an archive do to a disk, and how they end.
 -- `deliver`, `remove`, `purge` and `edit` are such commands.
-use Rattle.std.specs.Prelude.{◌≡◌, ◌⊎◌, ℕ, true, List, length, Option, Some, None, Ok, Err}
-use Rattle.std.specs.List.{Contains}
+use Rattle.std.specs.Prelude.{◌≡◌, ◌⊎◌, ℕ, true, List, length, Option, None, Ok, Err}
 use Rattle.arch_base.specs.declared.config.Config.{Config}
-use Rattle.disk_model.specs.Disk.{Files, Content, Told, WhereTold, LeavesOnly}
+use Rattle.disk_model.specs.Disk.{Files, Content, Image, Told, WhereTold, LeavesOnly}
 use Rattle.root_slots.specs.RootName.{root_name}
 use Rattle.root_slots.specs.Slots.{IsShutFile}
 use Rattle.arch_model.specs.Archives.{Archive, empty_archive, live as live_entries}
@@ -17,17 +16,18 @@ use Rattle.arch_model.specs.declared.opening.OpenRefusal.{OpenRefusal}
 use Rattle.arch_model.specs.declared.opening.OpenRefusal.TheVariants as refusal
 use Rattle.epoch_store.specs.declared.refusal.InitRefusal.{InitRefusal}
 use Rattle.epoch_store.specs.declared.refusal.InitRefusal.TheVariants as making
-use Rattle.epoch_store.specs.Recovery.{Recovers}
-use Rattle.epoch_store.specs.Opens.{IsOnlySynced, Opens, ReadsAs, RecoversOf, AllRecoverOf}
-use Rattle.epoch_store.specs.Stores.{View, IsStoreOf, IsDiskOf, RecoversEither}
+use Rattle.epoch_store.specs.Promises.{Way, cache_by}
+use Rattle.epoch_store.specs.Opens.{IsOnlySynced, Opens, ReadsAs, ReadsWith, AllRecoverOf, SyncsThen}
+use Rattle.epoch_store.specs.Stores.{View, IsStoreWith, IsDiskOf, RecoversOneOf}
+use Rattle.archive_core.specs.Commands.{DoneBy}
 use Rattle.archive_core.specs.Openings.{LeavesKindly}
 use Rattle.archive_cli.specs.declared.outcome.Outcome.{Outcome}
 use Rattle.archive_cli.specs.declared.outcome.Outcome.TheVariants.{Made, Exists, Reindexed, Checked, Answered, Unopened}
 
--- A disk that is told is an archive's own: each crash leaves files that stand for the archive, and
--- the files are exactly those of the archive.
-abbrev pub IsOwn : Archive → Option Content → Type 0
-IsOwn a content = (v : View) × IsStoreOf v a content
+-- A disk that is told is the own one of an archive with a cache of these bytes: each crash leaves files
+-- that stand for the archive, and the files are exactly those of the archive.
+abbrev pub IsOwn : List ℕ → Archive → Option Content → Type 0
+IsOwn cache a content = (v : View) × IsStoreWith v cache a content
 
 -- How `init` ends. An archive is made if no slot is open, and the disk is its own. Otherwise there
 -- is one already, or memory ran out, and the disk is synced and nothing more; or the disk failed.
@@ -79,63 +79,47 @@ purging number moment a = purged a number
 abbrev pub editing : ℕ → List ℕ → ℕ → Archive → Done
 editing number bytes moment a = edited a number bytes moment
 
--- The answer is that of the definition, and the disk is the own disk of the definition's archive.
-pub record IsDone (wanted : Done) (reply : Answer) (new : Option Content) : Type 0 where
-  pub answer_is : wanted.answer ≡ reply
-  pub own : IsOwn wanted.archive new
+-- How a command ends on the disk of an archive with a cache of these bytes, of which it is to make this.
+-- The answer is the definition's, and the disk is then its archive's own, with the cache that this kind
+-- of command leaves; out of memory the archive is unchanged, after a fault of the disk it has to be
+-- reopened, and no answer is about a damaged file.
+abbrev pub TakesTo : Way → List ℕ → Archive → Done → Outcome → Option Content → Type 0
+TakesTo way cache a wanted (Answered reply) new = (v : View)
+    × DoneBy v cache (cache_by way cache) a wanted reply new
+TakesTo way cache a wanted (Unopened refusal.DiskFault) new = Unit {0}
+TakesTo way cache a wanted (Unopened refusal.NoMemory) new = ReadsWith cache a new
+TakesTo way cache a wanted (Unopened refusal.NoArchive) new = ⊥
+TakesTo way cache a wanted (Unopened (refusal.Damaged file at)) new = ⊥
+TakesTo way cache a wanted (Made name) new = ⊥
+TakesTo way cache a wanted Exists new = ⊥
+TakesTo way cache a wanted (Reindexed live) new = ⊥
+TakesTo way cache a wanted (Checked entries live next) new = ⊥
 
--- The answer to a command on this archive, and the disk then. Out of memory the archive is
--- unchanged, and after a fault of the disk it has to be reopened. No answer is about a damaged file.
-abbrev pub Answers : Archive → Done → Answer → Option Content → Type 0
-Answers a wanted answer.NoMemory new = IsOwn a new
-Answers a wanted answer.DiskFault new = Unit {0}
-Answers a wanted (answer.Ok number id) new = IsDone wanted (answer.Ok number id) new
-Answers a wanted (answer.Duplicate number) new = IsDone wanted (answer.Duplicate number) new
-Answers a wanted answer.NoFields new = IsDone wanted answer.NoFields new
-Answers a wanted (answer.TooLarge len) new = IsDone wanted (answer.TooLarge len) new
-Answers a wanted (answer.Full max) new = IsDone wanted (answer.Full max) new
-Answers a wanted (answer.Collision number) new = IsDone wanted (answer.Collision number) new
-Answers a wanted answer.IsMirror new = IsDone wanted answer.IsMirror new
-Answers a wanted (answer.NotLive number) new = IsDone wanted (answer.NotLive number) new
-Answers a wanted (answer.NoText number) new = IsDone wanted (answer.NoText number) new
-Answers a wanted (answer.Damaged file at) new = ⊥
+-- How `reindex` ends on the disk of an archive with a cache of these bytes.
+abbrev pub ReindexesTo : List ℕ → Archive → Outcome → Option Content → Type 0
+ReindexesTo cache a (Reindexed live) new = (live ≡ length (live_entries a.entries))
+    × IsOwn cache a new
+ReindexesTo cache a (Unopened refusal.DiskFault) new = Unit {0}
+ReindexesTo cache a (Unopened refusal.NoMemory) new = ReadsWith cache a new
+ReindexesTo cache a (Unopened refusal.NoArchive) new = ⊥
+ReindexesTo cache a (Unopened (refusal.Damaged file at)) new = ⊥
+ReindexesTo cache a (Made name) new = ⊥
+ReindexesTo cache a Exists new = ⊥
+ReindexesTo cache a (Checked entries live next) new = ⊥
+ReindexesTo cache a (Answered reply) new = ⊥
 
--- How a command ends on the disk of an archive of which it is to make this.
-abbrev pub TakesTo : Archive → Done → Outcome → Option Content → Type 0
-TakesTo a wanted (Answered reply) new = Answers a wanted reply new
-TakesTo a wanted (Unopened refusal.DiskFault) new = Unit {0}
-TakesTo a wanted (Unopened refusal.NoMemory) new = ReadsAs a new
-TakesTo a wanted (Unopened refusal.NoArchive) new = ⊥
-TakesTo a wanted (Unopened (refusal.Damaged file at)) new = ⊥
-TakesTo a wanted (Made name) new = ⊥
-TakesTo a wanted Exists new = ⊥
-TakesTo a wanted (Reindexed live) new = ⊥
-TakesTo a wanted (Checked entries live next) new = ⊥
-
--- How `reindex` ends on the disk of an archive.
-abbrev pub ReindexesTo : Archive → Outcome → Option Content → Type 0
-ReindexesTo a (Reindexed live) new = (live ≡ length (live_entries a.entries)) × IsOwn a new
-ReindexesTo a (Unopened refusal.DiskFault) new = Unit {0}
-ReindexesTo a (Unopened refusal.NoMemory) new = ReadsAs a new
-ReindexesTo a (Unopened refusal.NoArchive) new = ⊥
-ReindexesTo a (Unopened (refusal.Damaged file at)) new = ⊥
-ReindexesTo a (Made name) new = ⊥
-ReindexesTo a Exists new = ⊥
-ReindexesTo a (Checked entries live next) new = ⊥
-ReindexesTo a (Answered reply) new = ⊥
-
--- How `check` ends on the disk of an archive.
-abbrev pub ChecksTo : Archive → Outcome → Option Content → Type 0
-ChecksTo a (Reindexed live) new = ⊥
-ChecksTo a (Checked entries live next) new = (entries ≡ length a.entries)
-    × (live ≡ length (live_entries a.entries)) × (next ≡ a.next) × IsOwn a new
-ChecksTo a (Unopened refusal.DiskFault) new = Unit {0}
-ChecksTo a (Unopened refusal.NoMemory) new = ReadsAs a new
-ChecksTo a (Unopened refusal.NoArchive) new = ⊥
-ChecksTo a (Unopened (refusal.Damaged file at)) new = ⊥
-ChecksTo a (Made name) new = ⊥
-ChecksTo a Exists new = ⊥
-ChecksTo a (Answered reply) new = ⊥
+-- How `check` ends on the disk of an archive with a cache of these bytes.
+abbrev pub ChecksTo : List ℕ → Archive → Outcome → Option Content → Type 0
+ChecksTo cache a (Reindexed live) new = ⊥
+ChecksTo cache a (Checked entries live next) new = (entries ≡ length a.entries)
+    × (live ≡ length (live_entries a.entries)) × (next ≡ a.next) × IsOwn cache a new
+ChecksTo cache a (Unopened refusal.DiskFault) new = Unit {0}
+ChecksTo cache a (Unopened refusal.NoMemory) new = ReadsWith cache a new
+ChecksTo cache a (Unopened refusal.NoArchive) new = ⊥
+ChecksTo cache a (Unopened (refusal.Damaged file at)) new = ⊥
+ChecksTo cache a (Made name) new = ⊥
+ChecksTo cache a Exists new = ⊥
+ChecksTo cache a (Answered reply) new = ⊥
 
 -- How a run on opened files ends, whether or not they stand for an archive: with the refusal to
 -- open them, or with what was done with what was found.
@@ -149,8 +133,8 @@ IsOpenedAs files (Made name) = ⊥
 IsOpenedAs files Exists = ⊥
 
 -- What can't be opened is left alone. Without an archive, and with a damaged file, all files are
--- synced and nothing more. Out of memory the files still read as the same archive. Nothing is
--- said of a fault of the disk, nor of any other outcome.
+-- synced and nothing more, also out of memory. Out of memory the files still read as the same archive.
+-- Nothing is said of a fault of the disk, nor of any other outcome.
 abbrev pub LeavesUnopened : Outcome → Option Content → Option Content → Type 0
 LeavesUnopened (Unopened why) old new = LeavesKindly why old new
 LeavesUnopened (Reindexed live) old new = Unit {0}
@@ -234,35 +218,19 @@ ChecksOn s old (Made name) t = ⊥
 ChecksOn s old Exists t = ⊥
 ChecksOn s old (Answered reply) t = ⊥
 
--- The files stand for the archive that was found.
-abbrev pub LeavesSame : Archive → Files → Type 0
-LeavesSame found image = Recovers image found
+-- The files stand for the archive that was found, with its cache, or for what a command makes of it,
+-- with the cache that this kind of command leaves.
+abbrev pub LeavesEither : Way → (Archive → Done) → List ℕ → Archive → Files → Type 0
+LeavesEither way wanted cache found image =
+    RecoversOneOf cache found (cache_by way cache) (wanted found).archive image
 
--- They stand for it, or for what a command makes of it.
-abbrev pub LeavesEither : (Archive → Done) → Archive → Files → Type 0
-LeavesEither wanted found image = RecoversEither found (wanted found).archive image
-
--- A disk, by its content and by what each crash since a moment may have left.
-module _ {D : Type 0} (content : D → Option Content) (moment : D → ℕ)
-    (left_since : D → ℕ → Files → Type 0) where
-  -- A job ran on one of some archives that the disk may have stood for, where it may have stood for
-  -- none. The disk was synced first. Until then a crash leaves one of them, or none; from then on,
-  -- what it may leave of the archive that was found.
-  pub record Runs (old new : D) (may : List (Option Archive)) (leaves : Archive → Files → Type 0)
-      : Type 0 where
-    pub found : Archive
-    pub is_among : Contains may (Some found)
-    pub reads : ReadsAs found (content old)
-    pub synced : D
-    pub only : Told IsOnlySynced (content old) (content synced)
-    pub before : LeavesOnly moment left_since old synced (RecoversOf may)
-    pub after : LeavesOnly moment left_since synced new (leaves found)
-
-  -- Whatever the disk may have stood for, a job ran so; or nothing was done, and a crash leaves what
-  -- it might have left before.
-  abbrev pub RunsOrStays : D → D → (Archive → Files → Type 0) → Type 0
-  RunsOrStays old new leaves = (may : List (Option Archive)) → AllRecoverOf may (content old)
-      → LeavesOnly moment left_since old new (RecoversOf may) ⊎ Runs old new may leaves
+-- A crash leaves what it might have left before; or the disk was synced first, and from then on it
+-- leaves this of the archive as which the files read, and of its cache.
+abbrev pub RunsOrStays : {D : Type 0} → (D → Option Content) → (D → ℕ) → (D → ℕ → Files → Type 0)
+    → D → D → (List ℕ → Archive → Files → Type 0) → Type 0
+RunsOrStays content moment left_since old new leaves =
+    LeavesOnly moment left_since old new (Image (content old))
+    ⊎ SyncsThen content moment left_since leaves old new
 
 -- The outcome tells that the disk failed.
 abbrev pub IsFault : Outcome → Type 0

@@ -2,6 +2,7 @@
 use Rattle.std.specs.Prelude.{◌≡◌, ◌<◌, ◌≤◌, ◌⊎◌, ◌+◌, ℕ, List, [], ◌++◌, length, take, codes, Option, Result, Ok, Err, is_ok, if◌then◌else◌}
 use Rattle.arch_base.specs.Counts.{Rose}
 use Rattle.arch_base.specs.declared.config.Config.{Config}
+use Rattle.edge_io.specs.Coming.{after_first}
 use Rattle.edge_io.specs.Phrases.{Says}
 use Rattle.edge_io.specs.Scripts.{Arrival}
 use Rattle.edge_io.specs.declared.sink.SinkFault.{SinkFault}
@@ -100,18 +101,18 @@ Replayed config status i j =
     × Printed (IsReplayDue config input) status i.taken i.lost j.taken j.lost)
     ⊎ ((status ≡ exit.Edges) × Rose i.unread j.unread × (j.taken ≡ i.taken) × (j.lost ≡ i.lost))
 
--- The clock failed: nothing was printed, and the disk is unchanged.
+-- The clock failed: nothing was printed, and the disk is unchanged. The input didn't fail.
 abbrev pub MissesMoment : Status → Edges → Edges → Type 0
-MissesMoment status i j = IsSilent status i j × Rose i.missed j.missed
+MissesMoment status i j = IsSilent status i j × Rose i.missed j.missed × (j.unread ≡ i.unread)
 
 -- A job over the disk at the clock's moment: what was due by what it did is printed, or the clock
 -- failed.
 abbrev pub JobDone : (ℕ → Option Content → Option Content → Outcome → Type 0) → Status → Edges
     → Edges → Type 0
-JobDone did status i j = Printed (JobEnds did i j) status i.taken i.lost j.taken j.lost
+JobDone did status i j = Printed (JobEnds did after_first i j) status i.taken i.lost j.taken j.lost
     ⊎ MissesMoment status i j
 
--- The message was not read, because memory ran out. No device failed.
+-- The message was not read, because memory ran out. No device failed, and the clock wasn't asked.
 pub record IsUnread (i j : Edges) (status : Status) (printed : List ℕ) : Type 0 where
   pub status_is : status ≡ exit.Memory
   pub printed_is : printed ≡ whole_line (codes "12 no memory")
@@ -119,13 +120,13 @@ pub record IsUnread (i j : Edges) (status : Status) (printed : List ℕ) : Type 
   pub spared : NoneFailed i j
 
 -- The message on the input was to be delivered, or to take the place of a number: what was due is
--- printed, or the message was not read, or the input failed.
+-- printed, or the message was not read, or the input failed. The last two leave the clock.
 abbrev pub InputDone : Option ℕ → Status → Edges → Edges → Type 0
 InputDone place status i j =
     ((input : List ℕ) × IsInput i.left input
     × JobDone (MessageActs place (message_of input)) status i j)
     ⊎ (Printed (IsUnread i j) status i.taken i.lost j.taken j.lost
-    ⊎ (IsSilent status i j × Rose i.unread j.unread))
+    ⊎ (IsSilent status i j × Rose i.unread j.unread × (j.missed ≡ i.missed)))
 
 -- What is due of a run of `serve` was printed, or the output failed; and this is the number of the
 -- status.

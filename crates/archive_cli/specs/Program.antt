@@ -3,7 +3,7 @@ use Rattle.std.specs.Prelude.{◌≡◌, ◌≢◌, ◌<◌, ◌≤◌, ◌⊎�
 use Rattle.arch_base.specs.Counts.{Rose}
 use Rattle.arch_base.specs.declared.config.Config.{Config}
 use Rattle.disk_model.specs.Disk.{Files, Content, WhereTold, LeavesOnly}
-use Rattle.edge_io.specs.Coming.{Moments, IsFirst}
+use Rattle.edge_io.specs.Coming.{Moments, IsFirst, after_first}
 use Rattle.edge_io.specs.Taken.{plus}
 use Rattle.edge_io.specs.Left.{before}
 use Rattle.edge_io.specs.Scripts.{Arrival, IsScript, IsBad}
@@ -14,9 +14,10 @@ use Rattle.arch_model.specs.declared.answer.Answer.TheVariants as answer
 use Rattle.arch_model.specs.declared.opening.OpenRefusal.TheVariants as opening
 use Rattle.epoch_store.specs.Files.{as_read}
 use Rattle.epoch_store.specs.First.{MakingLeaves}
-use Rattle.epoch_store.specs.Opens.{ReadsAs}
+use Rattle.epoch_store.specs.Opens.{ReadsWith, SyncsAtMost}
+use Rattle.epoch_store.specs.Promises.{Way, Appends, Renews}
 use Rattle.answer_lines.specs.Lines.{whole_line}
-use Rattle.archive_cli.specs.DiskCommands.{Makes, TakesTo, ReindexesTo, ChecksTo, IsOpenedAs, IsFault, IsReply, IsReindex, IsCheck, StandsAs, TakesOn, ReindexesOn, ChecksOn, RunsOrStays, LeavesSame, LeavesEither, LeavesUnopened, delivering, removing, purging, editing}
+use Rattle.archive_cli.specs.DiskCommands.{Makes, TakesTo, ReindexesTo, ChecksTo, IsOpenedAs, IsFault, IsReply, IsReindex, IsCheck, StandsAs, TakesOn, ReindexesOn, ChecksOn, RunsOrStays, LeavesEither, LeavesUnopened, delivering, removing, purging, editing}
 use Rattle.archive_cli.specs.Loading.{loaded_line}
 use Rattle.archive_cli.specs.Outcomes.{outcome_line, status_of}
 use Rattle.archive_cli.specs.Statuses.{code_of}
@@ -107,11 +108,13 @@ all_edges left unread taken lost coming missed content broken =
       broken = broken;
     }
 
--- The input, the clock and the disk didn't fail: their counts of faults are as before.
+-- The input, the clock and the disk didn't fail: their counts of faults are as before. The clock
+-- wasn't asked.
 pub record NoneFailed (i j : Edges) : Type 0 where
   pub input : j.unread ≡ i.unread
   pub clock : j.missed ≡ i.missed
   pub disk : j.broken ≡ i.broken
+  pub coming : j.coming ≡ i.coming
 
 -- The settings of an archive that is made at a moment. `born` is that moment, but at least 1 and at
 -- most 2^32 - 1.
@@ -133,12 +136,13 @@ message_of input = take message_limit input
 abbrev pub InitActs : Config → ℕ → Option Content → Option Content → Outcome → Type 0
 InitActs config moment old new o = Makes (made_at config moment) o old new
 
--- How a command ended that at a moment is to make this of an archive. Whatever the disk stood for, it
--- stands for what is answered.
-pub record CommandActs (wanted : ℕ → Archive → Done) (moment : ℕ) (old new : Option Content)
-    (o : Outcome) : Type 0 where
+-- How a command ended that changes files in such a way, and at a moment is to make this of an archive.
+-- Whatever the disk stood for, it stands for what is answered.
+pub record CommandActs (way : Way) (wanted : ℕ → Archive → Done) (moment : ℕ)
+    (old new : Option Content) (o : Outcome) : Type 0 where
   pub kind : IsReply o
-  pub done : (a : Archive) → ReadsAs a old → TakesTo a (wanted moment a) o new
+  pub done : (a : Archive) (cache : List ℕ) → ReadsWith cache a old
+      → TakesTo way cache a (wanted moment a) o new
   pub stands : (s : Standing) → StandsAs s old → (t : Standing) × StandsAs t new
       × TakesOn s old (wanted moment) o t
   pub answer : WhereTold (λ k. IsOpenedAs (as_read k) o) old
@@ -148,25 +152,31 @@ pub record CommandActs (wanted : ℕ → Archive → Done) (moment : ℕ) (old n
 -- with the answer that a number isn't live.
 pub record DeliverActs (bytes : List ℕ) (moment : ℕ) (old new : Option Content) (o : Outcome)
     : Type 0 where
-  pub acts : CommandActs (delivering bytes) moment old new o
-  pub lives : (a : Archive) → ReadsAs a old → (number : ℕ) → o ≢ Answered (answer.NotLive number)
+  pub acts : CommandActs Appends (delivering bytes) moment old new o
+  pub lives : (a : Archive) (cache : List ℕ) → ReadsWith cache a old → (number : ℕ)
+      → o ≢ Answered (answer.NotLive number)
 
 -- What a message is for: a new number, or the place of the one with a number.
 abbrev pub putting : Option ℕ → List ℕ → ℕ → Archive → Done
 putting None bytes = delivering bytes
 putting (Some number) bytes = editing number bytes
 
+-- How that changes files.
+abbrev pub putting_way : Option ℕ → Way
+putting_way None = Appends
+putting_way (Some number) = Renews
+
 -- How `deliver` of a message ended at a moment, or `edit` of a number with it.
 abbrev pub MessageActs : Option ℕ → List ℕ → ℕ → Option Content → Option Content → Outcome → Type 0
 MessageActs None bytes moment old new o = DeliverActs bytes moment old new o
 MessageActs (Some number) bytes moment old new o =
-    CommandActs (editing number bytes) moment old new o
+    CommandActs Renews (editing number bytes) moment old new o
 
 -- How `reindex` ended, at whatever moment. Whatever the disk stood for, it stands for what is
 -- counted.
 pub record ReindexActs (moment : ℕ) (old new : Option Content) (o : Outcome) : Type 0 where
   pub kind : IsReindex o
-  pub done : (a : Archive) → ReadsAs a old → ReindexesTo a o new
+  pub done : (a : Archive) (cache : List ℕ) → ReadsWith cache a old → ReindexesTo cache a o new
   pub stands : (s : Standing) → StandsAs s old → (t : Standing) × StandsAs t new
       × ReindexesOn s old o t
   pub answer : WhereTold (λ k. IsOpenedAs (as_read k) o) old
@@ -175,19 +185,25 @@ pub record ReindexActs (moment : ℕ) (old new : Option Content) (o : Outcome) :
 -- How `check` ended, at whatever moment. Whatever the disk stood for, it stands for what is counted.
 pub record CheckActs (moment : ℕ) (old new : Option Content) (o : Outcome) : Type 0 where
   pub kind : IsCheck o
-  pub done : (a : Archive) → ReadsAs a old → ChecksTo a o new
+  pub done : (a : Archive) (cache : List ℕ) → ReadsWith cache a old → ChecksTo cache a o new
   pub stands : (s : Standing) → StandsAs s old → (t : Standing) × StandsAs t new × ChecksOn s old o t
   pub answer : WhereTold (λ k. IsOpenedAs (as_read k) o) old
   pub unopened : LeavesUnopened o old new
 
+-- The moments to come of a clock that isn't asked.
+abbrev pub unasked : Option Moments → Option Moments
+unasked coming = coming
+
 -- How a job over the archive on a disk ended, which did this there by the first moment to come, by
--- the content of the disk before and after, and by the outcome. The input and the clock didn't fail.
--- The disk's count of faults rose if the outcome tells that the disk failed, and otherwise stays. So
--- no fault is told as out of memory.
-pub record JobActs (did : ℕ → Option Content → Option Content → Outcome → Type 0) (i j : Edges)
-    (o : Outcome) : Type 0 where
+-- the content of the disk before and after, and by the outcome. It took that moment from those to come
+-- (`after_first`), and no other, or none (`unasked`). The input and the clock didn't fail. The disk's
+-- count of faults rose if the outcome tells that the disk failed, and otherwise stays. So no fault is
+-- told as out of memory.
+pub record JobActs (did : ℕ → Option Content → Option Content → Outcome → Type 0)
+    (goes_on : Option Moments → Option Moments) (i j : Edges) (o : Outcome) : Type 0 where
   pub moment : ℕ
   pub first : IsFirst moment i.coming
+  pub coming : j.coming ≡ goes_on i.coming
   pub acts : did moment i.content j.content o
   pub fault : IsFault o → Rose i.broken j.broken
   pub input_kept : j.unread ≡ i.unread
@@ -195,10 +211,11 @@ pub record JobActs (did : ℕ → Option Content → Option Content → Outcome 
   pub disk_kept : (IsFault o → ⊥) → j.broken ≡ i.broken
 
 -- What a job over the archive on a disk ends with, by what it did there.
-pub record JobEnds (did : ℕ → Option Content → Option Content → Outcome → Type 0) (i j : Edges)
-    (status : Status) (printed : List ℕ) : Type 0 where
+pub record JobEnds (did : ℕ → Option Content → Option Content → Outcome → Type 0)
+    (goes_on : Option Moments → Option Moments) (i j : Edges) (status : Status) (printed : List ℕ)
+    : Type 0 where
   pub outcome : Outcome
-  pub acts : JobActs did i j outcome
+  pub acts : JobActs did goes_on i j outcome
   pub status_is : status ≡ status_of outcome
   pub printed_is : printed ≡ whole_line (outcome_line outcome)
 
@@ -212,27 +229,32 @@ pub record ServeEnds (i j : Edges) (status : Status) (printed : List ℕ) : Type
   pub fault : run ≡ Shut opening.DiskFault → Rose i.broken j.broken
   pub input_kept : j.unread ≡ i.unread
   pub clock_kept : j.missed ≡ i.missed
+  pub coming_kept : j.coming ≡ i.coming
 
--- What a job on an input ends with.
+-- What a job on an input ends with. The texts of help and version are the program's own.
 abbrev pub Ends : Option Job → List ℕ → Edges → Edges → Status → List ℕ → Type 0
 Ends None input i j status printed = (status ≡ exit.NotRead)
-    × (printed ≡ whole_line (codes "words not read"))
+    × (printed ≡ whole_line (codes "words not read")) × NoneFailed i j
 Ends (Some Help) input i j status printed = (status ≡ exit.Done) × (printed ≡ HELP.now)
+    × NoneFailed i j
 Ends (Some Version) input i j status printed = (status ≡ exit.Done) × (printed ≡ VERSION.now)
+    × NoneFailed i j
 Ends (Some (Replay config)) input i j status printed = Replays config input status printed
+    × NoneFailed i j
 Ends (Some (Load count seed)) input i j status printed = (status ≡ exit.Done)
-    × (printed ≡ whole_line (loaded_line count seed))
-Ends (Some (Init config)) input i j status printed = JobEnds (InitActs config) i j status printed
+    × (printed ≡ whole_line (loaded_line count seed)) × NoneFailed i j
+Ends (Some (Init config)) input i j status printed =
+    JobEnds (InitActs config) after_first i j status printed
 Ends (Some Deliver) input i j status printed =
-    JobEnds (DeliverActs (message_of input)) i j status printed
+    JobEnds (DeliverActs (message_of input)) after_first i j status printed
 Ends (Some (Remove number)) input i j status printed =
-    JobEnds (CommandActs (removing number)) i j status printed
+    JobEnds (CommandActs Appends (removing number)) after_first i j status printed
 Ends (Some (Purge number)) input i j status printed =
-    JobEnds (CommandActs (purging number)) i j status printed
+    JobEnds (CommandActs Renews (purging number)) after_first i j status printed
 Ends (Some (Edit number)) input i j status printed =
-    JobEnds (CommandActs (editing number (message_of input))) i j status printed
-Ends (Some Reindex) input i j status printed = JobEnds ReindexActs i j status printed
-Ends (Some Check) input i j status printed = JobEnds CheckActs i j status printed
+    JobEnds (CommandActs Renews (editing number (message_of input))) after_first i j status printed
+Ends (Some Reindex) input i j status printed = JobEnds ReindexActs unasked i j status printed
+Ends (Some Check) input i j status printed = JobEnds CheckActs unasked i j status printed
 Ends (Some (Serve turns port)) input i j status printed = ServeEnds i j status printed
 
 -- What a run of words on an input ends with, by the rules.
@@ -363,23 +385,27 @@ AsksOfArchive words = (job : Job) × IsOnArchive job × AsksFor words job
 abbrev pub AsksForMoment : List (List ℕ) → Type 0
 AsksForMoment words = AsksForInit words ⊎ AsksForCommand words
 
--- Nothing was printed, and the disk is unchanged. The input or the clock failed.
+-- Nothing was printed, no moment was taken, and the disk is unchanged. The input or the clock failed.
 pub record IsSilent (status : Status) (i j : Edges) : Type 0 where
   pub status_is : status ≡ exit.Edges
   pub taken_is : j.taken ≡ i.taken
   pub lost_kept : j.lost ≡ i.lost
+  pub coming_kept : j.coming ≡ i.coming
   pub kept : j.content ≡ i.content
+  pub disk_kept : j.broken ≡ i.broken
 
--- The input failed: its count of faults rose, and nothing was done.
+-- The input failed: its count of faults rose, that of the clock stays, and nothing was done.
 pub record InputFailed (words : List (List ℕ)) (status : Status) (i j : Edges) : Type 0 where
   pub asked : AsksForInput words
   pub rose : Rose i.unread j.unread
+  pub clock_kept : j.missed ≡ i.missed
   pub silent : IsSilent status i j
 
--- The clock failed: its count of faults rose, and nothing was done.
+-- The clock failed: its count of faults rose, that of the input stays, and nothing was done.
 pub record ClockFailed (words : List (List ℕ)) (status : Status) (i j : Edges) : Type 0 where
   pub asked : AsksForMoment words
   pub rose : Rose i.missed j.missed
+  pub input_kept : j.unread ≡ i.unread
   pub silent : IsSilent status i j
 
 -- The output failed: its count of faults rose, and a prefix of what was due was printed.
@@ -427,15 +453,15 @@ InitLeaves config coming old image = (moment : ℕ) × IsFirst moment coming
 module _ {D : Type 0} (content : D → Option Content) (moment : D → ℕ)
     (left_since : D → ℕ → Files → Type 0) where
   -- What a crash leaves while a command is carried out that is to make this of an archive.
-  abbrev pub CommandLeaves : D → D → Option Moments → (ℕ → Archive → Done) → Type 0
-  CommandLeaves old new coming wanted = (at : ℕ) × IsFirst at coming
-      × RunsOrStays content moment left_since old new (LeavesEither (wanted at))
+  abbrev pub CommandLeaves : D → D → Option Moments → Way → (ℕ → Archive → Done) → Type 0
+  CommandLeaves old new coming way wanted = (at : ℕ) × IsFirst at coming
+      × RunsOrStays content moment left_since old new (LeavesEither way (wanted at))
 
   -- The same for a command that takes the message on the input.
-  abbrev pub MessageLeaves : D → D → Option (List ℕ) → Option Moments
+  abbrev pub MessageLeaves : D → D → Option (List ℕ) → Option Moments → Way
       → (List ℕ → ℕ → Archive → Done) → Type 0
-  MessageLeaves old new left coming wanted = (sent : List ℕ) × IsInput left sent
-      × CommandLeaves old new coming (wanted (message_of sent))
+  MessageLeaves old new left coming way wanted = (sent : List ℕ) × IsInput left sent
+      × CommandLeaves old new coming way (wanted (message_of sent))
 
   -- What a job does to the disk, and what a crash leaves at each moment of it. A reindexing and a
   -- check change no archive. Nothing is said of `serve`, which has a clause of its own.
@@ -447,17 +473,16 @@ module _ {D : Type 0} (content : D → Option Content) (moment : D → ℕ)
   JobLeaves (Some (Load count seed)) old new left coming = new ≡ old
   JobLeaves (Some (Init config)) old new left coming =
       LeavesOnly moment left_since old new (InitLeaves config coming (content old))
-  JobLeaves (Some Deliver) old new left coming = MessageLeaves old new left coming delivering
+  JobLeaves (Some Deliver) old new left coming =
+      MessageLeaves old new left coming Appends delivering
   JobLeaves (Some (Remove number)) old new left coming =
-      CommandLeaves old new coming (removing number)
+      CommandLeaves old new coming Appends (removing number)
   JobLeaves (Some (Purge number)) old new left coming =
-      CommandLeaves old new coming (purging number)
+      CommandLeaves old new coming Renews (purging number)
   JobLeaves (Some (Edit number)) old new left coming =
-      MessageLeaves old new left coming (editing number)
-  JobLeaves (Some Reindex) old new left coming =
-      RunsOrStays content moment left_since old new LeavesSame
-  JobLeaves (Some Check) old new left coming =
-      RunsOrStays content moment left_since old new LeavesSame
+      MessageLeaves old new left coming Renews (editing number)
+  JobLeaves (Some Reindex) old new left coming = SyncsAtMost content moment left_since old new
+  JobLeaves (Some Check) old new left coming = SyncsAtMost content moment left_since old new
   JobLeaves (Some (Serve turns port)) old new left coming = Unit {0}
 
   -- The words ask for a job, which does this to the disk.

@@ -2,7 +2,8 @@
 use Rattle.std.specs.Prelude.{◌≡◌, ◌≤◌, ℕ, List, [], ◌∷◌, ◌++◌, Bool, Option, Some, Ok, Err}
 use Rattle.std.specs.List.{Contains}
 use Rattle.arch_base.specs.Counts.{RoseIf}
-use Rattle.disk_model.specs.Disk.{Files, Content, Told, WhereTold, LeavesOnly}
+use Rattle.disk_model.specs.Disk.{Content, Files, Image, LeavesOnly, Told, WhereTold}
+use Rattle.edge_io.specs.Frames.{Outputs}
 use Rattle.edge_io.specs.Hosts as hosts
 use Rattle.edge_io.specs.Scripts.{Arrival}
 use Rattle.keep_course.specs.Courses.{archives_of}
@@ -12,12 +13,13 @@ use Rattle.arch_model.specs.Standing.{Standing, one_of}
 use Rattle.arch_model.specs.declared.opening.OpenRefusal.{OpenRefusal}
 use Rattle.arch_model.specs.declared.opening.OpenRefusal.TheVariants as opening
 use Rattle.epoch_store.specs.Files.{as_read}
-use Rattle.epoch_store.specs.Opens.{Opens, IsOnlySynced, ReadsAs, RecoversOf, AllRecoverOf}
+use Rattle.epoch_store.specs.Opens.{Opens, IsOnlySynced, ReadsWith, AllRecoverWith, SyncsAtMost}
 use Rattle.epoch_store.specs.Stores.{View}
 use Rattle.archive_core.specs.Engines.{RecoversOrBare, AllRecoverOrBare}
 use Rattle.archive_core.specs.Openings.{LeavesKindly}
 use Rattle.answer_lines.specs.Lines.{whole_line, memory_word}
 use Rattle.node_serve.specs.Ends.{EndsBy, given_after, before_all}
+use Rattle.node_serve.specs.Nodes.{outputs_asked}
 use Rattle.node_serve.specs.Plain.{last_world}
 use Rattle.node_serve.specs.Turns.{Turn, Served, passed_in}
 use Rattle.node_serve.specs.World.{Outer, World}
@@ -85,6 +87,7 @@ pub record HostKept (i j : Hosted) : Type 0 where
   pub taken_kept : j.out.taken ≡ i.out.taken
   pub closings_kept : j.out.closings ≡ i.out.closings
   pub lost_kept : j.out.lost ≡ i.out.lost
+  pub closed_at_kept : j.out.closed_at ≡ i.out.closed_at
 
 -- The archive of a standing follows an archive, and the one in doubt there follows the standing's:
 -- no number of the one names a second message in the other.
@@ -114,19 +117,20 @@ module _ {D : Type 0} (content : D → Option Content) (moment : D → ℕ)
     pub stood : (cache : List ℕ) × AllRecoverOrBare cache (one_of s) (content at)
     pub crash : (cache : List ℕ) × CrashLeaves at new cache (archives_of (s ∷ passed_in later))
 
-  -- The archive that the disk read as was found, and the events were taken to their end, one after
-  -- another, each with its replies over the archive of that moment.
+  -- This archive was found, and the events were taken to their end, one after another, each with its
+  -- replies over the archive of that moment.
   --
   -- Until the disk was synced, a crash leaves what it might have left before; from then on the archive
-  -- that was found, or one of a standing after one of the acts, or one in doubt there. Before each
+  -- that was found, or one of a standing after one of the acts, or one in doubt there. So where the disk
+  -- stood for one of some archives, a crash leaves one of these, or one of the latter. Before each
   -- event, and after the last one, the disk stood for the archive of that moment, and a crash since
   -- then leaves that one or a later one: so no acknowledged command is lost. No number names a second
   -- message.
-  pub record ServedOn (may : List (Option Archive)) (old new : D) (arrivals : List Arrival)
-      (i j : Hosted) : Type 0 where
-    pub found : Archive
-    pub is_among : Contains may (Some found)
-    pub reads : ReadsAs found (content old)
+  --
+  -- The host, whose records these are, was asked before each event, when all before it had been
+  -- answered, and at the end if it then answered that none is left.
+  pub record ServedOn (found : Archive) (old new : D) (arrivals : List Arrival) (i j : Hosted)
+      (none : Bool) (recorded recorded' : List Outputs → Type 0) : Type 0 where
     pub first : World
     pub starts : IsStart found first
     pub first_out : first.out ≡ i.out
@@ -137,38 +141,47 @@ module _ {D : Type 0} (content : D → Option Content) (moment : D → ℕ)
     pub stands : (cache : List ℕ) × AllRecoverOrBare cache (one_of last.standing) (content new)
     pub synced : D
     pub only : Told IsOnlySynced (content old) (content synced)
-    pub before : LeavesOnly moment left_since old synced (RecoversOf may)
+    pub before : LeavesOnly moment left_since old synced (Image (content old))
     pub after : (cache : List ℕ)
         × CrashLeaves synced new cache (archives_of (first.standing ∷ passed_in turns))
-    pub crash : (cache : List ℕ) × CrashLeaves old new cache (may ++ archives_of (passed_in turns))
+    pub crash : (may : List (Option Archive)) (cache : List ℕ) → Contains may (Some found)
+        → AllRecoverWith cache may (content old)
+        → (left : List ℕ) × CrashLeaves old new left (may ++ archives_of (passed_in turns))
     pub stood : (earlier later : List Turn) → turns ≡ earlier ++ later
         → StoodFor (last_world first earlier).standing later new
     pub numbers : FollowOn found (passed_in turns)
+    pub records : (past : List Outputs) → recorded past
+        → recorded' (past ++ outputs_asked none first turns last)
 
   -- The archive wasn't opened. The refusal is that of the files as they read, the disk is left as it
   -- stood, and the host wasn't asked. The disk's count of faults rose exactly if it failed.
-  pub record ShutOut (why : OpenRefusal) (old new : D) (i j : Hosted) : Type 0 where
+  pub record ShutOut (why : OpenRefusal) (old new : D) (i j : Hosted)
+      (recorded recorded' : List Outputs → Type 0) : Type 0 where
     pub kept : HostKept i j
     pub answer : WhereTold (λ k. Opens (as_read k) (Err why)) (content old)
     pub unopened : LeavesKindly why (content old) (content new)
-    pub crash : (may : List (Option Archive)) → AllRecoverOf may (content old)
-        → LeavesOnly moment left_since old new (RecoversOf may)
+    pub crash : SyncsAtMost content moment left_since old new
     pub stands : (s : Standing) → StandsAs s (content old) → (t : Standing)
         × StandsAs t (content new) × StaysUnopened s (content old) why t
     pub cause : RoseIf (why ≡ opening.DiskFault) i.out.disk j.out.disk
+    pub records : (past : List Outputs) → recorded past → recorded' past
 
-  -- The archive was opened, and serving took these events and ended by them. Whichever archives the
-  -- disk may have stood for, they were served.
-  pub record ServedBy (how : ServeEnd) (turns : ℕ) (old new : D) (i j : Hosted) : Type 0 where
+  -- The archive was opened, and serving took these events and ended by them. They were served over the
+  -- archive as which the files read, whatever its cache.
+  pub record ServedBy (how : ServeEnd) (turns : ℕ) (old new : D) (i j : Hosted)
+      (recorded recorded' : List Outputs → Type 0) : Type 0 where
     pub arrivals : List Arrival
     pub took : TookFrom arrivals i j
     pub none : Bool
     pub ends : EndsBy how none arrivals turns j.left i.faults j.faults
     pub answer : WhereTold (λ k. (v : View) × Opens (as_read k) (Ok v)) (content old)
-    pub served : (may : List (Option Archive)) → AllRecoverOf may (content old)
-        → ServedOn may old new arrivals i j
+    pub served : (found : Archive) (cache : List ℕ) → ReadsWith cache found (content old)
+        → ServedOn found old new arrivals i j none recorded recorded'
 
   -- What a run of `serve` did, by how it ended.
-  abbrev pub ServesDisk : ℕ → ServeRun → D → D → Hosted → Hosted → Type 0
-  ServesDisk turns (Shut why) old new i j = ShutOut why old new i j
-  ServesDisk turns (Ended how) old new i j = ServedBy how turns old new i j
+  abbrev pub ServesDisk : ℕ → ServeRun → D → D → Hosted → Hosted → (List Outputs → Type 0)
+      → (List Outputs → Type 0) → Type 0
+  ServesDisk turns (Shut why) old new i j recorded recorded' =
+      ShutOut why old new i j recorded recorded'
+  ServesDisk turns (Ended how) old new i j recorded recorded' =
+      ServedBy how turns old new i j recorded recorded'

@@ -77,7 +77,7 @@ fresh_world a = record {
   standing = standing a None;
   session = λ c. None;
   count = 0;
-  out = outer (λ c. Some []) (λ c. Some 0) 0 0;
+  out = outer (λ c. Some []) (λ c. Some 0) 0 0 (λ c. None);
 }
 
 -- The frames of these events from a world, each taken to its end by the rules, where it was asked for

@@ -1,7 +1,7 @@
 //! The work of `init`, `reindex`, `check` and a command on the archive on a disk.
 //!
 //! Each takes the disk, and hands it back.
-ghost use Rattle.std.specs.Prelude.{◌≡◌, ◌≤◌};
+ghost use Rattle.std.specs.Prelude.{◌≡◌, ◌≤◌, ℕ, List};
 ghost use Rattle.arch_base.specs.Configs.{IsConfig};
 ghost use Rattle.arch_base.specs.Counts.{RoseIf};
 ghost use Rattle.arch_base.specs.Moments.{last_moment};
@@ -11,9 +11,10 @@ ghost use Rattle.arch_model.specs.Standing.{Standing};
 ghost use Rattle.arch_model.specs.declared.answer.Answer.{Answer};
 ghost use Rattle.epoch_store.specs.Files.{as_read};
 ghost use Rattle.epoch_store.specs.First.{MakingLeaves};
-ghost use Rattle.epoch_store.specs.Opens.{ReadsAs};
-ghost use Rattle.epoch_store.specs.Stores.{IsStoreOf, HasSizes};
-ghost use Rattle.archive_cli.specs.DiskCommands.{Makes, unmade, Answers, TakesTo, ReindexesTo, ChecksTo, IsOpenedAs, LeavesUnopened, IsReply, IsReindex, IsCheck, StandsAs, TakesOn, ReindexesOn, ChecksOn, RunsOrStays, LeavesSame, LeavesEither, IsFault, taking};
+ghost use Rattle.epoch_store.specs.Opens.{ReadsWith, SyncsAtMost};
+ghost use Rattle.epoch_store.specs.Stores.{View, IsStoreWith, HasSizes};
+ghost use Rattle.archive_core.specs.Commands.{DoneBy, cache_left, way_of};
+ghost use Rattle.archive_cli.specs.DiskCommands.{Makes, unmade, TakesTo, ReindexesTo, ChecksTo, IsOpenedAs, LeavesUnopened, IsReply, IsReindex, IsCheck, StandsAs, TakesOn, ReindexesOn, ChecksOn, RunsOrStays, LeavesEither, IsFault, taking};
 
 use crate::outcome::Outcome;
 use arch_base::Config;
@@ -57,12 +58,13 @@ pub(crate) fn take<D: Disk>(
 ) -> (Outcome, D)
     requires moment { moment ≤ last_moment }
     ensures any_moment { RunsOrStays D.content D.moment D.left_since disk result.1
-        (LeavesEither (taking command.now moment)) }
+        (LeavesEither (way_of command.now) (taking command.now moment)) }
     ensures stands { (s : Standing) → StandsAs s (D.content disk) → (t : Standing)
         × StandsAs t (D.content result.1)
         × TakesOn s (D.content disk) (taking command.now moment) result.0 t }
-    ensures done { (a : Archive) → ReadsAs a (D.content disk)
-        → TakesTo a (taking command.now moment a) result.0 (D.content result.1) }
+    ensures done { (a : Archive) (cache : List ℕ) → ReadsWith cache a (D.content disk)
+        → TakesTo (way_of command.now) cache a (taking command.now moment a) result.0
+        (D.content result.1) }
     ensures answer { WhereTold (λ k. IsOpenedAs (as_read k) result.0) (D.content disk) }
     ensures unopened { LeavesUnopened result.0 (D.content disk) (D.content result.1) }
     ensures kind { IsReply result.0 }
@@ -89,11 +91,14 @@ fn answered<D: Disk>(
 ) -> Answer
     requires moment { moment ≤ last_moment }
     requires sizes { WhereTold (HasSizes archive) (D.content disk.old) }
-    ensures any_moment { (a : Archive) → IsStoreOf archive a (D.content disk.old)
+    ensures any_moment { (a : Archive) (cache : List ℕ)
+        → IsStoreWith archive cache a (D.content disk.old)
         → LeavesOnly D.moment D.left_since disk.old disk.new
-        (LeavesEither (taking command.now moment) a) }
-    ensures done { (a : Archive) → IsStoreOf archive a (D.content disk.old)
-        → Answers a (taking command.now moment a) result (D.content disk.new) }
+        (LeavesEither (way_of command.now) (taking command.now moment) cache a) }
+    ensures done { (a : Archive) (cache : List ℕ)
+        → IsStoreWith archive cache a (D.content disk.old) → (v : View)
+        × DoneBy v cache (cache_left command.now cache) a (taking command.now moment a) result
+        (D.content disk.new) }
     ensures cause { RoseIf (result ≡ Answer.DiskFault) (D.faults disk.old) (D.faults disk.new) }
 {
     if !archive.has_next_root() {
@@ -109,11 +114,11 @@ fn answered<D: Disk>(
 /// Opening the archive rebuilds all of these from the number map and the epochs, and nothing of them
 /// outlives a run, so it is opened and counted.
 pub(crate) fn reindex<D: Disk>(alloc: Global, disk: D) -> (Outcome, D)
-    ensures any_moment { RunsOrStays D.content D.moment D.left_since disk result.1 LeavesSame }
+    ensures any_moment { SyncsAtMost D.content D.moment D.left_since disk result.1 }
     ensures stands { (s : Standing) → StandsAs s (D.content disk) → (t : Standing)
         × StandsAs t (D.content result.1) × ReindexesOn s (D.content disk) result.0 t }
-    ensures done { (a : Archive) → ReadsAs a (D.content disk)
-        → ReindexesTo a result.0 (D.content result.1) }
+    ensures done { (a : Archive) (cache : List ℕ) → ReadsWith cache a (D.content disk)
+        → ReindexesTo cache a result.0 (D.content result.1) }
     ensures answer { WhereTold (λ k. IsOpenedAs (as_read k) result.0) (D.content disk) }
     ensures unopened { LeavesUnopened result.0 (D.content disk) (D.content result.1) }
     ensures kind { IsReindex result.0 }
@@ -130,11 +135,11 @@ pub(crate) fn reindex<D: Disk>(alloc: Global, disk: D) -> (Outcome, D)
 
 /// Reads the whole archive on a disk, and counts its entries and live messages.
 pub(crate) fn check<D: Disk>(alloc: Global, disk: D) -> (Outcome, D)
-    ensures any_moment { RunsOrStays D.content D.moment D.left_since disk result.1 LeavesSame }
+    ensures any_moment { SyncsAtMost D.content D.moment D.left_since disk result.1 }
     ensures stands { (s : Standing) → StandsAs s (D.content disk) → (t : Standing)
         × StandsAs t (D.content result.1) × ChecksOn s (D.content disk) result.0 t }
-    ensures done { (a : Archive) → ReadsAs a (D.content disk)
-        → ChecksTo a result.0 (D.content result.1) }
+    ensures done { (a : Archive) (cache : List ℕ) → ReadsWith cache a (D.content disk)
+        → ChecksTo cache a result.0 (D.content result.1) }
     ensures answer { WhereTold (λ k. IsOpenedAs (as_read k) result.0) (D.content disk) }
     ensures unopened { LeavesUnopened result.0 (D.content disk) (D.content result.1) }
     ensures kind { IsCheck result.0 }

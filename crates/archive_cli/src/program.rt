@@ -5,9 +5,10 @@ ghost use Rattle.answer_lines.specs.Lines.{whole_line};
 ghost use Rattle.archive_cli.specs.Words.{spelled, AsksFor};
 ghost use Rattle.archive_cli.specs.declared.words.Job.TheVariants.{Serve};
 ghost use Rattle.arch_base.specs.declared.config.Config.{Config};
+ghost use Rattle.archive_core.specs.Commands.{way_of};
 ghost use Rattle.archive_cli.specs.DiskCommands.{taking};
 ghost use Rattle.archive_cli.specs.Outcomes.{outcome_line, status_of};
-ghost use Rattle.archive_cli.specs.Program.{RanTo, TakesInput, TookAtMost, CommandActs, InitActs, InitLeaves, CommandLeaves, MessageLeaves, WordsLeave, putting, all_edges, edges, input_limit, message_limit, made_at};
+ghost use Rattle.archive_cli.specs.Program.{RanTo, AsksForMoment, TakesInput, TookAtMost, CommandActs, InitActs, InitLeaves, CommandLeaves, MessageLeaves, WordsLeave, putting, putting_way, all_edges, edges, input_limit, message_limit, made_at};
 ghost use Rattle.archive_cli.specs.Printing.{Printed, Exactly, IsReplayDue, Replayed, JobDone, InputDone, RunPrinted};
 ghost use Rattle.arch_base.specs.Configs.{IsConfig};
 ghost use Rattle.archive_cli.specs.Serving.{ServeRun, ServesDisk, hosted};
@@ -63,12 +64,17 @@ pub fn run<D: Disk, H: Host, S: Source, O: Sink, C: Clock>(
         (O.taken out.new) (O.faults out.new)
         × ServesDisk D.content D.moment D.left_since turns run disk result.1
         (hosted (H.given host.old) (H.left host.old) (H.faults host.old)
-        (outer (H.taken host.old) (H.closings host.old) (D.faults disk) (H.lost host.old)))
+        (outer (H.taken host.old) (H.closings host.old) (D.faults disk) (H.lost host.old)
+        (H.closed_at host.old)))
         (hosted (H.given host.new) (H.left host.new) (H.faults host.new)
-        (outer (H.taken host.new) (H.closings host.new) (D.faults result.1) (H.lost host.new))) }
+        (outer (H.taken host.new) (H.closings host.new) (D.faults result.1) (H.lost host.new)
+        (H.closed_at host.new)))
+        (H.recorded host.old) (H.recorded host.new) }
     // Only serving asks the host.
     ensures host { ((turns port : ℕ) → AsksFor (spelled words.now) (Serve turns port) → ⊥)
         → host.new ≡ host.old }
+    // Only `init` and the commands ask the clock.
+    ensures clock { (AsksForMoment (spelled words.now) → ⊥) → clock.new ≡ clock.old }
     ensures later { (D.faults disk ≤ D.faults result.1) × (C.faults clock.old ≤ C.faults clock.new) }
 {
     match read_words(words) {
@@ -172,7 +178,7 @@ fn put_input<D: Disk, S: Source, O: Sink, C: Clock>(
     ensures later { S.faults input.old ≤ S.faults input.new }
     ensures few { TookAtMost message_limit (S.left input.old) (S.left input.new) }
     ensures any_moment { MessageLeaves D.content D.moment D.left_since disk result.1
-        (S.left input.old) (C.coming clock.old) (putting place) }
+        (S.left input.old) (C.coming clock.old) (putting_way place) (putting place) }
     ensures disk_later { D.faults disk ≤ D.faults result.1 }
     ensures clock_later { C.faults clock.old ≤ C.faults clock.new }
     ensures sink { O.alike out.old out.new }
@@ -195,7 +201,8 @@ fn put_input<D: Disk, S: Source, O: Sink, C: Clock>(
 /// Returns the command that delivers a message, as a new one or in the place of the one with a
 /// number.
 fn command_of(place: Option<u32>, message: &[u8]) -> Command<'_>
-    ensures { taking result ≡ putting place message.now }
+    ensures wanted { taking result ≡ putting place message.now }
+    ensures way { way_of result ≡ putting_way place }
 {
     match place {
         None => Command::Deliver(message),
@@ -211,13 +218,13 @@ fn carry_out<D: Disk, O: Sink, C: Clock>(
     out: &mut O,
     clock: &mut C,
 ) -> (Status, D)
-    ensures ends { JobDone (CommandActs (taking command.now)) result.0
+    ensures ends { JobDone (CommandActs (way_of command.now) (taking command.now)) result.0
         (all_edges None 0 (O.taken out.old) (O.faults out.old) (C.coming clock.old)
         (C.faults clock.old) (D.content disk) (D.faults disk))
         (all_edges None 0 (O.taken out.new) (O.faults out.new) (C.coming clock.new)
         (C.faults clock.new) (D.content result.1) (D.faults result.1)) }
     ensures any_moment { CommandLeaves D.content D.moment D.left_since disk result.1
-        (C.coming clock.old) (taking command.now) }
+        (C.coming clock.old) (way_of command.now) (taking command.now) }
     ensures disk_later { D.faults disk ≤ D.faults result.1 }
     ensures clock_later { C.faults clock.old ≤ C.faults clock.new }
     ensures sink { O.alike out.old out.new }

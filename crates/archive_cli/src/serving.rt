@@ -28,9 +28,12 @@ pub(crate) fn serve_disk<D: Disk, H: Host, O: Sink>(
     ensures serves { (run : ServeRun) × ServesDisk D.content D.moment D.left_since turns run disk
         result.1
         (hosted (H.given host.old) (H.left host.old) (H.faults host.old)
-        (outer (H.taken host.old) (H.closings host.old) (D.faults disk) (H.lost host.old)))
+        (outer (H.taken host.old) (H.closings host.old) (D.faults disk) (H.lost host.old)
+        (H.closed_at host.old)))
         (hosted (H.given host.new) (H.left host.new) (H.faults host.new)
-        (outer (H.taken host.new) (H.closings host.new) (D.faults result.1) (H.lost host.new)))
+        (outer (H.taken host.new) (H.closings host.new) (D.faults result.1) (H.lost host.new)
+        (H.closed_at host.new)))
+        (H.recorded host.old) (H.recorded host.new)
         × Printed (Exactly (run_line run) (run_status run)) result.0 (O.taken out.old)
         (O.faults out.old) (O.taken out.new) (O.faults out.new) }
     ensures later { D.faults disk ≤ D.faults result.1 }

@@ -1,17 +1,15 @@
-use Rattle.std.proofs.Common.{[], inl}
 use Rattle.archive_core.proofs.Standing.{store_keeps}
-use Rattle.archive_cli.proofs.OnDisk.{opened-checks, opened-as, unopened-checks, opened-stands, opened-runs, unopened-stands, checked-cause, refused-cause}
+use Rattle.archive_cli.proofs.OnDisk.{opened-checks, opened-as, unopened-checks, opened-stands, unopened-stands, checked-cause, refused-cause}
 use Rattle.archive_cli.proofs.disk_commands.check.Goals as goal
 
 pub returns-in-Ok-clause-any_moment : goal.returns-in-Ok-clause-any_moment
-returns-in-Ok-clause-any_moment g c = opened-runs g.D.Disk.content g.D.Disk.moment g.D.Disk.left_since g.met.D.Disk.counts_now g.met.D.Disk.reads_fit c.args.disk c.open.new.disk c.in-Ok.counted
-    c.in-Ok.ensures.opened.done c.in-Ok.ensures.opened.first c.in-Ok.ensures.opened.answer
+returns-in-Ok-clause-any_moment g c = c.in-Ok.ensures.opened.before
 
 pub returns-in-Ok-clause-done : goal.returns-in-Ok-clause-done
-returns-in-Ok-clause-done g c = λ a reads.
-    let store = c.in-Ok.ensures.opened.done a [] reads in
-    opened-checks c.in-Ok.counted a (g.D.Disk.content c.open.new.disk) c.entry_count.result c.message_count.result c.next_of_root.result store c.entry_count.ensures
-    (c.message_count.ensures a (store_keeps c.in-Ok.counted [] a (g.D.Disk.content c.open.new.disk) store)) c.next_of_root.ensures
+returns-in-Ok-clause-done g c = λ a cache reads.
+    let store = c.in-Ok.ensures.opened.done a cache reads in
+    opened-checks c.in-Ok.counted cache a (g.D.Disk.content c.open.new.disk) c.entry_count.result c.message_count.result c.next_of_root.result store c.entry_count.ensures
+    (c.message_count.ensures a (store_keeps c.in-Ok.counted cache a (g.D.Disk.content c.open.new.disk) store)) c.next_of_root.ensures
 
 pub returns-in-Ok-clause-answer : goal.returns-in-Ok-clause-answer
 returns-in-Ok-clause-answer g c = opened-as c.in-Ok.counted (g.D.Disk.content c.args.disk) c.entry_count.result c.message_count.result c.next_of_root.result c.in-Ok.ensures.opened.answer c.entry_count.ensures c.next_of_root.ensures
@@ -27,11 +25,11 @@ pub returns-in-Err-clause-cause : goal.returns-in-Err-clause-cause
 returns-in-Err-clause-cause g c = refused-cause (g.D.Disk.faults c.args.disk) (g.D.Disk.faults c.open.new.disk) c.in-Err.why c.in-Err.ensures.opened.cause
 
 pub returns-in-Err-clause-any_moment : goal.returns-in-Err-clause-any_moment
-returns-in-Err-clause-any_moment g c = λ may all. inl (c.in-Err.ensures.opened.any_moment may [] all)
+returns-in-Err-clause-any_moment g c = c.in-Err.ensures.opened.before
 
 pub returns-in-Err-clause-done : goal.returns-in-Err-clause-done
-returns-in-Err-clause-done g c = λ a reads.
-    unopened-checks a c.in-Err.why (g.D.Disk.content c.args.disk) (g.D.Disk.content c.open.new.disk) reads (c.in-Err.ensures.opened.well a [] reads) c.in-Err.ensures.refused
+returns-in-Err-clause-done g c = λ a cache reads.
+    unopened-checks cache a c.in-Err.why (g.D.Disk.content c.args.disk) (g.D.Disk.content c.open.new.disk) reads (c.in-Err.ensures.opened.well a cache reads) c.in-Err.ensures.refused
 
 pub returns-in-Err-clause-stands : goal.returns-in-Err-clause-stands
 returns-in-Err-clause-stands g c = λ s all. unopened-stands g.D.Disk.content g.D.Disk.moment g.D.Disk.left_since g.met.D.Disk.counts_now g.met.D.Disk.reads_fit s c.args.disk c.open.new.disk c.in-Err.why all c.in-Err.ensures.opened.any_moment c.in-Err.ensures.opened.well c.in-Err.ensures.opened.first

@@ -1,16 +1,14 @@
-use Rattle.std.proofs.Common.{[], inl}
-use Rattle.archive_cli.proofs.OnDisk.{opened-reindexes, unopened-reindexes, opened-stands, opened-runs, unopened-stands, reindexed-cause, refused-cause}
+use Rattle.archive_cli.proofs.OnDisk.{opened-reindexes, unopened-reindexes, opened-stands, unopened-stands, reindexed-cause, refused-cause}
 use Rattle.archive_cli.proofs.disk_commands.reindex.Goals as goal
 
 pub returns-in-Ok-clause-any_moment : goal.returns-in-Ok-clause-any_moment
-returns-in-Ok-clause-any_moment g c = rw c.into_disk.ensures
-    (opened-runs g.D.Disk.content g.D.Disk.moment g.D.Disk.left_since g.met.D.Disk.counts_now g.met.D.Disk.reads_fit c.args.disk c.in-Ok.engine.disk c.in-Ok.engine.view c.in-Ok.ensures.opened.done c.in-Ok.ensures.opened.first c.in-Ok.ensures.opened.answer)
+returns-in-Ok-clause-any_moment g c = rw c.into_disk.ensures c.in-Ok.ensures.opened.before
 
 pub returns-in-Ok-clause-done : goal.returns-in-Ok-clause-done
-returns-in-Ok-clause-done g c = λ a reads.
-    let store = c.in-Ok.ensures.opened.done a [] reads in
+returns-in-Ok-clause-done g c = λ a cache reads.
+    let store = c.in-Ok.ensures.opened.done a cache reads in
     rw c.into_disk.ensures
-    (opened-reindexes c.in-Ok.engine.view a (g.D.Disk.content c.in-Ok.engine.disk) c.message_count-live.result store (c.message_count-live.ensures a ([], store, c.in-Ok.ensures.rows a [] reads)))
+    (opened-reindexes c.in-Ok.engine.view cache a (g.D.Disk.content c.in-Ok.engine.disk) c.message_count-live.result store (c.message_count-live.ensures a (cache, store, c.in-Ok.ensures.rows a cache reads)))
 
 pub returns-in-Ok-clause-stands : goal.returns-in-Ok-clause-stands
 returns-in-Ok-clause-stands g c = rw c.into_disk.ensures
@@ -24,11 +22,11 @@ pub returns-in-Err-clause-cause : goal.returns-in-Err-clause-cause
 returns-in-Err-clause-cause g c = refused-cause (g.D.Disk.faults c.args.disk) (g.D.Disk.faults c.in-Err.field-0.disk) c.in-Err.field-0.why c.in-Err.ensures.opened.cause
 
 pub returns-in-Err-clause-any_moment : goal.returns-in-Err-clause-any_moment
-returns-in-Err-clause-any_moment g c = λ may all. inl (c.in-Err.ensures.opened.any_moment may [] all)
+returns-in-Err-clause-any_moment g c = c.in-Err.ensures.opened.before
 
 pub returns-in-Err-clause-done : goal.returns-in-Err-clause-done
-returns-in-Err-clause-done g c = λ a reads.
-    unopened-reindexes a c.in-Err.field-0.why (g.D.Disk.content c.args.disk) (g.D.Disk.content c.in-Err.field-0.disk) reads (c.in-Err.ensures.opened.well a [] reads) c.in-Err.ensures.refused
+returns-in-Err-clause-done g c = λ a cache reads.
+    unopened-reindexes cache a c.in-Err.field-0.why (g.D.Disk.content c.args.disk) (g.D.Disk.content c.in-Err.field-0.disk) reads (c.in-Err.ensures.opened.well a cache reads) c.in-Err.ensures.refused
 
 pub returns-in-Err-clause-stands : goal.returns-in-Err-clause-stands
 returns-in-Err-clause-stands g c = λ s all. unopened-stands g.D.Disk.content g.D.Disk.moment g.D.Disk.left_since g.met.D.Disk.counts_now g.met.D.Disk.reads_fit s c.args.disk c.in-Err.field-0.disk c.in-Err.field-0.why all c.in-Err.ensures.opened.any_moment c.in-Err.ensures.opened.well c.in-Err.ensures.opened.first

@@ -1,4 +1,5 @@
 use Rattle.std.proofs.Common.{inl, refl}
+use Rattle.archive_core.specs.Commands.{way_of}
 use Rattle.archive_cli.specs.DiskCommands.{taking}
 use Rattle.archive_cli.specs.Program.{CommandActs}
 use Rattle.archive_cli.proofs.Leaving.{command-first}
@@ -6,16 +7,17 @@ use Rattle.archive_cli.proofs.Printed.{outcome-due}
 use Rattle.archive_cli.proofs.program.carry_out.Goals as goal
 
 pub returns-in-Err-clause-any_moment : goal.returns-in-Err-clause-any_moment
-returns-in-Err-clause-any_moment g c = command-first g.D.Disk.content g.D.Disk.moment g.D.Disk.left_since g.met.D.Disk.only_now (g.C.Clock.coming c.args.clock.now) (taking c.args.command.now) c.args.disk
+returns-in-Err-clause-any_moment g c = command-first g.D.Disk.content g.D.Disk.moment g.D.Disk.left_since g.met.D.Disk.only_now (g.C.Clock.coming c.args.clock.now) (way_of c.args.command.now) (taking c.args.command.now) c.args.disk
 
 pub returns-clause-any_moment : goal.returns-clause-any_moment
 returns-clause-any_moment g c = (c.in-Ok.moment, c.in-Ok.ensures.first, c.take-outcome.ensures.any_moment)
 
 pub returns-clause-ends : goal.returns-clause-ends
 returns-clause-ends g c =
-    inl (outcome-due (CommandActs (taking c.args.command.now)) _ _ _ c.take-outcome.result.0 (record {
+    inl (outcome-due (CommandActs (way_of c.args.command.now) (taking c.args.command.now)) _ _ _ c.take-outcome.result.0 (record {
       moment = c.in-Ok.moment;
       first = c.in-Ok.ensures.first;
+      coming = c.in-Ok.ensures.rest;
       acts = record {
         kind = c.take-outcome.ensures.kind;
         done = c.take-outcome.ensures.done;

@@ -25,4 +25,4 @@ returns-clause-any_moment g c =
 
 pub returns-clause-ends : goal.returns-clause-ends
 returns-clause-ends g c =
-    inl (outcome-due (InitActs c.args.config) _ _ _ c.make-outcome.result.0 (record { moment = c.in-Ok.moment; first = c.in-Ok.ensures.first; acts = rw c.config_at-config.ensures.at at c.make-outcome.ensures.made; fault = c.make-outcome.ensures.cause.failed; input_kept = refl; clock_kept = c.in-Ok.ensures.cause.kept; disk_kept = c.make-outcome.ensures.cause.kept }) c.print_outcome.ensures.printed)
+    inl (outcome-due (InitActs c.args.config) _ _ _ c.make-outcome.result.0 (record { moment = c.in-Ok.moment; first = c.in-Ok.ensures.first; coming = c.in-Ok.ensures.rest; acts = rw c.config_at-config.ensures.at at c.make-outcome.ensures.made; fault = c.make-outcome.ensures.cause.failed; input_kept = refl; clock_kept = c.in-Ok.ensures.cause.kept; disk_kept = c.make-outcome.ensures.cause.kept }) c.print_outcome.ensures.printed)

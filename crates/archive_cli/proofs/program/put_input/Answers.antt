@@ -1,20 +1,22 @@
 use Rattle.std.proofs.Common.{◌≡◌, inl, inr, refl, List, ℕ, subst}
 use Rattle.arch_model.specs.Archives.{Archive}
 use Rattle.arch_model.specs.Delivery.{Done}
+use Rattle.archive_core.specs.Commands.{way_of}
+use Rattle.epoch_store.specs.Promises.{Way}
 use Rattle.archive_cli.specs.DiskCommands.{taking}
-use Rattle.archive_cli.specs.Program.{CommandActs, MessageActs, CommandLeaves, putting, message_of}
+use Rattle.archive_cli.specs.Program.{CommandActs, MessageActs, CommandLeaves, putting, putting_way, message_of}
 use Rattle.archive_cli.proofs.Leaving.{message-first, message-runs}
 use Rattle.archive_cli.proofs.Printed.{unread-due, job-as, job-moved, message-as}
 use Rattle.archive_cli.proofs.program.put_input.Goals as goal
 
 pub returns-in-Err-Fault-clause-any_moment : goal.returns-in-Err-Fault-clause-any_moment
-returns-in-Err-Fault-clause-any_moment g c = message-first g.D.Disk.content g.D.Disk.moment g.D.Disk.left_since g.met.D.Disk.only_now (g.C.Clock.coming c.args.clock.now) (g.S.Source.left c.args.input.now) (putting c.args.place) c.args.disk
+returns-in-Err-Fault-clause-any_moment g c = message-first g.D.Disk.content g.D.Disk.moment g.D.Disk.left_since g.met.D.Disk.only_now (g.C.Clock.coming c.args.clock.now) (g.S.Source.left c.args.input.now) (putting_way c.args.place) (putting c.args.place) c.args.disk
 
 pub returns-in-Err-TooLong-clause-any_moment : goal.returns-in-Err-TooLong-clause-any_moment
-returns-in-Err-TooLong-clause-any_moment g c = message-first g.D.Disk.content g.D.Disk.moment g.D.Disk.left_since g.met.D.Disk.only_now (g.C.Clock.coming c.args.clock.now) (g.S.Source.left c.args.input.now) (putting c.args.place) c.args.disk
+returns-in-Err-TooLong-clause-any_moment g c = message-first g.D.Disk.content g.D.Disk.moment g.D.Disk.left_since g.met.D.Disk.only_now (g.C.Clock.coming c.args.clock.now) (g.S.Source.left c.args.input.now) (putting_way c.args.place) (putting c.args.place) c.args.disk
 
 pub returns-in-Err-NoMemory-clause-any_moment : goal.returns-in-Err-NoMemory-clause-any_moment
-returns-in-Err-NoMemory-clause-any_moment g c = message-first g.D.Disk.content g.D.Disk.moment g.D.Disk.left_since g.met.D.Disk.only_now (g.C.Clock.coming c.args.clock.now) (g.S.Source.left c.args.input.now) (putting c.args.place) c.args.disk
+returns-in-Err-NoMemory-clause-any_moment g c = message-first g.D.Disk.content g.D.Disk.moment g.D.Disk.left_since g.met.D.Disk.only_now (g.C.Clock.coming c.args.clock.now) (g.S.Source.left c.args.input.now) (putting_way c.args.place) (putting c.args.place) c.args.disk
 
 pub returns-in-Err-TooLong-clause-ends : goal.returns-in-Err-TooLong-clause-ends
 returns-in-Err-TooLong-clause-ends g c = absurd (rw c.in-Err-TooLong.field-0-is at c.in-Err-TooLong.ensures.read)
@@ -22,7 +24,7 @@ returns-in-Err-TooLong-clause-ends g c = absurd (rw c.in-Err-TooLong.field-0-is 
 pub returns-in-Err-NoMemory-clause-ends : goal.returns-in-Err-NoMemory-clause-ends
 returns-in-Err-NoMemory-clause-ends g c =
     let kept = rw c.in-Err-NoMemory.field-0-is at c.in-Err-NoMemory.ensures.read in
-    inr (inl (unread-due _ _ _ _ _ _ _ refl (record { input = kept; clock = refl; disk = refl }) c.print_no_memory.ensures.printed))
+    inr (inl (unread-due _ _ _ _ _ _ _ refl (record { input = kept; clock = refl; disk = refl; coming = refl }) c.print_no_memory.ensures.printed))
 
 pub returns-in-Ok-clause-ends : goal.returns-in-Ok-clause-ends
 returns-in-Ok-clause-ends g c =
@@ -33,12 +35,14 @@ returns-in-Ok-clause-ends g c =
       front.0,
       front.1,
       job-moved (MessageActs place (message_of front.0)) c.carry_out.result.0 _ _ _ _ _ _ _ _ _ _ _ _ _ _ _ _ c.in-Ok.ensures.read.1
-          (job-as (CommandActs (taking c.command_of.result)) (MessageActs place (message_of front.0)) c.carry_out.result.0 _ _ (message-as place c.as_slice.result.now front.0 (taking c.command_of.result) c.command_of.ensures is) c.carry_out.ensures.ends),
+          (job-as (CommandActs (way_of c.command_of.result) (taking c.command_of.result)) (MessageActs place (message_of front.0)) c.carry_out.result.0 _ _ (message-as place c.as_slice.result.now front.0 (way_of c.command_of.result) (taking c.command_of.result) c.command_of.ensures.way c.command_of.ensures.wanted is) c.carry_out.ensures.ends),
     )
 
 pub returns-in-Ok-clause-any_moment : goal.returns-in-Ok-clause-any_moment
 returns-in-Ok-clause-any_moment g c =
     let coming = g.C.Clock.coming c.args.clock.now in
-    let run = subst (λ (w : ℕ → Archive → Done). CommandLeaves g.D.Disk.content g.D.Disk.moment g.D.Disk.left_since c.args.disk c.carry_out.result.1 coming w) c.command_of.ensures c.carry_out.ensures.any_moment in
-    message-runs g.D.Disk.content g.D.Disk.moment g.D.Disk.left_since coming (g.S.Source.left c.args.input.now) (putting c.args.place) c.args.disk c.carry_out.result.1 c.in-Ok.bytes c.in-Ok.ensures.read.0
-    (subst (λ (b : List ℕ). CommandLeaves g.D.Disk.content g.D.Disk.moment g.D.Disk.left_since c.args.disk c.carry_out.result.1 coming (putting c.args.place b)) c.as_slice.ensures run)
+    let place = c.args.place in
+    let by-way = subst (λ (y : Way). CommandLeaves g.D.Disk.content g.D.Disk.moment g.D.Disk.left_since c.args.disk c.carry_out.result.1 coming y (taking c.command_of.result)) c.command_of.ensures.way c.carry_out.ensures.any_moment in
+    let run = subst (λ (w : ℕ → Archive → Done). CommandLeaves g.D.Disk.content g.D.Disk.moment g.D.Disk.left_since c.args.disk c.carry_out.result.1 coming (putting_way place) w) c.command_of.ensures.wanted by-way in
+    message-runs g.D.Disk.content g.D.Disk.moment g.D.Disk.left_since coming (g.S.Source.left c.args.input.now) (putting_way place) (putting place) c.args.disk c.carry_out.result.1 c.in-Ok.bytes c.in-Ok.ensures.read.0
+    (subst (λ (b : List ℕ). CommandLeaves g.D.Disk.content g.D.Disk.moment g.D.Disk.left_since c.args.disk c.carry_out.result.1 coming (putting_way place) (putting place b)) c.as_slice.ensures run)

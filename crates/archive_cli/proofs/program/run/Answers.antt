@@ -1,6 +1,7 @@
 use Rattle.std.proofs.Common.{Some, None, codes, refl, ℕ, inl, inr}
 use Rattle.answer_lines.specs.Lines.{whole_line}
 use Rattle.node_serve.specs.World.{outer}
+use Rattle.epoch_store.specs.Promises.{Appends, Renews}
 use Rattle.archive_cli.specs.DiskCommands.{removing, purging}
 use Rattle.archive_cli.specs.Program.{CommandActs, InitActs}
 use Rattle.archive_cli.specs.Serving.{hosted}
@@ -15,23 +16,23 @@ use Rattle.archive_cli.proofs.program.run.Goals as goal
 
 pub returns-in-None-clause-ends : goal.returns-in-None-clause-ends
 returns-in-None-clause-ends g c =
-    (c.print.result, c.code.ensures, ran-exactly (spelled c.args.words.now) None (whole_line (codes "words not read")) exit.NotRead _ _ _ c.in-None.ensures (λ input. (refl, refl)) c.print.ensures.printed)
+    (c.print.result, c.code.ensures, ran-exactly (spelled c.args.words.now) None (whole_line (codes "words not read")) exit.NotRead _ _ _ c.in-None.ensures (λ input. (refl, refl, record { input = refl; clock = refl; disk = refl; coming = refl })) c.print.ensures.printed)
 
 pub returns-in-Some-Help-clause-ends : goal.returns-in-Some-Help-clause-ends
 returns-in-Some-Help-clause-ends g c =
-    (c.print-in-Some-Help.result, c.code-in-Some-Help.ensures, ran-exactly (spelled c.args.words.now) (Some Help) HELP.now exit.Done _ _ _ (rw c.in-Some-Help.field-0-is at c.in-Some-Help.ensures) (λ input. (refl, refl)) (rw c.as_bytes.ensures.value at c.print-in-Some-Help.ensures.printed))
+    (c.print-in-Some-Help.result, c.code-in-Some-Help.ensures, ran-exactly (spelled c.args.words.now) (Some Help) HELP.now exit.Done _ _ _ (rw c.in-Some-Help.field-0-is at c.in-Some-Help.ensures) (λ input. (refl, refl, record { input = refl; clock = refl; disk = refl; coming = refl })) (rw c.as_bytes.ensures.value at c.print-in-Some-Help.ensures.printed))
 
 pub returns-in-Some-Version-clause-ends : goal.returns-in-Some-Version-clause-ends
 returns-in-Some-Version-clause-ends g c =
-    (c.print-in-Some-Version.result, c.code-in-Some-Version.ensures, ran-exactly (spelled c.args.words.now) (Some Version) VERSION.now exit.Done _ _ _ (rw c.in-Some-Version.field-0-is at c.in-Some-Version.ensures) (λ input. (refl, refl)) (rw c.as_bytes-in-Some-Version.ensures.value at c.print-in-Some-Version.ensures.printed))
+    (c.print-in-Some-Version.result, c.code-in-Some-Version.ensures, ran-exactly (spelled c.args.words.now) (Some Version) VERSION.now exit.Done _ _ _ (rw c.in-Some-Version.field-0-is at c.in-Some-Version.ensures) (λ input. (refl, refl, record { input = refl; clock = refl; disk = refl; coming = refl })) (rw c.as_bytes-in-Some-Version.ensures.value at c.print-in-Some-Version.ensures.printed))
 
 pub returns-in-Some-Replay-clause-ends : goal.returns-in-Some-Replay-clause-ends
 returns-in-Some-Replay-clause-ends g c =
-    (c.replay.result, c.code-in-Some-Replay.ensures, ran-replayed (spelled c.args.words.now) c.in-Some-Replay.config _ _ _ (rw c.in-Some-Replay.field-0-is at c.in-Some-Replay.ensures) c.replay.ensures.ends refl refl refl)
+    (c.replay.result, c.code-in-Some-Replay.ensures, ran-replayed (spelled c.args.words.now) c.in-Some-Replay.config _ _ _ (rw c.in-Some-Replay.field-0-is at c.in-Some-Replay.ensures) c.replay.ensures.ends refl refl refl refl)
 
 pub returns-in-Some-Load-clause-ends : goal.returns-in-Some-Load-clause-ends
 returns-in-Some-Load-clause-ends g c =
-    (c.load_and_print.result, c.code-in-Some-Load.ensures, ran-loaded (spelled c.args.words.now) c.in-Some-Load.count c.in-Some-Load.seed _ _ _ (rw c.in-Some-Load.field-0-is at c.in-Some-Load.ensures) refl refl refl refl c.load_and_print.ensures.printed)
+    (c.load_and_print.result, c.code-in-Some-Load.ensures, ran-loaded (spelled c.args.words.now) c.in-Some-Load.count c.in-Some-Load.seed _ _ _ (rw c.in-Some-Load.field-0-is at c.in-Some-Load.ensures) refl refl refl refl refl c.load_and_print.ensures.printed)
 
 pub load_and_print-requires : goal.load_and_print-requires
 load_and_print-requires g c = let asked = rw c.in-Some-Load.field-0-is at c.in-Some-Load.ensures in asked.range.1
@@ -63,7 +64,7 @@ returns-in-Some-Reindex-clause-ends g c =
       c.print_outcome.result,
       c.code-in-Some-Reindex.ensures,
       ran-reindexed (spelled c.args.words.now) _ _ _ c.reindex-outcome.result.0 (rw c.in-Some-Reindex.field-0-is at c.in-Some-Reindex.ensures)
-          (record { moment = some.0; first = some.1; acts = record { kind = c.reindex-outcome.ensures.kind; done = c.reindex-outcome.ensures.done; stands = c.reindex-outcome.ensures.stands; answer = c.reindex-outcome.ensures.answer; unopened = c.reindex-outcome.ensures.unopened }; fault = c.reindex-outcome.ensures.cause.failed; input_kept = refl; clock_kept = refl; disk_kept = c.reindex-outcome.ensures.cause.kept }) c.print_outcome.ensures.printed,
+          (record { moment = some.0; first = some.1; coming = refl; acts = record { kind = c.reindex-outcome.ensures.kind; done = c.reindex-outcome.ensures.done; stands = c.reindex-outcome.ensures.stands; answer = c.reindex-outcome.ensures.answer; unopened = c.reindex-outcome.ensures.unopened }; fault = c.reindex-outcome.ensures.cause.failed; input_kept = refl; clock_kept = refl; disk_kept = c.reindex-outcome.ensures.cause.kept }) c.print_outcome.ensures.printed,
     )
 
 pub returns-in-Some-Check-clause-ends : goal.returns-in-Some-Check-clause-ends
@@ -72,7 +73,7 @@ returns-in-Some-Check-clause-ends g c =
       c.print_outcome-in-Some-Check.result,
       c.code-in-Some-Check.ensures,
       ran-checked (spelled c.args.words.now) _ _ _ c.check-outcome.result.0 (rw c.in-Some-Check.field-0-is at c.in-Some-Check.ensures)
-          (record { moment = some.0; first = some.1; acts = record { kind = c.check-outcome.ensures.kind; done = c.check-outcome.ensures.done; stands = c.check-outcome.ensures.stands; answer = c.check-outcome.ensures.answer; unopened = c.check-outcome.ensures.unopened }; fault = c.check-outcome.ensures.cause.failed; input_kept = refl; clock_kept = refl; disk_kept = c.check-outcome.ensures.cause.kept }) c.print_outcome-in-Some-Check.ensures.printed,
+          (record { moment = some.0; first = some.1; coming = refl; acts = record { kind = c.check-outcome.ensures.kind; done = c.check-outcome.ensures.done; stands = c.check-outcome.ensures.stands; answer = c.check-outcome.ensures.answer; unopened = c.check-outcome.ensures.unopened }; fault = c.check-outcome.ensures.cause.failed; input_kept = refl; clock_kept = refl; disk_kept = c.check-outcome.ensures.cause.kept }) c.print_outcome-in-Some-Check.ensures.printed,
     )
 
 pub returns-in-Some-Remove-clause-ends : goal.returns-in-Some-Remove-clause-ends
@@ -81,20 +82,20 @@ returns-in-Some-Remove-clause-ends g c =
     let number = c.in-Some-Remove.number in (
       c.carry_out-status.result.0,
       c.code-in-Some-Remove.ensures,
-      ran-command (spelled c.args.words.now) (Remove number) (removing number) _ _ _ asked (inr (inl (number, asked))) (λ input s printed due. due)
-          (job-moved (CommandActs (removing number)) c.carry_out-status.result.0 _ _ _ _ _ _ _ _ _ _ _ _ _ _ _ _ refl c.carry_out-status.ensures.ends),
+      ran-command (spelled c.args.words.now) (Remove number) Appends (removing number) _ _ _ asked (inr (inl (number, asked))) (λ input s printed due. due)
+          (job-moved (CommandActs Appends (removing number)) c.carry_out-status.result.0 _ _ _ _ _ _ _ _ _ _ _ _ _ _ _ _ refl c.carry_out-status.ensures.ends),
     )
 
 pub returns-in-Some-Serve-clause-ends : goal.returns-in-Some-Serve-clause-ends
 returns-in-Some-Serve-clause-ends g c =
     let served = c.serve_disk-status.ensures.serves in
-    let host = λ (h : g.row.H.Denot) (n : ℕ). hosted (g.H.Host.given h) (g.H.Host.left h) (g.H.Host.faults h) (outer (g.H.Host.taken h) (g.H.Host.closings h) n (g.H.Host.lost h)) in
+    let host = λ (h : g.row.H.Denot) (n : ℕ). hosted (g.H.Host.given h) (g.H.Host.left h) (g.H.Host.faults h) (outer (g.H.Host.taken h) (g.H.Host.closings h) n (g.H.Host.lost h) (g.H.Host.closed_at h)) in
     let old = host c.args.host.now (g.D.Disk.faults c.args.disk) in
     let new = host c.serve_disk-status.new.host (g.D.Disk.faults c.serve_disk-status.result.1) in (
       c.serve_disk-status.result.0,
       c.code-in-Some-Serve.ensures,
       ran-served (spelled c.args.words.now) c.in-Some-Serve.turns c.in-Some-Serve._port served.0 c.serve_disk-status.result.0 _ _ (rw c.in-Some-Serve.field-0-is at c.in-Some-Serve.ensures)
-          (shut-faults g.D.Disk.content g.D.Disk.moment g.D.Disk.left_since c.in-Some-Serve.turns served.0 c.args.disk c.serve_disk-status.result.1 old new served.1) refl refl served.2,
+          (shut-faults g.D.Disk.content g.D.Disk.moment g.D.Disk.left_since c.in-Some-Serve.turns served.0 c.args.disk c.serve_disk-status.result.1 old new (g.H.Host.recorded c.args.host.now) (g.H.Host.recorded c.serve_disk-status.new.host) served.1) refl refl refl served.2,
     )
 
 pub returns-in-Some-Serve-clause-serve : goal.returns-in-Some-Serve-clause-serve
@@ -116,8 +117,8 @@ returns-in-Some-Purge-clause-ends g c =
     let number = c.in-Some-Purge.number in (
       c.carry_out-status-in-Some-Purge.result.0,
       c.code-in-Some-Purge.ensures,
-      ran-command (spelled c.args.words.now) (Purge number) (purging number) _ _ _ asked (inr (inr (number, asked))) (λ input s printed due. due)
-          (job-moved (CommandActs (purging number)) c.carry_out-status-in-Some-Purge.result.0 _ _ _ _ _ _ _ _ _ _ _ _ _ _ _ _ refl c.carry_out-status-in-Some-Purge.ensures.ends),
+      ran-command (spelled c.args.words.now) (Purge number) Renews (purging number) _ _ _ asked (inr (inr (number, asked))) (λ input s printed due. due)
+          (job-moved (CommandActs Renews (purging number)) c.carry_out-status-in-Some-Purge.result.0 _ _ _ _ _ _ _ _ _ _ _ _ _ _ _ _ refl c.carry_out-status-in-Some-Purge.ensures.ends),
     )
 
 pub returns-in-Some-Init-clause-disk : goal.returns-in-Some-Init-clause-disk
@@ -158,3 +159,18 @@ returns-in-Some-Serve-clause-disk g c = ((Some (Serve c.in-Some-Serve.turns c.in
 
 pub returns-in-None-clause-disk : goal.returns-in-None-clause-disk
 returns-in-None-clause-disk g c = (None, c.in-None.ensures, refl)
+
+pub returns-in-Some-Init-clause-clock : goal.returns-in-Some-Init-clause-clock
+returns-in-Some-Init-clause-clock g c = λ none. absurd (none (inl (c.in-Some-Init.config, rw c.in-Some-Init.field-0-is at c.in-Some-Init.ensures)))
+
+pub returns-in-Some-Deliver-clause-clock : goal.returns-in-Some-Deliver-clause-clock
+returns-in-Some-Deliver-clause-clock g c = λ none. absurd (none (inr (inl (inl (rw c.in-Some-Deliver.field-0-is at c.in-Some-Deliver.ensures)))))
+
+pub returns-in-Some-Edit-clause-clock : goal.returns-in-Some-Edit-clause-clock
+returns-in-Some-Edit-clause-clock g c = λ none. absurd (none (inr (inl (inr (c.in-Some-Edit.number, rw c.in-Some-Edit.field-0-is at c.in-Some-Edit.ensures)))))
+
+pub returns-in-Some-Remove-clause-clock : goal.returns-in-Some-Remove-clause-clock
+returns-in-Some-Remove-clause-clock g c = λ none. absurd (none (inr (inr (inl (c.in-Some-Remove.number, rw c.in-Some-Remove.field-0-is at c.in-Some-Remove.ensures)))))
+
+pub returns-in-Some-Purge-clause-clock : goal.returns-in-Some-Purge-clause-clock
+returns-in-Some-Purge-clause-clock g c = λ none. absurd (none (inr (inr (inr (c.in-Some-Purge.number, rw c.in-Some-Purge.field-0-is at c.in-Some-Purge.ensures)))))
