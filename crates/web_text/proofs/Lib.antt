@@ -1,4 +1,5 @@
 pub mod CivilDays
+mod Escaping
 pub mod Markup
 pub mod MomentBytes
 mod Pieces

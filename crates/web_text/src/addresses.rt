@@ -1,9 +1,19 @@
 //! Ids of messages in addresses.
-ghost use Rattle.std.specs.Prelude.{◌≡◌, ◌++◌, ◌<◌, length, take, true, OnOk};
-ghost use Rattle.std.specs.Fmt.{digit_glyph};
-ghost use Rattle.web_text.specs.Addresses.{address_of, escaped_bytes, in_address, is_plain as plain, inside as inside_of};
+ghost use Rattle.std.specs.Prelude.{◌≡◌, ◌++◌, length, take, OnOk};
+ghost use Rattle.web_text.specs.Addresses.{address_of, escaped_bytes, inside as inside_of};
 
 use arch_base::{Bytes, NoMemory};
+use percent_encoding::{AsciiSet, NON_ALPHANUMERIC, ascii_set, percent_encode};
+
+/// The ASCII bytes that don't stand for themselves in an address: all but letters, digits and `-._~@`.
+const ESCAPED: AsciiSet = ascii_set!(
+    NON_ALPHANUMERIC
+        .remove(b'-')
+        .remove(b'.')
+        .remove(b'_')
+        .remove(b'~')
+        .remove(b'@')
+);
 
 /// Appends the id of a message as an address has it (RFC 3986, section 2.1).
 ///
@@ -32,44 +42,8 @@ fn push_bytes(bytes: &[u8], into: &mut Bytes) -> Result<(), NoMemory>
     ensures ok { OnOk result (into.new ≡ into.old ++ escaped_bytes bytes.now) }
     ensures kept { take (length into.old) into.new ≡ into.old }
 {
-    for byte in bytes {
-        push_byte(*byte, into)?;
+    for piece in percent_encode(bytes, ESCAPED) {
+        into.push_slice(piece.as_bytes())?;
     }
     Ok(())
-}
-
-/// Appends a byte as an address has it.
-fn push_byte(byte: u8, into: &mut Bytes) -> Result<(), NoMemory>
-    ensures ok { OnOk result (into.new ≡ into.old ++ in_address byte) }
-    ensures kept { take (length into.old) into.new ≡ into.old }
-{
-    if is_plain(byte) {
-        into.push(byte)
-    } else {
-        into.push_slice(&[b'%', hex_digit(byte / 16), hex_digit(byte % 16)])
-    }
-}
-
-/// Returns whether a byte stands for itself in an address.
-fn is_plain(byte: u8) -> bool
-    ensures { result ≡ plain byte }
-{
-    byte.is_ascii_alphanumeric()
-        || byte == b'-'
-        || byte == b'.'
-        || byte == b'_'
-        || byte == b'~'
-        || byte == b'@'
-}
-
-/// Returns the upper-case hexadecimal digit of a value.
-fn hex_digit(value: u8) -> u8
-    requires { value < 16 }
-    ensures { result ≡ digit_glyph true value }
-{
-    if value < 10 {
-        b'0' + value
-    } else {
-        b'A' + (value - 10)
-    }
 }

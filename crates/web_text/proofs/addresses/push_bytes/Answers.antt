@@ -1,15 +1,13 @@
-use Rattle.std.proofs.Common.{get_or, refl, arith}
-use Rattle.web_text.proofs.Pieces.{bytes-more, bytes-end}
-use Rattle.web_text.proofs.Pushing.{kept-on}
+use Rattle.std.proofs.Common.{◌<◌, ◌++◌, length, ap, ◌∙◌, arith}
+use Rattle.std.proofs.lemmas.List.{take_all}
+use Rattle.std.proofs.lemmas.List.Elements.{All-from_get_or}
+use Rattle.percent_encoding.specs.Iter.{encoded_text}
+use Rattle.web_text.proofs.Escaping.{escaped-all}
 use Rattle.web_text.proofs.addresses.push_bytes.Goals as goal
 
-pub loop-byte-preserved : goal.loop-byte-preserved
-loop-byte-preserved c =
-    let bytes = c.args.bytes.now in
-    let held = c.loop-byte.invariant in record {
-      pushed = bytes-more c.loop-byte.into c.push_byte.new.into _ bytes c.loop-byte.byte-index (get_or bytes c.loop-byte.byte-index 0) c.loop-byte-test.true refl c.in_ok-push_byte.ensures.ok held.pushed;
-      kept = kept-on c.args.into.now c.loop-byte.into c.push_byte.new.into held.kept c.push_byte.ensures.kept;
+pub loop-piece-init : goal.loop-piece-init
+loop-piece-init c =
+    let small = All-from_get_or (λ b. b < 256) c.args.bytes.now 0 (λ i within. omega (arith, c.type_inv.bytes i)) in record {
+      pushed = ap (λ t. c.args.into.now ++ t) (ap encoded_text c.into_iter-piece-iterator.ensures.into_iter_gives ∙ c.percent_encode-piece-items.ensures.text ∙ escaped-all c.args.bytes.now small);
+      kept = take_all (length c.args.into.now) c.args.into.now (omega arith);
     }
-
-pub returns-clause-ok : goal.returns-clause-ok
-returns-clause-ok c = bytes-end c.loop-byte.into _ c.args.bytes.now c.loop-byte.byte-index (omega arith) c.loop-byte.invariant.pushed
