@@ -21,8 +21,8 @@ pub enum Ahead {
 
 /// Finds out how `piece` continues `held`, which is a part of a line.
 ///
-/// A line has at most `limit` octets with its line feed. Reads no byte of `held`, and at most
-/// `limit` bytes of the piece.
+/// A line has at most `limit` octets with its line feed. Facts of the code, of which no clause
+/// speaks: it reads no byte of `held`, and at most `limit` bytes of the piece.
 pub fn next_in(held: &[u8], piece: &[u8], limit: usize) -> Ahead
     requires { front limit held.now ≡ Partial }
     ensures { IsAhead limit held.now piece.now result }

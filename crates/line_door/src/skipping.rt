@@ -20,7 +20,8 @@ pub enum Passage {
 
 /// Finds out how `piece` continues `held`, which is a part of a line.
 ///
-/// A line has at most `limit` octets with its line feed. Reads no byte of `held`.
+/// A line has at most `limit` octets with its line feed. A fact of the code, of which no clause
+/// speaks: it reads no byte of `held`.
 pub fn next_passing(held: &[u8], piece: &[u8], limit: usize) -> Passage
     requires { skipping_front limit held.now ≡ Unended }
     ensures { IsPassage limit held.now piece.now result }

@@ -1,5 +1,5 @@
 //! Words that wait to be written to a sink.
-ghost use Rattle.std.specs.Prelude.{◌≡◌, ◌+◌, ◌≤◌, ◌++◌, [], length, drop, decimal};
+ghost use Rattle.std.specs.Prelude.{◌≡◌, ◌+◌, ◌≤◌, ◌++◌, [], length, drop, decimal, OnErr};
 ghost use Rattle.std.specs.List.{prefix_len};
 ghost use Rattle.edge_io.specs.Phrases.{Says};
 ghost use Rattle.mail_forms.specs.WireForms.{wire_of};
@@ -51,10 +51,11 @@ impl Waiting {
     /// Appends phrases. Words that wait are written when there is no more room for them.
     ///
     /// `SinkFault` if a write failed. A prefix of what waited and of these phrases was taken, and the
-    /// sink's count of faults rose.
+    /// sink's count of faults rose. None wait then.
     pub fn push<O: Sink>(&mut self, phrases: &[Phrase<'_>], out: &mut O) -> Result<(), SinkFault>
         ensures said { Waits (words_of phrases.now) self.old (O.taken out.old) (O.faults out.old)
             self.new (O.taken out.new) (O.faults out.new) result }
+        ensures empty { OnErr result (self.new ≡ []) }
         ensures sink { O.alike out.old out.new }
     {
         for phrase in phrases {
@@ -70,6 +71,7 @@ impl Waiting {
     fn push_phrase<O: Sink>(&mut self, phrase: &Phrase<'_>, out: &mut O) -> Result<(), SinkFault>
         ensures said { Waits (words_in phrase.now) self.old (O.taken out.old) (O.faults out.old)
             self.new (O.taken out.new) (O.faults out.new) result }
+        ensures empty { OnErr result (self.new ≡ []) }
         ensures sink { O.alike out.old out.new }
     {
         match *phrase {
@@ -86,6 +88,7 @@ impl Waiting {
     fn say<O: Sink>(&mut self, words: &[u8], out: &mut O) -> Result<(), SinkFault>
         ensures said { Waits words.now self.old (O.taken out.old) (O.faults out.old) self.new
             (O.taken out.new) (O.faults out.new) result }
+        ensures empty { OnErr result (self.new ≡ []) }
         ensures sink { O.alike out.old out.new }
     {
         let mut rest = words;
@@ -151,6 +154,7 @@ impl Waiting {
     fn number<O: Sink>(&mut self, number: u64, out: &mut O) -> Result<(), SinkFault>
         ensures said { Waits (decimal number) self.old (O.taken out.old) (O.faults out.old) self.new
             (O.taken out.new) (O.faults out.new) result }
+        ensures empty { OnErr result (self.new ≡ []) }
         ensures sink { O.alike out.old out.new }
     {
         let mut buffer = Buffer::new();
@@ -163,6 +167,7 @@ impl Waiting {
     fn block<O: Sink>(&mut self, text: &[u8], out: &mut O) -> Result<(), SinkFault>
         ensures said { Waits (block_lines text.now) self.old (O.taken out.old) (O.faults out.old)
             self.new (O.taken out.new) (O.faults out.new) result }
+        ensures empty { OnErr result (self.new ≡ []) }
         ensures sink { O.alike out.old out.new }
     {
         let mut rest = text;
@@ -180,6 +185,7 @@ impl Waiting {
     fn line<O: Sink>(&mut self, line: &[u8], out: &mut O) -> Result<(), SinkFault>
         ensures said { Waits (block_line line.now) self.old (O.taken out.old) (O.faults out.old)
             self.new (O.taken out.new) (O.faults out.new) result }
+        ensures empty { OnErr result (self.new ≡ []) }
         ensures sink { O.alike out.old out.new }
     {
         self.dot(line, out)?;
@@ -190,6 +196,7 @@ impl Waiting {
     fn dot<O: Sink>(&mut self, line: &[u8], out: &mut O) -> Result<(), SinkFault>
         ensures said { Waits (dot_before line.now) self.old (O.taken out.old) (O.faults out.old)
             self.new (O.taken out.new) (O.faults out.new) result }
+        ensures empty { OnErr result (self.new ≡ []) }
         ensures sink { O.alike out.old out.new }
     {
         match line {
@@ -202,6 +209,7 @@ impl Waiting {
     fn wire<O: Sink>(&mut self, bytes: &[u8], out: &mut O) -> Result<(), SinkFault>
         ensures said { Waits (wire_of bytes.now) self.old (O.taken out.old) (O.faults out.old)
             self.new (O.taken out.new) (O.faults out.new) result }
+        ensures empty { OnErr result (self.new ≡ []) }
         ensures sink { O.alike out.old out.new }
     {
         let mut rest = bytes;
@@ -225,6 +233,7 @@ impl Waiting {
     ) -> Result<(), SinkFault>
         ensures said { Waits (front.now ++ first_sent_of back.now) self.old (O.taken out.old)
             (O.faults out.old) self.new (O.taken out.new) (O.faults out.new) result }
+        ensures empty { OnErr result (self.new ≡ []) }
         ensures sink { O.alike out.old out.new }
     {
         self.say(front, out)?;
