@@ -8,11 +8,13 @@ ghost use Rattle.atom_mbox.specs.MailboxFiles.{mailbox_of, piece_len, told_len};
 use arch_base::{Bytes, NoMemory};
 use mail_forms::{Row, is_from_line, line_len};
 
-/// Returns the length of the mailbox file of the texts of these rows, in bytes.
+/// Returns the length of the mailbox file of the texts of these rows, in bytes: the sum of the lengths
+/// that the rows tell.
 ///
 /// If it doesn't fit in a `u64`, this is the greatest `u64`.
 pub fn mbox_len(rows: &[Row]) -> u64
-    ensures { (texts : List (List ℕ)) → map told_len rows.now ≡ map piece_len texts
+    ensures sum { result ≡ min (sum_by told_len rows.now) (2 ^ 64 - 1) }
+    ensures texts { (texts : List (List ℕ)) → map told_len rows.now ≡ map piece_len texts
         → length (mailbox_of texts) < 2 ^ 64 → result ≡ length (mailbox_of texts) }
 {
     sum_of_pieces(rows)
