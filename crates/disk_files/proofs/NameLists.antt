@@ -1,19 +1,21 @@
 -- There is one list of all names, and each call tells the name at an index of it.
-use Rattle.std.specs.Prelude.{◌≡◌, ◌⊎◌, ◌↔◌, ℕ, ◌+◌, Option, Some, None, IsSome, List, [], ◌∷◌, ◌++◌, get_or, take, slice_get, refl}
+use Rattle.std.specs.Prelude.{◌≡◌, ◌⊎◌, ◌↔◌, ℕ, ◌+◌, Option, Some, None, IsSome, List, [], ◌∷◌, ◌++◌, take, slice_get, refl}
 use Rattle.std.specs.List.{Contains}
 use Rattle.std.specs.List.Sorted.{IsStrictlySortedBy}
 use Rattle.std.specs.Ordering.{ordering_reverse}
 use Rattle.std.specs.declared.cmp.Ordering.TheVariants.{Less, Greater}
 use Rattle.std.proofs.Common.{◌∙◌, ap, sym, subst, inl, inr, arith}
 use Rattle.std.proofs.lemmas.List.{take_more}
-use Rattle.std.proofs.lemmas.List.Elements.{All-contains, Contains-append_cases, Contains-append_right}
+use Rattle.std.proofs.lemmas.List.Elements.{All-contains, Contains-append_right}
 use Rattle.std.proofs.lemmas.Map.Keys.{sorted_tail}
+use Rattle.std.proofs.lemmas.Map.Made.{Contains-tail}
 use Rattle.std.proofs.lemmas.Map.Views.{All-after_first}
 use Rattle.std.proofs.lemmas.Option.{slice_get_within, get_or_from_slice_get}
 use Rattle.disk_model.specs.declared.name.FileName.{FileName}
 use Rattle.disk_model.specs.Name.{name_cmp}
 use Rattle.disk_model.specs.Images.{names_total, same_or_other}
 use Rattle.disk_model.specs.Disk.{Content, Files, Fits, Image, IsNameAt, Kept, Told, Unchanged, WhereTold}
+use Rattle.disk_model.specs.Tells.{told_then}
 use Rattle.disk_files.specs.Listing.{AreAllNames}
 
 -- Of two names only one is below the other.
@@ -22,22 +24,12 @@ below_once a b first second =
     let both : Less ≡ Greater = sym first ∙ (names_total.antisymm a b ∙ ap ordering_reverse second) in
     cc
 
--- An item of a list is the first or one of the others.
-pub one_of : (x : FileName) (xs : List FileName) (q : FileName) → Contains (x ∷ xs) q → (x ≡ q) ⊎ Contains xs q
-one_of x xs q among =
-    elim (Contains-append_cases (x ∷ []) xs q among) [
-      | inl first ↦
-          let here : first.0 ≡ 0 = omega (arith, first.1) in
-          inl (subst (λ (i : ℕ). get_or (x ∷ []) i q ≡ q) here first.2)
-      | inr later ↦ inr later
-    ]
-
 -- The first item is in the list.
-pub first_in : (x : FileName) (xs : List FileName) → Contains (x ∷ xs) x
+first_in : (x : FileName) (xs : List FileName) → Contains (x ∷ xs) x
 first_in x xs = (0, omega arith, refl)
 
 -- The empty list has no item.
-pub none_in : (q : FileName) → Contains [] q → ⊥
+none_in : (q : FileName) → Contains [] q → ⊥
 none_in q among = absurd (omega (arith, among.1))
 
 -- A name is in a list or not.
@@ -47,7 +39,7 @@ contains_or_not (x ∷ xs) q = elim (same_or_other q x) [
   | inl is ↦ inl (subst (λ (n : FileName). Contains (x ∷ xs) n) is (first_in x xs))
   | inr apart ↦ elim (contains_or_not xs q) [
     | inl among ↦ inl (Contains-append_right (x ∷ []) xs q among)
-    | inr out ↦ inr (λ among. elim (one_of x xs q among) [ inl is ↦ apart is | inr after ↦ out after ])
+    | inr out ↦ inr (λ among. out (Contains-tail x xs q apart among))
   ]
 ]
 
@@ -55,68 +47,42 @@ contains_or_not (x ∷ xs) q = elim (same_or_other q x) [
 above_first : (x : FileName) (xs : List FileName) (q : FileName) → IsStrictlySortedBy name_cmp (x ∷ xs) → Contains xs q → name_cmp x q ≡ Less
 above_first x xs q sorted among = All-contains (λ (y : FileName). name_cmp x y ≡ Less) xs q (All-after_first name_cmp x xs sorted) among
 
--- Two lists of the same names in order have the same first one.
-same_first : (x y : FileName) (xs ys : List FileName) → IsStrictlySortedBy name_cmp (x ∷ xs) → IsStrictlySortedBy name_cmp (y ∷ ys) → Contains (y ∷ ys) x → Contains (x ∷ xs) y → x ≡ y
-same_first x y xs ys first second has_x has_y =
-    elim (one_of y ys x has_x) [
-      | inl same ↦ sym same
-      | inr later ↦
-          elim (one_of x xs y has_y) [
-            | inl same ↦ same
-            | inr after ↦ absurd (below_once x y (above_first x xs y first after) (above_first y ys x second later))
-          ]
-    ]
-
 -- The rests of two such lists have the same names.
 same_rest : (x y : FileName) (xs ys : List FileName) (q : FileName) → IsStrictlySortedBy name_cmp (x ∷ xs) → x ≡ y → Contains (y ∷ ys) q → Contains xs q → Contains ys q
 same_rest x y xs ys q sorted same has among =
-    elim (one_of y ys q has) [
-      | inl is ↦
-          let above : name_cmp x q ≡ Less = above_first x xs q sorted among in
-          let P : FileName → Type 0 = λ z. name_cmp x z ≡ Less in
-          let itself : name_cmp x x ≡ Less = subst P (sym (same ∙ is)) above in
-          absurd (below_once x x itself itself)
-      | inr later ↦ later
-    ]
+    Contains-tail y ys q (λ is. let itself = subst (λ (z : FileName). name_cmp x z ≡ Less) (sym (same ∙ is)) (above_first x xs q sorted among) in below_once x x itself itself) has
 
 -- Two lists of the same names in order are equal.
-pub same_names : (xs ys : List FileName) → IsStrictlySortedBy name_cmp xs → IsStrictlySortedBy name_cmp ys → ((q : FileName) → Contains xs q → Contains ys q) → ((q : FileName) → Contains ys q → Contains xs q) → xs ≡ ys
+same_names : (xs ys : List FileName) → IsStrictlySortedBy name_cmp xs → IsStrictlySortedBy name_cmp ys → ((q : FileName) → Contains xs q → Contains ys q) → ((q : FileName) → Contains ys q → Contains xs q) → xs ≡ ys
 same_names [] [] first second left right = refl
 same_names [] (y ∷ ys) first second left right = absurd (none_in y (right y (first_in y ys)))
 same_names (x ∷ xs) [] first second left right = absurd (none_in x (left x (first_in x xs)))
-same_names (x ∷ xs) (y ∷ ys) first second left right =
-    let same = same_first x y xs ys first second (left x (first_in x xs)) (right y (first_in y ys)) in
-    let rest = same_names xs ys (sorted_tail name_cmp x xs first) (sorted_tail name_cmp y ys second)
-    (λ q among. same_rest x y xs ys q first same (left q (Contains-append_right (x ∷ []) xs q among)) among)
-    (λ q among. same_rest y x ys xs q second (sym same) (right q (Contains-append_right (y ∷ []) ys q among)) among) in
-    ap (λ (n : FileName). n ∷ xs) same ∙ ap (λ (l : List FileName). y ∷ l) rest
+same_names (x ∷ xs) (y ∷ ys) first second left right = elim (same_or_other y x) [
+  | inl same ↦
+      (let rest = same_names xs ys (sorted_tail name_cmp x xs first) (sorted_tail name_cmp y ys second)
+      (λ q among. same_rest x y xs ys q first same (left q (Contains-append_right (x ∷ []) xs q among)) among)
+      (λ q among. same_rest y x ys xs q second (sym same) (right q (Contains-append_right (y ∷ []) ys q among)) among) in
+      λ i. same i ∷ rest i)
+  | inr apart ↦
+      absurd (below_once x y (above_first x xs y first (Contains-tail x xs y apart (right y (first_in y ys))))
+      (above_first y ys x second (Contains-tail y ys x (λ is. apart (sym is)) (left x (first_in x xs)))))
+]
 
 -- There is only one list of all names.
-pub all_names_one : (xs ys : List FileName) (k : Content) → AreAllNames xs k → AreAllNames ys k → xs ≡ ys
+all_names_one : (xs ys : List FileName) (k : Content) → AreAllNames xs k → AreAllNames ys k → xs ≡ ys
 all_names_one xs ys k first second = same_names xs ys first.in_order second.in_order (λ q among. (second.all q).0 ((first.all q).1 among)) (λ q among. (first.all q).0 ((second.all q).1 among))
 
 -- The first i of all names.
 abbrev pub AreFirstNames : List FileName → ℕ → Content → Type 0
 AreFirstNames names i k = (all : List FileName) → AreAllNames all k → names ≡ take i all
 
--- The list of names from which a call told one is the list of all names.
-told_all : (i : ℕ) (name : Option FileName) (k m : Content) → Unchanged k m → (at_place : IsNameAt i name m) → AreAllNames at_place.names k
-told_all i name k m same at_place = record {
-  in_order = at_place.in_order;
-  all = λ other.
-      let P : Kept → Type 0 = λ kept. IsSome kept.seen ↔ Contains at_place.names other in
-      subst P (same other) (at_place.all other);
-}
-
 -- One more name.
 one_more : (names : List FileName) (i : ℕ) (name : FileName) (k m : Content) → Unchanged k m → AreFirstNames names i k → IsNameAt i (Some name) m → AreFirstNames (names ++ name ∷ []) (i + 1) k
 one_more names i name k m same are at_place all listed =
-    let one : at_place.names ≡ all = all_names_one at_place.names all k (told_all i (Some name) k m same at_place) listed in
-    let here : slice_get all i ≡ Some name = ap (λ (l : List FileName). slice_get l i) (sym one) ∙ sym at_place.«at» in
-    let inside = slice_get_within all i name here in
-    let next = take_more all i name inside in
-    let is : get_or all i name ≡ name = get_or_from_slice_get all i name name here in
-    ap (λ (l : List FileName). l ++ name ∷ []) (are all listed) ∙ sym (next ∙ ap (λ (n : FileName). take i all ++ n ∷ []) is)
+    let told : AreAllNames at_place.names k = record { in_order = at_place.in_order; all = λ other. subst (λ (kept : Kept). IsSome kept.seen ↔ Contains at_place.names other) (same other) (at_place.all other) } in
+    let here : slice_get all i ≡ Some name = ap (λ (l : List FileName). slice_get l i) (all_names_one all at_place.names k listed told) ∙ sym at_place.«at» in
+    let next = take_more all i name (slice_get_within all i name here) in
+    ap (λ (l : List FileName). l ++ name ∷ []) (are all listed) ∙ sym (next ∙ ap (λ (n : FileName). take i all ++ n ∷ []) (get_or_from_slice_get all i name name here))
 
 -- One more name, if the disk tells its content.
 pub first_more : (names : List FileName) (i : ℕ) (name : FileName) (k m : Option Content) → Told Unchanged k m → WhereTold (AreFirstNames names i) k → WhereTold (IsNameAt i (Some name)) m → WhereTold (AreFirstNames (names ++ name ∷ []) (i + 1)) k
@@ -127,12 +93,7 @@ first_more names i name (Some k) (Some m) same are at_place = one_more names i n
 
 -- What two calls leave unchanged is unchanged after both.
 pub unchanged_more : (k m o : Option Content) → Told Unchanged k m → Told Unchanged m o → Told Unchanged k o
-unchanged_more None None None first second = tt
-unchanged_more None None (Some o) first second = absurd second
-unchanged_more None (Some m) o first second = absurd first
-unchanged_more (Some k) None o first second = absurd first
-unchanged_more (Some k) (Some m) None first second = absurd second
-unchanged_more (Some k) (Some m) (Some o) first second = λ name. second name ∙ first name
+unchanged_more k m o = told_then Unchanged Unchanged Unchanged k m o (λ a b c is told first second name. second name ∙ first name)
 
 -- If nothing changes, a crash leaves what it left before.
 pub unchanged_image : (k m : Option Content) (image : Files) → Told Unchanged k m → Image m image → Image k image

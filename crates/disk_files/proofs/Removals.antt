@@ -8,7 +8,8 @@ use Rattle.disk_model.specs.declared.name.FileName.{FileName}
 use Rattle.disk_model.specs.Disk.{Content, File, Files, Fits, Image, Kept, OneFile, Removed, Sure, Told, TornRemoval, Within, remove_sure}
 use Rattle.disk_model.specs.Laws.{Fits-Within, Within-trans, remove_within, remove_wider}
 use Rattle.disk_model.specs.Images.{same_or_other}
-use Rattle.disk_files.specs.Removing.{AreRemoved, Fewer, IsFewer}
+use Rattle.disk_model.specs.Tells.{told_then, told_weaker}
+use Rattle.disk_files.specs.Removing.{AreRemoved, Fewer}
 
 -- Some of these files may be gone, and the others are as they were.
 pub record Thinned (names : List FileName) (old new : Content) : Type 0 where
@@ -25,13 +26,6 @@ one_fewer : (s : Sure) (image : File) → Fits (remove_sure s) image → (image 
 one_fewer s None fits = inl refl
 one_fewer s (Some bytes) fits = inr (record { there = fits.there; no_shorter = fits.no_shorter; no_longer = fits.no_longer; outside = fits.outside })
 
--- What a crash leaves of these files.
-fewer : (names : List FileName) (k m : Content) (image : Files) → Thinned names k m → Image (Some m) image → IsFewer names k image
-fewer names k m image thin left = record {
-  listed = λ name among. one_fewer (k name).sure (image name) (Fits-Within (m name).sure (remove_sure (k name).sure) (image name) (thin.sure name) (left name));
-  others = λ name none. let P : Kept → Type 0 = λ kept. Fits kept.sure (image name) in subst P (thin.others name none) (left name);
-}
-
 -- A removal of one of them, done or torn.
 thinner : (names : List FileName) (taken : FileName) (k m o : Content) → Contains names taken → Thinned names k m → Within (o taken).sure (remove_sure (m taken).sure) → ((other : FileName) → other ≢ taken → o other ≡ m other) → Thinned names k o
 thinner names taken k m o among thin crash elsewhere = record {
@@ -43,33 +37,6 @@ thinner names taken k m o among thin crash elsewhere = record {
             subst (λ (n : FileName). Within (o n).sure (remove_sure (k n).sure)) (sym same) here
         | inr apart ↦ let P : Kept → Type 0 = λ kept. Within kept.sure (remove_sure (k name).sure) in subst P (sym (elsewhere name apart)) (thin.sure name)
       ];
-}
-
--- One more file.
-more_gone : (names : List FileName) (n : ℕ) (taken : FileName) (k m o : Content) → slice_get names n ≡ Some taken → Contains names taken → GoneUpTo names n k m → OneFile taken Removed m o → GoneUpTo names (n + 1) k o
-more_gone names n taken k m o is among so_far removed = record {
-  thinned = thinner names taken k m o among so_far.thinned removed.here.crash removed.elsewhere;
-  gone = λ i name below found.
-      elim (same_or_other taken name) [
-        | inl same ↦ subst (λ (f : FileName). (o f).seen ≡ None) (sym same) removed.here.seen
-        | inr apart ↦
-            elim (cases_lt i n) [
-              | inl earlier ↦ ap (λ (kept : Kept). kept.seen) (removed.elsewhere name apart) ∙ so_far.gone i name earlier found
-              | inr last ↦
-                  let here : i ≡ n = omega (arith, below, last) in
-                  absurd (apart (same_Some name taken (sym found ∙ (ap (slice_get names) here ∙ is))))
-            ]
-      ];
-}
-
--- All of them are gone.
-all_gone : (names : List FileName) (k m : Content) → GoneUpTo names (length names) k m → AreRemoved names k m
-all_gone names k m so_far = record {
-  listed = λ name among. record {
-    seen = so_far.gone among.0 name among.1 (slice_get-get_or names among.0 name among.1 ∙ ap (λ (f : FileName). Some f) among.2);
-    crash = so_far.thinned.sure name;
-  };
-  others = so_far.thinned.others;
 }
 
 -- A name at an index is in the list.
@@ -89,38 +56,47 @@ pub fewer_at_start : (names : List FileName) (k : Option Content) (image : Files
 fewer_at_start names None image left = tt
 fewer_at_start names (Some k) image left = record { listed = λ name among. inr (left name); others = λ name none. left name }
 
--- One more file, if the disk tells its content.
+-- One more file.
 pub gone_more : (names : List FileName) (n : ℕ) (taken : FileName) (k m o : Option Content) → slice_get names n ≡ Some taken → Told (GoneUpTo names n) k m → Told (OneFile taken Removed) m o → Told (GoneUpTo names (n + 1)) k o
-gone_more names n taken None None None is so_far removed = tt
-gone_more names n taken None None (Some o) is so_far removed = absurd removed
-gone_more names n taken None (Some m) o is so_far removed = absurd so_far
-gone_more names n taken (Some k) None o is so_far removed = absurd so_far
-gone_more names n taken (Some k) (Some m) None is so_far removed = absurd removed
-gone_more names n taken (Some k) (Some m) (Some o) is so_far removed = more_gone names n taken k m o is (at_place_in names n taken is) so_far removed
+gone_more names n taken k m o is =
+    told_then (GoneUpTo names n) (OneFile taken Removed) (GoneUpTo names (n + 1)) k m o
+    (λ a b c old mid so_far removed. record {
+      thinned = thinner names taken a b c (at_place_in names n taken is) so_far.thinned removed.here.crash removed.elsewhere;
+      gone = λ i name below found.
+          elim (same_or_other taken name) [
+            | inl same ↦ subst (λ (f : FileName). (c f).seen ≡ None) (sym same) removed.here.seen
+            | inr apart ↦ elim (cases_lt i n) [
+              | inl earlier ↦ ap (λ (kept : Kept). kept.seen) (removed.elsewhere name apart) ∙ so_far.gone i name earlier found
+              | inr last ↦ (let here : i ≡ n = omega (arith, below, last) in absurd (apart (same_Some name taken (sym found ∙ (ap (slice_get names) here ∙ is)))))
+            ]
+          ];
+    })
 
--- What a crash leaves after a removal.
-pub fewer_removed : (names : List FileName) (n : ℕ) (taken : FileName) (k m o : Option Content) (image : Files) → slice_get names n ≡ Some taken → Told (GoneUpTo names n) k m → Told (OneFile taken Removed) m o → Image o image → Fewer names k image
-fewer_removed names n taken None None None image is so_far removed left = tt
-fewer_removed names n taken None None (Some o) image is so_far removed left = absurd removed
-fewer_removed names n taken None (Some m) o image is so_far removed left = absurd so_far
-fewer_removed names n taken (Some k) None o image is so_far removed left = absurd so_far
-fewer_removed names n taken (Some k) (Some m) None image is so_far removed left = absurd removed
-fewer_removed names n taken (Some k) (Some m) (Some o) image is so_far removed left =
-    fewer names k o image (thinner names taken k m o (at_place_in names n taken is) so_far.thinned removed.here.crash removed.elsewhere) left
+-- A removal that failed.
+pub torn_more : (names : List FileName) (n : ℕ) (taken : FileName) (k m o : Option Content) → slice_get names n ≡ Some taken → Told (GoneUpTo names n) k m → Told (OneFile taken TornRemoval) m o → Told (Thinned names) k o
+torn_more names n taken k m o is =
+    told_then (GoneUpTo names n) (OneFile taken TornRemoval) (Thinned names) k m o (λ a b c old mid so_far torn. thinner names taken a b c (at_place_in names n taken is) so_far.thinned torn.here.crash torn.elsewhere)
 
--- What a crash leaves after a removal that failed.
-pub fewer_torn : (names : List FileName) (n : ℕ) (taken : FileName) (k m o : Option Content) (image : Files) → slice_get names n ≡ Some taken → Told (GoneUpTo names n) k m → Told (OneFile taken TornRemoval) m o → Image o image → Fewer names k image
-fewer_torn names n taken None None None image is so_far torn left = tt
-fewer_torn names n taken None None (Some o) image is so_far torn left = absurd torn
-fewer_torn names n taken None (Some m) o image is so_far torn left = absurd so_far
-fewer_torn names n taken (Some k) None o image is so_far torn left = absurd so_far
-fewer_torn names n taken (Some k) (Some m) None image is so_far torn left = absurd torn
-fewer_torn names n taken (Some k) (Some m) (Some o) image is so_far torn left =
-    fewer names k o image (thinner names taken k m o (at_place_in names n taken is) so_far.thinned torn.here.crash torn.elsewhere) left
+-- What a crash then leaves.
+pub fewer : (names : List FileName) (k m : Option Content) (image : Files) → Told (Thinned names) k m → Image m image → Fewer names k image
+fewer names None m image thin left = tt
+fewer names (Some k) None image thin left = absurd thin
+fewer names (Some k) (Some m) image thin left = record {
+  listed = λ name among. one_fewer (k name).sure (image name) (Fits-Within (m name).sure (remove_sure (k name).sure) (image name) (thin.sure name) (left name));
+  others = λ name none. subst (λ (kept : Kept). Fits kept.sure (image name)) (thin.others name none) (left name);
+}
+
+pub fewer_gone : (names : List FileName) (n : ℕ) (k m : Option Content) (image : Files) → Told (GoneUpTo names n) k m → Image m image → Fewer names k image
+fewer_gone names n k m image so_far = fewer names k m image (told_weaker (GoneUpTo names n) (Thinned names) k m (λ a b old new gone. gone.thinned) so_far)
 
 -- The state after the last removal.
 pub gone_all : (names : List FileName) (k m : Option Content) → Told (GoneUpTo names (length names)) k m → Told (AreRemoved names) k m
-gone_all names None None so_far = tt
-gone_all names None (Some m) so_far = absurd so_far
-gone_all names (Some k) None so_far = absurd so_far
-gone_all names (Some k) (Some m) so_far = all_gone names k m so_far
+gone_all names k m =
+    told_weaker (GoneUpTo names (length names)) (AreRemoved names) k m
+    (λ a b old new so_far. record {
+      listed = λ name among. record {
+        seen = so_far.gone among.0 name among.1 (slice_get-get_or names among.0 name among.1 ∙ ap (λ (f : FileName). Some f) among.2);
+        crash = so_far.thinned.sure name;
+      };
+      others = so_far.thinned.others;
+    })

@@ -2,7 +2,7 @@
 use Rattle.std.specs.Prelude.{◌≡◌, ◌⊎◌, ℕ, ◌+◌, ◌-◌, ◌<◌, List, take, drop}
 use Rattle.std.specs.Int.{from_be_bytes, w64}
 use Rattle.std.proofs.Common.{◌∙◌, ap, sym, subst, inl, inr, arith}
-use Rattle.std.proofs.lemmas.Bool.{cases_lt}
+use Rattle.std.proofs.lemmas.Bool.{cases_eq}
 use Rattle.root_slots.specs.Spelling.{body_size}
 use Rattle.root_slots.specs.Slots.{gate, body_offset, body_at, sequence_of, Precedes, Current}
 
@@ -20,25 +20,18 @@ sequence_slice file slot start value is gives = gives ∙ ap (λ (b : List ℕ).
 
 -- Two slots whose bodies precede each other's are both slot 0.
 precede_both : (m n s t : ℕ) → (m < n) ⊎ ((m ≡ n) × (s ≡ 0)) → (n < m) ⊎ ((n ≡ m) × (t ≡ 0)) → s ≡ t
-precede_both m n s t left right =
-    elim left [
-      | inl less ↦ elim right [ inl more ↦ absurd (omega (arith, less, more)) | inr same ↦ let e = same.0 in absurd (omega (arith, less, e)) ]
-      | inr twin ↦ elim right [ inl more ↦ let e = twin.0 in absurd (omega (arith, more, e)) | inr same ↦ twin.1 ∙ sym same.1 ]
-    ]
-
--- Two slots are equal, or each is the other one.
-one_or_other : (s t : ℕ) → s < 2 → t < 2 → (s ≡ t) ⊎ ((1 - s ≡ t) × (1 - t ≡ s))
-one_or_other s t a b =
-    elim (cases_lt s 1) [
-      | inl low ↦ elim (cases_lt t 1) [ inl low2 ↦ inl (omega arith) | inr high2 ↦ inr (omega arith, omega arith) ]
-      | inr high ↦ elim (cases_lt t 1) [ inl low2 ↦ inr (omega arith, omega arith) | inr high2 ↦ inl (omega arith) ]
-    ]
+precede_both m n s t left right = grind arith
 
 -- A file has one current root.
 pub same_slot : (s t : ℕ) (a b file : List ℕ) → Current s a file → Current t b file → s ≡ t
-same_slot s t a b file p q =
-    elim (one_or_other s t p.in_range q.in_range) [ inl same ↦ same | inr apart ↦ precede_both (sequence_of b) (sequence_of a) s t (older s t a b p q apart.0) (older t s b a q p apart.1) ] where
-      older : (m n : ℕ) (c d : List ℕ) → Current m c file → Current n d file → 1 - m ≡ n → Precedes d c m
-      older m n c d here there is =
-          let before = here.newest (subst (λ (k : ℕ). gate file k ≡ 1) (sym is) there.opened) in
-          subst (λ (body : List ℕ). Precedes body c m) (ap (body_at file) is ∙ there.holds) before
+same_slot s t a b file p q = elim (cases_eq s t) [
+  | inl same ↦ same
+  | inr apart ↦
+      let low = p.in_range in
+      let under = q.in_range in
+      precede_both (sequence_of b) (sequence_of a) s t (older s t a b p q (omega (arith, apart, low, under))) (older t s b a q p (omega (arith, apart, low, under)))
+] where
+  older : (m n : ℕ) (c d : List ℕ) → Current m c file → Current n d file → 1 - m ≡ n → Precedes d c m
+  older m n c d here there is =
+      let before = here.newest (subst (λ (k : ℕ). gate file k ≡ 1) (sym is) there.opened) in
+      subst (λ (body : List ℕ). Precedes body c m) (ap (body_at file) is ∙ there.holds) before

@@ -1,95 +1,92 @@
--- A commit on a disk: what a crash leaves until a write is done, and what holds after all three.
-use Rattle.std.specs.Prelude.{◌≡◌, ℕ, ◌-◌, ◌<◌, ◌^◌, Option, List, [], ◌∷◌, length}
-use Rattle.std.proofs.Common.{inl, inr, arith}
-use Rattle.disk_model.specs.Disk.{Files, Content, Told, WhereTold, ReadsFit, LeavesOnly}
+-- A commit on a disk: what a crash leaves during each write, and what holds after all three.
+use Rattle.std.specs.Prelude.{◌≡◌, ◌⊎◌, ℕ, ◌-◌, ◌<◌, ◌^◌, Option, Some, None, List, [], ◌∷◌, length, refl}
+use Rattle.std.proofs.Common.{◌∙◌, ap, sym, subst, inl, inr, arith}
+use Rattle.disk_model.specs.Disk.{File, Files, Content, Told, WhereTold, ReadsFit, bytes_of, overlay}
 use Rattle.disk_model.specs.Synced.{Writing, IsWritten}
-use Rattle.disk_model.specs.Moments.{joined}
+use Rattle.disk_model.specs.Tells.{told_then, told_weaker}
 use Rattle.root_slots.specs.declared.root.Root.{Root}
 use Rattle.root_slots.specs.RootName.{root_name}
-use Rattle.root_slots.specs.Between.{BetweenStays, between_then, between_writing, went_then, went_written}
-use Rattle.root_slots.specs.Each.{EachRoot}
+use Rattle.root_slots.specs.Between.{BetweenStays, between}
+use Rattle.root_slots.specs.Each.{IfThere, EachRoot, settled_file}
 use Rattle.root_slots.specs.Spelling.{spelling}
 use Rattle.root_slots.specs.Sizes.{sequence-spelling}
-use Rattle.root_slots.specs.Slots.{HasRootSize, body_offset, sequence_of, Current, Ready, IsOldOrNew, OthersStay}
-use Rattle.root_slots.proofs.Phases.{during_shut, is_shut, during_fill, is_filled, during_raise, is_raised, is_ready, size_stays}
-use Rattle.root_slots.proofs.Others.{others_writing, others_written}
+use Rattle.root_slots.specs.Slots.{HasRootSize, body_offset, sequence_of, HasRoot, Current, Ready, IsOldOrNew, OthersStay, HasNewRoot, IsCommitted, with_root, shut_in, AreBoth, IsInCommit}
+use Rattle.root_slots.proofs.Phases.{shut_between, old_or_new, new_current, other_ready, between_commit}
+use Rattle.root_slots.proofs.Torn.{Comes, comes_writing, comes_written, size_stays}
 
 -- The sequence that a root is spelled with is that of the root.
 pub newer_root : (root : Root) (old : List ℕ) → root.sequence < 2 ^ 64 → sequence_of old < root.sequence → sequence_of old < sequence_of (spelling root)
 newer_root root old fits later = omega (arith, later, sequence-spelling root fits)
 
-module _ {D : Type 0} (content : D → Option Content) (fit : (d : D) → ReadsFit (content d)) (slot : ℕ) (in_range : slot < 2) (new : List ℕ) (d0 d1 d2 : D) (told1 : Told (IsWritten root_name slot (0 ∷ [])) (content d0) (content d1)) where
-  -- During the first two writes.
-  pub until_fill : (moment : D → ℕ) (left_since : D → ℕ → Files → Type 0) (old : List ℕ) → WhereTold HasRootSize (content d0) → EachRoot (Ready slot old) (content d0)
-      → LeavesOnly moment left_since d0 d1 (Writing root_name slot 1 (content d0)) → LeavesOnly moment left_since d1 d2 (Writing root_name (body_offset slot) 1536 (content d1))
-      → LeavesOnly moment left_since d0 d2 (IsOldOrNew old new (content d0))
-  until_fill moment left_since old size ready first second =
-      let size1 = size_stays slot (0 ∷ []) (content d0) (content d1) (omega (arith, in_range)) size told1 in
-      let shut1 = is_shut slot old new in_range (content d0) (content d1) (fit d0) ready told1 in
-      joined moment left_since d0 d1 d2 _ _ (IsOldOrNew old new (content d0)) first second
-      (λ image. during_shut slot old new in_range (content d0) image (fit d0) size ready)
-      (λ image. during_fill slot old new in_range (content d0) (content d1) image (fit d0) (fit d1) size1 told1 shut1)
+-- A write more.
+committed_then : (at : ℕ) (bytes : List ℕ) (k l m : Content) → IsCommitted k l → IsWritten root_name at bytes l m → IsCommitted k m
+committed_then at bytes k l m first last = record { elsewhere = λ other apart. last.elsewhere other apart ∙ first.elsewhere other apart; settled = last.settled }
 
-  -- Other files during the first two writes.
-  pub others_until_fill : (moment : D → ℕ) (left_since : D → ℕ → Files → Type 0)
-      → LeavesOnly moment left_since d0 d1 (Writing root_name slot 1 (content d0)) → LeavesOnly moment left_since d1 d2 (Writing root_name (body_offset slot) 1536 (content d1))
-      → LeavesOnly moment left_since d0 d2 (OthersStay (content d0))
-  others_until_fill moment left_since first second =
-      joined moment left_since d0 d1 d2 _ _ (OthersStay (content d0)) first second
-      (λ image. others_writing slot 1 (content d0) image)
-      (λ image writing. others_written slot (0 ∷ []) (content d0) (content d1) image (fit d0) told1 (others_writing (body_offset slot) 1536 (content d1) image writing))
+module _ (slot : ℕ) (body : List ℕ) (low : slot < 2) where
+  -- What a crash leaves during each of the three writes.
+  pub during_shut : (k : Option Content) (image : Files) → ReadsFit k → WhereTold HasRootSize k → Writing root_name slot 1 k image → Comes (IsInCommit slot body) k image
+  during_shut k image fit size = comes_writing (IsInCommit slot body) slot 1 k image fit size (omega arith) (omega arith) (λ a b same. inl same)
 
-  -- The bytes between the gates and the bodies during the first two writes.
-  pub between_until_fill : (moment : D → ℕ) (left_since : D → ℕ → Files → Type 0) → WhereTold HasRootSize (content d0)
-      → LeavesOnly moment left_since d0 d1 (Writing root_name slot 1 (content d0)) → LeavesOnly moment left_since d1 d2 (Writing root_name (body_offset slot) 1536 (content d1))
-      → LeavesOnly moment left_since d0 d2 (BetweenStays (content d0))
-  between_until_fill moment left_since size first second =
-      let size1 = size_stays slot (0 ∷ []) (content d0) (content d1) (omega (arith, in_range)) size told1 in
-      joined moment left_since d0 d1 d2 _ _ (BetweenStays (content d0)) first second
-      (λ image. between_writing slot 1 (content d0) image (inr (omega (arith, in_range))) (omega arith) (omega (arith, in_range)) (fit d0) size)
-      (λ image writing. between_then (content d0) (content d1) image (went_written slot (0 ∷ []) (content d0) (content d1) (inr (omega (arith, in_range))) (omega (arith, in_range)) (fit d0) size told1)
-      (between_writing (body_offset slot) 1536 (content d1) image (inl (omega arith)) (omega arith) (omega (arith, in_range)) (fit d1) size1 writing))
+  pub during_fill : (k l : Option Content) (image : Files) → ReadsFit k → ReadsFit l → WhereTold HasRootSize k → Told (IsWritten root_name slot (0 ∷ [])) k l → Writing root_name (body_offset slot) 1536 l image → Comes (IsInCommit slot body) k image
+  during_fill k l image fit fit1 size shut writing =
+      comes_written _ (IsInCommit slot body) slot (0 ∷ []) k l image fit size (λ a b long same. inr (inl (long, same))) shut
+      (comes_writing _ (body_offset slot) 1536 l image fit1 (size_stays slot (0 ∷ []) k l (omega arith) shut size) (omega arith) (omega arith) (λ a b same. same) writing)
 
-  module _ (d3 : D) (told2 : Told (IsWritten root_name (body_offset slot) new) (content d1) (content d2)) where
-    -- During all three writes.
-    pub until_raise : (moment : D → ℕ) (left_since : D → ℕ → Files → Type 0) (old : List ℕ) → length new ≡ 1536 → sequence_of old < sequence_of new → WhereTold HasRootSize (content d0) → EachRoot (Ready slot old) (content d0)
-        → LeavesOnly moment left_since d0 d1 (Writing root_name slot 1 (content d0)) → LeavesOnly moment left_since d1 d2 (Writing root_name (body_offset slot) 1536 (content d1))
-        → LeavesOnly moment left_since d2 d3 (Writing root_name slot 1 (content d2)) → LeavesOnly moment left_since d0 d3 (IsOldOrNew old new (content d0))
-    until_raise moment left_since old whole newer size ready first second third =
-        let size1 = size_stays slot (0 ∷ []) (content d0) (content d1) (omega (arith, in_range)) size told1 in
-        let size2 = size_stays (body_offset slot) new (content d1) (content d2) (omega (arith, in_range, whole)) size1 told2 in
-        let filled2 = is_filled slot old new in_range whole (content d1) (content d2) (fit d1) (is_shut slot old new in_range (content d0) (content d1) (fit d0) ready told1) told2 in
-        joined moment left_since d0 d2 d3 _ _ (IsOldOrNew old new (content d0)) (until_fill moment left_since old size ready first second) third
-        (λ image old_or_new. old_or_new)
-        (λ image. during_raise slot old new in_range newer (content d0) (content d1) (content d2) image (fit d0) (fit d1) (fit d2) size2 told1 told2 filled2)
+  -- All other files are as before.
+  pub others_kept : (k l m n : Option Content) → Told (IsWritten root_name slot (0 ∷ [])) k l → Told (IsWritten root_name (body_offset slot) body) l m → Told (IsWritten root_name slot (1 ∷ [])) m n → Told IsCommitted k n
+  others_kept k l m n shut filled raised =
+      told_then IsCommitted (IsWritten root_name slot (1 ∷ [])) IsCommitted k m n (λ x y z is told. committed_then slot (1 ∷ []) x y z)
+      (told_then IsCommitted (IsWritten root_name (body_offset slot) body) IsCommitted k l m (λ x y z is told. committed_then (body_offset slot) body x y z) (told_weaker (IsWritten root_name slot (0 ∷ [])) IsCommitted k l (λ x y is also first. record { elsewhere = first.elsewhere; settled = first.settled }) shut) filled)
+      raised
 
-    -- Other files during all three writes.
-    pub others_until_raise : (moment : D → ℕ) (left_since : D → ℕ → Files → Type 0)
-        → LeavesOnly moment left_since d0 d1 (Writing root_name slot 1 (content d0)) → LeavesOnly moment left_since d1 d2 (Writing root_name (body_offset slot) 1536 (content d1))
-        → LeavesOnly moment left_since d2 d3 (Writing root_name slot 1 (content d2)) → LeavesOnly moment left_since d0 d3 (OthersStay (content d0))
-    others_until_raise moment left_since first second third =
-        joined moment left_since d0 d2 d3 _ _ (OthersStay (content d0)) (others_until_fill moment left_since first second) third
-        (λ image stay. stay)
-        (λ image writing. others_written slot (0 ∷ []) (content d0) (content d1) image (fit d0) told1
-        (others_written (body_offset slot) new (content d1) (content d2) image (fit d1) told2 (others_writing slot 1 (content d2) image writing)))
+  module _ (whole : length body ≡ 1536) where
+    pub during_raise : (k l m : Option Content) (image : Files) → ReadsFit k → ReadsFit l → ReadsFit m → WhereTold HasRootSize k → Told (IsWritten root_name slot (0 ∷ [])) k l → Told (IsWritten root_name (body_offset slot) body) l m → Writing root_name slot 1 m image → Comes (IsInCommit slot body) k image
+    during_raise k l m image fit fit1 fit2 size shut filled writing =
+        let size1 = size_stays slot (0 ∷ []) k l (omega arith) shut size in
+        comes_written _ (IsInCommit slot body) slot (0 ∷ []) k l image fit size (λ a b long same. inr (inr (long, whole, same))) shut
+        (comes_written _ _ (body_offset slot) body l m image fit1 size1 (λ a b long same. same) filled
+        (comes_writing _ slot 1 m image fit2 (size_stays (body_offset slot) body l m (omega (arith, whole)) filled size1) (omega arith) (omega arith) (λ a b same. same) writing))
 
-    -- The bytes between the gates and the bodies during all three writes.
-    pub between_until_raise : (moment : D → ℕ) (left_since : D → ℕ → Files → Type 0) → length new ≡ 1536 → WhereTold HasRootSize (content d0)
-        → LeavesOnly moment left_since d0 d1 (Writing root_name slot 1 (content d0)) → LeavesOnly moment left_since d1 d2 (Writing root_name (body_offset slot) 1536 (content d1))
-        → LeavesOnly moment left_since d2 d3 (Writing root_name slot 1 (content d2)) → LeavesOnly moment left_since d0 d3 (BetweenStays (content d0))
-    between_until_raise moment left_since whole size first second third =
-        let size1 = size_stays slot (0 ∷ []) (content d0) (content d1) (omega (arith, in_range)) size told1 in
-        let size2 = size_stays (body_offset slot) new (content d1) (content d2) (omega (arith, in_range, whole)) size1 told2 in
-        let went1 = went_written slot (0 ∷ []) (content d0) (content d1) (inr (omega (arith, in_range))) (omega (arith, in_range)) (fit d0) size told1 in
-        let went2 = went_written (body_offset slot) new (content d1) (content d2) (inl (omega arith)) (omega (arith, in_range, whole)) (fit d1) size1 told2 in
-        joined moment left_since d0 d2 d3 _ _ (BetweenStays (content d0)) (between_until_fill moment left_since size first second) third
-        (λ image stays. stays)
-        (λ image writing. between_then (content d0) (content d2) image (went_then (content d0) (content d1) (content d2) went1 went2)
-        (between_writing slot 1 (content d2) image (inr (omega (arith, in_range))) (omega arith) (omega (arith, in_range)) (fit d2) size2 writing))
+    -- The root file after all three, and the rest of the disk.
+    pub has_new_root : (k l m n : Option Content) → WhereTold HasRootSize k → Told (IsWritten root_name slot (0 ∷ [])) k l → Told (IsWritten root_name (body_offset slot) body) l m → Told (IsWritten root_name slot (1 ∷ [])) m n → Told (HasNewRoot slot body) k n
+    has_new_root k l m n size shut filled raised =
+        let Filled : Content → Content → Type 0 = λ x z. (z root_name).seen ≡ Some (overlay (body_offset slot) body (shut_in slot (bytes_of (x root_name).seen))) in
+        told_then Filled (IsWritten root_name slot (1 ∷ [])) (HasNewRoot slot body) k m n
+        (λ x y z is told first last. last.here ∙ ap (λ (f : File). Some (overlay slot (1 ∷ []) (bytes_of f))) first
+        ∙ ap (λ (bytes : List ℕ). Some bytes) (shut_between slot body (bytes_of (x root_name).seen) low whole (subst (WhereTold HasRootSize) is size)))
+        (told_then (IsWritten root_name slot (0 ∷ [])) (IsWritten root_name (body_offset slot) body) Filled k l m (λ x y z is told first last. last.here ∙ ap (λ (f : File). Some (overlay (body_offset slot) body (bytes_of f))) first.here) shut filled)
+        raised
 
-    -- After all three writes the new root is current, and the other slot is ready for the next one.
-    pub all_written : (old : List ℕ) → length new ≡ 1536 → sequence_of old < sequence_of new → EachRoot (Ready slot old) (content d0)
-        → Told (IsWritten root_name slot (1 ∷ [])) (content d2) (content d3) → EachRoot (Current slot new) (content d3) × EachRoot (Ready (1 - slot) new) (content d3)
-    all_written old whole newer ready told3 =
-        let filled2 = is_filled slot old new in_range whole (content d1) (content d2) (fit d1) (is_shut slot old new in_range (content d0) (content d1) (fit d0) ready told1) told2 in
-        (is_raised slot old new in_range newer (content d2) (content d3) (fit d2) filled2 told3, is_ready slot old new in_range newer (content d2) (content d3) (fit d2) filled2 told3)
+  -- The old root or the new one is current all the time.
+  pub to_old_or_new : (old : List ℕ) (k : Option Content) (image : Files) → sequence_of old < sequence_of body → EachRoot (Ready slot old) k → Comes (IsInCommit slot body) k image → IsOldOrNew old body k image
+  to_old_or_new old None image newer each comes = tt
+  to_old_or_new old (Some k) image newer each comes = record { root = both comes.file (image root_name) (each comes.file comes.fits) comes.by; elsewhere = comes.elsewhere } where
+    both : (file after : File) → IfThere (Ready slot old) file → AreBoth (IsInCommit slot body) file after → IfThere (HasRoot old) after ⊎ IfThere (HasRoot body) after
+    both None after ready by = absurd ready
+    both (Some a) None ready by = absurd by
+    both (Some a) (Some b) ready by = old_or_new slot old body low newer a b ready by
+
+  -- The bytes between the gates and the bodies stay.
+  pub to_between : (k : Option Content) (image : Files) → Comes (IsInCommit slot body) k image → BetweenStays k image
+  to_between None image comes = tt
+  to_between (Some k) image comes = record { from = comes.file; fits = comes.fits; same = both comes.file (image root_name) comes.by } where
+    both : (file after : File) → AreBoth (IsInCommit slot body) file after → between (bytes_of after) ≡ between (bytes_of file)
+    both None None by = refl
+    both None (Some b) by = absurd by
+    both (Some a) None by = absurd by
+    both (Some a) (Some b) by = between_commit slot body a b low by
+
+  -- What holds after the commit of each root file that is ready for it.
+  pub each_new : (P Q : List ℕ → Type 0) (k m : Option Content) → ReadsFit k → ((a : List ℕ) → P a → Q (with_root slot body a)) → EachRoot P k → Told (HasNewRoot slot body) k m → Told IsCommitted k m → EachRoot Q m
+  each_new P Q None m fit step each root committed = absurd each
+  each_new P Q (Some k) None fit step each root committed = absurd root
+  each_new P Q (Some k) (Some m) fit step each root committed = λ file fits.
+      subst (IfThere Q) (sym (settled_file m root_name file committed.settled fits ∙ root)) (of_seen (k root_name).seen (each (k root_name).seen (fit k refl root_name))) where
+        of_seen : (seen : File) → IfThere P seen → Q (with_root slot body (bytes_of seen))
+        of_seen None holds = absurd holds
+        of_seen (Some seen) holds = step seen holds
+
+-- Other files are as a crash before might have left them.
+pub to_others : (P : List ℕ → List ℕ → Type 0) (k : Option Content) (image : Files) → Comes P k image → OthersStay k image
+to_others P None image comes = tt
+to_others P (Some k) image comes = comes.elsewhere

@@ -1,8 +1,8 @@
-mod Others
-mod Phases
+pub mod Phases
+mod Torn
 mod Commits
 mod Starting
 mod Zeros
 mod Reading
-mod Bodies
+pub mod Bodies
 mod Apart

@@ -1,104 +1,77 @@
 -- A root file without an open slot, created in three steps.
-use Rattle.std.specs.Prelude.{◌≡◌, ℕ, ◌+◌, ◌<◌, ◌≤◌, Option, Some, None, List, [], ◌∷◌, ◌++◌, length, get_or, drop, replicate}
-use Rattle.std.proofs.Common.{◌∙◌, sym, ap, subst, inl, inr, arith}
+use Rattle.std.specs.Prelude.{◌≡◌, ◌<◌, ℕ, ◌+◌, Option, Some, None, List, [], ◌∷◌, ◌++◌, length, get_or, drop, replicate, refl}
+use Rattle.std.proofs.Common.{◌∙◌, ap, subst, inl, inr, arith}
 use Rattle.std.proofs.lemmas.List.{append-nil, drop_all, replicate-append-replicate}
-use Rattle.disk_model.specs.Disk.{File, Files, Kept, Content, Sure, Holds, Image, Told, WhereTold, OneFile, Fits, Within, exact, bytes_of, overlay, write_sure, remove_sure, Removed, TornRemoval, IsAtMostLength, ReadsFit}
-use Rattle.disk_model.specs.Laws.{Fits-Within, remove_wider}
+use Rattle.disk_model.specs.Disk.{File, Files, Kept, Content, Sure, Image, Told, WhereTold, OneFile, Fits, Within, exact, bytes_of, overlay, write_sure, remove_sure, IsAtMostLength, ReadsFit}
+use Rattle.disk_model.specs.Laws.{Fits-Within}
 use Rattle.disk_model.specs.Synced.{Writing, IsWritten}
+use Rattle.disk_model.specs.Tells.{told_then}
 use Rattle.root_slots.specs.RootName.{root_name}
 use Rattle.root_slots.specs.Each.{elsewhere_before}
-use Rattle.root_slots.proofs.Others.{cleared_before}
-use Rattle.root_slots.specs.Slots.{IsShutFile, EachShut, LeavesShut, IsBegun, Clearing, IsCleared}
-
--- Before the file is removed.
-pub clearing_at_start : (k0 : Option Content) (image : Files) → Image k0 image → Clearing k0 image
-clearing_at_start None image left = tt
-clearing_at_start (Some k) image left = record {
-  root = Fits-Within (k root_name).sure (remove_sure (k root_name).sure) (image root_name) (remove_wider (k root_name).sure) (left root_name);
-  elsewhere = λ other apart. left other;
-}
-
--- After it was removed.
-pub clearing_removed : (k0 k1 : Option Content) (image : Files) → Told (OneFile root_name Removed) k0 k1 → Image k1 image → Clearing k0 image
-clearing_removed None None image told left = tt
-clearing_removed None (Some m) image told left = absurd told
-clearing_removed (Some k) None image told left = absurd told
-clearing_removed (Some k) (Some m) image told left = record {
-  root = Fits-Within (m root_name).sure (remove_sure (k root_name).sure) (image root_name) told.here.crash (left root_name);
-  elsewhere = λ other apart. let P : Kept → Type 0 = λ kept. Fits kept.sure (image other) in subst P (told.elsewhere other apart) (left other);
-}
-
--- After a removal that failed.
-pub clearing_torn : (k0 k1 : Option Content) (image : Files) → Told (OneFile root_name TornRemoval) k0 k1 → Image k1 image → Clearing k0 image
-clearing_torn None None image told left = tt
-clearing_torn None (Some m) image told left = absurd told
-clearing_torn (Some k) None image told left = absurd told
-clearing_torn (Some k) (Some m) image told left = record {
-  root = Fits-Within (m root_name).sure (remove_sure (k root_name).sure) (image root_name) told.here.crash (left root_name);
-  elsewhere = λ other apart. let P : Kept → Type 0 = λ kept. Fits kept.sure (image other) in subst P (told.elsewhere other apart) (left other);
-}
+use Rattle.root_slots.specs.Slots.{IsShutFile, EachShut, LeavesShut, OthersStay, IsBegun, IsCleared, RootBecomes, StillShut}
 
 -- What may be left while the file is removed.
 still_shut : (s : Sure) (file : File) → ((f : File) → Fits s f → IsShutFile f) → Fits (remove_sure s) file → IsShutFile file
 still_shut s None each fits = tt
 still_shut s (Some bytes) each fits = each (Some bytes) (record { there = fits.there; no_shorter = fits.no_shorter; no_longer = fits.no_longer; outside = fits.outside })
 
--- No slot is open while the file is removed.
-pub shut_clearing : (k0 : Option Content) (image : Files) → EachShut k0 → Clearing k0 image → LeavesShut k0 image
-shut_clearing None image each clearing = tt
-shut_clearing (Some k) image each clearing = record { root = still_shut (k root_name).sure (image root_name) each clearing.root; elsewhere = clearing.elsewhere }
+-- Before the file is removed.
+pub shut_at_start : (k : Option Content) (image : Files) → Image k image → StillShut k image
+shut_at_start None image left = tt
+shut_at_start (Some k) image left = record { root = λ each. each (image root_name) (left root_name); elsewhere = λ other apart. left other }
 
--- What may be left while the first two zeros are written.
-first_zeros : (s : Sure) (seen image : File) → seen ≡ None → Within s (exact seen) → Fits (write_sure 0 2 seen s) image → IsShutFile image
-first_zeros s seen None gone within fits = tt
-first_zeros s seen (Some bytes) gone within fits =
-    let small : Within s (exact None) = subst (λ (f : File). Within s (exact f)) gone within in
-    let top = small.greatest in
-    let long = fits.no_longer in
-    inl (λ is. absurd (omega arith))
-
--- No slot is open while the first two zeros are written.
-pub shut_first : (k0 k2 : Option Content) (image : Files) → ReadsFit k0 → Told IsCleared k0 k2 → Writing root_name 0 2 k2 image → LeavesShut k0 image
-shut_first None k2 image fit cleared writing = tt
-shut_first (Some k) None image fit cleared writing = absurd cleared
-shut_first (Some k) (Some m) image fit cleared writing = record {
-  root = first_zeros (m root_name).sure (m root_name).seen (image root_name) cleared.root (cleared.settled root_name) writing.here;
-  elsewhere = λ other apart. cleared_before k m image fit cleared other apart (writing.elsewhere other apart);
+-- After it was removed, or a removal failed.
+pub shut_removed : (P : Kept → Kept → Type 0) (k m : Option Content) (image : Files) → ((a b : Kept) → P a b → Within b.sure (remove_sure a.sure)) → Told (OneFile root_name P) k m → Image m image → StillShut k image
+shut_removed P None m image crash told left = tt
+shut_removed P (Some k) None image crash told left = absurd told
+shut_removed P (Some k) (Some m) image crash told left = record {
+  root = λ each. still_shut (k root_name).sure (image root_name) each (Fits-Within (m root_name).sure (remove_sure (k root_name).sure) (image root_name) (crash (k root_name) (m root_name) told.here) (left root_name));
+  elsewhere = λ other apart. subst (λ (kept : Kept). Fits kept.sure (image other)) (told.elsewhere other apart) (left other);
 }
+
+-- What may be left while zeros are written.
+abbrev ZerosShut : File → ℕ → ℕ → Type 0
+ZerosShut seen at n = (s : Sure) (file : File) → Within s (exact seen) → Fits (write_sure at n seen s) file → IsShutFile file
+
+pub first_zeros : ZerosShut None 0 2
+first_zeros s None small fits = tt
+first_zeros s (Some bytes) small fits = let top = small.greatest in let long = fits.no_longer in inl (λ is. absurd (omega arith))
+
+pub other_zeros : ZerosShut (Some (0 ∷ 0 ∷ [])) 2 4094
+other_zeros s None small fits = tt
+other_zeros s (Some bytes) small fits =
+    let low = small.least in
+    let zero_at : (i : ℕ) → i < 2 → get_or bytes i 0 ≡ get_or (0 ∷ 0 ∷ []) i 0 = λ (i : ℕ) (below : i < 2).
+    let same = small.outside i below tt in
+    fits.outside i (omega (arith, low, below)) (inl below, same.0) ∙ same.1 in
+    inr (λ opened. (let zero = zero_at 0 (omega arith) in absurd (omega (arith, zero, opened))), λ opened. (let zero = zero_at 1 (omega arith) in absurd (omega (arith, zero, opened))))
+
+-- No slot is open while zeros are written.
+pub shut_writing : (seen : File) (at n : ℕ) (k m : Option Content) (image : Files) → ZerosShut seen at n → ReadsFit k → Told (RootBecomes seen) k m → Writing root_name at n m image → StillShut k image
+shut_writing seen at n None m image zeros fit became writing = tt
+shut_writing seen at n (Some k) None image zeros fit became writing = absurd became
+shut_writing seen at n (Some k) (Some m) image zeros fit became writing = record {
+  root = λ each.
+      zeros (m root_name).sure (image root_name) (subst (λ (f : File). Within (m root_name).sure (exact f)) became.root (became.settled root_name))
+      (subst (λ (f : File). Fits (write_sure at n f (m root_name).sure) (image root_name)) became.root writing.here);
+  elsewhere = λ other apart. elsewhere_before k m image fit became.settled became.elsewhere other apart (writing.elsewhere other apart);
+}
+
+-- After a write.
+pub became : (seen : File) (at : ℕ) (bytes : List ℕ) (k m n : Option Content) → Told (RootBecomes seen) k m → Told (IsWritten root_name at bytes) m n → Told (RootBecomes (Some (overlay at bytes (bytes_of seen)))) k n
+became seen at bytes k m n =
+    told_then (RootBecomes seen) (IsWritten root_name at bytes) (RootBecomes (Some (overlay at bytes (bytes_of seen)))) k m n
+    (λ x y z is told first last. record {
+      root = last.here ∙ ap (λ (f : File). Some (overlay at bytes (bytes_of f))) first.root;
+      elsewhere = λ other apart. last.elsewhere other apart ∙ first.elsewhere other apart;
+      settled = last.settled;
+    })
 
 -- The two zeros.
-pub two_zeros : (k0 k2 k4 : Option Content) → Told IsCleared k0 k2 → Told (IsWritten root_name 0 (0 ∷ 0 ∷ [])) k2 k4 → WhereTold (IsAtMostLength root_name 2) k4
-two_zeros k0 k2 None cleared written = tt
-two_zeros None None (Some n) cleared written = absurd written
-two_zeros None (Some m) (Some n) cleared written = absurd cleared
-two_zeros (Some k) None (Some n) cleared written = absurd cleared
-two_zeros (Some k) (Some m) (Some n) cleared written =
-    let P = λ (f : File). 2 ≤ length (bytes_of f) in
-    subst P (sym (written.here ∙ ap (λ (f : File). Some (overlay 0 (0 ∷ 0 ∷ []) (bytes_of f))) cleared.root)) (omega arith)
-
--- What may be left while the other zeros are written.
-other_zeros : (s : Sure) (seen image : File) → seen ≡ Some (0 ∷ 0 ∷ []) → Within s (exact seen) → Fits (write_sure 2 4094 seen s) image → IsShutFile image
-other_zeros s seen None is within fits = tt
-other_zeros s seen (Some bytes) is within fits =
-    let small : Within s (exact (Some (0 ∷ 0 ∷ []))) = subst (λ (f : File). Within s (exact f)) is within in
-    let held : Holds (write_sure 2 4094 (Some (0 ∷ 0 ∷ [])) s) bytes = subst (λ (f : File). Holds (write_sure 2 4094 f s) bytes) is fits in
-    let low = small.least in
-    let zero_at = λ (i : ℕ) (below : i < 2).
-    let same = small.outside i below tt in
-    held.outside i (omega (arith, low, below)) (inl below, same.0) ∙ same.1 in
-    inr ((λ open_. zero_isnt_one (get_or bytes 0 0) (zero_at 0 (omega arith)) open_), (λ open_. zero_isnt_one (get_or bytes 1 0) (zero_at 1 (omega arith)) open_)) where
-      zero_isnt_one : (n : ℕ) → n ≡ 0 → n ≡ 1 → ⊥
-      zero_isnt_one n zero_is one_is = absurd (omega (arith, zero_is, one_is))
-
--- No slot is open while the other zeros are written.
-pub shut_second : (k0 k2 k4 : Option Content) (image : Files) → ReadsFit k0 → ReadsFit k2 → Told IsCleared k0 k2 → Told (IsWritten root_name 0 (0 ∷ 0 ∷ [])) k2 k4 → Writing root_name 2 4094 k4 image → LeavesShut k0 image
-shut_second None k2 k4 image fit fit2 cleared written writing = tt
-shut_second (Some k) None k4 image fit fit2 cleared written writing = absurd cleared
-shut_second (Some k) (Some m) None image fit fit2 cleared written writing = absurd written
-shut_second (Some k) (Some m) (Some n) image fit fit2 cleared written writing = record {
-  root = other_zeros (n root_name).sure (n root_name).seen (image root_name) (written.here ∙ ap (λ (f : File). Some (overlay 0 (0 ∷ 0 ∷ []) (bytes_of f))) cleared.root) (written.settled root_name) writing.here;
-  elsewhere = λ other apart. cleared_before k m image fit cleared other apart (elsewhere_before 0 (0 ∷ 0 ∷ []) m n image fit2 written other apart (writing.elsewhere other apart));
-}
+pub two_zeros : (k m : Option Content) → Told (RootBecomes (Some (0 ∷ 0 ∷ []))) k m → WhereTold (IsAtMostLength root_name 2) m
+two_zeros k None became = tt
+two_zeros None (Some m) became = absurd became
+two_zeros (Some k) (Some m) became = rw became.root (omega arith)
 
 -- Zeros written after two zeros.
 zeros_over : (n : ℕ) → overlay 2 (replicate n 0) (0 ∷ 0 ∷ []) ≡ replicate (2 + n) 0
@@ -107,16 +80,15 @@ zeros_over n =
     ap (λ (rest : List ℕ). (0 ∷ 0 ∷ []) ++ replicate n 0 ++ rest) past ∙ (append-nil ((0 ∷ 0 ∷ []) ++ replicate n 0) ∙ replicate-append-replicate 2 n 0)
 
 -- The state at the end.
-pub begun : (k0 k2 k4 k6 : Option Content) → Told IsCleared k0 k2 → Told (IsWritten root_name 0 (0 ∷ 0 ∷ [])) k2 k4 → Told (IsWritten root_name 2 (replicate 4094 0)) k4 k6 → Told IsBegun k0 k6
-begun None None None None a b c = tt
-begun None None None (Some n) a b c = absurd c
-begun None None (Some m) k6 a b c = absurd b
-begun None (Some l) k4 k6 a b c = absurd a
-begun (Some k) None k4 k6 a b c = absurd a
-begun (Some k) (Some l) None k6 a b c = absurd b
-begun (Some k) (Some l) (Some m) None a b c = absurd c
-begun (Some k) (Some l) (Some m) (Some n) a b c = record {
-  root = c.here ∙ ap (λ (f : File). Some (overlay 2 (replicate 4094 0) (bytes_of f))) (b.here ∙ ap (λ (f : File). Some (overlay 0 (0 ∷ 0 ∷ []) (bytes_of f))) a.root) ∙ ap (λ (bytes : List ℕ). Some bytes) (zeros_over 4094);
-  elsewhere = λ other apart. c.elsewhere other apart ∙ (b.elsewhere other apart ∙ a.elsewhere other apart);
-  settled = c.settled;
-}
+pub begun : (k m n : Option Content) → Told (RootBecomes (Some (0 ∷ 0 ∷ []))) k m → Told (IsWritten root_name 2 (replicate 4094 0)) m n → Told IsBegun k n
+begun k m n first last =
+    subst (λ (zeros : List ℕ). Told (RootBecomes (Some zeros)) k n) (zeros_over 4094) (became (Some (0 ∷ 0 ∷ [])) 2 (replicate 4094 0) k m n first last)
+
+-- No slot is open if none was, and other files stay.
+pub to_shut : (k : Option Content) (image : Files) → EachShut k → StillShut k image → LeavesShut k image
+to_shut None image each still = tt
+to_shut (Some k) image each still = record { root = still.root each; elsewhere = still.elsewhere }
+
+pub to_others : (k : Option Content) (image : Files) → StillShut k image → OthersStay k image
+to_others None image still = tt
+to_others (Some k) image still = still.elsewhere

@@ -7,7 +7,7 @@ use Rattle.disk_model.specs.Moments.{joined, weaker}
 use Rattle.disk_model.specs.Synced.{IsSettled, IsWritten, Writing, writing_inside}
 use Rattle.disk_model.specs.Tells.{told_then, told_weaker}
 use Rattle.root_slots.specs.RootName.{root_name}
-use Rattle.root_slots.specs.Each.{part_stays}
+use Rattle.root_slots.specs.Each.{part_stays, settled_file}
 use Rattle.root_slots.specs.Slots.{HasNewRoot, HasRootSize, IsCommitted, body_offset, with_root}
 
 -- The bytes of a file between its gates and its bodies.
@@ -54,12 +54,6 @@ went_then k m o first second =
     let early = one late.from late.fits in
     record { from = early.from; fits = early.fits; same = late.same ∙ early.same }) first second
 
--- What a crash leaves of a settled disk.
-settled_seen : (m : Content) (file : File) → IsSettled m → Fits (m root_name).sure file
-    → file ≡ (m root_name).seen
-settled_seen m file settled fits = Fits-exact (m root_name).seen file
-    (Fits-Within (m root_name).sure (exact (m root_name).seen) file (settled root_name) fits)
-
 -- A disk that is unchanged, or synced.
 pub went_unchanged : (k m : Option Content) → Told Unchanged k m → Told WentBetween k m
 went_unchanged k m same = told_weaker Unchanged WentBetween k m (λ a b is told kept file fits.
@@ -87,7 +81,7 @@ pub went_settled : (k m : Content) → ReadsFit (Some k) → IsSettled m
 went_settled k m fit settled same file fits = record {
   from = (k root_name).seen;
   fits = fit k refl root_name;
-  same = ap (λ (f : File). between (bytes_of f)) (settled_seen m file settled fits) ∙ same;
+  same = ap (λ (f : File). between (bytes_of f)) (settled_file m root_name file settled fits) ∙ same;
 }
 
 -- A range lies before these bytes, or after them.
@@ -95,7 +89,7 @@ abbrev pub IsApart : ℕ → ℕ → Type 0
 IsApart at n = (1024 ≤ at) ⊎ (at + n ≤ 2)
 
 -- A file that was torn in such a range.
-between_torn : (at n : ℕ) (old new : List ℕ) → IsApart at n → SameOutside at n old new
+pub between_torn : (at n : ℕ) (old new : List ℕ) → IsApart at n → SameOutside at n old new
     → between new ≡ between old
 unfolding between
 between_torn at n old new apart same = part_stays at n old new 2 1022 same apart
@@ -108,7 +102,7 @@ torn_between at n (Some old) None apart torn = absurd torn
 torn_between at n (Some old) (Some new) apart torn = between_torn at n old new apart torn
 
 -- A file after a write of such a range.
-between_overlay : (at : ℕ) (bytes file : List ℕ) → IsApart at (length bytes)
+pub between_overlay : (at : ℕ) (bytes file : List ℕ) → IsApart at (length bytes)
     → at + length bytes ≤ length file → between (overlay at bytes file) ≡ between file
 between_overlay at bytes file apart inside =
     between_torn at (length bytes) file (overlay at bytes file) apart

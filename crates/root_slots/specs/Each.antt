@@ -6,7 +6,7 @@ use Rattle.std.proofs.lemmas.List.{get_or-take, get_or-drop}
 use Rattle.disk_model.specs.declared.name.FileName.{FileName}
 use Rattle.disk_model.specs.Disk.{File, Files, Content, Told, Fits, exact, bytes_of, overlay, ReadsFit}
 use Rattle.disk_model.specs.Laws.{SameOutside, TornFile, Fits-exact, Fits-Within}
-use Rattle.disk_model.specs.Synced.{IsWriting, IsWritten, writing_inside}
+use Rattle.disk_model.specs.Synced.{IsSettled, IsWriting, IsWritten, writing_inside}
 use Rattle.root_slots.specs.RootName.{root_name}
 
 -- The file is there and has the property.
@@ -43,6 +43,12 @@ over_torn P Q at n step None image holds torn = absurd holds
 over_torn P Q at n step (Some a) None holds torn = absurd torn
 over_torn P Q at n step (Some a) (Some b) holds torn = step a b holds torn
 
+-- A crash leaves a file of a settled disk as it reads.
+pub settled_file : (k : Content) (name : FileName) (file : File) → IsSettled k
+    → Fits (k name).sure file → file ≡ (k name).seen
+settled_file k name file settled fits = Fits-exact (k name).seen file
+    (Fits-Within (k name).sure (exact (k name).seen) file (settled name) fits)
+
 -- What the root file has during a write inside it.
 pub each_writing : (P Q : List ℕ → Type 0) (at n : ℕ) (k : Content) (image : Files)
     → ReadsFit (Some k) → at + n ≤ length (bytes_of (k root_name).seen) → 0 < n
@@ -59,22 +65,19 @@ pub each_written : (P Q : List ℕ → Type 0) (at : ℕ) (bytes : List ℕ) (ol
 each_written P Q at bytes None new fit each step written = absurd each
 each_written P Q at bytes (Some k) None fit each step written = absurd written
 each_written P Q at bytes (Some k) (Some m) fit each step written = λ file fits.
-    let is : file ≡ (m root_name).seen =
-    Fits-exact (m root_name).seen file
-    (Fits-Within (m root_name).sure (exact (m root_name).seen) file (written.settled root_name) fits) in
+    let is = settled_file m root_name file written.settled fits in
     subst (λ (f : File). IfThere Q f) (sym (is ∙ written.here)) (of_seen (k root_name).seen
     (each (k root_name).seen (fit k refl root_name))) where
       of_seen : (seen : File) → IfThere P seen → Q (overlay at bytes (bytes_of seen))
       of_seen None holds = absurd holds
       of_seen (Some seen) holds = step seen holds
 
--- After a write that is synced a crash leaves the other files as one before it might have.
-pub elsewhere_before : (at : ℕ) (bytes : List ℕ) (k m : Content) (image : Files) → ReadsFit (Some k)
-    → IsWritten root_name at bytes k m → (other : FileName) → other ≢ root_name
-    → Fits (m other).sure (image other) → Fits (k other).sure (image other)
-elsewhere_before at bytes k m image fit written other apart fits =
-    let is : image other ≡ (m other).seen =
-    Fits-exact (m other).seen (image other)
-    (Fits-Within (m other).sure (exact (m other).seen) (image other) (written.settled other) fits) in
-    subst (λ (f : File).
-    Fits (k other).sure f) (sym (is ∙ written.elsewhere other apart)) (fit k refl other)
+-- After a change of the root file alone that is on the disk a crash leaves the other files as one
+-- before it might have.
+pub elsewhere_before : (k m : Content) (image : Files) → ReadsFit (Some k) → IsSettled m
+    → ((other : FileName) → other ≢ root_name → (m other).seen ≡ (k other).seen)
+    → (other : FileName) → other ≢ root_name → Fits (m other).sure (image other)
+    → Fits (k other).sure (image other)
+elsewhere_before k m image fit settled same other apart fits =
+    let is = settled_file m other (image other) settled fits ∙ same other apart in
+    subst (λ (f : File). Fits (k other).sure f) (sym is) (fit k refl other)

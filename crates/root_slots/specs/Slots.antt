@@ -3,7 +3,8 @@ use Rattle.std.specs.Prelude.{◌≡◌, ◌≢◌, ◌⊎◌, Bool, true, false
 use Rattle.std.specs.Int.{from_be_bytes, w64}
 use Rattle.std.proofs.Common.{arith}
 use Rattle.disk_model.specs.declared.name.FileName.{FileName}
-use Rattle.disk_model.specs.Disk.{File, Files, Content, Fits, bytes_of, overlay, remove_sure}
+use Rattle.disk_model.specs.Disk.{File, Files, Content, Fits, WhereTold, bytes_of, overlay}
+use Rattle.disk_model.specs.Laws.{SameOutside}
 use Rattle.disk_model.specs.Synced.{IsSettled}
 use Rattle.root_slots.specs.declared.root.Root.{Root}
 use Rattle.root_slots.specs.declared.slot.Slot.{Slot}
@@ -114,6 +115,33 @@ abbrev pub HasNewRoot : ℕ → List ℕ → Content → Content → Type 0
 HasNewRoot slot body old new =
     (new root_name).seen ≡ Some (with_root slot body (bytes_of (old root_name).seen))
 
+-- A root file whose slot is shut.
+abbrev pub shut_in : ℕ → List ℕ → List ℕ
+shut_in slot file = overlay slot (0 ∷ []) file
+
+-- A root file during a commit to a slot: its gate is being shut, or then its body written, or then its
+-- gate opened.
+abbrev pub IsInCommit : ℕ → List ℕ → List ℕ → List ℕ → Type 0
+IsInCommit slot body old file = SameOutside slot 1 old file
+    ⊎ (((length old ≡ root_size) × SameOutside (body_offset slot) body_size (shut_in slot old) file)
+    ⊎ ((length old ≡ root_size) × (length body ≡ body_size)
+    × SameOutside slot 1 (overlay (body_offset slot) body (shut_in slot old)) file))
+
+-- Two files are both missing, or both there and of this relation.
+abbrev pub AreBoth : (List ℕ → List ℕ → Type 0) → File → File → Type 0
+AreBoth P None None = Unit {0}
+AreBoth P (Some old) (Some new) = P old new
+AreBoth P None (Some new) = ⊥
+AreBoth P (Some old) None = ⊥
+
+-- The root file comes by this relation from one that a crash before might have left, and all other
+-- files are as such a crash might have left them.
+pub record ComesBy (P : List ℕ → List ℕ → Type 0) (k : Content) (image : Files) : Type 0 where
+  pub file : File
+  pub fits : Fits (k root_name).sure file
+  pub by : AreBoth P file (image root_name)
+  pub elsewhere : Elsewhere k image
+
 -- The root file has this body in the first slot, whose gate is open, and is otherwise zeros.
 abbrev pub HasFirstRoot : List ℕ → Content → Type 0
 HasFirstRoot body k = (k root_name).seen ≡ Some (with_root 0 body (replicate root_size 0))
@@ -170,30 +198,30 @@ abbrev pub LeavesShut : Option Content → Files → Type 0
 LeavesShut None image = Unit {0}
 LeavesShut (Some k) image = StaysShut k image
 
--- The root file is whole and all zeros, every other file reads as before, and all of it is on the
--- disk.
-pub record IsBegun (old new : Content) : Type 0 where
-  pub root : (new root_name).seen ≡ Some (replicate root_size 0)
+-- The root file reads so, every other file reads as before, and all of it is on the disk.
+pub record RootBecomes (file : File) (old new : Content) : Type 0 where
+  pub root : (new root_name).seen ≡ file
   pub elsewhere : (other : FileName) → other ≢ root_name → (new other).seen ≡ (old other).seen
   pub settled : IsSettled new
+
+-- No slot is open if none was before, and all other files are as a crash before might have left them.
+pub record KeepsShut (k : Content) (image : Files) : Type 0 where
+  pub root : EachShut (Some k) → IsShutFile (image root_name)
+  pub elsewhere : Elsewhere k image
+
+-- The same, if the disk tells its content.
+abbrev pub StillShut : Option Content → Files → Type 0
+StillShut content image = WhereTold (λ (k : Content). KeepsShut k image) content
+
+-- The root file is whole and all zeros.
+abbrev pub IsBegun : Content → Content → Type 0
+IsBegun old new = RootBecomes (Some (replicate root_size 0)) old new
+
+-- The root file is gone.
+abbrev pub IsCleared : Content → Content → Type 0
+IsCleared old new = RootBecomes None old new
 
 -- The bytes of a root file of its size, or that it has another size.
 abbrev pub AreRootBytes : Bool → List ℕ → Content → Type 0
 AreRootBytes true file k = file ≡ bytes_of (k root_name).seen
 AreRootBytes false file k = length (bytes_of (k root_name).seen) ≢ root_size
-
--- What a crash leaves while the root file is removed.
-pub record IsClearing (k : Content) (image : Files) : Type 0 where
-  pub root : Fits (remove_sure (k root_name).sure) (image root_name)
-  pub elsewhere : Elsewhere k image
-
--- The same, if the disk tells its content.
-abbrev pub Clearing : Option Content → Files → Type 0
-Clearing None image = Unit {0}
-Clearing (Some k) image = IsClearing k image
-
--- The root file is gone, every other file reads as before, and all of it is on the disk.
-pub record IsCleared (old new : Content) : Type 0 where
-  pub root : (new root_name).seen ≡ None
-  pub elsewhere : (other : FileName) → other ≢ root_name → (new other).seen ≡ (old other).seen
-  pub settled : IsSettled new

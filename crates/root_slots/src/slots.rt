@@ -8,7 +8,7 @@ ghost use Rattle.root_slots.specs.Between.{RunsBetween};
 ghost use Rattle.root_slots.specs.Each.{EachRoot};
 ghost use Rattle.root_slots.specs.Spelling.{body_size, spelling};
 ghost use Rattle.root_slots.specs.Valid.{IsRoot};
-ghost use Rattle.root_slots.specs.Slots.{slot_number, HasRootSize, IsGateOpen, body_offset, sequence_of, Current, Ready, OthersStay, IsOldOrNew, HasNewRoot, IsCommitted};
+ghost use Rattle.root_slots.specs.Slots.{slot_number, HasRootSize, IsGateOpen, body_offset, sequence_of, Current, Ready, OthersStay, IsOldOrNew, HasNewRoot, IsCommitted, IsInCommit, ComesBy};
 
 use crate::body::spell;
 use crate::root::Root;
@@ -81,6 +81,26 @@ pub fn raise<D: Disk>(disk: &mut D, slot: Slot) -> Result<(), DiskFault>
     write_and_sync(disk, root_file(), slot.gate() as u64, &[1])
 }
 
+/// Writes a root to a slot: shuts its gate, writes its body and opens its gate, with a sync after
+/// each.
+fn write_slot<D: Disk>(disk: &mut D, slot: Slot, root: &Root) -> Result<(), DiskFault>
+    requires size { WhereTold HasRootSize (D.content disk.old) }
+    requires root { IsRoot root.now }
+    ensures any_moment { LeavesOnly D.moment D.left_since disk.old disk.new (λ image.
+        WhereTold (λ k. ComesBy (IsInCommit (slot_number slot) (spelling root.now)) k image)
+        (D.content disk.old)) }
+    ensures written { OnOk result (Told (HasNewRoot (slot_number slot) (spelling root.now))
+        (D.content disk.old) (D.content disk.new)
+        × Told IsCommitted (D.content disk.old) (D.content disk.new)
+        × (length (spelling root.now) ≡ body_size)) }
+    ensures cause { HasCause (D.faults disk.old) (D.faults disk.new) result }
+    ensures count { D.reads disk.new ≡ D.reads disk.old }
+{
+    shut(disk, slot)?;
+    fill(disk, slot, root)?;
+    raise(disk, slot)
+}
+
 /// Replaces the current root by a new one, in the slot that isn't current.
 ///
 /// Shuts the gate of that slot, writes its body and opens its gate, with a sync after each.
@@ -118,7 +138,5 @@ pub fn commit<D: Disk>(disk: &mut D, slot: Slot, root: &Root) -> Result<(), Disk
     ensures count { D.reads disk.new ≡ D.reads disk.old }
 {
     let _sequence = root.sequence; // brings the range of a field behind a `&` into the proof
-    shut(disk, slot)?;
-    fill(disk, slot, root)?;
-    raise(disk, slot)
+    write_slot(disk, slot, root)
 }

@@ -2,7 +2,7 @@
 ghost use Rattle.std.specs.Prelude.{◌≡◌, OnOk};
 ghost use Rattle.arch_base.specs.Counts.{HasCause};
 ghost use Rattle.disk_model.specs.Disk.{Told, LeavesOnly};
-ghost use Rattle.root_slots.specs.Slots.{EachShut, LeavesShut, OthersStay, IsBegun, Clearing, IsCleared};
+ghost use Rattle.root_slots.specs.Slots.{EachShut, LeavesShut, OthersStay, IsBegun, IsCleared, StillShut};
 
 use crate::slot::ROOT_SIZE;
 use crate::slots::root_file;
@@ -11,13 +11,26 @@ use disk_model::{Disk, DiskFault, write_and_sync};
 /// Removes the root file, and syncs.
 fn clear<D: Disk>(disk: &mut D) -> Result<(), DiskFault>
     ensures any_moment { LeavesOnly D.moment D.left_since disk.old disk.new
-        (Clearing (D.content disk.old)) }
+        (StillShut (D.content disk.old)) }
     ensures cleared { OnOk result (Told IsCleared (D.content disk.old) (D.content disk.new)) }
     ensures cause { HasCause (D.faults disk.old) (D.faults disk.new) result }
     ensures count { D.reads disk.new ≡ D.reads disk.old }
 {
     disk.remove(root_file())?;
     disk.sync()
+}
+
+/// Replaces the root file by 4,096 zeros, with a sync after the first two.
+fn make_zeros<D: Disk>(disk: &mut D) -> Result<(), DiskFault>
+    ensures any_moment { LeavesOnly D.moment D.left_since disk.old disk.new
+        (StillShut (D.content disk.old)) }
+    ensures made { OnOk result (Told IsBegun (D.content disk.old) (D.content disk.new)) }
+    ensures cause { HasCause (D.faults disk.old) (D.faults disk.new) result }
+    ensures count { D.reads disk.new ≡ D.reads disk.old }
+{
+    clear(disk)?;
+    write_and_sync(disk, root_file(), 0, &[0, 0])?;
+    write_and_sync(disk, root_file(), 2, &[0; ROOT_SIZE - 2])
 }
 
 /// Replaces a root file without an open slot by 4,096 zeros, in which no slot is open.
@@ -34,7 +47,5 @@ pub fn begin<D: Disk>(disk: &mut D) -> Result<(), DiskFault>
     ensures cause { HasCause (D.faults disk.old) (D.faults disk.new) result }
     ensures count { D.reads disk.new ≡ D.reads disk.old }
 {
-    clear(disk)?;
-    write_and_sync(disk, root_file(), 0, &[0, 0])?;
-    write_and_sync(disk, root_file(), 2, &[0; ROOT_SIZE - 2])
+    make_zeros(disk)
 }

@@ -1,12 +1,12 @@
 -- One more removal.
 use Rattle.std.specs.Prelude.{refl}
-use Rattle.std.proofs.Common.{◌≡◌, ◌<◌, ℕ, length, subst, arith}
+use Rattle.std.proofs.Common.{◌≡◌, ◌<◌, ◌+◌, ℕ, length, subst, arith}
 use Rattle.std.proofs.lemmas.Option.{slice_get-get_or}
 use Rattle.disk_model.specs.Disk.{Told}
 use Rattle.disk_model.specs.BesideLaws.{remove_told, run_started, run_on}
 use Rattle.disk_model.specs.Moments.{goes_on, started}
 use Rattle.disk_files.specs.Removing.{Fewer}
-use Rattle.disk_files.proofs.Removals.{GoneUpTo, at_place_in, none_gone, fewer_at_start, fewer_torn, fewer_removed, gone_more, gone_all}
+use Rattle.disk_files.proofs.Removals.{GoneUpTo, at_place_in, none_gone, fewer_at_start, fewer, fewer_gone, torn_more, gone_more, gone_all}
 use Rattle.disk_files.proofs.removing.remove_files.Goals as goal
 
 pub loop-name-init : goal.loop-name-init
@@ -39,7 +39,7 @@ returns-in_err-remove-clause-any_moment g c =
     let m = g.D.Disk.content c.loop-name.disk in
     let o = g.D.Disk.content c.remove.new.self in
     goes_on g.D.Disk.moment g.D.Disk.left_since c.args.disk.now c.loop-name.disk c.remove.new.self (Fewer names k) o c.loop-name.invariant.moments c.remove.ensures.time
-    (λ image. fewer_torn names i _ k m o image (slice_get-get_or names i _ (omega arith)) c.loop-name.invariant.told c.in_err-remove.ensures.torn)
+    (λ image. fewer names k o image (torn_more names i _ k m o (slice_get-get_or names i _ (omega arith)) c.loop-name.invariant.told c.in_err-remove.ensures.torn))
 
 pub loop-name-preserved : goal.loop-name-preserved
 loop-name-preserved g c =
@@ -50,13 +50,13 @@ loop-name-preserved g c =
     let o = g.D.Disk.content c.remove.new.self in
     let before = c.loop-name.invariant in
     let below : i < length names = omega arith in
+    let told = gone_more names i _ k m o (slice_get-get_or names i _ below) before.told c.in_ok-remove.ensures.removed in
     record {
-      told = gone_more names i _ k m o (slice_get-get_or names i _ below) before.told c.in_ok-remove.ensures.removed;
+      told = told;
       beside = λ bounds far.
           run_on g.D.Disk.content g.D.Disk.moment g.D.Disk.left_since bounds c.args.disk.now c.loop-name.disk c.remove.new.self (before.beside bounds far) c.remove.ensures.time
           (remove_told c.remove.result bounds _ m o (g.met.D.Disk.reads_fit c.loop-name.disk) (far _ (at_place_in names i _ (slice_get-get_or names i _ below))) c.remove.ensures.removed c.remove.ensures.torn);
-      moments = goes_on g.D.Disk.moment g.D.Disk.left_since c.args.disk.now c.loop-name.disk c.remove.new.self (Fewer names k) o before.moments c.remove.ensures.time
-          (λ image. fewer_removed names i _ k m o image (slice_get-get_or names i _ below) before.told c.in_ok-remove.ensures.removed);
+      moments = goes_on g.D.Disk.moment g.D.Disk.left_since c.args.disk.now c.loop-name.disk c.remove.new.self (Fewer names k) o before.moments c.remove.ensures.time (λ image. fewer_gone names (i + 1) k o image told);
       kept = omega (arith, before.kept, c.in_ok-remove.ensures.cause.kept);
       reads = omega (arith, before.reads, c.remove.ensures.count);
     }
