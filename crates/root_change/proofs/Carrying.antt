@@ -3,8 +3,8 @@ use Rattle.std.specs.Prelude.{◌≡◌, ℕ, ◌-◌, List, Option, Some, None,
 use Rattle.std.specs.Result.{IsErrAnd}
 use Rattle.std.proofs.Common.{◌∙◌, sym, ap, subst, inl, inr, arith}
 use Rattle.arch_base.specs.Counts.{Rose, HasCause, RoseIf}
-use Rattle.disk_model.specs.Disk.{Content, File, Files, Image, LeavesOnly, Told, Unchanged, WhereTold, bytes_of}
-use Rattle.disk_model.specs.Beside.{Beside, Bounds, RunsBeside, WentBeside}
+use Rattle.disk_model.specs.Disk.{Content, File, Files, LeavesOnly, Told, WhereTold, bytes_of}
+use Rattle.disk_model.specs.Beside.{RunsBeside}
 use Rattle.disk_model.specs.Moments.{weaker}
 use Rattle.disk_model.specs.Tells.{told_then}
 use Rattle.root_slots.specs.declared.root.Root.{Root}

@@ -1,23 +1,21 @@
 -- Files that are written beside the texts of a root become those of the next one.
-use Rattle.std.specs.Prelude.{◌≡◌, ◌≢◌, ◌⊎◌, ◌-◌, ◌<◌, ℕ, Bool, true, false, cond, if◌then◌else◌, List, [], ◌++◌, length, Option, Some, None, refl}
-use Rattle.std.proofs.Common.{◌∙◌, sym, ap, subst, inl, inr, arith, length-append}
+use Rattle.std.specs.Prelude.{◌≡◌, ◌⊎◌, ◌-◌, ℕ, Bool, true, false, if◌then◌else◌, List, [], ◌++◌, length, Option, Some, None, refl}
+use Rattle.std.proofs.Common.{◌∙◌, ap, subst, inl, inr, arith}
 use Rattle.std.proofs.lemmas.Grind.{common_steps}
 use Rattle.disk_model.specs.declared.name.FileName.{FileName}
-use Rattle.disk_model.specs.Disk.{Files, Kept, Content, Told, WhereTold, OneFile, Wrote, LeavesOnly, bytes_of, overlay}
-use Rattle.disk_model.specs.Images.{same_or_other, at_itself, at_other}
+use Rattle.disk_model.specs.Disk.{Files, Content, Told, WhereTold, LeavesOnly, overlay}
 use Rattle.disk_model.specs.Moments.{weaker, joined}
 use Rattle.root_slots.specs.declared.root.Root.{Root}
 use Rattle.root_slots.specs.RootName.{root_name}
 use Rattle.root_slots.specs.Spelling.{spelling}
 use Rattle.root_slots.specs.Valid.{RootFits, IsRoot}
-use Rattle.disk_model.specs.Tells.{told_where}
 use Rattle.disk_model.specs.Beside.{StaysUpTo, Beside, WentBeside, RunsBeside}
 use Rattle.root_change.specs.Names.{place_of, names_file, named_end, bounds_of, other_bound}
 use Rattle.root_change.specs.Texts.{Texts, StandsFor, IsOn, OnDisk, Measures}
 use Rattle.root_change.specs.Leaving.{ready_has}
 use Rattle.root_change.specs.Replacing.{ToReplace, IsToReplace, StandsForEither}
 use Rattle.root_change.specs.Parts.{Parts, texts_of, PartsFit, RecoversBy, IsOwn}
-use Rattle.root_change.specs.Changing.{ReadsAs, with_more, Becomes}
+use Rattle.root_change.specs.Changing.{ReadsAs, Becomes}
 use Rattle.root_change.proofs.Drops.{true_or_false}
 use Rattle.root_change.proofs.Phases.{front_kept, stands_beside}
 
@@ -35,47 +33,9 @@ parts_measure root parts long name apart = by (names_file root name) where
   by true = long name.kind name.number
   by false = refl
 
--- The text that is written to, and the others.
-pub more_here : (texts : Texts) (name : FileName) (bytes : List ℕ) → with_more texts name bytes name ≡ texts name ++ bytes
-more_here texts name bytes = ap (λ (b : Bool). cond b (texts name ++ bytes) (texts name)) (at_itself name)
-
-pub more_elsewhere : (texts : Texts) (name : FileName) (bytes : List ℕ) (other : FileName) → other ≢ name → with_more texts name bytes other ≡ texts other
-more_elsewhere texts name bytes other apart = ap (λ (b : Bool). cond b (texts other ++ bytes) (texts other)) (at_other name other apart)
-
 -- A write at the end of a file appends to it.
 pub overlay_end : (text bytes : List ℕ) → overlay (length text) bytes text ≡ text ++ bytes
 overlay_end text bytes = grind (arith, common_steps)
-
--- An appended text isn't empty.
-more_some : (text bytes : List ℕ) → 0 < length bytes → text ++ bytes ≢ []
-more_some text bytes some none = absurd (let size : length (text ++ bytes) ≡ 0 = ap length none in omega (arith, size, some, length-append text bytes))
-
--- Files that read as texts, after a write at the end of one.
-put_reads : (root : Root) (texts : Texts) (name : FileName) (place : ℕ) (bytes : List ℕ) (k m : Content) → name ≢ root_name → place ≡ length (texts name) → 0 < length bytes → OneFile name (Wrote place bytes) k m → ReadsAs root texts k → ReadsAs root (with_more texts name bytes) m
-put_reads root texts name place bytes k m is_file at_end some one reads = record {
-  bytes = λ other apart. elim (same_or_other name other) [
-    | inl same ↦ subst (λ (n : FileName). bytes_of (m n).seen ≡ with_more texts name bytes n) (sym same) here
-    | inr else_ ↦ ap (λ (kept : Kept). bytes_of kept.seen) (one.elsewhere other else_) ∙ (reads.bytes other apart ∙ sym (more_elsewhere texts name bytes other else_))
-  ];
-  no_other = λ other isnt none. elim (same_or_other name other) [
-    | inl same ↦ absurd (more_some (texts name) bytes some (sym (more_here texts name bytes) ∙ subst (λ (n : FileName). with_more texts name bytes n ≡ []) same none))
-    | inr else_ ↦ ap (λ (kept : Kept). kept.seen) (one.elsewhere other else_) ∙ reads.no_other other isnt (sym (more_elsewhere texts name bytes other else_) ∙ none)
-  ];
-} where
-  here : bytes_of (m name).seen ≡ with_more texts name bytes name
-  here =
-      ap bytes_of one.here.seen
-      ∙ (ap (overlay place bytes) (reads.bytes name is_file)
-      ∙ (ap (λ (n : ℕ). overlay n bytes (texts name)) at_end
-      ∙ (overlay_end (texts name) bytes ∙ sym (more_here texts name bytes))))
-
-pub put_told : (root : Root) (texts : Texts) (name : FileName) (place : ℕ) (bytes : List ℕ) (k m : Option Content) → name ≢ root_name → place ≡ length (texts name) → 0 < length bytes → Told (OneFile name (Wrote place bytes)) k m → WhereTold (ReadsAs root texts) k → WhereTold (ReadsAs root (with_more texts name bytes)) m
-put_told root texts name place bytes k m is_file at_end some one reads = told_where (OneFile name (Wrote place bytes)) (ReadsAs root texts) (ReadsAs root (with_more texts name bytes)) k m (λ a b is new_is wrote was. put_reads root texts name place bytes a b is_file at_end some wrote was) one reads
-
--- A disk that is exactly that of texts reads as these.
-pub own_reads : (root : Root) (free : ℕ) (texts : Texts) (k : Option Content) → OnDisk root free texts k → WhereTold (ReadsAs root texts) k
-own_reads root free texts None on = absurd on
-own_reads root free texts (Some k) on = record { bytes = on.exact.ends; no_other = λ name isnt none. on.exact.no_other name isnt }
 
 -- What was written beside the texts of the old root makes the disk ready for the new one.
 replaceable_now : (free : ℕ) (old : Root) (texts so_far : Texts) (new : Root) (next : Texts) (k m : Content) → IsOn old free texts k → Measures old texts → WentBeside (bounds_of old) k m → ReadsAs old so_far m → Becomes old so_far new next → IsToReplace free old texts new next m

@@ -6,7 +6,7 @@ use Rattle.std.proofs.lemmas.Bool.Decides.{nat_tests}
 use Rattle.disk_model.specs.declared.name.FileKind.{FileKind}
 use Rattle.disk_model.specs.declared.name.FileKind.TheVariants as kind
 use Rattle.disk_model.specs.declared.name.FileName.{FileName}
-use Rattle.disk_model.specs.Disk.{Kept, Content, Told, OneFile, Removed}
+use Rattle.disk_model.specs.Disk.{File, Kept, Content, Told, OneFile, Removed, Synced, Within, exact}
 use Rattle.disk_model.specs.Images.{same_or_other}
 use Rattle.root_slots.specs.declared.root.Root.{Root}
 use Rattle.root_slots.specs.RootName.{root_name}
@@ -14,7 +14,7 @@ use Rattle.root_slots.specs.Valid.{no_place}
 use Rattle.disk_model.specs.Tells.{told_weaker, told_then}
 use Rattle.disk_model.specs.Beside.{Respects}
 use Rattle.root_change.specs.Names.{map_name, epoch_name, cache_name, place_of, has_place, named_by, names_file, bounds_of, other_bound, named_none}
-use Rattle.root_change.specs.Replacing.{drops, Dropped, IsOne, IsEpochBelow, IsAny}
+use Rattle.root_change.specs.Replacing.{drops, Dropped, IsDropped, IsOne, IsEpochBelow, IsAny}
 
 -- Tests on numbers, and what they say.
 pub is_same : (m n : ℕ) → (m == n) ≡ true → m ≡ n
@@ -112,7 +112,7 @@ module _ (old new : Root) where
   removed_one : (name : FileName) (k m : Content) → drops old new name ≡ true → OneFile name Removed k m → Dropped (IsOne name) old new k m
   removed_one name k m there removed = record {
     gone = λ other same is. subst (λ (n : FileName). (m n).seen ≡ None) (sym same) removed.here.seen;
-    kept = λ other is. removed.elsewhere other (λ same. not_both (names_file new name) (subst (λ (n : FileName). names_file new n ≡ true) same is) (one_alone (names_file old name) (names_file new name) there).1);
+    kept = λ other is. ap (λ (kept : Kept). kept.seen) (removed.elsewhere other (λ same. not_both (names_file new name) (subst (λ (n : FileName). names_file new n ≡ true) same is) (one_alone (names_file old name) (names_file new name) there).1));
     none_made = λ other none.
         elim (same_or_other name other) [
           | inl same ↦ subst (λ (n : FileName). (m n).seen ≡ None) (sym same) removed.here.seen
@@ -173,3 +173,14 @@ module _ (old new : Root) where
       (λ name there any. let tests = one_alone (names_file old name) (names_file new name) there in which_file name.kind name.number name.gen_ tests.0 tests.1)
       map
       (both_told (IsOne (cache_name old.cache.gen_)) (IsEpochBelow 64) Two l m o (λ name there two. two) cache epochs)
+
+  -- And then synced.
+  pub dropped_synced : (k m o : Option Content) → Told (Dropped IsAny old new) k m → Told Synced m o → Told (IsDropped old new) k o
+  dropped_synced k m o = told_then (Dropped IsAny old new) Synced (IsDropped old new) k m o (λ a b c it mid one two. record {
+    dropped = record {
+      gone = λ name any there. two.seen name ∙ one.gone name any there;
+      kept = λ name is. two.seen name ∙ one.kept name is;
+      none_made = λ name none. two.seen name ∙ one.none_made name none;
+    };
+    settled = λ name. subst (λ (file : File). Within (c name).sure (exact file)) (sym (two.seen name)) (two.crash name);
+  })

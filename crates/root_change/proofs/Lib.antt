@@ -5,7 +5,7 @@ pub mod Roots
 pub mod Changes
 pub mod Grown
 mod Tidies
-mod Copies
+pub mod Copies
 pub mod Others
 mod Gathers
 pub mod Plans

@@ -1,15 +1,11 @@
 -- The root after a change of its epochs.
-use Rattle.std.specs.Prelude.{◌≡◌, ◌≢◌, ◌⊎◌, ◌+◌, ◌<◌, ◌≤◌, ◌==◌, nat_lt, Bool, true, false, if◌then◌else◌, ℕ, List, length, get_or, set}
-use Rattle.std.proofs.Common.{ap, inl, inr, arith}
+use Rattle.std.specs.Prelude.{◌≡◌, ◌≢◌, ◌⊎◌, ◌<◌, ◌≤◌, ◌==◌, nat_lt, true, false, ℕ, List, length, get_or, set}
+use Rattle.std.proofs.Common.{inl, inr, arith}
 use Rattle.std.proofs.lemmas.Bool.{cases_lt}
 use Rattle.std.proofs.lemmas.Bool.Decides.{nat_tests}
 use Rattle.std.proofs.lemmas.List.{get_or-set_same, get_or-set_other}
-use Rattle.disk_model.specs.declared.name.FileKind.TheVariants as kind
 use Rattle.root_slots.specs.declared.root.Place.{Place}
-use Rattle.root_slots.specs.declared.root.Root.{Root}
 use Rattle.root_slots.specs.Valid.{PlaceIsValid, no_place}
-use Rattle.root_change.specs.Names.{place_of}
-use Rattle.root_change.specs.Changing.{place_after}
 
 -- A number is this one or another.
 pub equal_or_not : (m n : ℕ) → (m ≡ n) ⊎ (m ≢ n)
@@ -51,10 +47,3 @@ set_elsewhere places e place n apart = get_or-set_other places e n place no_plac
 -- A valid place stays valid for a later sequence.
 pub later_place : (m n : ℕ) (place : Place) → m ≤ n → PlaceIsValid m place → PlaceIsValid n place
 later_place m n place less valid = record { gen_ = (let g = valid.gen_ in omega (arith, g, less)); empty = valid.empty }
-
--- The place of an epoch with more bytes.
-pub after_some : (root : Root) (e count : ℕ) → 0 < (place_of root kind.Epoch e).length → (place_after root e count).gen_ ≡ (place_of root kind.Epoch e).gen_
-after_some root e count some = ap (λ (b : Bool). if b then (place_of root kind.Epoch e).gen_ else root.sequence + 1) (less_test 0 (place_of root kind.Epoch e).length some)
-
-pub after_none : (root : Root) (e count : ℕ) → (place_of root kind.Epoch e).length ≡ 0 → (place_after root e count).gen_ ≡ root.sequence + 1
-after_none root e count none = ap (λ (b : Bool). if b then (place_of root kind.Epoch e).gen_ else root.sequence + 1) (least_test 0 (place_of root kind.Epoch e).length (omega (arith, none)))

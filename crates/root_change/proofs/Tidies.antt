@@ -1,5 +1,5 @@
 -- Files that are brought to what a root names, one after the other.
-use Rattle.std.specs.Prelude.{◌≡◌, ◌≢◌, ◌⊎◌, ◌+◌, ◌<◌, ◌≤◌, ℕ, min, ◌==◌, true, false, List, length, take, slice_get, Option, Some, None, IsSome, refl}
+use Rattle.std.specs.Prelude.{◌≡◌, ◌≢◌, ◌⊎◌, ◌+◌, ◌<◌, ◌≤◌, ℕ, min, true, false, List, length, take, slice_get, Option, Some, None, IsSome, refl}
 use Rattle.std.specs.List.{Contains}
 use Rattle.std.proofs.Common.{◌∙◌, sym, ap, subst, inl, inr, arith, take_all, length-take}
 use Rattle.std.proofs.lemmas.Bool.{cases_lt}
@@ -22,17 +22,15 @@ use Rattle.root_change.specs.Leaving.{ready_has}
 use Rattle.root_change.specs.Texts.{Texts, StandsFor, IsOn, OnDisk}
 use Rattle.root_change.specs.Replacing.{IsOne}
 use Rattle.root_change.specs.Tidying.{Trimmed, Tidied, IsToTidy, ToTidy}
-use Rattle.root_change.proofs.Drops.{both, not_both, is_same, named, unnamed_apart}
+use Rattle.root_change.proofs.Drops.{not_both, named, named_root, unnamed_apart}
 use Rattle.root_change.proofs.Phases.{fronts_equal, stands_beside, synced_file}
 use Rattle.root_change.proofs.Roots.{none_at_most, same_at_most, at_most_then}
 
 -- The name of the root file, and any other one.
-pub is_root_file : (name : FileName) → is_root_name name ≡ true → name ≡ root_name
-is_root_file name is = by name.kind name.number name.gen_ is where
+pub is_root_file : (root : Root) (name : FileName) → is_root_name name ≡ true → name ≡ root_name
+is_root_file root name is = by name.kind name.number name.gen_ is where
   by : (k : FileKind) (n g : ℕ) → root_by k n g ≡ true → named k n g ≡ root_name
-  by kind.Root n g test =
-      let tests = both (n == 0) (g == 0) test in
-      ap (λ (m : ℕ). named kind.Root m g) (is_same n 0 tests.0) ∙ ap (λ (h : ℕ). named kind.Root 0 h) (is_same g 0 tests.1)
+  by kind.Root n g test = named_root root n g test
   by kind.Map n g test = absurd (not_both false test refl)
   by kind.Epoch n g test = absurd (not_both false test refl)
   by kind.Cache n g test = absurd (not_both false test refl)
@@ -116,88 +114,80 @@ module _ (root : Root) where
     root_same = second.root_same ∙ first.root_same;
   }
 
-  -- Nothing was changed yet.
-  tidied_none : (which : FileName → Type 0) (k : Content) → ((name : FileName) → which name → names_file root name ≡ false → ⊥) → ((name : FileName) → which name → name ≢ root_name → ⊥) → Tidied which root k k
-  tidied_none which k named no_file = record {
+  -- Files that read as before, where nothing is to be tidied.
+  tidied_none : (which : FileName → Type 0) (k m : Content) → ((name : FileName) → (m name).seen ≡ (k name).seen) → ((name : FileName) → which name → names_file root name ≡ false → ⊥) → ((name : FileName) → which name → name ≢ root_name → ⊥) → Tidied which root k m
+  tidied_none which k m same named no_file = record {
     gone = λ name is isnt. absurd (named name is isnt);
     short = λ name is apart. absurd (no_file name is apart);
-    fronts = λ name. refl;
-    no_longer = λ name. same_at_most (length (bytes_of (k name).seen)) (length (bytes_of (k name).seen)) refl;
-    none_made = λ name none. none;
-    root_same = refl;
+    fronts = λ name. ap (λ (file : File). take (named_end root name) (bytes_of file)) (same name);
+    no_longer = λ name. same_at_most (length (bytes_of (m name).seen)) (length (bytes_of (k name).seen)) (ap (λ (file : File). length (bytes_of file)) (same name));
+    none_made = λ name none. same name ∙ none;
+    root_same = same root_name;
   }
+
+  -- A file keeps its bytes that count.
+  record Stays (k m : Content) (name : FileName) : Type 0 where
+    front : take (named_end root name) (bytes_of (m name).seen) ≡ take (named_end root name) (bytes_of (k name).seen)
+    no_longer : length (bytes_of (m name).seen) ≤ length (bytes_of (k name).seen)
+    none_made : (k name).seen ≡ None → (m name).seen ≡ None
+
+  -- One file was trimmed to them, and is gone if the root doesn't name it.
+  tidied_one : (name : FileName) (k m : Content) → name ≢ root_name → (names_file root name ≡ false → (m name).seen ≡ None) → OneFile name (Trimmed (named_end root name)) k m → Tidied (IsOne name) root k m
+  tidied_one name k m is_file gone one = record {
+    gone = λ other same isnt. subst (λ (n : FileName). (m n).seen ≡ None) (sym same) (gone (subst (λ (n : FileName). names_file root n ≡ false) same isnt));
+    short = λ other same apart. subst (λ (n : FileName). length (bytes_of (m n).seen) ≤ named_end root n) (sym same) one.here.short;
+    fronts = λ other. (each other).front;
+    no_longer = λ other. (each other).no_longer;
+    none_made = λ other. (each other).none_made;
+    root_same = ap (λ (kept : Kept). kept.seen) (one.elsewhere root_name (λ same. is_file (sym same)));
+  } where
+    each : (other : FileName) → Stays k m other
+    each other = elim (same_or_other name other) [
+      | inl same ↦ subst (Stays k m) (sym same) (record { front = one.here.front; no_longer = one.here.no_longer; none_made = one.here.none_made })
+      | inr apart ↦
+          let same : (m other).seen ≡ (k other).seen = ap (λ (kept : Kept). kept.seen) (one.elsewhere other apart) in
+          record {
+            front = ap (λ (file : File). take (named_end root other) (bytes_of file)) same;
+            no_longer = same_at_most (length (bytes_of (m other).seen)) (length (bytes_of (k other).seen)) (ap (λ (file : File). length (bytes_of file)) same);
+            none_made = λ none. same ∙ none;
+          }
+    ]
 
   -- A file that isn't named was removed.
   removed_one : (name : FileName) (k m : Content) → names_file root name ≡ false → OneFile name Removed k m → Tidied (IsOne name) root k m
-  removed_one name k m isnt removed = record {
-    gone = λ other same unnamed. subst (λ (n : FileName). (m n).seen ≡ None) (sym same) removed.here.seen;
-    short = λ other same apart. subst (λ (n : FileName). length (bytes_of (m n).seen) ≤ named_end root n) (sym same) (none_at_most (length (bytes_of (m name).seen)) (named_end root name) empty);
-    fronts = λ other.
-        elim (same_or_other name other) [
-          | inl same ↦ subst (λ (n : FileName). take (named_end root n) (bytes_of (m n).seen) ≡ take (named_end root n) (bytes_of (k n).seen)) (sym same) none_counts
-          | inr apart ↦ ap (λ (kept : Kept). take (named_end root other) (bytes_of kept.seen)) (removed.elsewhere other apart)
-        ];
-    no_longer = λ other.
-        elim (same_or_other name other) [
-          | inl same ↦ subst (λ (n : FileName). length (bytes_of (m n).seen) ≤ length (bytes_of (k n).seen)) (sym same) (none_at_most (length (bytes_of (m name).seen)) (length (bytes_of (k name).seen)) empty)
-          | inr apart ↦ same_at_most (length (bytes_of (m other).seen)) (length (bytes_of (k other).seen)) (ap (λ (kept : Kept). length (bytes_of kept.seen)) (removed.elsewhere other apart))
-        ];
-    none_made = λ other none.
-        elim (same_or_other name other) [
-          | inl same ↦ subst (λ (n : FileName). (m n).seen ≡ None) (sym same) removed.here.seen
-          | inr apart ↦ ap (λ (kept : Kept). kept.seen) (removed.elsewhere other apart) ∙ none
-        ];
-    root_same = ap (λ (kept : Kept). kept.seen) (removed.elsewhere root_name (λ same. unnamed_apart root name isnt (sym same)));
-  } where
+  removed_one name k m isnt removed = tidied_one name k m (unnamed_apart root name isnt) (λ unnamed. removed.here.seen) (record {
+    here = record {
+      front = ap (λ (n : ℕ). take n (bytes_of (m name).seen)) none ∙ sym (ap (λ (n : ℕ). take n (bytes_of (k name).seen)) none);
+      short = omega (arith, empty);
+      no_longer = omega (arith, empty);
+      none_made = λ missing. removed.here.seen;
+    };
+    elsewhere = removed.elsewhere;
+  }) where
+    none : named_end root name ≡ 0
+    none = named_none root name isnt
+
     empty : length (bytes_of (m name).seen) ≡ 0
     empty = ap (λ (file : File). length (bytes_of file)) removed.here.seen
-
-    none_counts : take (named_end root name) (bytes_of (m name).seen) ≡ take (named_end root name) (bytes_of (k name).seen)
-    none_counts =
-        let none = named_none root name isnt in
-        ap (λ (n : ℕ). take n (bytes_of (m name).seen)) none ∙ sym (ap (λ (n : ℕ). take n (bytes_of (k name).seen)) none)
-
-  -- A file that is named was cut to the bytes that count.
-  trimmed_one : (name : FileName) (k m : Content) → names_file root name ≡ true → name ≢ root_name → OneFile name (Trimmed (named_end root name)) k m → Tidied (IsOne name) root k m
-  trimmed_one name k m is is_file one = record {
-    gone = λ other same isnt. absurd (not_both (names_file root name) is (subst (λ (n : FileName). names_file root n ≡ false) same isnt));
-    short = λ other same apart. subst (λ (n : FileName). length (bytes_of (m n).seen) ≤ named_end root n) (sym same) one.here.short;
-    fronts = λ other.
-        elim (same_or_other name other) [
-          | inl same ↦ subst (λ (n : FileName). take (named_end root n) (bytes_of (m n).seen) ≡ take (named_end root n) (bytes_of (k n).seen)) (sym same) one.here.front
-          | inr apart ↦ ap (λ (kept : Kept). take (named_end root other) (bytes_of kept.seen)) (one.elsewhere other apart)
-        ];
-    no_longer = λ other.
-        elim (same_or_other name other) [
-          | inl same ↦ subst (λ (n : FileName). length (bytes_of (m n).seen) ≤ length (bytes_of (k n).seen)) (sym same) one.here.no_longer
-          | inr apart ↦ same_at_most (length (bytes_of (m other).seen)) (length (bytes_of (k other).seen)) (ap (λ (kept : Kept). length (bytes_of kept.seen)) (one.elsewhere other apart))
-        ];
-    none_made = λ other none.
-        elim (same_or_other name other) [
-          | inl same ↦ subst (λ (n : FileName). (k n).seen ≡ None → (m n).seen ≡ None) (sym same) one.here.none_made none
-          | inr apart ↦ ap (λ (kept : Kept). kept.seen) (one.elsewhere other apart) ∙ none
-        ];
-    root_same = ap (λ (kept : Kept). kept.seen) (one.elsewhere root_name (λ same. is_file (sym same)));
-  }
 
   -- The same, of a disk that may tell its content.
   pub removed_tidied : (name : FileName) (k m : Option Content) → names_file root name ≡ false → Told (OneFile name Removed) k m → Told (Tidied (IsOne name) root) k m
   removed_tidied name k m isnt told = told_weaker (OneFile name Removed) (Tidied (IsOne name) root) k m (λ a b is new_is one. removed_one name a b isnt one) told
 
   pub trimmed_tidied : (name : FileName) (k m : Option Content) → names_file root name ≡ true → name ≢ root_name → Told (OneFile name (Trimmed (named_end root name))) k m → Told (Tidied (IsOne name) root) k m
-  trimmed_tidied name k m is is_file told = told_weaker (OneFile name (Trimmed (named_end root name))) (Tidied (IsOne name) root) k m (λ a b old_is new_is one. trimmed_one name a b is is_file one) told
+  trimmed_tidied name k m is is_file told = told_weaker (OneFile name (Trimmed (named_end root name))) (Tidied (IsOne name) root) k m (λ a b old_is new_is one. tidied_one name a b is_file (λ isnt. absurd (not_both (names_file root name) is isnt)) one) told
 
   -- The root file was left alone.
   pub root_tidied : (name : FileName) (k : Option Content) → name ≡ root_name → Told (Tidied (IsOne name) root) k k
   root_tidied name None is = tt
-  root_tidied name (Some k) is = tidied_none (IsOne name) k
+  root_tidied name (Some k) is = tidied_none (IsOne name) k k (λ other. refl)
       (λ other same isnt. not_both true refl (sym (ap (names_file root) (same ∙ is)) ∙ isnt))
       (λ other same apart. apart (same ∙ is))
 
   -- The first of a list of files.
   pub none_tidied : (names : List FileName) (k : Option Content) → Told (Tidied (IsAmong names 0) root) k k
   none_tidied names None = tt
-  none_tidied names (Some k) = tidied_none (IsAmong names 0) k (λ name among isnt. none among) (λ name among apart. none among) where
+  none_tidied names (Some k) = tidied_none (IsAmong names 0) k k (λ name. refl) (λ name among isnt. none among) (λ name among apart. none among) where
     none : {name : FileName} → IsAmong names 0 name → ⊥
     none among = let below = among.1 in absurd (omega (arith, below))
 
@@ -214,19 +204,9 @@ module _ (root : Root) where
         ]
 
   pub all_tidied : (names : List FileName) (k m : Option Content) → Told (Tidied (IsAmong names (length names)) root) k m → Told (Tidied (Contains names) root) k m
-  all_tidied names k m told = told_weaker (Tidied (IsAmong names (length names)) root) (Tidied (Contains names) root) k m (λ a b is new_is tidied. all a b tidied) told where
-    among : (name : FileName) → Contains names name → IsAmong names (length names) name
-    among name has = (has.0, has.1, slice_get-get_or names has.0 name has.1 ∙ ap (λ (n : FileName). Some n) has.2)
-
-    all : (a b : Content) → Tidied (IsAmong names (length names)) root a b → Tidied (Contains names) root a b
-    all a b tidied = record {
-      gone = λ name has. tidied.gone name (among name has);
-      short = λ name has. tidied.short name (among name has);
-      fronts = tidied.fronts;
-      no_longer = tidied.no_longer;
-      none_made = tidied.none_made;
-      root_same = tidied.root_same;
-    }
+  all_tidied names k m told = told_weaker (Tidied (IsAmong names (length names)) root) (Tidied (Contains names) root) k m
+      (λ a b is new_is tidied. tidied_then (IsAmong names (length names)) (λ name. ⊥) (Contains names) (λ name has. inl (has.0, has.1, slice_get-get_or names has.0 name has.1 ∙ ap (λ (n : FileName). Some n) has.2)) a b b tidied
+      (tidied_none (λ name. ⊥) b b (λ name. refl) (λ name none isnt. none) (λ name none apart. none))) told
 
   -- While files are tidied, they stand for the texts.
   pub tidying_stands : (free : ℕ) (texts : Texts) (names : List FileName) (k : Option Content) (image : Files) → ToTidy root free texts names k → Beside (bounds_of root) k image → StandsFor root texts image
@@ -284,15 +264,5 @@ module _ (root : Root) where
   tidy_told free texts names (Some k) (Some m) (Some o) fit todo tidied synced = tidy_now free texts names k m o todo tidied synced fit
 
   -- A sync after it leaves the files tidied.
-  tidied_synced : (which : FileName → Type 0) (k m o : Content) → Tidied which root k m → Synced m o → Tidied which root k o
-  tidied_synced which k m o tidied synced = record {
-    gone = λ name is isnt. synced.seen name ∙ tidied.gone name is isnt;
-    short = λ name is apart. subst (λ (file : File). length (bytes_of file) ≤ named_end root name) (sym (synced.seen name)) (tidied.short name is apart);
-    fronts = λ name. ap (λ (file : File). take (named_end root name) (bytes_of file)) (synced.seen name) ∙ tidied.fronts name;
-    no_longer = λ name. subst (λ (file : File). length (bytes_of file) ≤ length (bytes_of (k name).seen)) (sym (synced.seen name)) (tidied.no_longer name);
-    none_made = λ name none. synced.seen name ∙ tidied.none_made name none;
-    root_same = synced.seen root_name ∙ tidied.root_same;
-  }
-
   pub synced_told : (which : FileName → Type 0) (k m o : Option Content) → Told (Tidied which root) k m → Told Synced m o → Told (Tidied which root) k o
-  synced_told which k m o tidied synced = told_then (Tidied which root) Synced (Tidied which root) k m o (λ a b d is told one two. tidied_synced which a b d one two) tidied synced
+  synced_told which k m o tidied synced = told_then (Tidied which root) Synced (Tidied which root) k m o (λ a b d is told one two. tidied_then which (λ name. ⊥) which (λ name it. inl it) a b d one (tidied_none (λ name. ⊥) b d two.seen (λ name none isnt. none) (λ name none apart. none))) tidied synced

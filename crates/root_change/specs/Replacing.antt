@@ -3,6 +3,7 @@ use Rattle.std.specs.Prelude.{◌≡◌, ◌≢◌, ◌⊎◌, ◌&&◌, not, �
 use Rattle.disk_model.specs.declared.name.FileName.{FileName}
 use Rattle.disk_model.specs.declared.name.FileKind.TheVariants as kind
 use Rattle.disk_model.specs.Disk.{Files, Content, bytes_of}
+use Rattle.disk_model.specs.Synced.{IsSettled}
 use Rattle.root_slots.specs.declared.root.Root.{Root}
 use Rattle.root_slots.specs.RootName.{root_name}
 use Rattle.root_slots.specs.Each.{EachRoot}
@@ -38,10 +39,10 @@ abbrev pub drops : Root → Root → FileName → Bool
 drops old new name = names_file old name && not (names_file new name)
 
 -- Of some files those are gone that the old root names and the new one doesn't. The files that the
--- new one names are as they were, and none was created.
+-- new one names read as before, and none was created.
 pub record Dropped (which : FileName → Type 0) (old new : Root) (k m : Content) : Type 0 where
   pub gone : (name : FileName) → which name → drops old new name ≡ true → (m name).seen ≡ None
-  pub kept : (name : FileName) → names_file new name ≡ true → m name ≡ k name
+  pub kept : (name : FileName) → names_file new name ≡ true → (m name).seen ≡ (k name).seen
   pub none_made : (name : FileName) → (k name).seen ≡ None → (m name).seen ≡ None
 
 -- This file alone.
@@ -55,3 +56,9 @@ IsEpochBelow n name = (name.kind ≡ kind.Epoch) × (name.number < n)
 -- Any file.
 abbrev pub IsAny : FileName → Type 0
 IsAny name = Unit {0}
+
+-- All files are gone that the old root names and the new one doesn't, and all that reads give is on
+-- the disk.
+pub record IsDropped (old new : Root) (k m : Content) : Type 0 where
+  pub dropped : Dropped IsAny old new k m
+  pub settled : IsSettled m

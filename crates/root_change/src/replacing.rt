@@ -11,7 +11,7 @@ ghost use Rattle.root_slots.specs.Valid.{IsRoot};
 ghost use Rattle.disk_model.specs.Beside.{RunsBeside};
 ghost use Rattle.root_change.specs.Names.{bounds_of};
 ghost use Rattle.root_change.specs.Texts.{Texts, OnDisk, KeepsNamed};
-ghost use Rattle.root_change.specs.Replacing.{ToReplace, StandsForEither, drops, Dropped, IsOne, IsEpochBelow, IsAny};
+ghost use Rattle.root_change.specs.Replacing.{ToReplace, StandsForEither, drops, Dropped, IsDropped, IsOne, IsEpochBelow, IsAny};
 
 use crate::names::{cache_file, epoch_file, epoch_place, is_named, map_file};
 use disk_model::{Disk, DiskFault, EPOCHS, FileName};
@@ -69,6 +69,20 @@ fn drop_files<D: Disk>(disk: &mut D, old: &Root, new: &Root) -> Result<(), DiskF
     drop_epochs(disk, old, new)
 }
 
+/// Removes the files that the old root names and the new one doesn't, and syncs.
+fn drop_old<D: Disk>(disk: &mut D, old: &Root, new: &Root) -> Result<(), DiskFault>
+    ensures beside { RunsBeside D.content D.moment D.left_since (bounds_of new.now)
+        disk.old disk.new }
+    ensures dropped { OnOk result
+        (Told (IsDropped old.now new.now) (D.content disk.old) (D.content disk.new)) }
+    ensures settled { OnOk result (WhereTold IsSettled (D.content disk.new)) }
+    ensures cause { HasCause (D.faults disk.old) (D.faults disk.new) result }
+    ensures count { D.reads disk.new ≡ D.reads disk.old }
+{
+    drop_files(disk, old, new)?;
+    disk.sync()
+}
+
 /// Replaces the current root by a new one, whose files have been written.
 ///
 /// Syncs, commits the new root to the slot that isn't current, removes the files that only the old
@@ -105,6 +119,5 @@ pub fn replace_root<D: Disk>(
 {
     disk.sync()?;
     commit(disk, slot, new)?;
-    drop_files(disk, old, new)?;
-    disk.sync()
+    drop_old(disk, old, new)
 }

@@ -1,12 +1,11 @@
 -- The files are tidied, and then synced.
-use Rattle.std.specs.List.{Contains}
 use Rattle.std.proofs.lemmas.Result.{on_ok_weaker}
 use Rattle.disk_model.specs.Beside.{Beside}
 use Rattle.disk_model.specs.BesideLaws.{sync_told, run_on}
 use Rattle.disk_model.specs.Moments.{weaker}
 use Rattle.root_change.specs.Names.{bounds_of}
 use Rattle.root_change.specs.Texts.{StandsFor}
-use Rattle.root_change.proofs.Tidies.{tidying_stands, tidy_told, synced_told}
+use Rattle.root_change.proofs.Tidies.{tidying_stands, tidy_told}
 use Rattle.root_change.proofs.tidying.tidy.Goals as goal
 
 pub returns-in_err-tidy_files-clause-any_moment : goal.returns-in_err-tidy_files-clause-any_moment
@@ -32,11 +31,6 @@ returns-clause-done g c = λ free texts todo.
     let disk = c.args.disk.now in
     let content = g.D.Disk.content in
     on_ok_weaker c.sync.result (tidy_told c.args.root.now free texts c.args.names.now (content disk) (content c.tidy_files.new.disk) (content c.sync.new.self) (g.met.D.Disk.reads_fit disk) todo c.in_ok-tidy_files.ensures.tidied) c.sync.ensures.durable
-
-pub returns-clause-tidied : goal.returns-clause-tidied
-returns-clause-tidied g c =
-    let content = g.D.Disk.content in
-    on_ok_weaker c.sync.result (synced_told c.args.root.now (Contains c.args.names.now) (content c.args.disk.now) (content c.tidy_files.new.disk) (content c.sync.new.self) c.in_ok-tidy_files.ensures.tidied) c.sync.ensures.durable
 
 pub returns-clause-beside : goal.returns-clause-beside
 returns-clause-beside g c =

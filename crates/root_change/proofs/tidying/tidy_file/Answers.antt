@@ -32,7 +32,7 @@ returns-then-is_root-clause-beside g c =
 
 pub returns-then-is_root-clause-tidied : goal.returns-then-is_root-clause-tidied
 returns-then-is_root-clause-tidied g c =
-    root_tidied c.args.root.now c.args.name (g.D.Disk.content c.args.disk.now) (is_root_file c.args.name (sym c.is_root.ensures ∙ c.if-is_root.true))
+    root_tidied c.args.root.now c.args.name (g.D.Disk.content c.args.disk.now) (is_root_file c.args.root.now c.args.name (sym c.is_root.ensures ∙ c.if-is_root.true))
 
 pub returns-clause-beside : goal.returns-clause-beside
 returns-clause-beside g c =
