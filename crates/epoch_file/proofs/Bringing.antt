@@ -88,5 +88,5 @@ pub begins-inside : (part : Part) (window : List ℕ) (found : Option State) →
 begins-inside part window None front inside b = tt
 begins-inside part window (Some s) front inside b =
     let room : 8 + length b.0 ≤ part.end = omega (arith, inside, front, ap length b.1, length-append magic b.0) in
-    let Holds : State → Type 0 = λ t. (t.part.file ≡ part.file) × (t.part.end ≤ part.end) × IsInside t.part t.window in
-    subst Holds (sym b.2) (refl, omega arith, room)
+    let Holds : State → Type 0 = λ t. (t.part.file ≡ part.file) × (t.part.end ≤ part.end) × IsInside t.part t.window × (t.seen ≡ []) in
+    subst Holds (sym b.2) (refl, omega arith, room, refl)

@@ -1,5 +1,5 @@
 mod Fronts
-mod Sizes
+pub mod Sizes
 mod Looks
 mod Numbers
 mod Found
@@ -13,4 +13,5 @@ mod Bringing
 mod Finding
 mod Apart
 mod Planned
+mod Lying
 mod Rewritten

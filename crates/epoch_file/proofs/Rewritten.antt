@@ -1,7 +1,7 @@
 -- An epoch's file that is written anew.
 use Rattle.std.specs.Prelude.{◌≡◌, ◌+◌, ◌<◌, ◌≤◌, ℕ, zero, suc, Bool, true, false, List, [], ◌∷◌, ◌++◌, length, take, drop, get_or, Option, Some, None, Ok, Err, refl, if◌then◌else◌}
 use Rattle.std.proofs.Common.{◌∙◌, sym, ap, subst, arith, append_assoc, length-append, length-take, take_all}
-use Rattle.std.proofs.lemmas.List.{take-append-drop, take_more}
+use Rattle.std.proofs.lemmas.List.{nil_from_length, take-append-drop, take_more}
 use Rattle.arch_base.specs.declared.ids.Id20.{Id20}
 use Rattle.disk_model.specs.declared.name.FileName.{FileName}
 use Rattle.disk_model.specs.declared.name.FileKind.TheVariants.{Epoch}
@@ -11,7 +11,7 @@ use Rattle.disk_model.specs.Disk.{Files, Content, Image, Told, WhereTold, Unchan
 use Rattle.mail_commits.specs.Entries.{magic}
 use Rattle.root_change.specs.Copying.{OthersStay}
 use Rattle.root_change.specs.declared.plan.Target.TheVariants.{Anew}
-use Rattle.root_change.specs.Gathering.{HasSources, PutSources}
+use Rattle.root_change.specs.Gathering.{HasSources, PutSources, gathered}
 use Rattle.root_change.specs.Rewriting.{Plan, no_plan, plan_count, with_range}
 use Rattle.root_change.proofs.Drops.{not_both}
 use Rattle.root_change.proofs.Plans.{written_long, written_with_range}
@@ -255,7 +255,14 @@ plan_refused from n to seen gone refusal (Some c) (Some d) epoch plans same = pl
 written_now : (from : FileName) (n : ℕ) (to : FileName) (seen : List Seen) (gone : List ℕ) (plan : Plan) (long : ℕ) (k m : Content) → IsEpoch n (bytes_of (k from).seen) seen → PlansFile from n seen gone (Ok plan) k → long ≡ plan_count plan → PutSources plan.bytes plan.sources to 0 k m → Rewrites from n to gone k m (Ok long)
 written_now from n to seen gone plan long k m epoch plans count put =
     let all = plans epoch in
-    (seen, epoch, count ∙ (sym (written_long (texts_in k) plan all.0) ∙ ap (λ (l : List ℕ). length l) all.1), λ none. plan_put plan to k m put none ∙ all.1)
+    let kept = kept_from gone 0 epoch.entries in
+    let whole : plan_count plan ≡ length (file_of kept) = sym (written_long (texts_in k) plan all.0) ∙ ap (λ (l : List ℕ). length l) all.1 in (
+      seen,
+      epoch,
+      count ∙ whole,
+      λ none. plan_put plan to k m put none ∙ all.1,
+      λ none. put.added.alone (nil_from_length (gathered plan.bytes k plan.sources) (put.full ∙ (whole ∙ ap (λ (es : List EpochEntry). length (file_of es)) none))),
+    )
 
 pub written_whole : (from : FileName) (n : ℕ) (to : FileName) (seen : List Seen) (gone : List ℕ) (plan : Plan) (long : ℕ) (k m o : Option Content) → WhereTold (λ c. Walks n (bytes_of (c from).seen) (Ok seen)) k → WhereTold (PlansFile from n seen gone (Ok plan)) k → long ≡ plan_count plan → Told Unchanged k m → Told (PutSources plan.bytes plan.sources to 0) m o
     → Told (λ c d. Rewrites from n to gone c d (Ok long)) k o

@@ -18,7 +18,9 @@ use Rattle.disk_model.specs.declared.name.FileName.{FileName}
 use Rattle.disk_model.specs.declared.refusal.WalkRefusal.TheVariants.{Damaged}
 use Rattle.disk_model.specs.Disk.{Kept, Content, WhereTold, Told, Unchanged, bytes_of}
 use Rattle.git_objects.specs.Commits.{IsParent}
+use Rattle.epoch_file.specs.Lying.{LieIn, LiesIn}
 use Rattle.epoch_file.proofs.Fronts.{within}
+use Rattle.epoch_file.proofs.Lying.{lie_more, read_lies}
 use Rattle.epoch_file.proofs.Chains.{chain-push, last-push, valid-push, seen-push, epoch-push, length-seen}
 use Rattle.epoch_file.proofs.Showing.{part_after, left-after, shows-skip}
 use Rattle.epoch_file.proofs.Sizes.{length-entry}
@@ -142,15 +144,21 @@ turns-either (Some k) old mid new true false yes_came part parent seen brings ta
     none-left bytes old.part mid.window old.parent brought.0 brought.1 none
 
 -- A turn advances in the part.
-pub moves-either : (old mid new : State) (found : Bool) → mid.part ≡ old.part → IsInside mid.part mid.window → Takes mid new (Ok found) → Moves old new (Ok found)
-moves-either old mid new true part inside takes =
+pub moves-either : (old mid new : State) (found : Bool) → mid.part ≡ old.part → mid.seen ≡ old.seen → IsInside mid.part mid.window → Takes mid new (Ok found) → Moves old new (Ok found)
+moves-either old mid new true part seen inside takes =
     let r = takes.1 in
     let size : takes.0.1 ≤ length mid.window = omega (arith, r.size, ap length r.is, length-append (bytes_after mid.parent r.entry) r.rest) in
     let some : 0 < takes.0.1 = omega (arith, r.size, entry_some mid.parent r.entry) in
     let offset : mid.part.offset ≡ old.part.offset = ap (λ (p : Part). p.offset) part in
-    let Holds : State → Type 0 = λ t. (old.part.offset < t.part.offset) × IsInside t.part t.window in
-    subst Holds (sym takes.2) (omega (arith, some, offset), omega (arith, size, inside, length-drop takes.0.1 mid.window))
-moves-either old mid new false part inside takes = ap (λ (s : State). s.part.offset) takes.1 ∙ ap (λ (p : Part). p.offset) part
+    let found = takes.0 in
+    let lies : LiesIn old.part.offset (mid.part.offset + found.1) found.0 = subst (λ (n : ℕ). LiesIn n (mid.part.offset + found.1) found.0) offset (read_lies mid.part.offset mid.parent mid.window found r) in
+    let Holds : State → Type 0 = λ t. (old.part.offset < t.part.offset) × IsInside t.part t.window × (LieIn 0 old.part.offset old.seen → LieIn 0 t.part.offset t.seen) in
+    subst Holds (sym takes.2) (
+      omega (arith, some, offset),
+      omega (arith, size, inside, length-drop takes.0.1 mid.window),
+      λ lie. subst (λ (ss : List Seen). LieIn 0 (mid.part.offset + found.1) (ss ++ found.0 ∷ [])) (sym seen) (lie_more 0 old.part.offset (mid.part.offset + found.1) old.seen found.0 (omega arith) (omega (arith, offset)) lie lies),
+    )
+moves-either old mid new false part seen inside takes = ap (λ (s : State). s.part.offset) takes.1 ∙ ap (λ (p : Part). p.offset) part
 
 -- The file's bytes are the same before and after calls that change nothing.
 same_bytes : (k m : Content) (start cur : Part) → Unchanged k m → SamePart start cur → bytes_of (m cur.file).seen ≡ bytes_of (k start.file).seen

@@ -3,6 +3,7 @@ pub mod Appending
 pub mod Walking
 pub mod Windows
 pub mod Sights
+pub mod Lying
 pub mod Reading
 pub mod Runs
 pub mod Steps

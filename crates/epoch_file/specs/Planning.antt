@@ -1,5 +1,5 @@
 -- How an epoch's file is written anew without some of its entries.
-use Rattle.std.specs.Prelude.{◌≡◌, ◌+◌, ℕ, Bool, true, ◌==◌, List, [], ◌∷◌, ◌++◌, length, Option, Some, None, is_some, Result, Ok, Err, if◌then◌else◌}
+use Rattle.std.specs.Prelude.{◌≡◌, ◌+◌, ◌≤◌, ℕ, Bool, true, ◌==◌, List, [], ◌∷◌, ◌++◌, length, slice_get, Option, Some, None, is_some, Result, Ok, Err, if◌then◌else◌}
 use Rattle.std.specs.List.{list_any}
 use Rattle.arch_base.specs.declared.ids.Id20.{Id20}
 use Rattle.disk_model.specs.declared.name.FileName.{FileName}
@@ -8,7 +8,9 @@ use Rattle.disk_model.specs.declared.refusal.WalkRefusal.{WalkRefusal}
 use Rattle.disk_model.specs.declared.refusal.WalkRefusal.TheVariants.{DiskFault, NoMemory, Damaged}
 use Rattle.disk_model.specs.Disk.{Content, Unchanged, WhereTold, bytes_of}
 use Rattle.root_change.specs.declared.plan.Target.TheVariants.{Anew}
-use Rattle.root_change.specs.Rewriting.{Plan, IsPlan, IsPlanFrom, IsPlanWhole, with_bytes, with_range, written_by}
+use Rattle.root_change.specs.declared.sources.Source.{Source}
+use Rattle.root_change.specs.declared.sources.Source.TheVariants.{Bytes, Range}
+use Rattle.root_change.specs.Rewriting.{Plan, IsPlan, IsPlanFrom, IsPlanWhole, plan_count, with_bytes, with_range, written_by}
 use Rattle.root_change.specs.Copying.{file_range}
 use Rattle.root_change.specs.Texts.{Texts}
 use Rattle.git_objects.specs.Objects.{blob_id_of}
@@ -16,6 +18,7 @@ use Rattle.mail_commits.specs.Entries.{commit_id, commit_text}
 use Rattle.epoch_file.specs.declared.planning.NewCommit.{NewCommit}
 use Rattle.epoch_file.specs.declared.entry.Seen.{Seen}
 use Rattle.epoch_file.specs.Entries.{EpochEntry, IsEpochEntry, epoch_of, last_of}
+use Rattle.epoch_file.specs.Lying.{LiesIn, tree_end}
 use Rattle.epoch_file.specs.Sights.{tree_size}
 use Rattle.epoch_file.specs.Walking.{IsDamagedAt, IsEpoch, seen_at}
 
@@ -110,6 +113,63 @@ abbrev pub IsOfEpoch : FileName → Option Plan → Type 0
 IsOfEpoch file None = Unit {0}
 IsOfEpoch file (Some plan) = IsAnewOf file plan
 
+-- A source that is a range ends up to an offset.
+abbrev pub IsUpTo : ℕ → Source → Type 0
+IsUpTo most (Bytes offset count) = Unit {0}
+IsUpTo most (Range range) = range.offset + range.count ≤ most
+
+-- Each range among the sources of a plan ends up to an offset.
+abbrev pub EndUpTo : ℕ → Plan → Type 0
+EndUpTo most plan = (i : ℕ) (source : Source) → slice_get plan.sources i ≡ Some source
+    → IsUpTo most source
+
+-- What holds of a plan, if there is one.
+abbrev pub IfPlan : (Plan → Type 0) → Option Plan → Type 0
+IfPlan P None = Unit {0}
+IfPlan P (Some plan) = P plan
+
+-- If an entry was left out, the plan takes ranges up to an offset, and the new file so far ends here.
+abbrev pub PlannedBy : ℕ → ℕ → Option Plan → Type 0
+PlannedBy most end_ None = Unit {0}
+PlannedBy most end_ (Some plan) = EndUpTo most plan × (plan_count plan ≡ end_)
+
+-- The same of what is planned of a file so far.
+abbrev pub IsPlannedIn : ℕ → Planned → Type 0
+IsPlannedIn most p = PlannedBy most p.end_ p.changed
+
+-- How far the entries reach that stay, if those of the old file so far reach up to an offset: as far,
+-- or up to the end of the new file if an entry was left out.
+abbrev pub reach_by : ℕ → ℕ → Option Plan → ℕ
+reach_by from end_ None = from
+reach_by from end_ (Some plan) = end_
+
+-- The same by what is planned of a file so far.
+abbrev pub reach : ℕ → Planned → ℕ
+reach from p = reach_by from p.end_ p.changed
+
+-- An entry that lies in the first bytes of a file, after those before it, stays: after those that stay.
+pub record KeepsIn (from most : ℕ) (old : Planned) (seen : Seen) (new : Planned) (made : Seen)
+    : Type 0 where
+  pub planned : IsPlannedIn most new
+  pub lies : LiesIn (reach from old) (reach (tree_end seen) new) made
+
+-- Such an entry was left out: those that stay reach no further than they may after it.
+pub record LeavesIn (from most : ℕ) (old : Planned) (seen : Seen) (new : Planned) : Type 0 where
+  pub planned : IsPlannedIn most new
+  pub reach : reach from old ≤ reach (tree_end seen) new
+  pub parent : new.parent ≡ old.parent
+
+-- The number of bytes of a file after its plan, or as before without one.
+abbrev pub count_by : ℕ → Option Plan → ℕ
+count_by before None = before
+count_by before (Some plan) = plan_count plan
+
+-- The plan of the whole file takes ranges up to an offset, if there is one. If an entry stays, the new
+-- file ends where the entries reach that stay.
+pub record FinishesIn (most : ℕ) (old : Planned) (result : Option Plan) : Type 0 where
+  pub ranges : IfPlan (EndUpTo most) result
+  pub count : is_some old.parent ≡ true → (from : ℕ) → count_by from result ≡ reach from old
+
 -- An index is one of these.
 abbrev pub is_among : List ℕ → ℕ → Bool
 is_among gone n = list_any (λ m. m == n) gone
@@ -163,8 +223,8 @@ PlansFile file n seen gone (Err NoMemory) k = Unit {0}
 PlansFile file n seen gone (Err (Damaged at)) k = IsEpoch n (bytes_of (k file).seen) seen → ⊥
 
 -- The results of a rewriting: the old file is an epoch, and the new one, if it wasn't there, has its
--- entries but those with these indexes, and is so long; or the old file is damaged, or memory ran out,
--- and nothing was done; or nothing is told.
+-- entries but those with these indexes, and is so long, and stays as it was where these are all; or
+-- the old file is damaged, or memory ran out, and nothing was done; or nothing is told.
 abbrev pub Rewrites : FileName → ℕ → FileName → List ℕ → Content → Content → Result ℕ WalkRefusal
     → Type 0
 Rewrites from n to gone k m (Ok long) = (seen : List Seen)
@@ -172,6 +232,7 @@ Rewrites from n to gone k m (Ok long) = (seen : List Seen)
     × (long ≡ length (file_of (kept_from gone 0 is.entries)))
     × (bytes_of (k to).seen ≡ []
     → bytes_of (m to).seen ≡ file_of (kept_from gone 0 is.entries))
+    × (kept_from gone 0 is.entries ≡ [] → (m to).seen ≡ (k to).seen)
 Rewrites from n to gone k m (Err (Damaged at)) =
     IsDamagedAt n (bytes_of (k from).seen) at × Unchanged k m
 Rewrites from n to gone k m (Err DiskFault) = Unit {0}

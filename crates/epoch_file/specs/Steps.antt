@@ -11,6 +11,7 @@ use Rattle.epoch_file.specs.declared.entry.Seen.{Seen}
 use Rattle.epoch_file.specs.declared.window.Part.{Part}
 use Rattle.epoch_file.specs.declared.state.State.{State}
 use Rattle.epoch_file.specs.Entries.{EpochEntry, IsEpochEntry, AreEpochEntries, bytes_after, chain, last_of, epoch_of}
+use Rattle.epoch_file.specs.Lying.{LieIn}
 use Rattle.epoch_file.specs.Reading.{IsRead}
 use Rattle.epoch_file.specs.Walking.{seen_from, LacksEntry, LacksMagic, Walks}
 use Rattle.epoch_file.specs.Windows.{Shows, IsInside}
@@ -76,9 +77,11 @@ pub record SamePart (old new : Part) : Type 0 where
   pub file : new.file ≡ old.file
   pub end : new.end ≡ old.end
 
--- A turn advances in the part if it finds an entry, and otherwise stays.
+-- A turn advances in the part if it finds an entry, which lies up to the new offset, and otherwise
+-- stays.
 abbrev pub Moves : State → State → Result Bool WalkRefusal → Type 0
 Moves old new (Ok true) = (old.part.offset < new.part.offset) × IsInside new.part new.window
+    × (LieIn 0 old.part.offset old.seen → LieIn 0 new.part.offset new.seen)
 Moves old new (Ok false) = new.part.offset ≡ old.part.offset
 Moves old new (Err e) = Unit {0}
 
@@ -114,10 +117,11 @@ BeginsWith part window (Some s) =
       seen = [];
     })
 
--- A walk starts in a part of this file, with at most n bytes.
+-- A walk starts in a part of this file, with at most n bytes, and has found no entry yet.
 abbrev pub BeginsIn : FileName → ℕ → Result (Option State) WalkRefusal → Type 0
 BeginsIn file n (Ok None) = Unit {0}
-BeginsIn file n (Ok (Some s)) = (s.part.file ≡ file) × (s.part.end ≤ n) × IsInside s.part s.window
+BeginsIn file n (Ok (Some s)) = (s.part.file ≡ file) × (s.part.end ≤ n)
+    × IsInside s.part s.window × (s.seen ≡ [])
 BeginsIn file n (Err e) = Unit {0}
 
 -- Another entry is needed; or none is, since all n bytes are walked and there is an entry.

@@ -3,7 +3,8 @@ ghost use Rattle.std.specs.Prelude.{◌≡◌, ◌≤◌, ◌+◌, ℕ, true, No
 ghost use Rattle.arch_base.specs.declared.ids.Id20.{Id20};
 ghost use Rattle.arch_base.specs.Counts.{RoseIf};
 ghost use Rattle.disk_model.specs.Disk.{Image, Told, WhereTold, Unchanged, LeavesOnly};
-ghost use Rattle.epoch_file.specs.Planning.{Checks, CommitsAnew, CopiesEntry, Finishes, IsAnewOf, IsMoved, IsOfEpoch, KeepsNext, LeavesNext, TellsLack};
+ghost use Rattle.epoch_file.specs.Lying.{LiesIn};
+ghost use Rattle.epoch_file.specs.Planning.{Checks, CommitsAnew, CopiesEntry, Finishes, FinishesIn, IsAnewOf, IsMoved, IsOfEpoch, IsPlannedIn, KeepsIn, KeepsNext, LeavesIn, LeavesNext, TellsLack};
 ghost use Rattle.epoch_file.specs.Sights.{tree_size};
 
 use crate::entry::Seen;
@@ -84,6 +85,9 @@ impl EpochPlan {
         ensures moved { IfOk result (λ made. (at : ℕ) × (commit : Id20)
             × IsMoved seen.now at commit made) }
         ensures going { OnOk result (is_some self.new.changed ≡ is_some self.old.changed) }
+        ensures some { OnOk result (is_some self.new.parent ≡ true) }
+        ensures lies { IfOk result (λ made. (from : ℕ) (most : ℕ) → LiesIn from most seen.now
+            → IsPlannedIn most self.old → KeepsIn from most self.old seen.now self.new made) }
         ensures same { Told Unchanged (D.content disk.old) (D.content disk.new) }
         ensures any_moment { LeavesOnly D.moment D.left_since disk.old disk.new
             (Image (D.content disk.old)) }
@@ -114,6 +118,8 @@ impl EpochPlan {
         ensures left { OnOk result (LeavesNext self.old seen.now self.new) }
         ensures file { self.new.file ≡ self.old.file }
         ensures changes { OnOk result (is_some self.new.changed ≡ true) }
+        ensures lies { OnOk result ((from : ℕ) (most : ℕ) → LiesIn from most seen.now
+            → IsPlannedIn most self.old → LeavesIn from most self.old seen.now self.new) }
         ensures same { OnErr result (self.new ≡ self.old) }
     {
         if self.changed.is_some() {
@@ -133,6 +139,7 @@ impl EpochPlan {
         ensures finished { Finishes self result }
         ensures epoch { IsOfEpoch self.file result }
         ensures only { is_some result ≡ is_some self.changed }
+        ensures within { (most : ℕ) → IsPlannedIn most self → FinishesIn most self result }
     {
         let EpochPlan {
             file,

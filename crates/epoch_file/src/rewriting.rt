@@ -119,8 +119,7 @@ fn plan_file<D: Disk>(
 ///
 /// The commits after the first entry that is left out are made anew. The other file isn't there
 /// before; it isn't made if no entry stays. Reads the epoch first: it is `Damaged` where `walk` says
-/// so. All memory is taken before the first write, and bounded by the entries and one text at a time;
-/// what is copied goes through one buffer. `DiskFault` comes only if the count of faults rose.
+/// so. `Damaged` and `NoMemory` leave all files. `DiskFault` comes only if the count of faults rose.
 pub fn rewrite<D: Disk>(
     alloc: Global,
     disk: &mut D,

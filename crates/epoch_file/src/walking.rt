@@ -1,7 +1,8 @@
 //! Walks over an epoch's file.
-ghost use Rattle.std.specs.Prelude.{◌≡◌, ◌+◌, ◌<◌, ◌≤◌, length, min, Err};
+ghost use Rattle.std.specs.Prelude.{◌≡◌, ◌+◌, ◌<◌, ◌≤◌, length, min, Err, IfOk};
 ghost use Rattle.arch_base.specs.Counts.{RoseIf};
 ghost use Rattle.disk_model.specs.Disk.{Image, Told, WhereTold, Unchanged, LeavesOnly, bytes_of};
+ghost use Rattle.epoch_file.specs.Lying.{LieIn};
 ghost use Rattle.epoch_file.specs.Walking.{Walks};
 ghost use Rattle.epoch_file.specs.Runs.{OnlyReads, FaultRose, StopRose};
 ghost use Rattle.epoch_file.specs.Windows.{IsInside};
@@ -34,6 +35,8 @@ pub fn walk<D: Disk>(
 ) -> Result<SeenList, WalkRefusal>
     ensures walked { WhereTold (λ k.
         Walks length (bytes_of (k file).seen) result) (D.content disk.old) }
+    // Also where the disk doesn't tell its content.
+    ensures lie { IfOk result (LieIn 0 length) }
     ensures same { Told Unchanged (D.content disk.old) (D.content disk.new) }
     ensures any_moment { LeavesOnly D.moment D.left_since disk.old disk.new
         (Image (D.content disk.old)) }
@@ -137,6 +140,8 @@ fn go_on<D: Disk>(
     requires room { 8 ≤ length piece.old }
     requires inside { IsInside start.part start.window }
     requires end { start.part.end ≤ count }
+    requires lie { LieIn 0 start.part.offset start.seen }
+    ensures lie { IfOk result (LieIn 0 count) }
     ensures walked { WhereTold (λ k.
         GoesOn count (bytes_of (k start.part.file).seen) start result) (D.content disk.old) }
     ensures reads { OnlyReads D.content D.moment D.left_since D.faults disk.old disk.new }

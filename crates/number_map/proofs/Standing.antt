@@ -45,6 +45,12 @@ one_more old new bytes after map stands next =
     stands.spelled ∙ (ap (λ (l : List ℕ). front ++ l) piece ∙ (sym (append_assoc front (record_bytes line) rest) ∙ ap (λ (l : List ℕ). l ++ rest) more)) in
     subst (λ (l : List Record). Stands l rest map) (sym next.lines) (record { valid = valid; spelled = is })
 
+-- So it is whatever follows.
+pub next_valid : (old new : List Record) (bytes : List ℕ) → IsNext bytes old new → AreRecordsFrom 1 old → AreRecordsFrom 1 new
+next_valid old new bytes next valid =
+    let number : length old + 1 ≡ 1 + length old = omega arith in
+    subst (AreRecordsFrom 1) (sym next.lines) (valid_more 1 old next.line valid (subst (λ (k : ℕ). IsRecord k next.line) number next.valid))
+
 -- The first bytes of a piece are those of the rest of the map.
 front_of : (bytes after : List ℕ) → IsEnough 1 bytes after → take 28 (bytes ++ after) ≡ take 28 bytes
 front_of bytes after enough = elim enough [

@@ -1,6 +1,7 @@
 //! Reads records from a piece of a map.
 ghost use Rattle.std.specs.Prelude.{◌≡◌, ◌≢◌, ◌+◌, ◌<◌, ◌≤◌, ◌^◌, ◌++◌, Err, ℕ, List, length, OnOk};
 ghost use Rattle.disk_model.specs.Sizes.{record_size};
+ghost use Rattle.number_map.specs.Records.{AreRecordsFrom};
 ghost use Rattle.number_map.specs.Pieces.{ReadsNext, Stands, IsEnough, ReadsOn};
 
 use crate::line::Records;
@@ -33,6 +34,7 @@ pub fn read_piece(bytes: &[u8], wanted: u32, lines: &mut Records) -> Result<(), 
         → IsEnough wanted bytes.now after
         → ReadsOn result (length lines.old + wanted) map lines.new }
     ensures size { OnOk result (length lines.new ≡ length lines.old + wanted) }
+    ensures valid { AreRecordsFrom 1 lines.old → OnOk result (AreRecordsFrom 1 lines.new) }
     ensures no_fault { result ≢ Err WalkRefusal.DiskFault }
 {
     let mut rest = bytes;

@@ -77,9 +77,8 @@ pub fn plan_without(
 /// message.
 ///
 /// The other file isn't there before. Reads the records first: the map is `Damaged` at the offset of
-/// the first of them that isn't whole in the file or isn't a valid one of its number. All memory is
-/// taken before the first write, and bounded by the records; they are copied through one buffer.
-/// `DiskFault` comes only if the count of faults rose.
+/// the first of them that isn't whole in the file or isn't a valid one of its number. `Damaged` and
+/// `NoMemory` leave all files. `DiskFault` comes only if the count of faults rose.
 pub fn rewrite<D: Disk>(
     alloc: Global,
     disk: &mut D,

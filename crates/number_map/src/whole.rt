@@ -3,6 +3,7 @@ ghost use Rattle.std.specs.Prelude.{◌≡◌, ◌+◌, ◌*◌, ◌<◌, ◌^�
 ghost use Rattle.arch_base.specs.Counts.{RoseIf};
 ghost use Rattle.disk_model.specs.Disk.{Image, Told, WhereTold, Unchanged, LeavesOnly, bytes_of};
 ghost use Rattle.disk_model.specs.Sizes.{record_size};
+ghost use Rattle.number_map.specs.Records.{AreRecordsFrom};
 ghost use Rattle.number_map.specs.Walks.{BeginsWith, Walks};
 ghost use Rattle.number_map.specs.Pieces.{ReadsOn};
 
@@ -35,6 +36,7 @@ fn read_more<D: Disk>(
     ensures read { WhereTold (λ k. BeginsWith lines.old (bytes_of (k file).seen) → ReadsOn result
         (length lines.old + wanted) (bytes_of (k file).seen) lines.new) (D.content disk.old) }
     ensures size { OnOk result (length lines.new ≡ length lines.old + wanted) }
+    ensures valid { AreRecordsFrom 1 lines.old → OnOk result (AreRecordsFrom 1 lines.new) }
     ensures same { Told Unchanged (D.content disk.old) (D.content disk.new) }
     ensures any_moment { LeavesOnly D.moment D.left_since disk.old disk.new
         (Image (D.content disk.old)) }
@@ -59,6 +61,7 @@ fn read_all<D: Disk>(
     requires none { lines.old ≡ [] }
     ensures read { WhereTold (λ k.
         ReadsOn result count (bytes_of (k file).seen) lines.new) (D.content disk.old) }
+    ensures valid { OnOk result (AreRecordsFrom 1 lines.new) }
     ensures same { Told Unchanged (D.content disk.old) (D.content disk.new) }
     ensures any_moment { LeavesOnly D.moment D.left_since disk.old disk.new
         (Image (D.content disk.old)) }
@@ -79,7 +82,7 @@ fn read_all<D: Disk>(
 /// Reads the first `count` records of a map, one for each number from 1 on.
 ///
 /// The map is `Damaged` at the offset of the first of these records that isn't whole in the file or
-/// isn't a valid one of its number. The bytes after the last record aren't read.
+/// isn't a valid one of its number. Bytes after the last record make no difference.
 pub fn walk<D: Disk>(
     alloc: Global,
     disk: &mut D,
@@ -88,6 +91,8 @@ pub fn walk<D: Disk>(
 ) -> Result<Records, WalkRefusal>
     ensures walked { WhereTold (λ k.
         Walks count (bytes_of (k file).seen) result) (D.content disk.old) }
+    // Also where the disk doesn't tell its content.
+    ensures valid { IfOk result (AreRecordsFrom 1) }
     ensures same { Told Unchanged (D.content disk.old) (D.content disk.new) }
     ensures any_moment { LeavesOnly D.moment D.left_since disk.old disk.new
         (Image (D.content disk.old)) }

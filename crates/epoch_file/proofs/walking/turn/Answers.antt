@@ -14,4 +14,4 @@ pub returns-clause-moves : goal.returns-clause-moves
 returns-clause-moves g c =
     let s = c.args.state.now in
     let mid : State = record { part = s.part; window = c.bring.new.window; parent = s.parent; seen = s.seen } in
-    moves-either s mid c.take_one.new.state c.in_ok-take_one.field-0 refl c.in_ok-bring.ensures.inside c.in_ok-take_one.ensures.takes
+    moves-either s mid c.take_one.new.state c.in_ok-take_one.field-0 refl refl c.in_ok-bring.ensures.inside c.in_ok-take_one.ensures.takes

@@ -1,6 +1,6 @@
 -- One more record, or the first that isn't there.
 use Rattle.std.proofs.Common.{rules, arith, ◌≡◌, ◌++◌, drop}
-use Rattle.number_map.proofs.Standing.{one_more, piece_refused, begins_of}
+use Rattle.number_map.proofs.Standing.{next_valid, one_more, piece_refused, begins_of}
 use Rattle.number_map.proofs.pieces.read_piece.Goals as goal
 
 pub returns-in-Err-clause-read : goal.returns-in-Err-clause-read
@@ -15,6 +15,7 @@ loop-preserved c =
     record {
       count = omega (arith, inv.count, c.in-Ok.ensures.size);
       left = omega (arith, inv.left, c.in-Ok.ensures.whole, c.split_at.ensures.back_len);
+      valid = λ valid. next_valid c.loop.lines c.read_next.new.lines c.loop.rest.now c.in-Ok.ensures.next (inv.valid valid);
       stands = λ map after stands. rw rest (one_more c.loop.lines c.read_next.new.lines c.loop.rest.now after map (inv.stands map after stands) c.in-Ok.ensures.next);
     }
 

@@ -1,4 +1,5 @@
 use Rattle.std.proofs.Common.{◌≡◌, ◌+◌, ◌*◌, ◌++◌, ℕ, List, length}
+use Rattle.number_map.specs.Records.{AreRecordsFrom}
 use Rattle.number_map.specs.Pieces.{Stands}
 use Rattle.number_map.proofs.pieces.read_piece.Given as goal
 
@@ -6,5 +7,6 @@ abbrev pub invariant-loop : goal.invariant-loop
 invariant-loop l = record {
   count : length l.lines ≡ length l.fn.lines + l.counter;
   left : length l.rest + 28 * l.counter ≡ length l.bytes;
+  valid : AreRecordsFrom 1 l.fn.lines → AreRecordsFrom 1 l.lines;
   stands : (map after : List ℕ) → Stands l.fn.lines (l.bytes ++ after) map → Stands l.lines (l.rest ++ after) map;
 }

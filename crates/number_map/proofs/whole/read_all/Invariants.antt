@@ -1,5 +1,6 @@
 use Rattle.std.proofs.Common.{◌≡◌, ◌-◌, ◌≤◌, length}
 use Rattle.disk_model.specs.Disk.{Image, Told, WhereTold, Unchanged, LeavesOnly, bytes_of}
+use Rattle.number_map.specs.Records.{AreRecordsFrom}
 use Rattle.number_map.specs.Walks.{BeginsWith}
 use Rattle.number_map.proofs.whole.read_all.Given as goal
 
@@ -7,6 +8,7 @@ abbrev pub invariant-loop-done : goal.invariant-loop-done
 invariant-loop-done g l = record {
   size : length l.lines ≡ l.done;
   bound : l.done ≤ l.count;
+  valid : AreRecordsFrom 1 l.lines;
   begins : WhereTold (λ k. BeginsWith l.lines (bytes_of (k l.file).seen)) (g.D.Disk.content l.disk);
   same : Told Unchanged (g.D.Disk.content l.fn.disk) (g.D.Disk.content l.disk);
   moments : LeavesOnly g.D.Disk.moment g.D.Disk.left_since l.fn.disk l.disk (Image (g.D.Disk.content l.fn.disk));

@@ -1,9 +1,12 @@
 -- An entry stays as it is, or with a new commit.
-use Rattle.std.proofs.Common.{◌≡◌, ap, subst, rules, ℕ, List, Option, Some, None, Ok, Err}
+use Rattle.std.proofs.Common.{◌≡◌, refl, sym, ap, subst, rules, ℕ, List, Option, Some, None, Ok, Err}
 use Rattle.std.proofs.lemmas.Result.{err_from_is_err_and}
 use Rattle.disk_model.specs.Disk.{WhereTold}
 use Rattle.root_change.specs.Rewriting.{Plan, plan_count}
 use Rattle.epoch_file.specs.Planning.{Checks, CopiesEntry, KeepsNext, Planned, TellsLack}
+use Rattle.epoch_file.specs.Lying.{LiesIn}
+use Rattle.epoch_file.specs.Planning.{IsPlannedIn, KeepsIn}
+use Rattle.epoch_file.proofs.Lying.{keeps_copied_in, keeps_in_place}
 use Rattle.epoch_file.proofs.Planned.{checks_copied, checks_refused, checks_same, keep_copied, keep_refused, keep_same}
 use Rattle.epoch_file.proofs.planning.EpochPlan.keep.Goals as goal
 
@@ -84,3 +87,30 @@ returns-in_err-commit-in-Some-clause-damage g c =
     let refusal = c.in_err-commit-in-Some.field-0.0 in
     let p = err_from_is_err_and c.from_residual-in_err-commit-in-Some.result c.from_residual-in_err-commit-in-Some.ensures.1 in
     rw (p.1, p.2) (subst (λ (old : Planned). TellsLack old.file seen k refusal) c.self.view_is c.in_err-commit-in-Some.ensures.damage)
+
+pub returns-in_ok-moved-in-None-clause-lies : goal.returns-in_ok-moved-in-None-clause-lies
+returns-in_ok-moved-in-None-clause-lies g c = λ from most lies in_.
+    let inside = c.self.inside in
+    let seen = c.args.seen.now in
+    let made = c.in_ok-moved-in-None.field-0 in
+    let was : Planned = record { file = inside.file; changed = inside.changed; end_ = inside.end; parent = inside.parent } in
+    let now : Planned = record { file = inside.file; changed = inside.changed; end_ = inside.end; parent = Some seen.commit } in
+    let none : inside.changed ≡ None = search rules in
+    subst (λ (old : Planned). KeepsIn from most old seen now made) c.self.view_is (keeps_in_place from most was now seen made none none c.in_ok-moved-in-None.ensures lies)
+
+pub returns-in_ok-made-in-Some-clause-lies : goal.returns-in_ok-made-in-Some-clause-lies
+returns-in_ok-made-in-Some-clause-lies g c = λ from most lies in_.
+    let inside = c.self.inside in
+    let seen = c.args.seen.now in
+    let commit = c.in_ok-commit-in-Some.commit in
+    let made = c.in_ok-made-in-Some.made in
+    let plan = c.in-Some.plan in
+    let new = c.copy_entry.new.plan in
+    let end_ = c.count-self-inside.result in
+    let was : Planned = record { file = inside.file; changed = inside.changed; end_ = inside.end; parent = inside.parent } in
+    let now : Planned = record { file = inside.file; changed = Some new; end_ = end_; parent = Some commit.id } in
+    let some : inside.changed ≡ Some plan = search rules in
+    let count : end_ ≡ plan_count new = search rules in
+    let before : IsPlannedIn most was = subst (IsPlannedIn most) (sym c.self.view_is) in_ in
+    subst (λ (old : Planned). KeepsIn from most old seen now made) c.self.view_is
+    (keeps_copied_in from most was now plan new seen made commit.id c.as_slice.result.now some refl count c.in_ok-copy_entry-in-Some.ensures.copied c.in_ok-made-in-Some.ensures lies before)
