@@ -6,17 +6,16 @@ use Rattle.disk_model.specs.declared.name.FileKind.{FileKind}
 use Rattle.disk_model.specs.declared.name.FileKind.TheVariants as kind
 use Rattle.disk_model.specs.declared.name.FileName.{FileName}
 use Rattle.disk_model.specs.Disk.{Files, Content, WhereTold, LeavesOnly, bytes_of}
-use Rattle.disk_model.specs.Moments.{weaker}
 use Rattle.root_slots.specs.declared.root.Place.{Place}
 use Rattle.root_slots.specs.declared.root.Root.{Root}
 use Rattle.root_slots.specs.RootName.{root_name}
-use Rattle.root_slots.specs.Valid.{IsRoot, RootFits, no_place}
+use Rattle.root_slots.specs.Valid.{no_place}
 use Rattle.root_change.specs.declared.plan.Target.{Target}
 use Rattle.root_change.specs.declared.plan.Target.TheVariants.{Anew, Behind}
 use Rattle.root_change.specs.Names.{named_by, names_file, named_some, named_none, place_of}
-use Rattle.root_change.specs.Parts.{Parts, PartsFit, IsOwn, RecoversBy as RecoversParts, texts_of}
+use Rattle.root_change.specs.Parts.{Parts, IsOwn}
 use Rattle.root_change.specs.Rewriting.{IsRootAfter, Plan, RecoversPlanned, map_by, map_planned, place_anew, place_by, place_planned, plan_count, plan_of, rewritten}
-use Rattle.root_change.specs.Texts.{HasPartSizes, HasSizes as HasAllSizes, IsOn, StandsFor}
+use Rattle.root_change.specs.Texts.{HasPartSizes, HasSizes as HasAllSizes}
 use Rattle.root_change.proofs.Drops.{named, named_root, named_map, named_number, named_epoch, true_or_false}
 use Rattle.root_change.proofs.Grown.{epoch_isnt_root, map_isnt_root, epoch_is_named, map_is_named}
 use Rattle.root_change.proofs.Sizes.{end_at_most}
@@ -24,68 +23,29 @@ use Rattle.arch_model.specs.Archives.{Archive}
 use Rattle.epoch_store.specs.declared.entries.StoredEntry.{StoredEntry}
 use Rattle.epoch_store.specs.Files.{map_file_of, epoch_file_of}
 use Rattle.epoch_store.specs.Planning.{IsReady, Planning, PlansArchive}
-use Rattle.epoch_store.specs.Recovery.{Names, parts_of, RecoversWith}
-use Rattle.epoch_store.specs.Stores.{HasSizes, IsStoreWith, Keeps, RecoversOneOf, GoesOnAnew, View}
-use Rattle.epoch_store.proofs.Delivering.{store_keeps, store_cache}
-use Rattle.epoch_store.proofs.Parted.{store_owns}
+use Rattle.epoch_store.specs.Recovery.{parts_of}
+use Rattle.epoch_store.specs.Stores.{HasSizes, IsStoreWith, RecoversOneOf, GoesOnAnew, View}
+use Rattle.epoch_store.proofs.NextArchive.{IsNext, next_leaves, store_next}
+use Rattle.epoch_store.proofs.Parted.{store_keeps, store_owns}
 
--- The archive after plans.
-module _ (old : Root) (cache : List ℕ) (a b : Archive) (p : Planning) (next : ℕ) (made : PlansArchive old cache a b p next) where
-  planned_parts : rewritten old p.plans (parts_of a cache) ≡ parts_of b []
-  planned_parts = λ i. λ (k : FileKind) (n : ℕ). made.parts k n i
-
-  module _ (config : old.config ≡ a.config) (new : Root) (after : IsRootAfter old p.plans next new) where
-    names_next : IsRoot new → RootFits new → PartsFit new (rewritten old p.plans (parts_of a cache)) → Names new b
-    names_next valid fits long = record {
-      is_root = valid;
-      fits = fits;
-      config = after.config ∙ (config ∙ sym made.config);
-      next = after.next ∙ sym made.next_is;
-      epochs = λ e below. sym (subst (λ (parts : Parts). length (parts kind.Epoch e) ≡ (place_of new kind.Epoch e).length) planned_parts (long kind.Epoch e));
-    }
-
-    no_cache : new.cache.length ≡ 0
-    no_cache = ap (λ (q : Place). q.length) after.cache
-
-    recovers_next : (image : Files) → RecoversParts new (rewritten old p.plans (parts_of a cache)) image → RecoversWith [] image b
-    recovers_next image by = (
-      new,
-      record {
-        valid = made.valid;
-        names = names_next by.valid by.fits by.long;
-        cache_long = no_cache;
-        stands = subst (λ (parts : Parts). StandsFor new (texts_of new parts) image) planned_parts by.stands;
-      },
-    )
-
-    store_next : (free : ℕ) (k : Option Content) → IsOwn new (1 - free) (rewritten old p.plans (parts_of a cache)) k → IsStoreWith (record { root = new; slot = free; entries = p.entries }) [] b k
-    store_next free None own = absurd own.on
-    store_next free (Some k) own = record {
-      keeps = record { valid = made.valid; names = names_next own.valid own.fits own.long; kept = made.entries };
-      cache_long = no_cache;
-      on = subst (λ (parts : Parts). IsOn new (1 - free) (texts_of new parts) k) planned_parts own.on;
-    }
-
--- Plans of a store's own disk.
-module _ {D : Type 0} (content : D → Option Content) (moment : D → ℕ) (left_since : D → ℕ → Files → Type 0) (v : View) (cache : List ℕ) (a b : Archive) (p : Planning) (next : ℕ) (disk : D) (store : IsStoreWith v cache a (content disk)) (made : PlansArchive v.root cache a b p next) where
-  own : IsOwn v.root (1 - v.slot) (parts_of a cache) (content disk)
-  own = store_owns v cache a (content disk) store
-
-  keeps : Keeps v a
-  keeps = store_keeps v cache a (content disk) store
+-- Plans of a store's own disk make the next archive.
+module _ (v : View) (cache : List ℕ) (a b : Archive) (p : Planning) (next : ℕ) (k : Option Content) (store : IsStoreWith v cache a k) (made : PlansArchive v.root cache a b p next) where
+  planned_next : IsNext (IsRootAfter v.root p.plans next) (rewritten v.root p.plans (parts_of a cache)) [] b
+  planned_next = record {
+    valid = made.valid;
+    parts_are = made.parts;
+    config = λ root after. after.config ∙ ((store_keeps v cache a k store).names.config ∙ sym made.config);
+    next = λ root after. after.next ∙ sym made.next_is;
+    cache_long = λ root after. ap (λ (q : Place). q.length) after.cache;
+  }
 
   -- What a crash leaves.
-  pub carried_leaves : (new : D) → ((parts : Parts) → IsOwn v.root (1 - v.slot) parts (content disk) → LeavesOnly moment left_since disk new (RecoversPlanned v.root p.plans next parts)) → LeavesOnly moment left_since disk new (RecoversOneOf cache a [] b)
-  carried_leaves new leaves =
-      weaker moment left_since disk new (RecoversPlanned v.root p.plans next (parts_of a cache)) (RecoversOneOf cache a [] b) (leaves (parts_of a cache) own)
-      (λ image either. elim either [
-        | inl by ↦ inl (v.root, record { valid = keeps.valid; names = keeps.names; cache_long = store_cache v cache a (content disk) store; stands = by.stands })
-        | inr r ↦ inr (recovers_next v.root cache a b p next made keeps.names.config r.0 r.1 image r.2)
-      ])
+  pub carried_leaves : {D : Type 0} (moment : D → ℕ) (left_since : D → ℕ → Files → Type 0) (disk new : D) → ((parts : Parts) → IsOwn v.root (1 - v.slot) parts k → LeavesOnly moment left_since disk new (RecoversPlanned v.root p.plans next parts)) → LeavesOnly moment left_since disk new (RecoversOneOf cache a [] b)
+  carried_leaves moment left_since disk new leaves = next_leaves _ _ [] b planned_next moment left_since disk new v cache a k store (leaves (parts_of a cache) (store_owns v cache a k store))
 
   -- What the store has then.
-  pub carried_store : (root : Root) (k : Option Content) → IsRootAfter v.root p.plans next root → ((parts : Parts) → IsOwn v.root (1 - v.slot) parts (content disk) → IsOwn root (1 - (1 - v.slot)) (rewritten v.root p.plans parts) k) → IsStoreWith (record { root = root; slot = 1 - v.slot; entries = p.entries }) [] b k
-  carried_store root k after done = store_next v.root cache a b p next made keeps.names.config root after (1 - v.slot) k (done (parts_of a cache) own)
+  pub carried_store : (root : Root) (m : Option Content) → IsRootAfter v.root p.plans next root → ((parts : Parts) → IsOwn v.root (1 - v.slot) parts k → IsOwn root (1 - (1 - v.slot)) (rewritten v.root p.plans parts) m) → IsStoreWith (record { root = root; slot = 1 - v.slot; entries = p.entries }) [] b m
+  carried_store root m after done = store_next _ _ [] b planned_next root after (1 - v.slot) p.entries m made.entries (done (parts_of a cache) (store_owns v cache a k store))
 
 -- The files that a store names have at least their sizes, but for the cache.
 pub part_sizes : (v : View) (k : Option Content) → WhereTold (HasSizes v) k → WhereTold (HasPartSizes v.root) k
@@ -106,19 +66,23 @@ part_sizes v (Some k) sizes = record {
   by kind.Epoch n g apart other is =
       subst (λ (h : ℕ). (place_of v.root kind.Epoch n).length ≤ length (bytes_of (k (named kind.Epoch n h)).seen)) (sym (named_epoch v.root n g is)) (sizes.epochs_long n (named_number v.root n g is))
 
--- So have those that a root names after plans.
-pub sizes_carried : (root : Root) (slot : ℕ) (entries : List StoredEntry) (k : Option Content) → WhereTold (HasAllSizes root) k → WhereTold (HasSizes (record { root = root; slot = slot; entries = entries })) k
-sizes_carried root slot entries None sizes = tt
-sizes_carried root slot entries (Some k) sizes = record {
+-- So have those of a store whose root names files of these sizes.
+pub sizes_of_parts : (root : Root) (slot : ℕ) (entries : List StoredEntry) (k : Option Content) → WhereTold (HasPartSizes root) k → WhereTold (HasSizes (record { root = root; slot = slot; entries = entries })) k
+sizes_of_parts root slot entries None sizes = tt
+sizes_of_parts root slot entries (Some k) sizes = record {
   root = sizes.root_file;
-  map_long = subst (λ (n : ℕ). n ≤ length (bytes_of (k (map_file_of root)).seen)) (named_some root (map_file_of root) (map_is_named root root.map.gen_ refl)) (sizes.lengths (map_file_of root) (map_isnt_root root.map.gen_));
+  map_long = subst (λ (n : ℕ). n ≤ length (bytes_of (k (map_file_of root)).seen)) (named_some root (map_file_of root) (map_is_named root root.map.gen_ refl)) (sizes.lengths (map_file_of root) (map_isnt_root root.map.gen_) (λ wrong. absurd cc));
   epochs_long = λ e below. elim (cases_lt 0 (get_or root.epochs e no_place).length) [
     | inl some ↦
         subst (λ (n : ℕ). n ≤ length (bytes_of (k (epoch_file_of root e)).seen)) (named_some root (epoch_file_of root e) (epoch_is_named root e (get_or root.epochs e no_place).gen_ below some refl))
-        (sizes.lengths (epoch_file_of root e) (epoch_isnt_root e (get_or root.epochs e no_place).gen_))
+        (sizes.lengths (epoch_file_of root e) (epoch_isnt_root e (get_or root.epochs e no_place).gen_) (λ wrong. absurd cc))
     | inr none ↦ omega (arith, none)
   ];
 }
+
+pub sizes_carried : (root : Root) (slot : ℕ) (entries : List StoredEntry) (k : Option Content) → WhereTold (HasAllSizes root) k → WhereTold (HasSizes (record { root = root; slot = slot; entries = entries })) k
+sizes_carried root slot entries None sizes = tt
+sizes_carried root slot entries (Some k) sizes = sizes_of_parts root slot entries (Some k) (record { root_file = sizes.root_file; lengths = λ name apart other. sizes.lengths name apart })
 
 -- A part stays in its file, or is in one of the new generation, or has no bytes.
 pub anew_goes : (n count : ℕ) → ((place_anew n count).gen_ ≡ n) ⊎ (place_anew n count ≡ no_place)

@@ -162,8 +162,8 @@ module _ {D : Type 0} {content : D → Option Content} {moment : D → ℕ} {lef
       let carried = by_views same free_is plans_are carries in
       let slot : 1 - v.slot ≡ free = sym (free_is ∙ ap (λ (u : View). 1 - u.slot) same) in
       subst (λ (n : ℕ). Changed (record { root = root; slot = n; entries = entries })) slot (subst (λ (es : List StoredEntry). Changed (record { root = root; slot = 1 - v.slot; entries = es })) (sym entries_are) (record {
-        any_moment = λ a b cache store room made. carried_leaves content moment left_since v cache a b p next old store (made cache store) new carried.any_moment;
-        done = λ a b cache store room made. carried_store content moment left_since v cache a b p next old store (made cache store) root (content new) carried.root_is carried.done;
+        any_moment = λ a b cache store room made. carried_leaves v cache a b p next (content old) store (made cache store) moment left_since old new carried.any_moment;
+        done = λ a b cache store room made. carried_store v cache a b p next (content old) store (made cache store) root (content new) carried.root_is carried.done;
         settled = carried.settled;
         sizes = sizes_carried root (1 - v.slot) p.entries (content new) carried.sizes;
         goes_on = carried_on v.root root p.plans next ready carried.root_is;
@@ -186,7 +186,7 @@ module _ {D : Type 0} {content : D → Option Content} {moment : D → ℕ} {lef
   carried_failed {refused = rewrite.Short file at} is carries = absurd (cc is)
   carried_failed {refused = rewrite.DiskFault} is carries =
       let carried = by_views same free_is plans_are carries in
-      stopped DiskFault refl (λ a b cache store room made. carried_leaves content moment left_since v cache a b p next old store (made cache store) new carried.any_moment) refl tt (λ a cache store. tt) tt
+      stopped DiskFault refl (λ a b cache store room made. carried_leaves v cache a b p next (content old) store (made cache store) moment left_since old new carried.any_moment) refl tt (λ a cache store. tt) tt
       (record { later = carried.cause.later; failed = λ fault. carried.cause.failed tt; kept = λ never. absurd (never refl) }) fewest carried.between
 
   -- A range was short.

@@ -1,11 +1,9 @@
 -- Texts that are read and compared, and the entries of an epoch that are joined by them.
-use Rattle.std.specs.Prelude.{◌≡◌, ◌≤◌, ℕ, Bool, true, List, [], ◌∷◌, slice_get, Option, Some, None, Ok, Err}
+use Rattle.std.specs.Prelude.{◌≡◌, ◌≤◌, ℕ, Bool, List, [], ◌∷◌, slice_get, Option, Some, None, Ok, Err}
 use Rattle.std.specs.Str.{bytes_eq}
-use Rattle.std.proofs.Common.{◌∙◌, sym, inl, inr, refl}
+use Rattle.std.proofs.Common.{◌∙◌, inr}
 use Rattle.disk_model.specs.Disk.{Files, Content, Told, WhereTold, Unchanged, bytes_of}
 use Rattle.arch_model.specs.Archives.{Entry}
-use Rattle.arch_judge.specs.Indexes.{number_in}
-use Rattle.arch_judge.specs.declared.index.Index.{Index}
 use Rattle.number_map.specs.declared.line.Record.{Record}
 use Rattle.epoch_file.specs.declared.entry.Seen.{Seen}
 use Rattle.epoch_file.specs.Entries.{EpochEntry, AreEpochEntries, epoch_of}
@@ -16,10 +14,8 @@ use Rattle.epoch_store.specs.Files.{as_read, epoch_file_of}
 use Rattle.epoch_store.specs.declared.entries.StoredEntry.{StoredEntry}
 use Rattle.epoch_store.specs.declared.join_refusal.JoinRefusal.{JoinRefusal}
 use Rattle.epoch_store.specs.Damage.{AreWhole}
-use Rattle.epoch_store.specs.Indexes.{IndexesStored}
 use Rattle.epoch_store.specs.Joined.{Joined, Holds, TextIn, ComparesText, JoinsByText, TakesEpoch, AreBefore}
-use Rattle.epoch_store.proofs.Indexes.{index_held}
-use Rattle.epoch_store.proofs.FindingTold.{told_any, told_both}
+use Rattle.epoch_store.proofs.FindingTold.{told_both}
 use Rattle.epoch_store.proofs.Joins.{Comes, comes_first, comes_more, joins_or_stops, all_come}
 
 -- A text of an entry was read.
@@ -38,11 +34,6 @@ both_read root v epoch seen index older old new same before mid among blob kept 
       blob = blob;
       is = λ a b in_old in_new. is ∙ (λ i. bytes_eq (first_text a in_old i) (second_text b in_new i));
     }))
-
--- No older entry has the blob id.
-pub none_read : (root : Root) (v : Joined) (epoch : ℕ) (seen : Seen) (index : Index) (content : Option Content) → IndexesStored v.entries index → number_in index.blobs seen.blob.0 ≡ None → WhereTold (λ k. ComparesText root v epoch seen (Ok true) (as_read k)) content
-none_read root v epoch seen index content indexed none =
-    told_any (ComparesText root v epoch seen (Ok true)) content (λ files rs after all holds. inl (sym ((index_held v index rs after all indexed holds).blobs seen.blob.0) ∙ none, refl))
 
 -- Whatever was joined before, and whatever entries an epoch's file has, some have joined.
 abbrev pub Come : Root → Joined → ℕ → List Seen → Joined → List Seen → Files → Type 0

@@ -12,7 +12,7 @@ use Rattle.arch_model.proofs.LiveEntries.{live-one}
 use Rattle.epoch_store.specs.Planning.{KeepsPlanned, Planning, PlansArchive, PlansEdit, PlansOwn, PlansPurge}
 use Rattle.epoch_store.specs.Stores.{EditsEntries, InEpochs, IsStoreWith, MayEdit, View}
 use Rattle.epoch_store.proofs.CarriedOut.{edited_valid, kept_low, purged_archive}
-use Rattle.epoch_store.proofs.Delivering.{store_keeps}
+use Rattle.epoch_store.proofs.Parted.{store_keeps}
 use Rattle.epoch_store.proofs.Kept.{in_epochs_more}
 
 -- The plans write the archive with the message.

@@ -11,6 +11,7 @@ use Rattle.arch_model.specs.Epochs.{last_commit}
 use Rattle.mail_commits.specs.Entries.{commit_id}
 use Rattle.arch_base.specs.declared.config.Config.{Config}
 use Rattle.root_slots.specs.Valid.{no_place}
+use Rattle.root_change.proofs.Roots.{same_test, other_test}
 use Rattle.epoch_store.specs.declared.entries.StoredEntry.{StoredEntry}
 use Rattle.epoch_store.specs.declared.next.End.{End}
 use Rattle.arch_model.specs.Validity.{Rise, number_after}
@@ -74,14 +75,8 @@ of_some : {X : Type 0} {x y : X} → Some x ≡ Some y → x ≡ y
 of_some {X} {x} {y} is = ap (λ (o : Option X). unwrap_or o x) is
 
 -- The tests of the epoch of a new entry.
-same_number : (m n : ℕ) → m ≡ n → (m == n) ≡ true
-same_number m n is = grind (arith, nat_tests)
-
 test63 : (epoch len limit : ℕ) → epoch ≡ 63 → takes_more limit epoch len ≡ true
-test63 epoch len limit is = rw (same_number epoch 63 is) refl
-
-other_number : (m n : ℕ) → m ≢ n → (m == n) ≡ false
-other_number m n is = grind (arith, nat_tests)
+test63 epoch len limit is = rw (same_test epoch 63 is) refl
 
 shorter : (epoch len limit : ℕ) → len < limit → takes_more limit epoch len ≡ true
 shorter epoch len limit less = let test : nat_lt len limit ≡ true = grind (arith, nat_tests) in rw test (or_true (epoch == 63)) where
@@ -92,18 +87,18 @@ shorter epoch len limit less = let test : nat_lt len limit ≡ true = grind (ari
 longer : (epoch len limit : ℕ) → epoch < 63 → limit ≤ len → takes_more limit epoch len ≡ false
 longer epoch len limit low more =
     let test : nat_lt len limit ≡ false = grind (arith, nat_tests) in
-    rw (other_number epoch 63 (λ is. absurd (omega (arith, low, is)))) test
+    rw (other_test epoch 63 (λ is. absurd (omega (arith, low, is)))) test
 
 -- The generation of a file with bytes, and of a new one.
 gen_old : (v : View) (a : Archive) (epoch : ℕ) → Keeps v a → epoch ≤ 63 → bytes_in a epoch ≢ [] → (place_of v.root epoch None).gen_ ≡ (get_or v.root.epochs epoch no_place).gen_
 gen_old v a epoch keeps small some =
     let is = keeps.names.epochs epoch (omega (arith, small)) in
-    rw (other_number (get_or v.root.epochs epoch no_place).length 0 (λ zero_is. some (nil_from_length (bytes_in a epoch) (sym is ∙ zero_is)))) refl
+    rw (other_test (get_or v.root.epochs epoch no_place).length 0 (λ zero_is. some (nil_from_length (bytes_in a epoch) (sym is ∙ zero_is)))) refl
 
 gen_new : (v : View) (a : Archive) (epoch : ℕ) → Keeps v a → epoch ≤ 63 → bytes_in a epoch ≡ [] → (place_of v.root epoch None).gen_ ≡ next_sequence v.root.sequence
 gen_new v a epoch keeps small none =
     let is = keeps.names.epochs epoch (omega (arith, small)) in
-    rw (same_number (get_or v.root.epochs epoch no_place).length 0 (is ∙ ap length none)) refl
+    rw (same_test (get_or v.root.epochs epoch no_place).length 0 (is ∙ ap length none)) refl
 
 -- The end of an archive without entries.
 pub end_none : (kept : List StoredEntry) (a : Archive) → kept ≡ stored_after [] a.entries → kept ≡ [] → IsEnd a (record { epoch = 0; parent = None })

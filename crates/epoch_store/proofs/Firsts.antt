@@ -2,7 +2,7 @@
 use Rattle.std.specs.Prelude.{◌≡◌, ◌≢◌, ◌+◌, ◌<◌, ◌≤◌, ℕ, zero, suc, Bool, true, false, cond, List, [], ◌∷◌, ◌++◌, length, map, slice_get, unwrap_or, Option, Some, None, if◌then◌else◌, refl}
 use Rattle.std.specs.List.{AllByRecursion}
 use Rattle.std.proofs.Common.{◌∙◌, sym, ap, subst, arith, append_assoc}
-use Rattle.std.proofs.lemmas.List.{append-nil}
+use Rattle.std.proofs.lemmas.List.{append-nil, map-append}
 use Rattle.std.proofs.lemmas.Bool.Decides.{nat_tests}
 use Rattle.git_objects.specs.declared.entry_kind.EntryKind.{EntryKind}
 use Rattle.git_objects.specs.declared.entry_kind.EntryKind.TheVariants.{Message, Deletion}
@@ -17,14 +17,9 @@ use Rattle.arch_model.proofs.ValidArchives.{Agrees, all_after, all_weaker, rise_
 use Rattle.epoch_store.specs.Stores.{stored_after}
 use Rattle.epoch_store.specs.Damage.{messages, has_message, record_of, AreFirst}
 use Rattle.epoch_store.specs.Joined.{AreBefore}
-use Rattle.epoch_store.proofs.UniqueEntries.{Ending}
-use Rattle.epoch_store.proofs.Live.{Apart, numbers_all}
+use Rattle.epoch_store.proofs.Live.{Ending, Apart, numbers_all}
 
--- What holds of all items with one appended holds of that one, and of the others.
-pub all_last : {X : Type 0} (P : X → Type 0) (xs : List X) (x : X) → AllByRecursion P (xs ++ x ∷ []) → P x
-all_last P [] x all = all.0
-all_last P (y ∷ ys) x all = all_last P ys x all.1
-
+-- What holds of all items holds of the first ones, of the others, and of one that was appended.
 pub all_front : {X : Type 0} (P : X → Type 0) (xs ys : List X) → AllByRecursion P (xs ++ ys) → AllByRecursion P xs
 all_front P [] ys all = tt
 all_front P (x ∷ xs) ys all = (all.0, all_front P xs ys all.1)
@@ -32,6 +27,9 @@ all_front P (x ∷ xs) ys all = (all.0, all_front P xs ys all.1)
 pub all_back : {X : Type 0} (P : X → Type 0) (xs ys : List X) → AllByRecursion P (xs ++ ys) → AllByRecursion P ys
 all_back P [] ys all = all
 all_back P (x ∷ xs) ys all = all_back P xs ys all.1
+
+pub all_last : {X : Type 0} (P : X → Type 0) (xs : List X) (x : X) → AllByRecursion P (xs ++ x ∷ []) → P x
+all_last P xs x all = (all_back P xs (x ∷ []) all).0
 
 -- The same of what holds at each place.
 pub place_front : (P : List Entry → Entry → Type 0) (before xs ys : List Entry) → AtEachPlace P before (xs ++ ys) → AtEachPlace P before xs
@@ -69,10 +67,6 @@ pub delivered_joined : (xs ys : List Entry) → delivered (xs ++ ys) ≡ deliver
 delivered_joined [] ys = refl
 delivered_joined (x ∷ xs) ys = delivered_step (is_message x.kind) x (delivered (xs ++ ys)) (delivered xs) (delivered ys) (delivered_joined xs ys)
 
-pub records_joined : (xs ys : List Entry) → map record_of (xs ++ ys) ≡ map record_of xs ++ map record_of ys
-records_joined [] ys = refl
-records_joined (x ∷ xs) ys = ap (λ (l : List Record). record_of x ∷ l) (records_joined xs ys)
-
 -- The first of the first entries.
 pub first_front : (rs after : List Record) (xs ys : List Entry) → AreFirst rs after (xs ++ ys) → AreFirst rs (map record_of (delivered ys) ++ after) xs
 first_front rs after xs ys first = record {
@@ -82,7 +76,7 @@ first_front rs after xs ys first = record {
   ids = place_front LiveDiffer [] xs ys first.ids;
   blobs = blobs_front xs ys first.blobs;
   records = first.records ∙ (ap (λ (l : List Entry). map record_of l ++ after) (delivered_joined xs ys)
-      ∙ (ap (λ (l : List Record). l ++ after) (records_joined (delivered xs) (delivered ys)) ∙ append_assoc (map record_of (delivered xs)) (map record_of (delivered ys)) after));
+      ∙ (ap (λ (l : List Record). l ++ after) (map-append record_of (delivered xs) (delivered ys)) ∙ append_assoc (map record_of (delivered xs)) (map record_of (delivered ys)) after));
 }
 
 -- The epochs of what is kept are those of the entries.

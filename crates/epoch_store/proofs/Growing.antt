@@ -1,11 +1,10 @@
 -- An archive with one more entry, and its bytes.
-use Rattle.std.specs.Prelude.{◌≡◌, ◌≢◌, ◌+◌, ◌-◌, ◌<◌, ◌≤◌, ◌==◌, ℕ, zero, suc, Bool, true, false, List, [], ◌∷◌, ◌++◌, length, Option, Some, None, if◌then◌else◌, refl}
+use Rattle.std.specs.Prelude.{◌≡◌, ◌≢◌, ◌+◌, ◌-◌, ◌<◌, ◌≤◌, ◌==◌, ℕ, zero, suc, Bool, false, List, [], ◌∷◌, ◌++◌, length, Option, Some, None, if◌then◌else◌, refl}
 use Rattle.std.specs.List.{AllByRecursion, flat_map}
 use Rattle.std.proofs.Common.{◌∙◌, sym, ap, arith, append_assoc, length-append}
 use Rattle.std.proofs.lemmas.List.{append-nil}
 use Rattle.std.proofs.lemmas.List.Elements.{filter-append}
 use Rattle.std.proofs.lemmas.Grind.{flat_map-append}
-use Rattle.std.proofs.lemmas.Bool.Decides.{nat_tests}
 use Rattle.arch_base.specs.declared.ids.Id20.{Id20}
 use Rattle.arch_model.specs.Archives.{Entry, Archive, message, deletion, messages, in_epoch}
 use Rattle.arch_model.proofs.LiveEntries.{messages-message, messages-deletion, messages-all}
@@ -15,16 +14,10 @@ use Rattle.number_map.specs.declared.line.Record.{Record}
 use Rattle.number_map.specs.Records.{record_bytes}
 use Rattle.epoch_file.specs.Entries.{bytes_after}
 use Rattle.epoch_file.specs.Appending.{front_at}
+use Rattle.root_change.proofs.Roots.{same_test, other_test}
 use Rattle.epoch_store.specs.Recovery.{entry_of, record_for, records_from, records_of, map_bytes, bytes_in}
 use Rattle.epoch_store.specs.Stores.{in_file, stored_at, stored_after}
 use Rattle.epoch_store.specs.declared.entries.StoredEntry.{StoredEntry}
-
--- A test on numbers that are equal, and on those that aren't.
-same_test : (m n : ℕ) → m ≡ n → (m == n) ≡ true
-same_test m n is = grind (arith, nat_tests)
-
-other_test : (m n : ℕ) → m ≢ n → (m == n) ≡ false
-other_test m n apart = grind (arith, nat_tests)
 
 -- A number has no entry if all entries have lesser numbers.
 no_entry : (es : List Entry) (n : ℕ) → AllByRecursion (λ (e : Entry). e.number < n) es → entry_of es n ≡ None

@@ -25,8 +25,7 @@ use Rattle.epoch_store.specs.Stores.{stored_at, stored_after}
 use Rattle.epoch_store.specs.Indexes.{AreInOrder, IndexesStored, TakesBy, Takes}
 use Rattle.epoch_store.specs.Joined.{Joined, Holds}
 use Rattle.epoch_store.proofs.Growing.{stored_more}
-use Rattle.epoch_store.proofs.UniqueEntries.{Ending}
-use Rattle.epoch_store.proofs.Live.{own_of, there}
+use Rattle.epoch_store.proofs.Live.{Ending, own_of, there}
 use Rattle.epoch_store.proofs.Firsts.{all_last, all_front, rise_front, place_front, place_last, as_deletion, live_more}
 
 -- An index of nothing.

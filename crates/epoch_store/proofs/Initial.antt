@@ -13,6 +13,7 @@ use Rattle.disk_model.specs.declared.name.FileName.{FileName}
 use Rattle.disk_model.specs.Disk.{File, Files, Kept, Content, Image, Told, WhereTold, Unchanged, Synced, Fits, exact, bytes_of, ReadsFit, Elapses, LeavesOnly}
 use Rattle.disk_model.specs.Synced.{IsSettled}
 use Rattle.disk_model.specs.Moments.{started, goes_on, joined}
+use Rattle.disk_model.specs.Tells.{told_where}
 use Rattle.disk_model.specs.Laws.{Fits-Within, Fits-exact, sync_image}
 use Rattle.arch_model.specs.Archives.{empty_archive}
 use Rattle.root_slots.specs.declared.root.Place.{Place}
@@ -30,6 +31,7 @@ use Rattle.epoch_store.specs.Recovery.{map_bytes, parts_of, Names}
 use Rattle.epoch_store.specs.Stores.{IsDiskOf, HasSizes}
 use Rattle.epoch_store.specs.First.{MakesRoot, MakingLeaves, HasOnly, first_root_of}
 use Rattle.root_change.proofs.Drops.{unnamed_apart}
+use Rattle.epoch_store.proofs.FindingTold.{where_so}
 use Rattle.epoch_store.proofs.Making.{first_is_root}
 
 -- An archive without entries is valid.
@@ -112,13 +114,11 @@ owns_empty config (Some k) name valid fit only = record {
 
 -- All that reads give is on the disk.
 pub only_settled : (config : Config) (k : Option Content) → WhereTold (HasOnly (spelling (first_root_of config))) k → WhereTold IsSettled k
-only_settled config None only = tt
-only_settled config (Some k) only = only.settled
+only_settled config k only = where_so _ IsSettled k only (λ c has. has.settled)
 
 -- Its root file has the first root, and is otherwise zeros.
 pub only_rooted : (config : Config) (k : Option Content) → WhereTold (HasOnly (spelling (first_root_of config))) k → WhereTold (HasFirstRoot (spelling (first_root_of config))) k
-only_rooted config None only = tt
-only_rooted config (Some k) only = only.first
+only_rooted config k only = where_so _ (HasFirstRoot (spelling (first_root_of config))) k only (λ c has. has.first)
 
 -- Its files have their sizes.
 pub sized_empty : (config : Config) (k : Option Content) → ReadsFit k → WhereTold (HasOnly (spelling (first_root_of config))) k → WhereTold (HasSizes (record { root = first_root_of config; slot = 0; entries = [] })) k
@@ -150,13 +150,9 @@ shut_unchanged (Some k) (Some m) same shut = λ file fits. shut file (subst (λ 
 
 -- A disk that doesn't change still has the same names.
 pub names_unchanged : (names : List FileName) (old new : Option Content) → Told Unchanged old new → WhereTold (AreAllNames names) old → WhereTold (AreAllNames names) new
-names_unchanged names None None same all = tt
-names_unchanged names None (Some m) same all = absurd same
-names_unchanged names (Some k) None same all = absurd same
-names_unchanged names (Some k) (Some m) same all = record {
-  in_order = all.in_order;
-  all = λ name. subst (λ (kept : Kept). IsSome kept.seen ↔ Contains names name) (sym (same name)) (all.all name);
-}
+names_unchanged names old new =
+    told_where Unchanged (AreAllNames names) (AreAllNames names) old new
+    (λ k m is told same all. record { in_order = all.in_order; all = λ name. subst (λ (kept : Kept). IsSome kept.seen ↔ Contains names name) (sym (same name)) (all.all name) })
 
 -- A sync adds no image.
 pub synced_fewer : (old new : Option Content) (image : Files) → ReadsFit old → Told Synced old new → Image new image → Image old image

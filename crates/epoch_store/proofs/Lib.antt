@@ -1,14 +1,16 @@
 mod Parted
 mod Growing
 mod Ends
-mod Lengthened
+mod Entering
+mod Extents
 mod Delivering
-mod EntryWriting
+mod NextArchive
 mod Mapped
 mod Live
 mod Firsts
 pub mod Indexes
 mod Joins
+mod Recorded
 mod Kept
 pub mod UniqueRoots
 mod UniqueEntries
@@ -41,6 +43,7 @@ mod Placed
 mod Purged
 mod Finishing
 mod Ranges
+mod Taken
 mod CarriedOut
 mod TextDamage
 pub mod Changing

@@ -9,13 +9,17 @@ use Rattle.git_objects.specs.declared.entry_kind.EntryKind.{EntryKind}
 use Rattle.git_objects.specs.declared.entry_kind.EntryKind.TheVariants.{Message, Deletion}
 use Rattle.mail_reader.specs.Ids.{own_id}
 use Rattle.arch_model.specs.Archives.{Entry, is_message, is_ended, is_id, live, messages, owner, text_of}
-use Rattle.arch_model.specs.Validity.{IsFrom, number_after, Rise, AtEachPlace, IdsDiffer}
+use Rattle.arch_model.specs.Validity.{IsFrom, number_after, Rise, AtEachPlace, EndsLive, IdsDiffer}
 use Rattle.arch_model.proofs.LiveEntries.{found-has, all-text, live-all}
 use Rattle.arch_model.proofs.ValidArchives.{all_after}
+use Rattle.root_change.proofs.Roots.{same_test, other_test}
 use Rattle.epoch_store.specs.declared.entries.StoredEntry.{StoredEntry}
 use Rattle.epoch_store.specs.Stores.{stored_at, stored_after}
 use Rattle.epoch_store.specs.Joined.{message_count}
-use Rattle.epoch_store.proofs.UniqueEntries.{Ending}
+
+-- Each deletion ends a message that is live before it.
+abbrev pub Ending : List Entry → Entry → Type 0
+Ending before e = EndsLive e.kind before e
 
 -- The own id of a text, if it has one.
 abbrev pub own_of : List ℕ → List ℕ
@@ -90,13 +94,7 @@ pub messages_ascend : (n epoch : ℕ) (es : List Entry) → Rise n epoch es → 
 messages_ascend n epoch [] rise = tt
 messages_ascend n epoch (e ∷ es) rise = message_step e.kind n e (messages es) rise.0 (messages_ascend (number_after e.kind n e.number) e.epoch es rise.2)
 
--- Tests of numbers.
-same_test : (m n : ℕ) → m ≡ n → (m == n) ≡ true
-same_test m n is = grind (arith, nat_tests)
-
-other_test : (m n : ℕ) → m ≢ n → (m == n) ≡ false
-other_test m n apart = grind (arith, nat_tests)
-
+-- Numbers that are tested to be equal.
 same_by : (m n : ℕ) → (m == n) ≡ true → m ≡ n
 same_by m n is = grind (arith, nat_tests, is)
 

@@ -29,13 +29,16 @@ use Rattle.arch_model.specs.Epochs.{last_commit}
 use Rattle.arch_model.specs.Validity.{IsArchive}
 use Rattle.epoch_file.specs.Appending.{front_at}
 use Rattle.epoch_file.specs.Entries.{EpochEntry, bytes_after}
+use Rattle.epoch_file.specs.Lying.{LiesIn}
 use Rattle.epoch_file.specs.Planning.{Planned}
 use Rattle.epoch_store.specs.declared.entries.StoredEntry.{StoredEntry}
 use Rattle.epoch_store.specs.declared.next.NextPlace.{NextPlace}
+use Rattle.epoch_store.specs.Extents.{AreNamedAfter, AreUpToEpoch, LieFrom, length_planned}
 use Rattle.epoch_store.specs.Planning.{AppendsRecord, AreAnew, AreValid, IsPlaceAfter, IsReady, Planning, PlansArchive, PlansEdit, length_after, length_by, plans_with, with_record}
 use Rattle.epoch_store.specs.Recovery.{Names, bytes_in, map_bytes, parts_of}
 use Rattle.epoch_store.specs.Stores.{EndsAt, View, stored_at}
-use Rattle.epoch_store.proofs.Delivering.{some_bytes}
+use Rattle.epoch_store.proofs.Entering.{some_bytes}
+use Rattle.epoch_store.proofs.Extents.{after_planned, planned_more}
 use Rattle.epoch_store.proofs.Growing.{bytes_here, bytes_other, map_grows, stored_more}
 use Rattle.epoch_store.proofs.Messaged.{each_record, each_with, epoch_isnt_map, here_record, here_with, other_record, other_with, ready_more}
 
@@ -193,14 +196,21 @@ pub message_planned : (v : View) (old one two : Planning) (p : NextPlace) (text 
     → ((before : List Entry) → EndsAt before p → stored ≡ stored_at before (record { kind = Message; number = v.root.next; epoch = p.epoch; text = text; moment = moment })) → one ≡ record { plans = plans_with old.plans p.epoch piece; entries = old.entries; gone = old.gone; current = old.current } → AreValid old.plans
     → AppendsRecord one (record { number = v.root.next; epoch = p.epoch; blob = blob }) two → AreValid two.plans → (plans : List Plan) (before : List StoredEntry) (gone : List ℕ) (current : Option Planned) → record { plans = plans; entries = before; gone = gone; current = current } ≡ two
     → (entries : List StoredEntry) → entries ≡ before ++ stored ∷ [] → stored.seen.kind ≡ Message → stored.number ≡ v.root.next → own_id text ≡ Some stored.seen.id → stored.seen.blob ≡ blob_id_of text → stored.seen.content ≡ content_id_of text → stored.epoch ≡ p.epoch
+    → (end_ : ℕ) → LiesIn p.length end_ stored.seen → end_ ≡ p.length + length piece → (LieFrom 0 0 old.entries → AreUpToEpoch p.epoch old.entries)
     → PlansEdit v old text moment (record { plans = plans; entries = entries; gone = gone; current = current })
-message_planned v old one two p text moment piece blob stored place small long short piece_is blob_is stored_is one_is valid appends valid_two plans before gone current two_is entries entries_are kind_is number_is id_is stored_blob content_is epoch_is =
+message_planned v old one two p text moment piece blob stored place small long short piece_is blob_is stored_is one_is valid appends valid_two plans before gone current two_is entries entries_are kind_is number_is id_is stored_blob content_is epoch_is end_ lies end_is last =
     let line = record_bytes (record { number = v.root.next; epoch = p.epoch; blob = blob }) in
     let one_plans : one.plans ≡ plans_with old.plans p.epoch piece = ap (λ (q : Planning). q.plans) one_is in
     let two_plans : two.plans ≡ with_record (plans_with old.plans p.epoch piece) line = ap (λ (q : Planning). q.plans) appends.0 ∙ ap (λ (l : List Plan). with_record l line) one_plans in
     let plans_are : plans ≡ with_record (plans_with old.plans p.epoch piece) line = ap (λ (q : Planning). q.plans) two_is ∙ two_plans in
     let before_is : before ≡ old.entries = ap (λ (q : Planning). q.entries) two_is ∙ (ap (λ (q : Planning). q.entries) appends.0 ∙ ap (λ (q : Planning). q.entries) one_is) in
     let all : entries ≡ old.entries ++ stored ∷ [] = entries_are ∙ ap (λ (es : List StoredEntry). es ++ stored ∷ []) before_is in
+    let own_is : plan_of plans kind.Epoch stored.epoch ≡ Some (with_bytes (unwrap_or (plan_of old.plans kind.Epoch stored.epoch) (no_plan kind.Epoch stored.epoch Behind)) piece) =
+    subst (λ (e : ℕ). plan_of plans kind.Epoch e ≡ Some (with_bytes (unwrap_or (plan_of old.plans kind.Epoch e) (no_plan kind.Epoch e Behind)) piece)) (sym epoch_is)
+    (ap (λ (l : List Plan). plan_of l kind.Epoch p.epoch) plans_are ∙ (other_record (plans_with old.plans p.epoch piece) line kind.Epoch p.epoch (λ k_is n_is. epoch_isnt_map (sym k_is)) ∙ here_with old.plans p.epoch piece)) in
+    let others_are : (e : ℕ) → e ≢ stored.epoch → plan_of plans kind.Epoch e ≡ plan_of old.plans kind.Epoch e = λ e apart.
+    ap (λ (l : List Plan). plan_of l kind.Epoch e) plans_are
+    ∙ (other_record (plans_with old.plans p.epoch piece) line kind.Epoch e (λ k_is n_is. epoch_isnt_map (sym k_is)) ∙ other_with old.plans p.epoch piece kind.Epoch e (λ k_is n_is. apart (n_is ∙ sym epoch_is))) in
     let map_is : plan_of (plans_with old.plans p.epoch piece) kind.Map 0 ≡ Some appends.1.0 = ap (λ (l : List Plan). plan_of l kind.Map 0) (sym one_plans) ∙ appends.1.1 in
     record {
       entry = stored;
@@ -213,14 +223,15 @@ message_planned v old one two p text moment piece blob stored place small long s
       small = omega (arith, epoch_is, small);
       piece = piece;
       some = piece_some p.length p.parent (record { kind = Message; text = text; moment = moment }) piece piece_is;
-      own = subst (λ (e : ℕ). plan_of plans kind.Epoch e ≡ Some (with_bytes (unwrap_or (plan_of old.plans kind.Epoch e) (no_plan kind.Epoch e Behind)) piece)) (sym epoch_is)
-          (ap (λ (l : List Plan). plan_of l kind.Epoch p.epoch) plans_are ∙ (other_record (plans_with old.plans p.epoch piece) line kind.Epoch p.epoch (λ k_is n_is. epoch_isnt_map (sym k_is)) ∙ here_with old.plans p.epoch piece));
-      others = λ e apart.
-          ap (λ (l : List Plan). plan_of l kind.Epoch e) plans_are
-          ∙ (other_record (plans_with old.plans p.epoch piece) line kind.Epoch e (λ k_is n_is. epoch_isnt_map (sym k_is)) ∙ other_with old.plans p.epoch piece kind.Epoch e (λ k_is n_is. apart (n_is ∙ sym epoch_is)));
+      own = own_is;
+      others = others_are;
       ready = λ ready.
           subst (λ (l : List Plan). IsReady v.root l (v.root.next + 1)) (sym plans_are)
           (message_ready v old p text moment piece blob stored valid place small long short piece_is blob_is stored_is appends.1.0 map_is (subst AreValid two_plans valid_two) ready);
+      named = λ anew named.
+          let long_is : p.length ≡ length_planned v.root old.plans stored.epoch = long ∙ (after_planned v.root old.plans p.epoch anew ∙ ap (length_planned v.root old.plans) (sym epoch_is)) in
+          let last_is : LieFrom 0 0 old.entries → AreUpToEpoch stored.epoch old.entries = λ lie. subst (λ (n : ℕ). AreUpToEpoch n old.entries) (sym epoch_is) (last lie) in
+          subst (λ (es : List StoredEntry). AreNamedAfter v.root plans es) (sym all) (planned_more v.root old.plans plans old.entries stored piece p.length end_ anew own_is others_are long_is end_is last_is lies named);
       archive = λ cache a b made names anew is.
           subst (λ (l : List Plan). PlansArchive v.root cache a (with_entry b (new_epoch b) text moment) (record { plans = l; entries = entries; gone = gone; current = current }) (v.root.next + 1)) (sym plans_are)
           (message_archive v old p text moment piece blob stored valid place small long short piece_is blob_is stored_is appends.1.0 map_is cache a b made names anew is gone current entries all);

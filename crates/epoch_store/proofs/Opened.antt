@@ -1,10 +1,9 @@
 -- Files are opened as what they stand for, and stand for what they are opened as.
-use Rattle.std.specs.Prelude.{◌≡◌, ◌≢◌, ◌+◌, ◌-◌, ◌*◌, ◌<◌, ◌≤◌, ◌==◌, ℕ, zero, suc, nat_lt, Bool, true, false, cond, List, [], ◌∷◌, length, take, map, Option, Some, None, refl}
+use Rattle.std.specs.Prelude.{◌≡◌, ◌≢◌, ◌+◌, ◌-◌, ◌*◌, ◌<◌, ◌≤◌, ℕ, zero, suc, Bool, true, false, cond, List, [], ◌∷◌, length, take, map, Option, Some, None, refl}
 use Rattle.std.specs.List.{AllByRecursion, flat_map}
 use Rattle.std.proofs.Common.{◌∙◌, sym, ap, subst, inl, inr, arith}
 use Rattle.std.proofs.lemmas.List.{append-nil}
 use Rattle.std.proofs.lemmas.Bool.{cases_lt}
-use Rattle.std.proofs.lemmas.Bool.Decides.{nat_tests}
 use Rattle.git_objects.specs.Objects.{blob_id_of}
 use Rattle.disk_model.specs.Disk.{bytes_of}
 use Rattle.arch_model.specs.Archives.{Entry, Archive, messages as delivered}
@@ -19,21 +18,12 @@ use Rattle.epoch_store.proofs.Live.{Ascends, messages_ascend, numbers_all}
 use Rattle.epoch_store.specs.Recovery.{entry_of, record_for, records_from, records_of, map_bytes, Names}
 use Rattle.epoch_store.proofs.Parted.{from_parts, parts_front}
 use Rattle.epoch_store.specs.Damage.{has_message, messages, record_of}
-use Rattle.epoch_store.specs.Openings.{archive_of, OpenedRecovers, RecoversOpened}
+use Rattle.epoch_store.specs.Openings.{archive_of, OpenedRecovers, RecoversMap, RecoversOpened}
 use Rattle.arch_model.proofs.ValidArchives.{all_weaker}
-use Rattle.epoch_store.proofs.Mapped.{records_valid, map_length}
+use Rattle.root_change.proofs.Roots.{same_test, other_test, less_test}
+use Rattle.epoch_store.proofs.Mapped.{records_valid, records_few, map_length}
 use Rattle.epoch_store.proofs.Firsts.{numbers_rise}
 use Rattle.epoch_store.proofs.Opening.{fronts_by}
-
--- Tests on numbers.
-same_test : (m n : ℕ) → m ≡ n → (m == n) ≡ true
-same_test m n is = grind (arith, nat_tests)
-
-other_test : (m n : ℕ) → m ≢ n → (m == n) ≡ false
-other_test m n apart = grind (arith, nat_tests)
-
-less_test : (m n : ℕ) → m < n → nat_lt m n ≡ true
-less_test m n less = grind (arith, nat_tests)
 
 -- The entry of a number is the first one, or one of the others.
 at_first : (e : Entry) (es : List Entry) (n : ℕ) → e.number ≡ n → entry_of (e ∷ es) n ≡ Some e
@@ -202,5 +192,21 @@ recovers_opened differ root files rs a cache has recovers =
         below = all_weaker IsEntry (λ (e : Entry). e.epoch < 64) a.entries (λ e entry. (let small = entry.epoch in omega (arith, small))) valid.entries;
         lengths = recovers.names.epochs;
         fronts = parts.epochs_front;
+      };
+    }
+
+-- Files that stand for an archive have its map.
+pub recovers_map : RecoversMap
+recovers_map root files a cache recovers =
+    let valid = recovers.valid in
+    let count : length (records_of a) ≡ a.next - 1 = records_few a in
+    record {
+      is_root = recovers.names.is_root;
+      fits = recovers.names.fits;
+      current = recovers.stands.current;
+      count = count ∙ ap (λ (n : ℕ). n - 1) (sym recovers.names.next);
+      begins = record {
+        valid = records_valid a valid;
+        spelled = ap (λ (n : ℕ). take n (bytes_of (files (map_file_of root)))) (ap (λ (n : ℕ). 28 * n) count ∙ sym (map_length a valid)) ∙ (parts_front root cache files a recovers).map_front.front;
       };
     }

@@ -2,7 +2,7 @@
 use Rattle.std.specs.Prelude.{◌≡◌, ◌≢◌, ◌⊎◌, ◌+◌, ◌<◌, ◌==◌, ◌^◌, ℕ, zero, suc, false, List, [], ◌∷◌, ◌++◌, length, take, map, Option, Some, None, refl}
 use Rattle.std.specs.List.{AllByRecursion}
 use Rattle.std.proofs.Common.{◌∙◌, sym, ap, subst, inl, inr, arith, append_assoc, length-append}
-use Rattle.std.proofs.lemmas.List.{append-nil, length-take, nil_from_length}
+use Rattle.std.proofs.lemmas.List.{append-nil, length-map, length-take, nil_from_length}
 use Rattle.std.proofs.lemmas.List.Elements.{filter-append}
 use Rattle.std.proofs.lemmas.Bool.Decides.{nat_tests}
 use borrow.Author.Count.{below_more}
@@ -50,25 +50,22 @@ valid_after (x ∷ xs) y ys valid = valid_after xs y ys valid.1
 pub file_valid : (e : Entry) → IsEntry e → IsEpochEntry (in_file e)
 file_valid e valid = record { text = valid.text; moment = valid.moment }
 
--- The entries of an epoch are not changed by those of another.
-all_out : (es : List Entry) (epoch other : ℕ) → epoch ≢ other → AllByRecursion (λ (e : Entry). e.epoch ≡ epoch) es → in_epoch es other ≡ []
-all_out [] epoch other apart all = refl
-all_out (e ∷ es) epoch other apart all =
-    let test : (e.epoch == other) ≡ false = (let is : e.epoch ≡ epoch = all.0 in grind (arith, nat_tests)) in
-    rw test (all_out es epoch other apart all.1)
+-- The entries of an epoch are not changed by those of others.
+pub none_apart : (es : List Entry) (epoch : ℕ) → AllByRecursion (λ (e : Entry). e.epoch ≢ epoch) es → in_epoch es epoch ≡ []
+none_apart [] epoch all = refl
+none_apart (e ∷ es) epoch all =
+    let test : (e.epoch == epoch) ≡ false = (let apart : e.epoch ≢ epoch = all.0 in grind (arith, nat_tests)) in
+    rw test (none_apart es epoch all.1)
 
-pub not_here : (others more : List Entry) (epoch other : ℕ) → epoch ≢ other → AllByRecursion (λ (e : Entry). e.epoch ≡ epoch) more → in_epoch (others ++ more) other ≡ in_epoch others other
-not_here others more epoch other apart stand =
-    filter-append (λ (e : Entry). e.epoch == other) others more ∙ (ap (λ (l : List Entry). in_epoch others other ++ l) (all_out more epoch other apart stand) ∙ append-nil (in_epoch others other))
+not_here : (others more : List Entry) (epoch other : ℕ) → other < epoch → AllByRecursion (λ (e : Entry). e.epoch ≡ epoch) more → in_epoch (others ++ more) other ≡ in_epoch others other
+not_here others more epoch other less stand =
+    filter-append (λ (e : Entry). e.epoch == other) others more
+    ∙ (ap (λ (l : List Entry). in_epoch others other ++ l) (none_apart more other (all_weaker (λ (e : Entry). e.epoch ≡ epoch) _ more (λ e same is. absurd (omega (arith, same, is, less))) stand)) ∙ append-nil (in_epoch others other))
 
 -- The bytes of an epoch that has an entry.
 some_bytes : (more : List Entry) → 0 < length more → epoch_bytes more ≡ magic ++ entries_bytes None more
 some_bytes [] some = absurd (omega (arith, some))
 some_bytes (e ∷ es) some = refl
-
-count_files : (more : List Entry) → length (map in_file more) ≡ length more
-count_files [] = refl
-count_files (e ∷ es) = let rest = count_files es in omega (arith, rest)
 
 -- One more epoch is whole.
 pub whole_more : (root : Root) (files : Files) (epoch : ℕ) (others more : List Entry) → AreWhole root files epoch others → AllByRecursion (λ (e : Entry). e.epoch ≡ epoch) more
@@ -81,10 +78,10 @@ whole_more root files epoch others more whole stand long front =
           (all_weaker (λ (e : Entry). e.epoch < epoch) (λ (e : Entry). e.epoch < epoch + 1) others (λ e less. omega (arith, less)) whole.below)
           (all_weaker (λ (e : Entry). e.epoch ≡ epoch) (λ (e : Entry). e.epoch < epoch + 1) more (λ e same. omega (arith, same)) stand);
       lengths = below_more (λ (e : ℕ). named_length root e ≡ length (epoch_bytes (in_epoch all e))) epoch
-          (λ e less. whole.lengths e less ∙ ap (λ (l : List Entry). length (epoch_bytes l)) (sym (not_here others more epoch e (λ is. absurd (omega (arith, less, is))) stand)))
+          (λ e less. whole.lengths e less ∙ ap (λ (l : List Entry). length (epoch_bytes l)) (sym (not_here others more epoch e less stand)))
           (long ∙ ap (λ (l : List Entry). length (epoch_bytes l)) (sym here));
       fronts = below_more (λ (e : ℕ). Fronts (epoch_bytes (in_epoch all e)) (files (epoch_file_of root e))) epoch
-          (λ e less. subst (λ (l : List Entry). Fronts (epoch_bytes l) (files (epoch_file_of root e))) (sym (not_here others more epoch e (λ is. absurd (omega (arith, less, is))) stand)) (whole.fronts e less))
+          (λ e less. subst (λ (l : List Entry). Fronts (epoch_bytes l) (files (epoch_file_of root e))) (sym (not_here others more epoch e less stand)) (whole.fronts e less))
           (subst (λ (l : List Entry). Fronts (epoch_bytes l) (files (epoch_file_of root epoch))) (sym here) front);
     }
 
@@ -95,16 +92,12 @@ fronts_by n bytes file is size =
     let same : length (take n (bytes_of file)) ≡ length bytes = ap (λ (b : List ℕ). length b) is in
     record { long = omega (arith, long, same, size); front = ap (λ (m : ℕ). take m (bytes_of file)) (sym size) ∙ is }
 
--- Each file starts with no bytes.
-fronts_none : (file : File) → Fronts [] file
-fronts_none file = record { long = omega arith; front = nil_from_length (take 0 (bytes_of file)) (let size = length-take 0 (bytes_of file) in omega (arith, size)) }
-
 -- An epoch that a walk read and whose entries were all joined is whole.
 pub walked_whole : (root : Root) (files : Files) (epoch : ℕ) (others : List Entry) (rs : List Record) (new : Joined) (seen : List Seen) → AreWhole root files epoch others
     → (walked : IsEpoch (named_length root epoch) (bytes_of (files (epoch_file_of root epoch))) seen) → (joined : AreJoined new rs others epoch walked.entries) → AreWhole root files (epoch + 1) (others ++ joined.more)
 walked_whole root files epoch others rs new seen whole walked joined =
     let count = walked.some in
-    let files_are : length walked.entries ≡ length joined.more = ap (λ (l : List EpochEntry). length l) joined.are ∙ count_files joined.more in
+    let files_are : length walked.entries ≡ length joined.more = ap (λ (l : List EpochEntry). length l) joined.are ∙ length-map joined.more in_file in
     let bytes : epoch_of walked.entries ≡ epoch_bytes joined.more =
     ap (λ (l : List EpochEntry). magic ++ chain None l) joined.are ∙ (ap (λ (b : List ℕ). magic ++ b) (sym (chain_of None joined.more)) ∙ sym (some_bytes joined.more (omega (arith, count, files_are)))) in
     let long : named_length root epoch ≡ length (epoch_bytes joined.more) = walked.whole ∙ ap (λ (b : List ℕ). length b) bytes in
@@ -114,7 +107,7 @@ walked_whole root files epoch others rs new seen whole walked joined =
 -- An epoch of length 0 is whole.
 pub empty_whole : (root : Root) (files : Files) (epoch : ℕ) (others : List Entry) → AreWhole root files epoch others → named_length root epoch ≡ 0 → AreWhole root files (epoch + 1) others
 empty_whole root files epoch others whole none =
-    subst (AreWhole root files (epoch + 1)) (append-nil others) (whole_more root files epoch others [] whole tt none (fronts_none (files (epoch_file_of root epoch))))
+    subst (AreWhole root files (epoch + 1)) (append-nil others) (whole_more root files epoch others [] whole tt none (record { long = omega arith; front = refl }))
 
 -- An entry has a byte.
 pub entry_some : (parent : Option Id20) (e : EpochEntry) → bytes_after parent e ≢ []
@@ -138,7 +131,7 @@ early_next root files epoch offset others more rs after whole stand first ends a
       stand = stand;
       spelled = ends.spelled ∙ ap (λ (b : List ℕ). (magic ++ b) ++ ends.rest) chains;
       offset_is = ends.offset_is ∙ ap (λ (b : List ℕ). 8 + length b) chains;
-      wanted = elim ends.wanted [ inl none ↦ inl (nil_from_length more (sym (count_files more) ∙ ap (λ (l : List EpochEntry). length l) (sym are ∙ none))) | inr less ↦ inr less ];
+      wanted = elim ends.wanted [ inl none ↦ inl (nil_from_length more (sym (length-map more in_file) ∙ ap (λ (l : List EpochEntry). length l) (sym are ∙ none))) | inr less ↦ inr less ];
       lacks = λ next left tail same valid is.
           ends.lacks (in_file next) tail (file_valid next (all_last IsEntry (others ++ more) next valid.valid)) (is ∙ ap (λ (p : Option Id20). bytes_after p (in_file next) ++ tail) (sym parents));
     }

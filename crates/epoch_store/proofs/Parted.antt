@@ -30,7 +30,7 @@ use Rattle.root_change.proofs.Changes.{text_named, text_unnamed, parts_measure}
 use Rattle.root_change.proofs.Grown.{epoch_isnt_root, map_isnt_root, epoch_is_named, map_is_named}
 use Rattle.epoch_store.specs.Files.{map_file_of, epoch_file_of, cache_file_of}
 use Rattle.epoch_store.specs.Recovery.{map_bytes, bytes_in, parts_of, Names, RecoversBy}
-use Rattle.epoch_store.specs.Stores.{View, IsDiskWith, IsStoreWith}
+use Rattle.epoch_store.specs.Stores.{View, IsDiskWith, IsStoreWith, Keeps}
 use Rattle.epoch_store.proofs.Mapped.{map_length}
 
 -- No entry is in an epoch above 63.
@@ -124,6 +124,15 @@ exact_stands root texts files exact = record {
   current = exact.current;
   fronts = λ name apart. fronts_equal (texts name) (files name) (exact.ends name apart);
 }
+
+-- A store keeps its archive, and a cache that is as long as its root says.
+pub store_keeps : (v : View) (cache : List ℕ) (a : Archive) (k : Option Content) → IsStoreWith v cache a k → Keeps v a
+store_keeps v cache a None store = absurd store
+store_keeps v cache a (Some k) store = store.keeps
+
+pub store_cache : (v : View) (cache : List ℕ) (a : Archive) (k : Option Content) → IsStoreWith v cache a k → v.root.cache.length ≡ length cache
+store_cache v cache a None store = absurd store
+store_cache v cache a (Some k) store = store.cache_long
 
 -- A store's own disk is that of its archive's parts.
 pub store_owns : (v : View) (cache : List ℕ) (a : Archive) (k : Option Content) → IsStoreWith v cache a k → IsOwn v.root (1 - v.slot) (parts_of a cache) k

@@ -1,5 +1,5 @@
 -- The plans of a purge: from one entry to the next, and all of them.
-use Rattle.std.specs.Prelude.{◌≡◌, ◌+◌, ◌-◌, ◌<◌, ◌≤◌, not, ℕ, zero, suc, Bool, true, false, if◌then◌else◌, List, [], ◌∷◌, ◌++◌, length, take, drop, get_or, slice_get, Option, Some, None, Ok, Err, refl}
+use Rattle.std.specs.Prelude.{◌≡◌, ◌+◌, ◌-◌, ◌*◌, ◌<◌, ◌≤◌, not, ℕ, zero, suc, Bool, true, false, if◌then◌else◌, List, [], ◌∷◌, ◌++◌, length, take, drop, get_or, slice_get, Option, Some, None, Ok, Err, refl}
 use Rattle.std.specs.List.{AllZip, Contains}
 use Rattle.std.specs.Str.{bytes_eq}
 use Rattle.std.proofs.Common.{◌∙◌, sym, ap, subst, inl, inr, arith}
@@ -28,8 +28,9 @@ use Rattle.epoch_file.specs.Planning.{Planned, texts_in}
 use Rattle.epoch_file.specs.declared.refusal.StoreRefusal.{StoreRefusal}
 use Rattle.epoch_file.specs.declared.refusal.StoreRefusal.TheVariants.{DiskFault, NoMemory, Damaged}
 use Rattle.epoch_store.specs.declared.entries.StoredEntry.{StoredEntry}
+use Rattle.epoch_store.specs.Extents.{AreNamedAfter}
 use Rattle.epoch_store.specs.Files.{epoch_file_of, map_file_of}
-use Rattle.epoch_store.specs.Planning.{AreAnew, AreFrom, ArePlansIn, AreWithin, ClosesAs, ClosesLast, FinishesPlans, GivesNext, IsPlannedUpTo, IsReady, KeepsBut, PicksText, Planning, PlansFirst, PlansLost, PlansOwn, PlansPurge, PlansUndamaged, PlansNext, no_planning, without_current}
+use Rattle.epoch_store.specs.Planning.{AreAnew, AreFrom, ArePlansIn, ClosesAs, ClosesLast, FinishesPlans, GivesNext, IsPlannedUpTo, IsReady, IsTaken, KeepsBut, PicksText, Planning, PlansFirst, PlansLost, PlansOwn, PlansPurge, PlansUndamaged, PlansNext, no_planning, without_current}
 use Rattle.epoch_store.specs.Stores.{KeptOf, SeesNoDamage, View, IsDiskWith, stored_after, stored_at, without_blob}
 use Rattle.epoch_store.proofs.Finished.{entries_are, finished_without}
 use Rattle.epoch_store.proofs.Texts.{kept_found}
@@ -217,28 +218,29 @@ module _ (v : View) (blob : Id20) (p new : Planning) (map : FileName) (map_is : 
 
 -- What is known once a planner is finished, of a store that was looked into.
 pub record ReadyOf (v : View) (root : Root) (p new : Planning) : Type 0 where
-  pub from_inside : AreFrom root new.plans
-  pub purge : (blob : Id20) → AllZip KeptOf (without_blob v.entries blob.0) p.entries → PlansLost v.entries blob new.plans → AreWithin root new.plans → PlansPurge v blob new.entries new.plans
+  pub purge : (blob : Id20) → AllZip KeptOf (without_blob v.entries blob.0) p.entries → PlansLost v.entries blob new.plans → PlansPurge v blob new.entries new.plans
   pub own : (blob : Id20) (content : Option Content) → WhereTold (PlansFirst v blob (length v.entries) p) content → PlansOwn v blob new.entries new.plans content
 
-pub ready_of : (v : View) (root : Root) (slot : ℕ) (entries : List StoredEntry) (map : FileName) (p new : Planning) → ◌≡◌ {A = View} (record { root = root; slot = slot; entries = entries }) v → IsRoot root → map ≡ map_file_of root → ArePlansIn v.root p → FinishesPlans p map (root.next - 1) new
-    → ((r : Root) → IsRoot r → map ≡ map_file_of r → ArePlansIn r p → AreFrom r new.plans × AreAnew new.plans × (AreWithin r new.plans → IsReady r new.plans (root.next - 1 + 1))) → ReadyOf v root p new
-ready_of v root slot entries map p new view_is valid map_is are finishes ready =
+pub ready_of : (v : View) (root : Root) (slot : ℕ) (entries : List StoredEntry) (map : FileName) (p new : Planning) → ◌≡◌ {A = View} (record { root = root; slot = slot; entries = entries }) v → IsRoot root → map ≡ map_file_of root → ArePlansIn v.root p → IsTaken v.root p → FinishesPlans p map (root.next - 1) new
+    → ((r : Root) → IsRoot r → map ≡ map_file_of r → r.map.length ≡ 28 * (root.next - 1) → ArePlansIn r p → IsTaken r p → AreFrom r new.plans × AreAnew new.plans × IsReady r new.plans (root.next - 1 + 1) × AreNamedAfter r new.plans new.entries)
+    → ReadyOf v root p new
+ready_of v root slot entries map p new view_is valid map_is are taken finishes ready =
     let root_is : root ≡ v.root = ap (λ (u : View). u.root) view_is in
     let are_inside = subst (λ (r : Root). ArePlansIn r p) (sym root_is) are in
-    let so = ready root valid map_is are_inside in
+    let taken_inside = subst (λ (r : Root). IsTaken r p) (sym root_is) taken in
+    let so = ready root valid map_is valid.map_length are_inside taken_inside in
     let least = valid.next_least in
     let count : root.next - 1 + 1 ≡ root.next = omega (arith, least) in
     let map_so : map ≡ map_file_of v.root = map_is ∙ ap map_file_of root_is in
     let count_so : root.next - 1 ≡ v.root.next - 1 = ap (λ (r : Root). r.next - 1) root_is in
     let from = subst (λ (r : Root). AreFrom r new.plans) root_is so.0 in
     record {
-      from_inside = so.0;
-      purge = λ blob kept lost within. record {
+      purge = λ blob kept lost. record {
         kept = subst (AllZip KeptOf (without_blob v.entries blob.0)) (sym (finish_entries p map (root.next - 1) new finishes)) kept;
-        ready = subst (λ (r : Root). IsReady r new.plans r.next) root_is (subst (IsReady root new.plans) count (so.2 within));
+        ready = subst (λ (r : Root). IsReady r new.plans r.next) root_is (subst (IsReady root new.plans) count so.2);
         anew = so.1;
         lost = lost;
+        named = subst (λ (r : Root). AreNamedAfter r new.plans new.entries) root_is so.3;
       };
       own = λ blob content up. plans_own v blob p new map map_so (root.next - 1) count_so finishes from content up;
     }

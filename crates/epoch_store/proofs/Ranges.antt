@@ -1,21 +1,31 @@
--- Ranges of plans that end up to the bytes that count of their parts.
-use Rattle.std.specs.Prelude.{◌≡◌, ◌+◌, ◌<◌, ◌≤◌, ℕ, true, false, List, length, get_or, slice_get, Some, refl}
+-- Ranges of plans that lie in the bytes that count of their parts.
+use Rattle.std.specs.Prelude.{◌≡◌, ◌+◌, ◌*◌, ◌≤◌, ℕ, List, [], length, get_or, refl}
+use Rattle.std.specs.List.{flat_map}
 use Rattle.std.proofs.Common.{◌∙◌, sym, ap, subst, inl, inr, arith}
 use Rattle.std.proofs.lemmas.Bool.{cases_lt}
-use Rattle.std.proofs.lemmas.Option.{same_Some, slice_get-get_or, slice_get_within}
+use Rattle.std.proofs.lemmas.List.{take_all}
 use Rattle.disk_model.specs.declared.name.FileKind.{FileKind}
 use Rattle.disk_model.specs.declared.name.FileKind.TheVariants as kind
 use Rattle.disk_model.specs.declared.name.FileName.{FileName}
-use Rattle.root_slots.specs.declared.root.Place.{Place}
 use Rattle.root_slots.specs.declared.root.Root.{Root}
 use Rattle.root_slots.specs.Valid.{no_place}
 use Rattle.root_change.specs.declared.sources.Source.{Source}
 use Rattle.root_change.specs.declared.sources.Source.TheVariants.{Bytes, Range}
 use Rattle.root_change.specs.Names.{map_name, named_end, named_some, place_of}
-use Rattle.root_change.specs.Rewriting.{Plan, IsPartToPlan, IsSourceFrom, IsWithin, file_by}
+use Rattle.root_change.specs.Rewriting.{Plan, IsPartToPlan, IsPlanWhole, IsSourceFrom, IsWholeIn, IsWithin, file_by}
 use Rattle.root_change.proofs.Grown.{epoch_is_named, map_is_named}
 use Rattle.root_change.proofs.Sizes.{end_at_most}
-use Rattle.epoch_store.specs.Planning.{AreUpTo, AreWithin, IsFrom, IsPlanWithin, IsUpTo}
+use Rattle.number_map.specs.declared.line.Record.{Record}
+use Rattle.number_map.specs.Records.{AreRecordsFrom, record_bytes}
+use Rattle.number_map.specs.Rewriting.{PlansMap}
+use Rattle.number_map.specs.Sizes.{records_length}
+use Rattle.number_map.specs.Walks.{BeginsWith}
+use Rattle.epoch_file.specs.Planning.{EndUpTo, IsUpTo}
+use Rattle.epoch_store.specs.Damage.{named_length}
+use Rattle.epoch_store.specs.Files.{epoch_file_of, map_file_of}
+use Rattle.epoch_store.specs.Planning.{IsPlanIn, IsPlanWithin}
+use Rattle.epoch_store.specs.Recovery.{records_from}
+use Rattle.epoch_store.proofs.Mapped.{records_are_valid, records_count}
 
 -- All bytes of a part count.
 counts_all : (root : Root) (k : FileKind) (n : ℕ) → IsPartToPlan k n → named_end root (file_by root k n) ≡ (place_of root k n).length
@@ -31,50 +41,38 @@ source_within : (root : Root) (file : FileName) (s : Source) (end_ : ℕ) → Is
 source_within root file (Bytes offset count) end_ own is up = tt
 source_within root file (Range range) end_ own is up = subst (λ (f : FileName). range.offset + range.count ≤ named_end root f) (sym own) (omega (arith, is, up))
 
--- A plan whose ranges end up to the length of its part.
-module _ (root : Root) (plan : Plan) (sources : List Source) (place : Place) (k : FileKind) (n : ℕ) (sources_are : sources ≡ plan.sources) (kind_is : k ≡ plan.kind) (number_is : n ≡ plan.number) (place_is : place ≡ place_of root k n) (own : IsFrom root plan) where
-  length_is : place.length ≡ named_end root (file_by root plan.kind plan.number)
-  length_is =
-      ap (λ (p : Place). p.length) place_is
-      ∙ (ap (λ (m : FileKind). (place_of root m n).length) kind_is ∙ (ap (λ (m : ℕ). (place_of root plan.kind m).length) number_is ∙ sym (counts_all root plan.kind plan.number own.0)))
+-- A plan of an epoch whose ranges end up to its length, and one of the map.
+pub epoch_within : (root : Root) (plan : Plan) → IsPlanIn root plan → EndUpTo (named_length root plan.number) plan → IsPlanWithin root plan
+epoch_within root plan in_ up = λ j s found.
+    let low = in_.small in
+    source_within root (epoch_file_of root plan.number) s (named_length root plan.number) (in_.of.from j s found) (sym (counts_all root kind.Epoch plan.number (omega (arith, low)))) (up j s found)
 
-  pub plan_within : AreUpTo sources place.length true → IsPlanWithin root plan
-  plan_within up = λ j s found. source_within root (file_by root plan.kind plan.number) s place.length (own.1 j s found) length_is (up j s (ap (λ (l : List Source). slice_get l j) sources_are ∙ found))
+-- The plan of a map takes ranges of its records: so it is where these have no message.
+map_up : (map : FileName) (count : ℕ) (gone : List ℕ) (plan : Plan) → PlansMap map count gone plan → EndUpTo (28 * count) plan
+map_up map count gone plan of = λ j s found. by s (whole j s found) where
+  lines : List Record
+  lines = records_from [] 1 count
 
--- The plans so far have ranges that lie in the bytes that count.
-abbrev pub WithinBefore : Root → List Plan → ℕ → Type 0
-WithinBefore root plans n = (i : ℕ) (plan : Plan) → i < n → slice_get plans i ≡ Some plan → IsPlanWithin root plan
+  bytes : List ℕ
+  bytes = flat_map record_bytes lines
 
-pub at_index : (plans : List Plan) (n : ℕ) (p : Plan) → n < length plans → p ≡ get_or plans n p → slice_get plans n ≡ Some p
-at_index plans n p within is = slice_get-get_or plans n p within ∙ ap (λ (q : Plan). Some q) (sym is)
+  valid : AreRecordsFrom 1 lines
+  valid = records_are_valid [] 1 count tt
 
-pub within_more : (root : Root) (plans : List Plan) (n : ℕ) (p : Plan) → slice_get plans n ≡ Some p → IsPlanWithin root p → WithinBefore root plans n → WithinBefore root plans (n + 1)
-within_more root plans n p there one before = λ i plan less here. elim (cases_lt i n) [
-  | inl low ↦ before i plan low here
-  | inr high ↦
-      let n_is : n ≡ i = omega (arith, less, high) in
-      let same : p ≡ plan = same_Some p plan (sym there ∙ (ap (slice_get plans) n_is ∙ here)) in
-      subst (IsPlanWithin root) same one
-]
+  size : length bytes ≡ 28 * count
+  size = records_length 1 lines valid ∙ ap (λ (n : ℕ). 28 * n) (records_count [] 1 count)
 
-pub within_all : (root : Root) (plans : List Plan) (n : ℕ) → length plans ≤ n → WithinBefore root plans n → AreWithin root plans
-within_all root plans n most before = λ i plan here. before i plan (let less = slice_get_within plans i plan here in omega (arith, less, most)) here
+  begins : BeginsWith lines bytes
+  begins = record { valid = valid; spelled = take_all (28 * length lines) bytes (let long = records_length 1 lines valid in omega (arith, long)) }
 
--- The sources so far end up to an offset.
-abbrev pub UpToBefore : List Source → ℕ → ℕ → Type 0
-UpToBefore sources end_ n = (i : ℕ) (s : Source) → i < n → slice_get sources i ≡ Some s → IsUpTo end_ s
+  whole : IsPlanWhole (λ (name : FileName). bytes) plan
+  whole = (of.written (λ (name : FileName). bytes) lines (records_count [] 1 count) begins).0
 
-pub up_more : (sources : List Source) (end_ n : ℕ) (d : Source) → n < length sources → IsUpTo end_ (get_or sources n d) → UpToBefore sources end_ n → UpToBefore sources end_ (n + 1)
-up_more sources end_ n d within one before = λ i r less here. elim (cases_lt i n) [
-  | inl low ↦ before i r low here
-  | inr high ↦
-      let n_is : n ≡ i = omega (arith, less, high) in
-      let same : get_or sources n d ≡ r = same_Some (get_or sources n d) r (sym (slice_get-get_or sources n d within) ∙ (ap (slice_get sources) n_is ∙ here)) in
-      subst (IsUpTo end_) same one
-]
+  by : (s : Source) → IsWholeIn plan.bytes (λ (name : FileName). bytes) s → IsUpTo (28 * count) s
+  by (Bytes offset long) is = tt
+  by (Range range) is = (let is_ : range.offset + range.count ≤ length bytes = is in omega (arith, is_, size))
 
-pub up_none : (sources : List Source) (end_ n : ℕ) (d : Source) → n < length sources → (IsUpTo end_ (get_or sources n d) → ⊥) → AreUpTo sources end_ false
-up_none sources end_ n d within not_one = λ all. not_one (all n (get_or sources n d) (slice_get-get_or sources n d within))
-
-pub up_all : (sources : List Source) (end_ n : ℕ) → length sources ≤ n → UpToBefore sources end_ n → AreUpTo sources end_ true
-up_all sources end_ n most before = λ i s here. before i s (let less = slice_get_within sources i s here in omega (arith, less, most)) here
+pub map_within : (root : Root) (map : FileName) (count : ℕ) (gone : List ℕ) (plan : Plan) → map ≡ map_file_of root → root.map.length ≡ 28 * count → PlansMap map count gone plan → IsPlanWithin root plan
+map_within root map count gone plan map_is long of = λ j s found.
+    source_within root (map_file_of root) s root.map.length (subst (λ (f : FileName). IsSourceFrom f s) map_is (of.from j s found)) (sym (counts_all root kind.Map 0 refl))
+    (subst (λ (n : ℕ). IsUpTo n s) (sym long) (map_up map count gone plan of j s found))

@@ -11,14 +11,15 @@ use Rattle.epoch_file.specs.declared.entry.Seen.{Seen}
 use Rattle.epoch_file.specs.Entries.{EntriesDiffer, EpochEntry, AreEpochEntries, bytes_after, commit_after, chain, last_of, epoch_of, EpochsDiffer}
 use Rattle.epoch_file.specs.Walking.{IsEpoch, EndsEarly, IsDamagedAt}
 use Rattle.root_slots.specs.declared.root.Root.{Root}
+use Rattle.root_slots.specs.Valid.{RootFits}
 use Rattle.root_change.specs.Texts.{Fronts}
 use Rattle.epoch_store.specs.Files.{epoch_file_of}
 use Rattle.epoch_store.specs.declared.entries.StoredEntry.{StoredEntry}
 use Rattle.epoch_store.specs.declared.join_refusal.JoinRefusal.TheVariants.{Damaged}
 use Rattle.epoch_store.specs.declared.join_refusal.Unmatched.{Unmatched}
-use Rattle.epoch_store.specs.Damage.{messages, AreFirst, named_length, IsFirstDamage}
+use Rattle.epoch_store.specs.Damage.{AreFirst, named_length, IsFirstDamage}
 use Rattle.epoch_store.specs.Joined.{Joined, AreJoined, TakesEpoch, Finishes}
-use Rattle.epoch_store.specs.Openings.{HasMap, IsReadUpTo, AreRead}
+use Rattle.epoch_store.specs.Openings.{IsReadUpTo, AreRead}
 use Rattle.epoch_store.proofs.Opening.{fronts_by, walked_whole, empty_whole, early_next, stops_next, entry_some, valid_after}
 use Rattle.epoch_store.proofs.Undamaged.{prefix_of}
 
@@ -26,18 +27,13 @@ use Rattle.epoch_store.proofs.Undamaged.{prefix_of}
 abbrev bytes_at : Root → Files → ℕ → List ℕ
 bytes_at root files epoch = bytes_of (files (epoch_file_of root epoch))
 
+-- The length of an epoch fits its field.
+pub short : (root : Root) (epoch : ℕ) → RootFits root → epoch ≤ 63 → named_length root epoch < 2 ^ 64
+short root epoch fits less = (fits.epochs epoch (omega (arith, less))).length
+
 -- The bytes that a walk read are at the front of the file.
 walked_fronts : (n : ℕ) (file : File) (seen : List Seen) → (walked : IsEpoch n (bytes_of file) seen) → Fronts (epoch_of walked.entries) file
 walked_fronts n file seen walked = fronts_by n (epoch_of walked.entries) file walked.spelled walked.whole
-
--- Nothing is read yet.
-pub read_none : (root : Root) (files : Files) (rs : List Record) (v : Joined) → HasMap root files rs → v.records ≡ messages rs → v.entries ≡ [] → IsReadUpTo root files rs 0 v
-read_none root files rs v has records entries = record {
-  entries = [];
-  after = messages rs;
-  holds = record { numbered = has.begins.valid; records = records; entries_are = entries; first = record { valid = tt; order = tt; ends = tt; ids = tt; blobs = tt; records = refl } };
-  whole = record { below = tt; lengths = λ e less. absurd (omega (arith, less)); fronts = λ e less. absurd (omega (arith, less)) };
-}
 
 -- An epoch of length 0 is read.
 pub read_empty : (root : Root) (files : Files) (rs : List Record) (epoch : ℕ) (v : Joined) → IsReadUpTo root files rs epoch v → named_length root epoch ≡ 0 → IsReadUpTo root files rs (epoch + 1) v
@@ -51,12 +47,12 @@ read_more root files rs epoch old new seen up walked takes =
     record { entries = up.entries ++ joined.more; after = joined.after; holds = joined.holds; whole = walked_whole root files epoch up.entries rs new seen up.whole walked joined }
 
 -- An epoch whose entries could not all be joined is damaged.
-pub read_stopped : EntriesDiffer → (root : Root) (files : Files) (rs : List Record) (epoch offset : ℕ) (old : Joined) (seen : List Seen) → named_length root epoch < 2 ^ 64 → epoch < 64 → IsReadUpTo root files rs epoch old
+pub read_stopped : EntriesDiffer → (root : Root) (files : Files) (rs : List Record) (epoch offset : ℕ) (old : Joined) (seen : List Seen) → RootFits root → epoch ≤ 63 → IsReadUpTo root files rs epoch old
     → IsEpoch (named_length root epoch) (bytes_at root files epoch) seen → TakesEpoch root old epoch seen (Err (Damaged offset)) files → IsFirstDamage root files rs epoch offset
-read_stopped differ root files rs epoch offset old seen short less up walked takes =
+read_stopped differ root files rs epoch offset old seen fits less up walked takes =
     inr (inl (
-      less,
-      stops_next differ root files epoch offset up.entries rs walked.entries [] short up.whole walked.valid (walked.spelled ∙ sym (append-nil (epoch_of walked.entries)))
+      omega (arith, less),
+      stops_next differ root files epoch offset up.entries rs walked.entries [] (short root epoch fits less) up.whole walked.valid (walked.spelled ∙ sym (append-nil (epoch_of walked.entries)))
           (takes rs up.after up.entries walked.entries up.holds up.whole (walked_fronts (named_length root epoch) (files (epoch_file_of root epoch)) seen walked) walked.valid walked.is),
     ))
 
@@ -68,14 +64,14 @@ no_bytes parent (e ∷ es) none =
     absurd (entry_some parent e (nil_from_length (bytes_after parent e) (omega (arith, size, none))))
 
 -- An epoch in which a walk ended at the front or after the magic is damaged there.
-pub read_front : (root : Root) (files : Files) (rs : List Record) (epoch offset : ℕ) (old : Joined) → epoch < 64 → 0 < named_length root epoch → offset ≤ 8 → IsReadUpTo root files rs epoch old
+pub read_front : (root : Root) (files : Files) (rs : List Record) (epoch offset : ℕ) (old : Joined) → epoch ≤ 63 → 0 < named_length root epoch → offset ≤ 8 → IsReadUpTo root files rs epoch old
     → IsDamagedAt (named_length root epoch) (bytes_at root files epoch) offset → IsFirstDamage root files rs epoch offset
 read_front root files rs epoch offset old less some low up (inl lacks) =
-    inl (less, record { before = up.entries; after = up.after; first = up.holds.first; whole = up.whole; some = some; lacks = lacks.1; offset_is = lacks.0 })
+    inl (omega (arith, less), record { before = up.entries; after = up.after; first = up.holds.first; whole = up.whole; some = some; lacks = lacks.1; offset_is = lacks.0 })
 read_front root files rs epoch offset old less some low up (inr ends) =
     let after = ends.offset_is in
     let none : ends.entries ≡ [] = no_bytes None ends.entries (omega (arith, after, low)) in
-    inr (inl (less, early_next root files epoch offset up.entries [] rs up.after up.whole tt (subst (AreFirst rs up.after) (sym (append-nil up.entries)) up.holds.first) ends none))
+    inr (inl (omega (arith, less), early_next root files epoch offset up.entries [] rs up.after up.whole tt (subst (AreFirst rs up.after) (sym (append-nil up.entries)) up.holds.first) ends none))
 
 -- The bytes up to the offset at which a walk ended are an epoch's.
 left_bytes : (n offset : ℕ) (bytes : List ℕ) → (ends : EndsEarly n bytes offset) → take offset bytes ≡ epoch_of ends.entries
@@ -99,25 +95,25 @@ again differ n offset bytes seen short ends walked =
     differ ends.entries walked.entries ends.valid walked.valid (omega (arith, short, is, length-append magic (chain None ends.entries))) (sym (left_bytes n offset bytes ends) ∙ walked.spelled)
 
 -- An epoch in which a walk ended later is damaged there if all entries up to there were joined.
-pub read_left : EpochsDiffer → (root : Root) (files : Files) (rs : List Record) (epoch offset : ℕ) (old new : Joined) (seen : List Seen) → named_length root epoch < 2 ^ 64 → epoch < 64 → 8 < offset → IsReadUpTo root files rs epoch old
+pub read_left : EpochsDiffer → (root : Root) (files : Files) (rs : List Record) (epoch offset : ℕ) (old new : Joined) (seen : List Seen) → RootFits root → epoch ≤ 63 → 8 < offset → IsReadUpTo root files rs epoch old
     → IsDamagedAt (named_length root epoch) (bytes_at root files epoch) offset → IsEpoch offset (bytes_at root files epoch) seen → TakesEpoch root old epoch seen (Ok new) files → IsFirstDamage root files rs epoch offset
-read_left differ root files rs epoch offset old new seen short less high up (inl lacks) walked takes = absurd (let zero_is = lacks.0 in omega (arith, zero_is, high))
-read_left differ root files rs epoch offset old new seen short less high up (inr ends) walked takes =
+read_left differ root files rs epoch offset old new seen fits less high up (inl lacks) walked takes = absurd (let zero_is = lacks.0 in omega (arith, zero_is, high))
+read_left differ root files rs epoch offset old new seen fits less high up (inr ends) walked takes =
     let joined : AreJoined new rs up.entries epoch walked.entries = takes rs up.after up.entries walked.entries up.holds up.whole (walked_fronts offset (files (epoch_file_of root epoch)) seen walked) walked.valid walked.is in
     let within = left_within (named_length root epoch) offset (bytes_at root files epoch) ends in
-    let same = again differ (named_length root epoch) offset (bytes_at root files epoch) seen (omega (arith, within, short)) ends walked in
-    inr (inl (less, early_next root files epoch offset up.entries joined.more rs joined.after up.whole joined.stand joined.holds.first ends (same ∙ joined.are)))
+    let same = again differ (named_length root epoch) offset (bytes_at root files epoch) seen (let small = short root epoch fits less in omega (arith, within, small)) ends walked in
+    inr (inl (omega (arith, less), early_next root files epoch offset up.entries joined.more rs joined.after up.whole joined.stand joined.holds.first ends (same ∙ joined.are)))
 
 -- Otherwise it is damaged before, at the first that could not be joined.
-pub read_left_stopped : EntriesDiffer → EpochsDiffer → (root : Root) (files : Files) (rs : List Record) (epoch left offset : ℕ) (old : Joined) (seen : List Seen) → named_length root epoch < 2 ^ 64 → epoch < 64 → 8 < left → IsReadUpTo root files rs epoch old
+pub read_left_stopped : EntriesDiffer → EpochsDiffer → (root : Root) (files : Files) (rs : List Record) (epoch left offset : ℕ) (old : Joined) (seen : List Seen) → RootFits root → epoch ≤ 63 → 8 < left → IsReadUpTo root files rs epoch old
     → IsDamagedAt (named_length root epoch) (bytes_at root files epoch) left → IsEpoch left (bytes_at root files epoch) seen → TakesEpoch root old epoch seen (Err (Damaged offset)) files → IsFirstDamage root files rs epoch offset
-read_left_stopped entry differ root files rs epoch left offset old seen short less high up (inl lacks) walked takes = absurd (let zero_is = lacks.0 in omega (arith, zero_is, high))
-read_left_stopped entry differ root files rs epoch left offset old seen short less high up (inr ends) walked takes =
+read_left_stopped entry differ root files rs epoch left offset old seen fits less high up (inl lacks) walked takes = absurd (let zero_is = lacks.0 in omega (arith, zero_is, high))
+read_left_stopped entry differ root files rs epoch left offset old seen fits less high up (inr ends) walked takes =
     let within = left_within (named_length root epoch) left (bytes_at root files epoch) ends in
-    let same = again differ (named_length root epoch) left (bytes_at root files epoch) seen (omega (arith, within, short)) ends walked in
+    let same = again differ (named_length root epoch) left (bytes_at root files epoch) seen (let small = short root epoch fits less in omega (arith, within, small)) ends walked in
     inr (inl (
-      less,
-      stops_next entry root files epoch offset up.entries rs walked.entries ends.rest short up.whole walked.valid (ends.spelled ∙ ap (λ (es : List EpochEntry). epoch_of es ++ ends.rest) same)
+      omega (arith, less),
+      stops_next entry root files epoch offset up.entries rs walked.entries ends.rest (short root epoch fits less) up.whole walked.valid (ends.spelled ∙ ap (λ (es : List EpochEntry). epoch_of es ++ ends.rest) same)
           (takes rs up.after up.entries walked.entries up.holds up.whole (walked_fronts left (files (epoch_file_of root epoch)) seen walked) walked.valid walked.is),
     ))
 

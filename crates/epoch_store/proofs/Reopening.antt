@@ -1,13 +1,13 @@
 -- An archive is opened: its files stand for the same before the sync and after it, and the store
 -- keeps it.
-use Rattle.std.specs.Prelude.{◌≡◌, ◌-◌, ◌*◌, ◌<◌, ◌≤◌, ℕ, zero, suc, List, [], ◌∷◌, length, take, get_or, unwrap_or, Option, Some, None, Result, Ok, Err, refl}
+use Rattle.std.specs.Prelude.{◌≡◌, ◌-◌, ◌*◌, ◌<◌, ◌≤◌, ℕ, zero, suc, List, [], ◌∷◌, length, take, get_or, unwrap_or, Option, Some, None, Result, Err, refl}
 use Rattle.std.specs.List.{flat_map}
 use Rattle.std.proofs.Common.{◌∙◌, sym, ap, subst, inl, inr, arith, length-take}
 use Rattle.std.proofs.lemmas.Bool.{cases_lt}
 use Rattle.disk_model.specs.declared.name.FileName.{FileName}
-use Rattle.disk_model.specs.Disk.{File, Files, Content, Image, Told, WhereTold, Unchanged, Synced, Within, exact, bytes_of, ReadsFit}
+use Rattle.disk_model.specs.Disk.{File, Files, Content, Image, Told, WhereTold, Synced, bytes_of, ReadsFit}
 use Rattle.disk_model.specs.Synced.{settled_image}
-use Rattle.disk_model.specs.Tells.{told_then}
+use Rattle.disk_model.specs.Tells.{told_then, told_where}
 use Rattle.arch_model.specs.Archives.{Archive, in_epoch}
 use Rattle.arch_model.specs.Epochs.{epoch_bytes}
 use Rattle.arch_model.specs.declared.opening.OpenRefusal.{OpenRefusal}
@@ -36,7 +36,7 @@ use Rattle.epoch_store.specs.Finding.{Finds, IsFoundIn, IsCurrentRoot, IsDamaged
 use Rattle.epoch_store.specs.Joined.{AreBefore}
 use Rattle.epoch_store.specs.Laws.{RecoversOne}
 use Rattle.epoch_store.specs.Openings.{archive_of, HasMap, OpenedRecovers, RecoversUndamaged}
-use Rattle.epoch_store.specs.Opens.{RecoversOfWith, AllRecoverWith, ReadsWith, Opens, OpensNone, IsWant, IsOnlySynced, SyncsBy, RefusesBefore, OnSynced}
+use Rattle.epoch_store.specs.Opens.{RecoversOfWith, AllRecoverWith, ReadsWith, OpensNone, IsWant, IsOnlySynced, SyncsBy, OnSynced}
 use Rattle.epoch_store.specs.Reads.{HasTexts}
 use Rattle.epoch_store.specs.Recovery.{parts_of, RecoversWith, RecoversBy}
 use Rattle.epoch_store.specs.Settling.{IsFound, FoundOn, KeepsSlots, IsSettledBy}
@@ -51,38 +51,6 @@ pub found_before : (result : Result Found OpenRefusal) (k m : Option Content) �
 found_before result None m synced found = tt
 found_before result (Some k) None synced found = absurd synced
 found_before result (Some k) (Some m) synced found = subst (λ (files : Files). Finds files result) (λ i. λ (name : FileName). synced.seen name i) found
-
--- A sync and calls after it that change nothing leave only the sync.
-pub only_synced : (k m n : Option Content) → Told Synced k m → Told Unchanged m n → Told IsOnlySynced k n
-only_synced None None None synced same = tt
-only_synced None None (Some n) synced same = absurd same
-only_synced None (Some m) n synced same = absurd synced
-only_synced (Some k) None n synced same = absurd synced
-only_synced (Some k) (Some m) None synced same = absurd same
-only_synced (Some k) (Some m) (Some n) synced same =
-    let one : n ≡ m = (λ i. λ (name : FileName). same name i) in
-    let first : IsOnlySynced k m = record {
-      seen = synced.seen;
-      settled = λ name. subst (λ (file : File). Within (m name).sure (exact file)) (sym (synced.seen name)) (synced.crash name);
-    } in
-    subst (λ (c : Content). IsOnlySynced k c) (sym one) first
-
--- Further calls that change nothing leave only the sync.
-pub still_synced : (k m n : Option Content) → Told IsOnlySynced k m → Told Unchanged m n → Told IsOnlySynced k n
-still_synced None None None synced same = tt
-still_synced None None (Some n) synced same = absurd same
-still_synced None (Some m) n synced same = absurd synced
-still_synced (Some k) None n synced same = absurd synced
-still_synced (Some k) (Some m) None synced same = absurd same
-still_synced (Some k) (Some m) (Some n) synced same = let one : n ≡ m = (λ i. λ (name : FileName). same name i) in subst (λ (c : Content). IsOnlySynced k c) (sym one) synced
-
--- An error of a call after the sync leaves only the sync.
-pub refused_synced : {T : Type 0} (result : Result T OpenRefusal) (k n : Option Content) → Told IsOnlySynced k n → SyncsBy result k n
-refused_synced (Ok found) k n synced = synced
-refused_synced (Err NoArchive) k n synced = synced
-refused_synced (Err (Damaged file at)) k n synced = synced
-refused_synced (Err DiskFault) k n synced = tt
-refused_synced (Err NoMemory) k n synced = synced
 
 -- An epoch below 64 is one up to 63.
 pub in_epochs : (es : List StoredEntry) → AreBefore 64 es → InEpochs es
@@ -111,12 +79,12 @@ found_so root slot texts k m synced current stands measures =
       measures = measures;
     }
 
--- The size of the root file after the sync.
-pub found_size : (found : Found) (k m : Option Content) → WhereTold (λ c. IsFoundIn (as_read c) found) k → Told IsOnlySynced k m → WhereTold HasRootSize m
-found_size found None None is synced = tt
-found_size found None (Some m) is synced = absurd synced
-found_size found (Some k) None is synced = absurd synced
-found_size found (Some k) (Some m) is synced = ap (λ (file : File). length (bytes_of file)) (synced.seen root_name) ∙ sized_root (slot_number found.slot) (spelling found.root) (k root_name).seen is.root.current
+-- Files stand for an archive by their current root.
+by_current : SpellingsDiffer → (files : Files) (cache : List ℕ) (a : Archive) (root : Root) (slot : ℕ) → RecoversWith cache files a → IsCurrentRoot root slot files → RecoversBy root cache files a
+by_current spellings files cache a root slot r is =
+    let there = current_has slot (spelling root) (files root_name) is.current in
+    let one : r.0 ≡ root = spellings r.0 root r.1.names.fits is.fits r.1.names.is_root is.is_root (root_is_one (files root_name) (spelling r.0) (spelling root) r.1.stands.current there) in
+    subst (λ (s : Root). RecoversBy s cache files a) one r.1
 
 module _ (found : Found) (files : Files) (is : IsFoundIn files found) where
   root : Root
@@ -125,13 +93,6 @@ module _ (found : Found) (files : Files) (is : IsFoundIn files found) where
   -- The files have this root.
   has_root : IfThere (HasRoot (spelling found.root)) (files root_name)
   has_root = current_has (slot_number found.slot) (spelling found.root) (files root_name) is.root.current
-
-  -- The files stand for their archive by this root.
-  by_root : SpellingsDiffer → (cache : List ℕ) (a : Archive) → RecoversWith cache files a → RecoversBy found.root cache files a
-  by_root spellings cache a r =
-      let one : r.0 ≡ found.root =
-      spellings r.0 found.root r.1.names.fits is.root.fits r.1.names.is_root is.root.is_root (root_is_one (files root_name) (spelling r.0) (spelling found.root) r.1.stands.current has_root) in
-      subst (λ (s : Root). RecoversBy s cache files a) one r.1
 
   -- The archive's entries are those that were read.
   kept_is : RecoversOne → OpenedRecovers → (cache : List ℕ) (a : Archive) → RecoversBy found.root cache files a → found.entries.items ≡ stored_after [] a.entries
@@ -214,19 +175,13 @@ pub opened_kept : (root : Root) (slot : ℕ) (k m n : Option Content) → Told I
 opened_kept root slot k m n synced kept = told_then IsOnlySynced (IsSettledBy root slot) (IsSettledBy root slot) k m n (λ a b c is told one two. settled_since root slot a b c one two) synced kept
 
 pub opened_sizes : (found : Found) (k m n : Option Content) → WhereTold (λ c. IsFoundIn (as_read c) found) k → Told IsOnlySynced k m → Told (IsSettledBy found.root (slot_number found.slot)) m n → WhereTold (HasSizes (view_of found)) n
-opened_sizes found None None None is synced kept = tt
-opened_sizes found None None (Some n) is synced kept = absurd kept
-opened_sizes found None (Some m) n is synced kept = absurd synced
-opened_sizes found (Some k) None n is synced kept = absurd synced
-opened_sizes found (Some k) (Some m) None is synced kept = absurd kept
-opened_sizes found (Some k) (Some m) (Some n) is synced kept = sized_so found k n is (settled_since found.root (slot_number found.slot) k m n synced kept)
+opened_sizes found k m n is synced kept =
+    told_where (IsSettledBy found.root (slot_number found.slot)) (λ c. IsFoundIn (as_read c) found) (HasSizes (view_of found)) k n (λ a b before after settled has. sized_so found a b has settled)
+    (opened_kept found.root (slot_number found.slot) k m n synced kept) is
 
 -- A file starts with no bytes.
 none_fronts : (bytes : List ℕ) (file : File) → length bytes ≡ 0 → Fronts bytes file
-none_fronts [] file none = record { long = omega arith; front = nothing (bytes_of file) } where
-  nothing : (xs : List ℕ) → take 0 xs ≡ []
-  nothing [] = refl
-  nothing (x ∷ xs) = refl
+none_fronts [] file none = record { long = omega arith; front = refl }
 none_fronts (b ∷ bytes) file none = absurd (omega (arith, none))
 
 -- The texts that were read are in their places at the end.
@@ -244,12 +199,9 @@ texts_so found k n is kept = texts-stand (view_of found) is.read.entries n is.re
       (subst (λ (m : ℕ). take m (bytes_of (n name).seen) ≡ take m (bytes_of (k name).seen)) count (kept.fronts name (epoch_isnt_root e (get_or found.root.epochs e no_place).gen_)))
 
 pub opened_texts : (found : Found) (k m n : Option Content) → WhereTold (λ c. IsFoundIn (as_read c) found) k → Told IsOnlySynced k m → Told (IsSettledBy found.root (slot_number found.slot)) m n → WhereTold (HasTexts (view_of found)) n
-opened_texts found None None None is synced kept = tt
-opened_texts found None None (Some n) is synced kept = absurd kept
-opened_texts found None (Some m) n is synced kept = absurd synced
-opened_texts found (Some k) None n is synced kept = absurd synced
-opened_texts found (Some k) (Some m) None is synced kept = absurd kept
-opened_texts found (Some k) (Some m) (Some n) is synced kept = texts_so found k n is (settled_since found.root (slot_number found.slot) k m n synced kept)
+opened_texts found k m n is synced kept =
+    told_where (IsSettledBy found.root (slot_number found.slot)) (λ c. IsFoundIn (as_read c) found) (HasTexts (view_of found)) k n (λ a b before after settled has. texts_so found a b has settled)
+    (opened_kept found.root (slot_number found.slot) k m n synced kept) is
 
 -- A crash before anything is done leaves files of one of these archives.
 pub at_first : (cache : List ℕ) (may : List (Option Archive)) (k : Option Content) (image : Files) → AllRecoverWith cache may k → Image k image → RecoversOfWith cache may image
@@ -263,12 +215,12 @@ module _ (spellings : SpellingsDiffer) where
   opened_store one opened found cache a None m n is reads synced done = absurd reads
   opened_store one opened found cache a (Some k) None n is reads synced done = absurd synced
   opened_store one opened found cache a (Some k) (Some m) n is reads synced done =
-      let r = by_root found (as_read k) is spellings cache a reads in
+      let r = by_current spellings (as_read k) cache a found.root (slot_number found.slot) reads is.root in
       of_disk n (done (texts_found found cache a) (found_archive found cache a k m is r synced)) where
         of_disk : (n : Option Content) → OnDisk found.root (1 - slot_number found.slot) (texts_found found cache a) n → IsStoreWith (view_of found) cache a n
         of_disk None on = absurd on
         of_disk (Some n) on =
-            let r = by_root found (as_read k) is spellings cache a reads in
+            let r = by_current spellings (as_read k) cache a found.root (slot_number found.slot) reads is.root in
             record { keeps = record { valid = r.valid; names = r.names; kept = kept_is found (as_read k) is one opened cache a r }; cache_long = r.cache_long; on = on }
 
   -- While the disk is settled, files stand for an archive that they might have stood for.
@@ -280,7 +232,7 @@ module _ (spellings : SpellingsDiffer) where
     of_one : RecoversOfWith cache may (as_read k) → (a : Archive) × FoundOn found.root (slot_number found.slot) (texts_found found cache a) (Some m) × ((image : Files) → StandsFor found.root (texts_found found cache a) image → RecoversOfWith cache may image)
     of_one (None, in_may, shut) = absurd (not_shut (as_read k root_name) (spelling found.root) (has_root found (as_read k) is) shut)
     of_one (Some a, in_may, recovers) =
-        let r = by_root found (as_read k) is spellings cache a recovers in
+        let r = by_current spellings (as_read k) cache a found.root (slot_number found.slot) recovers is.root in
         (a, found_archive found cache a k m is r synced, λ image stands. (Some a, in_may, (found.root, record { valid = r.valid; names = r.names; cache_long = r.cache_long; stands = stands })))
 
   -- While the disk is settled, files stand for the archive as which they read.
@@ -289,7 +241,7 @@ module _ (spellings : SpellingsDiffer) where
   reading_stands found cache a None m is reads synced = absurd reads
   reading_stands found cache a (Some k) None is reads synced = absurd synced
   reading_stands found cache a (Some k) (Some m) is reads synced =
-      let r = by_root found (as_read k) is spellings cache a reads in
+      let r = by_current spellings (as_read k) cache a found.root (slot_number found.slot) reads is.root in
       (found_archive found cache a k m is r synced, λ image stands. (found.root, record { valid = r.valid; names = r.names; cache_long = r.cache_long; stands = stands }))
 
   -- Files that stand for an archive are opened.
@@ -301,19 +253,11 @@ module _ (spellings : SpellingsDiffer) where
         damaged.none recovers.0 recovers.1.names.fits recovers.1.names.is_root
         (root_is_one (Some bytes) (body_at bytes damaged.slot) (spelling recovers.0) (damaged.slot, damaged.current) there)
 
-    -- They stand for the archive by their current root.
-    by_current : (root : Root) (slot : ℕ) → IsCurrentRoot root slot files → RecoversBy root cache files a
-    by_current root slot current =
-        let there = current_has slot (spelling root) (files root_name) current.current in
-        let one : recovers.0 ≡ root =
-        spellings recovers.0 root recovers.1.names.fits current.fits recovers.1.names.is_root current.is_root (root_is_one (files root_name) (spelling recovers.0) (spelling root) recovers.1.stands.current there) in
-        subst (λ (s : Root). RecoversBy s cache files a) one recovers.1
-
     no_damage : (file : FileName) (at : ℕ) → IsDamagedFile files file at → ⊥
     no_damage file at (inl d) = root_undamaged at (files root_name) recovers.1.stands.current d.damaged
-    no_damage file at (inr (inl d)) = (undamaged d.root files a cache (by_current d.root d.slot d.current)).0 at d.damaged
+    no_damage file at (inr (inl d)) = (undamaged d.root files a cache (by_current spellings files cache a d.root d.slot recovers d.current)).0 at d.damaged
     no_damage file at (inr (inr d)) =
-        let r = by_current d.root d.slot d.current in
+        let r = by_current spellings files cache a d.root d.slot recovers d.current in
         let map : HasMap d.root files d.records = record {
           is_root = d.current.is_root;
           fits = d.current.fits;
@@ -332,20 +276,6 @@ module _ (spellings : SpellingsDiffer) where
   pub opens_well : RecoversUndamaged → (cache : List ℕ) (a : Archive) (k : Option Content) (refusal : OpenRefusal) → ReadsWith cache a k → WhereTold (λ c. Finds (as_read c) (Err refusal)) k → IsWant refusal
   opens_well undamaged cache a None refusal reads finds = absurd reads
   opens_well undamaged cache a (Some k) refusal reads finds = finds_well undamaged (as_read k) cache a reads refusal finds
-
--- An error of the search is an error of opening.
-pub finds_opens : (refusal : OpenRefusal) (files : Files) → Finds files (Err refusal) → Opens files (Err refusal)
-finds_opens NoArchive files found = found
-finds_opens (Damaged file at) files found = found
-finds_opens DiskFault files found = tt
-finds_opens NoMemory files found = tt
-
--- An error of the search leaves only the sync.
-pub refuses_before : (T U : Type 0) (refusal : OpenRefusal) (k n : Option Content) → SyncsBy {T = T} (Err refusal) k n → RefusesBefore {T = U} (Err refusal) k n
-refuses_before T U NoArchive k n synced = synced
-refuses_before T U (Damaged file at) k n synced = synced
-refuses_before T U DiskFault k n synced = tt
-refuses_before T U NoMemory k n synced = synced
 
 -- What a crash leaves of a disk that was only synced stands for the archive as which its files read.
 pub synced_recovers : (cache : List ℕ) (a : Archive) (k m : Option Content) (image : Files) → ReadsWith cache a k → Told IsOnlySynced k m → Image m image → RecoversWith cache image a
@@ -369,16 +299,3 @@ on_synced U P NoArchive so = so
 on_synced U P (Damaged file at) so = so
 on_synced U P DiskFault so = tt
 on_synced U P NoMemory so = so
-
--- Settling fails only because the disk failed or memory ran out.
-pub rest_opens : (refusal : OpenRefusal) (files : Files) → IsWant refusal → Opens files (Err refusal)
-rest_opens NoArchive files well = absurd well
-rest_opens (Damaged file at) files well = absurd well
-rest_opens DiskFault files well = tt
-rest_opens NoMemory files well = tt
-
-pub rest_refuses : (U : Type 0) (refusal : OpenRefusal) (k m n : Option Content) → IsWant refusal → Told IsOnlySynced k m → (refusal ≡ NoMemory → Told Unchanged m n) → RefusesBefore {T = U} (Err refusal) k n
-rest_refuses U NoArchive k m n well synced same = absurd well
-rest_refuses U (Damaged file at) k m n well synced same = absurd well
-rest_refuses U DiskFault k m n well synced same = tt
-rest_refuses U NoMemory k m n well synced same = still_synced k m n synced (same refl)

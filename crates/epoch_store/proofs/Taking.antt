@@ -78,10 +78,6 @@ pub refuses_entry : (plan after : Planned) (stored : StoredEntry) (content : Opt
 refuses_entry plan after stored None refusal keeps = tt
 refuses_entry plan after stored (Some k) refusal keeps = λ es kept e planned_so next is. stays_none (texts_in k) es kept e after refusal (keeps es kept e planned_so next is)
 
-pub refuses_any : (plan : Planned) (stored : StoredEntry) (content : Option Content) (refusal : WalkRefusal) → IsNoDamage refusal → RefusesEntry plan stored content refusal
-refuses_any plan stored None refusal none = tt
-refuses_any plan stored (Some k) refusal none = λ es kept e planned_so next is. none
-
 -- The plan that is opened is that of the file, so the damage of an entry is in it.
 opened_file : (old : Planning) (file : FileName) (current : Option Planned) (mid : Planning) (plan : Planned) → OpensBy old file current mid plan → plan.file ≡ file
 opened_file old file None mid plan by = ap (λ (c : Planned). c.file) by.1

@@ -1,12 +1,12 @@
 -- Where the text of an entry is in the file of its epoch.
-use Rattle.std.specs.Prelude.{◌≡◌, ◌≢◌, ◌+◌, ◌-◌, ◌<◌, ◌≤◌, ◌==◌, ℕ, zero, suc, true, List, [], ◌∷◌, ◌++◌, codes, length, take, drop, slice_get, get_or, Option, Some, None, Ok, Err, min, unwrap_or, refl}
+use Rattle.std.specs.Prelude.{◌≡◌, ◌≢◌, ◌+◌, ◌<◌, ◌≤◌, ◌==◌, ℕ, zero, suc, true, List, [], ◌∷◌, ◌++◌, codes, length, take, drop, slice_get, get_or, Option, Some, None, Ok, Err, refl}
 use Rattle.std.specs.Fmt.{decimal}
 use Rattle.std.specs.List.{AllByRecursion}
 use Rattle.std.proofs.Common.{◌∙◌, sym, ap, subst, arith, append_assoc, length-append}
 use Rattle.std.proofs.lemmas.List.{append-nil, take-append-drop}
 use Rattle.std.proofs.Math.Seq.{take-append_seam, drop-append_seam}
 use Rattle.std.proofs.lemmas.List.Elements.{filter-append}
-use Rattle.std.proofs.lemmas.Option.{slice_get_within, slice_get-get_or}
+use Rattle.std.proofs.lemmas.Option.{same_Some, slice_get_within, slice_get-get_or}
 use Rattle.std.proofs.lemmas.Bool.Decides.{nat_tests}
 use Rattle.arch_base.specs.declared.ids.Id20.{Id20}
 use Rattle.disk_model.specs.Disk.{Content, File, bytes_of}
@@ -21,20 +21,15 @@ use Rattle.epoch_store.specs.declared.entries.StoredEntry.{StoredEntry}
 use Rattle.root_change.specs.Texts.{Fronts}
 use Rattle.epoch_store.specs.Files.{epoch_file_of}
 use Rattle.arch_model.specs.Validity.{IsEntry}
-use Rattle.epoch_store.specs.Recovery.{bytes_in}
-use Rattle.epoch_store.specs.Stores.{View, IsDiskWith, in_file, stored_at, stored_after}
-use Rattle.arch_model.specs.declared.text_refusal.TextRefusal.{TextRefusal}
-use Rattle.arch_model.specs.declared.text_refusal.TextRefusal.TheVariants.{DiskFault, Damaged, NoMemory}
+use Rattle.epoch_store.specs.Stores.{View, in_file, stored_at, stored_after}
+use Rattle.arch_model.specs.declared.text_refusal.TextRefusal.TheVariants.{Damaged}
 use Rattle.root_slots.specs.declared.root.Root.{Root}
 use Rattle.epoch_store.specs.Stores.{IsStoreWith}
+use Rattle.epoch_store.proofs.FindingTold.{where_so}
 use Rattle.epoch_store.proofs.Parted.{disk_fronts}
 use Rattle.disk_model.specs.declared.name.FileName.{FileName}
-use Rattle.disk_model.specs.Disk.{HasRead, WhereTold, Files, Kept, Image, Fits, Told, Unchanged}
-use Rattle.epoch_store.specs.Reads.{StandsAt, IsQuiet, GivesText, FindsText, GivesTextOf, text_if}
-
--- Two items that are equal.
-item_of : {X : Type 0} {x y : X} → Some x ≡ Some y → x ≡ y
-item_of {X} {x} {y} is = ap (λ (o : Option X). unwrap_or o x) is
+use Rattle.disk_model.specs.Disk.{WhereTold}
+use Rattle.epoch_store.specs.Reads.{StandsAt, GivesText, FindsText, text_if}
 
 -- An entry of an archive, and what is kept of it.
 pub record IsKeptOf (before es : List Entry) (i : ℕ) (s : StoredEntry) : Type 0 where
@@ -53,7 +48,7 @@ kept_found before (e ∷ es) zero s is = record {
   rest = es;
   is = refl;
   here = refl;
-  kept = item_of (sym is) ∙ ap (λ (b : List Entry). stored_at b e) (sym (append-nil before));
+  kept = same_Some s (stored_at before e) (sym is) ∙ ap (λ (b : List Entry). stored_at b e) (sym (append-nil before));
 }
 kept_found before (e ∷ es) (suc i) s is =
     let r = kept_found (before ++ e ∷ []) es i s is in
@@ -156,53 +151,33 @@ in_fronts bytes file offset text fronts d =
     ap (λ (b : List ℕ). b ++ drop (length bytes) (bytes_of file)) (sym fronts.front) ∙ take-append-drop (length bytes) (bytes_of file) in
     subst (λ (b : List ℕ). Divided b offset text) whole (divided_before bytes (drop (length bytes) (bytes_of file)) offset text d)
 
--- The text of an entry that a store keeps is on its disk at the offset that the store has, and has
--- the size and the blob id of the entry.
-pub record IsTextAt (v : View) (a : Archive) (k : Content) (i : ℕ) (s : StoredEntry) : Type 0 where
+-- The text of an entry that is kept is in the file of its epoch at the offset that is kept, and has the
+-- size and the blob id of the entry.
+pub record IsTextAt (root : Root) (es : List Entry) (k : Content) (i : ℕ) (s : StoredEntry) : Type 0 where
   pub entry : Entry
-  pub here : slice_get a.entries i ≡ Some entry
+  pub here : slice_get es i ≡ Some entry
   pub size : s.seen.size ≡ length entry.text
   pub blob : s.seen.blob ≡ blob_id_of entry.text
-  pub long : s.seen.text_at + s.seen.size ≤ length (bytes_of (k (epoch_file_of v.root s.epoch)).seen)
-  pub stands : take s.seen.size (drop s.seen.text_at (bytes_of (k (epoch_file_of v.root s.epoch)).seen)) ≡ entry.text
+  pub long : s.seen.text_at + s.seen.size ≤ length (bytes_of (k (epoch_file_of root s.epoch)).seen)
+  pub stands : take s.seen.size (drop s.seen.text_at (bytes_of (k (epoch_file_of root s.epoch)).seen)) ≡ entry.text
 
-pub text_stands : (v : View) (cache : List ℕ) (a : Archive) (k : Content) → IsDiskWith v cache a k → (i : ℕ) (s : StoredEntry) → slice_get v.entries i ≡ Some s → IsTextAt v a k i s
-text_stands v cache a k own i s is =
-    let r = kept_found [] a.entries i s (subst (λ (l : List StoredEntry). slice_get l i ≡ Some s) own.keeps.kept is) in
+pub text_at : (root : Root) (es : List Entry) (k : Content) → AllByRecursion IsEntry es → ((e : ℕ) → e < 64 → Fronts (epoch_bytes (in_epoch es e)) (k (epoch_file_of root e)).seen) → (i : ℕ) (s : StoredEntry) → slice_get (stored_after [] es) i ≡ Some s → IsTextAt root es k i s
+text_at root es k valid fronts i s is =
+    let r = kept_found [] es i s is in
     let e = r.entry in
-    let P : StoredEntry → Type 0 = IsTextAt v a k i in
-    let valid : IsEntry e = one_of_all IsEntry r.front e r.rest (subst (AllByRecursion IsEntry) r.is own.keeps.valid.entries) in
-    let low = valid.epoch in
-    let fronts = (disk_fronts v cache a k own).epochs_front e.epoch (omega (arith, low)) in
+    let low = (one_of_all IsEntry r.front e r.rest (subst (AllByRecursion IsEntry) r.is valid)).epoch in
     let xs = in_epoch r.front e.epoch in
     let ys = in_epoch r.rest e.epoch in
     let offset = 8 + length (entries_bytes None xs) + blob_front e.text in
-    let bytes : bytes_in a e.epoch ≡ epoch_bytes (xs ++ e ∷ ys) =
-    ap (λ (l : List Entry). epoch_bytes (in_epoch l e.epoch)) r.is ∙ ap epoch_bytes (in_epoch_split r.front e r.rest) in
-    let file = k (epoch_file_of v.root e.epoch) in
-    let inside : Divided (bytes_of file.seen) offset e.text =
-    in_fronts (bytes_in a e.epoch) file.seen offset e.text fronts (subst (λ (b : List ℕ). Divided b offset e.text) (sym bytes) (epoch_text xs e ys)) in
-    let reads = divided_reads (bytes_of file.seen) offset e.text inside in
-    subst P (sym r.kept) (record { entry = e; here = r.here; size = refl; blob = refl; long = reads.0; stands = reads.1 })
-
--- An error without damage leaves the bytes, and says no more.
-pub quiet_text : (s : StoredEntry) (old new : List ℕ) (e : TextRefusal) → IsQuiet e → new ≡ old → GivesText s old new (Err e)
-quiet_text s old new DiskFault quiet is = is
-quiet_text s old new NoMemory quiet is = is
-quiet_text s old new (Damaged named found) quiet is = absurd quiet
-
-pub quiet_found : (root : Root) (s : StoredEntry) (old new : List ℕ) (e : TextRefusal) (k : Content) → IsQuiet e → FindsText root s old new (Err e) k
-quiet_found root s old new DiskFault k quiet = tt
-quiet_found root s old new NoMemory k quiet = tt
-quiet_found root s old new (Damaged named found) k quiet = absurd quiet
-
-pub quiet_archive : (a : Archive) (i : ℕ) (old new : List ℕ) (e : TextRefusal) → IsQuiet e → GivesTextOf a i old new (Err e)
-quiet_archive a i old new DiskFault quiet = tt
-quiet_archive a i old new NoMemory quiet = tt
-quiet_archive a i old new (Damaged named found) quiet = absurd quiet
+    let bytes : epoch_bytes (in_epoch es e.epoch) ≡ epoch_bytes (xs ++ e ∷ ys) = ap (λ (l : List Entry). epoch_bytes (in_epoch l e.epoch)) r.is ∙ ap epoch_bytes (in_epoch_split r.front e r.rest) in
+    let file = (k (epoch_file_of root e.epoch)).seen in
+    let inside : Divided (bytes_of file) offset e.text =
+    in_fronts (epoch_bytes (in_epoch es e.epoch)) file offset e.text (fronts e.epoch (omega (arith, low))) (subst (λ (b : List ℕ). Divided b offset e.text) (sym bytes) (epoch_text xs e ys)) in
+    let reads = divided_reads (bytes_of file) offset e.text inside in
+    subst (IsTextAt root es k i) (sym r.kept) (record { entry = e; here = r.here; size = refl; blob = refl; long = reads.0; stands = reads.1 })
 
 -- The bytes at the offset, on the disk of an archive, are the text of its entry.
-stands_is_text : (v : View) (a : Archive) (k : Content) (i : ℕ) (s : StoredEntry) (text : List ℕ) → IsTextAt v a k i s
+stands_is_text : (v : View) (a : Archive) (k : Content) (i : ℕ) (s : StoredEntry) (text : List ℕ) → IsTextAt v.root a.entries k i s
     → StandsAt (bytes_of (k (epoch_file_of v.root s.epoch)).seen) s.seen.text_at s.seen.size text → (text_if (slice_get a.entries i) ≡ Some text) × (blob_id_of text ≡ s.seen.blob)
 stands_is_text v a k i s text at stands =
     let same : text ≡ at.entry.text = stands at.long ∙ at.stands in
@@ -212,37 +187,8 @@ stands_is_text v a k i s text at stands =
 pub right_text : (v : View) (cache : List ℕ) (a : Archive) (k : Option Content) (i : ℕ) (s : StoredEntry) (text : List ℕ) → IsStoreWith v cache a k → slice_get v.entries i ≡ Some s
     → WhereTold (λ (c : Content). StandsAt (bytes_of (c (epoch_file_of v.root s.epoch)).seen) s.seen.text_at s.seen.size text) k → (text_if (slice_get a.entries i) ≡ Some text) × (blob_id_of text ≡ s.seen.blob)
 right_text v cache a None i s text own is stands = absurd own
-right_text v cache a (Some k) i s text own is stands = stands_is_text v a k i s text (text_stands v cache a k own i s is) stands
-
--- A read into room of a size gives the bytes at the offset.
-stands_read : (file before after : List ℕ) (offset size n : ℕ) → length before ≡ size → n ≡ min (length before) (length file - offset) → after ≡ take n (drop offset file) ++ drop n before → StandsAt file offset size after
-stands_read file before after offset size n len count bytes long =
-    let all : n ≡ size = omega (arith, len, count, long) in
-    let none : drop n before ≡ [] = drop_all n before (omega (arith, len, all)) in
-    bytes ∙ (ap (λ (l : List ℕ). take n (drop offset file) ++ l) none ∙ (append-nil (take n (drop offset file)) ∙ ap (λ (m : ℕ). take m (drop offset file)) all)) where
-      drop_all : (m : ℕ) (xs : List ℕ) → length xs ≤ m → drop m xs ≡ []
-      drop_all m [] less = drop_none m where
-        drop_none : (j : ℕ) → drop {A = ℕ} j [] ≡ []
-        drop_none zero = refl
-        drop_none (suc j) = refl
-      drop_all zero (x ∷ xs) less = absurd (omega (arith, less))
-      drop_all (suc m) (x ∷ xs) less = drop_all m xs (omega (arith, less))
-
-pub stands_told : (k : Option Content) (file : FileName) (before after : List ℕ) (offset size n : ℕ) → length before ≡ size → WhereTold (HasRead file offset n before after) k
-    → WhereTold (λ (c : Content). StandsAt (bytes_of (c file).seen) offset size after) k
-stands_told None file before after offset size n len read = tt
-stands_told (Some k) file before after offset size n len read = stands_read (bytes_of (k file).seen) before after offset size n len read.count read.bytes
-
--- Unchanged content is unchanged.
-pub unchanged_itself : (k : Option Content) → Told Unchanged k k
-unchanged_itself None = tt
-unchanged_itself (Some k) = λ name. refl
-
--- Unchanged content has the same images.
-pub same_images : (k m : Option Content) (image : Files) → Told Unchanged k m → Image m image → Image k image
-same_images None m image same left = tt
-same_images (Some k) None image same left = absurd same
-same_images (Some k) (Some m) image same left = λ name. let P : Kept → Type 0 = λ kept. Fits kept.sure (image name) in subst P (same name) (left name)
+right_text v cache a (Some k) i s text own is stands =
+    stands_is_text v a k i s text (text_at v.root a.entries k own.keeps.valid.entries (disk_fronts v cache a k own).epochs_front i s (subst (λ (l : List StoredEntry). slice_get l i ≡ Some s) own.keeps.kept is)) stands
 
 -- The entry that is looked up.
 pub here_is : (v : View) (root : Root) (slot : ℕ) (es : List StoredEntry) (i : ℕ) (e : StoredEntry) → ◌≡◌ {A = View} (record { root = root; slot = slot; entries = es }) v → e ≡ get_or es i e → i < length v.entries → slice_get v.entries i ≡ Some e
@@ -252,18 +198,21 @@ here_is v root slot es i e view is within =
 
 -- There is only one entry at an index.
 pub one_here : (es : List StoredEntry) (i : ℕ) (s e : StoredEntry) → slice_get es i ≡ Some e → slice_get es i ≡ Some s → e ≡ s
-one_here es i s e here is = item_of (sym here ∙ is)
+one_here es i s e here is = same_Some e s (sym here ∙ is)
 
 -- What is told of another text.
 pub tells_damage : (s e : StoredEntry) (old text : List ℕ) (found : Id20) → e ≡ s → found ≢ e.seen.blob → length text ≡ e.seen.size → found ≡ blob_id_of text → GivesText s old old (Err (Damaged e.seen.blob found))
 tells_damage s e old text found is apart size found_is = (refl, ap (λ (f : StoredEntry). f.seen.blob) is, apart, (text, size ∙ ap (λ (f : StoredEntry). f.seen.size) is, found_is))
 
+stands_by : (root : Root) (s e : StoredEntry) (text : List ℕ) (file : FileName) (c : Content) → e ≡ s → file ≡ epoch_file_of root e.epoch → StandsAt (bytes_of (c file).seen) e.seen.text_at e.seen.size text
+    → StandsAt (bytes_of (c (epoch_file_of root s.epoch)).seen) s.seen.text_at s.seen.size text
+stands_by root s e text file c is file_is there =
+    subst (λ (f : StoredEntry). StandsAt (bytes_of (c (epoch_file_of root f.epoch)).seen) f.seen.text_at f.seen.size text) is (subst (λ (f : FileName). StandsAt (bytes_of (c f).seen) e.seen.text_at e.seen.size text) file_is there)
+
 pub finds_damage : (root : Root) (s e : StoredEntry) (old text : List ℕ) (file : FileName) (named found : Id20) (k : Option Content) → e ≡ s → file ≡ epoch_file_of root e.epoch → found ≡ blob_id_of text
     → WhereTold (λ (c : Content). StandsAt (bytes_of (c file).seen) e.seen.text_at e.seen.size text) k → WhereTold (FindsText root s old old (Err (Damaged named found))) k
-finds_damage root s e old text file named found None is file_is found_is stands = tt
-finds_damage root s e old text file named found (Some k) is file_is found_is stands =
-    let there : StandsAt (bytes_of (k (epoch_file_of root e.epoch)).seen) e.seen.text_at e.seen.size text = subst (λ (f : FileName). StandsAt (bytes_of (k f).seen) e.seen.text_at e.seen.size text) file_is stands in
-    (text, subst (λ (f : StoredEntry). StandsAt (bytes_of (k (epoch_file_of root f.epoch)).seen) f.seen.text_at f.seen.size text) is there, found_is)
+finds_damage root s e old text file named found k is file_is found_is stands =
+    where_so _ (FindsText root s old old (Err (Damaged named found))) k stands (λ c there. (text, stands_by root s e text file c is file_is there, found_is))
 
 -- What is said of the text that is read.
 pub gives_text : (s e : StoredEntry) (old new text : List ℕ) → e ≡ s → length text ≡ e.seen.size → blob_id_of text ≡ e.seen.blob → new ≡ old ++ text → GivesText s old new (Ok (tt {0}))
@@ -271,10 +220,8 @@ gives_text s e old new text is size blob added = (text, record { size = size ∙
 
 pub finds_text : (root : Root) (s e : StoredEntry) (old new text : List ℕ) (file : FileName) (k : Option Content) → e ≡ s → file ≡ epoch_file_of root e.epoch → new ≡ old ++ text
     → WhereTold (λ (c : Content). StandsAt (bytes_of (c file).seen) e.seen.text_at e.seen.size text) k → WhereTold (FindsText root s old new (Ok (tt {0}))) k
-finds_text root s e old new text file None is file_is added stands = tt
-finds_text root s e old new text file (Some k) is file_is added stands =
-    let there : StandsAt (bytes_of (k (epoch_file_of root e.epoch)).seen) e.seen.text_at e.seen.size text = subst (λ (f : FileName). StandsAt (bytes_of (k f).seen) e.seen.text_at e.seen.size text) file_is stands in
-    (text, subst (λ (f : StoredEntry). StandsAt (bytes_of (k (epoch_file_of root f.epoch)).seen) f.seen.text_at f.seen.size text) is there, added)
+finds_text root s e old new text file k is file_is added stands =
+    where_so _ (FindsText root s old new (Ok (tt {0}))) k stands (λ c there. (text, stands_by root s e text file c is file_is there, added))
 
 -- The same for a file by its name.
 pub right_text_in : (v : View) (cache : List ℕ) (a : Archive) (k : Option Content) (i : ℕ) (e : StoredEntry) (text : List ℕ) (file : FileName) → IsStoreWith v cache a k → slice_get v.entries i ≡ Some e → file ≡ epoch_file_of v.root e.epoch

@@ -1,6 +1,6 @@
 -- Files stand for at most one archive, and a store's own disk stands for its archive.
-use Rattle.std.specs.Prelude.{◌≡◌, ◌^◌, ◌-◌, ◌*◌, ◌<◌, ℕ, List, length, Some, None, refl}
-use Rattle.std.proofs.Common.{◌∙◌, sym, ap, subst}
+use Rattle.std.specs.Prelude.{◌≡◌, ℕ, List, [], Some, None, refl}
+use Rattle.std.proofs.Common.{◌∙◌, sym, ap, subst, arith}
 use Rattle.disk_model.specs.Disk.{Files}
 use Rattle.arch_model.specs.Archives.{Archive}
 use Rattle.epoch_file.specs.Entries.{EpochsDiffer}
@@ -10,16 +10,14 @@ use Rattle.root_slots.specs.Laws.{SpellingsDiffer}
 use Rattle.root_slots.specs.RootName.{root_name}
 use Rattle.root_slots.specs.Spelling.{spelling}
 use Rattle.root_change.specs.Parts.{texts_of}
-use Rattle.epoch_store.specs.Files.{map_file_of, epoch_file_of, cache_file_of}
+use Rattle.epoch_store.specs.Files.{cache_file_of}
 use Rattle.epoch_store.specs.Laws.{RecoversOne, RecoversSomeOne, CachesOne, ExactRecovers, StoreRecovers}
-use Rattle.epoch_store.specs.Recovery.{records_of, map_bytes, bytes_in, parts_of, RecoversBy}
+use Rattle.epoch_store.specs.Recovery.{records_of, parts_of, RecoversBy}
 use Rattle.epoch_store.specs.Leaving.{disk_recovers}
 use Rattle.epoch_store.proofs.Parted.{parts_front, exact_stands}
-use Rattle.epoch_store.proofs.Mapped.{map_length, records_valid}
 use Rattle.epoch_store.proofs.UniqueRoots.{root_is_one, not_shut, front_is_one}
-use Rattle.epoch_store.proofs.UniqueEntries.{entries_are_one, filed_is_one}
-use Rattle.epoch_store.specs.Damage.{messages}
-use Rattle.epoch_store.proofs.Opened.{delivered_records}
+use Rattle.epoch_store.proofs.Opened.{recovers_map, recovers_opened}
+use Rattle.epoch_store.proofs.Undamaged.{whole_one}
 
 -- Archives with three equal values are equal.
 archive_is : (a b : Archive) → a.config ≡ b.config → a.entries ≡ b.entries → a.next ≡ b.next → a ≡ b
@@ -28,21 +26,11 @@ archive_is a b p q r = λ i. record { config = p i; entries = q i; next = r i }
 -- Files stand for at most one archive by one root.
 one_by_root : RecordsDiffer → EpochsDiffer → (root : Root) (image : Files) (a b : Archive) (c d : List ℕ) → RecoversBy root c image a → RecoversBy root d image b → a ≡ b
 one_by_root records epochs root image a b c d p q =
-    let first = parts_front root c image a p in
-    let second = parts_front root d image b q in
-    let next : a.next ≡ b.next = sym p.names.next ∙ q.names.next in
-    let size : length (map_bytes a) ≡ length (map_bytes b) = map_length a p.valid ∙ (ap (λ (n : ℕ). 28 * (n - 1)) next ∙ sym (map_length b q.valid)) in
-    let maps : map_bytes a ≡ map_bytes b = front_is_one (image (map_file_of root)) (map_bytes a) (map_bytes b) size first.map_front second.map_front in
-    let lines : records_of a ≡ records_of b = records (records_of a) (records_of b) (records_valid a p.valid) (records_valid b q.valid) maps in
-    let messages_same = sym (delivered_records a p.valid) ∙ (ap messages lines ∙ delivered_records b q.valid) in
-    let entries =
-    entries_are_one a.entries b.entries p.valid.entries q.valid.entries p.valid.order q.valid.order p.valid.ends q.valid.ends p.valid.ids messages_same
-    (λ e few.
-    let long : length (bytes_in a e) ≡ length (bytes_in b e) = sym (p.names.epochs e few) ∙ q.names.epochs e few in
-    let short : length (bytes_in a e) < 2 ^ 64 = subst (λ (n : ℕ). n < 2 ^ 64) (p.names.epochs e few) (p.names.fits.epochs e few).length in
-    filed_is_one epochs a.entries b.entries e p.valid.entries q.valid.entries short
-    (front_is_one (image (epoch_file_of root e)) (bytes_in a e) (bytes_in b e) long (first.epochs_front e few) (second.epochs_front e few))) in
-    archive_is a b (sym p.names.config ∙ q.names.config) entries next
+    let map = recovers_map root image a c p in
+    let one = recovers_opened records root image (records_of a) a c map p in
+    let two = recovers_opened records root image (records_of a) b d map q in
+    archive_is a b (sym p.names.config ∙ q.names.config)
+    (whole_one root image (records_of a) p.names.fits epochs [] [] 64 a.entries b.entries (omega arith) one.first two.first one.whole two.whole) (sym p.names.next ∙ q.names.next)
 
 -- Files stand for at most one archive by any root, since they have one current root.
 pub recovers_one : SpellingsDiffer → RecordsDiffer → EpochsDiffer → RecoversOne

@@ -6,7 +6,11 @@ use Rattle.disk_model.specs.Sizes.{epoch_count}
 use Rattle.arch_model.specs.Epochs.{entries_bytes}
 use Rattle.arch_model.specs.Archives.{Entry, is_message, live, owner, blob_number}
 use Rattle.git_objects.specs.Objects.{blob_id_of}
+use Rattle.git_objects.specs.declared.entry_kind.EntryKind.{EntryKind}
 use Rattle.git_objects.specs.declared.entry_kind.EntryKind.TheVariants.{Message, Deletion}
+use Rattle.arch_judge.specs.Indexes.{number_in, owner_in}
+use Rattle.arch_judge.specs.declared.index.Index.{Index}
+use Rattle.arch_judge.specs.declared.index.Owner.{Owner}
 use Rattle.disk_model.specs.Disk.{Files, bytes_of}
 use Rattle.root_slots.specs.declared.root.Root.{Root}
 use Rattle.root_change.specs.Texts.{Fronts}
@@ -80,6 +84,48 @@ pub record IsMessageOf (kept : List StoredEntry) (number : ℕ) (entry : StoredE
   pub message : entry.seen.kind ≡ Message
   pub number_is : entry.number ≡ number
 
+-- Numbers of records rise.
+abbrev pub NumbersRise : List Record → Type 0
+NumbersRise records = (i j : ℕ) (r s : Record) → i < j → slice_get records i ≡ Some r
+    → slice_get records j ≡ Some s → r.number < s.number
+
+-- A number has this record, whose message is among the entries so far.
+pub record IsRecorded (v : Joined) (number : ℕ) (line : Record) : Type 0 where
+  pub index : ℕ
+  pub before : index < message_count v.entries
+  pub there : slice_get v.records index ≡ Some line
+  pub number_is : line.number ≡ number
+
+-- The message of the record at an index is the entry at another one.
+pub record IsPlaced (v : Joined) (index at : ℕ) : Type 0 where
+  pub entry : StoredEntry
+  pub line : Record
+  pub among : slice_get v.entries at ≡ Some entry
+  pub recorded : slice_get v.records index ≡ Some line
+  pub message : entry.seen.kind ≡ Message
+  pub number : entry.number ≡ line.number
+  pub blob : entry.seen.blob ≡ line.blob
+
+-- Each number that an index names has a record whose message is among the entries so far, with the
+-- blob id under which it is named.
+pub record IndexesRecords (v : Joined) (index : Index) : Type 0 where
+  pub owners : (id : List ℕ) (o : Owner) → owner_in index.owners id ≡ Some o
+      → (line : Record) × IsRecorded v o.number line
+  pub blobs : (blob : List ℕ) (n : ℕ) → number_in index.blobs blob ≡ Some n
+      → (line : Record) × IsRecorded v n line × (line.blob.0 ≡ blob)
+
+-- The records rise, the messages of the first of them are the entries at these indexes, and an index
+-- names none but these.
+pub record IsJoining (v : Joined) (places : List ℕ) (index : Index) : Type 0 where
+  pub rise : NumbersRise v.records
+  pub placed : (i at : ℕ) → slice_get places i ≡ Some at → IsPlaced v i at
+  pub indexes : IndexesRecords v index
+
+-- The indexes of messages with one more entry, of either kind, at an index.
+abbrev pub places_with : EntryKind → List ℕ → ℕ → List ℕ
+places_with Message places at = places ++ at ∷ []
+places_with Deletion places at = places
+
 -- A message joins others: it is the map's next one, and no live entry has its own id.
 pub record JoinsMessage (v : Joined) (all : List Entry) (epoch : ℕ) (seen : Seen) (number : ℕ)
     : Type 0 where
@@ -135,6 +181,10 @@ ComparesText root v epoch seen (Err NoMemory) files = Unit {0}
 abbrev pub with_seen : Joined → ℕ → ℕ → Seen → Joined
 with_seen v number epoch seen =
     record { records = v.records; entries = v.entries ++ entry_seen number epoch seen ∷ [] }
+
+-- One more entry was joined, with some number.
+abbrev pub IsGrown : Joined → ℕ → Seen → Joined → Type 0
+IsGrown old epoch seen new = (number : ℕ) × (new ≡ with_seen old number epoch seen)
 
 -- An entry was joined, as one that may be, or can't be and its offset is the result.
 abbrev pub JoinsOne : Joined → ℕ → Seen → Bool → Result Joined JoinRefusal → Type 0

@@ -1,6 +1,7 @@
 pub mod Files
 pub mod Recovery
 pub mod Stores
+pub mod Entering
 pub mod Leaving
 pub mod Indexes
 pub mod Damage
@@ -13,5 +14,6 @@ pub mod Finding
 pub mod Reads
 pub mod DamagedTexts
 pub mod Opens
+pub mod Extents
 pub mod Planning
 pub mod Promises

@@ -16,7 +16,6 @@ use Rattle.root_change.specs.Parts.{texts_of}
 use Rattle.root_change.specs.declared.plan.Target.TheVariants.{Anew, Behind}
 use Rattle.root_change.specs.Rewriting.{Plan, AreApart, IsPartToPlan, IsPlan, IsPlanFrom, IsPlanWhole, IsRootAfter, IsWithin, MayCarryAll, MapFits, file_by, no_plan, plan_count, plan_of, planned, rewritten, same_kind, with_bytes}
 use Rattle.root_change.specs.declared.sources.Source.{Source}
-use Rattle.root_change.specs.declared.sources.Source.TheVariants.{Bytes, Range}
 use Rattle.root_change.specs.Texts.{Texts}
 use Rattle.number_map.specs.declared.line.Record.{Record}
 use Rattle.number_map.specs.Records.{record_bytes}
@@ -31,12 +30,15 @@ use Rattle.arch_model.specs.Validity.{IsArchive}
 use Rattle.mail_reader.specs.Ids.{own_id}
 use Rattle.mail_reader.specs.Content.{content_id_of}
 use Rattle.epoch_file.specs.Entries.{EpochEntry}
-use Rattle.epoch_file.specs.Planning.{Finishes, HasNext, IsMoved, IsOfEpoch, IsPlanned, KeepsNext, LeavesNext, Planned, seen_after, texts_in}
+use Rattle.epoch_file.specs.Lying.{LiesIn, tree_end}
+use Rattle.epoch_file.specs.Planning.{EndUpTo, Finishes, FinishesIn, HasNext, IsMoved, IsOfEpoch, IsPlanned, IsPlannedIn, KeepsIn, KeepsNext, LeavesIn, LeavesNext, Planned, reach, seen_after, texts_in}
 use Rattle.epoch_file.specs.declared.entry.Seen.{Seen}
 use Rattle.epoch_file.specs.declared.refusal.StoreRefusal.{StoreRefusal}
 use Rattle.epoch_file.specs.declared.refusal.StoreRefusal.TheVariants.{DiskFault, NoMemory, Damaged}
 use Rattle.epoch_store.specs.declared.entries.StoredEntry.{StoredEntry}
 use Rattle.epoch_store.specs.declared.next.NextPlace.{NextPlace}
+use Rattle.epoch_store.specs.Damage.{named_length}
+use Rattle.epoch_store.specs.Extents.{AreNamedAfter, ComesAfter, LieFrom, length_planned}
 use Rattle.epoch_store.specs.Files.{epoch_file_of}
 use Rattle.epoch_store.specs.Recovery.{Names, bytes_in, parts_of}
 use Rattle.epoch_store.specs.Stores.{View, IsDiskWith, IsStoreWith, KeptOf, SeesNoDamage, in_file, stored_after, stored_at, without_blob}
@@ -97,6 +99,7 @@ pub record PlansPurge (v : View) (blob : Id20) (entries : List StoredEntry) (pla
   pub ready : IsReady v.root plans v.root.next
   pub anew : AreAnew plans
   pub lost : PlansLost v.entries blob plans
+  pub named : AreNamedAfter v.root plans entries
 
 -- On a store's own disk, where a message has the text of the blob id, what is planned, and what is
 -- kept of the other entries, is that of the archive without the text.
@@ -188,20 +191,42 @@ abbrev pub AreWithin : Root → List Plan → Type 0
 AreWithin root plans = (i : ℕ) (plan : Plan) → slice_get plans i ≡ Some plan
     → IsPlanWithin root plan
 
--- A source that is a range ends up to an offset.
-abbrev pub IsUpTo : ℕ → Source → Type 0
-IsUpTo end_ (Bytes offset count) = Unit {0}
-IsUpTo end_ (Range range) = range.offset + range.count ≤ end_
+-- An entry that stays ends in the new files: in those of the epochs before the current one by their
+-- plans, and in that of the current one where the entries reach that stay.
+abbrev pub EndsBy : Root → List Plan → Planned → ℕ → ℕ → StoredEntry → Type 0
+EndsBy root plans current epoch from e =
+    ((e.epoch < epoch) × (tree_end e.seen ≤ length_planned root plans e.epoch))
+    ⊎ ((e.epoch ≡ epoch) × (tree_end e.seen ≤ reach from current)
+    × (is_some current.parent ≡ true))
 
--- A test says whether a property holds.
-abbrev pub Says : Bool → Type 0 → Type 0
-Says true P = P
-Says false P = P → ⊥
+-- The same of all, if there is a current epoch. Otherwise nothing is planned yet.
+abbrev pub EndByCurrent : Root → Planning → ℕ → ℕ → Option Planned → Type 0
+EndByCurrent root p epoch from None = (p.plans ≡ []) × (p.entries ≡ [])
+EndByCurrent root p epoch from (Some current) = (current.file ≡ epoch_file_of root epoch)
+    × IsPlannedIn (named_length root epoch) current
+    × AllByRecursion (EndsBy root p.plans current epoch from) p.entries
 
--- The test says whether each source does.
-abbrev pub AreUpTo : List Source → ℕ → Bool → Type 0
-AreUpTo sources end_ test = Says test ((i : ℕ) (source : Source)
-    → slice_get sources i ≡ Some source → IsUpTo end_ source)
+-- The entries of a store up to an offset in an epoch are planned: no later epoch is, what is planned
+-- takes ranges of the bytes that the root names, and the entries that stay lie in the new files.
+pub record IsTakenUpTo (root : Root) (epoch from : ℕ) (p : Planning) : Type 0 where
+  pub lie : LieFrom 0 0 p.entries
+  pub ranges : (i : ℕ) (plan : Plan) → slice_get p.plans i ≡ Some plan
+      → EndUpTo (named_length root plan.number) plan
+  pub later : (x : ℕ) → epoch ≤ x → plan_of p.plans kind.Epoch x ≡ None
+  pub inside : from ≤ named_length root epoch
+  pub ends : EndByCurrent root p epoch from p.current
+
+-- One more entry was taken, which lies in its epoch after those before it.
+abbrev pub TakesOn : Planning → FileName → StoredEntry → Planning → Type 0
+TakesOn old file e new = (root : Root) (epoch from : ℕ) → file ≡ epoch_file_of root e.epoch
+    → ComesAfter epoch from e → LiesIn e.seen.at (named_length root e.epoch) e.seen
+    → IsTakenUpTo root epoch from old → IsTakenUpTo root e.epoch (tree_end e.seen) new
+
+-- The entries of a store are planned up to some offset.
+pub record IsTaken (root : Root) (p : Planning) : Type 0 where
+  pub epoch : ℕ
+  pub from : ℕ
+  pub taken : IsTakenUpTo root epoch from p
 
 -- An entry with a blob id was dropped. Another one was kept.
 abbrev pub KeepsBut : Bool → List StoredEntry → StoredEntry → List StoredEntry → Type 0
@@ -290,6 +315,7 @@ abbrev pub Closes : Planning → Planned → Planning → Type 0
 Closes old epoch new = (finished : Option Plan) × Finishes epoch finished
     × IsOfEpoch epoch.file finished × ClosesAs old finished new
     × (is_some finished ≡ is_some epoch.changed)
+    × ((most : ℕ) → IsPlannedIn most epoch → FinishesIn most epoch finished)
 
 -- A planner without a current epoch.
 abbrev pub without_current : Planning → Planning
@@ -335,6 +361,8 @@ LeavesOut old plan e new = (after : Planned) × LeavesNext plan e.seen after
     × (after.file ≡ plan.file)
     × (new ≡ with_entries old old.entries (gone_with e.seen.kind old.gone e.number) after)
     × (is_some after.changed ≡ true)
+    × ((from most : ℕ) → LiesIn from most e.seen → IsPlannedIn most plan
+    → LeavesIn from most plan e.seen after)
 
 -- An entry as it is kept in the new file.
 abbrev pub kept_anew : StoredEntry → Seen → StoredEntry
@@ -350,6 +378,9 @@ pub record KeepsEntry (old : Planning) (plan : Planned) (e : StoredEntry)
   pub moved : (at : ℕ) × (commit : Id20) × IsMoved e.seen at commit seen
   pub file : after.file ≡ plan.file
   pub going : is_some after.changed ≡ is_some plan.changed
+  pub some : is_some after.parent ≡ true
+  pub lies : (from most : ℕ) → LiesIn from most e.seen → IsPlannedIn most plan
+      → KeepsIn from most plan e.seen after seen
   pub new_is : new ≡ with_entries old (old.entries ++ kept_anew e seen ∷ []) old.gone after
 
 -- The refusal is not that a file is damaged.
@@ -433,6 +464,8 @@ pub record PlansEdit (v : View) (old : Planning) (text : List ℕ) (moment : ℕ
   pub others : (e : ℕ) → e ≢ entry.epoch
       → plan_of new.plans kind.Epoch e ≡ plan_of old.plans kind.Epoch e
   pub ready : IsReady v.root old.plans v.root.next → IsReady v.root new.plans (v.root.next + 1)
+  pub named : AreAnew old.plans → AreNamedAfter v.root old.plans old.entries
+      → AreNamedAfter v.root new.plans new.entries
   pub archive : (cache : List ℕ) (a b : Archive) → PlansArchive v.root cache a b old v.root.next
       → Names v.root a → AreAnew old.plans → IsArchive (with_entry b (new_epoch b) text moment)
       → PlansArchive v.root cache a (with_entry b (new_epoch b) text moment) new (v.root.next + 1)

@@ -1,18 +1,17 @@
 -- What a store keeps in memory of an archive, and which disk is its own.
-use Rattle.std.specs.Prelude.{◌-◌, ◌^◌, min, set, slice_get, Bool, not, ◌&&◌, ◌||◌, ◌≡◌, ◌≢◌, ◌⊎◌, ◌+◌, ◌<◌, ◌≤◌, ◌==◌, ℕ, false, List, [], ◌∷◌, ◌++◌, length, get_or, Option, Some, None, if◌then◌else◌, Result, Ok, Err}
+use Rattle.std.specs.Prelude.{◌-◌, ◌^◌, min, slice_get, Bool, not, ◌&&◌, ◌||◌, ◌≡◌, ◌≢◌, ◌⊎◌, ◌+◌, ◌<◌, ◌≤◌, ◌==◌, ℕ, false, List, [], ◌∷◌, ◌++◌, length, get_or, Option, Some, None, if◌then◌else◌, Result, Ok, Err}
 use Rattle.std.specs.List.{AllZip, Contains, filter}
 use Rattle.std.specs.Str.{bytes_eq}
 use Rattle.arch_base.specs.declared.ids.Id20.{Id20}
 use Rattle.disk_model.specs.Disk.{Files, Content, bytes_of}
-use Rattle.disk_model.specs.Sizes.{epoch_count, greatest_epoch, record_size}
+use Rattle.disk_model.specs.Sizes.{epoch_count, greatest_epoch}
 use Rattle.mail_reader.specs.StorageTexts.{IsStorageText}
 use Rattle.mail_reader.specs.Ids.{own_id}
 use Rattle.git_objects.specs.Objects.{blob_id_of}
-use Rattle.arch_model.specs.Archives.{Entry, Archive, message, deletion, is_message, with_entry, with_deletion, without_text, live, messages, text_of, IsFree, in_epoch}
-use Rattle.arch_model.specs.Delivery.{last_epoch, new_epoch, collision}
+use Rattle.arch_model.specs.Archives.{Entry, Archive, is_message, without_text, live, messages, text_of, IsFree, in_epoch}
+use Rattle.arch_model.specs.Delivery.{last_epoch, new_epoch}
 use Rattle.arch_model.specs.Epochs.{entries_bytes, epoch_bytes, last_commit}
 use Rattle.git_objects.specs.declared.entry_kind.EntryKind.TheVariants.{Message, Deletion}
-use Rattle.epoch_file.specs.declared.entry.NewEntry.{NewEntry}
 use Rattle.epoch_file.specs.Entries.{EpochEntry}
 use Rattle.epoch_file.specs.Walking.{seen_at}
 use Rattle.mail_reader.specs.Content.{content_id_of}
@@ -159,28 +158,6 @@ pub record EndsAt (before : List Entry) (p : NextPlace) : Type 0 where
 abbrev pub next_sequence : ℕ → ℕ
 next_sequence n = min (n + 1) (2 ^ 64 - 1)
 
--- The root after a deletion: the epoch's file ends here, and the map stays.
-abbrev pub root_ended : Root → NextPlace → ℕ → Root
-root_ended root p end_ = record {
-  config = root.config;
-  sequence = next_sequence root.sequence;
-  next = root.next;
-  map = root.map;
-  epochs = set root.epochs p.epoch (record { gen_ = p.gen_; length = end_ });
-  cache = root.cache;
-}
-
--- The root after one more message: the epoch's file ends here, and the map has one more record.
-abbrev pub root_after : Root → NextPlace → ℕ → Root
-root_after root p end_ = record {
-  config = root.config;
-  sequence = next_sequence root.sequence;
-  next = root.next + 1;
-  map = record { gen_ = root.map.gen_; length = root.map.length + record_size };
-  epochs = set root.epochs p.epoch (record { gen_ = p.gen_; length = end_ });
-  cache = root.cache;
-}
-
 -- The place after the bytes of an epoch of a root, or at the front of a new file.
 abbrev pub place_of : Root → ℕ → Option Id20 → NextPlace
 place_of root epoch parent = record {
@@ -189,59 +166,6 @@ place_of root epoch parent = record {
       else (get_or root.epochs epoch no_place).gen_;
   length = (get_or root.epochs epoch no_place).length;
   parent = parent;
-}
-
--- A new entry is a message after the last commit of its epoch.
-pub record IsMessage (p : NextPlace) (entry : NewEntry) : Type 0 where
-  pub kind : entry.kind ≡ Message
-  pub parent : entry.parent ≡ p.parent
-
--- A new entry is a deletion after the last commit of its epoch.
-pub record IsDeletion (p : NextPlace) (entry : NewEntry) : Type 0 where
-  pub kind : entry.kind ≡ Deletion
-  pub parent : entry.parent ≡ p.parent
-
--- This place is that of the next entry of the archive, its text would be accepted and no other text
--- has its blob id, and there is a next root.
-pub record GoesNext (v : View) (a : Archive) (p : NextPlace) (entry : NewEntry) : Type 0 where
-  pub place : IsNextPlace v.root a (next_sequence v.root.sequence) p
-  pub accepts : Accepts v entry.text.now
-  pub alone : collision a.entries entry.text.now ≡ None
-  pub room : v.root.sequence + 1 < 2 ^ 64
-
--- This place is that of the next entry of the archive, the removal of a number would be accepted and
--- this is its text, and there is a next root.
-pub record EndsNext (v : View) (a : Archive) (p : NextPlace) (number : ℕ) (entry : NewEntry)
-    : Type 0 where
-  pub place : IsNextPlace v.root a (next_sequence v.root.sequence) p
-  pub may : MayEnd v number entry.text.now
-  pub shown : text_of (live a.entries) number ≡ Some entry.text.now
-  pub room : v.root.sequence + 1 < 2 ^ 64
-
--- The archive with a new entry as a message.
-abbrev pub with_message : Archive → NextPlace → NewEntry → Archive
-with_message a p entry = with_entry a p.epoch entry.text.now entry.moment
-
--- The archive with a new entry as the deletion of a number.
-abbrev pub with_ending : Archive → NextPlace → ℕ → NewEntry → Archive
-with_ending a p number entry = with_deletion a number p.epoch entry.text.now entry.moment
-
--- What the store keeps after a new message.
-abbrev pub view_after : View → Archive → Root → NextPlace → NewEntry → View
-view_after v a root p entry = record {
-  root = root;
-  slot = 1 - v.slot;
-  entries = v.entries
-      ++ stored_at a.entries (message a.next p.epoch entry.text.now entry.moment) ∷ [];
-}
-
--- What the store keeps after the deletion of a number.
-abbrev pub view_ended : View → Archive → Root → NextPlace → ℕ → NewEntry → View
-view_ended v a root p number entry = record {
-  root = root;
-  slot = 1 - v.slot;
-  entries = v.entries
-      ++ stored_at a.entries (deletion number p.epoch entry.text.now entry.moment) ∷ [];
 }
 
 -- One more message follows the entries that were kept. It has the next number and the ids of a text.

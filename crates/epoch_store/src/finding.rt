@@ -4,9 +4,13 @@ ghost use Rattle.arch_base.specs.Counts.{Rose, RoseIf};
 ghost use Rattle.disk_model.specs.Disk.{Image, Told, WhereTold, Unchanged, LeavesOnly};
 ghost use Rattle.disk_model.specs.Sizes.{epoch_count, greatest_epoch};
 ghost use Rattle.arch_model.specs.declared.opening.OpenRefusal.{OpenRefusal};
+ghost use Rattle.number_map.specs.Records.{AreRecordsFrom};
+ghost use Rattle.epoch_file.specs.Lying.{LieIn};
 ghost use Rattle.epoch_file.specs.Runs.{OnlyReads};
 ghost use Rattle.root_slots.specs.RootName.{root_name};
 ghost use Rattle.root_slots.specs.Valid.{IsRoot, RootFits, no_place};
+ghost use Rattle.epoch_store.specs.Damage.{named_length};
+ghost use Rattle.epoch_store.specs.Extents.{AreNamed};
 ghost use Rattle.epoch_store.specs.Files.{as_read, epoch_file_of};
 ghost use Rattle.epoch_store.specs.Indexes.{IndexesStored};
 ghost use Rattle.epoch_store.specs.Joined.{AreBefore};
@@ -93,6 +97,7 @@ fn find_root<D: Disk>(disk: &mut D) -> Result<(Slot, Root), OpenRefusal>
 fn find_records<D: Disk>(alloc: Global, disk: &mut D, root: &Root) -> Result<Records, OpenRefusal>
     requires root { IsRoot root.now }
     ensures found { WhereTold (λ k. FindsRecords root.now (as_read k) result) (D.content disk.old) }
+    ensures valid { IfOk result (AreRecordsFrom 1) }
     ensures reads { OnlyReads D.content D.moment D.left_since D.faults disk.old disk.new }
     ensures fault { result ≡ Err OpenRefusal.DiskFault
         → Rose (D.faults disk.old) (D.faults disk.new) }
@@ -123,6 +128,8 @@ fn take<D: Disk>(
     ensures taken { WhereTold (λ k.
         ReadsSeen root.now epoch joining seen result (as_read k)) (D.content disk.old) }
     ensures below { IfOk result (λ joined. AreBefore (epoch + 1) joined.entries) }
+    ensures named { LieIn 0 (named_length root.now epoch) seen → AreNamed root.now joining.entries
+        → IfOk result (λ joined. AreNamed root.now joined.entries) }
     ensures reads { OnlyReads D.content D.moment D.left_since D.faults disk.old disk.new }
     ensures fault { result ≡ Err OpenRefusal.DiskFault
         → Rose (D.faults disk.old) (D.faults disk.new) }
@@ -222,6 +229,8 @@ fn join_epoch<D: Disk>(
     ensures joined { WhereTold (λ k.
         ReadsEpoch root.now epoch joining result (as_read k)) (D.content disk.old) }
     ensures below { IfOk result (λ joined. AreBefore (epoch + 1) joined.entries) }
+    ensures named { AreNamed root.now joining.entries
+        → IfOk result (λ joined. AreNamed root.now joined.entries) }
     ensures reads { OnlyReads D.content D.moment D.left_since D.faults disk.old disk.new }
     ensures fault { result ≡ Err OpenRefusal.DiskFault
         → Rose (D.faults disk.old) (D.faults disk.new) }
@@ -250,6 +259,8 @@ fn join_all<D: Disk>(
     ensures joined { WhereTold (λ k.
         ReadsEach root.now joining result (as_read k)) (D.content disk.old) }
     ensures below { IfOk result (λ joined. AreBefore epoch_count joined.entries) }
+    ensures named { AreNamed root.now joining.entries
+        → IfOk result (λ joined. AreNamed root.now joined.entries) }
     ensures reads { OnlyReads D.content D.moment D.left_since D.faults disk.old disk.new }
     ensures fault { result ≡ Err OpenRefusal.DiskFault
         → Rose (D.faults disk.old) (D.faults disk.new) }
@@ -289,9 +300,11 @@ fn read_epochs<D: Disk>(
     root: &Root,
     records: &Records,
 ) -> Result<IndexedEntries, OpenRefusal>
+    requires valid { AreRecordsFrom 1 records.now }
     ensures kept { WhereTold (λ k.
         KeepsBy root.now records.now result (as_read k)) (D.content disk.old) }
     ensures small { IfOk result (λ kept. AreBefore epoch_count kept) }
+    ensures named { IfOk result (AreNamed root.now) }
     ensures reads { OnlyReads D.content D.moment D.left_since D.faults disk.old disk.new }
     ensures fault { result ≡ Err OpenRefusal.DiskFault
         → Rose (D.faults disk.old) (D.faults disk.new) }
@@ -316,6 +329,7 @@ fn find_entries<D: Disk>(
     requires fits { RootFits root.now }
     ensures found { WhereTold (λ k. FindsEntries root.now (as_read k) result) (D.content disk.old) }
     ensures small { IfOk result (λ kept. AreBefore epoch_count kept) }
+    ensures named { IfOk result (AreNamed root.now) }
     ensures reads { OnlyReads D.content D.moment D.left_since D.faults disk.old disk.new }
     ensures fault { result ≡ Err OpenRefusal.DiskFault
         → Rose (D.faults disk.old) (D.faults disk.new) }
@@ -337,9 +351,11 @@ fn find_entries<D: Disk>(
 /// if memory runs out.
 pub(crate) fn find<D: Disk>(alloc: Global, disk: &mut D) -> Result<Found, OpenRefusal>
     ensures found { WhereTold (λ k. Finds (as_read k) result) (D.content disk.old) }
-    // Whatever the disk tells, the result has a root, and entries of epochs 0 to 63.
+    // Whatever the disk tells, the result has a root, and entries of epochs 0 to 63 in the bytes
+    // that it names.
     ensures root { IfOk result (λ found. IsRoot found.root) }
     ensures epochs { IfOk result (λ found. AreBefore epoch_count found.entries.items) }
+    ensures named { IfOk result (λ found. AreNamed found.root found.entries.items) }
     ensures indexed { IfOk result (λ found. IndexesStored found.entries.items found.index) }
     ensures same { Told Unchanged (D.content disk.old) (D.content disk.new) }
     ensures any_moment { LeavesOnly D.moment D.left_since disk.old disk.new

@@ -1,14 +1,17 @@
 //! Joins the entries of the epochs to the records of the map.
-ghost use Rattle.std.specs.Prelude.{◌≡◌, ◌≢◌, ◌+◌, ◌<◌, ◌≤◌, ℕ, List, [], true, length, if◌then◌else◌, Err, IfOk, IfErr, OnOk, MatchOption};
-ghost use Rattle.arch_model.specs.Archives.{is_message};
+ghost use Rattle.std.specs.Prelude.{◌≡◌, ◌≢◌, ◌+◌, ◌<◌, ◌≤◌, ℕ, List, [], true, Err, IfOk, IfErr, OnOk};
 ghost use Rattle.arch_base.specs.Counts.{Rose};
 ghost use Rattle.disk_model.specs.Disk.{WhereTold, bytes_of};
 ghost use Rattle.disk_model.specs.Sizes.{epoch_count, greatest_epoch};
-ghost use Rattle.epoch_store.specs.Damage.{messages};
+ghost use Rattle.epoch_store.specs.Damage.{messages, named_length};
+ghost use Rattle.epoch_store.specs.Extents.{AreNamed};
 ghost use Rattle.git_objects.specs.declared.entry_kind.EntryKind.TheVariants.{Message, Deletion};
+ghost use Rattle.number_map.specs.Records.{AreRecordsFrom};
+ghost use Rattle.number_map.specs.declared.line.Record.{Record};
+ghost use Rattle.epoch_file.specs.Lying.{LieIn};
 ghost use Rattle.epoch_file.specs.Runs.{OnlyReads};
 ghost use Rattle.epoch_store.specs.Files.{as_read, epoch_file_of};
-ghost use Rattle.epoch_store.specs.Joined.{Held, Wants, IsMessageOf, EndedBy, JoinsOne, AreBefore, ComparesText, JoinsByText, TakesEpoch, Finishes, TextIn, with_seen};
+ghost use Rattle.epoch_store.specs.Joined.{Held, Wants, IsGrown, IsMessageOf, IsRecorded, IsWanted, EndedBy, JoinsOne, AreBefore, ComparesText, JoinsByText, TakesEpoch, Finishes, TextIn, places_with, with_seen};
 ghost use Rattle.epoch_store.specs.declared.join_refusal.JoinRefusal.{JoinRefusal};
 
 use crate::entries::StoredEntry;
@@ -44,14 +47,16 @@ pub(crate) struct Joining {
 impl Model for Joining {
     ghost use Rattle.std.specs.Prelude.{◌≡◌, length};
     ghost use Rattle.epoch_store.specs.Indexes.{IndexesStored};
-    ghost use Rattle.epoch_store.specs.Joined.{Joined, HaveEpochs, message_count};
+    ghost use Rattle.epoch_store.specs.Joined.{Joined, HaveEpochs, IsJoining, message_count};
 
     ghost Value = { Joined };
 
     ghost view = { λ j. record { records = j.records.items; entries = j.entries.items } };
 
     ghost invariant = { λ j. IndexesStored j.entries.items j.index × HaveEpochs j.records.items
-        × (length j.places.items ≡ message_count j.entries.items) };
+        × (length j.places.items ≡ message_count j.entries.items)
+        × IsJoining (record { records = j.records.items; entries = j.entries.items })
+        j.places.items j.index };
 }
 
 /// Returns the records that have a message.
@@ -67,8 +72,8 @@ fn with_message(alloc: Global, records: &[Record]) -> Result<Vec<Record>, AllocE
 
 impl Joining {
     /// Starts with the records of a map, and no entry yet.
-    #[tactic(auto, using(crate::proofs::Firsts::messages_small, crate::proofs::Indexes::indexes_none))]
     pub(crate) fn new(alloc: Global, records: &Records) -> Result<Joining, NoMemory>
+        requires valid { AreRecordsFrom 1 records.now }
         ensures records { IfOk result (λ joining. joining.records ≡ messages records.now) }
         ensures entries { IfOk result (λ joining. joining.entries ≡ []) }
     {
@@ -98,48 +103,40 @@ impl Joining {
         Some(record.number)
     }
 
-    /// Returns the message of a number among the entries.
-    fn message(&self, number: u32) -> Option<&StoredEntry>
-        ensures { MatchOption result (Unit {0}) (λ entry.
-            IsMessageOf self.now.entries number entry.now) }
+    /// Returns the message of a number that has one among the entries.
+    fn message(&self, number: u32) -> &StoredEntry
+        requires { (line : Record) × IsRecorded self.now number line }
+        ensures of { IsMessageOf self.now.entries number result.now }
+        ensures blob { (line : Record) → IsRecorded self.now number line
+            → result.now.seen.blob ≡ line.blob }
     {
         let at = self
             .records
             .partition_point(|record| record.number < number);
-        let entry = self.entries.get(*self.places.get(at)?)?;
-        if entry.number != number {
-            return None;
-        }
-        match entry.seen.kind {
-            EntryKind::Message => Some(entry),
-            EntryKind::Deletion => None,
-        }
+        let place = self.places[at];
+        &self.entries[place]
     }
 
     /// Returns the number of the live message that a deletion ends, if there is one.
     ///
     /// It has the deletion's own id and its blob id.
-    fn ended(&self, seen: &Seen) -> Result<Option<u32>, JoinRefusal>
+    fn ended(&self, seen: &Seen) -> Option<u32>
         requires { seen.now.kind ≡ Deletion }
-        ensures ended { IfOk result (λ found.
-            Held self.now (λ all. EndedBy all seen.now found)) }
-        ensures refused { IfErr result (λ refusal. refusal ≡ JoinRefusal.NoMemory) }
+        ensures { Held self.now (λ all. EndedBy all seen.now result) }
     {
         let Some(owner) = self.index.owner(seen.id.as_slice()) else {
-            return Ok(None);
+            return None;
         };
-        // A message in the index is among the entries.
-        let Some(message) = self.message(owner.number) else {
-            return Err(JoinRefusal::NoMemory);
-        };
+        let message = self.message(owner.number);
         if message.seen.blob != seen.blob {
-            return Ok(None);
+            return None;
         }
-        Ok(Some(owner.number))
+        Some(owner.number)
     }
 
     /// Appends an entry, with its message's number.
     fn with_entry(self, number: u32, epoch: u32, seen: Seen) -> Result<Joining, NoMemory>
+        requires { seen.kind ≡ Message → IsWanted self epoch seen number }
         ensures { IfOk result (λ joining. joining ≡ with_seen self number epoch seen) }
     {
         let Joining {
@@ -190,9 +187,8 @@ impl Joining {
     {
         let at = seen.at;
         match self.ended(&seen) {
-            Ok(Some(number)) => Ok(self.with_entry(number, epoch, seen)?),
-            Ok(None) => Err(JoinRefusal::Damaged { at }),
-            Err(refusal) => Err(refusal),
+            Some(number) => Ok(self.with_entry(number, epoch, seen)?),
+            None => Err(JoinRefusal::Damaged { at }),
         }
     }
 
@@ -233,12 +229,7 @@ impl Joining {
             return Ok(true);
         };
         // The number of a blob id is that of a message that has it.
-        let Some(older) = self.message(number) else {
-            return Err(JoinRefusal::NoMemory);
-        };
-        if older.seen.blob != seen.blob {
-            return Err(JoinRefusal::NoMemory);
-        }
+        let older = self.message(number);
         let old = seen_text(alloc, disk, root, older.epoch, &older.seen)?;
         let new = seen_text(alloc, disk, root, epoch, seen)?;
         Ok(old.as_slice() == new.as_slice())
@@ -258,6 +249,7 @@ impl Joining {
             JoinsByText root.now self epoch seen result (as_read k)) (D.content disk.old) }
         ensures below { (most : ℕ) → AreBefore most self.entries → epoch < most
             → IfOk result (λ joining. AreBefore most joining.entries) }
+        ensures grown { IfOk result (IsGrown self epoch seen) }
         ensures reads { OnlyReads D.content D.moment D.left_since D.faults disk.old disk.new }
         ensures fault { result ≡ Err JoinRefusal.DiskFault
             → Rose (D.faults disk.old) (D.faults disk.new) }
@@ -290,6 +282,8 @@ impl Joining {
         ensures taken { WhereTold (λ k.
             TakesEpoch root.now self epoch seen result (as_read k)) (D.content disk.old) }
         ensures below { IfOk result (λ joining. AreBefore (epoch + 1) joining.entries) }
+        ensures named { LieIn 0 (named_length root.now epoch) seen → AreNamed root.now self.entries
+            → IfOk result (λ joining. AreNamed root.now joining.entries) }
         ensures reads { OnlyReads D.content D.moment D.left_since D.faults disk.old disk.new }
         ensures fault { result ≡ Err JoinRefusal.DiskFault
             → Rose (D.faults disk.old) (D.faults disk.new) }
@@ -330,8 +324,8 @@ impl Joining {
 
 /// Appends the index of an entry, if that is a message.
 fn push_place(places: &mut Vec<usize>, entry: &StoredEntry, index: usize) -> Result<(), NoMemory>
-    ensures { OnOk result (length places.new.items ≡ (if is_message entry.now.seen.kind
-        then length places.old.items + 1 else length places.old.items)) }
+    ensures { OnOk result (places.new.items
+        ≡ places_with entry.now.seen.kind places.old.items index) }
 {
     if let EntryKind::Message = entry.seen.kind {
         places.push(index)?;

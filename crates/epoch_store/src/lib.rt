@@ -20,6 +20,7 @@ mod rewriting;
 mod settling;
 mod store;
 mod store_opening;
+mod writing;
 
 pub use entries::StoredEntry;
 pub use indexing::take_entry;

@@ -1,8 +1,8 @@
 //! Plans an archive without the entries of a text.
-ghost use Rattle.std.specs.Prelude.{◌≡◌, ◌+◌, ◌≤◌, [], Err, IfErr, IfOk, OnOk};
+ghost use Rattle.std.specs.Prelude.{◌≡◌, ◌+◌, ◌*◌, ◌≤◌, [], Err, IfErr, IfOk, OnOk};
 ghost use Rattle.std.specs.Str.{bytes_eq};
 ghost use Rattle.arch_base.specs.Counts.{RoseIf};
-ghost use Rattle.disk_model.specs.Sizes.{greatest_epoch};
+ghost use Rattle.disk_model.specs.Sizes.{greatest_epoch, record_size};
 ghost use Rattle.root_slots.specs.declared.root.Root.{Root};
 ghost use Rattle.root_slots.specs.Valid.{IsRoot};
 ghost use Rattle.root_change.specs.Rewriting.{IsPlan};
@@ -11,8 +11,9 @@ ghost use Rattle.arch_model.specs.Validity.{IsArchive};
 ghost use Rattle.epoch_file.specs.Planning.{TellsLack};
 ghost use Rattle.epoch_file.specs.Runs.{OnlyReads};
 ghost use Rattle.epoch_store.specs.DamagedTexts.{IfDamaged, IsDamageOf};
+ghost use Rattle.epoch_store.specs.Extents.{AreNamedAfter, AreUpToEpoch, LieFrom};
 ghost use Rattle.epoch_store.specs.Files.{epoch_file_of, map_file_of};
-ghost use Rattle.epoch_store.specs.Planning.{AppendsRecord, AreAnew, AreFrom, ArePlansIn, AreValid, AreWithin, ChangesNext, Closes, ClosesLast, FinishesPlans, IsIndexOf, IsReady, KeepsBut, KeepsEntry, LeavesOut, OpensPlan, Pushes, RefusesEntry, PlansNext, no_planning, plans_with, refusal_in, with_gone};
+ghost use Rattle.epoch_store.specs.Planning.{AppendsRecord, AreAnew, AreFrom, ArePlansIn, AreValid, ChangesNext, Closes, ClosesLast, FinishesPlans, IsIndexOf, IsReady, IsTaken, KeepsBut, KeepsEntry, LeavesOut, OpensPlan, Pushes, RefusesEntry, PlansNext, TakesOn, no_planning, plans_with, refusal_in, with_gone};
 ghost use Rattle.epoch_store.specs.Stores.{InEpochs, IsEnd, stored_after};
 
 use crate::entries::StoredEntry;
@@ -101,6 +102,7 @@ impl Planner {
             → ArePlansIn root self.old → OnOk result (ArePlansIn root self.new) }
         ensures changes { OnOk result (ChangesNext self.old file.number
             (bytes_eq blob.now.0 entry.now.seen.blob.0) self.new) }
+        ensures lies { OnOk result (TakesOn self.old file entry.now self.new) }
         ensures reads { OnlyReads D.content D.moment D.left_since D.faults disk.old disk.new }
         ensures fewest { D.reads disk.old ≤ D.reads disk.new }
         ensures cause { RoseIf (result ≡ Err StoreRefusal.DiskFault) (D.faults disk.old)
@@ -217,6 +219,7 @@ impl Planner {
     pub(crate) fn end(&self) -> End
         requires { InEpochs self.now.entries }
         ensures small { result.epoch ≤ greatest_epoch }
+        ensures last { LieFrom 0 0 self.now.entries → AreUpToEpoch result.epoch self.now.entries }
         ensures end { (b : Archive) → IsArchive b → self.now.entries ≡ stored_after [] b.entries
             → IsEnd b result }
     {
@@ -256,9 +259,11 @@ impl Planner {
         ensures finished { OnOk result (FinishesPlans self.old map count self.new) }
         // Whatever the disk holds.
         ensures ready { (root : Root) → IsRoot root → map ≡ map_file_of root
-            → ArePlansIn root self.old → OnOk result
+            → root.map.length ≡ record_size * count → ArePlansIn root self.old
+            → IsTaken root self.old → OnOk result
             (AreFrom root self.new.plans × AreAnew self.new.plans
-            × (AreWithin root self.new.plans → IsReady root self.new.plans (count + 1))) }
+            × IsReady root self.new.plans (count + 1)
+            × AreNamedAfter root self.new.plans self.new.entries) }
     {
         self.close_last()?;
         if self.top > count {

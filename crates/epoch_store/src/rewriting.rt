@@ -8,7 +8,8 @@ ghost use Rattle.disk_model.specs.Sizes.{greatest_epoch};
 ghost use Rattle.mail_reader.specs.StorageTexts.{IsStorageText};
 ghost use Rattle.mail_commits.specs.Ids.{text_ids_of};
 ghost use Rattle.epoch_store.specs.declared.entries.StoredEntry.{StoredEntry};
-ghost use Rattle.epoch_store.specs.Planning.{AreFrom, ArePlansIn, AreUpTo, AreWithin, IsFrom, IsPlaceAfter, IsPlanWithin, IsReady, IsUpTo, Says, KeepsPlanned, PlansArchive, PlansEdit, PlansFirst, PlansOwn, PlansPurge, PlansUndamaged, is_anew, length_after, loses, no_planning};
+ghost use Rattle.epoch_store.specs.Extents.{AreNamedAfter, AreUpToEpoch, LieFrom};
+ghost use Rattle.epoch_store.specs.Planning.{ArePlansIn, IsPlaceAfter, IsReady, IsTaken, KeepsPlanned, PlansArchive, PlansEdit, PlansFirst, PlansOwn, PlansPurge, PlansUndamaged, is_anew, length_after, loses, no_planning};
 ghost use Rattle.epoch_file.specs.Runs.{OnlyReads};
 ghost use Rattle.epoch_store.specs.DamagedTexts.{IfDamaged, IsDamagedEntry};
 ghost use Rattle.epoch_store.specs.Promises.{ChangesStore, Drops, Renews, Replaces};
@@ -17,14 +18,13 @@ ghost use Rattle.epoch_store.specs.Stores.{DropsEntries, EditsEntries, EditsFile
 use crate::next::NextPlace;
 use crate::planning::Planner;
 use crate::store::{MOST, Store, own_id_of};
-use arch_base::{NoMemory, ObjectId};
+use arch_base::ObjectId;
 use disk_model::{Disk, FileKind, LAST_EPOCH};
 use epoch_file::{NewEntry, StoreRefusal, Written, entry_piece};
 use git_objects::EntryKind;
 use mail_commits::TextIds;
 use number_map::Record;
-use root_change::{PartPlan, RewriteRefusal, Source, map_file, place_at, rewrite};
-use root_slots::Root;
+use root_change::{RewriteRefusal, map_file, rewrite};
 use std::alloc::Global;
 
 impl Store {
@@ -122,7 +122,6 @@ impl Store {
             Err(refusal) => return Err(refusal),
         }
         planned.finish(map_file(self.root.map.gen_), self.root.next - 1)?;
-        check_ranges(&self.root, planned.plans.as_slice())?;
         Ok(planned)
     }
 
@@ -138,6 +137,7 @@ impl Store {
         ensures kept { OnOk result (AllZip KeptOf (without_blob self.now.entries blob.now.0)
             planned.new.entries) }
         ensures plans { OnOk result (ArePlansIn self.now.root planned.new) }
+        ensures taken { OnOk result (IsTaken self.now.root planned.new) }
         ensures changes { OnOk result ((e : ℕ)
             → is_anew planned.new e ≡ loses self.now.entries blob.now.0 e) }
         ensures all { OnOk result (WhereTold
@@ -176,6 +176,8 @@ impl Store {
         ensures small { result.epoch ≤ greatest_epoch }
         ensures length { result.length
             ≡ length_after self.now.root planned.now.plans result.epoch }
+        ensures last { LieFrom 0 0 planned.now.entries
+            → AreUpToEpoch result.epoch planned.now.entries }
         ensures place { IsPlaceAfter self.now.root planned.now result }
     {
         let end = planned.end();
@@ -256,6 +258,7 @@ impl Store {
         requires ready { IsReady self.old.root planned.plans next }
         requires next { (1 ≤ next) × (next ≤ 2147483648) }
         requires epochs { InEpochs planned.entries }
+        requires named { AreNamedAfter self.old.root planned.plans planned.entries }
         requires sizes { WhereTold (HasSizes self.old) (D.content disk.old) }
         ensures changes { ChangesStore D.content D.moment D.left_since D.faults D.reads disk.old disk.new
             self.old self.new Renews (λ a b. (cache : List ℕ)
@@ -278,52 +281,5 @@ impl Store {
             Err(RewriteRefusal::DiskFault) => Err(StoreRefusal::DiskFault),
             Err(RewriteRefusal::Short { file, at }) => Err(StoreRefusal::Damaged { file, at }),
         }
-    }
-}
-
-/// Refuses plans with a range that ends past the bytes of its part, which no archive's entries lead to.
-fn check_ranges(root: &Root, plans: &[PartPlan]) -> Result<(), NoMemory>
-    requires { AreFrom root.now plans.now }
-    ensures { OnOk result (AreWithin root.now plans.now) }
-{
-    for plan in plans {
-        check_plan(root, plan)?;
-    }
-    Ok(())
-}
-
-/// Refuses a plan with such a range.
-fn check_plan(root: &Root, plan: &PartPlan) -> Result<(), NoMemory>
-    requires { IsFrom root.now plan.now }
-    ensures { OnOk result (IsPlanWithin root.now plan.now) }
-{
-    let kind = plan.kind();
-    let number = plan.number();
-    let place = place_at(root, kind, number);
-    if !ends_by(plan.sources(), place.length) {
-        return Err(NoMemory);
-    }
-    Ok(())
-}
-
-/// Returns whether each range among sources ends up to this offset.
-fn ends_by(sources: &[Source], end: u64) -> bool
-    ensures { AreUpTo sources.now end result }
-{
-    for source in sources {
-        if !ends_up_to(source, end) {
-            return false;
-        }
-    }
-    true
-}
-
-/// Returns whether a source isn't a range that ends past this offset.
-fn ends_up_to(source: &Source, end: u64) -> bool
-    ensures { Says result (IsUpTo end source.now) }
-{
-    match source {
-        Source::Bytes { .. } => true,
-        Source::Range(range) => range.offset <= end && range.count <= end - range.offset,
     }
 }

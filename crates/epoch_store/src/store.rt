@@ -11,30 +11,32 @@ ghost use Rattle.mail_commits.specs.Ids.{text_ids_of};
 ghost use Rattle.arch_model.specs.Archives.{Archive, Entry, empty_archive};
 ghost use Rattle.arch_base.specs.Moments.{last_moment};
 ghost use Rattle.epoch_file.specs.Appending.{written_of};
+ghost use Rattle.epoch_file.specs.Lying.{LiesIn};
 ghost use Rattle.root_slots.specs.Between.{RunsBetween};
 ghost use Rattle.root_slots.specs.Slots.{HasFirstRoot, HasNewRoot};
 ghost use Rattle.root_slots.specs.Spelling.{spelling};
 ghost use Rattle.root_slots.specs.Valid.{IsRoot};
 ghost use Rattle.arch_base.specs.Configs.{IsConfig};
+ghost use Rattle.epoch_store.specs.Extents.{AreUpToEpoch};
 ghost use Rattle.epoch_store.specs.First.{MakingLeaves, MakingAnswers, RefusesToMake, first_root_of};
 ghost use Rattle.epoch_store.specs.declared.refusal.InitRefusal.{InitRefusal};
 ghost use Rattle.epoch_store.specs.Promises.{Adds, Appends, ChangesStore, Ends};
-ghost use Rattle.epoch_store.specs.Stores.{IsDiskOf, IsStoreWith, Keeps, IsEnd, IsNextPlace, next_sequence, place_of, root_after, RecoversEitherWith, HasSizes, GoesOn, Accepts, MayEnd, IsMessage, IsDeletion, GoesNext, EndsNext, with_message, with_ending, view_after, view_ended, root_ended, stored_at, AddsEntry, EndsAt, EndsEntry, SeesNoDamage};
+ghost use Rattle.epoch_store.specs.Entering.{Enters, KeepsEntry, numbers_by};
+ghost use Rattle.epoch_store.specs.Stores.{IsDiskOf, Keeps, IsEnd, IsNextPlace, next_sequence, place_of, HasSizes, Accepts, MayEnd, stored_at, AddsEntry, EndsAt, EndsEntry};
 
 use crate::entries::StoredEntry;
 use crate::first::{all_names, first_root, make, no_archive};
 use crate::next::{End, NextPlace};
 use crate::refusal::InitRefusal;
+use crate::writing::write_entry;
 use arch_base::{Bytes, Config, NoMemory, ObjectId};
-use disk_model::{Disk, LAST_EPOCH, RECORD_SIZE};
-use epoch_file::{NewEntry, Seen, StoreRefusal, Written, append_entry};
+use disk_model::{Disk, LAST_EPOCH};
+use epoch_file::{NewEntry, Seen, StoreRefusal, Written};
 use git_objects::EntryKind;
 use itoa::Buffer;
 use mail_commits::TextIds;
 use mail_reader::own_id;
-use number_map::{Record, append};
-use root_change::{epoch_file, map_file, replace_root};
-use root_slots::{Place, Root, Slot};
+use root_slots::{Root, Slot, root_fits};
 use std::alloc::Global;
 use std::marker::Model;
 
@@ -58,6 +60,7 @@ pub struct Store {
 impl Model for Store {
     ghost use Rattle.root_slots.specs.Slots.{slot_number};
     ghost use Rattle.root_slots.specs.Valid.{IsRoot};
+    ghost use Rattle.epoch_store.specs.Extents.{AreNamed};
     ghost use Rattle.epoch_store.specs.Stores.{View, InEpochs};
 
     ghost Value = { View };
@@ -65,7 +68,8 @@ impl Model for Store {
     ghost view = { λ s.
         record { root = s.root; slot = slot_number s.slot; entries = s.entries.items } };
 
-    ghost invariant = { λ s. IsRoot s.root × InEpochs s.entries.items };
+    ghost invariant = { λ s. IsRoot s.root × InEpochs s.entries.items
+        × AreNamed s.root s.entries.items };
 }
 
 impl Store {
@@ -112,6 +116,7 @@ impl Store {
     /// Returns the last epoch that has an entry, and its last commit.
     fn end(&self) -> End
         ensures small { result.epoch ≤ greatest_epoch }
+        ensures last { AreUpToEpoch result.epoch self.now.entries }
         ensures end { (a : Archive) → Keeps self.now a → IsEnd a result }
     {
         match self.entries.last() {
@@ -129,6 +134,7 @@ impl Store {
     /// Returns where the next entry is written.
     fn next_place(&self) -> NextPlace
         ensures small { result.epoch ≤ greatest_epoch }
+        ensures last { AreUpToEpoch result.epoch self.now.entries }
         ensures place { result ≡ place_of self.now.root result.epoch result.parent }
         ensures next { (a : Archive) → Keeps self.now a
             → IsNextPlace self.now.root a (next_sequence self.now.root.sequence) result }
@@ -160,156 +166,6 @@ impl Store {
         }
     }
 
-    /// Returns the root after one more entry; the file of the entry's epoch then ends at `end`.
-    fn next_root(&self, place: &NextPlace, end: u64) -> Root
-        requires small { place.now.epoch ≤ greatest_epoch }
-        requires place { place.now ≡ place_of self.now.root place.now.epoch place.now.parent }
-        requires left { self.now.root.next ≤ self.now.root.config.max }
-        requires some { 0 < end }
-        ensures root { result ≡ root_after self.now.root place.now end }
-        ensures valid { IsRoot result }
-        ensures goes_on { GoesOn self.now.root result }
-        ensures count { length self.now.root.epochs ≡ epoch_count }
-    {
-        let mut root = self.root.copy();
-        root.sequence = root.sequence.saturating_add(1);
-        root.next += 1;
-        root.map.length += RECORD_SIZE as u64;
-        root.epochs[place.epoch as usize] = Place {
-            gen_: place.gen_,
-            length: end,
-        };
-        root
-    }
-
-    /// Returns the root after a deletion; the file of its epoch then ends at `end`.
-    fn ended_root(&self, place: &NextPlace, end: u64) -> Root
-        requires small { place.now.epoch ≤ greatest_epoch }
-        requires place { place.now ≡ place_of self.now.root place.now.epoch place.now.parent }
-        requires some { 0 < end }
-        ensures root { result ≡ root_ended self.now.root place.now end }
-        ensures valid { IsRoot result }
-        ensures goes_on { GoesOn self.now.root result }
-        ensures count { length self.now.root.epochs ≡ epoch_count }
-    {
-        let mut root = self.root.copy();
-        root.sequence = root.sequence.saturating_add(1);
-        root.epochs[place.epoch as usize] = Place {
-            gen_: place.gen_,
-            length: end,
-        };
-        root
-    }
-
-    /// Appends a message and its record, and replaces the root by the one that names them.
-    fn write_entry<D: Disk>(
-        &self,
-        alloc: Global,
-        disk: &mut D,
-        place: &NextPlace,
-        entry: &NewEntry<'_>,
-    ) -> Result<(Root, Written), StoreRefusal>
-        requires small { place.now.epoch ≤ greatest_epoch }
-        requires place { place.now ≡ place_of self.now.root place.now.epoch place.now.parent }
-        requires short { place.now.length < 2 ^ 62 }
-        requires left { self.now.root.next ≤ self.now.root.config.max }
-        requires sizes { WhereTold (HasSizes self.now) (D.content disk.old) }
-        requires entry { IsMessage place.now entry.now }
-        requires ids { entry.now.ids ≡ text_ids_of entry.now.text.now }
-        requires moment { entry.now.moment ≤ last_moment }
-        ensures any_moment { (a : Archive) (cache : List ℕ)
-            → IsStoreWith self.now cache a (D.content disk.old)
-            → GoesNext self.now a place.now entry.now
-            → LeavesOnly D.moment D.left_since disk.old disk.new
-            (RecoversEitherWith cache a (with_message a place.now entry.now)) }
-        ensures done { (a : Archive) (cache : List ℕ)
-            → IsStoreWith self.now cache a (D.content disk.old)
-            → GoesNext self.now a place.now entry.now
-            → IfOk result (λ made. IsStoreWith (view_after self.now a made.0 place.now entry.now)
-            cache (with_message a place.now entry.now) (D.content disk.new)) }
-        ensures settled { OnOk result (WhereTold IsSettled (D.content disk.new)) }
-        ensures sizes { IfOk result (λ made.
-            WhereTold (HasSizes (record self.now { root = made.0 })) (D.content disk.new)) }
-        ensures root { IfOk result (λ made. made.0 ≡ root_after self.now.root place.now made.1.end) }
-        ensures written { IfOk result (λ made. made.1 ≡ written_of place.now.length entry.now) }
-        ensures valid { IfOk result (λ made. IsRoot made.0) }
-        ensures goes_on { IfOk result (λ made. GoesOn self.now.root made.0) }
-        ensures refused { result ≡ Err StoreRefusal.NoMemory → disk.new ≡ disk.old }
-        ensures undamaged { SeesNoDamage result }
-        ensures cause { RoseIf (result ≡ Err StoreRefusal.DiskFault) (D.faults disk.old)
-            (D.faults disk.new) }
-        ensures count { D.reads disk.new ≡ D.reads disk.old }
-        ensures rooted { IfOk result (λ made. Told (HasNewRoot (1 - self.now.slot)
-            (spelling made.0)) (D.content disk.old) (D.content disk.new)) }
-        ensures between { RunsBetween D.content D.moment D.left_since disk.old disk.new }
-    {
-        let epoch = epoch_file(place.epoch, place.gen_);
-        let written = append_entry(alloc, disk, epoch, place.length, entry)?;
-        let line = Record {
-            number: self.root.next,
-            epoch: place.epoch,
-            blob: written.blob,
-        };
-        let map = map_file(self.root.map.gen_);
-        append(disk, map, self.root.map.length, &line)?;
-        let root = self.next_root(place, written.end);
-        let slot = self.slot.other();
-        replace_root(disk, slot, &self.root, &root)?;
-        Ok((root, written))
-    }
-
-    /// Appends the deletion of a number, and replaces the root by the one that names it.
-    fn write_deletion<D: Disk>(
-        &self,
-        alloc: Global,
-        disk: &mut D,
-        place: &NextPlace,
-        number: u32,
-        entry: &NewEntry<'_>,
-    ) -> Result<(Root, Written), StoreRefusal>
-        requires small { place.now.epoch ≤ greatest_epoch }
-        requires place { place.now ≡ place_of self.now.root place.now.epoch place.now.parent }
-        requires short { place.now.length < 2 ^ 62 }
-        requires sizes { WhereTold (HasSizes self.now) (D.content disk.old) }
-        requires entry { IsDeletion place.now entry.now }
-        requires ids { entry.now.ids ≡ text_ids_of entry.now.text.now }
-        requires moment { entry.now.moment ≤ last_moment }
-        ensures any_moment { (a : Archive) (cache : List ℕ)
-            → IsStoreWith self.now cache a (D.content disk.old)
-            → EndsNext self.now a place.now number entry.now
-            → LeavesOnly D.moment D.left_since disk.old disk.new
-            (RecoversEitherWith cache a (with_ending a place.now number entry.now)) }
-        ensures done { (a : Archive) (cache : List ℕ)
-            → IsStoreWith self.now cache a (D.content disk.old)
-            → EndsNext self.now a place.now number entry.now
-            → IfOk result (λ made.
-            IsStoreWith (view_ended self.now a made.0 place.now number entry.now)
-            cache (with_ending a place.now number entry.now) (D.content disk.new)) }
-        ensures settled { OnOk result (WhereTold IsSettled (D.content disk.new)) }
-        ensures sizes { IfOk result (λ made.
-            WhereTold (HasSizes (record self.now { root = made.0 })) (D.content disk.new)) }
-        ensures root { IfOk result (λ made. made.0 ≡ root_ended self.now.root place.now made.1.end) }
-        ensures written { IfOk result (λ made. made.1 ≡ written_of place.now.length entry.now) }
-        ensures valid { IfOk result (λ made. IsRoot made.0) }
-        ensures goes_on { IfOk result (λ made. GoesOn self.now.root made.0) }
-        ensures refused { result ≡ Err StoreRefusal.NoMemory → disk.new ≡ disk.old }
-        ensures undamaged { SeesNoDamage result }
-        ensures cause { RoseIf (result ≡ Err StoreRefusal.DiskFault) (D.faults disk.old)
-            (D.faults disk.new) }
-        ensures count { D.reads disk.new ≡ D.reads disk.old }
-        ensures rooted { IfOk result (λ made. Told (HasNewRoot (1 - self.now.slot)
-            (spelling made.0)) (D.content disk.old) (D.content disk.new)) }
-        ensures between { RunsBetween D.content D.moment D.left_since disk.old disk.new }
-    {
-        let epoch = epoch_file(place.epoch, place.gen_);
-        let written = append_entry(alloc, disk, epoch, place.length, entry)?;
-        let root = self.ended_root(place, written.end);
-        let other = self.slot.other();
-        replace_root(disk, other, &self.root, &root)?;
-        let made = (root, written);
-        Ok(made)
-    }
-
     /// Returns what is kept of a new entry that was written.
     pub(crate) fn new_entry(
         &self,
@@ -324,6 +180,7 @@ impl Store {
         requires parent { entry.now.parent ≡ place.now.parent }
         requires ids { entry.now.ids ≡ text_ids_of entry.now.text.now }
         requires id { own_id_in entry.now.text.now ≡ Some id }
+        ensures lies { LiesIn place.now.length written.now.end result.seen }
         ensures epoch { result.epoch ≡ place.now.epoch }
         ensures number { result.number ≡ number }
         ensures kind { result.seen.kind ≡ entry.now.kind }
@@ -367,6 +224,52 @@ impl Store {
         }
     }
 
+    /// Writes a new entry and keeps it: a message with the next number, or the deletion of a number.
+    fn enter<D: Disk>(
+        &mut self,
+        alloc: Global,
+        disk: &mut D,
+        kind: EntryKind,
+        number: u32,
+        text: &[u8],
+        ids: &TextIds,
+        moment: u64,
+    ) -> Result<(), StoreRefusal>
+        requires id { IsSome (own_id_in text.now) }
+        requires left { self.old.root.next + numbers_by kind ≤ 2147483648 }
+        requires ids { ids.now ≡ text_ids_of text.now }
+        requires moment { moment ≤ last_moment }
+        requires sizes { WhereTold (HasSizes self.old) (D.content disk.old) }
+        ensures changes { ChangesStore D.content D.moment D.left_since D.faults D.reads disk.old disk.new
+            self.old self.new Appends (Enters kind number text.now moment) result }
+        ensures entered { OnOk result (KeepsEntry kind number text.now self.old self.new) }
+    {
+        let place = self.next_place();
+        if place.length >= MOST {
+            return Err(StoreRefusal::NoMemory);
+        }
+        let id = own_id_of(alloc, text)?;
+        let Ok(()) = self.entries.reserve(1) else {
+            return Err(StoreRefusal::NoMemory);
+        };
+        let entry = NewEntry {
+            kind,
+            text,
+            ids: *ids,
+            moment,
+            parent: place.parent,
+        };
+        root_fits(&self.root);
+        let free = self.slot.other();
+        let (root, written) = write_entry(alloc, disk, &self.root, free, &place, &entry)?;
+        let stored = self.new_entry(&place, number, &entry, &written, id);
+        // There is room for it.
+        let _ = self.entries.push(stored);
+        self.root = root;
+        self.slot = free;
+        Ok(())
+    }
+
     /// Appends a message: its text, which has these ids, takes the next number, at a moment in seconds
     /// since 1970 UTC. What is said of archives here holds if no entry has another text with the same
     /// blob id.
@@ -391,28 +294,8 @@ impl Store {
             self.old self.new Appends (Adds text.now moment) result }
         ensures added { OnOk result (AddsEntry self.old self.new text.now) }
     {
-        let place = self.next_place();
-        if place.length >= MOST {
-            return Err(StoreRefusal::NoMemory);
-        }
-        let id = own_id_of(alloc, text)?;
-        let Ok(()) = self.entries.reserve(1) else {
-            return Err(StoreRefusal::NoMemory);
-        };
-        let entry = NewEntry {
-            kind: EntryKind::Message,
-            text,
-            ids: *ids,
-            moment,
-            parent: place.parent,
-        };
-        let (root, written) = self.write_entry(alloc, disk, &place, &entry)?;
-        let stored = self.new_entry(&place, self.root.next, &entry, &written, id);
-        // There is room for it.
-        let _ = self.entries.push(stored);
-        self.root = root;
-        self.slot = self.slot.other();
-        Ok(())
+        let number = self.root.next;
+        self.enter(alloc, disk, EntryKind::Message, number, text, ids, moment)
     }
 
     /// Appends the deletion of a live message, which has this number and text, and these ids of the text,
@@ -440,28 +323,8 @@ impl Store {
             self.old self.new Appends (Ends number text.now moment) result }
         ensures ended { OnOk result (EndsEntry self.old self.new number text.now) }
     {
-        let place = self.next_place();
-        if place.length >= MOST {
-            return Err(StoreRefusal::NoMemory);
-        }
-        let id = own_id_of(alloc, text)?;
-        let Ok(()) = self.entries.reserve(1) else {
-            return Err(StoreRefusal::NoMemory);
-        };
-        let entry = NewEntry {
-            kind: EntryKind::Deletion,
-            text,
-            ids: *ids,
-            moment,
-            parent: place.parent,
-        };
-        let (root, written) = self.write_deletion(alloc, disk, &place, number, &entry)?;
-        let stored = self.new_entry(&place, number, &entry, &written, id);
-        // There is room for it.
-        let _ = self.entries.push(stored);
-        self.root = root;
-        self.slot = self.slot.other();
-        Ok(())
+        let _next = self.root.next; // brings the range of the next number into the proof
+        self.enter(alloc, disk, EntryKind::Deletion, number, text, ids, moment)
     }
 }
 

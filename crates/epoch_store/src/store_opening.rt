@@ -12,6 +12,7 @@ ghost use Rattle.root_slots.specs.Slots.{slot_number, HasRootSize};
 ghost use Rattle.root_slots.specs.Valid.{IsRoot};
 ghost use Rattle.disk_files.specs.Listing.{AreAllNames};
 ghost use Rattle.root_change.specs.Texts.{Texts, StandsFor, OnDisk};
+ghost use Rattle.epoch_store.specs.Extents.{AreNamed};
 ghost use Rattle.epoch_store.specs.Files.{as_read};
 ghost use Rattle.epoch_store.specs.Finding.{Finds};
 ghost use Rattle.epoch_store.specs.Indexes.{IndexesStored};
@@ -39,6 +40,7 @@ fn find_synced<D: Disk>(alloc: Global, disk: &mut D) -> Result<Found, OpenRefusa
     ensures synced { SyncsBy result (D.content disk.old) (D.content disk.new) }
     ensures root { IfOk result (λ found. IsRoot found.root) }
     ensures epochs { IfOk result (λ found. AreBefore epoch_count found.entries.items) }
+    ensures named { IfOk result (λ found. AreNamed found.root found.entries.items) }
     ensures indexed { IfOk result (λ found. IndexesStored found.entries.items found.index) }
     ensures any_moment { LeavesOnly D.moment D.left_since disk.old disk.new
         (Image (D.content disk.old)) }

@@ -1,20 +1,32 @@
-use Rattle.std.proofs.Common.{Ok, Err}
-use Rattle.epoch_store.specs.Finding.{KeepsBy, ReadsEach}
-use Rattle.epoch_store.proofs.FindingTold.{told_so}
-use Rattle.epoch_store.proofs.FindingTurns.{keeps, keeps_none}
+-- Nothing is read at first, and what is kept lies in the bytes that are named.
+use Rattle.std.proofs.Common.{◌≡◌, List, Result, Ok, Err, sym, subst}
+use Rattle.std.specs.Prelude.{IfOk}
+use Rattle.root_slots.specs.declared.root.Root.{Root}
+use Rattle.arch_model.specs.declared.opening.OpenRefusal.{OpenRefusal}
+use Rattle.epoch_store.specs.declared.entries.StoredEntry.{StoredEntry}
+use Rattle.epoch_store.specs.Extents.{AreNamed}
+use Rattle.epoch_store.specs.Files.{as_read}
+use Rattle.epoch_store.proofs.Extents.{named_none}
+use Rattle.epoch_store.proofs.FindingTold.{where_so}
+use Rattle.epoch_store.proofs.FindingTurns.{begun}
 use Rattle.epoch_store.proofs.finding.read_epochs.Goals as goal
 
 pub returns-in-Ok-join_all-clause-kept : goal.returns-in-Ok-join_all-clause-kept
 returns-in-Ok-join_all-clause-kept g c =
-    let root = c.args.root.now in
-    let old = c.in-Ok.joining in
-    let joined = c.in-Ok-join_all.joined in
-    told_so (ReadsEach root old (Ok joined)) (KeepsBy root c.args.records.now c.finish.result) (g.D.Disk.content c.args.disk.now) c.in-Ok-join_all.ensures.joined
-    (λ files reads. keeps root c.args.records.now old joined c.finish.result files c.in-Ok.ensures.records c.in-Ok.ensures.entries reads c.finish.ensures.ends)
+    where_so _ _ (g.D.Disk.content c.args.disk.now) c.in-Ok-join_all.ensures.joined
+    (λ k reads fits has. c.finish.ensures.ends c.args.records.now (as_read k) (reads c.args.records.now fits (begun c.args.root.now (as_read k) c.args.records.now c.in-Ok.joining has c.in-Ok.ensures.records c.in-Ok.ensures.entries)))
 
 pub returns-in-Err-clause-kept : goal.returns-in-Err-clause-kept
 returns-in-Err-clause-kept g c =
+    where_so _ _ (g.D.Disk.content c.args.disk.now) c.in-Err.ensures.joined
+    (λ k reads fits has. reads c.args.records.now fits (begun c.args.root.now (as_read k) c.args.records.now c.in-Ok.joining has c.in-Ok.ensures.records c.in-Ok.ensures.entries))
+
+-- What is kept is named if that is so of what was joined.
+named_kept : (root : Root) (es : List StoredEntry) (result : Result (List StoredEntry) OpenRefusal) → AreNamed root es → IfOk result (λ (kept : List StoredEntry). kept ≡ es) → IfOk result (AreNamed root)
+named_kept root es (Ok kept) are same = subst (AreNamed root) (sym same) are
+named_kept root es (Err refusal) are same = tt
+
+pub returns-in-Ok-join_all-clause-named : goal.returns-in-Ok-join_all-clause-named
+returns-in-Ok-join_all-clause-named g c =
     let root = c.args.root.now in
-    let old = c.in-Ok.joining in
-    told_so (ReadsEach root old (Err c.in-Err.refusal)) (KeepsBy root c.args.records.now (Err c.in-Err.refusal)) (g.D.Disk.content c.args.disk.now) c.in-Err.ensures.joined
-    (λ files reads. keeps_none root c.args.records.now old c.in-Err.refusal files c.in-Ok.ensures.records c.in-Ok.ensures.entries reads)
+    named_kept root c.in-Ok-join_all.joined.entries c.finish.result (c.in-Ok-join_all.ensures.named (named_none root c.in-Ok.joining.entries c.in-Ok.ensures.entries)) c.finish.ensures.kept

@@ -1,4 +1,5 @@
-use Rattle.epoch_store.proofs.Recovered.{recovers_map, recovers_undamaged}
+use Rattle.epoch_store.proofs.Opened.{recovers_map}
+use Rattle.epoch_store.proofs.Recovered.{recovers_undamaged}
 use Rattle.epoch_store.proofs.opening_laws.law_of_undamaged_files.Goals as goal
 
 pub returns-clause-map : goal.returns-clause-map

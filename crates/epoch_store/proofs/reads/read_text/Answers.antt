@@ -1,7 +1,8 @@
 -- One read of the disk, and none.
 use Rattle.disk_model.specs.Disk.{Image}
 use Rattle.disk_model.specs.Moments.{started, goes_on}
-use Rattle.epoch_store.proofs.Texts.{unchanged_itself, same_images}
+use Rattle.disk_files.proofs.NameLists.{unchanged_image}
+use Rattle.epoch_store.proofs.FindingTold.{unchanged_itself}
 use Rattle.epoch_store.proofs.reads.read_text.Goals as goal
 
 pub returns-in_err-text-clause-same : goal.returns-in_err-text-clause-same
@@ -18,7 +19,7 @@ returns-in_err-read-clause-any_moment g c =
     let new = c.read.new.self in
     let k = g.D.Disk.content disk in
     let start = started g.D.Disk.moment g.D.Disk.left_since disk (Image k) (λ image left. g.met.D.Disk.only_now disk image left) in
-    goes_on g.D.Disk.moment g.D.Disk.left_since disk disk new (Image k) (g.D.Disk.content new) start c.read.ensures.time (λ image left. same_images k (g.D.Disk.content new) image c.read.ensures.same left)
+    goes_on g.D.Disk.moment g.D.Disk.left_since disk disk new (Image k) (g.D.Disk.content new) start c.read.ensures.time (λ image left. unchanged_image k (g.D.Disk.content new) image c.read.ensures.same left)
 
 pub returns-clause-any_moment : goal.returns-clause-any_moment
 returns-clause-any_moment g c =
@@ -26,4 +27,4 @@ returns-clause-any_moment g c =
     let new = c.read.new.self in
     let k = g.D.Disk.content disk in
     let start = started g.D.Disk.moment g.D.Disk.left_since disk (Image k) (λ image left. g.met.D.Disk.only_now disk image left) in
-    goes_on g.D.Disk.moment g.D.Disk.left_since disk disk new (Image k) (g.D.Disk.content new) start c.read.ensures.time (λ image left. same_images k (g.D.Disk.content new) image c.read.ensures.same left)
+    goes_on g.D.Disk.moment g.D.Disk.left_since disk disk new (Image k) (g.D.Disk.content new) start c.read.ensures.time (λ image left. unchanged_image k (g.D.Disk.content new) image c.read.ensures.same left)

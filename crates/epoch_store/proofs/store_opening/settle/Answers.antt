@@ -1,9 +1,5 @@
 -- What is left while the disk is settled, and what is there then.
-use Rattle.std.specs.Prelude.{List}
-use Rattle.std.proofs.Common.{subst, sym}
-use Rattle.disk_files.specs.Listing.{AreAllNames}
-use Rattle.disk_model.specs.declared.name.FileName.{FileName}
-use Rattle.disk_model.specs.Disk.{Image, WhereTold}
+use Rattle.disk_model.specs.Disk.{Image}
 use Rattle.disk_model.specs.Moments.{weaker}
 use Rattle.root_slots.specs.Between.{looks_between}
 use Rattle.root_slots.specs.Slots.{slot_number}
@@ -20,59 +16,34 @@ returns-clause-any_moment g c = λ texts found.
 
 pub returns-in-Ok-sweep-clause-any_moment : goal.returns-in-Ok-sweep-clause-any_moment
 returns-in-Ok-sweep-clause-any_moment g c = λ texts found.
-    let disk = c.args.disk.now in
-    let mid = c.present_files.new.disk in
-    let k0 = g.D.Disk.content disk in
-    let k1 = g.D.Disk.content mid in
     let root = c.args.root.now in
     let slot = slot_number c.args.slot in
-    let names = c.as_slice.result.now in
-    let all = subst (λ (l : List FileName). WhereTold (AreAllNames l) k0) (sym c.as_slice.ensures) c.in-Ok.ensures.names in
-    settling_leaves root slot texts k0 found g.D.Disk.moment g.D.Disk.left_since disk mid c.sweep.new.disk c.present_files.ensures.reads.any_moment
-    (c.sweep.ensures.any_moment texts (listed_to_settle root slot texts names k0 k1 found c.present_files.ensures.reads.same all))
+    settling_leaves root slot texts _ found g.D.Disk.moment g.D.Disk.left_since c.args.disk.now c.present_files.new.disk c.sweep.new.disk c.present_files.ensures.reads.any_moment
+    (c.sweep.ensures.any_moment texts (listed_to_settle root slot texts c.as_slice.result.now _ _ found c.present_files.ensures.reads.same (rw c.as_slice.ensures c.in-Ok.ensures.names)))
 
 pub returns-in-Ok-clause-any_moment : goal.returns-in-Ok-clause-any_moment
 returns-in-Ok-clause-any_moment g c = λ texts found.
-    let disk = c.args.disk.now in
-    let mid = c.present_files.new.disk in
-    let k0 = g.D.Disk.content disk in
-    let k1 = g.D.Disk.content mid in
     let root = c.args.root.now in
     let slot = slot_number c.args.slot in
-    let names = c.as_slice.result.now in
-    let all = subst (λ (l : List FileName). WhereTold (AreAllNames l) k0) (sym c.as_slice.ensures) c.in-Ok.ensures.names in
-    settling_leaves root slot texts k0 found g.D.Disk.moment g.D.Disk.left_since disk mid c.sweep.new.disk c.present_files.ensures.reads.any_moment
-    (c.sweep.ensures.any_moment texts (listed_to_settle root slot texts names k0 k1 found c.present_files.ensures.reads.same all))
+    settling_leaves root slot texts _ found g.D.Disk.moment g.D.Disk.left_since c.args.disk.now c.present_files.new.disk c.sweep.new.disk c.present_files.ensures.reads.any_moment
+    (c.sweep.ensures.any_moment texts (listed_to_settle root slot texts c.as_slice.result.now _ _ found c.present_files.ensures.reads.same (rw c.as_slice.ensures c.in-Ok.ensures.names)))
 
 pub returns-in-Ok-sweep-clause-done : goal.returns-in-Ok-sweep-clause-done
 returns-in-Ok-sweep-clause-done g c = λ texts found.
-    let k0 = g.D.Disk.content c.args.disk.now in
-    let k1 = g.D.Disk.content c.present_files.new.disk in
-    let names = c.as_slice.result.now in
-    let all = subst (λ (l : List FileName). WhereTold (AreAllNames l) k0) (sym c.as_slice.ensures) c.in-Ok.ensures.names in
-    c.in-Ok-sweep.ensures.done texts (listed_to_settle c.args.root.now (slot_number c.args.slot) texts names k0 k1 found c.present_files.ensures.reads.same all)
+    c.in-Ok-sweep.ensures.done texts
+    (listed_to_settle c.args.root.now (slot_number c.args.slot) texts c.as_slice.result.now _ _ found c.present_files.ensures.reads.same (rw c.as_slice.ensures c.in-Ok.ensures.names))
 
 pub returns-in-Ok-sweep-clause-kept : goal.returns-in-Ok-sweep-clause-kept
 returns-in-Ok-sweep-clause-kept g c =
-    let content = g.D.Disk.content in
-    let k0 = content c.args.disk.now in
-    let names = c.as_slice.result.now in
-    let all = subst (λ (l : List FileName). WhereTold (AreAllNames l) k0) (sym c.as_slice.ensures) c.in-Ok.ensures.names in
-    settled_told c.args.root.now (slot_number c.args.slot) names k0 (content c.present_files.new.disk) (content c.sweep.new.disk) all c.present_files.ensures.reads.same c.in-Ok-sweep.ensures.swept
+    settled_told c.args.root.now (slot_number c.args.slot) c.as_slice.result.now (g.D.Disk.content c.args.disk.now) _ _ (rw c.as_slice.ensures c.in-Ok.ensures.names) c.present_files.ensures.reads.same c.in-Ok-sweep.ensures.swept
 
 pub returns-clause-between : goal.returns-clause-between
 returns-clause-between g c = looks_between g.D.Disk.content g.D.Disk.moment g.D.Disk.left_since c.args.disk.now c.present_files.new.disk c.present_files.ensures.reads.any_moment
 
 pub returns-in-Ok-sweep-clause-between : goal.returns-in-Ok-sweep-clause-between
 returns-in-Ok-sweep-clause-between g c =
-    let disk = c.args.disk.now in
-    let mid = c.present_files.new.disk in
-    let content = g.D.Disk.content in
-    read_between content g.D.Disk.moment g.D.Disk.left_since disk mid c.sweep.new.disk c.present_files.ensures.reads.same c.present_files.ensures.reads.any_moment c.sweep.ensures.between
+    read_between g.D.Disk.content g.D.Disk.moment g.D.Disk.left_since c.args.disk.now c.present_files.new.disk c.sweep.new.disk c.present_files.ensures.reads.same c.present_files.ensures.reads.any_moment c.sweep.ensures.between
 
 pub returns-in-Ok-clause-between : goal.returns-in-Ok-clause-between
 returns-in-Ok-clause-between g c =
-    let disk = c.args.disk.now in
-    let mid = c.present_files.new.disk in
-    let content = g.D.Disk.content in
-    read_between content g.D.Disk.moment g.D.Disk.left_since disk mid c.sweep.new.disk c.present_files.ensures.reads.same c.present_files.ensures.reads.any_moment c.sweep.ensures.between
+    read_between g.D.Disk.content g.D.Disk.moment g.D.Disk.left_since c.args.disk.now c.present_files.new.disk c.sweep.new.disk c.present_files.ensures.reads.same c.present_files.ensures.reads.any_moment c.sweep.ensures.between

@@ -5,6 +5,7 @@ use Rattle.epoch_file.specs.declared.refusal.StoreRefusal.{StoreRefusal}
 use Rattle.epoch_store.specs.DamagedTexts.{DamageBy, IsDamageOf}
 use Rattle.epoch_store.specs.Planning.{PlansNext}
 use Rattle.epoch_store.proofs.Losing.{kept_changes, left_changes}
+use Rattle.epoch_store.proofs.Taken.{kept_on, left_on}
 use Rattle.epoch_store.proofs.Taking.{take_damage, take_left, take_kept, take_refused, kept_but, left_but, kept_in, left_in}
 use Rattle.epoch_store.proofs.planning.Planner.take.Goals as goal
 
@@ -57,3 +58,9 @@ returns-in-Err-clause-damage g c =
     let content = g.D.Disk.content c.args.disk.now in
     subst (λ (r : StoreRefusal). DamageBy r (IsDamageOf c.args.file c.args.entry.now content)) (sym c.damaged_in.ensures)
     (take_damage c.args.self.now c.args.file c.args.entry.now content c.open.new.self c.in_ok-plan.plan c.in-Err.refusal c.in_ok-plan.ensures.opened c.in-Err.ensures.damage)
+
+pub returns-then-eq-clause-lies : goal.returns-then-eq-clause-lies
+returns-then-eq-clause-lies g c = left_on c.args.self.now c.args.file c.args.entry.now c.open.new.self c.leave_out.new.self c.in_ok-plan.plan c.in_ok-plan.ensures.opened c.in_ok-leave_out.ensures
+
+pub returns-in-Ok-clause-lies : goal.returns-in-Ok-clause-lies
+returns-in-Ok-clause-lies g c = kept_on c.args.self.now c.args.file c.args.entry.now (g.D.Disk.content c.args.disk.now) c.open.new.self c.keep.new.self c.in_ok-plan.plan c.in_ok-plan.ensures.opened c.in-Ok.ensures.kept

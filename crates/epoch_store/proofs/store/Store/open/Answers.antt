@@ -19,7 +19,7 @@ returns-in-Err-clause-well g c = λ a cache reads.
     opens_well c.law_of_spellings.ensures.differ c.law_of_undamaged_files.ensures.undamaged cache a (g.D.Disk.content c.args.disk.now) c.in-Err.refusal reads c.in-Err.ensures.found
 
 pub invariant_of-store : goal.invariant_of-store
-invariant_of-store g c = (c.in-Ok.ensures.root, in_epochs c.in-Ok.found.entries.items c.in-Ok.ensures.epochs)
+invariant_of-store g c = (c.in-Ok.ensures.root, in_epochs c.in-Ok.found.entries.items c.in-Ok.ensures.epochs, c.in-Ok.ensures.named)
 
 pub returns-in-Ok-settle-clause-any_moment : goal.returns-in-Ok-settle-clause-any_moment
 returns-in-Ok-settle-clause-any_moment g c = λ may cache all.

@@ -5,11 +5,13 @@ use Rattle.disk_model.specs.Disk.{WhereTold}
 use Rattle.disk_model.specs.declared.name.FileName.{FileName}
 use Rattle.std.proofs.lemmas.List.{take_all}
 use Rattle.epoch_store.specs.declared.entries.StoredEntry.{StoredEntry}
-use Rattle.epoch_store.specs.Planning.{ArePlansIn, Planning, PlansFirst, is_anew, loses}
+use Rattle.epoch_store.specs.Extents.{AreNamed}
+use Rattle.epoch_store.specs.Planning.{ArePlansIn, IsTakenUpTo, Planning, PlansFirst, is_anew, loses}
 use Rattle.epoch_store.specs.Stores.{KeptOf, View, without_blob}
 use Rattle.epoch_store.proofs.FindingTold.{reads_none, reads_both}
 use Rattle.epoch_store.proofs.Losing.{lost_more}
 use Rattle.epoch_store.proofs.Purged.{entry_at, first_none, first_more, first_stops, first_whole, kept_more, plans_none, rose_later_than}
+use Rattle.epoch_store.proofs.Taken.{taken_more, taken_none}
 use Rattle.epoch_store.proofs.TextDamage.{entry_damage}
 use Rattle.epoch_store.proofs.store.Store.plan_entries.Goals as goal
 
@@ -21,6 +23,9 @@ loop-entry-init g c =
     record {
       kept = subst (λ (p : Planning). AllZip KeptOf (without_blob (take 0 v.entries) blob.0) p.entries) none tt;
       plans = subst (ArePlansIn v.root) none (plans_none v.root);
+      taken =
+          let named : AreNamed v.root v.entries = subst (λ (u : View). AreNamed u.root u.entries) c.self.view_is c.self.invariant.2 in
+          record { epoch = 0; from = 0; taken = subst (IsTakenUpTo v.root 0 0) none (taken_none v.root); lie = named.lie; ends = named.ends };
       changes = λ e. ap (λ (p : Planning). is_anew p e) c.requires.none;
       first = subst (λ (p : Planning). WhereTold (PlansFirst v blob 0 p) (g.D.Disk.content c.args.disk.now)) none (first_none v blob (g.D.Disk.content c.args.disk.now));
       reads = reads_none g.D.Disk.content g.D.Disk.moment g.D.Disk.left_since g.D.Disk.faults c.args.disk.now (λ image. g.met.D.Disk.only_now c.args.disk.now image);
@@ -65,6 +70,7 @@ loop-entry-preserved g c =
     record {
       kept = kept_more v.entries i e blob old.entries new.entries here inv.kept c.in-Ok.ensures.kept;
       plans = c.in-Ok.ensures.plans v.root c.file_of.ensures inv.plans;
+      taken = taken_more v.root v.entries i e c.file_of.result old new here c.file_of.ensures inv.taken c.in-Ok.ensures.lies;
       changes = lost_more v.entries i e blob c.file_of.result.number old new here (ap (λ (f : FileName). f.number) c.file_of.ensures) inv.changes c.in-Ok.ensures.changes;
       first = first_more v blob i old new (g.D.Disk.content c.args.disk.now) (g.D.Disk.content c.loop-entry.disk) e c.file_of.result inv.reads.same here c.file_of.ensures inv.first c.in-Ok.ensures.taken;
       reads = reads_both g.D.Disk.content g.D.Disk.moment g.D.Disk.left_since g.D.Disk.faults c.args.disk.now c.loop-entry.disk c.take.new.disk inv.reads c.in-Ok.ensures.reads;
@@ -92,3 +98,6 @@ returns-clause-all g c =
     let same : c.as_slice-entry-items.result.now ≡ v.entries = c.as_slice-entry-items.ensures.value ∙ ap (λ (u : View). u.entries) c.self.view_is in
     let size : length c.as_slice-entry-items.result.now ≡ length v.entries = ap length same in
     first_whole v c.args.blob.now c.loop-entry.entry-index c.loop-entry.planned (g.D.Disk.content c.args.disk.now) (omega (arith, c.loop-entry-test.false, size)) c.loop-entry.invariant.first
+
+pub returns-clause-taken : goal.returns-clause-taken
+returns-clause-taken g c = (let so = c.loop-entry.invariant.taken in record { epoch = so.epoch; from = so.from; taken = so.taken })

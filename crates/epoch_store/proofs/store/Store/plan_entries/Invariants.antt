@@ -1,16 +1,18 @@
 -- The entries so far were taken.
-use Rattle.std.specs.Prelude.{◌≡◌, ◌≤◌, ℕ, take}
+use Rattle.std.specs.Prelude.{◌≡◌, ◌≤◌, ℕ, take, drop}
 use Rattle.std.specs.List.{AllZip}
 use Rattle.disk_model.specs.Disk.{WhereTold}
 use Rattle.epoch_file.specs.Runs.{OnlyReads}
 use Rattle.epoch_store.specs.Planning.{ArePlansIn, PlansFirst, is_anew, loses}
 use Rattle.epoch_store.specs.Stores.{KeptOf, without_blob}
+use Rattle.epoch_store.proofs.Taken.{IsTakenSo}
 use Rattle.epoch_store.proofs.store.Store.plan_entries.Given as goal
 
 abbrev pub invariant-loop-entry : goal.invariant-loop-entry
 invariant-loop-entry g l = record {
   kept : AllZip KeptOf (without_blob (take l.entry-index l.self.entries) l.blob.0) l.planned.entries;
   plans : ArePlansIn l.self.root l.planned;
+  taken : IsTakenSo l.self.root (drop l.entry-index l.self.entries) l.planned;
   changes : (e : ℕ) → is_anew l.planned e ≡ loses (take l.entry-index l.self.entries) l.blob.0 e;
   first : WhereTold (PlansFirst l.self l.blob l.entry-index l.planned) (g.D.Disk.content l.fn.disk);
   reads : OnlyReads g.D.Disk.content g.D.Disk.moment g.D.Disk.left_since g.D.Disk.faults l.fn.disk l.disk;

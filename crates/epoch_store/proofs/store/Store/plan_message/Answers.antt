@@ -1,5 +1,5 @@
 -- One more message is planned.
-use Rattle.std.proofs.Common.{◌≡◌, ◌∙◌, List, ℕ, Some, sym, ap, subst, is_ok}
+use Rattle.std.proofs.Common.{◌≡◌, ◌∙◌, List, ℕ, Some, rules, sym, ap, subst, is_ok}
 use Rattle.root_slots.specs.Slots.{slot_number}
 use Rattle.epoch_store.specs.Planning.{IsPlaceAfter, PlansEdit, length_after}
 use Rattle.epoch_store.specs.Stores.{View}
@@ -22,4 +22,5 @@ returns-clause-planned c =
     subst (λ (u : View). PlansEdit u old text c.args.moment (record { plans = c.planned.inside.plans.items; entries = c.push.new.self.items; gone = c.planned.inside.gone; current = c.planned.inside.current })) c.self.view_is
     (message_planned v old c.append.new.self c.append_record.new.self p text c.args.moment c.as_slice.result.now c.in_ok-piece.made.blob stored place c.place_after-place.ensures.small long c.if-place-ge-MOST.false piece_is c.in_ok-piece.ensures.blob
     c.new_entry-stored.ensures.after c.in_ok-append.ensures.appended c.in_ok-append.ensures.valid.0 c.in_ok-append_record.ensures.appended c.in_ok-append_record.ensures.valid.1 c.planned.inside.plans.items c.planned.inside.entries.items c.planned.inside.gone c.planned.inside.current c.planned.view_is
-    c.push.new.self.items more c.new_entry-stored.ensures.kind c.new_entry-stored.ensures.number id_is c.new_entry-stored.ensures.blob c.new_entry-stored.ensures.content c.new_entry-stored.ensures.epoch)
+    c.push.new.self.items more c.new_entry-stored.ensures.kind c.new_entry-stored.ensures.number id_is c.new_entry-stored.ensures.blob c.new_entry-stored.ensures.content c.new_entry-stored.ensures.epoch
+    _ c.new_entry-stored.ensures.lies (search rules) c.place_after-place.ensures.last)

@@ -1,26 +1,19 @@
 -- The plans may be carried out, and on the store's own disk they are those of the archive without the
 -- text.
-use Rattle.std.proofs.Common.{◌≡◌, ◌∙◌, ◌-◌, List, sym, ap, subst}
+use Rattle.std.proofs.Common.{◌∙◌, ◌-◌}
 use Rattle.root_slots.specs.Slots.{slot_number}
-use Rattle.root_change.specs.Rewriting.{Plan}
-use Rattle.epoch_store.specs.Planning.{AreFrom, AreWithin, Planning, PlansLost}
+use Rattle.epoch_store.specs.Planning.{PlansLost}
 use Rattle.epoch_store.proofs.Losing.{finished_some}
 use Rattle.epoch_store.proofs.Purged.{ready_of}
 use Rattle.epoch_store.proofs.store.Store.plan_without.Goals as goal
 
-pub check_ranges-requires : goal.check_ranges-requires
-check_ranges-requires g c =
-    let so = ready_of c.args.self.now c.self.inside.root (slot_number c.self.inside.slot) c.self.inside.entries.items c.map_file.result c.plan_entries.new.planned c.finish.new.self c.self.view_is c.self.invariant.0 c.map_file.ensures c.in-Ok.ensures.plans c.in_ok-finish.ensures.finished c.in_ok-finish.ensures.ready in
-    subst (λ (l : List Plan). AreFrom c.self.inside.root l) (sym (c.as_slice.ensures.value ∙ ap (λ (p : Planning). p.plans) c.planned-2.view_is)) so.from_inside
-
 pub returns-clause-planned : goal.returns-clause-planned
 returns-clause-planned g c =
-    let so = ready_of c.args.self.now c.self.inside.root (slot_number c.self.inside.slot) c.self.inside.entries.items c.map_file.result c.plan_entries.new.planned c.finish.new.self c.self.view_is c.self.invariant.0 c.map_file.ensures c.in-Ok.ensures.plans c.in_ok-finish.ensures.finished c.in_ok-finish.ensures.ready in
-    let plans : c.as_slice.result.now ≡ c.finish.new.self.plans = c.as_slice.ensures.value ∙ ap (λ (p : Planning). p.plans) c.planned-2.view_is in
+    let so = ready_of c.args.self.now c.self.inside.root (slot_number c.self.inside.slot) c.self.inside.entries.items c.map_file.result c.plan_entries.new.planned c.finish.new.self c.self.view_is c.self.invariant.0 c.map_file.ensures c.in-Ok.ensures.plans c.in-Ok.ensures.taken c.in_ok-finish.ensures.finished c.in_ok-finish.ensures.ready in
     let lost : PlansLost c.args.self.now.entries c.args.blob.now c.finish.new.self.plans = λ e. finished_some c.plan_entries.new.planned c.map_file.result (c.self.inside.root.next - 1) c.finish.new.self c.in_ok-finish.ensures.finished e ∙ c.in-Ok.ensures.changes e in
-    so.purge c.args.blob.now c.in-Ok.ensures.kept lost (subst (λ (l : List Plan). AreWithin c.self.inside.root l) plans c.in_ok-check_ranges.ensures)
+    so.purge c.args.blob.now c.in-Ok.ensures.kept lost
 
 pub returns-clause-own : goal.returns-clause-own
 returns-clause-own g c =
-    let so = ready_of c.args.self.now c.self.inside.root (slot_number c.self.inside.slot) c.self.inside.entries.items c.map_file.result c.plan_entries.new.planned c.finish.new.self c.self.view_is c.self.invariant.0 c.map_file.ensures c.in-Ok.ensures.plans c.in_ok-finish.ensures.finished c.in_ok-finish.ensures.ready in
+    let so = ready_of c.args.self.now c.self.inside.root (slot_number c.self.inside.slot) c.self.inside.entries.items c.map_file.result c.plan_entries.new.planned c.finish.new.self c.self.view_is c.self.invariant.0 c.map_file.ensures c.in-Ok.ensures.plans c.in-Ok.ensures.taken c.in_ok-finish.ensures.finished c.in_ok-finish.ensures.ready in
     so.own c.args.blob.now (g.D.Disk.content c.args.disk.now) c.in-Ok.ensures.all

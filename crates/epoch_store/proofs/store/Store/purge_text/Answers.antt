@@ -6,7 +6,7 @@ use Rattle.epoch_store.specs.Planning.{KeepsPlanned, PlansArchive}
 use Rattle.epoch_store.specs.Stores.{InEpochs, View}
 use Rattle.epoch_store.proofs.CarriedOut.{kept_low, purged_archive}
 use Rattle.epoch_store.proofs.Changing.{planned, unplanned}
-use Rattle.epoch_store.proofs.Delivering.{store_keeps}
+use Rattle.epoch_store.proofs.Parted.{store_keeps}
 use Rattle.epoch_store.proofs.KeptFiles.{purge_keeps}
 use Rattle.epoch_store.proofs.TextDamage.{entry_told}
 use Rattle.epoch_store.proofs.store.Store.purge_text.Goals as goal
