@@ -99,6 +99,15 @@ pub trait Shelf {
         ensures { (a : Archive) → holds self.now a
             → IfOk result (λ numbers. numbers ≡ search query.now (live a.entries)) };
 
+    /// Returns a page of what `search` gives: so many numbers after so many that are skipped, or as
+    /// many as there are. Reads no text.
+    ///
+    /// `NoMemory` if an allocation fails.
+    fn search_page(&self, query: &Query, skip: u64, count: u64) -> Result<Numbers, NoMemory>
+        requires ready { ready self.now ≡ true }
+        ensures { (a : Archive) → holds self.now a → IfOk result (λ page. page
+            ≡ take count (drop skip (search query.now (live a.entries)))) };
+
     /// Returns the entry at an index, from 0, without its text, or `None` if there are not so many.
     fn entry(&self, index: u64) -> Option<EntryLine>
         requires ready { ready self.now ≡ true }

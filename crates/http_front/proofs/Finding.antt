@@ -1,6 +1,6 @@
 -- What stands under a target, step by step.
-use Rattle.std.proofs.Common.{◌≡◌, ◌≤◌, ℕ, Bool, true, false, List, take, drop, length, min, Option, Some, None, IfOk, is_some, Result, Ok, Err, refl, sym, ap, subst, ◌∙◌, arith}
-use Rattle.std.proofs.lemmas.List.{length-take, take_min, drop_min}
+use Rattle.std.proofs.Common.{◌≡◌, ◌≤◌, ℕ, Bool, true, false, List, take, drop, length, Option, Some, None, IfOk, is_some, Result, Ok, Err, refl, sym, ap, subst, ◌∙◌, arith}
+use Rattle.std.proofs.lemmas.List.{length-take}
 use Rattle.arch_base.specs.declared.sequence.NoMemory.{NoMemory}
 use Rattle.arch_model.specs.Archives.{Entry, Archive, live}
 use Rattle.arch_model.specs.Listings.{listing}
@@ -96,23 +96,11 @@ pub page-unread : (a : Archive) (text : List ℕ) (skip : ℕ) (asked : Option Q
 page-unread a text skip asked none = ap (search_found a text skip) none
 
 -- The page of a search is made of the rows that were found and follow the skipped ones.
-pub search-made : (a : Archive) (query : Query) (skip : ℕ) (name text found numbers : List ℕ) (rows : List Row) (page : List ℕ) → name ≡ a.config.name → found ≡ search query (live a.entries) → numbers ≡ take rows_needed (drop skip found) → rows ≡ rows_at a.entries numbers
+pub search-made : (a : Archive) (query : Query) (skip : ℕ) (name text numbers : List ℕ) (rows : List Row) (page : List ℕ) → name ≡ a.config.name → numbers ≡ take rows_needed (drop skip (search query (live a.entries))) → rows ≡ rows_at a.entries numbers
     → page ≡ search_of name text rows skip → search_found a text skip (Some query) ≡ Gives Page page
-search-made a query skip name text found numbers rows page named all cut read is =
-    let shown : rows ≡ rows_at a.entries (take rows_needed (drop skip (search query (live a.entries)))) = read ∙ ap (rows_at a.entries) (cut ∙ ap (λ (ns : List ℕ). take rows_needed (drop skip ns)) all) in
+search-made a query skip name text numbers rows page named cut read is =
+    let shown : rows ≡ rows_at a.entries (take rows_needed (drop skip (search query (live a.entries)))) = read ∙ ap (rows_at a.entries) cut in
     sym (ap (Gives Page) (is ∙ ap (λ (n : List ℕ). search_of n text rows skip) named ∙ ap (λ (rs : List Row). search_of a.config.name text rs skip) shown))
-
-swapped : (m n : ℕ) → min m n ≡ min n m
-swapped m n = omega arith
-
--- The numbers that a page needs.
-pub needed-is : (numbers rest shown : List ℕ) (skip m k : ℕ) → m ≡ min (length numbers) skip → rest ≡ drop m numbers → k ≡ min (length rest) rows_needed → shown ≡ take k rest → shown ≡ take rows_needed (drop skip numbers)
-needed-is numbers rest shown skip m k m_is rest_is k_is shown_is =
-    shown_is
-    ∙ ap (λ (n : ℕ). take n rest) (k_is ∙ swapped (length rest) rows_needed)
-    ∙ take_min rows_needed rest
-    ∙ ap (take rows_needed)
-    (rest_is ∙ ap (λ (n : ℕ). drop n numbers) (m_is ∙ swapped (length numbers) skip) ∙ drop_min skip numbers)
 
 -- The texts that are read for a path that names something, and for an id of a live mail.
 pub reads-named : (o : Option Named) (named : Named) (before now : ℕ) → o ≡ Some named → ReadsUpTo (texts_for named) before now → ReadsUpTo (path_texts o) before now

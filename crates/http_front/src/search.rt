@@ -1,8 +1,8 @@
 //! The page of a search.
-ghost use Rattle.std.specs.Prelude.{◌≡◌, Some, take, drop, true};
+ghost use Rattle.std.specs.Prelude.{◌≡◌, Some, true};
 ghost use Rattle.arch_model.specs.Archives.{Archive};
 ghost use Rattle.query_lang.specs.Queries.{query_of};
-ghost use Rattle.http_front.specs.Asking.{rows_needed, search_found};
+ghost use Rattle.http_front.specs.Asking.{search_found};
 ghost use Rattle.http_front.specs.Sessions.{MakesPage};
 
 use crate::found::Held;
@@ -45,18 +45,8 @@ fn page_of<S: Shelf>(
     ensures { (a : Archive) → S.holds shelf.now a
         → MakesPage (search_found a text.now skip (Some query.now)) result }
 {
-    let found = shelf.search(query)?;
-    let rows = rows_of(alloc, needed(found.as_slice(), skip), shelf)?;
+    let found = shelf.search_page(query, skip, ROWS_NEEDED)?;
+    let rows = rows_of(alloc, found.as_slice(), shelf)?;
     let page = search_page(alloc, &shelf.config().name, text, rows.as_slice(), skip)?;
     Ok(Held::Whole(Body::Page, page))
-}
-
-/// Returns the numbers that a page needs, after those that are skipped.
-fn needed(numbers: &[u64], skip: u64) -> &[u64]
-    ensures { result.now ≡ take rows_needed (drop skip numbers.now) }
-{
-    let start = numbers.len().min(skip as usize);
-    let rest = numbers.split_at(start).1;
-    let count = rest.len().min(ROWS_NEEDED as usize);
-    rest.split_at(count).0
 }

@@ -8,7 +8,7 @@ use crate::spot::Spot;
 use crate::views::Views;
 use arch_base::{NoMemory, Numbers};
 use mail_forms::Row;
-use std::alloc::Global;
+use std::alloc::{AllocError, Global};
 use std::collections::BTreeMap;
 use std::marker::Model;
 
@@ -140,6 +140,16 @@ impl Overview {
         numbers_of(self.alloc, spots.as_slice())
     }
 
+    /// Returns the numbers of rows as `page` does, in 32 bits each.
+    ///
+    /// `NoMemory` if an allocation fails.
+    pub fn newest(&self, skip: u64, count: u64) -> Result<Vec<u32>, NoMemory>
+        ensures { IfOk result (λ page. page.items ≡ take count (drop skip (listing self.now))) }
+    {
+        let found = self.views.dates.page(skip as usize, count as usize)?;
+        Ok(numbers_in(self.alloc, found.as_slice())?)
+    }
+
     /// Returns the numbers of these that have a row, newest first: by the seconds of their dates, and
     /// then by number, both falling. Each is returned once.
     ///
@@ -160,4 +170,11 @@ fn numbers_of(alloc: Global, spots: &[Spot]) -> Result<Numbers, NoMemory>
         numbers.push(u64::from(spot.number))?;
     }
     Ok(numbers)
+}
+
+/// Returns the numbers of rows in 32 bits, by where they stand.
+fn numbers_in(alloc: Global, spots: &[Spot]) -> Result<Vec<u32>, AllocError>
+    ensures { IfOk result (λ numbers. numbers.items ≡ map number_at spots.now) }
+{
+    spots.iter().map(|spot| spot.number).collect(alloc)
 }

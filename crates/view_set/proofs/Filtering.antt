@@ -135,7 +135,7 @@ matches-own query low (e ∷ es) ascends = (
   matches_later query e es es (e.number + 1) (omega arith) ascends.1 (matches-own query (e.number + 1) es ascends.1),
 )
 
-filtered : (query : Query) (es : List Entry) → Ascends 1 es → search query es ≡ filter (matches_at query es) (listed es)
+pub filtered : (query : Query) (es : List Entry) → Ascends 1 es → search query es ≡ filter (matches_at query es) (listed es)
 unfolding search listing
 filtered query es ascends =
     let test = matches_at query es in

@@ -6,3 +6,4 @@ pub mod Walking
 pub mod Searching
 pub mod Filtering
 pub mod Results
+pub mod Newest

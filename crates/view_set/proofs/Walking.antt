@@ -1,6 +1,7 @@
 -- What was walked through so far, and the views of its live messages.
 use Rattle.std.specs.Prelude.{◌≡◌, ◌+◌, ◌<◌, ◌≤◌, ◌&&◌, ℕ, zero, suc, Bool, true, false, not, List, [], ◌∷◌, ◌++◌, length, take, drop, slice_get, Some, None, Err, refl, if◌then◌else◌}
 use Rattle.std.proofs.Common.{◌∙◌, sym, ap, subst, arith}
+use Rattle.std.proofs.lemmas.Option.{same_Some}
 use Rattle.git_objects.specs.declared.entry_kind.EntryKind.{EntryKind}
 use Rattle.git_objects.specs.declared.entry_kind.EntryKind.TheVariants.{Message, Deletion}
 use Rattle.mime_parts.specs.Words.{mail_words}
@@ -17,9 +18,6 @@ use Rattle.overview_index.proofs.Messages.{AllBelow, Ascends}
 use Rattle.view_set.specs.Viewed.{Viewed, with_mail, without_mail, views_of}
 use Rattle.view_set.specs.Walks.{AddsRowAt, IsDamagedAt, NamesBlob, message_count, reads_of}
 use Rattle.view_set.proofs.MailLists.{mails-added, mails-taken}
-
-only : {X : Type 0} (x y : X) → Some x ≡ Some y → x ≡ y
-only x y is = cc
 
 -- The numbers of live messages rise.
 ascends-low : (low number : ℕ) (es : List Entry) → low ≤ number → Ascends number es → Ascends low es
@@ -56,14 +54,14 @@ pub record IsLineOf (es : List Entry) (i : ℕ) (line : EntryLine) : Type 0 wher
 pub line-entry : (before es : List Entry) (i : ℕ) (line : EntryLine) → slice_get (lines_after before es) i ≡ Some line → IsLineOf es i line
 line-entry before [] i line is = absurd (cc)
 line-entry before (e ∷ es) zero line is =
-    let same : line_after before e ≡ line = only (line_after before e) line is in
+    let same : line_after before e ≡ line = same_Some (line_after before e) line is in
     record { entry = e; there = refl; kind = ap (λ (l : EntryLine). l.kind) same; number = ap (λ (l : EntryLine). l.number) same; secs = ap (λ (l : EntryLine). l.secs) same }
 line-entry before (e ∷ es) (suc i) line is = let rest = line-entry (before ++ e ∷ []) es i line is in record { entry = rest.entry; there = rest.there; kind = rest.kind; number = rest.number; secs = rest.secs }
 
 -- One entry more.
 pub take-more : (es : List Entry) (i : ℕ) (e : Entry) → slice_get es i ≡ Some e → take (i + 1) es ≡ take i es ++ e ∷ []
 take-more [] i e there = absurd (cc)
-take-more (x ∷ es) zero e there = ap (λ (y : Entry). y ∷ []) (only x e there)
+take-more (x ∷ es) zero e there = ap (λ (y : Entry). y ∷ []) (same_Some x e there)
 take-more (x ∷ es) (suc i) e there = let on : suc i + 1 ≡ suc (i + 1) = omega arith in rw on (ap (λ (l : List Entry). x ∷ l) (take-more es i e there))
 
 pub take-all : (before es : List Entry) (i : ℕ) → slice_get (lines_after before es) i ≡ None → take i es ≡ es
@@ -103,7 +101,7 @@ views-message a i line old new valid is kind old_is adds =
     let grows : live (take i a.entries ++ e ∷ []) ≡ live (take i a.entries) ++ e ∷ [] =
     ap (λ (f : Entry). live (take i a.entries ++ f ∷ [])) one ∙ live-message (take i a.entries) e.number e.epoch e.text e.moment ∙ ap (λ (f : Entry). live (take i a.entries) ++ f ∷ []) (sym one) in
     let rise : Ascends 1 (live (take i a.entries) ++ e ∷ []) = subst (λ (l : List Entry). Ascends 1 l) (ap live more ∙ grows) (live-ascends 1 0 (take (i + 1) a.entries) (rise-take 1 0 (i + 1) a.entries valid.order)) in
-    let text_is : adds.0 ≡ e.text = sym adds.1.2 ∙ ap (λ (f : Entry). f.text) (only adds.1.0 e (sym adds.1.1 ∙ at.there)) in
+    let text_is : adds.0 ≡ e.text = sym adds.1.2 ∙ ap (λ (f : Entry). f.text) (same_Some adds.1.0 e (sym adds.1.1 ∙ at.there)) in
     let before : Viewed = views_of (live (take i a.entries)) in
     adds.2
     ∙ ap (λ (v : Viewed). with_mail v (row_of line.number adds.0 line.secs) (mail_words adds.0)) old_is
@@ -164,7 +162,7 @@ damaged-at lines index line refusal.NoMemory here kind names = tt
 -- The messages from an index on are that of the line there and those after it.
 count-more : (ls : List EntryLine) (i : ℕ) (line : EntryLine) → slice_get ls i ≡ Some line → message_count (drop i ls) ≡ reads_of line.kind + message_count (drop (i + 1) ls)
 count-more [] i line is = absurd (cc)
-count-more (l ∷ ls) zero line is = ap (λ (x : EntryLine). reads_of x.kind + message_count ls) (only l line is)
+count-more (l ∷ ls) zero line is = ap (λ (x : EntryLine). reads_of x.kind + message_count ls) (same_Some l line is)
 count-more (l ∷ ls) (suc i) line is = let on : suc i + 1 ≡ suc (i + 1) = omega arith in rw on (count-more ls i line is)
 
 pub messages-from : (ls now : List EntryLine) (i : ℕ) (line : EntryLine) → now ≡ ls → slice_get now i ≡ Some line → message_count (drop i ls) ≡ reads_of line.kind + message_count (drop (i + 1) ls)

@@ -1,17 +1,19 @@
 -- What views hold of live messages: their rows, and their words.
-use Rattle.std.specs.Prelude.{◌≡◌, ℕ, List, [], ◌∷◌}
+use Rattle.std.specs.Prelude.{◌≡◌, ◌<◌, ℕ, List, [], ◌∷◌, take}
+use Rattle.std.specs.List.{AllByRecursion, filter}
 use Rattle.std.specs.BTreeMap.{insert_entry, is_at}
 use Rattle.std.specs.Map.{keys_of, remove_entry}
 use Rattle.std.specs.Ordering.{nat_cmp}
 use Rattle.arch_model.specs.Archives.{Entry}
 use Rattle.arch_model.specs.Listings.{row_at, rows_of}
+use Rattle.arch_model.specs.Validity.{Rise}
 use Rattle.mail_forms.specs.declared.row.Row.{Row}
 use Rattle.mime_parts.specs.Words.{mail_words}
 use Rattle.overview_index.specs.Listings.{with_row, without, rows_numbered, listing}
 use Rattle.query_lang.specs.Dates.{utc_day}
 use Rattle.query_lang.specs.declared.query.Query.{Query}
 use Rattle.text_words.specs.declared.word_lists.WordLists.{WordLists}
-use Rattle.word_index.specs.Rows.{Row as Worded, found}
+use Rattle.word_index.specs.Rows.{Row as Worded, matching, found}
 
 -- The rows of messages, and their words with the days of their dates, both by number.
 pub record Viewed : Type 0 where
@@ -52,6 +54,16 @@ views_of es = record { rows = rows_of es; words = worded_of es }
 -- The numbers of the rows whose words and days match a query, newest first.
 abbrev pub searched : Query → Viewed → List ℕ
 searched query v = listing (rows_numbered v.rows (found query v.words))
+
+-- The numbers of the newest rows, of some first ones of the listing, whose words and days match a query.
+pub record IsFrontFound (query : Query) (v : Viewed) (numbers : List ℕ) : Type 0 where
+  pub count : ℕ
+  pub are : numbers ≡ filter (matching query v.words) (take count (listing v.rows))
+
+-- Entries in order, whose numbers have at most 31 bits.
+pub record AreOrdered (entries : List Entry) : Type 0 where
+  pub order : Rise 1 0 entries
+  pub small : AllByRecursion (λ (e : Entry). e.number < 2147483648) entries
 
 -- There are words of just the numbers that have a row.
 abbrev pub AreWorded : List (ℕ × Row) → List (ℕ × Worded) → Type 0

@@ -1,5 +1,5 @@
 //! The views of what is walked through.
-ghost use Rattle.std.specs.Prelude.{◌≡◌, ◌+◌, ◌<◌, ◌≤◌, ℕ, Some, take, length, slice_get, IfOk, IfErr, OnOk};
+ghost use Rattle.std.specs.Prelude.{◌≡◌, ◌+◌, ◌<◌, ◌≤◌, Some, take, length, slice_get, IfOk, IfErr, OnOk};
 ghost use Rattle.arch_model.specs.Archives.{Archive, live};
 ghost use Rattle.view_set.specs.Viewed.{views_of, no_mails};
 ghost use Rattle.arch_model.specs.Shelves.{line_at, ReadCause, ReadsOnce, IsUndamaged};

@@ -1,9 +1,11 @@
 //! The rows of live messages, the threads that they make, and their words.
-ghost use Rattle.std.specs.Prelude.{◌≡◌, take, drop, None, IfOk, OnOk, OnErr, option_copied};
+ghost use Rattle.std.specs.Prelude.{◌≡◌, List, take, drop, None, IfOk, OnOk, OnErr, option_copied};
 ghost use Rattle.overview_index.specs.Listings.{row_in, number_of, listing, live_between, IsLeastFrom, IsGreatestTo};
 ghost use Rattle.thread_model.specs.Members.{Rises};
 ghost use Rattle.view_set.specs.Threads.{thread_in};
-ghost use Rattle.view_set.specs.Viewed.{no_mails, with_mail, without_mail, searched};
+ghost use Rattle.arch_model.specs.Archives.{Entry, live};
+ghost use Rattle.arch_model.specs.Searching.{search as search_in};
+ghost use Rattle.view_set.specs.Viewed.{no_mails, with_mail, without_mail, views_of, searched, AreOrdered, IsFrontFound};
 ghost use Rattle.word_index.specs.Rows.{found};
 
 use crate::counted::take_thread;
@@ -18,6 +20,9 @@ use std::marker::Model;
 use text_words::WordLists;
 use thread_index::ThreadIndex;
 use word_index::WordIndex;
+
+/// How many rows are looked at at a time.
+const STEP: u64 = 256;
 
 /// The rows of live messages, the threads that they make, and their words.
 ///
@@ -181,4 +186,68 @@ impl Views {
         let numbers = self.find(query)?;
         self.overview.newest_first(numbers.as_slice())
     }
+
+    /// Returns the numbers of the rows that match a query as `search` does: so many after so many that
+    /// are skipped, or as many as there are. This is said where the rows are those of an archive's live
+    /// messages.
+    ///
+    /// Where the smallest list of the query's words is long enough, the newest rows are looked at
+    /// first, up to as many as the list has. So a page of much that is found costs what it shows and
+    /// skips, and any other one at most twice what `search` does. `NoMemory` if an allocation fails.
+    pub fn search_page(&self, query: &Query, skip: u64, count: u64) -> Result<Numbers, NoMemory>
+        ensures { (entries : List Entry) → AreOrdered entries → self.now ≡ views_of (live entries)
+            → IfOk result (λ page. page
+            ≡ take count (drop skip (search_in query.now (live entries)))) }
+    {
+        let Some(wanted) = skip.checked_add(count) else {
+            return self.search_part(query, skip, count);
+        };
+        let newest = self.newest_found(query, wanted)?;
+        if (newest.as_slice().len() as u64) < wanted {
+            return self.search_part(query, skip, count);
+        }
+        part_of(self.alloc, newest.as_slice(), skip, count)
+    }
+
+    /// Returns a part of what `search` gives.
+    fn search_part(&self, query: &Query, skip: u64, count: u64) -> Result<Numbers, NoMemory>
+        ensures { (entries : List Entry) → AreOrdered entries → self.now ≡ views_of (live entries)
+            → IfOk result (λ page. page
+            ≡ take count (drop skip (search_in query.now (live entries)))) }
+    {
+        let found = self.search(query)?;
+        part_of(self.alloc, found.as_slice(), skip, count)
+    }
+
+    /// Returns the numbers of the newest rows that match a query: of so many rows that there are
+    /// `wanted` numbers, if these are among the first rows of the listing, as many as the smallest
+    /// list of the query's words has.
+    fn newest_found(&self, query: &Query, wanted: u64) -> Result<Numbers, NoMemory>
+        ensures { IfOk result (λ numbers. IsFrontFound query.now self.now numbers) }
+    {
+        let most = self.words.most_found(query)? as u64;
+        let mut found = Numbers::new(self.alloc);
+        if most < wanted {
+            return Ok(found);
+        }
+        let mut at = 0;
+        while at < most && (found.as_slice().len() as u64) < wanted {
+            let count = STEP.min(most - at);
+            let rows = self.overview.newest(at, count)?;
+            self.words
+                .append_matches(query, rows.as_slice(), &mut found)?;
+            at += count;
+        }
+        Ok(found)
+    }
+}
+
+/// Returns so many numbers after so many that are skipped, or as many as there are.
+fn part_of(alloc: Global, numbers: &[u64], skip: u64, count: u64) -> Result<Numbers, NoMemory>
+    ensures { IfOk result (λ part. part ≡ take count (drop skip numbers.now)) }
+{
+    let start = numbers.len().min(skip as usize);
+    let rest = numbers.split_at(start).1;
+    let shown = rest.split_at(rest.len().min(count as usize)).0;
+    Ok(Numbers::from_vec(Vec::from_slice(alloc, shown)?))
 }

@@ -1,6 +1,7 @@
 -- Lists in which all rows of an answer stand, and what is found by them.
 use Rattle.std.proofs.Common.{◌≡◌, ℕ, ◌≤◌, Bool, true, false, cond, ◌&&◌, ◌⊎◌, inl, inr, List, [], ◌∷◌, length, get_or, drop, Option, Some, None, is_some, refl, sym, ap, subst, ◌∙◌, arith}
 use Rattle.std.proofs.lemmas.Bool.{and_parts}
+use Rattle.std.proofs.lemmas.List.Elements.{filter_agree}
 use Rattle.std.proofs.lemmas.Map.Entries.{option_filter, lookup-filter-values}
 use Rattle.std.proofs.lemmas.Map.Keys.{IsDistinct-from_sorted}
 use Rattle.std.proofs.lemmas.Map.Made.{is_some-lookup}
@@ -17,7 +18,7 @@ use Rattle.query_lang.specs.Matching.{is_between, in_ranges, matches}
 use Rattle.word_index.specs.declared.asking.Asked.{Asked}
 use Rattle.word_index.specs.declared.sources.Source.{Source}
 use Rattle.word_index.specs.declared.sources.Source.TheVariants.{Days}
-use Rattle.word_index.specs.Rows.{Row, row_at, passes_at, found}
+use Rattle.word_index.specs.Rows.{Row, row_at, passes_at, matching, found}
 use Rattle.word_index.specs.Postings.{IsListOf}
 use Rattle.word_index.specs.Asked.{matches_asked}
 use Rattle.word_index.specs.Sources.{passes, IsSource, IsDaySource}
@@ -112,3 +113,12 @@ found-is query rows asked days source numbers rising same is list =
     alike : (o : Option Row) → option_map_or (λ (row : Row). matches query row.words row.day) o false ≡ option_map_or (matches_asked asked days) o false
     alike None = refl
     alike (Some row) = same row
+
+-- Where the words that are asked say when a row matches, those of some numbers match that have them.
+pub matching-is : (query : Query) (rows : List (ℕ × Row)) (asked : List Asked) (days numbers : List ℕ) → ((row : Row) → matches query row.words row.day ≡ matches_asked asked days row)
+    → filter (passes_at (matches_asked asked days) rows) numbers ≡ filter (matching query rows) numbers
+matching-is query rows asked days numbers same = filter_agree (passes_at (matches_asked asked days) rows) (matching query rows) (λ n. alike (row_at rows n)) numbers
+  where
+    alike : (o : Option Row) → option_map_or (matches_asked asked days) o false ≡ option_map_or (λ (row : Row). matches query row.words row.day) o false
+    alike None = refl
+    alike (Some row) = sym (same row)

@@ -30,6 +30,10 @@ row_at rows n = lookup (is_at (nat_cmp n)) rows
 abbrev pub passes_at : (Row → Bool) → List (ℕ × Row) → ℕ → Bool
 passes_at test rows n = option_map_or test (row_at rows n) false
 
+-- The number has a row, which matches a query.
+abbrev pub matching : Query → List (ℕ × Row) → ℕ → Bool
+matching query rows n = passes_at (λ (row : Row). matches query row.words row.day) rows n
+
 -- The numbers of the rows that match a query, in the order of the rows.
 abbrev pub found : Query → List (ℕ × Row) → List ℕ
 found query rows =

@@ -1,13 +1,13 @@
 //! Finds the rows that match a query.
-ghost use Rattle.std.specs.Prelude.{◌≡◌, IfOk};
+ghost use Rattle.std.specs.Prelude.{◌≡◌, ◌++◌, IfOk, OnOk};
 ghost use Rattle.std.specs.List.{filter};
-ghost use Rattle.word_index.specs.Rows.{found, passes_at};
+ghost use Rattle.word_index.specs.Rows.{found, passes_at, matching};
 ghost use Rattle.word_index.specs.Tables.{rows_of, IsIndex};
 ghost use Rattle.word_index.specs.Asked.{matches_asked};
 
 use crate::asking::{Asked, asked_by};
 use crate::reading::is_match;
-use crate::sources::{least_source, read};
+use crate::sources::{least_size, least_source, read};
 use crate::tables::Tables;
 use arch_base::{NoMemory, Numbers};
 use query_lang::Query;
@@ -25,26 +25,63 @@ pub fn find(alloc: Global, tables: &Tables, query: &Query) -> Result<Numbers, No
     let days = query.days.as_slice();
     let source = least_source(tables, asked.as_slice(), days);
     let numbers = read(alloc, tables, source)?;
-    matching(alloc, tables, numbers.as_slice(), asked.as_slice(), days)
+    let mut found = Numbers::new(alloc);
+    append_matching(
+        tables,
+        numbers.as_slice(),
+        asked.as_slice(),
+        days,
+        &mut found,
+    )?;
+    Ok(found)
 }
 
-/// Returns those of some numbers whose rows match.
-fn matching(
+/// Appends those of some numbers whose rows match a query. `NoMemory` may leave some of them
+/// appended.
+pub fn append_matches(
     alloc: Global,
+    tables: &Tables,
+    query: &Query,
+    numbers: &[u32],
+    into: &mut Numbers,
+) -> Result<(), NoMemory>
+    requires { IsIndex tables.now }
+    ensures { OnOk result (into.new
+        ≡ into.old ++ filter (matching query.now (rows_of tables.now)) numbers.now) }
+{
+    let asked = asked_by(alloc, query)?;
+    append_matching(
+        tables,
+        numbers,
+        asked.as_slice(),
+        query.days.as_slice(),
+        into,
+    )
+}
+
+/// Returns how many numbers `find` reads for a query, at least as many as it finds.
+pub fn most_found(alloc: Global, tables: &Tables, query: &Query) -> Result<usize, NoMemory> {
+    let asked = asked_by(alloc, query)?;
+    Ok(least_size(tables, asked.as_slice(), query.days.as_slice()))
+}
+
+/// Appends those of some numbers whose rows have the words and the days. `NoMemory` may leave some
+/// of them appended.
+fn append_matching(
     tables: &Tables,
     numbers: &[u32],
     asked: &[Asked],
     days: &[u64],
-) -> Result<Numbers, NoMemory>
+    into: &mut Numbers,
+) -> Result<(), NoMemory>
     requires { IsIndex tables.now }
-    ensures { IfOk result (λ kept. kept
-        ≡ filter (passes_at (matches_asked asked.now days.now) (rows_of tables.now)) numbers.now) }
+    ensures { OnOk result (into.new ≡ into.old
+        ++ filter (passes_at (matches_asked asked.now days.now) (rows_of tables.now)) numbers.now) }
 {
-    let mut kept = Numbers::new(alloc);
     for n in numbers {
         if is_match(tables, asked, days, *n) {
-            kept.push(u64::from(*n))?;
+            into.push(u64::from(*n))?;
         }
     }
-    Ok(kept)
+    Ok(())
 }

@@ -1,11 +1,12 @@
 //! The index.
-ghost use Rattle.std.specs.Prelude.{◌≡◌, [], is_some, None, IfOk, OnOk, OnErr};
+ghost use Rattle.std.specs.List.{filter};
+ghost use Rattle.std.specs.Prelude.{◌≡◌, ◌++◌, [], is_some, None, IfOk, OnOk, OnErr};
 ghost use Rattle.std.specs.Ordering.{nat_cmp};
 ghost use Rattle.std.specs.BTreeMap.{insert_entry, is_at};
 ghost use Rattle.std.specs.Map.{remove_entry};
-ghost use Rattle.word_index.specs.Rows.{row_at, found};
+ghost use Rattle.word_index.specs.Rows.{row_at, found, matching};
 
-use crate::finding::find;
+use crate::finding::{append_matches, find, most_found};
 use crate::tables::Tables;
 use arch_base::{NoMemory, Numbers};
 use query_lang::Query;
@@ -78,5 +79,28 @@ impl WordIndex {
         ensures { IfOk result (λ numbers. numbers ≡ found query.now self.now) }
     {
         find(self.alloc, &self.tables, query)
+    }
+
+    /// Appends those of some numbers whose rows match a query, in their order. A look-up each for
+    /// the row and each word.
+    ///
+    /// `NoMemory` if an allocation fails. It may leave some of them appended.
+    pub fn append_matches(
+        &self,
+        query: &Query,
+        numbers: &[u32],
+        into: &mut Numbers,
+    ) -> Result<(), NoMemory>
+        ensures { OnOk result (into.new
+            ≡ into.old ++ filter (matching query.now self.now) numbers.now) }
+    {
+        append_matches(self.alloc, &self.tables, query, numbers, into)
+    }
+
+    /// Returns how many numbers `find` looks up for a query. It finds no more, but may find fewer.
+    ///
+    /// This says only what a search costs. `NoMemory` if an allocation fails.
+    pub fn most_found(&self, query: &Query) -> Result<usize, NoMemory> {
+        most_found(self.alloc, &self.tables, query)
     }
 }

@@ -42,12 +42,24 @@ impl<'a> Choice<'a> {
 pub fn least_source<'a>(tables: &Tables, asked: &'a [Asked], days: &[u64]) -> Source<'a>
     ensures { IsSource asked.now days.now result }
 {
+    least_choice(tables, asked, days).source
+}
+
+/// Returns how many numbers that list has at most.
+pub fn least_size(tables: &Tables, asked: &[Asked], days: &[u64]) -> usize {
+    least_choice(tables, asked, days).size
+}
+
+/// Returns the smallest list of those that a query names, and of all rows.
+fn least_choice<'a>(tables: &Tables, asked: &'a [Asked], days: &[u64]) -> Choice<'a>
+    ensures { IsSource asked.now days.now result.source }
+{
     let all = Choice {
         source: Source::All,
         size: tables.rows.len(),
     };
     let words = least_word(tables, asked, all);
-    least_days(tables, days, words).source
+    least_days(tables, days, words)
 }
 
 /// Returns the smallest of a list and those of the words that are asked.
