@@ -1,10 +1,10 @@
 -- What follows for whoever calls a keeper.
-use Rattle.std.proofs.Common.{◌≡◌, ℕ, Bool, true, false, List, [], ◌∷◌, ◌++◌, Option, Some, None, Result, Ok, Err, inl, inr, refl, sym, ap, subst, ◌∙◌, arith}
+use Rattle.std.proofs.Common.{◌≡◌, ◌≢◌, ℕ, Bool, true, false, List, [], ◌∷◌, ◌++◌, Option, Some, None, Result, Ok, Err, inl, inr, refl, sym, ap, subst, ◌∙◌, arith}
 use Rattle.std.specs.List.{Contains}
 use Rattle.std.proofs.lemmas.Bool.{false≢true}
 use Rattle.arch_model.specs.Archives.{Archive}
 use Rattle.arch_model.specs.Delivery.{Done}
-use Rattle.arch_model.specs.Standing.{Standing, standing, with_doubt, one_of, IsFound}
+use Rattle.arch_model.specs.Standing.{Standing, standing, unsure_of, unsure, with_doubt, one_of, IsFound}
 use Rattle.arch_model.specs.Keeping.{HasDoubt, Has, HasAll, Passes, Fits, Moves, OnlyRead, Settles, Reopens, Ending, Accepts, Refuses, Starves, Fails, Breaks, StaysShut, ComesBy, Comes, StaysReady, CauseBy, AnswerCause, OpeningWhy, opening_answer}
 use Rattle.arch_model.specs.Untold.{HoldsNone, LeavesUntold}
 use Rattle.arch_model.specs.declared.answer.Answer.{Answer}
@@ -34,6 +34,22 @@ has-own s = has-both s.archive s.doubt
 pub has-sure : (may : List (Option Archive)) (a : Archive) (d : Option Archive) → Has may (standing a d) → Has may (standing a None)
 has-sure may a d has = record { archive = has.archive; doubt = tt }
 
+-- Those of a standing of which it isn't said that nothing is in doubt.
+has-unsure : (may : List (Option Archive)) (a : Archive) (d : Option Archive) → Has may (unsure_of a d) → Has may (standing a d)
+has-unsure may a None has = record { archive = has.archive; doubt = tt }
+has-unsure may a (Some b) has = record { archive = has.archive; doubt = has.doubt }
+
+pub has-unsure-of : (may : List (Option Archive)) (s : Standing) → Has may (unsure s) → Has may s
+has-unsure-of may s has = let was = has-unsure may s.archive s.doubt has in record { archive = was.archive; doubt = was.doubt }
+
+-- Something is in doubt there.
+unsure-some : (a : Archive) (d : Option Archive) → (unsure_of a d).doubt ≡ None → ⊥
+unsure-some a None none = absurd (cc)
+unsure-some a (Some b) none = absurd (cc)
+
+pub unsure-doubts : (s : Standing) → (unsure s).doubt ≡ None → ⊥
+unsure-doubts s none = unsure-some s.archive s.doubt none
+
 -- The archives of two lists of standings.
 pub all-split : (may : List (Option Archive)) (ss ts : List Standing) → HasAll may (ss ++ ts) → HasAll may ss × HasAll may ts
 all-split may [] ts has = (tt, has)
@@ -45,13 +61,13 @@ found-one b x (inl older) = older
 found-one b x (inr no_doubt) = absurd (cc)
 
 -- What a reopening leaves where nothing was in doubt.
-settled-sure : (a : Archive) (t : Standing) → Settles (standing a None) t → t ≡ standing a None
+pub settled-sure : (a : Archive) (t : Standing) → Settles (standing a None) t → t ≡ standing a None
 settled-sure a t settles = ap (λ (x : Archive). standing x t.doubt) (found-one a t.archive settles.found) ∙ ap (λ (doubt : Option Archive). standing a doubt) settles.sure
 
-pub reopens-sure : (a : Archive) (t : Standing) (result : Result ℕ OpenRefusal) → Reopens (standing a None) result t → t ≡ standing a None
-reopens-sure a t (Ok x) settles = settled-sure a t settles
-reopens-sure a t (Err opening.DiskFault) same = same
-reopens-sure a t (Err opening.NoMemory) same = same
+pub reopens-sure : (a : Archive) (t : Standing) (result : Result ℕ OpenRefusal) → Reopens (standing a None) result t → (result ≢ Err opening.DiskFault → t ≡ standing a None) × (result ≡ Err opening.DiskFault → t ≡ standing a (Some a))
+reopens-sure a t (Ok x) settles = (λ other. settled-sure a t settles, λ is. absurd (cc is))
+reopens-sure a t (Err opening.DiskFault) same = (λ other. absurd (other refl), λ is. same)
+reopens-sure a t (Err opening.NoMemory) same = (λ other. same, λ is. absurd (cc is))
 reopens-sure a t (Err opening.NoArchive) never = absurd never
 reopens-sure a t (Err (opening.Damaged file at)) never = absurd never
 
@@ -77,28 +93,29 @@ module _ {K : Type 0} (leaves : K → K → List (Option Archive) → Type 0) wh
       all-join may [] ys hx hy = hy
       all-join may (x ∷ xs) ys hx hy = (hx.0, all-join may xs ys hx.1 hy)
 
-module _ {K : Type 0} (holds : K → Archive → Type 0) (ready : K → Bool) (leaves : K → K → List (Option Archive) → Type 0) where
+module _ {K : Type 0} (holds rests : K → Archive → Type 0) (ready : K → Bool) (leaves : K → K → List (Option Archive) → Type 0) where
   -- A ready keeper fits the archive that it holds, and nothing is in doubt.
-  pub settled-is : (k : K) (s : Standing) → Fits holds ready leaves k s → ready k ≡ true → (s ≡ standing s.archive None) × holds k s.archive
+  pub settled-is : (k : K) (s : Standing) → Fits holds rests ready leaves k s → ready k ≡ true → (s ≡ standing s.archive None) × holds k s.archive
   settled-is k s fits at_hand = let both = fits.settled at_hand in (ap (λ (doubt : Option Archive). standing s.archive doubt) both.1, both.0)
 
   -- Nothing was done.
-  pub moves-same : (k : K) (s : Standing) → Fits holds ready leaves k s → Moves holds ready leaves k s k s
+  pub moves-same : (k : K) (s : Standing) → Fits holds rests ready leaves k s → Moves holds rests ready leaves k s k s
   moves-same k s fits = record { fits = fits; passes = λ start may has left. left }
 
-  -- What isn't ready fits whatever a crash may have left.
-  pub moves-stale : ((start k : K) (may : List (Option Archive)) → leaves start k may → leaves k k may) → (old : K) (s : Standing) (new : K) (t : Standing) → Fits holds ready leaves old s → ready new ≡ false → ((may : List (Option Archive)) → Has may t → Has may s)
-      → Passes leaves old new (s ∷ t ∷ []) → Moves holds ready leaves old s new t
-  moves-stale leaves_now old s new t fits stale within passes = record {
+  -- What isn't ready fits whatever a crash may have left, if its files are right where nothing is in doubt.
+  pub moves-stale : ((start k : K) (may : List (Option Archive)) → leaves start k may → leaves k k may) → (old : K) (s : Standing) (new : K) (t : Standing) → Fits holds rests ready leaves old s → ready new ≡ false → (t.doubt ≡ None → rests new t.archive) → ((may : List (Option Archive)) → Has may t → Has may s)
+      → Passes leaves old new (s ∷ t ∷ []) → Moves holds rests ready leaves old s new t
+  moves-stale leaves_now old s new t fits stale rested within passes = record {
     fits = record {
       settled = λ at_hand. absurd (false≢true (sym stale ∙ at_hand));
+      exact = rested;
       left = λ may has. leaves_now old new may (passes old may (within may has, (has, tt)) (fits.left may (within may has)));
     };
     passes = passes;
   }
 
   -- A reopening, and then a call on what it found.
-  pub moves-on : (old mid new : K) (s t u : Standing) → Moves holds ready leaves old s mid t → Settles s t → Moves holds ready leaves mid t new u → Moves holds ready leaves old s new u
+  pub moves-on : (old mid new : K) (s t u : Standing) → Moves holds rests ready leaves old s mid t → Settles s t → Moves holds rests ready leaves mid t new u → Moves holds rests ready leaves old s new u
   moves-on old mid new s t u first settles second = record {
     fits = second.fits;
     passes = λ start may has left.
@@ -106,16 +123,16 @@ module _ {K : Type 0} (holds : K → Archive → Type 0) (ready : K → Bool) (l
         second.passes start may (middle, (has.1.0, tt)) (first.passes start may (has.0, (middle, tt)) left);
   }
 
-  module _ (holds_left : (k : K) (a : Archive) (may : List (Option Archive)) → holds k a → Contains may (Some a) → leaves k k may) where
+  module _ (holds_rests : (k : K) (a : Archive) → holds k a → rests k a) (holds_left : (k : K) (a : Archive) (may : List (Option Archive)) → holds k a → Contains may (Some a) → leaves k k may) where
     -- A keeper that holds an archive fits it.
-    pub fits-held : (k : K) (a : Archive) → holds k a → Fits holds ready leaves k (standing a None)
-    fits-held k a held = record { settled = λ at_hand. (held, refl); left = λ may has. holds_left k a may held has.archive }
+    pub fits-held : (k : K) (a : Archive) → holds k a → Fits holds rests ready leaves k (standing a None)
+    fits-held k a held = record { settled = λ at_hand. (held, refl); exact = λ none. holds_rests k a held; left = λ may has. holds_left k a may held has.archive }
 
-    pub moves-held : (old : K) (s : Standing) (new : K) (a : Archive) → holds new a → Passes leaves old new (s ∷ standing a None ∷ []) → Moves holds ready leaves old s new (standing a None)
+    pub moves-held : (old : K) (s : Standing) (new : K) (a : Archive) → holds new a → Passes leaves old new (s ∷ standing a None ∷ []) → Moves holds rests ready leaves old s new (standing a None)
     moves-held old s new a held passes = record { fits = fits-held new a held; passes = passes }
 
     -- A keeper of which only reading changed something fits the same archive.
-    pub moves-read : (old new : K) (a : Archive) → holds old a → OnlyRead holds ready leaves old new → Moves holds ready leaves old (standing a None) new (standing a None)
+    pub moves-read : (old new : K) (a : Archive) → holds old a → OnlyRead holds rests ready leaves old new → Moves holds rests ready leaves old (standing a None) new (standing a None)
     moves-read old new a held read = moves-held old (standing a None) new a (read.held a held) (λ start may has left. read.passes start may tt left)
 
 -- A command on what a reopening found.
@@ -156,5 +173,5 @@ cause-earlier before mid now Fails same rose = omega (arith, same, rose)
 cause-earlier before mid now Breaks same kept = kept ∙ same
 
 -- A keeper that tells nothing fits no standing.
-pub untold-fits : {K : Type 0} (ready : K → Bool) (k : K) (s : Standing) → Fits HoldsNone ready LeavesUntold k s → ⊥
+pub untold-fits : {K : Type 0} (ready : K → Bool) (k : K) (s : Standing) → Fits HoldsNone HoldsNone ready LeavesUntold k s → ⊥
 untold-fits ready k s fits = fits.left (one_of s) (has-own s)

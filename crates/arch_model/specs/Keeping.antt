@@ -11,7 +11,7 @@ use Rattle.arch_model.specs.Archives.{Entry, Archive, blob_number}
 use Rattle.arch_model.specs.Candidates.{choice_of}
 use Rattle.arch_model.specs.Delivery.{Done}
 use Rattle.arch_model.specs.Shelves.{ReadsOnce}
-use Rattle.arch_model.specs.Standing.{Standing, standing, IsFound}
+use Rattle.arch_model.specs.Standing.{Standing, standing, unsure, IsFound}
 use Rattle.arch_model.specs.declared.choice.Choice.{Choice}
 use Rattle.arch_model.specs.declared.choice.Choice.TheVariants.{Take, Repeat}
 use Rattle.arch_model.specs.declared.command.Command.{Command}
@@ -44,14 +44,16 @@ abbrev pub Passes : {K : Type 0} → (K → K → List (Option Archive) → Type
 Passes {K} leaves old new standings = (start : K) (may : List (Option Archive))
     → HasAll may standings → leaves start old may → leaves start new may
 
--- A keeper: the archives that it holds, whether it is ready, and what each crash since a state may
--- have left.
-module _ {K : Type 0} (holds : K → Archive → Type 0) (ready : K → Bool)
-    (leaves : K → K → List (Option Archive) → Type 0) where
-  -- The keeper fits a standing: if it is ready, it holds the archive and nothing is in doubt; and a
-  -- crash now leaves the archive or the one in doubt.
+-- A keeper: the archives that it holds, those of which its files are exactly, whether it is ready, and
+-- what each crash since a state may have left.
+module _ {K : Type 0} (holds : K → Archive → Type 0) (rests : K → Archive → Type 0)
+    (ready : K → Bool) (leaves : K → K → List (Option Archive) → Type 0) where
+  -- The keeper fits a standing: if it is ready, it holds the archive and nothing is in doubt; ready or
+  -- not, if nothing is in doubt, its files are exactly the archive's; and a crash now leaves the archive
+  -- or the one in doubt.
   pub record Fits (k : K) (s : Standing) : Type 0 where
     pub settled : ready k ≡ true → holds k s.archive × (s.doubt ≡ None)
+    pub exact : s.doubt ≡ None → rests k s.archive
     pub left : (may : List (Option Archive)) → Has may s → leaves k k may
 
   -- The keeper fitted one standing and now fits another, and a crash meanwhile leaves an archive of
@@ -60,10 +62,11 @@ module _ {K : Type 0} (holds : K → Archive → Type 0) (ready : K → Bool)
     pub fits : Fits new t
     pub passes : Passes leaves old new (s ∷ t ∷ [])
 
-  -- Nothing changed but what reading changes: the archive and the readiness stay, and a crash leaves
-  -- nothing else.
+  -- Nothing changed but what reading changes: the archive, the files and the readiness stay, and a
+  -- crash leaves nothing else.
   pub record OnlyRead (old new : K) : Type 0 where
     pub held : (a : Archive) → holds old a → holds new a
+    pub rested : (a : Archive) → rests old a → rests new a
     pub same : ready new ≡ ready old
     pub passes : Passes leaves old new []
 
@@ -72,10 +75,11 @@ pub record Settles (s t : Standing) : Type 0 where
   pub found : IsFound s t.archive
   pub sure : t.doubt ≡ None
 
--- A refusal to reopen leaves all as it was. Where an archive is there, that there is none or that a
+-- A refusal to reopen leaves all as it was, but that a fault of the disk may leave files beside the
+-- archive's, so that something is in doubt then. Where an archive is there, that there is none or that a
 -- file is damaged is never the reason.
 abbrev pub StaysShut : Standing → OpenRefusal → Standing → Type 0
-StaysShut s opening.DiskFault t = t ≡ s
+StaysShut s opening.DiskFault t = t ≡ unsure s
 StaysShut s opening.NoMemory t = t ≡ s
 StaysShut s opening.NoArchive t = ⊥
 StaysShut s (opening.Damaged file at) t = ⊥
@@ -124,7 +128,7 @@ pub record Doubts (s : Standing) (wanted : Archive → Done) (t : Standing) : Ty
   pub is_found : IsFound s found
   pub stands : t ≡ standing found (Some (wanted found).archive)
 
--- The keeper had to be reopened, which was refused, and all is as before.
+-- The keeper had to be reopened, which was refused, and it stands so.
 pub record StaysStale (was_ready : Bool) (s t : Standing) : Type 0 where
   pub stale : was_ready ≡ false
   pub same : t ≡ s
@@ -135,7 +139,7 @@ abbrev pub ComesBy : Bool → Standing → (Archive → Done) → Answer → Sta
 ComesBy was_ready s wanted reply t Accepts = Obeys s wanted reply t
 ComesBy was_ready s wanted reply t Refuses = Obeys s wanted reply t
 ComesBy was_ready s wanted reply t Starves = StaysStale was_ready s t ⊎ Settles s t
-ComesBy was_ready s wanted reply t Fails = StaysStale was_ready s t ⊎ Doubts s wanted t
+ComesBy was_ready s wanted reply t Fails = StaysStale was_ready (unsure s) t ⊎ Doubts s wanted t
 ComesBy was_ready s wanted reply t Breaks = ⊥
 
 -- What a command does: the answer, and the standing after it.

@@ -1,5 +1,5 @@
 -- The laws of commands.
-use Rattle.std.specs.Prelude.{◌≡◌, ◌≢◌, ◌<◌, ◌≤◌, ◌^◌, ℕ, false, zero, suc, List, Option, Some, None, IsSome, Result, Ok, length}
+use Rattle.std.specs.Prelude.{◌≡◌, ◌≢◌, ◌<◌, ◌≤◌, ◌^◌, ℕ, false, zero, suc, List, Option, Some, None, IsSome, Result, Ok, Err, length}
 use Rattle.arch_base.specs.declared.ids.Id20.{Id20}
 use Rattle.arch_base.specs.Names.{IsName}
 use Rattle.mail_reader.specs.StorageTexts.{IsStorageText}
@@ -21,6 +21,7 @@ use Rattle.arch_model.specs.declared.choice.Choice.{Choice}
 use Rattle.arch_model.specs.declared.choice.Choice.TheVariants.{Take, Repeat}
 use Rattle.arch_model.specs.declared.command.Command.{Command}
 use Rattle.arch_model.specs.declared.opening.OpenRefusal.{OpenRefusal}
+use Rattle.arch_model.specs.declared.opening.OpenRefusal.TheVariants as opening
 
 -- Each live number is at least 1 and below the next one.
 abbrev pub IsNumbered : Archive → Type 0
@@ -125,7 +126,10 @@ FirstDecides =
     × ((k : ℕ) (choice : Choice) → IsChosenAt a text k choice → choice ≡ choice_of a text)
 
 -- Where nothing is in doubt, a keeper that reads its files again stands for the archive that it stood
--- for, whether it answers with the number of live messages or refuses.
+-- for, whether it answers with the number of live messages or refuses; but after a fault of the disk the
+-- archive itself is in doubt.
 abbrev pub ReindexStays : Type 0
 ReindexStays = (a : Archive) (t : Standing) (result : Result ℕ OpenRefusal)
-    → Reopens (standing a None) result t → t ≡ standing a None
+    → Reopens (standing a None) result t
+    → (result ≢ Err opening.DiskFault → t ≡ standing a None)
+    × (result ≡ Err opening.DiskFault → t ≡ standing a (Some a))

@@ -26,6 +26,16 @@ with_doubt a (Some b) = Some a ∷ Some b ∷ []
 abbrev pub one_of : Standing → List (Option Archive)
 one_of s = with_doubt s.archive s.doubt
 
+-- The same archives, where it isn't said that nothing is in doubt: if nothing was, the archive itself is.
+-- An opening at which the disk fails leaves this, since it may stop between two writes.
+abbrev pub unsure_of : Archive → Option Archive → Standing
+unsure_of a None = standing a (Some a)
+unsure_of a (Some b) = standing a (Some b)
+
+-- The same of a standing.
+abbrev pub unsure : Standing → Standing
+unsure s = unsure_of s.archive s.doubt
+
 -- The least number among live entries that is at least `n`, or none.
 abbrev pub IsLeastLive : List Entry → ℕ → Option ℕ → Type 0
 IsLeastLive entries n None = (m : ℕ) → n ≤ m → text_of entries m ≡ None

@@ -23,9 +23,14 @@ use arch_base::Bytes;
 /// which finds the archive before the command or the one after it.
 ///
 /// What a keeper stands for is a `Standing`: its archive, and the one that a command in doubt would
-/// have left. Its clauses hold for each standing that it fits. A crash is spoken of by two states:
-/// on the way from the first one to the second, it may leave what a clause says.
+/// have left. Its clauses hold for each standing that it fits. While nothing is in doubt, its files are
+/// exactly those of its archive, also where it is stale. A crash is spoken of by two states: on the way
+/// from the first one to the second, it may leave what a clause says.
 pub trait Keep: Shelf {
+    /// The keeper's files are exactly those of this archive, with no other file, and all that reads of
+    /// them give is on the disk.
+    ghost rests: { Self → Archive → Type 0 };
+
     /// Each crash since the first state has left one of these archives. None stands for no archive.
     ghost leaves: { Self → Self → List (Option Archive) → Type 0 };
 
@@ -41,10 +46,10 @@ pub trait Keep: Shelf {
     fn fresh(&mut self) -> Result<(), OpenRefusal>
         ensures nothing { Self.ready self.old ≡ true
             → (is_ok result ≡ true) × (self.new ≡ self.old) }
-        ensures found { (s : Standing) → Fits Self.holds Self.ready leaves self.old s
-            → (t : Standing) × Moves Self.holds Self.ready leaves self.old s self.new t
+        ensures found { (s : Standing) → Fits Self.holds rests Self.ready leaves self.old s
+            → (t : Standing) × Moves Self.holds rests Self.ready leaves self.old s self.new t
             × Reopens s result t }
-        ensures any_moment { (s : Standing) → Fits Self.holds Self.ready leaves self.old s
+        ensures any_moment { (s : Standing) → Fits Self.holds rests Self.ready leaves self.old s
             → Passes leaves self.old self.new [] }
         ensures ready { Self.ready self.new ≡ is_ok result }
         ensures later { Self.faults self.old ≤ Self.faults self.new }
@@ -59,10 +64,10 @@ pub trait Keep: Shelf {
     /// refusal the keeper is stale. `DiskFault` if the disk failed, and the count of faults rose; any
     /// other result leaves the count. `NoMemory` if an allocation fails.
     fn reindex(&mut self) -> Result<u32, OpenRefusal>
-        ensures found { (s : Standing) → Fits Self.holds Self.ready leaves self.old s
-            → (t : Standing) × Moves Self.holds Self.ready leaves self.old s self.new t
+        ensures found { (s : Standing) → Fits Self.holds rests Self.ready leaves self.old s
+            → (t : Standing) × Moves Self.holds rests Self.ready leaves self.old s self.new t
             × Reopens s result t × IfOk result (λ count. count ≡ length (live t.archive.entries)) }
-        ensures any_moment { (s : Standing) → Fits Self.holds Self.ready leaves self.old s
+        ensures any_moment { (s : Standing) → Fits Self.holds rests Self.ready leaves self.old s
             → Passes leaves self.old self.new [] }
         ensures ready { Self.ready self.new ≡ is_ok result }
         ensures later { Self.faults self.old ≤ Self.faults self.new }
@@ -73,14 +78,15 @@ pub trait Keep: Shelf {
     ///
     /// The answer is that of the definition, on the archive that is held or found, or `NoMemory` if
     /// an allocation fails, or `DiskFault` if the disk failed and the count of faults rose. Any other
-    /// answer leaves the count. A refusal to reopen leaves all as it was. After any other `DiskFault`
-    /// the command is in doubt. A crash leaves an archive of the standing before the call or of the
-    /// one after it. At a delivery and a removal a ready keeper reads the disk at most once, and not
-    /// at all at a delivery of no text or of one with a blob id that no entry has.
+    /// answer leaves the count. A refusal to reopen leaves all as it was, but after `DiskFault` the
+    /// archive itself is in doubt. After any other `DiskFault` the command is in doubt. A crash leaves
+    /// an archive of the standing before the call or of the one after it. At a delivery and a removal
+    /// a ready keeper reads the disk at most once, and not at all at a delivery of no text or of one
+    /// with a blob id that no entry has.
     fn command(&mut self, command: &Command<'_>, moment: u64) -> Answer
         requires moment { moment ≤ last_moment }
-        ensures done { (s : Standing) → Fits Self.holds Self.ready leaves self.old s
-            → (t : Standing) × Moves Self.holds Self.ready leaves self.old s self.new t
+        ensures done { (s : Standing) → Fits Self.holds rests Self.ready leaves self.old s
+            → (t : Standing) × Moves Self.holds rests Self.ready leaves self.old s self.new t
             × Comes (Self.ready self.old) s (λ (a : Archive). applied a command.now moment) result t }
         ensures ready { StaysReady (Self.ready self.old) result (Self.ready self.new) }
         ensures later { Self.faults self.old ≤ Self.faults self.new }
@@ -106,6 +112,9 @@ pub trait Keep: Shelf {
         ensures cause { ReadCause (Self.faults self.old) (Self.faults self.new) result }
         ensures reads { ReadsOnce (Self.reads self.old) (Self.reads self.new) };
 
+    /// The files of a keeper that holds an archive are exactly that archive's.
+    ghost holds_rests: { (k : Self) (a : Archive) → Self.holds k a → rests k a };
+
     /// A crash leaves the archive that a keeper holds.
     ghost holds_left: { (k : Self) (a : Archive) (may : List (Option Archive)) → Self.holds k a
         → Contains may (Some a) → leaves k k may };
@@ -114,7 +123,7 @@ pub trait Keep: Shelf {
     ghost leaves_now: { (start k : Self) (may : List (Option Archive)) → leaves start k may
         → leaves k k may };
 
-    /// What only reads leaves the archive, the readiness and what a crash may leave.
+    /// What only reads leaves the archive, the files, the readiness and what a crash may leave.
     ghost alike_kept: { (k m : Self) → Self.alike k m
-        → OnlyRead Self.holds Self.ready leaves k m };
+        → OnlyRead Self.holds rests Self.ready leaves k m };
 }

@@ -10,7 +10,7 @@ use Rattle.line_door.specs.Making.{says, closes}
 use Rattle.line_door.proofs.Acting.{acts-by_held, acts-closing}
 use Rattle.arch_model.specs.Archives.{Archive}
 use Rattle.arch_model.specs.Delivery.{Done}
-use Rattle.arch_model.specs.Standing.{Standing, standing, IsFound}
+use Rattle.arch_model.specs.Standing.{Standing, standing, unsure, IsFound}
 use Rattle.arch_model.specs.Keeping.{Settles, StaysShut, Obeys, Doubts, StaysStale, Comes, AnswerCause, OpeningWhy}
 use Rattle.arch_model.specs.declared.answer.Answer.{Answer}
 use Rattle.arch_model.specs.declared.answer.Answer.TheVariants as answer
@@ -38,7 +38,7 @@ module _ {H : Type 0} (words : Way → Said H Standing) (h : H) (line : Answer �
       let stands : t ≡ standing a None = ap (λ (d : Option Archive). standing t.archive d) settles.sure ∙ ap (λ (x : Archive). standing x None) (found-one a t.archive settles.found) in
       acts-by_held words Memory (says (standing a None) h (line answer.NoMemory)) i j h t sent memory refl kept (omega (arith, kept)) said stands
 
-  failed : (t : Standing) (i j : Outside) (sent : Result Unit SinkFault) → StaysStale true (standing a None) t ⊎ Doubts (standing a None) wanted t → Rose i.disk j.disk → i.disk ≤ j.disk → Says (line answer.DiskFault) i.out i.lost j.out j.lost sent → Acts words i (held_if (is_ok sent) h) t j
+  failed : (t : Standing) (i j : Outside) (sent : Result Unit SinkFault) → StaysStale true (unsure (standing a None)) t ⊎ Doubts (standing a None) wanted t → Rose i.disk j.disk → i.disk ≤ j.disk → Says (line answer.DiskFault) i.out i.lost j.out j.lost sent → Acts words i (held_if (is_ok sent) h) t j
   failed t i j sent (inl stale) cause later said = absurd (false≢true (sym stale.stale))
   failed t i j sent (inr doubts) cause later said =
       let stands : t ≡ standing a (Some (wanted a).archive) = doubts.stands ∙ ap (λ (x : Archive). standing x (Some (wanted x).archive)) (found-one a doubts.found doubts.is_found) in
@@ -79,7 +79,7 @@ module _ {H : Type 0} (line : OpenRefusal → List ℕ) (s : Standing) (h : H) w
 
   pub reopening-refused : (t : Standing) (why : OpenRefusal) (i j : Outside) (sent : Result Unit SinkFault) → StaysShut s why t → OpeningWhy i.disk j.disk why → i.disk ≤ j.disk → Says (line why) i.out i.lost j.out j.lost sent
       → Acts (said_reopening line s h) i None t j
-  reopening-refused t opening.DiskFault i j sent same cause later said = acts-closing (said_reopening line s h) Disk (closes s (line opening.DiskFault)) i j t sent refl refl cause later said same
+  reopening-refused t opening.DiskFault i j sent same cause later said = acts-closing (said_reopening line s h) Disk (closes (unsure s) (line opening.DiskFault)) i j t sent refl refl cause later said same
   reopening-refused t opening.NoMemory i j sent same cause later said = acts-closing (said_reopening line s h) Memory (closes s (line opening.NoMemory)) i j t sent refl refl cause later said same
   reopening-refused t opening.NoArchive i j sent never cause later said = absurd never
   reopening-refused t (opening.Damaged file at) i j sent never cause later said = absurd never

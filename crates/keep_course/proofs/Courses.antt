@@ -98,15 +98,15 @@ module _ {K H : Type 0} (leaves : K → K → List (Option Archive) → Type 0) 
         course.left start may (last-has may w coming.acts m coming.each (has.0, parts.0), parts.1) (coming.left start may (has.0, parts.0) since);
   }
 
-  module _ (holds : K → Archive → Type 0) (ready : K → Bool) where
+  module _ (holds rests : K → Archive → Type 0) (ready : K → Bool) where
     -- A crash since the start leaves an archive, or one in doubt, of one of the talks.
-    pub crash-in : (old new : K) (w : Talk H Standing) (ms : List (Talk H Standing)) → Fits holds ready leaves old w.after → LeftBy leaves old new w ms → leaves old new (archives_in w ms)
+    pub crash-in : (old new : K) (w : Talk H Standing) (ms : List (Talk H Standing)) → Fits holds rests ready leaves old w.after → LeftBy leaves old new w ms → leaves old new (archives_in w ms)
     crash-in old new w ms fits left =
         let own = all-own (w.after ∷ afters ms) in
         left old (archives_in w ms) own (fits.left (archives_in w ms) own.0)
 
     -- The last act of a course, and what a crash since its start leaves.
-    pub ended : (old mid new : K) (w : Talk H Standing) (h : H) (s : Standing) (i : Outside) (held : Option H) (t : Standing) (j : Outside) → Fits holds ready leaves old w.after → Coming leaves said is_request old mid w (talk (Some h) s i) → Acts (said s h) i held t j
+    pub ended : (old mid new : K) (w : Talk H Standing) (h : H) (s : Standing) (i : Outside) (held : Option H) (t : Standing) (j : Outside) → Fits holds rests ready leaves old w.after → Coming leaves said is_request old mid w (talk (Some h) s i) → Acts (said s h) i held t j
         → (held ≡ None) ⊎ ((is_request h ≡ false) × (j.disk ≡ i.disk)) → Passes leaves mid new (s ∷ t ∷ []) → CourseLeft leaves said is_request old new w (talk held t j)
     ended old mid new w h s i held t j fits coming acts ends passes = record {
       course = record {
@@ -121,9 +121,9 @@ module _ {K H : Type 0} (leaves : K → K → List (Option Archive) → Type 0) 
 
 -- The course of a reading door, whose archive stays, is one over the keeper that was lent to it as a
 -- shelf.
-pub reading-course : {K H J : Type 0} (holds : K → Archive → Type 0) (ready : K → Bool) (leaves : K → K → List (Option Archive) → Type 0) (into : H → J) (said : Archive → H → Way → Said H Archive) (is_request : H → Bool) (other : Standing → J → Way → Said J Standing) (is_other : J → Bool)
+pub reading-course : {K H J : Type 0} (holds rests : K → Archive → Type 0) (ready : K → Bool) (leaves : K → K → List (Option Archive) → Type 0) (into : H → J) (said : Archive → H → Way → Said H Archive) (is_request : H → Bool) (other : Standing → J → Way → Said J Standing) (is_other : J → Bool)
     → ((a : Archive) (h : H) (way : Way) → other (standing a None) (into h) way ≡ said_over (λ (x : Archive). standing x None) into (said a h way)) → ((h : H) → is_other (into h) ≡ is_request h)
-    → (old new : K) (w v : Talk H Archive) → OnlyRead holds ready leaves old new → Fed said is_request w v → Course leaves other is_other old new (talk_over (λ (x : Archive). standing x None) into w) (talk_over (λ (x : Archive). standing x None) into v)
-reading-course holds ready leaves into said is_request other is_other same asks old new w v read fed =
+    → (old new : K) (w v : Talk H Archive) → OnlyRead holds rests ready leaves old new → Fed said is_request w v → Course leaves other is_other old new (talk_over (λ (x : Archive). standing x None) into w) (talk_over (λ (x : Archive). standing x None) into v)
+reading-course holds rests ready leaves into said is_request other is_other same asks old new w v read fed =
     let lifted = fed-over (λ (x : Archive). standing x None) into said is_request other is_other same asks w v fed in
     record { acts = lifted.0; before = lifted.1; each = lifted.2; last = lifted.3; left = λ start may has since. read.passes start may tt since }

@@ -13,6 +13,10 @@ use Rattle.keep_course.specs.Courses.{Course, archives_in}
 abbrev pub HistoryHolds : List Archive → Archive → Type 0
 HistoryHolds k a = (before : List Archive) × (k ≡ before ++ a ∷ [])
 
+-- Its files are those of the archive that it holds.
+abbrev pub HistoryRests : List Archive → Archive → Type 0
+HistoryRests k a = HistoryHolds k a
+
 -- It is always ready.
 abbrev pub history_ready : List Archive → Bool
 history_ready k = true
@@ -25,7 +29,7 @@ HistoryLeaves start k may = (a : Archive) → Contains k a → Contains may (Som
 abbrev pub CourseLaw : Type 0
 CourseLaw = (said : Standing → ℕ → Way → Said ℕ Standing) (is_request : ℕ → Bool)
     (old new : List Archive) (w v : Talk ℕ Standing)
-    → Fits HistoryHolds history_ready HistoryLeaves old w.after
+    → Fits HistoryHolds HistoryRests history_ready HistoryLeaves old w.after
     → (course : Course HistoryLeaves said is_request old new w v)
     → HistoryLeaves old new (archives_in w (course.acts ++ v ∷ []))
 

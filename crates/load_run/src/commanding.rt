@@ -21,8 +21,8 @@ pub(crate) const FIRST_MOMENT: u64 = 1_700_000_000;
 /// Carries out a command, whatever the rules answer.
 fn obey<K: Keep>(keep: &mut K, command: &Command<'_>, moment: u64) -> Result<(), LoadRefusal>
     requires { moment ≤ last_moment }
-    ensures kept { (a : Archive) → Fits K.holds K.ready K.leaves keep.old (standing a None)
-        → Gives result (λ done. Fits K.holds K.ready K.leaves keep.new
+    ensures kept { (a : Archive) → Fits K.holds K.rests K.ready K.leaves keep.old (standing a None)
+        → Gives result (λ done. Fits K.holds K.rests K.ready K.leaves keep.new
         (standing (applied a command.now moment).archive None)) }
     ensures later { K.faults keep.old ≤ K.faults keep.new }
     ensures cause { LoadCause (K.faults keep.old) (K.faults keep.new) result }
@@ -43,8 +43,8 @@ pub(crate) fn deliver_all<K: Keep>(
     seed: u64,
 ) -> Result<(), LoadRefusal>
     requires { count ≤ greatest_load }
-    ensures kept { (a : Archive) → Fits K.holds K.ready K.leaves keep.old (standing a None)
-        → Gives result (λ done. Fits K.holds K.ready K.leaves keep.new
+    ensures kept { (a : Archive) → Fits K.holds K.rests K.ready K.leaves keep.old (standing a None)
+        → Gives result (λ done. Fits K.holds K.rests K.ready K.leaves keep.new
         (standing (delivered_to a seed count) None)) }
     ensures later { K.faults keep.old ≤ K.faults keep.new }
     ensures cause { LoadCause (K.faults keep.old) (K.faults keep.new) result }
@@ -65,8 +65,8 @@ pub(crate) fn deliver_all<K: Keep>(
 /// buffer.
 fn deliver<K: Keep>(i: u64, r: u64, mail: &mut Bytes, keep: &mut K) -> Result<(), LoadRefusal>
     requires { i ≤ greatest_load }
-    ensures kept { (a : Archive) → Fits K.holds K.ready K.leaves keep.old (standing a None)
-        → Gives result (λ done. Fits K.holds K.ready K.leaves keep.new
+    ensures kept { (a : Archive) → Fits K.holds K.rests K.ready K.leaves keep.old (standing a None)
+        → Gives result (λ done. Fits K.holds K.rests K.ready K.leaves keep.new
         (standing (delivered a (mail_with i r) (moment_of i)).archive None)) }
     ensures later { K.faults keep.old ≤ K.faults keep.new }
     ensures cause { LoadCause (K.faults keep.old) (K.faults keep.new) result }
@@ -82,8 +82,8 @@ fn deliver<K: Keep>(i: u64, r: u64, mail: &mut Bytes, keep: &mut K) -> Result<()
 pub(crate) fn remove_all<K: Keep>(keep: &mut K, count: u32, moment: u64) -> Result<(), LoadRefusal>
     requires few { count ≤ greatest_load }
     requires moment { moment ≤ last_moment }
-    ensures kept { (a : Archive) → Fits K.holds K.ready K.leaves keep.old (standing a None)
-        → Gives result (λ done. Fits K.holds K.ready K.leaves keep.new
+    ensures kept { (a : Archive) → Fits K.holds K.rests K.ready K.leaves keep.old (standing a None)
+        → Gives result (λ done. Fits K.holds K.rests K.ready K.leaves keep.new
         (standing (removed_to a moment (count / 10)) None)) }
     ensures later { K.faults keep.old ≤ K.faults keep.new }
     ensures cause { LoadCause (K.faults keep.old) (K.faults keep.new) result }
@@ -101,8 +101,8 @@ pub(crate) fn remove_all<K: Keep>(keep: &mut K, count: u32, moment: u64) -> Resu
 pub(crate) fn purge_all<K: Keep>(keep: &mut K, count: u32, moment: u64) -> Result<(), LoadRefusal>
     requires few { count ≤ greatest_load }
     requires moment { moment ≤ last_moment }
-    ensures kept { (a : Archive) → Fits K.holds K.ready K.leaves keep.old (standing a None)
-        → Gives result (λ done. Fits K.holds K.ready K.leaves keep.new
+    ensures kept { (a : Archive) → Fits K.holds K.rests K.ready K.leaves keep.old (standing a None)
+        → Gives result (λ done. Fits K.holds K.rests K.ready K.leaves keep.new
         (standing (purged_to a (count / 25)) None)) }
     ensures later { K.faults keep.old ≤ K.faults keep.new }
     ensures cause { LoadCause (K.faults keep.old) (K.faults keep.new) result }
@@ -118,10 +118,10 @@ pub(crate) fn purge_all<K: Keep>(keep: &mut K, count: u32, moment: u64) -> Resul
 
 /// Rebuilds what is kept beside the files, and returns the number of live messages.
 pub(crate) fn reindex<K: Keep>(keep: &mut K) -> Result<u32, LoadRefusal>
-    ensures live { (a : Archive) → Fits K.holds K.ready K.leaves keep.old (standing a None)
+    ensures live { (a : Archive) → Fits K.holds K.rests K.ready K.leaves keep.old (standing a None)
         → Gives result (λ count. count ≡ length (live a.entries)) }
-    ensures kept { (a : Archive) → Fits K.holds K.ready K.leaves keep.old (standing a None)
-        → Gives result (λ count. Fits K.holds K.ready K.leaves keep.new (standing a None)) }
+    ensures kept { (a : Archive) → Fits K.holds K.rests K.ready K.leaves keep.old (standing a None)
+        → Gives result (λ count. Fits K.holds K.rests K.ready K.leaves keep.new (standing a None)) }
     ensures ready { OnOk result (K.ready keep.new ≡ true) }
     ensures later { K.faults keep.old ≤ K.faults keep.new }
     ensures cause { LoadCause (K.faults keep.old) (K.faults keep.new) result }

@@ -43,11 +43,11 @@ pub fn load<K: Keep>(
 ) -> Result<LoadCounts, LoadRefusal>
     requires { count ≤ greatest_load }
     ensures counts { (a : Archive) → IsArchive a
-        → Fits K.holds K.ready K.leaves keep.old (standing a None)
+        → Fits K.holds K.rests K.ready K.leaves keep.old (standing a None)
         → Gives result (λ counts. counts ≡ counts_of (loaded a count seed)) }
-    ensures kept { (a : Archive) → Fits K.holds K.ready K.leaves keep.old (standing a None)
+    ensures kept { (a : Archive) → Fits K.holds K.rests K.ready K.leaves keep.old (standing a None)
         → Gives result (λ counts.
-        Fits K.holds K.ready K.leaves keep.new (standing (loaded a count seed) None)) }
+        Fits K.holds K.rests K.ready K.leaves keep.new (standing (loaded a count seed) None)) }
     ensures ready { OnOk result (K.ready keep.new ≡ true) }
     ensures later { K.faults keep.old ≤ K.faults keep.new }
     ensures cause { LoadCause (K.faults keep.old) (K.faults keep.new) result }

@@ -3,6 +3,7 @@ use Rattle.std.proofs.Common.{◌≡◌, ◌+◌, ◌-◌, ◌≤◌, ◌<◌, �
 use Rattle.std.proofs.lemmas.List.{append-nil, append_assoc}
 use Rattle.std.proofs.lemmas.List.Elements.{filter-append}
 use Rattle.std.proofs.lemmas.Bool.Decides.{nat_tests}
+use Rattle.std.proofs.lemmas.Option.{same_Some}
 use Rattle.arch_base.specs.declared.ids.Id20.{Id20}
 use Rattle.arch_model.specs.Archives.{Entry, Archive, in_epoch}
 use Rattle.arch_model.specs.Delivery.{last_epoch, greater, takes_more, new_epoch}
@@ -126,9 +127,6 @@ in_step limit epoch es end_ false test is last low small = new_end limit epoch e
 pub IsEnd-in : (limit epoch : ℕ) (es : List Entry) (end_ : End) → IsEnd limit es end_ → end_.epoch ≡ last_epoch es → last_epoch es ≤ epoch → epoch ≤ 63 → NewEnd limit es epoch (end_in_epoch epoch limit end_)
 IsEnd-in limit epoch es end_ is last low small = in_step limit epoch es end_ (end_.epoch == epoch) refl is last low small
 
-only : {X : Type 0} (x y : X) → Some x ≡ Some y → x ≡ y
-only x y is = cc
-
 -- The end and the commit after an entry that is appended there.
 pub end-after : (a : Archive) (e : Entry) (begin next : End) (commit : Id20) → NewEnd a.config.limit a.entries e.epoch begin → next ≡ end_after begin e.kind e.text e.moment → next.parent ≡ Some commit → IsEndAfter a e commit next
 end-after a e begin next commit new next_is commit_is =
@@ -137,5 +135,5 @@ end-after a e begin next commit new next_is commit_is =
     record {
       ends = subst (λ (n : End). IsEnd a.config.limit (a.entries ++ e ∷ []) n) (sym next_is) (IsEnd-push a.config.limit a.entries e begin new.0 (sym new.1));
       epoch = ap (λ (n : End). n.epoch) next_is ∙ new.1;
-      commit_is = only commit (commit_id e.kind e.text e.moment begin.parent) some ∙ ap (commit_id e.kind e.text e.moment) parent;
+      commit_is = same_Some commit (commit_id e.kind e.text e.moment begin.parent) some ∙ ap (commit_id e.kind e.text e.moment) parent;
     }

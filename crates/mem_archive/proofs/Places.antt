@@ -2,7 +2,7 @@
 use Rattle.std.proofs.Common.{◌⊎◌, inl, inr, ◌≡◌, ◌≢◌, ◌+◌, ◌-◌, ◌<◌, ◌≤◌, ◌==◌, ℕ, zero, suc, Bool, true, false, List, [], ◌∷◌, ◌++◌, length, get_or, slice_get, Option, Some, None, refl, sym, ap, subst, ◌∙◌, arith, if◌then◌else◌}
 use Rattle.std.specs.List.{AllByRecursion}
 use Rattle.std.proofs.lemmas.Bool.Decides.{nat_tests}
-use Rattle.std.proofs.lemmas.Option.{slice_get-get_or, slice_get_within}
+use Rattle.std.proofs.lemmas.Option.{slice_get-get_or, slice_get_within, same_Some}
 use Rattle.arch_base.specs.declared.config.Config.{Config}
 use Rattle.arch_model.specs.Archives.{Archive, Entry, message, deletion, live, messages, text_of}
 use Rattle.arch_model.specs.Validity.{Rise}
@@ -178,9 +178,6 @@ module _ (ks : List Kept) (old_places new_places : List (Option Place)) (k : Kep
     shown = ap (λ (es : List Entry). text_of es (i + 1)) fewer_live ∙ ap (λ (m : ℕ). text_of (without n (live (entries_of ks))) m) same ∙ text-without-own (live (entries_of ks)) n;
   }
 
-  same_of : (x y : Option Place) → Some x ≡ Some y → x ≡ y
-  same_of x y is = cc
-
   pub placed-deletion : ArePlaces (ks ++ k ∷ []) new_places
   placed-deletion i q there = by ((i + 1) == n) refl where
     within : i < length old_places
@@ -193,7 +190,7 @@ module _ (ks : List Kept) (old_places new_places : List (Option Place)) (k : Kep
         let p : Option Place = get_or old_places i q in
         let old : slice_get old_places i ≡ Some p = slice_get-get_or old_places i q within in
         let hidden : slice_get new_places i ≡ Some (hidden_place p) = ap (slice_get new_places) at ∙ hides.here p (ap (slice_get old_places) (sym at) ∙ old) in
-        subst (λ (r : Option Place). IsPlaceOf (ks ++ k ∷ []) (i + 1) r) (same_of (hidden_place p) q (sym hidden ∙ there)) (own_place i p (placed i p old) same)
+        subst (λ (r : Option Place). IsPlaceOf (ks ++ k ∷ []) (i + 1) r) (same_Some (hidden_place p) q (sym hidden ∙ there)) (own_place i p (placed i p old) same)
     by false test =
         let apart : i + 1 ≢ n = (λ same. (let yes : ((i + 1) == n) ≡ true = grind (arith, nat_tests, same) in let wrong : true ≡ false = sym yes ∙ test in cc)) in
         let elsewhere : i ≢ n - 1 = (λ at. apart (omega (arith, at, least))) in

@@ -18,7 +18,7 @@ use Rattle.arch_judge.proofs.Endings.{Ascend, live-ascend}
 use Rattle.arch_judge.proofs.Indexes.{IsIndex-same}
 use Rattle.overview_index.specs.Listings.{row_in}
 use Rattle.overview_index.proofs.Messages.{AllBelow, Ascends, row-is, row-number}
-use Rattle.view_set.specs.Viewed.{Viewed, with_mail, without_mail, views_of, searched, AreWorded}
+use Rattle.view_set.specs.Viewed.{AreOrdered, Viewed, with_mail, without_mail, views_of, searched, AreWorded}
 use Rattle.view_set.proofs.MailLists.{mails-added, mails-taken, mail-back, are-worded}
 use Rattle.view_set.proofs.Searching.{searched-is}
 use Rattle.arch_model.specs.Searching.{search}
@@ -123,3 +123,12 @@ found-kept config ks places index end_ a is kept query =
 
     small : length places + 1 ≤ 2147483648
     small = (let most : config.max ≤ 2147483647 = kept.settings.max_high in let few = kept.numbers in omega (arith, most, few))
+
+-- What is kept is in order.
+pub ordered-kept : (config : Config) (ks : List Kept) (places : List (Option Place)) (index : Index) (end_ : End) (a : Archive) → archive_of config ks places ≡ a → IsKept config ks places index end_ → AreOrdered a.entries
+ordered-kept config ks places index end_ a is kept =
+    subst (λ (b : Archive). AreOrdered b.entries) is (record {
+      order = kept.order;
+      small = all_weaker (IsUpTo (length places)) (λ (e : Entry). e.number < 2147483648) (entries_of ks)
+          (λ e up. let most : config.max ≤ 2147483647 = kept.settings.max_high in let few = kept.numbers in let above = up.1 in omega (arith, most, few, above)) kept.numbered;
+    })

@@ -12,10 +12,11 @@ held-left m a may same has = subst (λ (x : Archive). Contains may (Some x)) sam
 
 -- A state that is the same was only read.
 pub same-read : (m n : Archive) → n ≡ m → OnlyRead (λ (k : Archive) (a : Archive). a ≡ k)
-    (λ (k : Archive). true)
+    (λ (k : Archive) (a : Archive). a ≡ k) (λ (k : Archive). true)
     (λ (start : Archive) (k : Archive) (may : List (Option Archive)). Contains may (Some k)) m n
 same-read m n same = record {
   held = λ a is. is ∙ sym same;
+  rested = λ a is. is ∙ sym same;
   same = refl;
   passes = λ start may has left. subst (λ (x : Archive). Contains may (Some x)) (sym same) left;
 }

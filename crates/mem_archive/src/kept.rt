@@ -1,5 +1,5 @@
 //! What the archive in memory keeps of each entry, and of its last epoch.
-ghost use Rattle.std.specs.Prelude.{◌≡◌, ◌+◌, ◌-◌, ◌++◌, ◌≤◌, IfOk, OnOk, OnErr, is_ok, if◌then◌else◌};
+ghost use Rattle.std.specs.Prelude.{◌≡◌, ◌++◌, ◌≤◌, IfOk, OnOk, OnErr, is_ok, if◌then◌else◌};
 ghost use Rattle.disk_model.specs.Sizes.{greatest_epoch};
 ghost use Rattle.git_objects.specs.Objects.{blob_id_of};
 ghost use Rattle.mail_commits.specs.Entries.{commit_id, entry_bytes};

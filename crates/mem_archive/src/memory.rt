@@ -166,6 +166,20 @@ impl MemArchive {
         self.views.search(query)
     }
 
+    /// Returns so many of the numbers that `matching` gives, after so many that are skipped, or as many
+    /// as there are.
+    pub(crate) fn matching_page(
+        &self,
+        query: &Query,
+        skip: u64,
+        count: u64,
+    ) -> Result<Numbers, NoMemory>
+        ensures { IfOk result (λ page. page
+            ≡ take count (drop skip (search query.now (live self.now.entries)))) }
+    {
+        self.views.search_page(query, skip, count)
+    }
+
     /// Returns the entry at an index, from 0, without its text, or `None` if there are not so many.
     pub(crate) fn line(&self, index: u64) -> Option<EntryLine>
         ensures { result ≡ line_at self.now.entries index }

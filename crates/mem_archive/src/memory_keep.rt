@@ -59,6 +59,10 @@ impl Shelf for MemArchive {
         self.matching(query)
     }
 
+    fn search_page(&self, query: &Query, skip: u64, count: u64) -> Result<Numbers, NoMemory> {
+        self.matching_page(query, skip, count)
+    }
+
     fn entry(&self, index: u64) -> Option<EntryLine> {
         self.line(index)
     }
@@ -91,6 +95,8 @@ impl Shelf for MemArchive {
 }
 
 impl Keep for MemArchive {
+    ghost rests = { λ m a. a ≡ m };
+
     ghost leaves = { λ start m may. Contains may (Some m) };
 
     fn is_stale(&self) -> bool {
@@ -116,6 +122,8 @@ impl Keep for MemArchive {
             Err(NoMemory) => Err(TextRefusal::NoMemory),
         }
     }
+
+    ghost holds_rests = { λ m a same. same };
 
     ghost holds_left = { λ m a may same has. held-left m a may same has };
 

@@ -7,7 +7,7 @@ use Rattle.load_run.proofs.commanding.remove_all.Given as goal
 
 abbrev pub invariant-loop-index : goal.invariant-loop-index
 invariant-loop-index g l = record {
-  kept : (a : Archive) → Fits g.K.Shelf.holds g.K.Shelf.ready g.K.Keep.leaves l.fn.keep (standing a None)
-      → Fits g.K.Shelf.holds g.K.Shelf.ready g.K.Keep.leaves l.keep (standing (removed_to a l.fn.moment l.index) None);
+  kept : (a : Archive) → Fits g.K.Shelf.holds g.K.Keep.rests g.K.Shelf.ready g.K.Keep.leaves l.fn.keep (standing a None)
+      → Fits g.K.Shelf.holds g.K.Keep.rests g.K.Shelf.ready g.K.Keep.leaves l.keep (standing (removed_to a l.fn.moment l.index) None);
   same : g.K.Shelf.faults l.keep ≡ g.K.Shelf.faults l.fn.keep;
 }
