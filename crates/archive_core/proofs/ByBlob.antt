@@ -3,6 +3,7 @@ use Rattle.std.specs.Prelude.{◌≡◌, ℕ, Bool, true, false, cond, List, [],
 use Rattle.std.specs.Str.{bytes_eq}
 use Rattle.std.proofs.Common.{◌∙◌, sym, ap, subst}
 use Rattle.std.proofs.lemmas.Slice.Eq.{bytes_eq-Decides}
+use Rattle.std.proofs.lemmas.Option.{same_Some}
 use Rattle.arch_base.specs.declared.ids.Id20.{Id20}
 use Rattle.git_objects.specs.Objects.{blob_id_of}
 use Rattle.arch_model.specs.Archives.{Entry, Archive, is_message, messages, text_of, blob_number}
@@ -17,13 +18,10 @@ use Rattle.epoch_store.specs.Stores.{View, Keeps}
 use Rattle.archive_core.specs.Numbers.{IsMessageAt, HasBlobAt, IsBlobIndex}
 use Rattle.archive_core.proofs.Stored.{kept-at, message-at}
 
-only : {X : Type 0} (x y : X) → Some x ≡ Some y → x ≡ y
-only x y is = cc
-
 -- The text of a blob id has it.
 has_step : (t : Bool) (e : Entry) (es : List Entry) (blob text : List ℕ) → bytes_eq blob (blob_id_of e.text).0 ≡ t → cond t (Some e.text) (blob_text es blob) ≡ Some text
     → (blob_text es blob ≡ Some text → bytes_eq blob (blob_id_of text).0 ≡ true) → bytes_eq blob (blob_id_of text).0 ≡ true
-has_step true e es blob text test is rest = subst (λ (t : List ℕ). bytes_eq blob (blob_id_of t).0 ≡ true) (only e.text text is) test
+has_step true e es blob text test is rest = subst (λ (t : List ℕ). bytes_eq blob (blob_id_of t).0 ≡ true) (same_Some e.text text is) test
 has_step false e es blob text test is rest = rest is
 
 has_it : (es : List Entry) (blob text : List ℕ) → blob_text es blob ≡ Some text → bytes_eq blob (blob_id_of text).0 ≡ true
@@ -82,10 +80,10 @@ blob-line es i line id b lined test = by (slice_get es i) refl lined
     by : (o : Option StoredEntry) → slice_get es i ≡ o → Some line ≡ line_if o → IsTrue b ↔ HasBlobAt es id i
     by None is none = absurd (cc)
     by (Some e) is some =
-        let blob : line.blob ≡ e.seen.blob = ap (λ (l : EntryLine). l.blob) (only line (line_of e) some) in
+        let blob : line.blob ≡ e.seen.blob = ap (λ (l : EntryLine). l.blob) (same_Some line (line_of e) some) in
         let decides = bytes_eq-Decides line.blob.0 id.0 in (
           λ hit. (e, is, sym blob ∙ ap (λ (bytes : List ℕ). record { 0 = bytes }) (decides.0 (sym test ∙ hit))),
-          λ has. test ∙ decides.1 (ap (λ (i : Id20). i.0) (blob ∙ ap (λ (s : StoredEntry). s.seen.blob) (only e has.0 (sym is ∙ has.1)) ∙ has.2)),
+          λ has. test ∙ decides.1 (ap (λ (i : Id20). i.0) (blob ∙ ap (λ (s : StoredEntry). s.seen.blob) (same_Some e has.0 (sym is ∙ has.1)) ∙ has.2)),
         )
 
 -- The result by the text that is read.

@@ -3,7 +3,7 @@ use Rattle.std.specs.Prelude.{◌≡◌, ◌≢◌, ◌⊎◌, ◌+◌, ◌<◌,
 use Rattle.std.specs.List.Sorted.{IsPartitionPoint}
 use Rattle.std.proofs.Common.{◌∙◌, sym, ap, subst, inl, inr, arith, ltb, ltb-true, ltb-false}
 use Rattle.std.proofs.lemmas.Bool.Decides.{nat_tests}
-use Rattle.std.proofs.lemmas.Option.{slice_get_within, slice_get-get_or}
+use Rattle.std.proofs.lemmas.Option.{slice_get_within, slice_get-get_or, same_Some}
 use Rattle.disk_model.specs.Disk.{Content, WhereTold}
 use Rattle.arch_model.specs.Archives.{Entry, Archive, is_message, live, messages, text_of}
 use Rattle.arch_model.specs.Shelves.{AppendsTo}
@@ -21,16 +21,13 @@ use Rattle.archive_core.proofs.Places.{places-rise, places-low, places-one, plac
 use Rattle.archive_core.proofs.ByBlob.{message-of}
 use Rattle.archive_core.proofs.Stored.{has_live-is, kept-at, shown-at, contains-number, live-number}
 
-only : {X : Type 0} (x y : X) → Some x ≡ Some y → x ≡ y
-only x y is = cc
-
 not_true : (t : Bool) → (t ≡ true → ⊥) → t ≡ false
 not_true true never = absurd (never refl)
 not_true false never = refl
 
 -- The item at an index.
 got : (xs : List MessagePlace) (i : ℕ) (d p : MessagePlace) → slice_get xs i ≡ Some p → get_or xs i d ≡ p
-got xs i d p is = only (get_or xs i d) p (sym (slice_get-get_or xs i d (slice_get_within xs i p is)) ∙ is)
+got xs i d p is = same_Some (get_or xs i d) p (sym (slice_get-get_or xs i d (slice_get_within xs i p is)) ∙ is)
 
 -- The place that is read at an index is the one that was found there.
 pub place-is : (items seen : List MessagePlace) (i : ℕ) (p r : MessagePlace) → seen ≡ items → slice_get seen i ≡ Some p → r ≡ get_or items i r → r ≡ p
@@ -47,7 +44,7 @@ rise_at : (number : ℕ) (xs : List MessagePlace) (i j : ℕ) (p q : MessagePlac
 rise_at number [] i j p q from less here there = absurd (cc)
 rise_at number (x ∷ xs) i zero p q from less here there = absurd (omega (arith, less))
 rise_at number (x ∷ xs) zero (suc j) p q from less here there =
-    let same : x.number ≡ p.number = ap (λ (r : MessagePlace). r.number) (only x p here) in
+    let same : x.number ≡ p.number = ap (λ (r : MessagePlace). r.number) (same_Some x p here) in
     let above : x.number + 1 ≤ q.number = (places-one (x.number + 1) xs j q from.1 there).0 in
     omega (arith, same, above)
 rise_at number (x ∷ xs) (suc i) (suc j) p q from less here there = rise_at (x.number + 1) xs i j p q from.1 (omega (arith, less)) here there
@@ -94,7 +91,7 @@ here_true false t rest one two = absurd (cc)
 pub place-live : (xs : List MessagePlace) (i : ℕ) (p : MessagePlace) → slice_get xs i ≡ Some p → p.live ≡ true → live_place xs p.number ≡ true
 place-live [] i p there live = absurd (cc)
 place-live (x ∷ xs) zero p there live =
-    let same : x ≡ p = only x p there in
+    let same : x ≡ p = same_Some x p there in
     let itself : (p.number == p.number) ≡ true = grind (arith, nat_tests) in
     here_true x.live (x.number == p.number) (live_place xs p.number) (ap (λ (r : MessagePlace). r.live) same ∙ live) (ap (λ (r : MessagePlace). r.number == p.number) same ∙ itself)
 place-live (x ∷ xs) (suc i) p there live = or_true (x.live && x.number == p.number) (live_place xs p.number) (place-live xs i p there live)
@@ -115,7 +112,7 @@ none-other xs n i p count here other rise k q there same = elim (before_or_not k
     after : i ≤ k → ⊥
     after most = elim (before_or_not i k) [
       | inl less ↦ (let high : n ≤ p.number = (count rise i p here).1 (omega arith) in let up : p.number < q.number = rise_at 0 xs i k p q rise less here there in omega (arith, high, up, same))
-      | inr again ↦ (let at_is : k ≡ i = omega (arith, most, again) in other (ap (λ (r : MessagePlace). r.number) (only p q (sym here ∙ ap (slice_get xs) (sym at_is) ∙ there)) ∙ same))
+      | inr again ↦ (let at_is : k ≡ i = omega (arith, most, again) in other (ap (λ (r : MessagePlace). r.number) (same_Some p q (sym here ∙ ap (slice_get xs) (sym at_is) ∙ there)) ∙ same))
     ]
 
 -- What places tell of the archive that a store keeps.

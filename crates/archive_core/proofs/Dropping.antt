@@ -7,7 +7,7 @@ use Rattle.std.proofs.Common.{◌⊎◌, ◌∙◌, sym, ap, subst, inl, inr, co
 use Rattle.std.specs.BTreeSet.{BTreeSet, IsEmpty}
 use Rattle.std.proofs.lemmas.List.{drop_more, drop_all, take_all, reverse-append, reverse-reverse}
 use Rattle.std.proofs.lemmas.List.Elements.{filter_more, length_all_zip}
-use Rattle.std.proofs.lemmas.Option.{slice_get_within, slice_get-get_or}
+use Rattle.std.proofs.lemmas.Option.{slice_get_within, slice_get-get_or, same_Some}
 use Rattle.std.proofs.lemmas.Slice.Eq.{bytes_eq-Decides}
 use Rattle.arch_base.specs.declared.ids.Id20.{Id20}
 use Rattle.git_objects.specs.Objects.{blob_id_of}
@@ -26,9 +26,6 @@ use Rattle.archive_core.specs.declared.placing.MessagePlace.{MessagePlace}
 use Rattle.epoch_store.proofs.Indexes.{indexes_none, indexes_more}
 use Rattle.archive_core.proofs.Places.{place_of, places-low}
 use Rattle.archive_core.proofs.Removing.{places-message}
-
-only : {X : Type 0} (x y : X) → Some x ≡ Some y → x ≡ y
-only x y is = cc
 
 -- A test of bytes goes either way.
 pub bytes-flip : (x y : List ℕ) → bytes_eq x y ≡ bytes_eq y x
@@ -263,7 +260,7 @@ none_at : (places : List MessagePlace) (entries : List StoredEntry) (blob : Id20
 none_at places entries blob index d less one none i p before there lives = elim (at_or_before i index before) [
   | inl earlier ↦ none i p earlier there lives
   | inr at ↦
-      (let same : get_or places index d ≡ p = only (get_or places index d) p (sym (slice_get-get_or places index d less) ∙ ap (slice_get places) (sym at) ∙ there) in
+      (let same : get_or places index d ≡ p = same_Some (get_or places index d) p (sym (slice_get-get_or places index d less) ∙ ap (slice_get places) (sym at) ∙ there) in
       ap (λ (q : MessagePlace). has_blob_at entries q.entry blob) (sym same) ∙ one (ap (λ (q : MessagePlace). q.live) same ∙ lives))
 ]
 

@@ -2,7 +2,7 @@
 use Rattle.std.specs.Prelude.{◌≡◌, ℕ, Bool, true, false, not, List, [], get_or, Some, Result, Ok, Err, refl}
 use Rattle.std.specs.Str.{bytes_eq}
 use Rattle.std.proofs.Common.{◌∙◌, sym, ap, subst}
-use Rattle.std.proofs.lemmas.Option.{get_or_from_slice_get}
+use Rattle.std.proofs.lemmas.Option.{get_or_from_slice_get, same_Some}
 use Rattle.std.proofs.lemmas.Slice.Eq.{bytes_eq-Decides}
 use Rattle.arch_base.specs.declared.ids.Id20.{Id20}
 use Rattle.git_objects.specs.Objects.{blob_id_of}
@@ -21,15 +21,12 @@ use Rattle.archive_core.specs.Rewriting.{ComparesForm}
 use Rattle.archive_core.proofs.ByBlob.{message-of}
 use Rattle.archive_core.proofs.ByNumber.{entry-text, text-gives}
 
-only : {X : Type 0} (x y : X) → Some x ≡ Some y → x ≡ y
-only x y is = cc
-
 -- The entry of a live number has the blob id of its text.
 pub live-blob : (v : View) (a : Archive) (n i : ℕ) (text : List ℕ) → Keeps v a → (at : IsLiveAt v.entries n i) → text_of (live a.entries) n ≡ Some text → at.message.entry.seen.blob ≡ blob_id_of text
 live-blob v a n i text keeps at shown =
     let own = message-of v a n i keeps at.message in
     let read : text_of (live a.entries) n ≡ Some own.entry.text = entry-text v a keeps n i at own.entry.text (ap text_if own.there) in
-    own.blob ∙ ap blob_id_of (only own.entry.text text (sym read ∙ shown))
+    own.blob ∙ ap blob_id_of (same_Some own.entry.text text (sym read ∙ shown))
 
 -- A form with another blob id isn't the text.
 pub compares-other : (v : View) (a : Archive) (n i : ℕ) (seen : List StoredEntry) (e : StoredEntry) (found : Id20) (form bytes text : List ℕ) (wanted : Result (List ℕ) StoredRefusal) (r : Bool)
@@ -54,7 +51,7 @@ pub compares-read : (v : View) (a : Archive) (n i : ℕ) (form bytes old new rea
     → Keeps v a → IsLiveAt v.entries n i → wanted ≡ Ok form → bytes ≡ form → read ≡ new → old ≡ [] → GivesTextOf a i old new (Ok tt) → r ≡ bytes_eq bytes read → text_of (live a.entries) n ≡ Some text → r ≡ is_form text wanted
 compares-read v a n i form bytes old new read text wanted r keeps at form_is bytes_is read_is empty given r_is shown =
     let gives = text-gives v a keeps n i at [] new (Ok tt) (subst (λ (l : List ℕ). GivesTextOf a i l new (Ok tt)) empty given) in
-    let same : read ≡ text = read_is ∙ gives.2 ∙ only gives.0 text (sym gives.1 ∙ shown) in
+    let same : read ≡ text = read_is ∙ gives.2 ∙ same_Some gives.0 text (sym gives.1 ∙ shown) in
     r_is ∙ ap (λ (l : List ℕ). bytes_eq l read) bytes_is ∙ ap (bytes_eq form) same ∙ ap (is_form text) (sym form_is)
 
 -- A text that wasn't read decides nothing.

@@ -5,14 +5,17 @@ use Rattle.std.proofs.Common.{◌∙◌, sym, ap, subst, inl, inr, arith}
 use Rattle.std.proofs.lemmas.Bool.{false≢true}
 use Rattle.arch_base.specs.Counts.{RoseIf}
 use Rattle.arch_base.specs.declared.ids.Id20.{Id20}
-use Rattle.disk_model.specs.Disk.{Files, Content, Image, Told, Unchanged, ReadsFit, LeavesOnly}
+use Rattle.disk_model.specs.declared.name.FileName.{FileName}
+use Rattle.disk_model.specs.Disk.{Files, Content, Image, Told, WhereTold, Unchanged, ReadsFit, LeavesOnly}
 use Rattle.disk_model.specs.Moments.{started, joined, weaker}
+use Rattle.root_slots.specs.Between.{BetweenStays, RunsBetween, between_image}
+use Rattle.disk_model.specs.Synced.{IsSettled}
 use Rattle.arch_model.specs.Archives.{Archive, live}
 use Rattle.view_set.specs.Viewed.{views_of}
 use Rattle.arch_model.specs.Delivery.{Done, applied}
-use Rattle.arch_model.specs.Keeping.{Passes, Fits, Moves, Settles, StaysShut, Comes, Ending, Accepts, Refuses, Starves, Fails, Breaks, ReadyBy, StaysReady, AnswerCause, OpeningWhy, ending, opening_answer}
+use Rattle.arch_model.specs.Keeping.{Has, Passes, Fits, Moves, Settles, StaysShut, Comes, Ending, Accepts, Refuses, Starves, Fails, Breaks, ReadyBy, StaysReady, AnswerCause, OpeningWhy, ending, opening_answer, root_file}
 use Rattle.arch_model.specs.Shelves.{Stays, ReadCause, ReadsOnce}
-use Rattle.arch_model.specs.Standing.{Standing, standing, with_doubt, one_of, IsFound}
+use Rattle.arch_model.specs.Standing.{Standing, standing, unsure, with_doubt, one_of, IsFound}
 use Rattle.arch_model.specs.declared.answer.Answer.{Answer}
 use Rattle.arch_model.specs.declared.answer.Answer.TheVariants as answer
 use Rattle.arch_model.specs.declared.command.Command.{Command}
@@ -21,7 +24,7 @@ use Rattle.arch_model.specs.declared.opening.OpenRefusal.{OpenRefusal}
 use Rattle.arch_model.specs.declared.opening.OpenRefusal.TheVariants as refusal
 use Rattle.arch_model.specs.declared.text_refusal.TextRefusal.{TextRefusal}
 use Rattle.arch_model.specs.declared.text_refusal.TextRefusal.TheVariants as reading
-use Rattle.arch_model.proofs.Keepers.{has-own, moves-stale, moves-on, comes-by, unopened-comes, unopened-ready, unopened-cause}
+use Rattle.arch_model.proofs.Keepers.{has-own, has-unsure-of, unsure-doubts, moves-stale, moves-on, comes-by, unopened-comes, unopened-ready, unopened-cause}
 use Rattle.epoch_store.specs.Files.{as_read}
 use Rattle.epoch_store.specs.Laws.{CachesOne, RecoversSomeOne}
 use Rattle.epoch_store.specs.Leaving.{disk_recovers}
@@ -29,11 +32,14 @@ use Rattle.epoch_store.specs.Opens.{RecoversOfWith, AllRecoverWith, ReadsWith, I
 use Rattle.epoch_store.specs.Reads.{AnswersQuietly}
 use Rattle.epoch_store.specs.Recovery.{RecoversWith, RecoversSomeWith}
 use Rattle.epoch_store.specs.Stores.{View, Keeps, IsStoreWith, RecoversOneOf}
-use Rattle.archive_core.specs.Commands.{DoneBy, OnDone, OnRefusal, UnlessFault, IfUnread, IfUnreadEdit, IfUnreadFor, IfDelivery, IfRemoval, IsGone, KeepsTextFor, OnlyLooks, cache_left, is_delivery}
-use Rattle.archive_core.specs.Engines.{Owning, needs_opening, RecoversOrBare, AllRecoverOrBare, Holds, ViewsKeepUp, IfRefused, is_ready, Leaves, ReadsOn, reading-same, store-left, now-left, reading-kept}
+use Rattle.archive_core.specs.Commands.{AnswersDelivery, AnswersEdit, AnswersPurge, AnswersRemoval, DoneBy, OnDone, OnRefusal, UnlessFault, IfUnread, IfUnreadEdit, IfUnreadFor, IfDelivery, IfRemoval, IsForCommand, IsGone, KeepsTextFor, OnlyLooks, cache_left, is_delivery}
+use Rattle.archive_core.specs.Engines.{Owning, needs_opening, RecoversOrBare, AllRecoverOrBare, BetweenSince, Holds, Rests, LeftWith, ViewsKeepUp, IfRefused, is_ready, Leaves, ReadsOn, reading-same, store-left, holds-rest, now-left, unchanged-is, reading-kept}
 use Rattle.archive_core.specs.Numbers.{GivesBlobKept, TellsOther}
+use Rattle.archive_core.specs.Openings.{LeavesKindly}
 use Rattle.archive_core.specs.Walks.{ViewsAfter}
 use Rattle.archive_core.proofs.KeepingUp.{done-views}
+use Rattle.archive_core.proofs.RootBytes.{between-over}
+use Rattle.archive_core.proofs.Openings.{kindly_rests}
 use Rattle.archive_core.proofs.Standing.{store_keeps}
 
 -- What holds holds of a removal.
@@ -81,7 +87,7 @@ reads_bare s cache (Some k) fit all = bare_either s cache (as_read k) (all (as_r
 
 -- The archive as which the disk reads is among those that its images stand for, with their cache or
 -- with none.
-read_in : RecoversSomeOne → (k : Option Content) (b : Archive) (own cache : List ℕ) (may : List (Option Archive)) → ReadsFit k → ReadsWith own b k → ((image : Files) → Image k image → RecoversOrBare cache may image)
+pub read_in : RecoversSomeOne → (k : Option Content) (b : Archive) (own cache : List ℕ) (may : List (Option Archive)) → ReadsFit k → ReadsWith own b k → ((image : Files) → Image k image → RecoversOrBare cache may image)
     → (c : List ℕ) × ReadsWith c b k × ((image : Files) → RecoversWith c image b → RecoversOrBare cache may image)
 read_in one None b own cache may fit reads each = absurd reads
 read_in one (Some k) b own cache may fit reads each = by (each (as_read k) (λ name. fit k refl name)) where
@@ -129,22 +135,22 @@ stands_for v cache a None image store left = absurd store
 stands_for v cache a (Some k) image store left = disk_recovers v cache a k image store left
 
 -- Files that stand for one of these archives do so with that cache, or with none.
-with_cache : (own cache : List ℕ) (may : List (Option Archive)) (b : Archive) (image : Files) → (own ≡ cache) ⊎ (own ≡ []) → Contains may (Some b) → RecoversWith own image b → RecoversOrBare cache may image
+pub with_cache : (own cache : List ℕ) (may : List (Option Archive)) (b : Archive) (image : Files) → (own ≡ cache) ⊎ (own ≡ []) → Contains may (Some b) → RecoversWith own image b → RecoversOrBare cache may image
 with_cache own cache may b image (inl same) has recovers = inl (Some b, has, subst (λ (c : List ℕ). RecoversWith c image b) same recovers)
 with_cache own cache may b image (inr none) has recovers = inr (Some b, has, subst (λ (c : List ℕ). RecoversWith c image b) none recovers)
 
-left_is : (own left cache : List ℕ) → (own ≡ cache) ⊎ (own ≡ []) → (left ≡ own) ⊎ (left ≡ []) → (left ≡ cache) ⊎ (left ≡ [])
+pub left_is : (own left cache : List ℕ) → (own ≡ cache) ⊎ (own ≡ []) → (left ≡ own) ⊎ (left ≡ []) → (left ≡ cache) ⊎ (left ≡ [])
 left_is own left cache (inl same) (inl kept) = inl (kept ∙ same)
 left_is own left cache (inr none) (inl kept) = inr (kept ∙ none)
 left_is own left cache was (inr gone) = inr gone
 
 -- The archive `b` is among the archives of two standings.
-either_of : (own left cache : List ℕ) (may : List (Option Archive)) (a b : Archive) (image : Files) → (own ≡ cache) ⊎ (own ≡ []) → (left ≡ own) ⊎ (left ≡ []) → Contains may (Some a) → Contains may (Some b) → RecoversOneOf own a left b image → RecoversOrBare cache may image
+pub either_of : (own left cache : List ℕ) (may : List (Option Archive)) (a b : Archive) (image : Files) → (own ≡ cache) ⊎ (own ≡ []) → (left ≡ own) ⊎ (left ≡ []) → Contains may (Some a) → Contains may (Some b) → RecoversOneOf own a left b image → RecoversOrBare cache may image
 either_of own left cache may a b image is kept has_a has_b (inl before) = with_cache own cache may a image is has_a before
 either_of own left cache may a b image is kept has_a has_b (inr after) = with_cache left cache may b image (left_is own left cache is kept) has_b after
 
 -- Files of a store's own disk stand for archives with its cache alone.
-cache_is : CachesOne → (v : View) (own : List ℕ) (a : Archive) (k : Option Content) → ReadsFit k → IsStoreWith v own a k → (cache : List ℕ) (may : List (Option Archive)) → ((image : Files) → Image k image → RecoversOrBare cache may image) → (own ≡ cache) ⊎ (own ≡ [])
+pub cache_is : CachesOne → (v : View) (own : List ℕ) (a : Archive) (k : Option Content) → ReadsFit k → IsStoreWith v own a k → (cache : List ℕ) (may : List (Option Archive)) → ((image : Files) → Image k image → RecoversOrBare cache may image) → (own ≡ cache) ⊎ (own ≡ [])
 cache_is caches v own a None fit store cache may each = absurd store
 cache_is caches v own a (Some k) fit store cache may each = by (each (as_read k) (λ name. fit k refl name)) where
   stand : RecoversWith own (as_read k) a
@@ -208,10 +214,14 @@ module _ {D : Type 0} (content : D → Option Content) (moment : D → ℕ) (lef
     (reads_fit : (disk : D) → ReadsFit (content disk)) where
   -- It stands so, and it moves so.
   abbrev pub Stands : Owning D → Standing → Type 0
-  Stands = Fits (Holds content) is_ready (Leaves moment left_since)
+  Stands = Fits (Holds content) (Rests content) is_ready (Leaves content moment left_since)
 
   abbrev pub Going : Owning D → Standing → Owning D → Standing → Type 0
-  Going = Moves (Holds content) is_ready (Leaves moment left_since)
+  Going = Moves (Holds content) (Rests content) is_ready (Leaves content moment left_since)
+
+  -- The files of one that holds an archive are the archive's.
+  at-rest : (e : Owning D) (a : Archive) → Holds content e a → Rests content e a
+  at-rest = holds-rest content moment left_since counts_now only_now
 
   -- What a crash leaves after a run it leaves now.
   left_after : (old new : D) (P : Files → Type 0) → LeavesOnly moment left_since old new P → (image : Files) → left_since new (moment new) image → P image
@@ -221,7 +231,7 @@ module _ {D : Type 0} (content : D → Option Content) (moment : D → ℕ) (lef
   fits_all : (e : Owning D) (s : Standing) → Stands e s → (cache : List ℕ) × AllRecoverOrBare cache (one_of s) (content e.disk)
   fits_all e s fits =
       let left = fits.left (one_of s) (has-own s) in
-      (left.1, all_or_bare s left.1 (content e.disk) (λ image now. left.2 image (counts_now e.disk (moment e.disk) image (omega arith) now)))
+      (left.1.0, all_or_bare s left.1.0 (content e.disk) (λ image now. left.1.1 image (counts_now e.disk (moment e.disk) image (omega arith) now)))
 
   -- The archive as which the disk of one reads.
   found_in : (e : Owning D) (s : Standing) → Stands e s → (b : Archive) × (c : List ℕ) × IsFound s b × ReadsWith c b (content e.disk)
@@ -229,64 +239,81 @@ module _ {D : Type 0} (content : D → Option Content) (moment : D → ℕ) (lef
 
   -- What reopening leaves at each moment.
   abbrev pub Reopening : Owning D → D → Type 0
-  Reopening e disk = SyncsAtMost content moment left_since e.disk disk
+  Reopening e disk = SyncsAtMost content moment left_since e.disk disk × RunsBetween content moment left_since e.disk disk
+
+  -- The bytes between gates and bodies that a crash of a state might have left, one of an earlier state might have left.
+  between-earlier : (start e : Owning D) → moment start.disk ≤ moment e.disk → BetweenSince content moment left_since start.disk e.disk → (image : Files) → BetweenStays (content e.disk) image → BetweenStays (content start.disk) image
+  between-earlier start e later since = between-over (content start.disk) (content e.disk) (reads_fit e.disk) (λ image now. since image (counts_now e.disk (moment start.disk) image later now))
+
+  -- They stay in a run that keeps them.
+  between-on : (start e : Owning D) (disk : D) → moment start.disk ≤ moment e.disk → BetweenSince content moment left_since start.disk e.disk → RunsBetween content moment left_since e.disk disk → BetweenSince content moment left_since start.disk disk
+  between-on start e disk later since run image left = elim (run.before (moment start.disk) image later left) [
+    | inl past
+        ↦ since image past
+    | inr stays ↦ between-earlier start e later since image stays
+  ]
 
   -- That is what it might have left before, or the archive as which the disk reads.
-  reopened : (e : Owning D) (disk : D) (b : Archive) (cache : List ℕ) → ReadsWith cache b (content e.disk) → Reopening e disk → LeavesOnly moment left_since e.disk disk (λ (image : Files). Image (content e.disk) image ⊎ RecoversWith cache image b)
+  reopened : (e : Owning D) (disk : D) (b : Archive) (cache : List ℕ) → ReadsWith cache b (content e.disk) → SyncsAtMost content moment left_since e.disk disk → LeavesOnly moment left_since e.disk disk (λ (image : Files). Image (content e.disk) image ⊎ RecoversWith cache image b)
   reopened e disk b cache reads (inl only) = weaker moment left_since e.disk disk (Image (content e.disk)) (λ (image : Files). Image (content e.disk) image ⊎ RecoversWith cache image b) only (λ image now. inl now)
   reopened e disk b cache reads (inr first) =
       joined moment left_since e.disk first.synced disk (Image (content e.disk)) (λ (image : Files). RecoversWith cache image b) (λ (image : Files). Image (content e.disk) image ⊎ RecoversWith cache image b) first.before (first.after b cache reads)
       (λ image now. inl now) (λ image stands. inr stands)
 
   -- It leaves nothing that could not have been left before.
-  pub reopening-passes : RecoversSomeOne → (e new : Owning D) → Reopening e new.disk → (s : Standing) → Stands e s → Passes (Leaves moment left_since) e new []
-  reopening-passes one e new run s fits = λ start may has left.
-      let found = found_in e s fits in
-      let before = λ (image : Files) (now : Image (content e.disk) image). left.2 image (counts_now e.disk (moment start.disk) image left.0 now) in
-      let there = read_in one (content e.disk) found.0 found.1 left.1 may (reads_fit e.disk) found.3 before in
-      let ran = reopened e new.disk found.0 there.0 there.1 run in (
-        omega (arith, left.0, ran.later),
+  pub reopening-from : RecoversSomeOne → (e new : Owning D) → Reopening e new.disk → (b : Archive) (own : List ℕ) → ReadsWith own b (content e.disk) → (start : Owning D) (may : List (Option Archive)) → Leaves content moment left_since start e may → Leaves content moment left_since start new may
+  reopening-from one e new run b own reads start may left =
+      let first = reopened e new.disk b own reads run.0 in (
+        omega (arith, left.0, first.later),
         left.1,
-        λ image since. elim (ran.before (moment start.disk) image left.0 since) [
-          | inl past
-              ↦ left.2 image past
-          | inr either ↦
-              elim either [
-                | inl now
-                    ↦ before image now
-                | inr stands ↦ there.2 image stands
-              ]
-        ],
+        λ c all.
+            let before : (image : Files) → Image (content e.disk) image → RecoversOrBare c may image = λ image now. left.2 c all image (counts_now e.disk (moment start.disk) image left.0 now) in
+            let there = read_in one (content e.disk) b own c may (reads_fit e.disk) reads before in
+            let ran = reopened e new.disk b there.0 there.1 run.0 in
+            λ image since. elim (ran.before (moment start.disk) image left.0 since) [
+              | inl past
+                  ↦ left.2 c all image past
+              | inr either ↦
+                  elim either [
+                    | inl now
+                        ↦ before image now
+                    | inr stands ↦ there.2 image stands
+                  ]
+            ],
+        λ ready. between-on start e new.disk left.0 (left.3 ready) run.1,
       )
 
+  pub reopening-passes : RecoversSomeOne → (e new : Owning D) → Reopening e new.disk → (s : Standing) → Stands e s → Passes (Leaves content moment left_since) e new []
+  reopening-passes one e new run s fits = λ start may has left. let found = found_in e s fits in reopening-from one e new run found.0 found.1 found.3 start may left
+
   -- A reopening found the archive or the one in doubt.
-  pub opened-at : RecoversSomeOne → (e new : Owning D) → Reopening e new.disk → ((a : Archive) (cache : List ℕ) → ReadsWith cache a (content e.disk) → IsStoreWith new.view cache a (content new.disk) × (new.views ≡ views_of (live a.entries))) → (s : Standing) → Stands e s → (t : Standing) × Going e s new t × Settles s t
-  opened-at one e new run opened s fits =
+  pub opened-at : RecoversSomeOne → (e new : Owning D) → Reopening e new.disk → ((a : Archive) (cache : List ℕ) → ReadsWith cache a (content e.disk) → IsStoreWith new.view cache a (content new.disk) × (new.views ≡ views_of (live a.entries))) → WhereTold IsSettled (content new.disk) → (s : Standing) → Stands e s → (t : Standing) × Going e s new t × Settles s t
+  opened-at one e new run opened still s fits =
       let found = found_in e s fits in
       let both = opened found.0 found.1 found.3 in
-      let store : Holds content new found.0 = (found.1, both.0, both.1) in (
+      let store : Holds content new found.0 = (found.1, both.0, both.1, still) in (
         standing found.0 None,
         record {
-          fits = record { settled = λ ready. (store, refl); left = λ may has. store-left content moment left_since counts_now only_now new found.0 may (store.0, store.1) has.archive };
+          fits = record { settled = λ ready. (store, refl); exact = λ none. at-rest new found.0 store; left = λ may has. store-left content moment left_since counts_now only_now new found.0 may (store.0, store.1) has.archive };
           passes = λ start may has left. reopening-passes one e new run s fits start may tt left;
         },
         record { found = found.2; sure = refl },
       )
 
-  -- A reopening was refused, and all stands as before.
-  pub unopened-at : RecoversSomeOne → (e new : Owning D) (why : OpenRefusal) → Reopening e new.disk → ((a : Archive) (cache : List ℕ) → ReadsWith cache a (content e.disk) → IsWant why) → is_ready new ≡ false → (s : Standing) → Stands e s → (t : Standing) × Going e s new t × StaysShut s why t
-  unopened-at one e new why run well unready s fits =
-      let found = found_in e s fits in (
-        s,
-        moves-stale (Holds content) is_ready (Leaves moment left_since) (now-left content moment left_since counts_now only_now) e s new s fits unready (λ may has. has) (λ start may has left. reopening-passes one e new run s fits start may tt left),
-        of_why why (well found.0 found.1 found.3),
-      )
+  -- A reopening was refused, and all stands as before, but that after a fault of the disk the archive is
+  -- in doubt.
+  pub unopened-at : RecoversSomeOne → (e new : Owning D) (why : OpenRefusal) → Reopening e new.disk → ((a : Archive) (cache : List ℕ) → ReadsWith cache a (content e.disk) → IsWant why) → LeavesKindly why (content e.disk) (content new.disk) → is_ready new ≡ false → (s : Standing) → Stands e s
+      → (t : Standing) × Going e s new t × StaysShut s why t
+  unopened-at one e new why run well kindly unready s fits = let found = found_in e s fits in of_why why (well found.0 found.1 found.3) kindly
     where
-      of_why : (w : OpenRefusal) → IsWant w → StaysShut s w s
-      of_why refusal.NoArchive want = absurd want
-      of_why (refusal.Damaged file at) want = absurd want
-      of_why refusal.DiskFault want = refl
-      of_why refusal.NoMemory want = refl
+      stays : (t : Standing) → (t.doubt ≡ None → Rests content new t.archive) → ((may : List (Option Archive)) → Has may t → Has may s) → Going e s new t
+      stays t rested within = moves-stale (Holds content) (Rests content) is_ready (Leaves content moment left_since) (now-left content moment left_since counts_now only_now) e s new t fits unready rested within (λ start may has left. reopening-passes one e new run s fits start may tt left)
+
+      of_why : (w : OpenRefusal) → IsWant w → LeavesKindly w (content e.disk) (content new.disk) → (t : Standing) × Going e s new t × StaysShut s w t
+      of_why refusal.NoArchive want left = absurd want
+      of_why (refusal.Damaged file at) want left = absurd want
+      of_why refusal.DiskFault want left = (unsure s, stays (unsure s) (λ none. absurd (unsure-doubts s none)) (λ may has. has-unsure-of may s has), refl)
+      of_why refusal.NoMemory want left = (s, stays s (λ none. kindly_rests s.archive (content e.disk) (content new.disk) (reads_fit e.disk) left (fits.exact none)) (λ may has. has), refl)
 
   -- Nothing was reopened, since it was ready.
   pub ready-at : (e : Owning D) (s : Standing) → is_ready e ≡ true → Stands e s → (t : Standing) × Going e s e t × Settles s t
@@ -294,49 +321,56 @@ module _ {D : Type 0} (content : D → Option Content) (moment : D → ℕ) (lef
       let both = fits.settled ready in (
         standing s.archive None,
         record {
-          fits = record { settled = λ at_hand. (both.0, refl); left = λ may has. store-left content moment left_since counts_now only_now e s.archive may (both.0.0, both.0.1) has.archive };
+          fits = record { settled = λ at_hand. (both.0, refl); exact = λ none. at-rest e s.archive both.0; left = λ may has. store-left content moment left_since counts_now only_now e s.archive may (both.0.0, both.0.1) has.archive };
           passes = λ start may has left. left;
         },
         record { found = inl refl; sure = refl },
       )
 
   -- A command on the archive that is held.
-  module _ (caches : CachesOne) (e new : Owning D) (a : Archive) (cache left_cache : List ℕ) (kept : (left_cache ≡ cache) ⊎ (left_cache ≡ [])) (store : IsStoreWith e.view cache a (content e.disk)) (wanted : Archive → Done) (run : LeavesOnly moment left_since e.disk new.disk (RecoversOneOf cache a left_cache (wanted a).archive)) where
+  module _ (caches : CachesOne) (e new : Owning D) (a : Archive) (cache left_cache : List ℕ) (kept : (left_cache ≡ cache) ⊎ (left_cache ≡ [])) (store : IsStoreWith e.view cache a (content e.disk)) (settled : WhereTold IsSettled (content e.disk)) (wanted : Archive → Done) (run : LeavesOnly moment left_since e.disk new.disk (RecoversOneOf cache a left_cache (wanted a).archive))
+      (beside : RunsBetween content moment left_since e.disk new.disk) where
     -- The cache of what a crash before may have left is the same, or there is none.
-    one-cache : (start : Owning D) (may : List (Option Archive)) (left : Leaves moment left_since start e may) → (cache ≡ left.1) ⊎ (cache ≡ [])
-    one-cache start may left = cache_is caches e.view cache a (content e.disk) (reads_fit e.disk) store left.1 may (λ image now. left.2 image (counts_now e.disk (moment start.disk) image left.0 now))
+    one-cache : (start : Owning D) (may : List (Option Archive)) (c : List ℕ) → Leaves content moment left_since start e may → LeftWith left_since start.disk (moment start.disk) c may → (cache ≡ c) ⊎ (cache ≡ [])
+    one-cache start may c left all = cache_is caches e.view cache a (content e.disk) (reads_fit e.disk) store c may (λ image now. left.2 c all image (counts_now e.disk (moment start.disk) image left.0 now))
 
     -- What a crash in it leaves.
-    taken-passes : (start : Owning D) (may : List (Option Archive)) → Contains may (Some a) → Contains may (Some (wanted a).archive) → Leaves moment left_since start e may → Leaves moment left_since start new may
+    taken-passes : (start : Owning D) (may : List (Option Archive)) → Contains may (Some a) → Contains may (Some (wanted a).archive) → Leaves content moment left_since start e may → Leaves content moment left_since start new may
     taken-passes start may has_a has_b left = (
       omega (arith, left.0, run.later),
       left.1,
-      λ image since. elim (run.before (moment start.disk) image left.0 since) [
+      λ c all image since. elim (run.before (moment start.disk) image left.0 since) [
         | inl past
-            ↦ left.2 image past
-        | inr either ↦ either_of cache left_cache left.1 may a (wanted a).archive image (one-cache start may left) kept has_a has_b either
+            ↦ left.2 c all image past
+        | inr either ↦ either_of cache left_cache c may a (wanted a).archive image (one-cache start may c left all) kept has_a has_b either
       ],
+      λ ready. between-on start e new.disk left.0 (left.3 ready) beside,
     )
 
+    -- After nothing but reads all that they give is still on the disk.
+    still-settled : OnlyLooks content moment left_since e.disk new.disk → WhereTold IsSettled (content new.disk)
+    still-settled looks = subst (λ (k : Option Content). WhereTold IsSettled k) (sym (unchanged-is (content e.disk) (content new.disk) looks.same)) settled
+
     -- It was carried out, or refused.
-    taken-done : (now : List ℕ) → IsStoreWith new.view now (wanted a).archive (content new.disk) → (is_ready new ≡ true → new.views ≡ views_of (live (wanted a).archive.entries)) → Going e (standing a None) new (standing (wanted a).archive None)
-    taken-done now own rows = record {
-      fits = record { settled = λ ready. ((now, own, rows ready), refl); left = λ may has. store-left content moment left_since counts_now only_now new (wanted a).archive may (now, own) has.archive };
+    taken-done : (now : List ℕ) → IsStoreWith new.view now (wanted a).archive (content new.disk) → (is_ready new ≡ true → new.views ≡ views_of (live (wanted a).archive.entries)) → WhereTold IsSettled (content new.disk) → Going e (standing a None) new (standing (wanted a).archive None)
+    taken-done now own rows still = record {
+      fits = record { settled = λ ready. ((now, own, rows ready, still), refl); exact = λ none. (new.view, now, own, still); left = λ may has. store-left content moment left_since counts_now only_now new (wanted a).archive may (now, own) has.archive };
       passes = λ start may has left. taken-passes start may has.0.archive has.1.0.archive left;
     }
 
     -- Memory ran out before anything was done.
     taken-none : OnlyLooks content moment left_since e.disk new.disk → IsStoreWith new.view cache a (content new.disk) → new.views ≡ views_of (live a.entries) → Going e (standing a None) new (standing a None)
     taken-none looks own rows = record {
-      fits = record { settled = λ ready. ((cache, own, rows), refl); left = λ may has. store-left content moment left_since counts_now only_now new a may (cache, own) has.archive };
+      fits = record { settled = λ ready. ((cache, own, rows, still-settled looks), refl); exact = λ none. (new.view, cache, own, still-settled looks); left = λ may has. store-left content moment left_since counts_now only_now new a may (cache, own) has.archive };
       passes = λ start may has left. (
         omega (arith, left.0, looks.any_moment.later),
         left.1,
-        λ image since. elim (looks.any_moment.before (moment start.disk) image left.0 since) [
+        λ c all image since. elim (looks.any_moment.before (moment start.disk) image left.0 since) [
           | inl past
-              ↦ left.2 image past
-          | inr now ↦ left.2 image (counts_now e.disk (moment start.disk) image left.0 now)
+              ↦ left.2 c all image past
+          | inr now ↦ left.2 c all image (counts_now e.disk (moment start.disk) image left.0 now)
         ],
+        λ ready. between-on start e new.disk left.0 (left.3 ready) beside,
       );
     }
 
@@ -345,59 +379,65 @@ module _ {D : Type 0} (content : D → Option Content) (moment : D → ℕ) (lef
     taken-failed unready = record {
       fits = record {
         settled = λ ready. absurd (false≢true (sym unready ∙ ready));
-        left = λ may has. (omega arith, cache, λ image left. either_of cache left_cache cache may a (wanted a).archive image (inl refl) kept has.archive has.doubt (left_after e.disk new.disk (RecoversOneOf cache a left_cache (wanted a).archive) run image left));
+        exact = λ none. absurd (cc none);
+        left = λ may has. (
+          omega arith,
+          (cache, λ image left. either_of cache left_cache cache may a (wanted a).archive image (inl refl) kept has.archive has.doubt (left_after e.disk new.disk (RecoversOneOf cache a left_cache (wanted a).archive) run image left)),
+          λ c all. all,
+          λ ready image left. between_image (content new.disk) image (only_now new.disk image left),
+        );
       };
       passes = λ start may has left. taken-passes start may has.1.0.archive has.1.0.doubt left;
     }
 
     pub taken-at : (reply : Answer) → (needs_opening reply ≡ true → new.stale ≡ true) → DoneBy new.view cache left_cache a (wanted a) reply (content new.disk) → ViewsKeepUp reply (is_ready new) new.views a (wanted a).archive
-        → OnRefusal reply (UnlessFault reply (OnlyLooks content moment left_since e.disk new.disk)) → (t : Standing) × Going e (standing a None) new t × Comes true (standing a None) wanted reply t
-    taken-at answer.NoMemory stale done rows untouched = (standing a None, taken-none untouched done rows, inr (record { found = inl refl; sure = refl }))
-    taken-at answer.DiskFault stale done rows untouched = (standing a (Some (wanted a).archive), taken-failed (ap not (stale refl)), inr (record { found = a; is_found = inl refl; stands = refl }))
-    taken-at (answer.Ok number id) stale done rows untouched =
-        (standing (wanted a).archive None, taken-done left_cache done.store rows, record { found = a; is_found = inl refl; answer_is = done.answer_is; stands = refl })
-    taken-at (answer.Duplicate number) stale done rows untouched =
-        (standing (wanted a).archive None, taken-done cache done.store (λ ready. rows), record { found = a; is_found = inl refl; answer_is = done.answer_is; stands = refl })
-    taken-at answer.NoFields stale done rows untouched =
-        (standing (wanted a).archive None, taken-done cache done.store (λ ready. rows), record { found = a; is_found = inl refl; answer_is = done.answer_is; stands = refl })
-    taken-at (answer.TooLarge len) stale done rows untouched =
-        (standing (wanted a).archive None, taken-done cache done.store (λ ready. rows), record { found = a; is_found = inl refl; answer_is = done.answer_is; stands = refl })
-    taken-at (answer.Full max) stale done rows untouched =
-        (standing (wanted a).archive None, taken-done cache done.store (λ ready. rows), record { found = a; is_found = inl refl; answer_is = done.answer_is; stands = refl })
-    taken-at (answer.Collision number) stale done rows untouched =
-        (standing (wanted a).archive None, taken-done cache done.store (λ ready. rows), record { found = a; is_found = inl refl; answer_is = done.answer_is; stands = refl })
-    taken-at answer.IsMirror stale done rows untouched =
-        (standing (wanted a).archive None, taken-done cache done.store (λ ready. rows), record { found = a; is_found = inl refl; answer_is = done.answer_is; stands = refl })
-    taken-at (answer.NotLive number) stale done rows untouched =
-        (standing (wanted a).archive None, taken-done cache done.store (λ ready. rows), record { found = a; is_found = inl refl; answer_is = done.answer_is; stands = refl })
-    taken-at (answer.NoText number) stale done rows untouched =
-        (standing (wanted a).archive None, taken-done cache done.store (λ ready. rows), record { found = a; is_found = inl refl; answer_is = done.answer_is; stands = refl })
-    taken-at (answer.Damaged file at) stale never rows untouched = absurd never
+        → OnRefusal reply (UnlessFault reply (OnlyLooks content moment left_since e.disk new.disk)) → OnDone reply (WhereTold IsSettled (content new.disk)) → (t : Standing) × Going e (standing a None) new t × Comes true (standing a None) wanted reply t
+    taken-at answer.NoMemory stale done rows untouched still = (standing a None, taken-none untouched done rows, inr (record { found = inl refl; sure = refl }))
+    taken-at answer.DiskFault stale done rows untouched still = (standing a (Some (wanted a).archive), taken-failed (ap not (stale refl)), inr (record { found = a; is_found = inl refl; stands = refl }))
+    taken-at (answer.Ok number id) stale done rows untouched still =
+        (standing (wanted a).archive None, taken-done left_cache done.store rows still, record { found = a; is_found = inl refl; answer_is = done.answer_is; stands = refl })
+    taken-at (answer.Duplicate number) stale done rows untouched still =
+        (standing (wanted a).archive None, taken-done cache done.store (λ ready. rows) (still-settled untouched), record { found = a; is_found = inl refl; answer_is = done.answer_is; stands = refl })
+    taken-at answer.NoFields stale done rows untouched still =
+        (standing (wanted a).archive None, taken-done cache done.store (λ ready. rows) (still-settled untouched), record { found = a; is_found = inl refl; answer_is = done.answer_is; stands = refl })
+    taken-at (answer.TooLarge len) stale done rows untouched still =
+        (standing (wanted a).archive None, taken-done cache done.store (λ ready. rows) (still-settled untouched), record { found = a; is_found = inl refl; answer_is = done.answer_is; stands = refl })
+    taken-at (answer.Full max) stale done rows untouched still =
+        (standing (wanted a).archive None, taken-done cache done.store (λ ready. rows) (still-settled untouched), record { found = a; is_found = inl refl; answer_is = done.answer_is; stands = refl })
+    taken-at (answer.Collision number) stale done rows untouched still =
+        (standing (wanted a).archive None, taken-done cache done.store (λ ready. rows) (still-settled untouched), record { found = a; is_found = inl refl; answer_is = done.answer_is; stands = refl })
+    taken-at answer.IsMirror stale done rows untouched still =
+        (standing (wanted a).archive None, taken-done cache done.store (λ ready. rows) (still-settled untouched), record { found = a; is_found = inl refl; answer_is = done.answer_is; stands = refl })
+    taken-at (answer.NotLive number) stale done rows untouched still =
+        (standing (wanted a).archive None, taken-done cache done.store (λ ready. rows) (still-settled untouched), record { found = a; is_found = inl refl; answer_is = done.answer_is; stands = refl })
+    taken-at (answer.NoText number) stale done rows untouched still =
+        (standing (wanted a).archive None, taken-done cache done.store (λ ready. rows) (still-settled untouched), record { found = a; is_found = inl refl; answer_is = done.answer_is; stands = refl })
+    taken-at (answer.Damaged file at) stale never rows untouched still = absurd never
 
   -- A removal or a purge that was done leaves the archive after it held.
   removed_by : (e new : Owning D) (a : Archive) (command : Command) (arrived : ℕ) (text : List ℕ) (lost : Option ℕ) (left_cache : List ℕ) (reply : Answer) → (held : Holds content e a) → DoneBy new.view held.0 left_cache a (applied a command arrived) reply (content new.disk)
-      → IfDelivery (is_delivery command) (KeepsTextFor command a (applied a command arrived) arrived text) → OnDone reply (IsGone a command lost) → ViewsAfter command lost reply text arrived e.views new.views → OnDone reply (Holds content new (applied a command arrived).archive)
-  removed_by e new a command arrived text lost left_cache (answer.Ok number id) held done kept taken rows =
-      (left_cache, done.store, done-views a command arrived number id text lost e.views new.views (store_keeps e.view held.0 a (content e.disk) held.1).valid done.answer_is kept taken held.2 rows)
-  removed_by e new a command arrived text lost left_cache answer.NoMemory held done kept taken rows = tt
-  removed_by e new a command arrived text lost left_cache (answer.Duplicate number) held done kept taken rows = tt
-  removed_by e new a command arrived text lost left_cache answer.NoFields held done kept taken rows = tt
-  removed_by e new a command arrived text lost left_cache (answer.TooLarge len) held done kept taken rows = tt
-  removed_by e new a command arrived text lost left_cache (answer.Full max) held done kept taken rows = tt
-  removed_by e new a command arrived text lost left_cache (answer.Collision number) held done kept taken rows = tt
-  removed_by e new a command arrived text lost left_cache (answer.NotLive number) held done kept taken rows = tt
-  removed_by e new a command arrived text lost left_cache (answer.NoText number) held done kept taken rows = tt
-  removed_by e new a command arrived text lost left_cache answer.IsMirror held done kept taken rows = tt
-  removed_by e new a command arrived text lost left_cache answer.DiskFault held done kept taken rows = tt
-  removed_by e new a command arrived text lost left_cache (answer.Damaged file at) held done kept taken rows = tt
+      → IfDelivery (is_delivery command) (KeepsTextFor command a (applied a command arrived) arrived text) → OnDone reply (IsGone a command lost) → ViewsAfter command lost reply text arrived e.views new.views → OnDone reply (WhereTold IsSettled (content new.disk)) → OnDone reply (Holds content new (applied a command arrived).archive)
+  removed_by e new a command arrived text lost left_cache (answer.Ok number id) held done kept taken rows still =
+      (left_cache, done.store, done-views a command arrived number id text lost e.views new.views (store_keeps e.view held.0 a (content e.disk) held.1).valid done.answer_is kept taken held.2 rows, still)
+  removed_by e new a command arrived text lost left_cache answer.NoMemory held done kept taken rows still = tt
+  removed_by e new a command arrived text lost left_cache (answer.Duplicate number) held done kept taken rows still = tt
+  removed_by e new a command arrived text lost left_cache answer.NoFields held done kept taken rows still = tt
+  removed_by e new a command arrived text lost left_cache (answer.TooLarge len) held done kept taken rows still = tt
+  removed_by e new a command arrived text lost left_cache (answer.Full max) held done kept taken rows still = tt
+  removed_by e new a command arrived text lost left_cache (answer.Collision number) held done kept taken rows still = tt
+  removed_by e new a command arrived text lost left_cache (answer.NotLive number) held done kept taken rows still = tt
+  removed_by e new a command arrived text lost left_cache (answer.NoText number) held done kept taken rows still = tt
+  removed_by e new a command arrived text lost left_cache answer.IsMirror held done kept taken rows still = tt
+  removed_by e new a command arrived text lost left_cache answer.DiskFault held done kept taken rows still = tt
+  removed_by e new a command arrived text lost left_cache (answer.Damaged file at) held done kept taken rows still = tt
 
   pub removed-at : (e new : Owning D) (command : Command) (arrived : ℕ) (text : List ℕ) (lost : Option ℕ) (reply : Answer) → ((a : Archive) (cache : List ℕ) → IsStoreWith e.view cache a (content e.disk) → DoneBy new.view cache (cache_left command cache) a (applied a command arrived) reply (content new.disk))
       → ((a : Archive) (cache : List ℕ) → IsStoreWith e.view cache a (content e.disk) → OnDone reply (IsGone a command lost))
-      → IfRemoval (is_delivery command) (ViewsAfter command lost reply text arrived e.views new.views) → IfRemoval (is_delivery command) ((a : Archive) → Holds content e a → OnDone reply (Holds content new (applied a command arrived).archive))
-  removed-at e new (Deliver bytes) arrived text lost reply done taken rows = tt
-  removed-at e new (Remove n) arrived text lost reply done taken rows = λ a held. removed_by e new a (Remove n) arrived text lost held.0 reply held (done a held.0 held.1) tt (taken a held.0 held.1) rows
-  removed-at e new (Purge n) arrived text lost reply done taken rows = λ a held. removed_by e new a (Purge n) arrived text lost [] reply held (done a held.0 held.1) tt (taken a held.0 held.1) rows
-  removed-at e new (Edit n bytes) arrived text lost reply done taken rows = tt
+      → IfRemoval (is_delivery command) (ViewsAfter command lost reply text arrived e.views new.views) → OnDone reply (WhereTold IsSettled (content new.disk)) → IfRemoval (is_delivery command) ((a : Archive) → Holds content e a → OnDone reply (Holds content new (applied a command arrived).archive))
+  removed-at e new (Deliver bytes) arrived text lost reply done taken rows still = tt
+  removed-at e new (Remove n) arrived text lost reply done taken rows still = λ a held. removed_by e new a (Remove n) arrived text lost held.0 reply held (done a held.0 held.1) tt (taken a held.0 held.1) rows still
+  removed-at e new (Purge n) arrived text lost reply done taken rows still = λ a held. removed_by e new a (Purge n) arrived text lost [] reply held (done a held.0 held.1) tt (taken a held.0 held.1) rows still
+  removed-at e new (Edit n bytes) arrived text lost reply done taken rows still = tt
 
   -- A refusal leaves all but the disk as it was, and the disk was only read.
   module _ (e new : Owning D) (ok : Bool) (command : Command) (gone : Option ℕ) (text : List ℕ) (arrived : ℕ) where
@@ -446,7 +486,7 @@ module _ {D : Type 0} (content : D → Option Content) (moment : D → ℕ) (lef
   starved-at e a wanted store = (
     standing a None,
     record {
-      fits = record { settled = λ ready. (store, refl); left = λ may has. store-left content moment left_since counts_now only_now e a may (store.0, store.1) has.archive };
+      fits = record { settled = λ ready. (store, refl); exact = λ none. at-rest e a store; left = λ may has. store-left content moment left_since counts_now only_now e a may (store.0, store.1) has.archive };
       passes = λ start may has left. left;
     },
     inr (record { found = inl refl; sure = refl }),
@@ -460,7 +500,7 @@ module _ {D : Type 0} (content : D → Option Content) (moment : D → ℕ) (lef
       let same : t ≡ standing t.archive None = ap (λ (d : Option Archive). standing t.archive d) both.1 in
       let done = taken t.archive both.0 in (
         done.0,
-        moves-on (Holds content) is_ready (Leaves moment left_since) old mid new s t done.0 opened settles (subst (λ (x : Standing). Going mid x new done.0) (sym same) done.1),
+        moves-on (Holds content) (Rests content) is_ready (Leaves content moment left_since) old mid new s t done.0 opened settles (subst (λ (x : Standing). Going mid x new done.0) (sym same) done.1),
         comes-by was_ready s t wanted reply done.0 (ending reply) settles done.2,
       )
 
@@ -508,8 +548,8 @@ module _ {D : Type 0} (content : D → Option Content) (moment : D → ℕ) (lef
 
     pub removed-from : (new : Owning D) (command : Command) (arrived : ℕ) (text : List ℕ) (gone : Option ℕ) (reply : Answer) → ((a : Archive) (cache : List ℕ) → IsStoreWith inside.view cache a (content inside.disk) → DoneBy new.view cache (cache_left command cache) a (applied a command arrived) reply (content new.disk))
         → ((a : Archive) (cache : List ℕ) → IsStoreWith inside.view cache a (content inside.disk) → OnDone reply (IsGone a command gone))
-        → IfRemoval (is_delivery command) (ViewsAfter command gone reply text arrived inside.views new.views) → IfRemoval (is_delivery command) ((a : Archive) → Holds content old a → OnDone reply (Holds content new (applied a command arrived).archive))
-    removed-from new command arrived text gone reply done taken rows = subst (λ (o : Owning D). IfRemoval (is_delivery command) ((a : Archive) → Holds content o a → OnDone reply (Holds content new (applied a command arrived).archive))) is (removed-at inside new command arrived text gone reply done taken rows)
+        → IfRemoval (is_delivery command) (ViewsAfter command gone reply text arrived inside.views new.views) → OnDone reply (WhereTold IsSettled (content new.disk)) → IfRemoval (is_delivery command) ((a : Archive) → Holds content old a → OnDone reply (Holds content new (applied a command arrived).archive))
+    removed-from new command arrived text gone reply done taken rows still = subst (λ (o : Owning D). IfRemoval (is_delivery command) ((a : Archive) → Holds content o a → OnDone reply (Holds content new (applied a command arrived).archive))) is (removed-at inside new command arrived text gone reply done taken rows still)
 
     pub done-from : (view : View) (disk : D) (wanted : Archive → Done) (left : List ℕ → List ℕ) (reply : Answer) → ((a : Archive) (cache : List ℕ) → IsStoreWith inside.view cache a (content inside.disk) → DoneBy view cache (left cache) a (wanted a) reply (content disk))
         → (a : Archive) (cache : List ℕ) → IsStoreWith old.view cache a (content old.disk) → DoneBy view cache (left cache) a (wanted a) reply (content disk)
@@ -530,20 +570,18 @@ module _ {D : Type 0} (content : D → Option Content) (moment : D → ℕ) (lef
     pub opened-cause-from : {T : Type 0} (faults : D → ℕ) (disk : D) (x : T) (r : Result T OpenRefusal) → r ≡ Ok x → RoseIf (r ≡ Err refusal.DiskFault) (faults inside.disk) (faults disk) → faults disk ≡ faults old.disk
     opened-cause-from faults disk x r ok rose = subst (λ (o : Owning D). faults disk ≡ faults o.disk) is (rose.kept (λ fault. absurd (cc (sym ok ∙ fault))))
 
-    pub steady-from : (faults : D → ℕ) (disk : D) (reply : Answer) → RoseIf (reply ≡ answer.DiskFault) (faults inside.disk) (faults disk) → (reply ≡ answer.DiskFault → ⊥) → faults disk ≡ faults old.disk
-    steady-from faults disk reply rose free = subst (λ (o : Owning D). faults disk ≡ faults o.disk) is (rose.kept free)
-
     pub answer-cause-from : (faults : D → ℕ) (disk : D) (reply : Answer) → RoseIf (reply ≡ answer.DiskFault) (faults inside.disk) (faults disk) → AnswerCause (faults old.disk) (faults disk) reply
     answer-cause-from faults disk reply rose = subst (λ (o : Owning D). AnswerCause (faults o.disk) (faults disk) reply) is (answer-cause (faults inside.disk) (faults disk) reply rose)
 
-    pub opened-from : RecoversSomeOne → (new : Owning D) → Reopening inside new.disk → ((a : Archive) (cache : List ℕ) → ReadsWith cache a (content inside.disk) → IsStoreWith new.view cache a (content new.disk) × (new.views ≡ views_of (live a.entries))) → (s : Standing) → Stands old s → (t : Standing) × Going old s new t × Settles s t
-    opened-from one new run opened = subst (λ (o : Owning D). (s : Standing) → Stands o s → (t : Standing) × Going o s new t × Settles s t) is (opened-at one inside new run opened)
+    pub opened-from : RecoversSomeOne → (new : Owning D) → Reopening inside new.disk → ((a : Archive) (cache : List ℕ) → ReadsWith cache a (content inside.disk) → IsStoreWith new.view cache a (content new.disk) × (new.views ≡ views_of (live a.entries))) → WhereTold IsSettled (content new.disk) → (s : Standing) → Stands old s → (t : Standing) × Going old s new t × Settles s t
+    opened-from one new run opened still = subst (λ (o : Owning D). (s : Standing) → Stands o s → (t : Standing) × Going o s new t × Settles s t) is (opened-at one inside new run opened still)
 
-    pub unopened-from : RecoversSomeOne → (new : Owning D) (why : OpenRefusal) → Reopening inside new.disk → ((a : Archive) (cache : List ℕ) → ReadsWith cache a (content inside.disk) → IsWant why) → is_ready new ≡ false → (s : Standing) → Stands old s → (t : Standing) × Going old s new t × StaysShut s why t
-    unopened-from one new why run well unready = subst (λ (o : Owning D). (s : Standing) → Stands o s → (t : Standing) × Going o s new t × StaysShut s why t) is (unopened-at one inside new why run well unready)
+    pub unopened-from : RecoversSomeOne → (new : Owning D) (why : OpenRefusal) → Reopening inside new.disk → ((a : Archive) (cache : List ℕ) → ReadsWith cache a (content inside.disk) → IsWant why) → LeavesKindly why (content inside.disk) (content new.disk) → is_ready new ≡ false → (s : Standing) → Stands old s
+        → (t : Standing) × Going old s new t × StaysShut s why t
+    unopened-from one new why run well kindly unready = subst (λ (o : Owning D). (s : Standing) → Stands o s → (t : Standing) × Going o s new t × StaysShut s why t) is (unopened-at one inside new why run well kindly unready)
 
-    pub passes-from : RecoversSomeOne → (new : Owning D) → Reopening inside new.disk → (s : Standing) → Stands old s → Passes (Leaves moment left_since) old new []
-    passes-from one new run = subst (λ (o : Owning D). (s : Standing) → Stands o s → Passes (Leaves moment left_since) o new []) is (reopening-passes one inside new run)
+    pub passes-from : RecoversSomeOne → (new : Owning D) → Reopening inside new.disk → (s : Standing) → Stands old s → Passes (Leaves content moment left_since) old new []
+    passes-from one new run = subst (λ (o : Owning D). (s : Standing) → Stands o s → Passes (Leaves content moment left_since) o new []) is (reopening-passes one inside new run)
 
     -- Out of use, it fits what it did, since a crash leaves of its disk alone.
     abbrev pub shelved : Owning D
@@ -552,11 +590,11 @@ module _ {D : Type 0} (content : D → Option Content) (moment : D → ℕ) (lef
     pub shelved-fits : (s : Standing) → Stands old s → Stands shelved s
     shelved-fits s fits =
         let own : Stands inside s = subst (λ (o : Owning D). Stands o s) (sym is) fits in
-        record { settled = λ ready. absurd (false≢true ready); left = λ may has. own.left may has }
+        record { settled = λ ready. absurd (false≢true ready); exact = λ none. own.exact none; left = λ may has. let left = own.left may has in (left.0, left.1, left.2, λ ready image now. between_image (content inside.disk) image (only_now inside.disk image now)) }
 
     -- What happens to it then happens to what it was.
-    pub shelved-passes : (new : Owning D) (ss : List Standing) → Passes (Leaves moment left_since) shelved new ss → Passes (Leaves moment left_since) old new ss
-    shelved-passes new ss passes = λ start may has left. passes start may has (subst (λ (o : Owning D). Leaves moment left_since start o may) (sym is) left)
+    pub shelved-passes : (new : Owning D) (ss : List Standing) → Passes (Leaves content moment left_since) shelved new ss → Passes (Leaves content moment left_since) old new ss
+    shelved-passes new ss passes = λ start may has left. passes start may has (subst (λ (o : Owning D). Leaves content moment left_since start o may) (sym is) left)
 
     pub shelved-moves : (new : Owning D) (s t : Standing) → Going shelved s new t → Going old s new t
     shelved-moves new s t moves = record { fits = moves.fits; passes = shelved-passes new (s ∷ t ∷ []) moves.passes }
@@ -574,16 +612,17 @@ module _ {D : Type 0} (content : D → Option Content) (moment : D → ℕ) (lef
     unread-from new why found s fits = let got = found s (shelved-fits s fits) in (got.0, shelved-moves new s got.0 got.1, got.2, tt)
 
     -- What a crash leaves of it meanwhile.
-    pub reread-passes : (new : Owning D) → ((s : Standing) → Stands shelved s → Passes (Leaves moment left_since) shelved new []) → (s : Standing) → Stands old s → Passes (Leaves moment left_since) old new []
+    pub reread-passes : (new : Owning D) → ((s : Standing) → Stands shelved s → Passes (Leaves content moment left_since) shelved new []) → (s : Standing) → Stands old s → Passes (Leaves content moment left_since) old new []
     reread-passes new passes s fits = shelved-passes new [] (passes s (shelved-fits s fits))
 
     pub taken-from : CachesOne → (new : Owning D) (wanted : Archive → Done) (left : List ℕ → List ℕ) (reply : Answer) → ((cache : List ℕ) → (left cache ≡ cache) ⊎ (left cache ≡ [])) → (needs_opening reply ≡ true → new.stale ≡ true) → ((a : Archive) (cache : List ℕ) → IsStoreWith inside.view cache a (content inside.disk) → LeavesOnly moment left_since inside.disk new.disk (RecoversOneOf cache a (left cache) (wanted a).archive))
+        → RunsBetween content moment left_since inside.disk new.disk
         → ((a : Archive) (cache : List ℕ) → IsStoreWith inside.view cache a (content inside.disk) → DoneBy new.view cache (left cache) a (wanted a) reply (content new.disk))
         → ((a : Archive) (cache : List ℕ) → IsStoreWith inside.view cache a (content inside.disk) → inside.views ≡ views_of (live a.entries) → ViewsKeepUp reply (is_ready new) new.views a (wanted a).archive)
-        → OnRefusal reply (UnlessFault reply (OnlyLooks content moment left_since inside.disk new.disk)) → (a : Archive) → Holds content old a → (t : Standing) × Going old (standing a None) new t × Comes true (standing a None) wanted reply t
-    taken-from caches new wanted left reply kept stale run done rows untouched =
+        → OnRefusal reply (UnlessFault reply (OnlyLooks content moment left_since inside.disk new.disk)) → OnDone reply (WhereTold IsSettled (content new.disk)) → (a : Archive) → Holds content old a → (t : Standing) × Going old (standing a None) new t × Comes true (standing a None) wanted reply t
+    taken-from caches new wanted left reply kept stale run beside done rows untouched settled =
         subst (λ (o : Owning D). (a : Archive) → Holds content o a → (t : Standing) × Going o (standing a None) new t × Comes true (standing a None) wanted reply t) is
-        (λ a held. taken-at caches inside new a held.0 (left held.0) (kept held.0) held.1 wanted (run a held.0 held.1) reply stale (done a held.0 held.1) (rows a held.0 held.1 held.2) untouched)
+        (λ a held. taken-at caches inside new a held.0 (left held.0) (kept held.0) held.1 held.3 wanted (run a held.0 held.1) beside reply stale (done a held.0 held.1) (rows a held.0 held.1 held.2) untouched settled)
 
     pub stays-from : (faults : D → ℕ) (disk : D) → is_ready old ≡ true → Told Unchanged (content inside.disk) (content disk) → LeavesOnly moment left_since inside.disk disk (Image (content inside.disk)) → faults inside.disk ≤ faults disk
         → Stays (Holds content) is_ready (ReadsOn content moment left_since) (λ (o : Owning D). faults o.disk) old (record { disk = disk; view = inside.view; views = inside.views; stale = inside.stale })
@@ -615,3 +654,17 @@ refused-ready was now why reply is stale unready =
 
 pub refused-cause : (before now : ℕ) (why : OpenRefusal) (reply : Answer) → reply ≡ opening_answer why → OpeningWhy before now why → AnswerCause before now reply
 refused-cause before now why reply is cause = subst (λ (r : Answer). AnswerCause before now r) (sym is) (unopened-cause before now why cause)
+
+-- What holds of each answer where the archive could not be reopened.
+reopened-then : (P : Answer → Type 0) → P answer.DiskFault → P answer.NoMemory → ((file : FileName) (at : ℕ) → P (answer.Damaged file at)) → (why : OpenRefusal) → P (opening_answer why)
+reopened-then P fault short damage refusal.NoArchive = damage root_file 0
+reopened-then P fault short damage (refusal.Damaged file at) = damage file at
+reopened-then P fault short damage refusal.DiskFault = fault
+reopened-then P fault short damage refusal.NoMemory = short
+
+-- It is one that each command gives.
+pub refused-for : (m : Command) (why : OpenRefusal) (reply : Answer) → reply ≡ opening_answer why → IsForCommand m reply
+refused-for (Deliver bytes) why reply is = subst AnswersDelivery (sym is) (reopened-then AnswersDelivery tt tt (λ file at. tt) why)
+refused-for (Remove number) why reply is = subst (AnswersRemoval number) (sym is) (reopened-then (AnswersRemoval number) tt tt (λ file at. tt) why)
+refused-for (Purge number) why reply is = subst (AnswersPurge number) (sym is) (reopened-then (AnswersPurge number) tt tt (λ file at. tt) why)
+refused-for (Edit number bytes) why reply is = subst (AnswersEdit number) (sym is) (reopened-then (AnswersEdit number) tt tt (λ file at. tt) why)

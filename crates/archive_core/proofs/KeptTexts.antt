@@ -7,6 +7,7 @@ use Rattle.arch_model.specs.declared.answer.Answer.{Answer}
 use Rattle.arch_model.specs.declared.answer.Answer.TheVariants as answer
 use Rattle.arch_model.specs.declared.command.Command.{Command}
 use Rattle.arch_model.specs.declared.command.Command.TheVariants.{Deliver, Remove, Purge, Edit}
+use Rattle.arch_judge.specs.declared.index.Index.{Index}
 use Rattle.arch_judge.specs.declared.judging.Verdict.TheVariants.{Refuse}
 use Rattle.epoch_file.specs.declared.refusal.StoreRefusal.{StoreRefusal}
 use Rattle.epoch_file.specs.declared.refusal.StoreRefusal.TheVariants as refusal
@@ -14,47 +15,47 @@ use Rattle.epoch_store.specs.Stores.{View}
 use Rattle.archive_core.specs.Commands.{AnswersDelivery, AnswersEdit, IsForCommand, OnDone, TellsText, is_delivery, refusal_answer}
 use Rattle.archive_core.specs.Kept.{TakesWhatMay}
 
-pub refuse-tells : (v : View) (reply : Answer) (text : KeptText) → TakesWhatMay v (Refuse reply) → TellsText reply text
-refuse-tells v (answer.Ok number id) text never = absurd never
-refuse-tells v answer.NoMemory text is = tt
-refuse-tells v (answer.Duplicate number) text is = tt
-refuse-tells v answer.NoFields text is = tt
-refuse-tells v (answer.TooLarge len) text is = tt
-refuse-tells v (answer.Full max) text is = tt
-refuse-tells v (answer.Collision number) text is = tt
-refuse-tells v (answer.NotLive number) text is = tt
-refuse-tells v (answer.NoText number) text is = tt
-refuse-tells v answer.IsMirror text is = tt
-refuse-tells v answer.DiskFault text is = tt
-refuse-tells v (answer.Damaged file at) text is = tt
+pub refuse-tells : (v : View) (index : Index) (reply : Answer) (text : KeptText) → TakesWhatMay v index (Refuse reply) → TellsText reply text
+refuse-tells v index (answer.Ok number id) text never = absurd never
+refuse-tells v index answer.NoMemory text is = tt
+refuse-tells v index (answer.Duplicate number) text is = tt
+refuse-tells v index answer.NoFields text is = tt
+refuse-tells v index (answer.TooLarge len) text is = tt
+refuse-tells v index (answer.Full max) text is = tt
+refuse-tells v index (answer.Collision number) text is = tt
+refuse-tells v index (answer.NotLive number) text is = tt
+refuse-tells v index (answer.NoText number) text is = tt
+refuse-tells v index answer.IsMirror text is = tt
+refuse-tells v index answer.DiskFault text is = tt
+refuse-tells v index (answer.Damaged file at) text is = tt
 
-pub refuse-done : (v : View) (reply : Answer) (P : Type 0) → TakesWhatMay v (Refuse reply) → OnDone reply P
-refuse-done v (answer.Ok number id) P never = absurd never
-refuse-done v answer.NoMemory P is = tt
-refuse-done v (answer.Duplicate number) P is = tt
-refuse-done v answer.NoFields P is = tt
-refuse-done v (answer.TooLarge len) P is = tt
-refuse-done v (answer.Full max) P is = tt
-refuse-done v (answer.Collision number) P is = tt
-refuse-done v (answer.NotLive number) P is = tt
-refuse-done v (answer.NoText number) P is = tt
-refuse-done v answer.IsMirror P is = tt
-refuse-done v answer.DiskFault P is = tt
-refuse-done v (answer.Damaged file at) P is = tt
+pub refuse-done : (v : View) (index : Index) (reply : Answer) (P : Type 0) → TakesWhatMay v index (Refuse reply) → OnDone reply P
+refuse-done v index (answer.Ok number id) P never = absurd never
+refuse-done v index answer.NoMemory P is = tt
+refuse-done v index (answer.Duplicate number) P is = tt
+refuse-done v index answer.NoFields P is = tt
+refuse-done v index (answer.TooLarge len) P is = tt
+refuse-done v index (answer.Full max) P is = tt
+refuse-done v index (answer.Collision number) P is = tt
+refuse-done v index (answer.NotLive number) P is = tt
+refuse-done v index (answer.NoText number) P is = tt
+refuse-done v index answer.IsMirror P is = tt
+refuse-done v index answer.DiskFault P is = tt
+refuse-done v index (answer.Damaged file at) P is = tt
 
-pub refuse-answers : (v : View) (reply : Answer) → TakesWhatMay v (Refuse reply) → AnswersDelivery reply
-refuse-answers v (answer.Ok n id) never = absurd never
-refuse-answers v answer.NoMemory is = tt
-refuse-answers v answer.DiskFault is = tt
-refuse-answers v (answer.Duplicate n) is = tt
-refuse-answers v answer.NoFields is = tt
-refuse-answers v (answer.TooLarge len) is = tt
-refuse-answers v (answer.Full max) is = tt
-refuse-answers v (answer.Collision n) is = tt
-refuse-answers v (answer.NotLive n) never = absurd never
-refuse-answers v (answer.NoText n) never = absurd never
-refuse-answers v answer.IsMirror is = tt
-refuse-answers v (answer.Damaged file at) is = tt
+pub refuse-answers : (v : View) (index : Index) (reply : Answer) → TakesWhatMay v index (Refuse reply) → AnswersDelivery reply
+refuse-answers v index (answer.Ok n id) never = absurd never
+refuse-answers v index answer.NoMemory is = tt
+refuse-answers v index answer.DiskFault is = tt
+refuse-answers v index (answer.Duplicate n) is = tt
+refuse-answers v index answer.NoFields is = tt
+refuse-answers v index (answer.TooLarge len) is = tt
+refuse-answers v index (answer.Full max) is = tt
+refuse-answers v index (answer.Collision n) is = tt
+refuse-answers v index (answer.NotLive n) never = absurd never
+refuse-answers v index (answer.NoText n) never = absurd never
+refuse-answers v index answer.IsMirror is = tt
+refuse-answers v index (answer.Damaged file at) is = tt
 
 -- What holds of each answer for an error of the store.
 pub error-then : (why : StoreRefusal) (P : Answer → Type 0) → P answer.DiskFault → P answer.NoMemory → ((file : FileName) (at : ℕ) → P (answer.Damaged file at)) → P (refusal_answer why)

@@ -25,4 +25,5 @@ mod EditKept
 mod Taking
 mod Redone
 mod Walking
+mod RootBytes
 pub mod Engines

@@ -14,7 +14,7 @@ use Rattle.arch_model.specs.declared.text_refusal.TextRefusal.{TextRefusal}
 use Rattle.arch_model.specs.declared.text_refusal.TextRefusal.TheVariants as reading
 use Rattle.epoch_store.specs.declared.entries.StoredEntry.{StoredEntry}
 use Rattle.epoch_store.specs.Files.{as_read}
-use Rattle.epoch_store.specs.Opens.{RecoversOfWith, Opens, OpensWell, SyncsFirst, SyncsAtMost, OnSynced}
+use Rattle.epoch_store.specs.Opens.{RecoversOfWith, ReadsWith, Opens, OpensWell, SyncsFirst, SyncsAtMost, OnSynced}
 use Rattle.epoch_store.specs.Promises.{OpensArchive}
 use Rattle.epoch_store.specs.Reads.{HasTexts}
 use Rattle.epoch_store.specs.Recovery.{RecoversWith}
@@ -136,16 +136,17 @@ cause-of {T} {U} w before now cause = record {
   back fault = (let same : w ≡ opening.DiskFault = cc in ap (λ (x : OpenRefusal). Err x) same)
 
 -- What a refusal by a read leaves.
-pub kindly-read : (v : View) (before now after : Option Content) (w : OpenRefusal) → WhereTold (λ (k : Content). Opens (as_read k) (Ok v)) before → Told (IsSettledBy v.root v.slot) before now → WhereTold (HasTexts v) now → (IsSound v now → OpensWell {T = View} (Err w)) → Told Unchanged now after → StillReads before after → LeavesKindly w before after
-kindly-read v before now after opening.DiskFault opens told texts sound unchanged still = tt
-kindly-read v before now after opening.NoMemory opens told texts sound unchanged still = (still, inr (v, opens, subst (λ (k : Option Content). Told (IsSettledBy v.root v.slot) before k) (sym (unchanged-is now after unchanged)) told))
-kindly-read v None None None opening.NoArchive opens told texts sound unchanged still = tt
-kindly-read v None None (Some n) opening.NoArchive opens told texts sound unchanged still = absurd unchanged
-kindly-read v None (Some m) after opening.NoArchive opens told texts sound unchanged still = absurd told
-kindly-read v (Some k) None after opening.NoArchive opens told texts sound unchanged still = absurd told
-kindly-read v (Some k) (Some m) after opening.NoArchive opens told texts sound unchanged still = absurd (sound texts)
-kindly-read v None None None (opening.Damaged file at) opens told texts sound unchanged still = tt
-kindly-read v None None (Some n) (opening.Damaged file at) opens told texts sound unchanged still = absurd unchanged
-kindly-read v None (Some m) after (opening.Damaged file at) opens told texts sound unchanged still = absurd told
-kindly-read v (Some k) None after (opening.Damaged file at) opens told texts sound unchanged still = absurd told
-kindly-read v (Some k) (Some m) after (opening.Damaged file at) opens told texts sound unchanged still = absurd (sound texts)
+pub kindly-read : (v : View) (before now after : Option Content) (w : OpenRefusal) → WhereTold (λ (k : Content). Opens (as_read k) (Ok v)) before → Told (IsSettledBy v.root v.slot) before now → WhereTold (HasTexts v) now → (IsSound v now → OpensWell {T = View} (Err w)) → Told Unchanged now after → StillReads before after
+    → ((a : Archive) (cache : List ℕ) → ReadsWith cache a before → IsStoreWith v cache a after) → WhereTold IsSettled now → LeavesKindly w before after
+kindly-read v before now after opening.DiskFault opens told texts sound unchanged still own settled = tt
+kindly-read v before now after opening.NoMemory opens told texts sound unchanged still own settled = (still, inr (v, opens, subst (λ (k : Option Content). Told (IsSettledBy v.root v.slot) before k) (sym (unchanged-is now after unchanged)) told, own, subst (WhereTold IsSettled) (sym (unchanged-is now after unchanged)) settled))
+kindly-read v None None None opening.NoArchive opens told texts sound unchanged still own settled = tt
+kindly-read v None None (Some n) opening.NoArchive opens told texts sound unchanged still own settled = absurd unchanged
+kindly-read v None (Some m) after opening.NoArchive opens told texts sound unchanged still own settled = absurd told
+kindly-read v (Some k) None after opening.NoArchive opens told texts sound unchanged still own settled = absurd told
+kindly-read v (Some k) (Some m) after opening.NoArchive opens told texts sound unchanged still own settled = absurd (sound texts)
+kindly-read v None None None (opening.Damaged file at) opens told texts sound unchanged still own settled = tt
+kindly-read v None None (Some n) (opening.Damaged file at) opens told texts sound unchanged still own settled = absurd unchanged
+kindly-read v None (Some m) after (opening.Damaged file at) opens told texts sound unchanged still own settled = absurd told
+kindly-read v (Some k) None after (opening.Damaged file at) opens told texts sound unchanged still own settled = absurd told
+kindly-read v (Some k) (Some m) after (opening.Damaged file at) opens told texts sound unchanged still own settled = absurd (sound texts)

@@ -5,6 +5,7 @@ use Rattle.std.specs.List.Sorted.{IsNonDecreasingBy}
 use Rattle.std.specs.BTreeSet.{BTreeSet}
 use Rattle.std.proofs.lemmas.Bool.Decides.{nat_tests}
 use Rattle.std.proofs.lemmas.List.Sorted.{IsNonDecreasingBy-from_all_adjacent}
+use Rattle.std.proofs.lemmas.Option.{same_Some}
 use Rattle.git_objects.specs.declared.entry_kind.EntryKind.{EntryKind}
 use Rattle.git_objects.specs.declared.entry_kind.EntryKind.TheVariants.{Message, Deletion}
 use Rattle.arch_model.specs.Archives.{Entry, is_message, messages, text_of}
@@ -85,14 +86,11 @@ pass_step live true rest all never is = absurd (cc)
 pass_step true false rest all never is = is
 pass_step false false rest all never is = is
 
-only : {X : Type 0} (x y : X) → Some x ≡ Some y → x ≡ y
-only x y is = cc
-
 -- Where numbers rise, the place of a number tells whether it is live.
 pub places-one : (number : ℕ) (ps : List MessagePlace) (i : ℕ) (p : MessagePlace) → PlacesFrom number ps → slice_get ps i ≡ Some p → (number ≤ p.number) × (live_place ps p.number ≡ p.live)
 places-one number [] i p from there = absurd (cc)
 places-one number (q ∷ ps) zero p from there =
-    let same : q ≡ p = only q p there in
+    let same : q ≡ p = same_Some q p there in
     let itself : (q.number == q.number) ≡ true = grind (arith, nat_tests) in
     subst (λ (r : MessagePlace). (number ≤ r.number) × (live_place (q ∷ ps) r.number ≡ r.live)) same
     (from.0, hit_step q.live (q.number == q.number) (live_place ps q.number) itself (places-above q.number (q.number + 1) ps from.1 (omega arith)))
@@ -146,7 +144,7 @@ tells_here index e es p one is = subst (λ (r : MessagePlace). PlaceTells index 
 
 tells_step : (m : Bool) (index : ℕ) (e : StoredEntry) (es : List StoredEntry) (i : ℕ) (p : MessagePlace) → is_message e.seen.kind ≡ m → ((j : ℕ) → slice_get (message_places (index + 1) es) j ≡ Some p → PlaceTells (index + 1) es p)
     → slice_get (if m then place_of e.number index (not (is_ended_in es e.number)) ∷ message_places (index + 1) es else message_places (index + 1) es) i ≡ Some p → PlaceTells index (e ∷ es) p
-tells_step true index e es zero p one rest there = tells_here index e es p one (only (place_of e.number index (not (is_ended_in es e.number))) p there)
+tells_step true index e es zero p one rest there = tells_here index e es p one (same_Some (place_of e.number index (not (is_ended_in es e.number))) p there)
 tells_step true index e es (suc i) p one rest there = tells_later index e es p (rest i there)
 tells_step false index e es i p one rest there = tells_later index e es p (rest i there)
 

@@ -21,11 +21,11 @@ use Rattle.root_slots.specs.Between.{looks_between}
 use Rattle.root_slots.specs.Spelling.{spelling}
 use Rattle.epoch_store.proofs.Readying.{read_between}
 use Rattle.epoch_store.specs.Stores.{View, HasSizes, IsStoreWith, Keeps, MayPurge, RecoversOneOf, without_blob}
-use Rattle.archive_core.specs.Commands.{AnswersDelivery, DoneBy, IfUnreadEdit, OnDone, OnlyLooks, refusal_answer}
+use Rattle.archive_core.specs.Commands.{AnswersDelivery, DoneBy, IfUnreadEdit, JudgesOn, OnDone, OnlyLooks, refusal_answer}
 use Rattle.archive_core.specs.DamageTold.{TellsEntry}
 use Rattle.archive_core.specs.Engines.{unchanged-is}
 use Rattle.archive_core.specs.Kept.{IndexesKept}
-use Rattle.archive_core.specs.Rewriting.{EditsAs, JudgesEdit, late_answer}
+use Rattle.archive_core.specs.Rewriting.{EditsAs, late_answer}
 use Rattle.archive_core.specs.Walks.{looks-same}
 use Rattle.archive_core.proofs.KeptTexts.{error-done, error-then}
 use Rattle.archive_core.proofs.Replies.{when-refused, unless-failed}
@@ -96,12 +96,12 @@ module _ {D : Type 0} (content : D → Option Content) (moment : D → ℕ) (lef
     (only_now : (disk : D) (image : Files) → left_since disk (moment disk) image → Image (content disk) image) where
   -- A delivery in place of a text was refused, after the disk was only read.
   pub edits-refused : StoreRecovers → (old mid : D) (v : View) (index : Index) (blob : Id20) (number : ℕ) (bytes : List ℕ) (arrived : ℕ) (reply : Answer) → MayPurge v number blob → IndexesKept (without_blob v.entries blob.0) index → WhereTold (HasSizes v) (content old)
-      → JudgesEdit content old v index bytes (Refuse reply) → OnlyLooks content moment left_since old mid → RoseIf (reply ≡ answer.DiskFault) (faults old) (faults mid) → TellsEntry v (content old) reply → EditsAs content moment left_since faults old mid v v number bytes arrived (late_answer reply)
+      → JudgesOn content old v index bytes (Refuse reply) → OnlyLooks content moment left_since old mid → RoseIf (reply ≡ answer.DiskFault) (faults old) (faults mid) → TellsEntry v (content old) reply → EditsAs content moment left_since faults old mid v v number bytes arrived (late_answer reply)
   edits-refused law old mid v index blob number bytes arrived reply may indexed sizes judges looks cause damage = record {
     any_moment = λ a cache gone store room shown. only-read moment left_since law v cache [] a (unless_refused a (delivered (without_entries a gone) bytes arrived)).archive (content old) old mid store looks.any_moment;
     done = λ a cache gone store room shown. (
         let own = still_own v cache a (content old) (content mid) looks.same store in
-        let judged = judges a cache gone store (edit-index v a number blob index gone (store_keeps v cache a (content old) store) may indexed shown) in
+        let judged = judges a cache (Some gone) store (edit-index v a number blob index gone (store_keeps v cache a (content old) store) may indexed shown) in
         late-done v cache [] a (unless_refused a (delivered (without_entries a gone) bytes arrived)) (content mid) reply own (refused-edit v cache [] a (without_entries a gone) bytes arrived (content mid) reply own judged.0));
     settled = late-never reply _;
     goes_on = late-never reply _;
@@ -138,13 +138,13 @@ module _ {D : Type 0} (content : D → Option Content) (moment : D → ℕ) (lef
 
   -- The verdict was to keep a text.
   module _ (law : StoreRecovers) (old mid new : D) (v after : View) (index : Index) (blob : Id20) (number : ℕ) (bytes text : List ℕ) (arrived n : ℕ) (ids : TextIds) (may : MayPurge v number blob) (indexed : IndexesKept (without_blob v.entries blob.0) index)
-      (judges : JudgesEdit content old v index bytes (Take text ids n)) (looks : OnlyLooks content moment left_since old mid) (steady : faults mid ≡ faults old) where
+      (judges : JudgesOn content old v index bytes (Take text ids n)) (looks : OnlyLooks content moment left_since old mid) (steady : faults mid ≡ faults old) where
     -- The archive after it, and that no other text has its blob id.
     taken_is : (a : Archive) (cache gone : List ℕ) → IsStoreWith v cache a (content old) → text_of (live a.entries) number ≡ Some gone
         → (unless_refused a (delivered (without_entries a gone) bytes arrived) ≡ record { archive = with_entry (without_entries a gone) (new_epoch (without_entries a gone)) text arrived; answer = answer.Ok n ids.blob }) × (blob_id_of gone ≡ blob) × (collision (without_entries a gone).entries text ≡ None)
     taken_is a cache gone store shown =
         let keeps = store_keeps v cache a (content old) store in
-        let judged = judges a cache gone store (edit-index v a number blob index gone keeps may indexed shown) in
+        let judged = judges a cache (Some gone) store (edit-index v a number blob index gone keeps may indexed shown) in
         (unless-taken a (with_entry (without_entries a gone) (new_epoch (without_entries a gone)) text arrived) (delivered (without_entries a gone) bytes arrived) n ids.blob (judged.0 arrived), purge-blob v a number blob gone keeps may (live-message-is a number gone keeps.valid shown), judged.1)
 
     run_after : {reads : D → ℕ} (r : Result (Unit {0}) StoreRefusal) → ChangesStore content moment left_since faults reads mid new v after Renews (Replaces blob text arrived) r → (a : Archive) (cache gone : List ℕ) → IsStoreWith v cache a (content old) → v.root.sequence + 1 < 2 ^ 64 → text_of (live a.entries) number ≡ Some gone

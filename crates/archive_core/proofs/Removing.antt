@@ -5,7 +5,7 @@ use Rattle.std.specs.Str.{bytes_eq}
 use Rattle.std.proofs.Common.{◌∙◌, sym, ap, subst, arith}
 use Rattle.std.proofs.lemmas.Bool.Decides.{nat_tests}
 use Rattle.std.proofs.lemmas.Slice.Eq.{bytes_eq-Decides}
-use Rattle.std.proofs.lemmas.Option.{slice_get-get_or, get_or_from_slice_get}
+use Rattle.std.proofs.lemmas.Option.{slice_get-get_or, get_or_from_slice_get, same_Some}
 use Rattle.git_objects.specs.Objects.{blob_id_of}
 use Rattle.git_objects.specs.declared.entry_kind.EntryKind.{EntryKind}
 use Rattle.git_objects.specs.declared.entry_kind.EntryKind.TheVariants.{Message, Deletion}
@@ -25,9 +25,6 @@ use Rattle.archive_core.proofs.ByNumber.{entry-text}
 use Rattle.archive_core.proofs.Places.{place_of}
 use Rattle.archive_core.proofs.Stored.{kept-at}
 
-only : {X : Type 0} (x y : X) → Some x ≡ Some y → x ≡ y
-only x y is = cc
-
 -- The entry at an index has the own id of a text just if the two ids are equal.
 pub named-yes : (seen entries : List StoredEntry) (i : ℕ) (e : StoredEntry) (text own id : List ℕ) (r : Bool) → seen ≡ entries → i < length entries → id ≡ (get_or seen i e).seen.id → Some own ≡ own_id text → r ≡ bytes_eq id own → r ≡ true → IsNamed entries i text
 named-yes seen entries i e text own id r same less id_is own_is r_is hit =
@@ -37,14 +34,14 @@ named-yes seen entries i e text own id r same less id_is own_is r_is hit =
 pub named-no : (seen entries : List StoredEntry) (i : ℕ) (e : StoredEntry) (text own id : List ℕ) (r : Bool) → seen ≡ entries → id ≡ (get_or seen i e).seen.id → Some own ≡ own_id text → r ≡ bytes_eq id own → r ≡ false → IsNamed entries i text → ⊥
 named-no seen entries i e text own id r same id_is own_is r_is miss named =
     let at : get_or entries i e ≡ named.0 = get_or_from_slice_get entries i named.0 e named.1 in
-    let both : own ≡ named.0.seen.id = only own named.0.seen.id (own_is ∙ named.2) in
+    let both : own ≡ named.0.seen.id = same_Some own named.0.seen.id (own_is ∙ named.2) in
     let equal : id ≡ own = id_is ∙ ap (λ (l : List StoredEntry). (get_or l i e).seen.id) same ∙ ap (λ (s : StoredEntry). s.seen.id) at ∙ sym both in
     let hit : true ≡ false = sym ((bytes_eq-Decides id own).1 equal) ∙ sym r_is ∙ miss in
     absurd (cc)
 
 pub all_at : (P : Entry → Type 0) (es : List Entry) (i : ℕ) (e : Entry) → AllByRecursion P es → slice_get es i ≡ Some e → P e
 all_at P [] i e all there = absurd (cc)
-all_at P (x ∷ es) zero e all there = subst P (only x e there) all.0
+all_at P (x ∷ es) zero e all there = subst P (same_Some x e there) all.0
 all_at P (x ∷ es) (suc i) e all there = all_at P es i e all.1 there
 
 id_of : (o : Option (List ℕ)) → IsSome o → o ≡ Some (unwrap_or o [])
@@ -57,7 +54,7 @@ named-at v a n i text keeps at shown =
     let found = kept-at [] a.entries i at.message.entry (ap (λ (es : List StoredEntry). slice_get es i) (sym keeps.kept) ∙ at.message.there) in
     let e : Entry = found.entry in
     let read : text_of (live a.entries) n ≡ Some e.text = entry-text v a keeps n i at e.text (ap text_if found.there) in
-    let same : text ≡ e.text = only text e.text (sym shown ∙ read) in
+    let same : text ≡ e.text = same_Some text e.text (sym shown ∙ read) in
     let own : own_id e.text ≡ Some (unwrap_or (own_id e.text) []) = id_of (own_id e.text) (all_at IsEntry a.entries i e keeps.valid.entries found.there).text.id in
     (at.message.entry, at.message.there, ap own_id same ∙ own ∙ ap (λ (s : StoredEntry). Some s.seen.id) (sym found.kept.1))
 

@@ -3,11 +3,9 @@ use Rattle.std.specs.Prelude.{◌≡◌, ◌≢◌, ◌+◌, ◌-◌, ◌<◌, �
 use Rattle.std.proofs.Common.{◌∙◌, sym, ap, subst, arith}
 use Rattle.std.proofs.lemmas.Bool.Decides.{nat_tests}
 use Rattle.std.proofs.lemmas.List.{drop_more, drop_all}
+use Rattle.std.proofs.lemmas.Option.{same_Some}
 use Rattle.archive_core.specs.Placing.{PlacesFrom, PlacesRise, ends_place, ended_place}
 use Rattle.archive_core.specs.declared.placing.MessagePlace.{MessagePlace}
-
-only : {X : Type 0} (x y : X) → Some x ≡ Some y → x ≡ y
-only x y is = cc
 
 ended_is : (number : ℕ) (p : MessagePlace) → p.number ≡ number → record { number = p.number; entry = p.entry; live = false } ≡ ended_place number p
 ended_is number p same =
@@ -30,14 +28,14 @@ above-ends number low (p ∷ ps) rise less =
 -- The place of a number, in a list from one number on, is at least at it.
 at-least : (low : ℕ) (ps : List MessagePlace) (i : ℕ) (p : MessagePlace) → PlacesFrom low ps → slice_get ps i ≡ Some p → low ≤ p.number
 at-least low [] i p rise there = absurd (cc)
-at-least low (q ∷ ps) zero p rise there = (let same : q ≡ p = only q p there in let first : low ≤ q.number = rise.0 in let number : q.number ≡ p.number = ap (λ (r : MessagePlace). r.number) same in omega (arith, first, number))
+at-least low (q ∷ ps) zero p rise there = (let same : q ≡ p = same_Some q p there in let first : low ≤ q.number = rise.0 in let number : q.number ≡ p.number = ap (λ (r : MessagePlace). r.number) same in omega (arith, first, number))
 at-least low (q ∷ ps) (suc i) p rise there = (let first : low ≤ q.number = rise.0 in let rest : q.number + 1 ≤ p.number = at-least (q.number + 1) ps i p rise.1 there in omega (arith, first, rest))
 
 -- The place at the index of a number is made no longer live, and it is the only one of the number.
 pub set-ends : (low : ℕ) (ps : List MessagePlace) (i : ℕ) (p : MessagePlace) (number : ℕ) → PlacesFrom low ps → slice_get ps i ≡ Some p → p.number ≡ number → set ps i (record { number = p.number; entry = p.entry; live = false }) ≡ ends_place number ps
 set-ends low [] i p number rise there is = absurd (cc)
 set-ends low (q ∷ ps) zero p number rise there is =
-    let same : q ≡ p = only q p there in
+    let same : q ≡ p = same_Some q p there in
     let at : q.number ≡ number = ap (λ (r : MessagePlace). r.number) same ∙ is in
     ap (λ (r : MessagePlace). record { number = r.number; entry = r.entry; live = false } ∷ ps) (sym same)
     ∙ ap (λ (r : MessagePlace). r ∷ ps) (ended_is number q at)

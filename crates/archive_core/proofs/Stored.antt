@@ -2,6 +2,7 @@
 use Rattle.std.proofs.Common.{◌≡◌, ◌<◌, ◌≤◌, ◌==◌, ◌&&◌, ◌||◌, ℕ, zero, suc, Bool, true, false, not, List, [], ◌∷◌, ◌++◌, length, slice_get, slice_index_or, Option, Some, None, is_some, refl, sym, ap, subst, ◌∙◌, arith, if◌then◌else◌}
 use Rattle.std.specs.List.{Contains}
 use Rattle.std.proofs.lemmas.Bool.Decides.{nat_tests}
+use Rattle.std.proofs.lemmas.Option.{same_Some}
 use Rattle.git_objects.specs.declared.entry_kind.EntryKind.{EntryKind}
 use Rattle.git_objects.specs.declared.entry_kind.EntryKind.TheVariants.{Message, Deletion}
 use Rattle.arch_model.specs.Archives.{Entry, is_message, is_ended, live, messages, text_of}
@@ -61,9 +62,6 @@ pub stored-length : (before es : List Entry) → length (stored_after before es)
 stored-length before [] = refl
 stored-length before (e ∷ es) = let rest = stored-length (before ++ e ∷ []) es in omega (arith, rest)
 
-only : {X : Type 0} (x y : X) → Some x ≡ Some y → x ≡ y
-only x y is = cc
-
 -- The entry of which something is kept at an index.
 pub record KeptAt (es : List Entry) (i : ℕ) (s : StoredEntry) : Type 0 where
   pub entry : Entry
@@ -72,7 +70,7 @@ pub record KeptAt (es : List Entry) (i : ℕ) (s : StoredEntry) : Type 0 where
 
 pub kept-at : (before es : List Entry) (i : ℕ) (s : StoredEntry) → slice_get (stored_after before es) i ≡ Some s → KeptAt es i s
 kept-at before [] i s there = absurd (cc)
-kept-at before (e ∷ es) zero s there = record { entry = e; there = refl; kept = (before, sym (only (stored_at before e) s there)) }
+kept-at before (e ∷ es) zero s there = record { entry = e; there = refl; kept = (before, sym (same_Some (stored_at before e) s there)) }
 kept-at before (e ∷ es) (suc i) s there = let rest = kept-at (before ++ e ∷ []) es i s there in record { entry = rest.entry; there = rest.there; kept = rest.kept }
 
 -- The number of a message is that of its text.
@@ -94,7 +92,7 @@ message_past Deletion number n e es text low above is = (above, is)
 pub message-at : (number epoch : ℕ) (es : List Entry) (i : ℕ) (e : Entry) → Rise number epoch es → slice_get es i ≡ Some e → is_message e.kind ≡ true → (number ≤ e.number) × (text_of (messages es) e.number ≡ Some e.text)
 message-at number epoch [] i e rise there one = absurd (cc)
 message-at number epoch (x ∷ es) zero e rise there one =
-    let same : x ≡ e = only x e there in
+    let same : x ≡ e = same_Some x e there in
     let is_one : is_message x.kind ≡ true = ap (λ (f : Entry). is_message f.kind) same ∙ one in
     subst (λ (f : Entry). (number ≤ f.number) × (text_of (messages (x ∷ es)) f.number ≡ Some f.text)) same (message_low x.kind number x.number is_one rise.0, message_here x.kind x es is_one)
 message-at number epoch (x ∷ es) (suc i) e rise there one =

@@ -1,23 +1,22 @@
 -- The verdict on the delivery of a message to an archive on a disk.
-use Rattle.std.specs.Prelude.{◌≡◌, ◌≤◌, ℕ, Bool, true, false, List, [], length, Some, None, Ok, Err, if◌then◌else◌}
+use Rattle.std.specs.Prelude.{◌≡◌, ℕ, Bool, true, List, [], Some, None, Ok, Err, if◌then◌else◌}
 use Rattle.std.specs.Str.{bytes_eq}
-use Rattle.std.proofs.Common.{◌∙◌, sym, ap, subst, arith}
+use Rattle.std.proofs.Common.{◌∙◌, sym, ap, subst}
 use Rattle.std.proofs.lemmas.Slice.Eq.{bytes_eq-Decides}
 use Rattle.arch_base.specs.declared.config.Config.{Config}
 use Rattle.arch_base.specs.declared.ids.Id20.{Id20}
 use Rattle.mail_commits.specs.Ids.{text_ids_of}
 use Rattle.mail_commits.specs.declared.ids.TextIds.{TextIds}
 use Rattle.git_objects.specs.Objects.{blob_id_of}
-use Rattle.arch_model.specs.Archives.{Archive, live, blob_number}
+use Rattle.arch_model.specs.Archives.{Archive, blob_number}
 use Rattle.arch_model.specs.Shelves.{blob_text}
 use Rattle.arch_model.specs.Delivery.{delivered, delivered_kept, collision}
 use Rattle.arch_model.proofs.Owners.{collision-alone, collision-first}
 use Rattle.arch_model.specs.declared.text_refusal.TextRefusal.{TextRefusal}
 use Rattle.arch_model.specs.declared.text_refusal.TextRefusal.TheVariants as reading
-use Rattle.arch_judge.specs.Judging.{IsKnownBy, Judges, Compares, unless_same, MayCome, MayBeKept, TakesThis, TakesSame, IsForDelivery}
+use Rattle.arch_judge.specs.Judging.{Judges, Compares, unless_same, MayCome, MayBeKept, TakesThis, TakesSame, IsForDelivery}
 use Rattle.arch_model.specs.Validity.{BlobsAgree}
 use Rattle.arch_judge.specs.Indexes.{IsIndex, number_in}
-use Rattle.arch_judge.proofs.Endings.{live-few}
 use Rattle.arch_judge.specs.declared.index.Index.{Index}
 use Rattle.arch_judge.specs.declared.judging.Verdict.{Verdict}
 use Rattle.arch_judge.specs.declared.judging.Verdict.TheVariants.{Take, Compare, Refuse}
@@ -25,54 +24,67 @@ use Rattle.arch_model.specs.declared.answer.Answer.{Answer}
 use Rattle.arch_model.specs.declared.answer.Answer.TheVariants as answer
 use Rattle.epoch_store.specs.Reads.{GivesTextOf}
 use Rattle.epoch_store.specs.Stores.{View, Keeps}
-use Rattle.archive_core.specs.Commands.{ReadsMessage, JudgesRead, IsAlone, unread_answer}
+use Rattle.archive_core.specs.Commands.{ReadsMessage, JudgesRead, IsAlone, IsUnread, unread_answer}
 use Rattle.archive_core.specs.Numbers.{IsMessageAt}
 use Rattle.epoch_store.specs.Indexes.{IndexesStored}
 use Rattle.archive_core.specs.Kept.{IsNewTo, MayGoIn, TakesWhatMay}
 use Rattle.archive_core.proofs.ByBlob.{blob-index}
-use Rattle.archive_core.proofs.Stored.{stored-length}
-use Rattle.archive_core.proofs.Indexes.{are-of, index-of_kept, new-to}
+use Rattle.archive_core.proofs.Indexes.{are-of, new-to}
 
 -- A refusal of a delivery is one of the answers that may come.
-pub for-delivery : (v : View) (reply : Answer) → IsForDelivery reply → TakesWhatMay v (Refuse reply)
-for-delivery v answer.NoMemory is = is
-for-delivery v (answer.Duplicate number) is = is
-for-delivery v answer.NoFields is = is
-for-delivery v (answer.TooLarge len) is = is
-for-delivery v (answer.Full max) is = is
-for-delivery v (answer.Collision number) is = is
-for-delivery v answer.IsMirror is = is
-for-delivery v (answer.Ok number id) is = absurd is
-for-delivery v (answer.NotLive number) is = absurd is
-for-delivery v (answer.NoText number) is = absurd is
-for-delivery v answer.DiskFault is = tt
-for-delivery v (answer.Damaged file at) is = tt
+pub refuses-by : (v : View) (index : Index) (reply : Answer) → IsForDelivery reply → TakesWhatMay v index (Refuse reply)
+refuses-by v index answer.NoMemory is = is
+refuses-by v index (answer.Duplicate number) is = is
+refuses-by v index answer.NoFields is = is
+refuses-by v index (answer.TooLarge len) is = is
+refuses-by v index (answer.Full max) is = is
+refuses-by v index (answer.Collision number) is = is
+refuses-by v index answer.IsMirror is = is
+refuses-by v index (answer.Ok number id) is = absurd is
+refuses-by v index (answer.NotLive number) is = absurd is
+refuses-by v index (answer.NoText number) is = absurd is
+refuses-by v index answer.DiskFault is = tt
+refuses-by v index (answer.Damaged file at) is = tt
 
-module _ (v : View) (config : Config) (index : Index) (next : ℕ) (indexed : IndexesStored v.entries index) (config_is : config ≡ v.root.config) (next_is : next ≡ v.root.next) where
-  -- An archive that the store keeps has these settings, this next number, at most so many live
-  -- messages, and this index.
-  pub known : (a : Archive) (count : ℕ) → Keeps v a → count ≡ length v.entries → IsKnownBy config index count next a
-  known a count keeps count_is = record {
-    config_is = sym (config_is ∙ keeps.names.config);
-    next_is = sym (next_is ∙ keeps.names.next);
-    few = (let same : count ≡ length a.entries = count_is ∙ ap length keeps.kept ∙ stored-length [] a.entries in let most : length (live a.entries) ≤ length a.entries = live-few a.entries in omega (arith, same, most));
-    indexed = index-of_kept v a index keeps indexed;
-  }
+-- A text that wasn't read.
+pub unread-by : (v : View) (index : Index) (reply : Answer) → IsUnread reply → TakesWhatMay v index (Refuse reply)
+unread-by v index answer.NoMemory is = is
+unread-by v index answer.DiskFault is = is
+unread-by v index (answer.Damaged file at) is = is
+unread-by v index (answer.Duplicate number) is = absurd is
+unread-by v index answer.NoFields is = absurd is
+unread-by v index (answer.TooLarge len) is = absurd is
+unread-by v index (answer.Full max) is = absurd is
+unread-by v index (answer.Collision number) is = absurd is
+unread-by v index answer.IsMirror is = absurd is
+unread-by v index (answer.Ok number id) is = absurd is
+unread-by v index (answer.NotLive number) is = absurd is
+unread-by v index (answer.NoText number) is = absurd is
 
-  -- A text that may be kept would be accepted.
-  pub taken : (text : List ℕ) (ids : TextIds) (number : ℕ) → MayBeKept config index next text ids number → MayGoIn v text ids
-  taken text ids number may =
-      let fresh : IsNewTo v.entries text = new-to v.entries index text indexed may.comes.storage.id may.comes.new_id in
-      record {
-        accepts = record {
-          writable = subst (λ (c : Config). c.mirror ≡ false) config_is may.comes.writable;
-          number_left = subst (λ (n : ℕ). n ≤ v.root.config.max) next_is (subst (λ (c : Config). next ≤ c.max) config_is may.number_left);
-          storage = may.comes.storage;
-          id = λ a keeps. fresh a.entries (are-of v a keeps);
-        };
-        new_id = fresh;
-        ids_are = may.comes.ids_are;
-      }
+pub taken-by : (v : View) (config : Config) (index : Index) (next : ℕ) (text : List ℕ) (ids : TextIds) (number : ℕ) → config ≡ v.root.config → next ≡ v.root.next → MayBeKept config index next text ids number → TakesWhatMay v index (Take text ids number)
+taken-by v config index next text ids number config_is next_is may =
+    subst (λ (c : Config). MayBeKept c index v.root.next text ids number) config_is (subst (λ (n : ℕ). MayBeKept config index n text ids number) next_is may)
+
+pub compared-by : (v : View) (config : Config) (index : Index) (next : ℕ) (text : List ℕ) (ids : TextIds) (verdict : Verdict) → config ≡ v.root.config → next ≡ v.root.next → MayCome config index text ids → TakesThis config next text ids verdict → TakesWhatMay v index verdict
+compared-by v config index next text ids (Take took named number) config_is next_is may this =
+    subst (λ (t : List ℕ). TakesWhatMay v index (Take t named number)) (sym this.0) (subst (λ (i : TextIds). TakesWhatMay v index (Take text i number)) (sym this.1) (taken-by v config index next text ids number config_is next_is (this.2 index may)))
+compared-by v config index next text ids (Compare other named number) config_is next_is may this = absurd this
+compared-by v config index next text ids (Refuse reply) config_is next_is may this = refuses-by v index reply this
+
+-- A text that may be kept would be accepted.
+pub may-go : (v : View) (index : Index) (text : List ℕ) (ids : TextIds) (number : ℕ) → IndexesStored v.entries index → MayBeKept v.root.config index v.root.next text ids number → MayGoIn v text ids
+may-go v index text ids number indexed may =
+    let fresh : IsNewTo v.entries text = new-to v.entries index text indexed may.comes.storage.id may.comes.new_id in
+    record {
+      accepts = record {
+        writable = may.comes.writable;
+        number_left = may.number_left;
+        storage = may.comes.storage;
+        id = λ a keeps. fresh a.entries (are-of v a keeps);
+      };
+      new_id = fresh;
+      ids_are = may.comes.ids_are;
+    }
 
 -- What is judged is judged where a read may fail, too.
 pub judges-read : (a : Archive) (bytes : List ℕ) (verdict : Verdict) → Judges a bytes verdict → JudgesRead a bytes verdict
@@ -137,10 +149,3 @@ alone-same a config index next text kept ids number (Take taken named n) agree i
     (collision-first a.entries text kept number agree at_text read ∙ ap (λ (t : Bool). if t then None else Some number) equal)
 alone-same a config index next text kept ids number (Compare other named n) agree indexed ids_are known reads this same = absurd this
 alone-same a config index next text kept ids number (Refuse reply) agree indexed ids_are known reads this same = tt
-
--- A text that was compared may go in.
-pub compared-taken : (v : View) (config : Config) (index : Index) (next : ℕ) (text : List ℕ) (ids : TextIds) (verdict : Verdict) → IndexesStored v.entries index → config ≡ v.root.config → next ≡ v.root.next → MayCome config index text ids → TakesThis config next text ids verdict → TakesWhatMay v verdict
-compared-taken v config index next text ids (Take took named number) indexed config_is next_is may this =
-    subst (λ (t : List ℕ). MayGoIn v t named) (sym this.0) (subst (λ (i : TextIds). MayGoIn v text i) (sym this.1) (taken v config index next indexed config_is next_is text ids number (this.2 index may)))
-compared-taken v config index next text ids (Compare other named number) indexed config_is next_is may this = absurd this
-compared-taken v config index next text ids (Refuse reply) indexed config_is next_is may this = for-delivery v reply this

@@ -1,6 +1,7 @@
 -- What is walked through of a store.
 use Rattle.std.specs.Prelude.{◌≡◌, ◌<◌, ℕ, zero, suc, List, [], ◌∷◌, length, slice_get, Option, Some, None, Result, Ok, Err, IfErr, refl}
 use Rattle.std.proofs.Common.{◌∙◌, sym, ap, arith}
+use Rattle.std.proofs.lemmas.Option.{same_Some}
 use Rattle.disk_model.specs.Disk.{Content, WhereTold}
 use Rattle.git_objects.specs.Objects.{blob_id_of}
 use Rattle.arch_model.specs.Archives.{Entry, Archive}
@@ -15,9 +16,6 @@ use Rattle.epoch_store.specs.declared.entries.StoredEntry.{StoredEntry}
 use Rattle.archive_core.specs.Numbers.{TellsOther}
 use Rattle.archive_core.specs.Walks.{lines_kept, IsSound}
 
-only : {X : Type 0} (x y : X) → Some x ≡ Some y → x ≡ y
-only x y is = cc
-
 -- The lines of what is kept, at an index.
 pub line-index : (ss : List StoredEntry) (i : ℕ) → line_if (slice_get ss i) ≡ slice_get (lines_kept ss) i
 line-index [] i = refl
@@ -30,7 +28,7 @@ lines-length (s ∷ ss) = let rest = lines-length ss in omega (arith, rest)
 
 pub line-kept-of : (ss : List StoredEntry) (i : ℕ) (line : EntryLine) → slice_get (lines_kept ss) i ≡ Some line → (s : StoredEntry) × (slice_get ss i ≡ Some s) × (line_of s ≡ line)
 line-kept-of [] i line is = absurd (cc)
-line-kept-of (s ∷ ss) zero line is = (s, refl, only (line_of s) line is)
+line-kept-of (s ∷ ss) zero line is = (s, refl, same_Some (line_of s) line is)
 line-kept-of (s ∷ ss) (suc i) line is = line-kept-of ss i line is
 
 -- The text of an entry is that of its line.
@@ -42,7 +40,7 @@ gives-line s line old new (Err (reading.Damaged named found)) same given = (give
 
 text_at : (es : List Entry) (i : ℕ) (text : List ℕ) (found : Option Entry) → slice_get es i ≡ found → text_if found ≡ Some text → HasTextAt es i text
 text_at es i text None there is = absurd (cc)
-text_at es i text (Some e) there is = (e, there, only e.text text is)
+text_at es i text (Some e) there is = (e, there, same_Some e.text text is)
 
 pub gives-at : (a : Archive) (i : ℕ) (old new : List ℕ) (r : Result Unit TextRefusal) → GivesTextOf a i old new r → GivesTextAt a.entries i old new r
 gives-at a i old new (Ok x) given = (given.0, text_at a.entries i given.0 (slice_get a.entries i) refl given.1, given.2)

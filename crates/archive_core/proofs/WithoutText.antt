@@ -4,7 +4,7 @@ use Rattle.std.specs.List.{AllByRecursion, AllZip}
 use Rattle.std.specs.Str.{bytes_eq}
 use Rattle.std.proofs.Common.{◌∙◌, sym, ap, subst, inl, inr, arith}
 use Rattle.std.proofs.lemmas.List.Sums.{length-filter, count_by-le-length}
-use Rattle.std.proofs.lemmas.Option.{slice_get_within, slice_get-get_or}
+use Rattle.std.proofs.lemmas.Option.{slice_get_within, slice_get-get_or, same_Some}
 use Rattle.std.proofs.lemmas.Slice.Eq.{bytes_eq-Decides}
 use Rattle.arch_base.specs.declared.config.Config.{Config}
 use Rattle.arch_base.specs.declared.ids.Id20.{Id20}
@@ -26,19 +26,18 @@ use Rattle.arch_model.specs.declared.answer.Answer.TheVariants as answer
 use Rattle.arch_model.proofs.LiveEntries.{HasText, found-has, all-text, live-one}
 use Rattle.arch_model.proofs.Purging.{valid_without}
 use Rattle.arch_judge.specs.Indexes.{IsIndex}
-use Rattle.arch_judge.specs.Judging.{IsForDelivery, IsKnownBy, MayBeKept, MayCome, TakesThis}
+use Rattle.arch_judge.specs.Judging.{IsKnownBy, MayBeKept}
 use Rattle.arch_judge.specs.declared.index.Index.{Index}
-use Rattle.arch_judge.specs.declared.judging.Verdict.{Verdict}
-use Rattle.arch_judge.specs.declared.judging.Verdict.TheVariants.{Take, Compare, Refuse}
+use Rattle.arch_judge.specs.declared.judging.Verdict.TheVariants.{Refuse}
 use Rattle.arch_judge.proofs.Endings.{live-few}
 use Rattle.arch_judge.proofs.Indexes.{unowned}
 use Rattle.epoch_store.specs.declared.entries.StoredEntry.{StoredEntry}
 use Rattle.epoch_store.specs.Reads.{text_if}
 use Rattle.epoch_store.specs.Stores.{View, Keeps, IsStoreWith, KeptOf, MayPurge, stored_at, stored_after, without_blob}
-use Rattle.archive_core.specs.Commands.{DoneBy, IsLiveOf, IsUnread, JudgesRead, ReadsMessage}
+use Rattle.archive_core.specs.Commands.{DoneBy, IsLiveOf, JudgesRead, ReadsMessage, left_without}
 use Rattle.archive_core.specs.Kept.{IndexesKept}
 use Rattle.archive_core.specs.Numbers.{IsLiveAt, IsMessageAt}
-use Rattle.archive_core.specs.Rewriting.{MayReplace, TakesWhatMayBy}
+use Rattle.archive_core.specs.Rewriting.{MayReplace}
 use Rattle.epoch_store.specs.Promises.{Drops}
 use Rattle.archive_core.specs.Placing.{message_places, found_blob, has_blob_at, IsLiveWith}
 use Rattle.archive_core.specs.declared.placing.MessagePlace.{MessagePlace}
@@ -48,9 +47,6 @@ use Rattle.archive_core.proofs.Dropping.{first-stays, first-goes}
 use Rattle.archive_core.proofs.Indexes.{in-order}
 use Rattle.archive_core.proofs.Removing.{all_at}
 use Rattle.archive_core.proofs.Stored.{stored-length}
-
-only : {X : Type 0} (x y : X) → Some x ≡ Some y → x ≡ y
-only x y is = cc
 
 -- Each of some entries with the blob id of a text has that text.
 abbrev pub AgreesWith : List ℕ → List Entry → Type 0
@@ -141,7 +137,7 @@ purge-blob v a n blob text keeps may is =
       is_one = ap is_message may.kind;
     } in
     let own = message-of v a n may.is_there.0 keeps at in
-    ap blob_id_of (only text own.entry.text (sym is ∙ own.once)) ∙ sym own.blob ∙ may.blob_is
+    ap blob_id_of (same_Some text own.entry.text (sym is ∙ own.once)) ∙ sym own.blob ∙ may.blob_is
   where
     get_is : (es : List StoredEntry) (i : ℕ) (e : StoredEntry) → i < length es → slice_index_or es i e ≡ e → get_or es i e ≡ e
     get_is es i e less is = is
@@ -161,7 +157,7 @@ lost-live v a places None blob text keeps placed agree blob_is none = λ n shown
     let at : IsLiveAt v.entries n is_live.place.entry = live-found v places placed is_live.index n is_live.place is_live.there is_live.number_is is_live.live_is in
     let own = message-of v a n is_live.place.entry keeps at.message in
     let read : text_of (live a.entries) n ≡ Some own.entry.text = entry-text v a keeps n is_live.place.entry at own.entry.text (ap text_if own.there) in
-    let same : own.entry.text ≡ text = only own.entry.text text (sym read ∙ shown) in
+    let same : own.entry.text ≡ text = same_Some own.entry.text text (sym read ∙ shown) in
     let ids : blob.0 ≡ at.message.entry.seen.blob.0 = ap (λ (i : Id20). i.0) (sym blob_is ∙ ap blob_id_of (sym same) ∙ sym own.blob) in
     let hit : has_blob_at v.entries is_live.place.entry blob ≡ true = ap (λ (o : Option StoredEntry). found_blob o blob) at.message.there ∙ (bytes_eq-Decides blob.0 at.message.entry.seen.blob.0).1 ids in
     let wrong : true ≡ false = sym hit ∙ none is_live.index is_live.place is_live.there is_live.live_is in
@@ -238,9 +234,15 @@ left-done v cache left a d k answer.IsMirror store never fine is = record { answ
 left-done v cache left a d k (answer.Ok n id) store never fine is = absurd (cc)
 left-done v cache left a d k (answer.Damaged file at) store never fine is = absurd (cc)
 
--- What an index of the archive without a text knows of it.
-pub known-without : (v : View) (a : Archive) (config : Config) (index : Index) (count next : ℕ) (text : List ℕ) → Keeps v a → config ≡ v.root.config → next ≡ v.root.next → count ≡ length v.entries → IsIndex (without_entries a text).entries index → IsKnownBy config index count next (without_entries a text)
-known-without v a config index count next text keeps config_is next_is count_is indexed = record {
+-- What an index of the archive with all its entries, or without a text, knows of it.
+pub known-left : (v : View) (a : Archive) (config : Config) (index : Index) (count next : ℕ) (gone : Option (List ℕ)) → Keeps v a → config ≡ v.root.config → next ≡ v.root.next → count ≡ length v.entries → IsIndex (left_without a gone).entries index → IsKnownBy config index count next (left_without a gone)
+known-left v a config index count next None keeps config_is next_is count_is indexed = record {
+  config_is = sym (config_is ∙ keeps.names.config);
+  next_is = sym (next_is ∙ keeps.names.next);
+  few = (let same : count ≡ length a.entries = count_is ∙ ap length keeps.kept ∙ stored-length [] a.entries in let most : length (live a.entries) ≤ length a.entries = live-few a.entries in omega (arith, same, most));
+  indexed = indexed;
+}
+known-left v a config index count next (Some text) keeps config_is next_is count_is indexed = record {
   config_is = sym (config_is ∙ keeps.names.config);
   next_is = sym (next_is ∙ keeps.names.next);
   few = (let same : count ≡ length a.entries = count_is ∙ ap length keeps.kept ∙ stored-length [] a.entries in
@@ -301,48 +303,22 @@ first_still (e ∷ es) text blob n agree is = by (bytes_eq text e.text) (bytes_e
       )
 
 -- So the text that is read of it is the same.
-pub reads-without : (a : Archive) (text : List ℕ) (number : ℕ) (kept : List ℕ) → BlobsAgree a.entries → ReadsMessage a number (Ok kept) → ReadsMessage (without_entries a text) number (Ok kept)
-reads-without a text number kept agree reads blob first = let both = first_still a.entries text blob number agree first in sym both.1 ∙ reads blob both.0
+pub reads-left : (a : Archive) (gone : Option (List ℕ)) (number : ℕ) (kept : List ℕ) → BlobsAgree a.entries → ReadsMessage a number (Ok kept) → ReadsMessage (left_without a gone) number (Ok kept)
+reads-left a None number kept agree reads = reads
+reads-left a (Some text) number kept agree reads = λ blob first. (let both = first_still a.entries text blob number agree first in sym both.1 ∙ reads blob both.0)
 
--- The verdict on a delivery in place of a text.
-pub refuses-by : (v : View) (index : Index) (reply : Answer) → IsForDelivery reply → TakesWhatMayBy v index (Refuse reply)
-refuses-by v index answer.NoMemory is = is
-refuses-by v index (answer.Duplicate number) is = is
-refuses-by v index answer.NoFields is = is
-refuses-by v index (answer.TooLarge len) is = is
-refuses-by v index (answer.Full max) is = is
-refuses-by v index (answer.Collision number) is = is
-refuses-by v index answer.IsMirror is = is
-refuses-by v index (answer.Ok number id) is = absurd is
-refuses-by v index (answer.NotLive number) is = absurd is
-refuses-by v index (answer.NoText number) is = absurd is
-refuses-by v index answer.DiskFault is = tt
-refuses-by v index (answer.Damaged file at) is = tt
+-- Its settings and its next number are the same, and its blob ids agree.
+pub left-config : (a : Archive) (gone : Option (List ℕ)) → (left_without a gone).config ≡ a.config
+left-config a None = refl
+left-config a (Some text) = refl
 
--- A text that wasn't read.
-pub unread-by : (v : View) (index : Index) (reply : Answer) → IsUnread reply → TakesWhatMayBy v index (Refuse reply)
-unread-by v index answer.NoMemory is = is
-unread-by v index answer.DiskFault is = is
-unread-by v index (answer.Damaged file at) is = is
-unread-by v index (answer.Duplicate number) is = absurd is
-unread-by v index answer.NoFields is = absurd is
-unread-by v index (answer.TooLarge len) is = absurd is
-unread-by v index (answer.Full max) is = absurd is
-unread-by v index (answer.Collision number) is = absurd is
-unread-by v index answer.IsMirror is = absurd is
-unread-by v index (answer.Ok number id) is = absurd is
-unread-by v index (answer.NotLive number) is = absurd is
-unread-by v index (answer.NoText number) is = absurd is
+pub left-next : (a : Archive) (gone : Option (List ℕ)) → (left_without a gone).next ≡ a.next
+left-next a None = refl
+left-next a (Some text) = refl
 
-pub taken-by : (v : View) (config : Config) (index : Index) (next : ℕ) (text : List ℕ) (ids : TextIds) (number : ℕ) → config ≡ v.root.config → next ≡ v.root.next → MayBeKept config index next text ids number → TakesWhatMayBy v index (Take text ids number)
-taken-by v config index next text ids number config_is next_is may =
-    subst (λ (c : Config). MayBeKept c index v.root.next text ids number) config_is (subst (λ (n : ℕ). MayBeKept config index n text ids number) next_is may)
-
-pub compared-by : (v : View) (config : Config) (index : Index) (next : ℕ) (text : List ℕ) (ids : TextIds) (verdict : Verdict) → config ≡ v.root.config → next ≡ v.root.next → MayCome config index text ids → TakesThis config next text ids verdict → TakesWhatMayBy v index verdict
-compared-by v config index next text ids (Take took named number) config_is next_is may this =
-    subst (λ (t : List ℕ). TakesWhatMayBy v index (Take t named number)) (sym this.0) (subst (λ (i : TextIds). TakesWhatMayBy v index (Take text i number)) (sym this.1) (taken-by v config index next text ids number config_is next_is (this.2 index may)))
-compared-by v config index next text ids (Compare other named number) config_is next_is may this = absurd this
-compared-by v config index next text ids (Refuse reply) config_is next_is may this = refuses-by v index reply this
+pub left-agree : (a : Archive) (gone : Option (List ℕ)) → IsArchive a → BlobsAgree (left_without a gone).entries
+left-agree a None valid = valid.blobs
+left-agree a (Some text) valid = (valid_without a text valid).blobs
 
 -- A text that is taken may be kept in place of the one that goes.
 id_of : (o : Option (List ℕ)) → IsSome o → o ≡ Some (unwrap_or o [])
@@ -398,7 +374,7 @@ may-purge v n i s writable at there =
     record {
       writable = writable;
       entry = s;
-      is_there = (i, less, only (get_or v.entries i s) s (sym (slice_get-get_or v.entries i s less) ∙ there));
+      is_there = (i, less, same_Some (get_or v.entries i s) s (sym (slice_get-get_or v.entries i s less) ∙ there));
       kind = ap (λ (e : StoredEntry). e.seen.kind) (sym same) ∙ message_kind at.entry.seen.kind at.is_one;
       number_is = ap (λ (e : StoredEntry). e.number) (sym same) ∙ at.number_is;
       blob_is = refl;

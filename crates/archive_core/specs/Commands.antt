@@ -1,5 +1,5 @@
 -- The answers to a command on an archive on a disk, and what the disk then holds.
-use Rattle.std.specs.Prelude.{◌≡◌, ◌+◌, ◌-◌, ◌<◌, ◌^◌, ℕ, Bool, true, false, List, [], slice_get, Option, Some, None, Result, Ok, Err}
+use Rattle.std.specs.Prelude.{◌≡◌, ◌+◌, ◌-◌, ◌<◌, ◌^◌, ℕ, Bool, true, false, List, slice_get, Option, Some, None, Result, Ok, Err}
 use Rattle.std.specs.List.{Contains}
 use Rattle.arch_base.specs.Counts.{RoseIf}
 use Rattle.disk_model.specs.Disk.{Files, Content, WhereTold, LeavesOnly, Told, Unchanged, Image}
@@ -10,7 +10,9 @@ use Rattle.git_objects.specs.Objects.{blob_id_of}
 use Rattle.git_objects.specs.declared.entry_kind.EntryKind.TheVariants.{Message}
 use Rattle.arch_model.specs.declared.text_refusal.TextRefusal.{TextRefusal}
 use Rattle.arch_model.specs.declared.text_refusal.TextRefusal.TheVariants as unread
+use Rattle.arch_judge.specs.Indexes.{IsIndex}
 use Rattle.arch_judge.specs.Judging.{Judges}
+use Rattle.arch_judge.specs.declared.index.Index.{Index}
 use Rattle.arch_judge.specs.declared.judging.Verdict.{Verdict}
 use Rattle.arch_judge.specs.declared.judging.Verdict.TheVariants.{Take, Compare, Refuse}
 use Rattle.epoch_store.specs.declared.entries.StoredEntry.{StoredEntry}
@@ -309,6 +311,19 @@ abbrev pub IsAlone : Archive → Verdict → Type 0
 IsAlone a (Take text ids number) = collision a.entries text ≡ None
 IsAlone a (Compare text ids number) = Unit {0}
 IsAlone a (Refuse reply) = Unit {0}
+
+-- An archive with all its entries, or without those of a text.
+abbrev pub left_without : Archive → Option (List ℕ) → Archive
+left_without a None = a
+left_without a (Some text) = without_entries a text
+
+-- The verdict on a delivery on the archive of an index, which has all entries or lacks those of a text,
+-- is what the definition says of it, unless a read failed.
+abbrev pub JudgesOn : {D : Type 0} → (D → Option Content) → D → View → Index → List ℕ → Verdict
+    → Type 0
+JudgesOn content disk v index bytes verdict = (a : Archive) (cache : List ℕ) (gone : Option (List ℕ))
+    → IsStoreWith v cache a (content disk) → IsIndex (left_without a gone).entries index
+    → JudgesRead (left_without a gone) bytes verdict × IsAlone (left_without a gone) verdict
 
 -- The disk was read, and nothing else: its content is the same, and a crash leaves what it might have
 -- left before.

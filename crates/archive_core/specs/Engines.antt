@@ -6,6 +6,8 @@ use native.Mathlib.Omega.{arith}
 use Rattle.disk_model.specs.declared.name.FileName.{FileName}
 use Rattle.disk_model.specs.Disk.{Files, Content, Image, Told, WhereTold, Unchanged, LeavesOnly}
 use Rattle.disk_model.specs.Moments.{started, joined}
+use Rattle.root_slots.specs.Between.{BetweenStays, between_image}
+use Rattle.disk_model.specs.Synced.{IsSettled}
 use Rattle.arch_model.specs.Archives.{Archive, live}
 use Rattle.arch_model.specs.Keeping.{OnlyRead}
 use Rattle.arch_model.specs.declared.answer.Answer.{Answer}
@@ -42,11 +44,26 @@ needs_opening answer.IsMirror = false
 needs_opening (answer.Damaged file at) = true
 needs_opening answer.NoMemory = false
 
--- The archive that it holds: the disk is the archive's own, with whatever cache, and the views are
--- those of the archive's live messages.
+-- The archive that it holds: the disk is the archive's own, with whatever cache, the views are those of
+-- the archive's live messages, and all that reads give is on the disk.
 abbrev pub Holds : {D : Type 0} → (D → Option Content) → Owning D → Archive → Type 0
 Holds content e a = (cache : List ℕ) × IsStoreWith e.view cache a (content e.disk)
-    × (e.views ≡ views_of (live a.entries))
+    × (e.views ≡ views_of (live a.entries)) × WhereTold IsSettled (content e.disk)
+
+-- A disk has exactly the files of an archive, with whatever cache, by the current root, and all that
+-- reads give is on the disk.
+abbrev pub RestsOn : Archive → Option Content → Type 0
+RestsOn a content = (v : View) × (cache : List ℕ) × IsStoreWith v cache a content
+    × WhereTold IsSettled content
+
+-- The same, and the cache has these bytes, or there is none.
+abbrev pub RestsWith : List ℕ → Archive → Option Content → Type 0
+RestsWith cache a content = (v : View) × (own : List ℕ) × ((own ≡ cache) ⊎ (own ≡ []))
+    × IsStoreWith v own a content × WhereTold IsSettled content
+
+-- Its disk has exactly the files of an archive. What is kept in memory doesn't count.
+abbrev pub Rests : {D : Type 0} → (D → Option Content) → Owning D → Archive → Type 0
+Rests content e a = RestsOn a (content e.disk)
 
 -- The disk is the archive's own, with whatever cache.
 abbrev pub Owns : {D : Type 0} → (D → Option Content) → Owning D → Archive → Type 0
@@ -67,13 +84,31 @@ AllRecoverOrBare cache may None = ⊥
 AllRecoverOrBare cache may (Some k) = (image : Files) → Image (Some k) image
     → RecoversOrBare cache may image
 
--- The second state comes no earlier, and each crash since the first has left files that stand for one
--- of these archives, with one cache or with none.
-abbrev pub Leaves : {D : Type 0} → (D → ℕ) → (D → ℕ → Files → Type 0) → Owning D → Owning D
+-- Each crash since the first disk has left a root file with the bytes between its gates and its bodies
+-- of one that a crash of the first might have left.
+abbrev pub BetweenSince : {D : Type 0} → (D → Option Content) → (D → ℕ) → (D → ℕ → Files → Type 0)
+    → D → D → Type 0
+BetweenSince content moment left_since old new =
+    (image : Files) → left_since new (moment old) image → BetweenStays (content old) image
+
+-- Each crash of a disk since a moment has left files that stand for one of these archives, with a cache
+-- of these bytes or with none.
+abbrev pub LeftWith : {D : Type 0} → (D → ℕ → Files → Type 0) → D → ℕ → List ℕ
     → List (Option Archive) → Type 0
-Leaves moment left_since start e may = (moment start.disk ≤ moment e.disk) × (cache : List ℕ)
-    × ((image : Files) → left_since e.disk (moment start.disk) image
-    → RecoversOrBare cache may image)
+LeftWith left_since disk since cache may =
+    (image : Files) → left_since disk since image → RecoversOrBare cache may image
+
+-- The second state comes no earlier. Each crash at the first one left files that stand for one of these
+-- archives, with one cache or with none; and each crash since then has left such files, with no other
+-- cache. If the first needn't be reopened, the bytes between the gates and the bodies of the root file
+-- stayed, too.
+abbrev pub Leaves : {D : Type 0} → (D → Option Content) → (D → ℕ) → (D → ℕ → Files → Type 0)
+    → Owning D → Owning D → List (Option Archive) → Type 0
+Leaves content moment left_since start e may = (moment start.disk ≤ moment e.disk)
+    × ((cache : List ℕ) × LeftWith left_since start.disk (moment start.disk) cache may)
+    × ((cache : List ℕ) → LeftWith left_since start.disk (moment start.disk) cache may
+    → LeftWith left_since e.disk (moment start.disk) cache may)
+    × (start.stale ≡ false → BetweenSince content moment left_since start.disk e.disk)
 
 -- The views keep up with a command that was answered so: they are those of the archive after it, unless
 -- the engine has to be reopened after `Ok`. Out of memory they are those of the archive before it. After
@@ -175,27 +210,39 @@ module _ {D : Type 0} (content : D → Option Content) (moment : D → ℕ)
 
   -- A crash of a disk that is an archive's own leaves the archive.
   pub store-left : (e : Owning D) (a : Archive) (may : List (Option Archive)) → Owns content e a
-      → Contains may (Some a) → Leaves moment left_since e e may
+      → Contains may (Some a) → Leaves content moment left_since e e may
   store-left e a may store has = (
     omega arith,
-    store.0,
-    λ image left. inl (store-recovers e.view store.0 a (content e.disk) may image store.1 has
-        (only_now e.disk image left)),
+    (
+      store.0,
+      λ image left. inl (store-recovers e.view store.0 a (content e.disk) may image store.1 has
+          (only_now e.disk image left)),
+    ),
+    λ cache all. all,
+    λ ready image left. between_image (content e.disk) image (only_now e.disk image left),
   )
+
+  -- The files of one that holds an archive are the archive's.
+  pub holds-rest : (e : Owning D) (a : Archive) → Holds content e a → Rests content e a
+  holds-rest e a store = (e.view, store.0, store.1, store.3)
 
   -- What each crash since a state may have left, a crash now may leave.
   pub now-left : (start e : Owning D) (may : List (Option Archive))
-      → Leaves moment left_since start e may → Leaves moment left_since e e may
+      → Leaves content moment left_since start e may → Leaves content moment left_since e e may
   now-left start e may left = (
     omega arith,
-    left.1,
-    λ image now. left.2 image
-        (counts_now e.disk (moment start.disk) image left.0 (only_now e.disk image now)),
+    (
+      left.1.0,
+      λ image now. left.2 left.1.0 left.1.1 image
+          (counts_now e.disk (moment start.disk) image left.0 (only_now e.disk image now)),
+    ),
+    λ cache all. all,
+    λ ready image now. between_image (content e.disk) image (only_now e.disk image now),
   )
 
-  -- Reads leave the archive that is held, the readiness and what a crash may leave.
+  -- Reads leave the archive that is held, the files, the readiness and what a crash may leave.
   pub reading-kept : (d e : Owning D) → ReadsOn content moment left_since d e
-      → OnlyRead (Holds content) is_ready (Leaves moment left_since) d e
+      → OnlyRead (Holds content) (Rests content) is_ready (Leaves content moment left_since) d e
   reading-kept d e read =
       let same = unchanged-is (content d.disk) (content e.disk) read.files in
       record {
@@ -204,15 +251,24 @@ module _ {D : Type 0} (content : D → Option Content) (moment : D → ℕ)
           subst (λ (v : View). IsStoreWith v store.0 a (content e.disk)) (sym read.view_is)
               (subst (λ (k : Option Content). IsStoreWith d.view store.0 a k) (sym same) store.1),
           read.views_are ∙ store.2,
+          subst (λ (k : Option Content). WhereTold IsSettled k) (sym same) store.3,
         );
+        rested = λ a own. subst (λ (k : Option Content). RestsOn a k) (sym same) own;
         same = ap not read.stale_is;
         passes = λ start may has left. (
           omega (arith, left.0, read.run.later),
           left.1,
-          λ image since. elim (read.run.before (moment start.disk) image left.0 since) [
+          λ cache all image since. elim (read.run.before (moment start.disk) image left.0 since) [
             | inl past
-                ↦ left.2 image past
-            | inr now ↦ left.2 image (counts_now d.disk (moment start.disk) image left.0 now)
+                ↦ left.2 cache all image past
+            | inr now
+                ↦ left.2 cache all image (counts_now d.disk (moment start.disk) image left.0 now)
+          ],
+          λ ready image since. elim (read.run.before (moment start.disk) image left.0 since) [
+            | inl past
+                ↦ left.3 ready image past
+            | inr now
+                ↦ left.3 ready image (counts_now d.disk (moment start.disk) image left.0 now)
           ],
         );
       }

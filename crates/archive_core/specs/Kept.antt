@@ -9,7 +9,7 @@ use Rattle.mail_reader.specs.Content.{content_id_of}
 use Rattle.mail_reader.specs.Ids.{own_id}
 use Rattle.arch_model.specs.Archives.{Entry, live, IsFree}
 use Rattle.arch_judge.specs.Indexes.{HasSame, Puts, Loses, owner_in, number_in}
-use Rattle.arch_judge.specs.Judging.{IsForDelivery}
+use Rattle.arch_judge.specs.Judging.{IsForDelivery, MayBeKept}
 use Rattle.arch_model.specs.declared.answer.Answer.TheVariants as answer
 use Rattle.arch_judge.specs.declared.index.Index.{Index}
 use Rattle.arch_judge.specs.declared.judging.Verdict.{Verdict}
@@ -49,11 +49,12 @@ pub record MayGoIn (v : View) (text : List ℕ) (ids : TextIds) : Type 0 where
   pub new_id : IsNewTo v.entries text
   pub ids_are : ids ≡ text_ids_of text
 
--- A text that is taken may go in, and none is still to be compared. A refusal is an answer to a
--- delivery, or tells of a read that failed.
-abbrev pub TakesWhatMay : View → Verdict → Type 0
-TakesWhatMay v (Take text ids number) = MayGoIn v text ids
-TakesWhatMay v (Compare text ids number) = ⊥
-TakesWhatMay v (Refuse answer.DiskFault) = Unit {0}
-TakesWhatMay v (Refuse (answer.Damaged file at)) = Unit {0}
-TakesWhatMay v (Refuse reply) = IsForDelivery reply
+-- A text that is taken by an index may be kept, and none is still to be compared. A refusal is an
+-- answer to a delivery, or tells of a read that failed.
+abbrev pub TakesWhatMay : View → Index → Verdict → Type 0
+TakesWhatMay v index (Take text ids number) =
+    MayBeKept v.root.config index v.root.next text ids number
+TakesWhatMay v index (Compare text ids number) = ⊥
+TakesWhatMay v index (Refuse answer.DiskFault) = Unit {0}
+TakesWhatMay v index (Refuse (answer.Damaged file at)) = Unit {0}
+TakesWhatMay v index (Refuse reply) = IsForDelivery reply

@@ -1,24 +1,27 @@
 -- What an archive that wasn't opened leaves.
 use Rattle.std.specs.Prelude.{◌⊎◌, ℕ, List, Option, Result, Ok, Err}
 use Rattle.disk_model.specs.Disk.{Content, Told, WhereTold}
+use Rattle.disk_model.specs.Synced.{IsSettled}
 use Rattle.arch_model.specs.Archives.{Archive}
 use Rattle.arch_model.specs.declared.opening.OpenRefusal.{OpenRefusal}
 use Rattle.arch_model.specs.declared.opening.OpenRefusal.TheVariants.{NoArchive, Damaged, DiskFault, NoMemory}
 use Rattle.epoch_store.specs.Files.{as_read}
 use Rattle.epoch_store.specs.Opens.{ReadsWith, Opens, IsOnlySynced}
 use Rattle.epoch_store.specs.Settling.{IsSettledBy}
-use Rattle.epoch_store.specs.Stores.{View}
+use Rattle.epoch_store.specs.Stores.{View, IsStoreWith}
 
 -- Files that read as those of an archive with a cache still do.
 abbrev pub StillReads : Option Content → Option Content → Type 0
 StillReads old new = (a : Archive) (cache : List ℕ) → ReadsWith cache a old
     → ReadsWith cache a new
 
--- The files can be opened, and the disk is settled by their root: all bytes that count stay, and no other
--- file is left.
+-- The files can be opened, and the disk is settled by their root: all bytes that count stay, no other
+-- file is left, and all that reads give is on the disk. It is the own one of an archive as which they read.
 abbrev pub SettlesOpened : Option Content → Option Content → Type 0
 SettlesOpened old new = (v : View) × WhereTold (λ k. Opens (as_read k) (Ok v)) old
     × Told (IsSettledBy v.root v.slot) old new
+    × ((a : Archive) (cache : List ℕ) → ReadsWith cache a old → IsStoreWith v cache a new)
+    × WhereTold IsSettled new
 
 -- If there is no archive, or a file is damaged, all files are synced, and otherwise unchanged. Before
 -- `NoMemory` the disk may be settled if its files can be opened, and reads as the archive that it did;

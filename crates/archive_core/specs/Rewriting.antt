@@ -9,22 +9,16 @@ use Rattle.root_slots.specs.Slots.{HasNewRoot}
 use Rattle.root_slots.specs.Spelling.{spelling}
 use Rattle.mail_reader.specs.declared.storing.StoredRefusal.{StoredRefusal}
 use Rattle.mail_reader.specs.declared.storing.StoredRefusal.TheVariants as storing
-use Rattle.git_objects.specs.Objects.{blob_id_of}
 use Rattle.mail_commits.specs.declared.ids.TextIds.{TextIds}
 use Rattle.mail_commits.specs.Ids.{text_ids_of}
 use Rattle.arch_model.specs.Archives.{Archive, live, text_of, without_entries}
 use Rattle.arch_model.specs.Delivery.{delivered, is_form, unless_refused}
 use Rattle.arch_model.specs.declared.answer.Answer.{Answer}
 use Rattle.arch_model.specs.declared.answer.Answer.TheVariants as answer
-use Rattle.arch_judge.specs.Indexes.{IsIndex}
-use Rattle.arch_judge.specs.declared.index.Index.{Index}
-use Rattle.arch_judge.specs.Judging.{IsForDelivery, MayBeKept}
-use Rattle.arch_judge.specs.declared.judging.Verdict.{Verdict}
-use Rattle.arch_judge.specs.declared.judging.Verdict.TheVariants.{Take, Compare, Refuse}
 use Rattle.epoch_file.specs.declared.refusal.StoreRefusal.{StoreRefusal}
 use Rattle.epoch_store.specs.Stores.{View, HasSizes, IsStoreWith, MayEdit, RecoversOneOf, GoesOnAnew}
 use Rattle.archive_core.specs.DamageTold.{TellsDamage}
-use Rattle.archive_core.specs.Commands.{AnswersDelivery, DoneBy, IfUnreadEdit, IsAlone, JudgesRead, OnDone, OnRefusal, OnlyLooks, UnlessFault}
+use Rattle.archive_core.specs.Commands.{AnswersDelivery, DoneBy, IfUnreadEdit, OnDone, OnRefusal, OnlyLooks, UnlessFault}
 
 -- The answers where there is no storage form to compare, or a text wasn't read.
 abbrev pub IsUnformed : Answer → Type 0
@@ -44,25 +38,6 @@ ComparesForm a number form (Err (answer.TooLarge len)) = form ≡ Err (storing.T
 ComparesForm a number form (Err answer.NoMemory) = Unit {0}
 ComparesForm a number form (Err answer.DiskFault) = Unit {0}
 ComparesForm a number form (Err other) = ⊥
-
--- The verdict on a delivery on the archive of an index is what the definition says of it, unless a read
--- failed.
-abbrev pub JudgesEdit : {D : Type 0} → (D → Option Content) → D → View → Index → List ℕ → Verdict
-    → Type 0
-JudgesEdit content disk v index bytes verdict = (a : Archive) (cache text : List ℕ)
-    → IsStoreWith v cache a (content disk)
-    → IsIndex (without_entries a text).entries index
-    → JudgesRead (without_entries a text) bytes verdict × IsAlone (without_entries a text) verdict
-
--- A text that is taken by another index may be kept, and none is still to be compared. A refusal is an
--- answer to a delivery, or tells of a read that failed.
-abbrev pub TakesWhatMayBy : View → Index → Verdict → Type 0
-TakesWhatMayBy v index (Take text ids number) =
-    MayBeKept v.root.config index v.root.next text ids number
-TakesWhatMayBy v index (Compare text ids number) = ⊥
-TakesWhatMayBy v index (Refuse answer.DiskFault) = Unit {0}
-TakesWhatMayBy v index (Refuse (answer.Damaged file at)) = Unit {0}
-TakesWhatMayBy v index (Refuse reply) = IsForDelivery reply
 
 -- A refusal of a delivery whose form was found before, on an archive that takes deliveries. The other
 -- refusals, which never come then, are answered as if memory ran out.

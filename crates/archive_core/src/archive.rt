@@ -1,7 +1,8 @@
 //! An archive on a disk that is handed in. Each of its commands has the result of the definition.
-ghost use Rattle.std.specs.Prelude.{true, false, Some, None, ◌≡◌, ◌≤◌, ◌<◌, ◌+◌, ◌-◌, ◌^◌, ℕ, length, slice_get, Err, IfOk, IfErr, List};
+ghost use Rattle.std.specs.Prelude.{true, false, Some, None, ◌≡◌, ◌≤◌, ◌<◌, ◌+◌, ◌-◌, ◌^◌, ℕ, length, slice_get, Err, IfOk, IfErr, List, Option};
 ghost use Rattle.arch_base.specs.Configs.{IsConfig};
 ghost use Rattle.arch_base.specs.Counts.{RoseIf};
+ghost use Rattle.arch_judge.specs.Indexes.{IsIndex};
 ghost use Rattle.disk_model.specs.Disk.{Told, WhereTold, LeavesOnly};
 ghost use Rattle.disk_model.specs.Synced.{IsSettled};
 ghost use Rattle.root_slots.specs.Between.{RunsBetween};
@@ -13,7 +14,6 @@ ghost use Rattle.arch_model.specs.Keeping.{form_known, text_known};
 ghost use Rattle.arch_model.specs.Shelves.{ReadsOnce};
 ghost use Rattle.mail_reader.specs.Stored.{stored};
 ghost use Rattle.archive_core.specs.Numbers.{IsLiveAt};
-ghost use Rattle.epoch_file.specs.declared.refusal.StoreRefusal.{StoreRefusal};
 ghost use Rattle.archive_core.specs.Kept.{MayGoIn, TakesWhatMay};
 ghost use Rattle.arch_model.specs.declared.answer.Answer.{Answer};
 ghost use Rattle.arch_model.specs.declared.command.Command.TheVariants as command;
@@ -23,7 +23,7 @@ ghost use Rattle.epoch_store.specs.Promises.{Adds, Appends, ChangesStore, MakesA
 ghost use Rattle.epoch_store.specs.Reads.{HasTexts};
 ghost use Rattle.epoch_store.specs.Stores.{IsStoreWith, HasSizes, RecoversEitherWith, GoesOn};
 ghost use Rattle.archive_core.specs.DamageTold.{RefusesEntry, TellsDamage, TellsEntry};
-ghost use Rattle.archive_core.specs.Commands.{DoneBy, OnDone, OnRefusal, UnlessFault, OnlyLooks, AnswersRemoval, IfUnread, IfRefusedUnread, IsFaultRead, JudgesRead, IsAlone, TakesCommand, refusal_answer, unread_answer, damaged_place, IsNamed, IsTextAt, ReadsMessage, IsUnread, is_delivery, IfDelivery, TellsText, KeepsText, KeepsTextFor, IsGone};
+ghost use Rattle.archive_core.specs.Commands.{DoneBy, OnDone, OnRefusal, UnlessFault, OnlyLooks, AnswersRemoval, IfUnread, IfRefusedUnread, IsFaultRead, JudgesOn, left_without, TakesCommand, refusal_answer, unread_answer, damaged_place, IsNamed, IsTextAt, ReadsMessage, IsUnread, is_delivery, IfDelivery, TellsText, KeepsText, KeepsTextFor, IsGone};
 
 use crate::placing::{MessagePlace, are_rising, end_place, may_follow, places_of};
 use crate::texts::{KeptText, end_text, put_text, take_text};
@@ -226,7 +226,7 @@ impl DiskArchive {
             → OnDone result (KeepsText a (delivered a bytes.now moment) moment kept.new.text) }
     {
         law_of_stores();
-        match self.verdict(disk, bytes) {
+        match self.verdict(disk, &self.index, bytes) {
             Verdict::Refuse(answer) => answer,
             // The texts were compared before.
             Verdict::Compare { .. } => Answer::NoMemory,
@@ -248,45 +248,31 @@ impl DiskArchive {
         }
     }
 
-    /// Returns the verdict on the delivery of a message, where texts are compared. Reads at most once.
-    fn verdict<D: Disk>(&self, disk: &mut D, bytes: &[u8]) -> Verdict
-        ensures judged { (a : Archive) (cache : List ℕ)
-            → IsStoreWith self.now cache a (D.content disk.old) → JudgesRead a bytes.now result }
-        ensures alone { (a : Archive) (cache : List ℕ)
-            → IsStoreWith self.now cache a (D.content disk.old) → IsAlone a result }
-        ensures taken { TakesWhatMay self.now result }
+    /// Returns the verdict on the delivery of a message, by an index that has all entries or lacks those
+    /// of a text. Texts are compared. Reads at most once.
+    pub(crate) fn verdict<D: Disk>(&self, disk: &mut D, index: &Index, bytes: &[u8]) -> Verdict
+        ensures judged { JudgesOn D.content disk.old self.now index.now bytes.now result }
+        // For any index: a text that is taken may be kept.
+        ensures taken { TakesWhatMay self.now index.now result }
         ensures looks { OnlyLooks D.content D.moment D.left_since disk.old disk.new }
         ensures unmoved { IfRefusedUnread result (disk.new ≡ disk.old) }
         ensures cause { RoseIf (IsFaultRead result) (D.faults disk.old) (D.faults disk.new) }
         ensures damage { RefusesEntry self.now (D.content disk.old) result }
         ensures count { ReadsOnce (D.reads disk.old) (D.reads disk.new) }
-        ensures unread { (a : Archive) (cache : List ℕ)
-            → IsStoreWith self.now cache a (D.content disk.old) → form_known a (stored bytes.now) ≡ false
+        ensures unread { (a : Archive) (cache : List ℕ) (gone : Option (List ℕ))
+            → IsStoreWith self.now cache a (D.content disk.old)
+            → IsIndex (left_without a gone).entries index.now
+            → form_known (left_without a gone) (stored bytes.now) ≡ false
             → D.reads disk.new ≡ D.reads disk.old }
     {
         let count = self.store.stored().len();
         let next = self.store.next_number();
-        match judge(
-            self.alloc,
-            self.store.config(),
-            &self.index,
-            count,
-            next,
-            bytes,
-        ) {
+        let config = self.store.config();
+        match judge(self.alloc, config, index, count, next, bytes) {
             Verdict::Refuse(answer) => Verdict::Refuse(answer),
             Verdict::Take { text, ids, number } => Verdict::Take { text, ids, number },
             Verdict::Compare { text, ids, number } => match self.message_text(disk, number) {
-                Ok(kept) => {
-                    compared(
-                        self.store.config(),
-                        next,
-                        text,
-                        ids,
-                        number,
-                        kept.as_slice(),
-                    )
-                }
+                Ok(kept) => compared(config, next, text, ids, number, kept.as_slice()),
                 Err(answer) => Verdict::Refuse(answer),
             },
         }

@@ -1,20 +1,19 @@
 //! An archive that owns its disk.
-ghost use Rattle.std.specs.Prelude.{◌≡◌, ◌≢◌, ◌≤◌, true, false, IfOk, IfErr, OnErr, Err, List, None, not, ◌||◌, is_ok, is_some, length, ℕ};
+ghost use Rattle.std.specs.Prelude.{◌≡◌, ◌≤◌, true, false, IfOk, IfErr, OnErr, Err, List, None, not, ◌||◌, is_ok, is_some, length, ℕ};
 ghost use Rattle.arch_base.specs.Configs.{IsConfig};
 ghost use Rattle.arch_base.specs.Moments.{last_moment};
 ghost use Rattle.disk_model.specs.Disk.{LeavesOnly};
 ghost use Rattle.arch_model.specs.Archives.{Archive, live, text_of};
 ghost use Rattle.arch_model.specs.Delivery.{applied};
-ghost use Rattle.arch_model.specs.Keeping.{Moves, Comes, StaysReady, AnswerCause, ReadsFor, text_known};
+ghost use Rattle.arch_model.specs.Keeping.{Fits, Moves, Comes, StaysReady, AnswerCause, ReadsFor, text_known};
 ghost use Rattle.arch_model.specs.Shelves.{GivesBlobIn, AppendsTo, Stays, ReadCause, ReadsOnce};
 ghost use Rattle.arch_model.specs.Standing.{Standing, standing, GivesTextIn, KeepsUnlessFound};
-ghost use Rattle.arch_model.specs.declared.answer.Answer.{Answer};
 ghost use Rattle.epoch_store.specs.Opens.{ReadsWith};
 ghost use Rattle.epoch_store.specs.Promises.{MakesArchive, OpensArchive};
 ghost use Rattle.epoch_store.specs.Stores.{IsStoreWith, RecoversOneOf};
 ghost use Rattle.archive_core.specs.Commands.{DoneBy, OnDone, IfUnreadFor, IfRemoval, cache_left, IsForCommand, is_delivery};
 ghost use Rattle.archive_core.specs.DamageTold.{TellsDamage};
-ghost use Rattle.archive_core.specs.Engines.{Holds, IfRefused, Leaves, ReadsOn, is_ready, needs_opening as needs_opening_after, reading-same, reading-joined, store-left, now-left, reading-kept};
+ghost use Rattle.archive_core.specs.Engines.{Holds, Rests, IfRefused, Leaves, ReadsOn, is_ready, needs_opening as needs_opening_after, reading-same, reading-joined, store-left, holds-rest, now-left, reading-kept};
 ghost use Rattle.archive_core.specs.HandedBack.{disk_made, made_or_why, disk_opened, opened_or_why};
 ghost use Rattle.archive_core.specs.Numbers.{GivesTextKept, GivesBlobKept, Names};
 ghost use Rattle.archive_core.specs.Openings.{RefusesKindly};
@@ -172,13 +171,8 @@ impl<D: Disk> Engine<D> {
     }
 
     /// Carries out a command at a moment, in seconds since 1970 UTC, on an archive that needn't be
-    /// reopened.
-    ///
-    /// The archive has to be reopened after the answers `DiskFault` and `Damaged`, and after an `Ok`
-    /// for whose row, words or threads there was no memory: then nothing is in doubt. It needn't be after
-    /// any other answer. After a removal and a purge the rows are right in any case, and memory may have
-    /// run out for the threads alone. `Damaged` never comes while an archive is held.
-    pub fn take(&mut self, command: &Command<'_>, moment: u64) -> Answer
+    /// reopened. `command` says when it has to be afterwards.
+    fn take(&mut self, command: &Command<'_>, moment: u64) -> Answer
         requires ready { self.old.stale ≡ false }
         requires moment { moment ≤ last_moment }
         // A crash in it leaves the archive before the command, or the one after it.
@@ -193,8 +187,8 @@ impl<D: Disk> Engine<D> {
             (D.content self.new.disk) }
         // As a keeper's.
         ensures stands { (a : Archive) → Holds D.content self.old a → (t : Standing)
-            × Moves (Holds D.content) is_ready (Leaves D.moment D.left_since) self.old
-            (standing a None) self.new t
+            × Moves (Holds D.content) (Rests D.content) is_ready
+            (Leaves D.content D.moment D.left_since) self.old (standing a None) self.new t
             × Comes true (standing a None) (λ (b : Archive). applied b command.now moment) result t }
         ensures ready { StaysReady true result (is_ready self.new) }
         // After a removal or a purge that was done the archive after it is held, rows included, even if the
@@ -212,9 +206,6 @@ impl<D: Disk> Engine<D> {
         ensures damage { TellsDamage self.old.view (D.content self.old.disk) result }
         ensures later { D.faults self.old.disk ≤ D.faults self.new.disk }
         ensures cause { AnswerCause (D.faults self.old.disk) (D.faults self.new.disk) result }
-        // Each fault of the disk is told.
-        ensures steady { result ≢ Answer.DiskFault
-            → D.faults self.new.disk ≡ D.faults self.old.disk }
         ensures reads { ReadsFor command.now (D.reads self.old.disk) (D.reads self.new.disk) }
         // A delivery whose blob id no entry has reads nothing.
         ensures unread { (a : Archive) (cache : List ℕ)
@@ -297,6 +288,10 @@ impl<D: Disk> Shelf for Engine<D> {
         self.views.search(query)
     }
 
+    fn search_page(&self, query: &Query, skip: u64, count: u64) -> Result<Numbers, NoMemory> {
+        self.views.search_page(query, skip, count)
+    }
+
     fn entry(&self, index: u64) -> Option<EntryLine> {
         self.archive.entry(index)
     }
@@ -350,7 +345,9 @@ impl<D: Disk> Shelf for Engine<D> {
 }
 
 impl<D: Disk> Keep for Engine<D> {
-    ghost leaves = { Leaves D.moment D.left_since };
+    ghost rests = { Rests D.content };
+
+    ghost leaves = { Leaves D.content D.moment D.left_since };
 
     fn is_stale(&self) -> bool {
         self.stale
@@ -381,7 +378,55 @@ impl<D: Disk> Keep for Engine<D> {
         }
     }
 
-    fn command(&mut self, command: &Command<'_>, moment: u64) -> Answer {
+    /// Carries out a command at a moment, in seconds since 1970 UTC. A stale engine is reopened first.
+    ///
+    /// The archive has to be reopened after the answers `DiskFault` and `Damaged`, and after an `Ok`
+    /// for whose row, words or threads there was no memory: then nothing is in doubt. It needn't be after
+    /// any other answer. After a removal and a purge the rows are right in any case, and memory may have
+    /// run out for the threads alone. `Damaged` never comes while an archive is held.
+    fn command(&mut self, command: &Command<'_>, moment: u64) -> Answer
+        requires moment { moment ≤ last_moment }
+        ensures done { (s : Standing)
+            → Fits (Holds D.content) (Rests D.content) is_ready
+            (Leaves D.content D.moment D.left_since) self.old s
+            → (t : Standing) × Moves (Holds D.content) (Rests D.content) is_ready
+            (Leaves D.content D.moment D.left_since) self.old s self.new t
+            × Comes (is_ready self.old) s (λ (a : Archive). applied a command.now moment) result t }
+        ensures ready { StaysReady (is_ready self.old) result (is_ready self.new) }
+        ensures later { D.faults self.old.disk ≤ D.faults self.new.disk }
+        ensures cause { AnswerCause (D.faults self.old.disk) (D.faults self.new.disk) result }
+        ensures reads { is_ready self.old ≡ true
+            → ReadsFor command.now (D.reads self.old.disk) (D.reads self.new.disk) }
+        ensures unread { (a : Archive) → Holds D.content self.old a → is_ready self.old ≡ true
+            → text_known a command.now ≡ false → D.reads self.new.disk ≡ D.reads self.old.disk }
+        // Beyond any keeper. Each command gives only the answers of its kind.
+        ensures for_command { IsForCommand command.now result }
+        // The rest is said of an archive that needn't be reopened. A crash leaves the archive before the
+        // command, or the one after it, and the disk is then that of the one that the answer tells, both
+        // with this cache.
+        ensures any_moment { (a : Archive) (cache : List ℕ) → is_ready self.old ≡ true
+            → IsStoreWith self.old.view cache a (D.content self.old.disk)
+            → LeavesOnly D.moment D.left_since self.old.disk self.new.disk
+            (RecoversOneOf cache a (cache_left command.now cache) (applied a command.now moment).archive) }
+        ensures store { (a : Archive) (cache : List ℕ) → is_ready self.old ≡ true
+            → IsStoreWith self.old.view cache a (D.content self.old.disk)
+            → DoneBy self.new.view cache (cache_left command.now cache) a
+            (applied a command.now moment) result (D.content self.new.disk) }
+        // After a removal or a purge that was done the archive after it is held, rows included, even if the
+        // engine has to be reopened for its threads.
+        ensures removed { is_ready self.old ≡ true → IfRemoval (is_delivery command.now)
+            ((a : Archive) → Holds D.content self.old a
+            → OnDone result (Holds D.content self.new (applied a command.now moment).archive)) }
+        // A refusal by the rules, and `NoMemory`, change nothing but what reading changes, and a
+        // refusal before which no text is read changes nothing at all.
+        ensures untouched { is_ready self.old ≡ true
+            → IfRefused result (ReadsOn D.content D.moment D.left_since self.old self.new) }
+        ensures unmoved { is_ready self.old ≡ true
+            → IfUnreadFor command.now result (self.new ≡ self.old) }
+        // `Damaged` has the place of an entry whose text isn't there, or a file that is too short.
+        ensures damage { is_ready self.old ≡ true
+            → TellsDamage self.old.view (D.content self.old.disk) result }
+    {
         match self.fresh() {
             Ok(()) => self.take(command, moment),
             Err(refusal) => refusal.answer(),
@@ -391,6 +436,9 @@ impl<D: Disk> Keep for Engine<D> {
     fn epoch_bytes(&mut self, epoch: u32, into: &mut Bytes) -> Result<bool, TextRefusal> {
         self.archive.epoch_bytes(&mut self.disk, epoch, into)
     }
+
+    ghost holds_rests = { λ e a store.
+        holds-rest D.content D.moment D.left_since D.counts_now D.only_now e a store };
 
     ghost holds_left = { λ e a may store has.
         store-left D.content D.moment D.left_since D.counts_now D.only_now e a may (store.0, store.1) has };

@@ -1,5 +1,5 @@
 //! Purges and edits of an archive on a disk.
-ghost use Rattle.std.specs.Prelude.{Some, None, ◌≡◌, ◌≤◌, ◌<◌, ◌-◌, ℕ, Err, IfErr, IfOk, OnOk, List};
+ghost use Rattle.std.specs.Prelude.{Some, None, ◌≡◌, ◌≤◌, ℕ, Err, IfErr, IfOk, OnOk, List};
 ghost use Rattle.arch_base.specs.Counts.{RoseIf};
 ghost use Rattle.arch_base.specs.Moments.{last_moment};
 ghost use Rattle.disk_model.specs.Disk.{WhereTold};
@@ -9,11 +9,11 @@ ghost use Rattle.arch_model.specs.Archives.{Archive, live, messages, text_of, wi
 ghost use Rattle.arch_model.specs.Delivery.{delivered, edited, purged, unless_refused};
 ghost use Rattle.epoch_store.specs.Promises.{ChangesStore, Drops, Renews, Replaces};
 ghost use Rattle.epoch_store.specs.Stores.{EditsFiles, HasSizes, IsStoreWith, Keeps, KeepsFiles, MayPurge, without_blob};
-ghost use Rattle.archive_core.specs.Commands.{IsFaultRead, IfUnread, IsGone, IsLiveOf, KeepsText, KeepsTextFor, OnDone, OnlyLooks, TakesCommand, TellsText};
-ghost use Rattle.archive_core.specs.DamageTold.{RefusesEntry, TellsEntry};
+ghost use Rattle.archive_core.specs.Commands.{IfUnread, IsGone, IsLiveOf, KeepsText, KeepsTextFor, OnDone, OnlyLooks, TakesCommand, TellsText};
+ghost use Rattle.archive_core.specs.DamageTold.{TellsEntry};
 ghost use Rattle.archive_core.specs.Numbers.{IsLiveAt};
 ghost use Rattle.archive_core.specs.Kept.{IndexesKept};
-ghost use Rattle.archive_core.specs.Rewriting.{ComparesForm, EditsAs, IsUnformed, JudgesEdit, MayReplace, TakesWhatMayBy, bare, late_answer};
+ghost use Rattle.archive_core.specs.Rewriting.{ComparesForm, EditsAs, IsUnformed, MayReplace, bare, late_answer};
 ghost use Rattle.arch_model.specs.declared.command.Command.TheVariants as command;
 
 use crate::archive::{DiskArchive, answer_of};
@@ -21,7 +21,7 @@ use crate::entries::index_without;
 use crate::placing::{MessagePlace, count_without, live_with, may_follow, places_without};
 use crate::texts::{KeptText, put_text};
 use arch_base::{Bytes, ObjectId};
-use arch_judge::{Index, Verdict, compared, judge};
+use arch_judge::{Index, Verdict};
 use arch_model::Answer;
 use disk_model::Disk;
 use epoch_file::StoreRefusal;
@@ -208,7 +208,7 @@ impl DiskArchive {
         let Ok(index) = index_without(self.alloc, self.store.stored(), blob) else {
             return Answer::NoMemory;
         };
-        match self.verdict_on(disk, &index, bytes) {
+        match self.verdict(disk, &index, bytes) {
             Verdict::Refuse(answer) => late_refusal(answer),
             // The texts were compared before.
             Verdict::Compare { .. } => Answer::NoMemory,
@@ -229,30 +229,6 @@ impl DiskArchive {
                     }
                 }
                 Err(refusal) => answer_of(&refusal),
-            },
-        }
-    }
-
-    /// Returns the verdict on the delivery of a message on the archive of another index, which is that
-    /// of some of its entries. Texts are compared.
-    fn verdict_on<D: Disk>(&self, disk: &mut D, index: &Index, bytes: &[u8]) -> Verdict
-        ensures judged { JudgesEdit D.content disk.old self.now index.now bytes.now result }
-        // For any index: a text that is taken may be kept.
-        ensures taken { TakesWhatMayBy self.now index.now result }
-        ensures looks { OnlyLooks D.content D.moment D.left_since disk.old disk.new }
-        ensures cause { RoseIf (IsFaultRead result) (D.faults disk.old) (D.faults disk.new) }
-        ensures damage { RefusesEntry self.now (D.content disk.old) result }
-        ensures fewest { D.reads disk.old ≤ D.reads disk.new }
-    {
-        let count = self.store.stored().len();
-        let next = self.store.next_number();
-        let config = self.store.config();
-        match judge(self.alloc, config, index, count, next, bytes) {
-            Verdict::Refuse(answer) => Verdict::Refuse(answer),
-            Verdict::Take { text, ids, number } => Verdict::Take { text, ids, number },
-            Verdict::Compare { text, ids, number } => match self.message_text(disk, number) {
-                Ok(kept) => compared(config, next, text, ids, number, kept.as_slice()),
-                Err(answer) => Verdict::Refuse(answer),
             },
         }
     }

@@ -10,11 +10,11 @@ returns-in-Err-clause-refused g c = refused_kindly (View × Index) c.in-Err.refu
 pub returns-in_default-clause-refused : goal.returns-in_default-clause-refused
 returns-in_default-clause-refused g c = (
   opened_reads c.law_of_stores.ensures.recovers c.law_of_stores.ensures.exact c.in-Ok.opened.0 (g.D.Disk.content c.args.disk.now) (g.D.Disk.content c.open.new.disk) c.in-Ok.ensures.done,
-  inr (c.in-Ok.opened.0, c.in-Ok.ensures.answer, c.in-Ok.ensures.kept),
+  inr (c.in-Ok.opened.0, c.in-Ok.ensures.answer, c.in-Ok.ensures.kept, c.in-Ok.ensures.done, c.in-Ok.ensures.settled),
 )
 
 pub returns-then-not-are_rising-clause-refused : goal.returns-then-not-are_rising-clause-refused
 returns-then-not-are_rising-clause-refused g c = (
   opened_reads c.law_of_stores.ensures.recovers c.law_of_stores.ensures.exact c.in-Ok.opened.0 (g.D.Disk.content c.args.disk.now) (g.D.Disk.content c.open.new.disk) c.in-Ok.ensures.done,
-  inr (c.in-Ok.opened.0, c.in-Ok.ensures.answer, c.in-Ok.ensures.kept),
+  inr (c.in-Ok.opened.0, c.in-Ok.ensures.answer, c.in-Ok.ensures.kept, c.in-Ok.ensures.done, c.in-Ok.ensures.settled),
 )

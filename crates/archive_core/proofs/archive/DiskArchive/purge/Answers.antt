@@ -1,4 +1,4 @@
-use Rattle.std.proofs.Common.{◌≡◌, ◌∙◌, ap, subst, sym, refl, Option, ℕ, List}
+use Rattle.std.proofs.Common.{◌≡◌, ◌∙◌, ap, subst, sym, refl, ℕ, List}
 use Rattle.arch_base.specs.declared.config.Config.{Config}
 use Rattle.arch_base.specs.declared.ids.Id20.{Id20}
 use Rattle.arch_model.specs.Archives.{Archive, messages, text_of}

@@ -3,8 +3,9 @@ use Rattle.arch_model.specs.declared.answer.Answer.{Answer}
 use Rattle.arch_judge.specs.declared.judging.Verdict.TheVariants.{Take}
 use Rattle.epoch_store.specs.Stores.{View, without_blob}
 use Rattle.epoch_store.specs.declared.entries.StoredEntry.{StoredEntry}
+use Rattle.archive_core.specs.Commands.{JudgesOn}
 use Rattle.archive_core.specs.Kept.{IndexesKept}
-use Rattle.archive_core.specs.Rewriting.{EditsAs, JudgesEdit, MayReplace}
+use Rattle.archive_core.specs.Rewriting.{EditsAs, MayReplace}
 use Rattle.archive_core.proofs.EditKept.{taken-kept}
 use Rattle.archive_core.proofs.Redone.{edits-none, edits-refused, edits-failed, edits-done}
 use Rattle.archive_core.proofs.WithoutText.{may-replace}
@@ -25,26 +26,26 @@ returns-in-Refuse-clause-edits g c =
     let v : View = c.args.self.now in
     let entries : c.stored.result.now ≡ v.entries = c.stored.ensures ∙ ap (λ (u : View). u.entries) c.self.view_is in
     let indexed : IndexesKept (without_blob v.entries c.args.blob.now.0) c.in-Ok.index = subst (λ (es : List StoredEntry). IndexesKept (without_blob es c.args.blob.now.0) c.in-Ok.index) entries c.in-Ok.ensures in
-    subst (λ (r : Answer). EditsAs g.D.Disk.content g.D.Disk.moment g.D.Disk.left_since g.D.Disk.faults c.args.disk.now c.verdict_on.new.disk v v c.args.number c.args.bytes.now c.args.moment r) (sym c.late_refusal.ensures)
-    (edits-refused g.D.Disk.content g.D.Disk.moment g.D.Disk.left_since g.D.Disk.faults g.met.D.Disk.only_now c.law_of_stores.ensures.recovers c.args.disk.now c.verdict_on.new.disk v c.in-Ok.index c.args.blob.now c.args.number c.args.bytes.now c.args.moment c.in-Refuse.answer c.requires.may indexed c.requires.sizes c.in-Refuse.ensures.judged c.verdict_on.ensures.looks c.in-Refuse.ensures.cause c.in-Refuse.ensures.damage)
+    subst (λ (r : Answer). EditsAs g.D.Disk.content g.D.Disk.moment g.D.Disk.left_since g.D.Disk.faults c.args.disk.now c.verdict.new.disk v v c.args.number c.args.bytes.now c.args.moment r) (sym c.late_refusal.ensures)
+    (edits-refused g.D.Disk.content g.D.Disk.moment g.D.Disk.left_since g.D.Disk.faults g.met.D.Disk.only_now c.law_of_stores.ensures.recovers c.args.disk.now c.verdict.new.disk v c.in-Ok.index c.args.blob.now c.args.number c.args.bytes.now c.args.moment c.in-Refuse.answer c.requires.may indexed c.requires.sizes c.in-Refuse.ensures.judged c.verdict.ensures.looks c.in-Refuse.ensures.cause c.in-Refuse.ensures.damage)
 
 pub returns-in-Ok-keep_instead-clause-edits : goal.returns-in-Ok-keep_instead-clause-edits
 returns-in-Ok-keep_instead-clause-edits g c =
     let v : View = c.args.self.now in
     let entries : c.stored.result.now ≡ v.entries = c.stored.ensures ∙ ap (λ (u : View). u.entries) c.self.view_is in
     let indexed : IndexesKept (without_blob v.entries c.args.blob.now.0) c.in-Ok.index = subst (λ (es : List StoredEntry). IndexesKept (without_blob es c.args.blob.now.0) c.in-Ok.index) entries c.in-Ok.ensures in
-    let judged : JudgesEdit g.D.Disk.content c.args.disk.now v c.in-Ok.index c.args.bytes.now (Take c.as_slice.result.now c.in-Take.ids c.in-Take.new) = subst (λ (t : List ℕ). JudgesEdit g.D.Disk.content c.args.disk.now v c.in-Ok.index c.args.bytes.now (Take t c.in-Take.ids c.in-Take.new)) (sym c.as_slice.ensures) c.in-Take.ensures.judged in
-    edits-done g.D.Disk.content g.D.Disk.moment g.D.Disk.left_since g.D.Disk.faults g.met.D.Disk.only_now c.law_of_stores.ensures.recovers c.args.disk.now c.verdict_on.new.disk c.keep_instead.new.disk v c.keep_instead.new.self c.in-Ok.index c.args.blob.now c.args.number c.args.bytes.now c.as_slice.result.now c.args.moment c.in-Take.new c.in-Take.ids c.requires.may indexed
-    judged c.verdict_on.ensures.looks (c.in-Take.ensures.cause.kept (λ never. never)) c.in-Ok-keep_instead.ensures.changes
+    let judged : JudgesOn g.D.Disk.content c.args.disk.now v c.in-Ok.index c.args.bytes.now (Take c.as_slice.result.now c.in-Take.ids c.in-Take.new) = subst (λ (t : List ℕ). JudgesOn g.D.Disk.content c.args.disk.now v c.in-Ok.index c.args.bytes.now (Take t c.in-Take.ids c.in-Take.new)) (sym c.as_slice.ensures) c.in-Take.ensures.judged in
+    edits-done g.D.Disk.content g.D.Disk.moment g.D.Disk.left_since g.D.Disk.faults g.met.D.Disk.only_now c.law_of_stores.ensures.recovers c.args.disk.now c.verdict.new.disk c.keep_instead.new.disk v c.keep_instead.new.self c.in-Ok.index c.args.blob.now c.args.number c.args.bytes.now c.as_slice.result.now c.args.moment c.in-Take.new c.in-Take.ids c.requires.may indexed
+    judged c.verdict.ensures.looks (c.in-Take.ensures.cause.kept (λ never. never)) c.in-Ok-keep_instead.ensures.changes
 
 pub returns-in-Err-clause-edits : goal.returns-in-Err-clause-edits
 returns-in-Err-clause-edits g c =
     let v : View = c.args.self.now in
     let entries : c.stored.result.now ≡ v.entries = c.stored.ensures ∙ ap (λ (u : View). u.entries) c.self.view_is in
     let indexed : IndexesKept (without_blob v.entries c.args.blob.now.0) c.in-Ok.index = subst (λ (es : List StoredEntry). IndexesKept (without_blob es c.args.blob.now.0) c.in-Ok.index) entries c.in-Ok.ensures in
-    let judged : JudgesEdit g.D.Disk.content c.args.disk.now v c.in-Ok.index c.args.bytes.now (Take c.as_slice.result.now c.in-Take.ids c.in-Take.new) = subst (λ (t : List ℕ). JudgesEdit g.D.Disk.content c.args.disk.now v c.in-Ok.index c.args.bytes.now (Take t c.in-Take.ids c.in-Take.new)) (sym c.as_slice.ensures) c.in-Take.ensures.judged in
-    edits-failed g.D.Disk.content g.D.Disk.moment g.D.Disk.left_since g.D.Disk.faults g.met.D.Disk.only_now c.law_of_stores.ensures.recovers c.args.disk.now c.verdict_on.new.disk c.keep_instead.new.disk v c.keep_instead.new.self c.in-Ok.index c.args.blob.now c.args.number c.args.bytes.now c.as_slice.result.now c.args.moment c.in-Take.new c.in-Take.ids c.requires.may indexed
-    judged c.verdict_on.ensures.looks (c.in-Take.ensures.cause.kept (λ never. never)) c.in-Err.refusal c.answer_of.result c.answer_of.ensures c.requires.sizes c.in-Err.ensures.changes
+    let judged : JudgesOn g.D.Disk.content c.args.disk.now v c.in-Ok.index c.args.bytes.now (Take c.as_slice.result.now c.in-Take.ids c.in-Take.new) = subst (λ (t : List ℕ). JudgesOn g.D.Disk.content c.args.disk.now v c.in-Ok.index c.args.bytes.now (Take t c.in-Take.ids c.in-Take.new)) (sym c.as_slice.ensures) c.in-Take.ensures.judged in
+    edits-failed g.D.Disk.content g.D.Disk.moment g.D.Disk.left_since g.D.Disk.faults g.met.D.Disk.only_now c.law_of_stores.ensures.recovers c.args.disk.now c.verdict.new.disk c.keep_instead.new.disk v c.keep_instead.new.self c.in-Ok.index c.args.blob.now c.args.number c.args.bytes.now c.as_slice.result.now c.args.moment c.in-Take.new c.in-Take.ids c.requires.may indexed
+    judged c.verdict.ensures.looks (c.in-Take.ensures.cause.kept (λ never. never)) c.in-Err.refusal c.answer_of.result c.answer_of.ensures c.requires.sizes c.in-Err.ensures.changes
 
 pub returns-in-Ok-keep_instead-clause-kept : goal.returns-in-Ok-keep_instead-clause-kept
 returns-in-Ok-keep_instead-clause-kept g c = λ a cache gone store shown.

@@ -12,7 +12,7 @@ returns-in-Err-clause-refused g c = refused_kindly (View × Index) c.in-Err.refu
 pub returns-in_default-clause-refused : goal.returns-in_default-clause-refused
 returns-in_default-clause-refused g c = (
   opened_reads c.law_of_stores.ensures.recovers c.law_of_stores.ensures.exact c.in-Ok.store (g.D.Disk.content c.args.disk.now) (g.D.Disk.content c.open.new.disk) c.in-Ok.ensures.done,
-  inr (c.in-Ok.store, c.in-Ok.ensures.answer, c.in-Ok.ensures.kept),
+  inr (c.in-Ok.store, c.in-Ok.ensures.answer, c.in-Ok.ensures.kept, c.in-Ok.ensures.done, c.in-Ok.ensures.settled),
 )
 
 pub invariant_of-result : goal.invariant_of-result

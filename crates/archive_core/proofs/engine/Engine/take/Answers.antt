@@ -6,7 +6,7 @@ use Rattle.epoch_store.specs.Stores.{IsStoreWith}
 use Rattle.archive_core.specs.Engines.{Owning, needs_opening, reading-same}
 use Rattle.arch_model.specs.Archives.{Archive}
 use Rattle.arch_model.specs.Delivery.{applied}
-use Rattle.archive_core.proofs.Engines.{starved-at, still-left, left-from, done-from, taken-from, answer-cause-from, steady-from, refused-from, unmoved-from, removed-from, of-removal, kept-or-none}
+use Rattle.archive_core.proofs.Engines.{starved-at, still-left, left-from, done-from, taken-from, answer-cause-from, refused-from, unmoved-from, removed-from, of-removal, kept-or-none}
 use Rattle.archive_core.proofs.KeepingUp.{kept-up, followed-ready, needs-stale, on-ok, stays-ready}
 use Rattle.archive_core.proofs.Standing.{store_keeps}
 use Rattle.archive_core.proofs.engine.Engine.take.Goals as goal
@@ -46,13 +46,13 @@ returns-clause-stands g c =
     (record { disk = c.self.inside.disk; view = c.self.inside.archive; views = c.self.inside.views; stale = c.self.inside.stale }) c.args.self.now c.self.view_is c.law_of_recovery.ensures.caches
     (record { disk = c.command_keeping-answer.new.disk; view = c.command_keeping-answer.new.self; views = c.follow-followed.new.views; stale = c.is_left_stale-self-inside.result })
     wanted (cache_left c.args.command.now) reply (kept-or-none c.args.command.now) (λ needs. stale_is ∙ needs-stale (needs_opening reply) ok needs)
-    (λ a cache store. c.command_keeping-answer.ensures.taken.any_moment a cache store room) (λ a cache store. c.command_keeping-answer.ensures.taken.done a cache store room)
+    (λ a cache store. c.command_keeping-answer.ensures.taken.any_moment a cache store room) c.command_keeping-answer.ensures.taken.between (λ a cache store. c.command_keeping-answer.ensures.taken.done a cache store room)
     (λ a cache store old_is.
     kept-up a c.args.command.now c.args.moment c.command_keeping-answer.new.kept.text c.command_keeping-answer.new.gone c.command_keeping-answer.new.self cache (cache_left c.args.command.now cache) (g.D.Disk.content c.command_keeping-answer.new.disk) c.self.inside.views c.follow-followed.new.views (not c.is_left_stale-self-inside.result) ok reply
     (store_keeps c.self.inside.archive cache a (g.D.Disk.content c.self.inside.disk) store).valid old_is (c.command_keeping-answer.ensures.taken.done a cache store room)
     (c.command_keeping-answer.ensures.kept a cache store) (c.command_keeping-answer.ensures.gone a cache store) (λ ready. followed-ready (needs_opening reply) ok (ap not (sym stale_is) ∙ ready)) c.follow-followed.ensures.refused
     (λ went. on-ok c.follow-followed.result _ c.follow-followed.ensures.rows went))
-    c.command_keeping-answer.ensures.taken.untouched
+    c.command_keeping-answer.ensures.taken.untouched c.command_keeping-answer.ensures.taken.settled
 
 pub returns-clause-ready : goal.returns-clause-ready
 returns-clause-ready g c = stays-ready c.is_left_stale-self-inside.result (is_ok c.follow-followed.result) c.command_keeping-answer.result c.is_left_stale-self-inside.ensures c.follow-followed.ensures.refused
@@ -62,11 +62,6 @@ follow-followed-requires g c = record { text = c.command_keeping-answer.ensures.
 
 pub returns-clause-cause : goal.returns-clause-cause
 returns-clause-cause g c = answer-cause-from g.D.Disk.content g.D.Disk.moment g.D.Disk.left_since g.met.D.Disk.counts_now g.met.D.Disk.only_now g.met.D.Disk.reads_fit
-    (record { disk = c.self.inside.disk; view = c.self.inside.archive; views = c.self.inside.views; stale = c.self.inside.stale }) c.args.self.now c.self.view_is
-    g.D.Disk.faults c.command_keeping-answer.new.disk c.command_keeping-answer.result c.command_keeping-answer.ensures.taken.cause
-
-pub returns-clause-steady : goal.returns-clause-steady
-returns-clause-steady g c = steady-from g.D.Disk.content g.D.Disk.moment g.D.Disk.left_since g.met.D.Disk.counts_now g.met.D.Disk.only_now g.met.D.Disk.reads_fit
     (record { disk = c.self.inside.disk; view = c.self.inside.archive; views = c.self.inside.views; stale = c.self.inside.stale }) c.args.self.now c.self.view_is
     g.D.Disk.faults c.command_keeping-answer.new.disk c.command_keeping-answer.result c.command_keeping-answer.ensures.taken.cause
 
@@ -101,7 +96,7 @@ returns-clause-removed g c =
     removed-from g.D.Disk.content g.D.Disk.moment g.D.Disk.left_since g.met.D.Disk.counts_now g.met.D.Disk.only_now g.met.D.Disk.reads_fit
     (record { disk = c.self.inside.disk; view = c.self.inside.archive; views = c.self.inside.views; stale = c.self.inside.stale }) c.args.self.now c.self.view_is
     (record { disk = c.command_keeping-answer.new.disk; view = c.command_keeping-answer.new.self; views = c.follow-followed.new.views; stale = c.is_left_stale-self-inside.result })
-    c.args.command.now c.args.moment c.command_keeping-answer.new.kept.text c.command_keeping-answer.new.gone c.command_keeping-answer.result (λ a cache store. c.command_keeping-answer.ensures.taken.done a cache store room) c.command_keeping-answer.ensures.gone c.follow-followed.ensures.removed
+    c.args.command.now c.args.moment c.command_keeping-answer.new.kept.text c.command_keeping-answer.new.gone c.command_keeping-answer.result (λ a cache store. c.command_keeping-answer.ensures.taken.done a cache store room) c.command_keeping-answer.ensures.gone c.follow-followed.ensures.removed c.command_keeping-answer.ensures.taken.settled
 
 pub returns-clause-damage : goal.returns-clause-damage
 returns-clause-damage g c = subst (λ (e : Owning g.row.D.Denot). TellsDamage e.view (g.D.Disk.content e.disk) c.command_keeping-answer.result) c.self.view_is c.command_keeping-answer.ensures.taken.damage

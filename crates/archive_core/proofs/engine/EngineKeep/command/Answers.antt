@@ -1,11 +1,15 @@
-use Rattle.std.proofs.Common.{◌∙◌, sym, ap, subst}
+use Rattle.std.proofs.Common.{◌≡◌, ◌∙◌, sym, ap, subst}
 use Rattle.std.proofs.lemmas.Bool.{false≢true}
 use Rattle.arch_model.specs.Archives.{Archive}
 use Rattle.arch_model.specs.Delivery.{applied}
 use Rattle.arch_model.specs.Keeping.{ReadsFor, ending}
 use Rattle.arch_model.proofs.Keepers.{cause-earlier}
-use Rattle.archive_core.proofs.Engines.{not_true, commanded-after, refused-comes, refused-ready, refused-cause, ready-after}
-use Rattle.archive_core.specs.Engines.{Owning, Holds, is_ready}
+use Rattle.disk_model.specs.Disk.{LeavesOnly}
+use Rattle.epoch_store.specs.Stores.{IsStoreWith, RecoversOneOf}
+use Rattle.archive_core.specs.Commands.{DoneBy, IfRemoval, IfUnreadFor, OnDone, cache_left, is_delivery}
+use Rattle.archive_core.specs.DamageTold.{TellsDamage}
+use Rattle.archive_core.specs.Engines.{Owning, Holds, IfRefused, ReadsOn, is_ready}
+use Rattle.archive_core.proofs.Engines.{not_true, commanded-after, refused-comes, refused-for, refused-ready, refused-cause, ready-after}
 use Rattle.archive_core.proofs.engine.EngineKeep.command.Goals as goal
 
 pub take-requires-clause-ready : goal.take-requires-clause-ready
@@ -50,3 +54,48 @@ returns-in-Err-clause-reads g c = λ ready. absurd (false≢true (c.in-Err.ensur
 
 pub returns-in-Err-clause-unread : goal.returns-in-Err-clause-unread
 returns-in-Err-clause-unread g c = λ a store ready unknown. absurd (false≢true (c.in-Err.ensures.nothing ready).0)
+
+pub returns-in-Ok-clause-any_moment : goal.returns-in-Ok-clause-any_moment
+returns-in-Ok-clause-any_moment g c = λ a cache ready.
+    subst (λ (o : Owning g.row.D.Denot). IsStoreWith o.view cache a (g.D.Disk.content o.disk) → LeavesOnly g.D.Disk.moment g.D.Disk.left_since o.disk c.take.new.self.disk (RecoversOneOf cache a (cache_left c.args.command.now cache) (applied a c.args.command.now c.args.moment).archive)) (c.in-Ok.ensures.nothing ready).1
+    (c.take.ensures.any_moment a cache)
+
+pub returns-in-Ok-clause-store : goal.returns-in-Ok-clause-store
+returns-in-Ok-clause-store g c = λ a cache ready.
+    subst (λ (o : Owning g.row.D.Denot). IsStoreWith o.view cache a (g.D.Disk.content o.disk) → DoneBy c.take.new.self.view cache (cache_left c.args.command.now cache) a (applied a c.args.command.now c.args.moment) c.take.result (g.D.Disk.content c.take.new.self.disk)) (c.in-Ok.ensures.nothing ready).1
+    (c.take.ensures.done a cache)
+
+pub returns-in-Ok-clause-removed : goal.returns-in-Ok-clause-removed
+returns-in-Ok-clause-removed g c = λ ready.
+    subst (λ (o : Owning g.row.D.Denot). IfRemoval (is_delivery c.args.command.now) ((a : Archive) → Holds g.D.Disk.content o a → OnDone c.take.result (Holds g.D.Disk.content c.take.new.self (applied a c.args.command.now c.args.moment).archive))) (c.in-Ok.ensures.nothing ready).1 c.take.ensures.removed
+
+pub returns-in-Ok-clause-untouched : goal.returns-in-Ok-clause-untouched
+returns-in-Ok-clause-untouched g c = λ ready.
+    subst (λ (o : Owning g.row.D.Denot). IfRefused c.take.result (ReadsOn g.D.Disk.content g.D.Disk.moment g.D.Disk.left_since o c.take.new.self)) (c.in-Ok.ensures.nothing ready).1 c.take.ensures.untouched
+
+pub returns-in-Ok-clause-unmoved : goal.returns-in-Ok-clause-unmoved
+returns-in-Ok-clause-unmoved g c = λ ready. subst (λ (o : Owning g.row.D.Denot). IfUnreadFor c.args.command.now c.take.result (c.take.new.self ≡ o)) (c.in-Ok.ensures.nothing ready).1 c.take.ensures.unmoved
+
+pub returns-in-Ok-clause-damage : goal.returns-in-Ok-clause-damage
+returns-in-Ok-clause-damage g c = λ ready. subst (λ (o : Owning g.row.D.Denot). TellsDamage o.view (g.D.Disk.content o.disk) c.take.result) (c.in-Ok.ensures.nothing ready).1 c.take.ensures.damage
+
+pub returns-in-Err-clause-for_command : goal.returns-in-Err-clause-for_command
+returns-in-Err-clause-for_command g c = refused-for c.args.command.now c.in-Err.refusal c.answer.result c.answer.ensures
+
+pub returns-in-Err-clause-any_moment : goal.returns-in-Err-clause-any_moment
+returns-in-Err-clause-any_moment g c = λ a cache ready own. absurd (false≢true (c.in-Err.ensures.nothing ready).0)
+
+pub returns-in-Err-clause-store : goal.returns-in-Err-clause-store
+returns-in-Err-clause-store g c = λ a cache ready own. absurd (false≢true (c.in-Err.ensures.nothing ready).0)
+
+pub returns-in-Err-clause-removed : goal.returns-in-Err-clause-removed
+returns-in-Err-clause-removed g c = λ ready. absurd (false≢true (c.in-Err.ensures.nothing ready).0)
+
+pub returns-in-Err-clause-untouched : goal.returns-in-Err-clause-untouched
+returns-in-Err-clause-untouched g c = λ ready. absurd (false≢true (c.in-Err.ensures.nothing ready).0)
+
+pub returns-in-Err-clause-unmoved : goal.returns-in-Err-clause-unmoved
+returns-in-Err-clause-unmoved g c = λ ready. absurd (false≢true (c.in-Err.ensures.nothing ready).0)
+
+pub returns-in-Err-clause-damage : goal.returns-in-Err-clause-damage
+returns-in-Err-clause-damage g c = λ ready. absurd (false≢true (c.in-Err.ensures.nothing ready).0)

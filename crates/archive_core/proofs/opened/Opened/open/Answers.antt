@@ -1,3 +1,7 @@
+use Rattle.std.specs.Prelude.{ℕ, List}
+use Rattle.arch_model.specs.Archives.{Archive}
+use Rattle.epoch_store.specs.Opens.{ReadsWith}
+use Rattle.epoch_store.specs.Stores.{IsStoreWith}
 use Rattle.archive_core.proofs.OpeningRows.{opened-read, unopened-read, kindly-read, cause-of}
 use Rattle.archive_core.proofs.Openings.{opened_reads}
 use Rattle.archive_core.proofs.Standing.{still_own}
@@ -20,5 +24,6 @@ returns-in-Err-rows-clause-refused g c =
     let before = g.D.Disk.content c.args.disk.now in
     let now = g.D.Disk.content c.open.new.disk in
     let after = g.D.Disk.content c.rows.new.disk in
+    let own : (a : Archive) (cache : List ℕ) → ReadsWith cache a before → IsStoreWith v cache a after = λ a cache reads. still_own v cache a now after c.rows.ensures.looks.same (c.in-Ok.ensures.opened.done a cache reads) in
     kindly-read v before now after c.in-Err-rows.refusal c.in-Ok.ensures.opened.answer c.in-Ok.ensures.opened.kept c.in-Ok.ensures.texts c.in-Err-rows.ensures.sound c.rows.ensures.looks.same
-    (opened_reads c.law_of_stores.ensures.recovers c.law_of_stores.ensures.exact v before after (λ a cache reads. still_own v cache a now after c.rows.ensures.looks.same (c.in-Ok.ensures.opened.done a cache reads)))
+    (opened_reads c.law_of_stores.ensures.recovers c.law_of_stores.ensures.exact v before after own) own c.in-Ok.ensures.opened.settled
