@@ -18,7 +18,7 @@ use Rattle.arch_model.specs.declared.opening.OpenRefusal.{OpenRefusal}
 use Rattle.arch_model.specs.declared.opening.OpenRefusal.TheVariants as opening
 use Rattle.arch_model.specs.declared.text_refusal.TextRefusal.{TextRefusal}
 use Rattle.arch_model.specs.declared.text_refusal.TextRefusal.TheVariants as reading
-use Rattle.arch_model.proofs.Keepers.{settled-is, reopens-sure, moves-same, moves-read, fits-held}
+use Rattle.arch_model.proofs.Keepers.{settled-is, settled-sure, moves-same, moves-read, fits-held}
 use Rattle.keep_course.proofs.Commands.{commanded}
 use Rattle.answer_lines.specs.Lines.{whole_line, memory_word, disk_word, unread_words, unopened_words}
 use Rattle.control_door.specs.Requests.{Request, Shows, Threads, Lists, Reindexes, Quits, Mistakes, Exceeds, Asked, ahead}
@@ -119,7 +119,7 @@ pub acts-reindexed : (moment : ℕ) (a : Archive) (rest : List ℕ) (t : Standin
     → Says (reindexed_words count) i.out i.lost j.out j.lost sent → Acts (said_to moment (standing a None) Reindexes rest) i (held_if (is_ok sent) (waiting rest false)) t j
 acts-reindexed moment a rest t count i j sent settles counts kept words =
     let s : Standing = standing a None in
-    let same : t ≡ s = reopens-sure a t (Ok count) settles in
+    let same : t ≡ s = settled-sure a t settles in
     let live_in : count ≡ length (live a.entries) = counts ∙ ap (λ (x : Standing). length (live x.archive.entries)) same in
     acts-by_held (said_to moment s Reindexes rest) Plain (goes_on rest (reindexed_words (length (live a.entries))) s) i j (waiting rest false) t sent refl refl kept (omega (arith, kept))
     (subst (λ (n : ℕ). Says (reindexed_words n) i.out i.lost j.out j.lost sent) live_in words) same
@@ -128,7 +128,7 @@ acts-reindexed moment a rest t count i j sent settles counts kept words =
 pub acts-unindexed : (moment : ℕ) (a : Archive) (rest : List ℕ) (t : Standing) (why : OpenRefusal) (i j : Outside) (sent : Result Unit SinkFault) → StaysShut (standing a None) why t → OpeningWhy i.disk j.disk why → i.disk ≤ j.disk
     → Says (unopened_words why) i.out i.lost j.out j.lost sent → Acts (said_to moment (standing a None) Reindexes rest) i (held_if (is_ok sent) (waiting rest false)) t j
 acts-unindexed moment a rest t opening.DiskFault i j sent same cause later words =
-    acts-by_held (said_to moment (standing a None) Reindexes rest) Disk (goes_on rest disk_word (standing a None)) i j (waiting rest false) t sent refl refl cause later words same
+    acts-by_held (said_to moment (standing a None) Reindexes rest) Disk (goes_on rest disk_word (standing a (Some a))) i j (waiting rest false) t sent refl refl cause later words same
 acts-unindexed moment a rest t opening.NoMemory i j sent same cause later words =
     acts-by_held (said_to moment (standing a None) Reindexes rest) Memory (goes_on rest memory_word (standing a None)) i j (waiting rest false) t sent refl refl cause later words same
 acts-unindexed moment a rest t opening.NoArchive i j sent never cause later words = absurd never
@@ -161,14 +161,14 @@ acts-commanded moment a command rest t reply i j sent comes cause later said =
     commanded (said_to moment s (request_for command) rest) (waiting rest false) (λ (r : Answer). whole_line (answer_line r)) a (λ (b : Archive). applied b command moment) (command-plain moment s command rest) (command-memory moment s command rest) (command-disk moment s command rest) reply t i j sent
     comes cause later said
 
-module _ {K : Type 0} (holds : K → Archive → Type 0) (ready : K → Bool) (leaves : K → K → List (Option Archive) → Type 0) where
+module _ {K : Type 0} (holds rests : K → Archive → Type 0) (ready : K → Bool) (leaves : K → K → List (Option Archive) → Type 0) where
   -- A request was answered.
   pub turns-answered : (moment : ℕ) (old piece : List ℕ) (request : Request) (n : ℕ) (k k' : K) (i j : Outside) (new : List ℕ) (goes : Bool) → ready k ≡ true → ahead (old ++ piece) ≡ Asked request (drop n piece) → new ≡ []
-      → Answers holds ready leaves moment request k i goes k' j → Turns holds ready leaves moment true old piece k i (if goes then Went n else Closed) new k' j
+      → Answers holds rests ready leaves moment request k i goes k' j → Turns holds rests ready leaves moment true old piece k i (if goes then Went n else Closed) new k' j
   turns-answered moment old piece request n k k' i j new goes at_hand stands none acts = λ s fits.
-      let is = settled-is holds ready leaves k s fits at_hand in
+      let is = settled-is holds rests ready leaves k s fits at_hand in
       let done = acts s.archive (drop n piece) is.1 in
-      subst (λ (x : Standing). (t : Standing) × Moves holds ready leaves k x k' t × IsTurn moment true x old piece i (if goes then Went n else Closed) t new j) (sym is.0) (
+      subst (λ (x : Standing). (t : Standing) × Moves holds rests ready leaves k x k' t × IsTurn moment true x old piece i (if goes then Went n else Closed) t new j) (sym is.0) (
         done.0,
         done.1,
         turn-went moment (standing s.archive None) old piece request n i done.0 new j goes stands none done.2,
@@ -176,22 +176,22 @@ module _ {K : Type 0} (holds : K → Archive → Type 0) (ready : K → Bool) (l
 
   -- The archive was reopened before a request, or not.
   pub turns-opened : (moment : ℕ) (old piece : List ℕ) (request : Request) (n : ℕ) (k k' : K) (i j : Outside) (done : Bool) → ahead (old ++ piece) ≡ Asked request (drop n piece)
-      → Opens holds ready leaves k i done k' j → Turns holds ready leaves moment false old piece k i (if done then Opened else Closed) old k' j
+      → Opens holds rests ready leaves k i done k' j → Turns holds rests ready leaves moment false old piece k i (if done then Opened else Closed) old k' j
   turns-opened moment old piece request n k k' i j done stands opens = λ s fits.
       let o = opens s (old ++ piece) fits in
       (o.0, o.1, turn-opened moment s old piece request n i o.0 j done stands o.2)
 
   -- Nothing was asked of the keeper.
-  pub turns-held : (moment : ℕ) (opened : Bool) (held piece : List ℕ) (k : K) (i : Outside) (turn : Turn) (new : List ℕ) (j : Outside) → ((s : Standing) → IsTurn moment opened s held piece i turn s new j) → Turns holds ready leaves moment opened held piece k i turn new k j
-  turns-held moment opened held piece k i turn new j done = λ s fits. (s, moves-same holds ready leaves k s fits, done s)
+  pub turns-held : (moment : ℕ) (opened : Bool) (held piece : List ℕ) (k : K) (i : Outside) (turn : Turn) (new : List ℕ) (j : Outside) → ((s : Standing) → IsTurn moment opened s held piece i turn s new j) → Turns holds rests ready leaves moment opened held piece k i turn new k j
+  turns-held moment opened held piece k i turn new j done = λ s fits. (s, moves-same holds rests ready leaves k s fits, done s)
 
-  module _ (holds_left : (k : K) (a : Archive) (may : List (Option Archive)) → holds k a → Contains may (Some a) → leaves k k may) where
+  module _ (holds_rests : (k : K) (a : Archive) → holds k a → rests k a) (holds_left : (k : K) (a : Archive) (may : List (Option Archive)) → holds k a → Contains may (Some a) → leaves k k may) where
     -- A request that only reads was answered.
-    pub answers-read : (moment : ℕ) (request : Request) (k k' : K) (i j : Outside) (goes : Bool) → OnlyRead holds ready leaves k k' → ((a : Archive) (rest : List ℕ) → holds k a → Acts (said_to moment (standing a None) request rest) i (held_if goes (waiting rest false)) (standing a None) j)
-        → Answers holds ready leaves moment request k i goes k' j
-    answers-read moment request k k' i j goes read acts = λ a rest held. (standing a None, moves-read holds ready leaves holds_left k k' a held read, acts a rest held)
+    pub answers-read : (moment : ℕ) (request : Request) (k k' : K) (i j : Outside) (goes : Bool) → OnlyRead holds rests ready leaves k k' → ((a : Archive) (rest : List ℕ) → holds k a → Acts (said_to moment (standing a None) request rest) i (held_if goes (waiting rest false)) (standing a None) j)
+        → Answers holds rests ready leaves moment request k i goes k' j
+    answers-read moment request k k' i j goes read acts = λ a rest held. (standing a None, moves-read holds rests ready leaves holds_rests holds_left k k' a held read, acts a rest held)
 
     -- A request was answered without the keeper.
     pub answers-held : (moment : ℕ) (request : Request) (k : K) (i j : Outside) (goes : Bool) → ((a : Archive) (rest : List ℕ) → Acts (said_to moment (standing a None) request rest) i (held_if goes (waiting rest false)) (standing a None) j)
-        → Answers holds ready leaves moment request k i goes k j
-    answers-held moment request k i j goes acts = λ a rest held. (standing a None, moves-same holds ready leaves k (standing a None) (fits-held holds ready leaves holds_left k a held), acts a rest)
+        → Answers holds rests ready leaves moment request k i goes k j
+    answers-held moment request k i j goes acts = λ a rest held. (standing a None, moves-same holds rests ready leaves k (standing a None) (fits-held holds rests ready leaves holds_rests holds_left k a held), acts a rest)

@@ -8,7 +8,7 @@ use Rattle.disk_model.specs.Sizes.{epoch_count}
 use Rattle.arch_model.specs.Archives.{Entry, live, text_of, in_epoch}
 use Rattle.arch_model.specs.Epochs.{epoch_bytes}
 use Rattle.arch_model.specs.Delivery.{Done, delivered, removed, purged, edited, answer_line}
-use Rattle.arch_model.specs.Standing.{Standing, standing}
+use Rattle.arch_model.specs.Standing.{Standing, standing, unsure}
 use Rattle.answer_lines.specs.Lines.{whole_line, memory_word, disk_word, unopened_words}
 use Rattle.keep_course.specs.Answering.{said_reopening}
 use Rattle.shelf_trees.specs.Twigs.{thread_twigs}
@@ -121,7 +121,7 @@ refused_memory moment s Exceeds rest = answered moment s Exceeds rest
 
 -- The answer to a request at which the disk fails. It is then in doubt whether a command was
 -- carried out. A text or a list of epochs is said whole or not at all, and a reindexing leaves the
--- archive unchanged. Other requests don't use the disk.
+-- archives that were there, in doubt. Other requests don't use the disk.
 abbrev pub refused_disk : ℕ → Standing → Request → List ℕ → Says
 refused_disk moment s (Delivers message) rest = doubts s (delivered s.archive message moment) rest
 refused_disk moment s (Shows number) rest = goes_on rest disk_word s
@@ -131,7 +131,7 @@ refused_disk moment s (Edits number message) rest =
     doubts s (edited s.archive number message moment) rest
 refused_disk moment s (Threads number) rest = answered moment s (Threads number) rest
 refused_disk moment s Lists rest = goes_on rest disk_word s
-refused_disk moment s Reindexes rest = goes_on rest disk_word s
+refused_disk moment s Reindexes rest = goes_on rest disk_word (unsure s)
 refused_disk moment s Quits rest = answered moment s Quits rest
 refused_disk moment s Mistakes rest = answered moment s Mistakes rest
 refused_disk moment s Exceeds rest = answered moment s Exceeds rest

@@ -4,4 +4,5 @@ pub mod Threads
 pub mod Door
 pub mod Refusals
 pub mod Sessions
+pub mod Counting
 pub mod Laws

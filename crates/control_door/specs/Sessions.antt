@@ -124,35 +124,35 @@ Takes opened piece (Went n) = (0 < n) × (n ≤ length piece)
 Takes opened piece Kept = Unit {0}
 Takes opened piece Closed = Unit {0}
 
--- A keeper: the archives that it holds, whether it is ready, and what each crash since a state may
--- have left.
-module _ {K : Type 0} (holds : K → Archive → Type 0) (ready : K → Bool)
+-- A keeper: the archives that it holds, those of which its files are exactly, whether it is ready, and
+-- what each crash since a state may have left.
+module _ {K : Type 0} (holds rests : K → Archive → Type 0) (ready : K → Bool)
     (leaves : K → K → List (Option Archive) → Type 0) where
   -- Whichever archive is held, a request to it is answered, and the keeper fits the archive after
   -- it.
   abbrev pub Answers : ℕ → Request → K → Outside → Bool → K → Outside → Type 0
-  Answers moment request old i goes_on new j = answering.Answers holds ready leaves
+  Answers moment request old i goes_on new j = answering.Answers holds rests ready leaves
       (λ (a : Archive) (rest : List ℕ) (way : Way). said_to moment (standing a None) request rest way)
       (λ (rest : List ℕ). waiting rest false) old i goes_on new j
 
   -- Whatever the keeper fits, it is reopened, or reopening is refused.
   abbrev pub Opens : K → Outside → Bool → K → Outside → Type 0
-  Opens old i opened new j = answering.Opens holds ready leaves
+  Opens old i opened new j = answering.Opens holds rests ready leaves
       (λ (s : Standing) (bytes : List ℕ) (way : Way). said_opening s bytes way)
       (λ (bytes : List ℕ). waiting bytes true) old i opened new j
 
   -- Whatever the keeper fits, one act is done, and the keeper fits what the act leaves.
   abbrev pub Turns : ℕ → Bool → List ℕ → List ℕ → K → Outside → Turn → List ℕ → K → Outside → Type 0
   Turns moment opened held piece old i turn left new j =
-      (s : Standing) → Fits holds ready leaves old s → (t : Standing)
-      × Moves holds ready leaves old s new t × IsTurn moment opened s held piece i turn t left j
+      (s : Standing) → Fits holds rests ready leaves old s → (t : Standing)
+      × Moves holds rests ready leaves old s new t × IsTurn moment opened s held piece i turn t left j
 
   -- Whatever the keeper fits, these bytes of a session are answered by a course, and the keeper fits
   -- what that leaves. A crash since the start leaves an archive of one of its talks, or one in doubt
   -- there.
   abbrev pub Feeds : ℕ → List ℕ → K → Outside → Bool → List ℕ → K → Outside → Type 0
   Feeds moment bytes old i goes_on left new j =
-      (s : Standing) → Fits holds ready leaves old s → (t : Standing) × (opened : Bool)
-      × Fits holds ready leaves new t
+      (s : Standing) → Fits holds rests ready leaves old s → (t : Standing) × (opened : Bool)
+      × Fits holds rests ready leaves new t
       × CourseLeft leaves (said moment) has_request old new (talk (Some (waiting bytes true)) s i)
       (talk (held_if goes_on (waiting left opened)) t j)

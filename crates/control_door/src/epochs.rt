@@ -1,8 +1,9 @@
 //! The list of the epochs of an archive.
 ghost use Rattle.std.specs.Prelude.{◌≡◌, ◌++◌, [], true, OnOk};
+ghost use Rattle.control_door.specs.Counting.{ReadsUpTo};
 ghost use Rattle.disk_model.specs.Sizes.{epoch_count};
 ghost use Rattle.arch_model.specs.Archives.{Archive, in_epoch};
-ghost use Rattle.arch_model.specs.Shelves.{Stays, ReadCause};
+ghost use Rattle.arch_model.specs.Shelves.{Stays, ReadCause, ReadsOnce};
 ghost use Rattle.control_door.specs.Door.{listed, listed_below, epoch_words, epochs_words};
 ghost use Rattle.control_door.specs.Refusals.{AppendsWords, Makes};
 
@@ -20,6 +21,7 @@ pub(crate) fn epochs_of<K: Keep>(alloc: Global, keep: &mut K) -> Result<Bytes, T
     ensures words { (a : Archive) → K.holds keep.old a → Makes (epochs_words a.entries) result }
     ensures shelf { Stays K.holds K.ready K.alike K.faults keep.old keep.new }
     ensures cause { ReadCause (K.faults keep.old) (K.faults keep.new) result }
+    ensures reads { ReadsUpTo epoch_count (K.reads keep.old) (K.reads keep.new) }
 {
     let mut words = Bytes::new(alloc);
     match push_epochs(alloc, keep, &mut words) {
@@ -42,6 +44,7 @@ fn push_epochs<K: Keep>(alloc: Global, keep: &mut K, into: &mut Bytes) -> Result
         → AppendsWords (listed_below epoch_count a.entries) [] into.new result }
     ensures shelf { Stays K.holds K.ready K.alike K.faults keep.old keep.new }
     ensures cause { ReadCause (K.faults keep.old) (K.faults keep.new) result }
+    ensures reads { ReadsUpTo epoch_count (K.reads keep.old) (K.reads keep.new) }
 {
     for epoch in 0..EPOCHS {
         match push_listed(alloc, epoch, keep, into) {
@@ -66,6 +69,7 @@ fn push_listed<K: Keep>(
         → AppendsWords (listed epoch (in_epoch a.entries epoch)) into.old into.new result }
     ensures shelf { Stays K.holds K.ready K.alike K.faults keep.old keep.new }
     ensures cause { ReadCause (K.faults keep.old) (K.faults keep.new) result }
+    ensures reads { ReadsOnce (K.reads keep.old) (K.reads keep.new) }
 {
     let mut bytes = Bytes::new(alloc);
     match keep.epoch_bytes(epoch, &mut bytes) {

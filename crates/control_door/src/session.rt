@@ -1,12 +1,13 @@
 //! A control connection: the bytes that are not answered yet, and the answer to a piece.
-ghost use Rattle.std.specs.Prelude.{◌≡◌, ◌⊎◌, ◌+◌, ◌<◌, ◌≤◌, ℕ, [], ◌++◌, length, take, drop, Bool, true, if◌then◌else◌};
+ghost use Rattle.std.specs.Prelude.{◌≡◌, ◌⊎◌, ◌+◌, ◌<◌, ◌≤◌, ℕ, [], ◌++◌, length, take, drop, Bool, true, false, if◌then◌else◌};
 ghost use Rattle.line_door.specs.Lines.{front, Whole, content};
 ghost use Rattle.line_door.specs.Acts.{outside};
 ghost use Rattle.arch_base.specs.Moments.{last_moment};
 ghost use Rattle.arch_model.specs.Next.{continues};
 ghost use Rattle.arch_model.specs.Standing.{Standing};
+ghost use Rattle.control_door.specs.Counting.{Meets, IsTurnReads, IsRest, asks_for};
 ghost use Rattle.control_door.specs.Orders.{order_of};
-ghost use Rattle.control_door.specs.Requests.{line_limit};
+ghost use Rattle.control_door.specs.Requests.{is_request, line_limit};
 
 use crate::answers::{reopen, say_requested};
 use crate::front::{Aim, Front, Payload, Requested};
@@ -97,6 +98,11 @@ impl Session {
     /// `10 disk fault`, and the keeper's count of faults rose. It stays at each act that doesn't write
     /// so. The session continues in both cases. After a fault, only reopening the archive shows
     /// whether a command was carried out.
+    ///
+    /// The keeper reads no more than the requests that are answered ask for: one text for `show`, 64
+    /// for `epochs`, none for `thread`, after which it is ready; and one for a `deliver` or a `remove`
+    /// that no other request follows. Nothing bounds what is read for `purge`, `edit` and `reindex`,
+    /// nor for a request after a command, before which the archive may have to be reopened.
     pub fn feed<K: Keep, O: Sink>(
         &mut self,
         piece: &[u8],
@@ -106,11 +112,13 @@ impl Session {
     ) -> Next
         requires ready { K.ready keep.old ≡ true }
         requires moment { moment ≤ last_moment }
-        ensures fed { Feeds K.holds K.ready K.leaves moment (self.old ++ piece.now) keep.old
+        ensures fed { Feeds K.holds K.rests K.ready K.leaves moment (self.old ++ piece.now) keep.old
             (outside (O.taken out.old) (K.faults keep.old) (O.faults out.old))
             (continues result) self.new keep.new
             (outside (O.taken out.new) (K.faults keep.new) (O.faults out.new)) }
         ensures later { K.faults keep.old ≤ K.faults keep.new }
+        ensures reads { Meets (asks_for (self.old ++ piece.now)) (K.ready keep.new)
+            (K.reads keep.old) (K.reads keep.new) }
         ensures sink { O.alike out.old out.new }
     {
         let mut rest = piece;
@@ -141,12 +149,17 @@ impl Session {
     ) -> Turn
         requires ready { opened ≡ true → K.ready keep.old ≡ true }
         requires moment { moment ≤ last_moment }
-        ensures turn { Turns K.holds K.ready K.leaves moment opened self.old piece.now keep.old
+        ensures turn { Turns K.holds K.rests K.ready K.leaves moment opened self.old piece.now keep.old
             (outside (O.taken out.old) (K.faults keep.old) (O.faults out.old))
             result self.new keep.new
             (outside (O.taken out.new) (K.faults keep.new) (O.faults out.new)) }
         ensures takes { Takes opened piece.now result }
         ensures ready { result ≡ Turn.Opened → K.ready keep.new ≡ true }
+        ensures held { result ≡ Turn.Opened → self.new ≡ self.old }
+        ensures reads { K.ready keep.old ≡ true → IsTurnReads self.old piece.now result self.new
+            (K.ready keep.new) (K.reads keep.old) (K.reads keep.new) }
+        ensures rest { is_request (self.old ++ piece.now) ≡ false
+            → IsRest result (K.reads keep.old) (K.reads keep.new) }
         ensures later { K.faults keep.old ≤ K.faults keep.new }
         ensures sink { O.alike out.old out.new }
     {

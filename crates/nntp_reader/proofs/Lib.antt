@@ -6,3 +6,4 @@ pub mod Streams
 pub mod Doors
 pub mod Digits
 pub mod Replying
+pub mod Counting

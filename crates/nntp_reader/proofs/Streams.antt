@@ -6,7 +6,7 @@ use Rattle.edge_io.specs.Phrases.{Says}
 use Rattle.edge_io.specs.declared.sink.SinkFault.{SinkFault}
 use Rattle.edge_io.proofs.Wording.{take-first}
 use Rattle.line_door.specs.Acts.{Outside, Said, Way, Plain, Memory, Disk, Newer, WayCause, SaidShort, Acts, held_if}
-use Rattle.line_door.specs.Making.{streams}
+use Rattle.line_door.specs.Making.{says, streams}
 use Rattle.line_door.proofs.Acting.{acts-by_held, acts-by_says}
 use Rattle.line_door.proofs.Streaming.{acts-short}
 use Rattle.arch_model.specs.Archives.{Entry, Archive, live, text_of}
@@ -20,7 +20,8 @@ use Rattle.nntp_reader.specs.Numbers.{live_in, first_of}
 use Rattle.nntp_reader.specs.declared.group.Group.TheVariants as group
 use Rattle.nntp_reader.specs.declared.notice.Notice.TheVariants as notice
 use Rattle.nntp_reader.specs.Headers.{field_at, field_lines, fields_block}
-use Rattle.nntp_reader.specs.Sessions.{IsValue, start_if}
+use Rattle.nntp_reader.specs.Notices.{memory_line, disk_line}
+use Rattle.nntp_reader.specs.Sessions.{SaysUnread, IsValue, start_if}
 use Rattle.nntp_reader.specs.declared.field.Value.TheVariants as value
 use Rattle.nntp_reader.proofs.Replying.{Waits-ended}
 use Rattle.nntp_reader.proofs.Walking.{fields-rest, fields-none}
@@ -150,6 +151,17 @@ module _ (a : Archive) (g : Group) (name : List ℕ) (range : Range) (rest : Lis
       (sofar-lost (fields_block name (live a.entries) range.first range.last) [] i.out i.lost (fields_left name (live a.entries) begun at range.last) waiting j.out j.lost before.so_far
       (start_if (not begun) ++ field_at name (live a.entries) n) (fields_left name (live a.entries) true (n + 1) range.last) k.out k.lost lost.0
       (left-value name (live a.entries) begun at range.last n (fields-rest name (live a.entries) at range.last n next)) lost.1.1)
+
+  -- The first text was not read, and it was said why.
+  pub begun-unread : (n : ℕ) (new : List ℕ) (k : Outside) (sent : Result Unit SinkFault) → IsValue name n begun (text_of (live a.entries) n) waiting j (value.Unread sent) new k → Acts (range_said a g name range rest) i (held_if (is_ok sent) (reader g rest)) a k
+  begun-unread n new k sent unread = by (subst (λ (o : Outside). SaysUnread o sent k) still unread.2)
+    where
+      still : j ≡ i
+      still = let none = before.none unread.0 in λ e. record { out = none.1 e; disk = before.kept e; lost = none.2 e }
+
+      by : SaysUnread i sent k → Acts (range_said a g name range rest) i (held_if (is_ok sent) (reader g rest)) a k
+      by (inl disk) = acts-by_held (range_said a g name range rest) Disk (says a (reader g rest) disk_line) i k (reader g rest) a sent refl refl disk.0 disk.1 disk.2 refl
+      by (inr memory) = acts-by_held (range_said a g name range rest) Memory (says a (reader g rest) memory_line) i k (reader g rest) a sent refl refl memory.0 (omega (arith, memory.0)) memory.1 refl
 
   -- The next text was not read after others were said, and what waits is written.
   pub begun-short : (n : ℕ) (new : List ℕ) (k m : Outside) (sent : Result Unit SinkFault) → IsValue name n begun (text_of (live a.entries) n) waiting j value.Short new k → m.disk ≡ k.disk → Says new k.out k.lost m.out m.lost sent → Acts (range_said a g name range rest) i None a m

@@ -12,4 +12,5 @@ pub mod Dates
 pub mod Replies
 pub mod Door
 pub mod Sessions
+pub mod Counting
 pub mod Laws

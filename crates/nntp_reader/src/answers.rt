@@ -7,6 +7,7 @@ ghost use Rattle.arch_model.specs.Next.{continues};
 ghost use Rattle.arch_model.specs.Shelves.{Stays};
 ghost use Rattle.nntp_reader.specs.Door.{reader, said_to};
 ghost use Rattle.nntp_reader.specs.Commands as commands;
+ghost use Rattle.nntp_reader.specs.Counting.{ReadsIn, command_texts, header_texts};
 ghost use Rattle.nntp_reader.specs.Sessions.{articles_of, header_of, meant};
 
 use crate::articles::{say_last, say_next, say_part, say_stat};
@@ -48,6 +49,8 @@ pub(crate) fn say_order<S: Shelf, O: Sink>(
         (held_if (continues result) (reader group.new rest)) a
         (outside (O.taken out.new) (S.faults shelf.new) (O.faults out.new)) }
     ensures shelf { Stays S.holds S.ready S.alike S.faults shelf.old shelf.new }
+    ensures reads { ReadsIn S.holds (λ a. command_texts a (meant order.entry)) shelf.old
+        (S.reads shelf.old) (S.reads shelf.new) }
     ensures sink { O.alike out.old out.new }
 {
     match order {
@@ -106,6 +109,9 @@ fn say_header<S: Shelf, O: Sink>(
         (held_if (continues result) (reader group rest)) a
         (outside (O.taken out.new) (S.faults shelf.new) (O.faults out.new)) }
     ensures shelf { Stays S.holds S.ready S.alike S.faults shelf.old shelf.new }
+    ensures reads { ReadsIn S.holds
+        (λ a. header_texts a (header_of header.entry) (articles_of articles.entry)) shelf.old
+        (S.reads shelf.old) (S.reads shelf.new) }
     ensures sink { O.alike out.old out.new }
 {
     match header {

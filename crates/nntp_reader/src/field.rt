@@ -1,13 +1,14 @@
 //! What HDR says of a field of texts.
-ghost use Rattle.std.specs.Prelude.{◌≡◌, ◌++◌, ℕ, List, true, not, is_ok, is_some, if◌then◌else◌};
+ghost use Rattle.std.specs.Prelude.{◌≡◌, ◌++◌, ℕ, List, length, true, not, is_ok, is_some, if◌then◌else◌};
 ghost use Rattle.line_door.specs.Acts.{outside, Acts, held_if};
 ghost use Rattle.arch_model.specs.Archives.{Archive, live, text_of};
 ghost use Rattle.arch_model.specs.Next.{continues};
-ghost use Rattle.arch_model.specs.Shelves.{Stays, ReadCause};
+ghost use Rattle.arch_model.specs.Shelves.{Stays, ReadCause, ReadsOnce};
 ghost use Rattle.edge_io.specs.Phrases.{Says};
 ghost use Rattle.wire_replies.specs.Blocks.{block_end};
 ghost use Rattle.wire_replies.specs.Waits.{Waits};
 ghost use Rattle.nntp_reader.specs.Commands as commands;
+ghost use Rattle.nntp_reader.specs.Counting.{ReadsIn, field_texts};
 ghost use Rattle.nntp_reader.specs.Door.{reader, said_to, range_said};
 ghost use Rattle.nntp_reader.specs.Facts.{header_line};
 ghost use Rattle.nntp_reader.specs.Headers.{header_start, field_line};
@@ -61,6 +62,8 @@ pub(crate) fn say_field<S: Shelf, O: Sink>(
         (held_if (continues result) (reader group rest)) a
         (outside (O.taken out.new) (S.faults shelf.new) (O.faults out.new)) }
     ensures shelf { Stays S.holds S.ready S.alike S.faults shelf.old shelf.new }
+    ensures reads { ReadsIn S.holds (λ a. field_texts a (articles_of articles.entry)) shelf.old
+        (S.reads shelf.old) (S.reads shelf.new) }
     ensures sink { O.alike out.old out.new }
 {
     match articles {
@@ -92,6 +95,7 @@ fn say_single<S: Shelf, O: Sink>(
         group group (outside (O.taken out.old) (S.faults shelf.old) (O.faults out.old)) result group
         (outside (O.taken out.new) (S.faults shelf.new) (O.faults out.new)) }
     ensures shelf { Stays S.holds S.ready S.alike S.faults shelf.old shelf.new }
+    ensures reads { ReadsOnce (S.reads shelf.old) (S.reads shelf.new) }
     ensures sink { O.alike out.old out.new }
 {
     match read_value(name, chosen.number, alloc, shelf) {
@@ -136,6 +140,8 @@ fn say_range<S: Shelf, O: Sink>(
         (held_if (continues result) (reader group rest)) a
         (outside (O.taken out.new) (S.faults shelf.new) (O.faults out.new)) }
     ensures shelf { Stays S.holds S.ready S.alike S.faults shelf.old shelf.new }
+    ensures reads { ReadsIn S.holds (λ a. length (live_in (live a.entries) range.first range.last))
+        shelf.old (S.reads shelf.old) (S.reads shelf.new) }
     ensures sink { O.alike out.old out.new }
 {
     let mut reply = Waiting::new();
@@ -176,6 +182,7 @@ fn push_field<S: Shelf, O: Sink>(
         (outside (O.taken out.old) (S.faults shelf.old) (O.faults out.old)) result reply.new
         (outside (O.taken out.new) (S.faults shelf.new) (O.faults out.new)) }
     ensures shelf { Stays S.holds S.ready S.alike S.faults shelf.old shelf.new }
+    ensures reads { ReadsOnce (S.reads shelf.old) (S.reads shelf.new) }
     ensures sink { O.alike out.old out.new }
 {
     match read_value(name, number, alloc, shelf) {
@@ -248,6 +255,7 @@ fn read_value<S: Shelf>(
     ensures value { (a : Archive) → S.holds shelf.old a
         → ReadsValue name.now (text_of (live a.entries) number) result }
     ensures shelf { Stays S.holds S.ready S.alike S.faults shelf.old shelf.new }
+    ensures reads { ReadsOnce (S.reads shelf.old) (S.reads shelf.new) }
     ensures cause { ReadCause (S.faults shelf.old) (S.faults shelf.new) result }
 {
     let mut text = Bytes::new(alloc);

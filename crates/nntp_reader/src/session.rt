@@ -10,6 +10,7 @@ ghost use Rattle.arch_model.specs.Archives.{Archive};
 ghost use Rattle.arch_model.specs.Next.{continues};
 ghost use Rattle.arch_model.specs.Shelves.{Stays};
 ghost use Rattle.nntp_reader.specs.Commands.{command_of};
+ghost use Rattle.nntp_reader.specs.Counting.{ReadsIn, ReadsLines, IsTurnReads, command_texts};
 ghost use Rattle.nntp_reader.specs.Dates.{year_at};
 ghost use Rattle.nntp_reader.specs.Door.{reader, new_reader, greeting, said, said_to, has_request, with_piece};
 
@@ -99,6 +100,9 @@ impl NntpSession {
     /// `403 disk fault` if the disk fails; the shelf's count of faults rose exactly then. They say
     /// `403 damaged` only if the shelf holds no archive. The group stays, and the session continues.
     /// Other commands read no text, and need neither.
+    ///
+    /// No more texts are read than the lines that are answered ask for: one for ARTICLE, HEAD and BODY,
+    /// one for each live message of HDR of a field, and none for any other.
     pub fn feed<S: Shelf, O: Sink>(
         &mut self,
         piece: &[u8],
@@ -115,6 +119,8 @@ impl NntpSession {
             (outside (O.taken out.new) (S.faults shelf.new) (O.faults out.new))) }
         ensures rest { continues result ≡ true → has_request self.new ≡ false }
         ensures shelf { Stays S.holds S.ready S.alike S.faults shelf.old shelf.new }
+        ensures reads { ReadsLines S.holds moment (self.old.bytes ++ piece.now) shelf.old
+            (S.reads shelf.old) (S.reads shelf.new) }
         ensures sink { O.alike out.old out.new }
     {
         let mut rest = piece;
@@ -142,6 +148,8 @@ impl NntpSession {
             (outside (O.taken out.new) (S.faults shelf.new) (O.faults out.new)) }
         ensures takes { Takes piece.now result self.new }
         ensures shelf { Stays S.holds S.ready S.alike S.faults shelf.old shelf.new }
+        ensures reads { (a : Archive) → S.holds shelf.old a → IsTurnReads moment a self.old piece.now
+            result self.new (S.reads shelf.old) (S.reads shelf.new) }
         ensures sink { O.alike out.old out.new }
     {
         match self.held.next(piece) {
@@ -180,6 +188,9 @@ impl NntpSession {
             (outside (O.taken out.new) (S.faults shelf.new) (O.faults out.new)) }
         ensures empty { self.new.bytes ≡ [] }
         ensures shelf { Stays S.holds S.ready S.alike S.faults shelf.old shelf.new }
+        ensures reads { ReadsIn S.holds (λ a. command_texts a
+            (command_of (year_at moment) (content (self.old.bytes ++ line.now)))) shelf.old
+            (S.reads shelf.old) (S.reads shelf.new) }
         ensures sink { O.alike out.old out.new }
     {
         self.held.hold(line);

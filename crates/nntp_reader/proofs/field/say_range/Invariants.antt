@@ -1,7 +1,8 @@
-use Rattle.std.proofs.Common.{◌≡◌, ◌≤◌, ℕ, true, IfSome, is_some}
+use Rattle.std.proofs.Common.{◌≡◌, ◌≤◌, ℕ, length, true, IfSome, is_some}
 use Rattle.line_door.specs.Acts.{outside}
 use Rattle.arch_model.specs.Archives.{Archive, live, text_of}
 use Rattle.arch_model.specs.Shelves.{Stays}
+use Rattle.nntp_reader.specs.Counting.{ReadsAhead}
 use Rattle.nntp_reader.specs.Numbers.{live_in, first_of}
 use Rattle.nntp_reader.proofs.Streams.{Begun}
 use Rattle.nntp_reader.proofs.Walking.{numbers_left}
@@ -13,6 +14,10 @@ invariant-loop-next g l = record {
       (a : Archive) → g.S.Shelf.holds l.fn.shelf a →
       (at : ℕ) × (l.next ≡ first_of (live_in (live a.entries) at l.range.last))
       × Begun l.name (live a.entries) l.range l.begun at (outside (g.O.Sink.taken l.fn.out) (g.S.Shelf.faults l.fn.shelf) (g.O.Sink.faults l.fn.out)) l.reply (outside (g.O.Sink.taken l.out) (g.S.Shelf.faults l.shelf) (g.O.Sink.faults l.out));
+  reads :
+      (a : Archive) → g.S.Shelf.holds l.fn.shelf a →
+      (at : ℕ) × (l.next ≡ first_of (live_in (live a.entries) at l.range.last))
+      × ReadsAhead (length (live_in (live a.entries) l.range.first l.range.last)) (length (live_in (live a.entries) at l.range.last)) (g.S.Shelf.reads l.fn.shelf) (g.S.Shelf.reads l.shelf);
   alive : (a : Archive) → g.S.Shelf.holds l.shelf a → IfSome l.next (λ n. is_some (text_of (live a.entries) n) ≡ true);
   within : IfSome l.next (λ n. n ≤ l.range.last);
   shelf : Stays g.S.Shelf.holds g.S.Shelf.ready g.S.Shelf.alike g.S.Shelf.faults l.fn.shelf l.shelf;

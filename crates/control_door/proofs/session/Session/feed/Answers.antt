@@ -1,11 +1,15 @@
 use Rattle.std.proofs.Common.{◌++◌, true, refl, inl, inr, arith}
 use Rattle.keep_course.proofs.Courses.{coming-same, coming-more, ended}
+use Rattle.control_door.specs.Counting.{asks_for}
 use Rattle.control_door.specs.Door.{waiting, said, has_request}
+use Rattle.control_door.specs.Requests.{is_request}
+use Rattle.control_door.proofs.Counting.{left-all, left-opened, left-went, left-kept, left-closed}
 use Rattle.control_door.proofs.session.Session.feed.Goals as goal
 
 pub loop-opened-init : goal.loop-opened-init
 loop-opened-init g c = record {
   going = λ s fits. (s, fits, coming-same g.K.Keep.leaves (said c.args.moment) has_request c.args.keep.now _);
+  reads = left-all (asks_for (c.args.self.now ++ c.args.piece.now)) _ _ _ c.requires.ready;
   ready = λ _. c.requires.ready;
   later = omega arith;
   sink = g.met.O.Sink.alike_same _;
@@ -20,6 +24,8 @@ loop-opened-preserved-in-Opened g c = record {
         turn.1.fits,
         coming-more g.K.Keep.leaves (said c.args.moment) has_request c.args.keep.now c.loop-opened.keep c.act.new.keep _ (waiting (c.loop-opened.self ++ c.loop-opened.rest.now) c.loop-opened.opened) before.0 _ _ turn.0 _ before.2 turn.2.0 turn.2.1 turn.1.passes,
       );
+  reads = rw (c.act.ensures.held c.in-Opened.is)
+      (left-opened _ _ (is_request (c.loop-opened.self ++ c.loop-opened.rest.now)) _ _ _ _ _ c.loop-opened.invariant.reads c.in-Opened.ensures.reads c.in-Opened.ensures.rest);
   ready = λ _. c.act.ensures.ready c.in-Opened.is;
   later = omega (arith, c.loop-opened.invariant.later, c.act.ensures.later);
   sink = g.met.O.Sink.alike_joined _ _ _ c.loop-opened.invariant.sink c.act.ensures.sink;
@@ -34,6 +40,7 @@ loop-opened-preserved g c = rw c.split_at.ensures.back (record {
         turn.1.fits,
         coming-more g.K.Keep.leaves (said c.args.moment) has_request c.args.keep.now c.loop-opened.keep c.act.new.keep _ (waiting (c.loop-opened.self ++ c.loop-opened.rest.now) c.loop-opened.opened) before.0 _ _ turn.0 _ before.2 turn.2.0 turn.2.1 turn.1.passes,
       );
+  reads = left-went _ _ (is_request (c.loop-opened.self ++ c.loop-opened.rest.now)) _ _ _ _ _ _ _ c.loop-opened.invariant.reads c.in-Went.ensures.reads c.in-Went.ensures.rest;
   ready = λ h. absurd (cc h);
   later = omega (arith, c.loop-opened.invariant.later, c.act.ensures.later);
   sink = g.met.O.Sink.alike_joined _ _ _ c.loop-opened.invariant.sink c.act.ensures.sink;
@@ -46,7 +53,7 @@ returns-in-Kept-clause-fed g c = λ s fits.
       turn.0,
       c.loop-opened.opened,
       turn.1.fits,
-      ended g.K.Keep.leaves (said c.args.moment) has_request g.K.Shelf.holds g.K.Shelf.ready c.args.keep.now c.loop-opened.keep c.act.new.keep _ (waiting (c.loop-opened.self ++ c.loop-opened.rest.now) c.loop-opened.opened) before.0 _ _ turn.0 _ fits before.2 turn.2.2 (inr (turn.2.0, turn.2.1)) turn.1.passes,
+      ended g.K.Keep.leaves (said c.args.moment) has_request g.K.Shelf.holds g.K.Keep.rests g.K.Shelf.ready c.args.keep.now c.loop-opened.keep c.act.new.keep _ (waiting (c.loop-opened.self ++ c.loop-opened.rest.now) c.loop-opened.opened) before.0 _ _ turn.0 _ fits before.2 turn.2.2 (inr (turn.2.0, turn.2.1)) turn.1.passes,
     )
 
 pub returns-in-Closed-clause-fed : goal.returns-in-Closed-clause-fed
@@ -56,5 +63,13 @@ returns-in-Closed-clause-fed g c = λ s fits.
       turn.0,
       true,
       turn.1.fits,
-      ended g.K.Keep.leaves (said c.args.moment) has_request g.K.Shelf.holds g.K.Shelf.ready c.args.keep.now c.loop-opened.keep c.act.new.keep _ (waiting (c.loop-opened.self ++ c.loop-opened.rest.now) c.loop-opened.opened) before.0 _ _ turn.0 _ fits before.2 turn.2 (inl refl) turn.1.passes,
+      ended g.K.Keep.leaves (said c.args.moment) has_request g.K.Shelf.holds g.K.Keep.rests g.K.Shelf.ready c.args.keep.now c.loop-opened.keep c.act.new.keep _ (waiting (c.loop-opened.self ++ c.loop-opened.rest.now) c.loop-opened.opened) before.0 _ _ turn.0 _ fits before.2 turn.2 (inl refl) turn.1.passes,
     )
+
+pub returns-in-Kept-clause-reads : goal.returns-in-Kept-clause-reads
+returns-in-Kept-clause-reads g c =
+    left-kept _ _ (is_request (c.loop-opened.self ++ c.loop-opened.rest.now)) _ _ _ _ _ c.loop-opened.invariant.reads c.in-Kept.ensures.reads c.in-Kept.ensures.rest
+
+pub returns-in-Closed-clause-reads : goal.returns-in-Closed-clause-reads
+returns-in-Closed-clause-reads g c =
+    left-closed _ _ (is_request (c.loop-opened.self ++ c.loop-opened.rest.now)) _ _ _ _ _ c.loop-opened.invariant.reads c.in-Closed.ensures.reads c.in-Closed.ensures.rest

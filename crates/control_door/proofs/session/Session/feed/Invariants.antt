@@ -4,17 +4,21 @@ use Rattle.line_door.specs.Course.{talk}
 use Rattle.keep_course.specs.Courses.{Coming}
 use Rattle.arch_model.specs.Keeping.{Fits}
 use Rattle.arch_model.specs.Standing.{Standing}
+use Rattle.control_door.specs.Counting.{asks_for}
 use Rattle.control_door.specs.Door.{waiting, said, has_request}
+use Rattle.control_door.specs.Requests.{is_request}
+use Rattle.control_door.proofs.Counting.{Left}
 use Rattle.control_door.proofs.session.Session.feed.Given as goal
 
 abbrev pub invariant-loop-opened : goal.invariant-loop-opened
 invariant-loop-opened g l = record {
   going :
-      (s : Standing) → Fits g.K.Shelf.holds g.K.Shelf.ready g.K.Keep.leaves l.fn.keep s →
-      (t : Standing) × Fits g.K.Shelf.holds g.K.Shelf.ready g.K.Keep.leaves l.keep t
+      (s : Standing) → Fits g.K.Shelf.holds g.K.Keep.rests g.K.Shelf.ready g.K.Keep.leaves l.fn.keep s →
+      (t : Standing) × Fits g.K.Shelf.holds g.K.Keep.rests g.K.Shelf.ready g.K.Keep.leaves l.keep t
       × Coming g.K.Keep.leaves (said l.moment) has_request l.fn.keep l.keep
       (talk (Some (waiting (l.fn.self ++ l.fn.piece) true)) s (outside (g.O.Sink.taken l.fn.out) (g.K.Shelf.faults l.fn.keep) (g.O.Sink.faults l.fn.out)))
       (talk (Some (waiting (l.self ++ l.rest) l.opened)) t (outside (g.O.Sink.taken l.out) (g.K.Shelf.faults l.keep) (g.O.Sink.faults l.out)));
+  reads : Left (asks_for (l.fn.self ++ l.fn.piece)) (asks_for (l.self ++ l.rest)) (is_request (l.self ++ l.rest)) (g.K.Shelf.ready l.keep) (g.K.Shelf.reads l.fn.keep) (g.K.Shelf.reads l.keep);
   ready : l.opened ≡ true → g.K.Shelf.ready l.keep ≡ true;
   later : g.K.Shelf.faults l.fn.keep ≤ g.K.Shelf.faults l.keep;
   sink : g.O.Sink.alike l.fn.out l.out;

@@ -4,6 +4,7 @@ use Rattle.line_door.specs.Skipping.{Skipped, skipping_front}
 use Rattle.arch_model.specs.Next.{continues}
 use Rattle.nntp_reader.specs.Door.{Reader}
 use Rattle.nntp_reader.proofs.Turning.{line-held, line-part, turn-line, turn-skipped, turn-kept, part-kept}
+use Rattle.nntp_reader.proofs.Counting.{line-reads, skipped-reads}
 use Rattle.nntp_reader.proofs.session.NntpSession.act.Goals as goal
 
 pub answer-requires-clause-part : goal.answer-requires-clause-part
@@ -31,3 +32,16 @@ returns-in-More-clause-turn g c = λ a held.
 
 pub returns-in-More-clause-takes : goal.returns-in-More-clause-takes
 returns-in-More-clause-takes g c = part-kept c.hold.new.self (c.self.inside.held ++ c.args.piece.now) c.in-More.ensures c.hold.ensures
+
+pub returns-in-Line-clause-reads : goal.returns-in-Line-clause-reads
+returns-in-Line-clause-reads g c = λ a held.
+    let bytes = ap (λ (r : Reader). r.bytes) c.self.view_is in
+    let is = line-held c.self.inside.held c.args.self.now.bytes c.args.piece.now c.split_at.result.0.now c.in-Line.end bytes c.in-Line.ensures c.split_at.ensures.front in
+    rw c.went.ensures
+    (line-reads c.args.moment a c.args.self.now.group c.answer.new.self.group c.args.self.now.bytes c.args.piece.now (c.args.self.now.bytes ++ c.split_at.result.0.now) c.answer.new.self.bytes (c.in-Line.end + 1) (continues c.answer.result) _ _ is c.answer.ensures.empty (c.answer.ensures.reads a held))
+
+pub returns-in-Skipped-clause-reads : goal.returns-in-Skipped-clause-reads
+returns-in-Skipped-clause-reads g c = λ a held.
+    let is : skipping_front longest_line (c.self.inside.held ++ c.args.piece.now) ≡ Skipped (drop (c.in-Skipped.end + 1) c.args.piece.now) = c.in-Skipped.ensures.1 in
+    rw (← c.self.view_is, c.went-in-Skipped.ensures)
+    (skipped-reads c.args.moment a c.self.inside.group c.self.inside.held c.args.piece.now c.clear.new.self (c.in-Skipped.end + 1) (continues c.after.result) _ is c.clear.ensures)

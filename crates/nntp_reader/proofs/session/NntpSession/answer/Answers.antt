@@ -17,3 +17,11 @@ returns-clause-acts g c = λ a rest held.
     let command : meant c.read_order-order.result ≡ command_of (year_at c.args.moment) (content (c.args.self.now.bytes ++ c.args.line.now)) =
     c.read_order-order.ensures ∙ ap (λ (y : ℕ). command_of y c.line_content.result.now) c.year_of.ensures.value ∙ ap (command_of (year_at c.args.moment)) (c.line_content.ensures ∙ ap content whole) in
     rw (group, command) at (c.say_order-next.ensures.acts a rest held)
+
+pub returns-clause-reads : goal.returns-clause-reads
+returns-clause-reads g c = λ a held.
+    let bytes = ap (λ (r : Reader). r.bytes) c.self.view_is in
+    let whole : c.as_slice.result.now ≡ c.args.self.now.bytes ++ c.args.line.now = c.as_slice.ensures.value ∙ c.hold.ensures ∙ ap (λ (x : List ℕ). held_of longest_line (x ++ c.args.line.now)) bytes ∙ line-whole c.args.self.now.bytes c.args.line.now c.requires.short in
+    let command : meant c.read_order-order.result ≡ command_of (year_at c.args.moment) (content (c.args.self.now.bytes ++ c.args.line.now)) =
+    c.read_order-order.ensures ∙ ap (λ (y : ℕ). command_of y c.line_content.result.now) c.year_of.ensures.value ∙ ap (command_of (year_at c.args.moment)) (c.line_content.ensures ∙ ap content whole) in
+    rw command at (c.say_order-next.ensures.reads a held)

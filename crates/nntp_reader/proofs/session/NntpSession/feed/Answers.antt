@@ -2,12 +2,14 @@ use Rattle.std.proofs.Common.{refl, inl, None}
 use Rattle.line_door.proofs.Courses.{Going-same, Going-more, Fed-last, Last-done}
 use Rattle.arch_model.proofs.Shelving.{stays-same, stays-joined}
 use Rattle.nntp_reader.specs.Door.{Reader, said, has_request, with_piece}
+use Rattle.nntp_reader.proofs.Counting.{ahead-none, ahead-more, ahead-kept, ahead-last}
 use Rattle.nntp_reader.proofs.Turning.{last-kept}
 use Rattle.nntp_reader.proofs.session.NntpSession.feed.Goals as goal
 
 pub loop-taken-init : goal.loop-taken-init
 loop-taken-init g c = record {
   going = λ a held. Going-same (said c.args.moment) has_request _;
+  reads = λ a held. ahead-none _ _;
   shelf = stays-same g.S.Shelf.holds g.S.Shelf.ready g.S.Shelf.alike g.S.Shelf.faults g.met.S.Shelf.alike_same c.args.shelf.now c.requires.ready;
   sink = g.met.O.Sink.alike_same _;
 }
@@ -17,6 +19,7 @@ loop-taken-preserved g c = rw c.split_at.ensures.back (record {
   going = λ a held.
       let turn = c.in-Went.ensures.turn a (c.loop-taken.invariant.shelf.kept a held) in
       Going-more (said c.args.moment) has_request _ _ _ (with_piece c.loop-taken.rest.now c.loop-taken.self) (c.loop-taken.invariant.going a held) turn.0 (record { held = refl; acts = turn.1 });
+  reads = λ a held. ahead-more _ _ _ _ _ _ (c.loop-taken.invariant.reads a held) (c.in-Went.ensures.reads a (c.loop-taken.invariant.shelf.kept a held));
   shelf = stays-joined g.S.Shelf.holds g.S.Shelf.ready g.S.Shelf.alike g.S.Shelf.faults g.met.S.Shelf.alike_joined _ _ _ c.loop-taken.invariant.shelf c.act.ensures.shelf;
   sink = g.met.O.Sink.alike_joined _ _ _ c.loop-taken.invariant.sink c.act.ensures.sink;
 })
@@ -32,3 +35,11 @@ pub returns-in-Closed-clause-fed : goal.returns-in-Closed-clause-fed
 returns-in-Closed-clause-fed g c = λ a held.
     let turn = c.in-Closed.ensures.turn a (c.loop-taken.invariant.shelf.kept a held) in
     Fed-last (said c.args.moment) has_request _ _ _ (c.loop-taken.invariant.going a held) (Last-done (said c.args.moment) has_request (with_piece c.loop-taken.rest.now c.loop-taken.self) a _ None a _ turn (inl refl))
+
+pub returns-in-Kept-clause-reads : goal.returns-in-Kept-clause-reads
+returns-in-Kept-clause-reads g c = λ a held.
+    ahead-kept _ _ _ _ _ (c.loop-taken.invariant.reads a held) (c.in-Kept.ensures.reads a (c.loop-taken.invariant.shelf.kept a held))
+
+pub returns-in-Closed-clause-reads : goal.returns-in-Closed-clause-reads
+returns-in-Closed-clause-reads g c = λ a held.
+    ahead-last _ _ _ _ _ (c.loop-taken.invariant.reads a held) (c.in-Closed.ensures.reads a (c.loop-taken.invariant.shelf.kept a held))

@@ -1,8 +1,9 @@
-use Rattle.std.proofs.Common.{length, Some}
+use Rattle.std.proofs.Common.{◌++◌, length, Some}
 use Rattle.line_door.specs.Acts.{outside}
 use Rattle.line_door.specs.Course.{talk, Going}
 use Rattle.arch_model.specs.Archives.{Archive}
 use Rattle.arch_model.specs.Shelves.{Stays}
+use Rattle.nntp_reader.specs.Counting.{texts_for_bytes, ReadsAhead}
 use Rattle.nntp_reader.specs.Door.{said, has_request, with_piece}
 use Rattle.nntp_reader.proofs.session.NntpSession.feed.Given as goal
 
@@ -13,6 +14,9 @@ invariant-loop-taken g l = record {
       Going (said l.moment) has_request
       (talk (Some (with_piece l.fn.piece l.fn.self)) a (outside (g.O.Sink.taken l.fn.out) (g.S.Shelf.faults l.fn.shelf) (g.O.Sink.faults l.fn.out)))
       (talk (Some (with_piece l.rest l.self)) a (outside (g.O.Sink.taken l.out) (g.S.Shelf.faults l.shelf) (g.O.Sink.faults l.out)));
+  reads :
+      (a : Archive) → g.S.Shelf.holds l.fn.shelf a →
+      ReadsAhead (texts_for_bytes l.moment a (l.fn.self.bytes ++ l.fn.piece)) (texts_for_bytes l.moment a (l.self.bytes ++ l.rest)) (g.S.Shelf.reads l.fn.shelf) (g.S.Shelf.reads l.shelf);
   shelf : Stays g.S.Shelf.holds g.S.Shelf.ready g.S.Shelf.alike g.S.Shelf.faults l.fn.shelf l.shelf;
   sink : g.O.Sink.alike l.fn.out l.out;
 }
