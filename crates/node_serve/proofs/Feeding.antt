@@ -52,10 +52,10 @@ http-rest : (goes_on : Bool) (left : List ℕ) → held_if goes_on (session.Http
 http-rest true left = refl
 http-rest false left = refl
 
-module _ {K : Type 0} (holds : K → Archive → Type 0) (ready : K → Bool) (leaves : K → K → List (Option Archive) → Type 0) (moment : ℕ) where
+module _ {K : Type 0} (holds rests : K → Archive → Type 0) (ready : K → Bool) (leaves : K → K → List (Option Archive) → Type 0) (moment : ℕ) where
   -- The piece of a session at the control door.
-  pub control-fed : (bytes : List ℕ) (s : Standing) (old : K) (i : Outside) (goes_on : Bool) (left : List ℕ) (new : K) (j : Outside) → sessions.Feeds holds ready leaves moment bytes old i goes_on left new j → Fits holds ready leaves old s
-      → FedFrom holds ready leaves moment (AtControl (waiting bytes true)) s old i goes_on (session.Control left) new j
+  pub control-fed : (bytes : List ℕ) (s : Standing) (old : K) (i : Outside) (goes_on : Bool) (left : List ℕ) (new : K) (j : Outside) → sessions.Feeds holds rests ready leaves moment bytes old i goes_on left new j → Fits holds rests ready leaves old s
+      → FedFrom holds rests ready leaves moment (AtControl (waiting bytes true)) s old i goes_on (session.Control left) new j
   control-fed bytes s old i goes_on left new j feeds fits =
       let fed = feeds s fits in
       record {
@@ -67,38 +67,38 @@ module _ {K : Type 0} (holds : K → Archive → Type 0) (ready : K → Bool) (l
       }
 
   -- The piece of a reader's session.
-  pub news-fed : ((k : K) (a : Archive) (may : List (Option Archive)) → holds k a → Contains may (Some a) → leaves k k may) → (start : Reader) (s : Standing) (old : K) (i : Outside) (goes_on : Bool) (left : Reader) (new : K) (j : Outside)
-      → ((a : Archive) → holds old a → Fed (news.said moment) news.has_request (talk (Some start) a i) (talk (held_if goes_on left) a j)) → OnlyRead holds ready leaves old new → ready old ≡ true → Fits holds ready leaves old s
-      → FedFrom holds ready leaves moment (AtNews start) s old i goes_on (session.News left) new j
-  news-fed holds_left start s old i goes_on left new j fed read at_hand fits =
-      let settled = settled-is holds ready leaves old s fits at_hand in
-      let moves = moves-read holds ready leaves holds_left old new s.archive settled.1 read in
-      subst (λ (x : Standing). FedFrom holds ready leaves moment (AtNews start) x old i goes_on (session.News left) new j) (sym settled.0) (record {
+  pub news-fed : ((k : K) (a : Archive) → holds k a → rests k a) → ((k : K) (a : Archive) (may : List (Option Archive)) → holds k a → Contains may (Some a) → leaves k k may) → (start : Reader) (s : Standing) (old : K) (i : Outside) (goes_on : Bool) (left : Reader) (new : K) (j : Outside)
+      → ((a : Archive) → holds old a → Fed (news.said moment) news.has_request (talk (Some start) a i) (talk (held_if goes_on left) a j)) → OnlyRead holds rests ready leaves old new → ready old ≡ true → Fits holds rests ready leaves old s
+      → FedFrom holds rests ready leaves moment (AtNews start) s old i goes_on (session.News left) new j
+  news-fed holds_rests holds_left start s old i goes_on left new j fed read at_hand fits =
+      let settled = settled-is holds rests ready leaves old s fits at_hand in
+      let moves = moves-read holds rests ready leaves holds_rests holds_left old new s.archive settled.1 read in
+      subst (λ (x : Standing). FedFrom holds rests ready leaves moment (AtNews start) x old i goes_on (session.News left) new j) (sym settled.0) (record {
         after = standing s.archive None;
         fits = moves.fits;
         held = held_over AtNews (held_if goes_on left);
         rest_is = news-rest goes_on left;
-        course = reading-course holds ready leaves AtNews (news.said moment) news.has_request (said moment) is_asked (λ a h way. refl) (λ h. refl) old new (talk (Some start) s.archive i) (talk (held_if goes_on left) s.archive j) read (fed s.archive settled.1);
+        course = reading-course holds rests ready leaves AtNews (news.said moment) news.has_request (said moment) is_asked (λ a h way. refl) (λ h. refl) old new (talk (Some start) s.archive i) (talk (held_if goes_on left) s.archive j) read (fed s.archive settled.1);
       })
 
   -- The piece of a session at the door of pages.
-  pub http-fed : ((k : K) (a : Archive) (may : List (Option Archive)) → holds k a → Contains may (Some a) → leaves k k may) → (start : List ℕ) (s : Standing) (old : K) (i : Outside) (goes_on : Bool) (left : List ℕ) (new : K) (j : Outside)
-      → ((a : Archive) → holds old a → Fed (pages.said asked_in moment) pages.has_request (talk (Some start) a i) (talk (held_if goes_on left) a j)) → OnlyRead holds ready leaves old new → ready old ≡ true → Fits holds ready leaves old s
-      → FedFrom holds ready leaves moment (AtHttp start) s old i goes_on (session.Http left) new j
-  http-fed holds_left start s old i goes_on left new j fed read at_hand fits =
-      let settled = settled-is holds ready leaves old s fits at_hand in
-      let moves = moves-read holds ready leaves holds_left old new s.archive settled.1 read in
-      subst (λ (x : Standing). FedFrom holds ready leaves moment (AtHttp start) x old i goes_on (session.Http left) new j) (sym settled.0) (record {
+  pub http-fed : ((k : K) (a : Archive) → holds k a → rests k a) → ((k : K) (a : Archive) (may : List (Option Archive)) → holds k a → Contains may (Some a) → leaves k k may) → (start : List ℕ) (s : Standing) (old : K) (i : Outside) (goes_on : Bool) (left : List ℕ) (new : K) (j : Outside)
+      → ((a : Archive) → holds old a → Fed (pages.said asked_in moment) pages.has_request (talk (Some start) a i) (talk (held_if goes_on left) a j)) → OnlyRead holds rests ready leaves old new → ready old ≡ true → Fits holds rests ready leaves old s
+      → FedFrom holds rests ready leaves moment (AtHttp start) s old i goes_on (session.Http left) new j
+  http-fed holds_rests holds_left start s old i goes_on left new j fed read at_hand fits =
+      let settled = settled-is holds rests ready leaves old s fits at_hand in
+      let moves = moves-read holds rests ready leaves holds_rests holds_left old new s.archive settled.1 read in
+      subst (λ (x : Standing). FedFrom holds rests ready leaves moment (AtHttp start) x old i goes_on (session.Http left) new j) (sym settled.0) (record {
         after = standing s.archive None;
         fits = moves.fits;
         held = held_over AtHttp (held_if goes_on left);
         rest_is = http-rest goes_on left;
-        course = reading-course holds ready leaves AtHttp (pages.said asked_in moment) pages.has_request (said moment) is_asked (λ a h way. refl) (λ h. refl) old new (talk (Some start) s.archive i) (talk (held_if goes_on left) s.archive j) read (fed s.archive settled.1);
+        course = reading-course holds rests ready leaves AtHttp (pages.said asked_in moment) pages.has_request (said moment) is_asked (λ a h way. refl) (λ h. refl) old new (talk (Some start) s.archive i) (talk (held_if goes_on left) s.archive j) read (fed s.archive settled.1);
       })
 
   -- A reopening, and then the piece.
   pub fed-opened : (start : Session) (piece : List ℕ) (s t : Standing) (old mid new : K) (i j k : Outside) (goes_on : Bool) (left : Session) → Acts (said moment s (Came start piece)) i (Some (with_piece start piece)) t j → Passes leaves old mid (s ∷ t ∷ [])
-      → FedFrom holds ready leaves moment (with_piece start piece) t mid j goes_on left new k → FedFrom holds ready leaves moment (Came start piece) s old i goes_on left new k
+      → FedFrom holds rests ready leaves moment (with_piece start piece) t mid j goes_on left new k → FedFrom holds rests ready leaves moment (Came start piece) s old i goes_on left new k
   fed-opened start piece s t old mid new i j k goes_on left acts passes fed = record {
     after = fed.after;
     fits = fed.fits;
@@ -109,8 +109,8 @@ module _ {K : Type 0} (holds : K → Archive → Type 0) (ready : K → Bool) (l
   }
 
   -- A reopening that was refused.
-  pub fed-shut : (start : Session) (piece : List ℕ) (s t : Standing) (old new : K) (i j : Outside) (left : Session) → Acts (said moment s (Came start piece)) i None t j → Moves holds ready leaves old s new t
-      → FedFrom holds ready leaves moment (Came start piece) s old i false left new j
+  pub fed-shut : (start : Session) (piece : List ℕ) (s t : Standing) (old new : K) (i j : Outside) (left : Session) → Acts (said moment s (Came start piece)) i None t j → Moves holds rests ready leaves old s new t
+      → FedFrom holds rests ready leaves moment (Came start piece) s old i false left new j
   fed-shut start piece s t old new i j left acts moves = record {
     after = t;
     fits = moves.fits;
@@ -119,11 +119,11 @@ module _ {K : Type 0} (holds : K → Archive → Type 0) (ready : K → Bool) (l
     course = coming-last leaves (said moment) is_asked old old new (talk (Some (Came start piece)) s i) (Came start piece) s i None t j (coming-same leaves (said moment) is_asked old (talk (Some (Came start piece)) s i)) acts (inl refl) moves.passes;
   }
 
-module _ {K : Type 0} (holds : K → Archive → Type 0) (ready : K → Bool) where
+module _ {K : Type 0} (holds : K → Archive → Type 0) (ready : K → Bool) (reads : K → ℕ) (moment : ℕ) where
   -- What a piece reads after a reopening that does nothing.
-  pub reads-from : (start : Session) (piece : List ℕ) (reads : K → ℕ) (old mid : K) (now : ℕ) → mid ≡ old → ReadsAt holds ready start piece mid (reads mid) now → ReadsAt holds ready start piece old (reads old) now
-  reads-from start piece reads old mid now same read = subst (λ (k : K). ReadsAt holds ready start piece k (reads k) now) same read
+  pub reads-from : (start : Session) (piece : List ℕ) (old mid new : K) → mid ≡ old → ReadsAt holds ready reads moment start piece mid new → ReadsAt holds ready reads moment start piece old new
+  reads-from start piece old mid new same read = subst (λ (k : K). ReadsAt holds ready reads moment start piece k new) same read
 
   -- What a piece reads that came to the session of a place, if it has one.
-  pub reads-there : (here there : Option Session) (piece : List ℕ) (old : K) (before now : ℕ) → here ≡ there → ReadsCame holds ready here piece old before now → ReadsCame holds ready there piece old before now
-  reads-there here there piece old before now same read = subst (λ (x : Option Session). ReadsCame holds ready x piece old before now) same read
+  pub reads-there : (here there : Option Session) (piece : List ℕ) (old new : K) → here ≡ there → ReadsCame holds ready reads moment here piece old new → ReadsCame holds ready reads moment there piece old new
+  reads-there here there piece old new same read = subst (λ (x : Option Session). ReadsCame holds ready reads moment x piece old new) same read

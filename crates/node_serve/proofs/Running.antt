@@ -19,7 +19,7 @@ use Rattle.arch_model.proofs.Keepers.{all-split}
 use Rattle.keep_course.specs.Courses.{afters}
 use Rattle.node_serve.specs.Doors.{Held, session_limit, greets, said_making}
 use Rattle.node_serve.specs.Ends.{NoStop, EndsBy, is_stop, given_after, before_all}
-use Rattle.node_serve.specs.Nodes.{Serving, places_in, world_of, StepsTo, TurnsTo, Turns, TookOne, TookNone, TakesOne, RunsTo, RunsOver, ServesTo}
+use Rattle.node_serve.specs.Nodes.{Serving, Stage, stage, Along, AreAt, places_in, world_of, world_at, outputs_at, outputs_along, outputs_noted, outputs_asked, TurnsAnyway, GoesAnyway, ReadsBy, GoesReading, StepsTo, TurnsTo, Turns, TookOne, TookNone, TakesOne, RunsTo, ServesTo}
 use Rattle.node_serve.specs.Turns.{Turn, CameTo, TurnedBy, Turned, Served, passed_in, outputs_of, outputs_before}
 use Rattle.node_serve.specs.World.{Outer, World, outer}
 use Rattle.node_serve.specs.declared.serving.Taken.{Taken}
@@ -51,12 +51,36 @@ pub none-more : (es : List Arrival) (e : Arrival) → NoStop es → is_stop e.0.
 none-more [] e none last = (last, tt)
 none-more (x ∷ es) e none last = (none.0, none-more es e none.1 last)
 
+-- One stage more.
+pub along-more : {K : Type 0} (does : Arrival → Stage K → Stage K → Type 0) (es : List Arrival) (p : Stage K) (ms : List (Stage K)) (m q : Stage K) (e : Arrival) → Along does es p ms m → does e m q → Along does (es ++ e ∷ []) p (ms ++ q ∷ []) q
+along-more does [] p [] m q e run step = (subst (λ x. does e x q) run step, refl)
+along-more does [] p (x ∷ ms) m q e never step = absurd never
+along-more does (x ∷ es) p [] m q e never step = absurd never
+along-more does (x ∷ es) p (y ∷ ms) m q e run step = (run.0, along-more does es y ms m q e run.1 step)
+
+at-more : {K : Type 0} (ms : List (Stage K)) (ts : List Turn) (q : Stage K) (t : Turn) → AreAt ms ts → t.after ≡ world_at t.after.standing q → AreAt (ms ++ q ∷ []) (ts ++ t ∷ [])
+at-more [] [] q t at is = (is, tt)
+at-more [] (u ∷ ts) q t never is = absurd never
+at-more (m ∷ ms) [] q t never is = absurd never
+at-more (m ∷ ms) (u ∷ ts) q t at is = (at.0, at-more ms ts q t at.1 is)
+
 -- The outputs before each.
-pub outputs-more : (es : List Arrival) (w : World) (ts : List Turn) (m : World) (t : Turn) → Served es w ts m → outputs_before w (ts ++ t ∷ []) ≡ outputs_before w ts ++ outputs_of m ∷ []
-outputs-more [] w [] m t run = ap (λ (x : World). outputs_of x ∷ []) (sym run)
-outputs-more [] w (u ∷ ts) m t never = absurd never
-outputs-more (e ∷ es) w [] m t never = absurd never
-outputs-more (e ∷ es) w (u ∷ ts) m t run = ap (λ (os : List Outputs). outputs_of w ∷ os) (outputs-more es u.after ts m t run.1)
+outputs-more : {K : Type 0} (does : Arrival → Stage K → Stage K → Type 0) (es : List Arrival) (p : Stage K) (ms : List (Stage K)) (m q : Stage K) → Along does es p ms m → outputs_along p (ms ++ q ∷ []) ≡ outputs_along p ms ++ outputs_at m ∷ []
+outputs-more does [] p [] m q run = ap (λ x. outputs_at x ∷ []) (sym run)
+outputs-more does [] p (x ∷ ms) m q never = absurd never
+outputs-more does (e ∷ es) p [] m q never = absurd never
+outputs-more does (e ∷ es) p (x ∷ ms) m q run = ap (λ (os : List Outputs). outputs_at p ∷ os) (outputs-more does es x ms m q run.1)
+
+-- They are those of the worlds of the turns at the stages.
+outputs-before : {K : Type 0} (p : Stage K) (ms : List (Stage K)) (w : World) (ts : List Turn) → AreAt ms ts → outputs_of w ≡ outputs_at p → outputs_before w ts ≡ outputs_along p ms
+outputs-before p [] w [] at is = refl
+outputs-before p [] w (t ∷ ts) never is = absurd never
+outputs-before p (m ∷ ms) w [] never is = absurd never
+outputs-before p (m ∷ ms) w (t ∷ ts) at is = ap (λ (o : Outputs). o ∷ outputs_before t.after ts) is ∙ ap (λ (os : List Outputs). outputs_at p ∷ os) (outputs-before m ms t.after ts at.1 (ap outputs_of at.0))
+
+pub outputs-asked : {K : Type 0} (none : Bool) (p : Stage K) (ms : List (Stage K)) (q : Stage K) (w : World) (ts : List Turn) (v : World) → AreAt ms ts → outputs_of w ≡ outputs_at p → outputs_of v ≡ outputs_at q → outputs_asked none w ts v ≡ outputs_noted none p ms q
+outputs-asked true p ms q w ts v at first last = ap (λ (os : List Outputs). os ++ outputs_of v ∷ []) (outputs-before p ms w ts at first) ∙ ap (λ (o : Outputs). outputs_along p ms ++ o ∷ []) last
+outputs-asked false p ms q w ts v at first last = outputs-before p ms w ts at first
 
 append-none : {X : Type 0} (xs : List X) → xs ++ [] ≡ xs
 append-none [] = refl
@@ -146,28 +170,32 @@ served-last [] w (t ∷ ts) v never = absurd never
 served-last (e ∷ es) w [] v never = absurd never
 served-last (e ∷ es) w (t ∷ ts) v run = served-last es t.after ts v run.1
 
-module _ {K : Type 0} (holds : K → Archive → Type 0) (ready : K → Bool) (leaves : K → K → List (Option Archive) → Type 0) where
+module _ {K : Type 0} (holds rests : K → Archive → Type 0) (ready : K → Bool) (leaves : K → K → List (Option Archive) → Type 0) where
   -- Before the first event.
-  pub runs-none : (s : Standing) (node : Serving K) (i : Outer) → Fits holds ready leaves node.keep s → RunsTo holds ready leaves [] s node i node i
+  pub runs-none : (s : Standing) (node : Serving K) (i : Outer) → Fits holds rests ready leaves node.keep s → RunsTo holds rests ready leaves [] s node i [] node i
   runs-none s node i fits = record {
     after = s;
     fits = fits;
     turns = [];
     served = refl;
+    at = tt;
     steps = refl;
     passes = λ start may has since. since;
-    crash = crash-left holds ready leaves node.keep node.keep s [] fits (λ start may has since. since);
+    crash = crash-left holds rests ready leaves node.keep node.keep s [] fits (λ start may has since. since);
   }
 
   -- One turn more.
-  steps-more : (ts : List Turn) (t : Turn) (s : Standing) (old mid new : K) → StepsTo holds ready leaves old s ts mid → Fits holds ready leaves new t.after.standing → Passes leaves mid new (last-standing s ts ∷ t.passed) → StepsTo holds ready leaves old s (ts ++ t ∷ []) new
-  steps-more [] t s old mid new steps fits passes = (new, fits, subst (λ (k : K). Passes leaves k new (s ∷ t.passed)) steps passes, refl)
-  steps-more (u ∷ ts) t s old mid new steps fits passes = (steps.0, steps.1, steps.2, steps-more ts t u.after.standing steps.0 mid new steps.3 fits passes)
+  steps-more : (ms : List (Stage K)) (ts : List Turn) (q : Stage K) (t : Turn) (s : Standing) (old mid : K) → StepsTo holds rests ready leaves old s ms ts mid → Fits holds rests ready leaves q.node.keep t.after.standing → Passes leaves mid q.node.keep (last-standing s ts ∷ t.passed)
+      → StepsTo holds rests ready leaves old s (ms ++ q ∷ []) (ts ++ t ∷ []) q.node.keep
+  steps-more [] [] q t s old mid steps fits passes = (fits, subst (λ (k : K). Passes leaves k q.node.keep (s ∷ t.passed)) steps passes, refl)
+  steps-more [] (u ∷ ts) q t s old mid never fits passes = absurd never
+  steps-more (m ∷ ms) [] q t s old mid never fits passes = absurd never
+  steps-more (m ∷ ms) (u ∷ ts) q t s old mid steps fits passes = (steps.0, steps.1, steps-more ms ts q t u.after.standing m.node.keep mid steps.2 fits passes)
 
   -- One event more.
-  pub runs-more : (es : List Arrival) (e : Arrival) (s : Standing) (old mid new : Serving K) (i j k : Outer) → Fits holds ready leaves old.keep s → (run : RunsTo holds ready leaves es s old i mid j) → TurnsTo holds ready leaves e run.after mid j new k
-      → RunsTo holds ready leaves (es ++ e ∷ []) s old i new k
-  runs-more es e s old mid new i j k fits run turn =
+  pub runs-more : (es : List Arrival) (e : Arrival) (s : Standing) (old mid new : Serving K) (i j k : Outer) (ms : List (Stage K)) → Fits holds rests ready leaves old.keep s → (run : RunsTo holds rests ready leaves es s old i ms mid j) → TurnsTo holds rests ready leaves e run.after mid j new k
+      → RunsTo holds rests ready leaves (es ++ e ∷ []) s old i (ms ++ stage new k ∷ []) new k
+  runs-more es e s old mid new i j k ms fits run turn =
       let last : Turn = record { passed = turn.passed; after = world_of turn.after (places_in new) k } in
       let ts = run.turns ++ last ∷ [] in
       let passes : Passes leaves old.keep new.keep (s ∷ passed_in ts) = λ start may has since.
@@ -178,132 +206,181 @@ module _ {K : Type 0} (holds : K → Archive → Type 0) (ready : K → Bool) (l
         fits = turn.fits;
         turns = ts;
         served = served-more es (world_of s (places_in old) i) run.turns (world_of run.after (places_in mid) j) e turn.passed (world_of turn.after (places_in new) k) run.served turn.turned;
-        steps = steps-more run.turns last s old.keep mid.keep new.keep run.steps turn.fits
+        at = at-more ms run.turns (stage new k) last run.at refl;
+        steps = steps-more ms run.turns (stage new k) last s old.keep mid.keep run.steps turn.fits
             (subst (λ (x : Standing). Passes leaves mid.keep new.keep (x ∷ turn.passed)) (served-last es (world_of s (places_in old) i) run.turns (world_of run.after (places_in mid) j) run.served) turn.passes);
         passes = passes;
-        crash = crash-left holds ready leaves old.keep new.keep s (passed_in ts) fits passes;
+        crash = crash-left holds rests ready leaves old.keep new.keep s (passed_in ts) fits passes;
       }
 
-  -- So many events were taken, and none of them was a stop.
-  pub record SoFar (n : ℕ) (old : Serving K) (i : Outer) (new : Serving K) (j : Outer) (given given' left left' : Told) (recorded recorded' : List Outputs → Type 0) : Type 0 where
-    pub arrivals : List Arrival
-    pub given_is : given' ≡ given_after given arrivals
-    pub left_is : left ≡ before_all arrivals left'
-    pub count : length arrivals ≡ n
-    pub none : NoStop arrivals
-    pub runs : (s : Standing) → Fits holds ready leaves old.keep s → RunsOver holds ready leaves recorded recorded' false arrivals s old i new j
+  module _ (reads : K → ℕ) where
+    -- These events were taken, each from one stage to the next.
+    pub record Reached (arrivals : List Arrival) (old : Serving K) (i : Outer) (new : Serving K) (j : Outer) (given given' left left' : Told) (recorded recorded' : List Outputs → Type 0) : Type 0 where
+      pub given_is : given' ≡ given_after given arrivals
+      pub left_is : left ≡ before_all arrivals left'
+      pub stages : List (Stage K)
+      pub anyway : Along GoesAnyway arrivals (stage old i) stages (stage new j)
+      pub reads_few : Along (GoesReading holds ready reads) arrivals (stage old i) stages (stage new j)
+      pub records : (past : List Outputs) → recorded past → recorded' (past ++ outputs_noted false (stage old i) stages (stage new j))
+      pub runs : (s : Standing) → Fits holds rests ready leaves old.keep s → RunsTo holds rests ready leaves arrivals s old i stages new j
 
-  pub sofar-none : (node : Serving K) (i : Outer) (given left : Told) (recorded : List Outputs → Type 0) → SoFar 0 node i node i given given left left recorded recorded
-  unfolding runs-none
-  sofar-none node i given left recorded = record {
-    arrivals = [];
-    given_is = refl;
-    left_is = refl;
-    count = refl;
-    none = tt;
-    runs = λ s fits. record { runs = runs-none s node i fits; records = λ past noted. subst (λ (os : List Outputs). recorded os) (sym (append-none past)) noted };
-  }
+    -- So many were taken, and none of them was a stop.
+    pub record SoFar (n : ℕ) (old : Serving K) (i : Outer) (new : Serving K) (j : Outer) (given given' left left' : Told) (recorded recorded' : List Outputs → Type 0) : Type 0 where
+      pub arrivals : List Arrival
+      pub count : length arrivals ≡ n
+      pub none : NoStop arrivals
+      pub reached : Reached arrivals old i new j given given' left left' recorded recorded'
 
-  -- One event more: what it does, and what the host noted before it.
-  over-more : (es : List Arrival) (s : Standing) (old mid new : Serving K) (i j k : Outer) (given' given'' left' left'' : Told) (recorded recorded' recorded'' : List Outputs → Type 0) (stops : Bool) → Fits holds ready leaves old.keep s → RunsOver holds ready leaves recorded recorded' false es s old i mid j
-      → (took : TookOne holds ready leaves mid j new k given' given'' left' left'' recorded' recorded'' stops) → RunsOver holds ready leaves recorded recorded'' false (es ++ took.arrival ∷ []) s old i new k
-  unfolding runs-more
-  over-more es s old mid new i j k given' given'' left' left'' recorded recorded' recorded'' stops fits over took =
-      let turn = took.turns over.runs.after over.runs.fits in
-      let runs = runs-more es took.arrival s old mid new i j k fits over.runs turn in
-      record {
-        runs = runs;
-        records = λ past noted.
-            let before = outputs_before (world_of s (places_in old) i) over.runs.turns in
-            let more = outputs-more es (world_of s (places_in old) i) over.runs.turns (world_of over.runs.after (places_in mid) j) (record { passed = turn.passed; after = world_of turn.after (places_in new) k }) over.runs.served in
-            let joined = took.records (past ++ before) (over.records past noted) in
-            subst (λ (os : List Outputs). recorded'' os) (append_assoc past before (outputs j.taken j.closings j.lost ∷ []) ∙ ap (λ (os : List Outputs). past ++ os) (sym more)) joined;
-      }
+    pub sofar-none : (node : Serving K) (i : Outer) (given left : Told) (recorded : List Outputs → Type 0) → SoFar 0 node i node i given given left left recorded recorded
+    sofar-none node i given left recorded = record {
+      arrivals = [];
+      count = refl;
+      none = tt;
+      reached = record {
+        given_is = refl;
+        left_is = refl;
+        stages = [];
+        anyway = refl;
+        reads_few = refl;
+        records = λ past noted. subst (λ (os : List Outputs). recorded os) (sym (append-none past)) noted;
+        runs = λ s fits. runs-none s node i fits;
+      };
+    }
 
-  pub sofar-more : (n : ℕ) (old mid new : Serving K) (i j k : Outer) (given given' given'' left left' left'' : Told) (recorded recorded' recorded'' : List Outputs → Type 0) → SoFar n old i mid j given given' left left' recorded recorded' → TookOne holds ready leaves mid j new k given' given'' left' left'' recorded' recorded'' false
-      → SoFar (n + 1) old i new k given given'' left left'' recorded recorded''
-  sofar-more n old mid new i j k given given' given'' left left' left'' recorded recorded' recorded'' far took = record {
-    arrivals = far.arrivals ++ took.arrival ∷ [];
-    given_is = took.given_is ∙ ap (λ (g : Told). then_given g took.arrival) far.given_is ∙ sym (given-more given far.arrivals took.arrival);
-    left_is = far.left_is ∙ ap (before_all far.arrivals) took.left_is ∙ sym (left-more far.arrivals took.arrival left'');
-    count = let len = length-append far.arrivals (took.arrival ∷ []) in omega (arith, len, far.count);
-    none = none-more far.arrivals took.arrival far.none took.stop_is;
-    runs = λ s fits. over-more far.arrivals s old mid new i j k given' given'' left' left'' recorded recorded' recorded'' false fits (far.runs s fits) took;
-  }
+    -- One event more: what it does, and what the host noted before it.
+    reached-more : (es : List Arrival) (old mid new : Serving K) (i j k : Outer) (given given' given'' left left' left'' : Told) (recorded recorded' recorded'' : List Outputs → Type 0) (stops : Bool) → Reached es old i mid j given given' left left' recorded recorded'
+        → (took : TookOne holds rests ready leaves reads mid j new k given' given'' left' left'' recorded' recorded'' stops) → Reached (es ++ took.arrival ∷ []) old i new k given given'' left left'' recorded recorded''
+    reached-more es old mid new i j k given given' given'' left left' left'' recorded recorded' recorded'' stops far took = record {
+      given_is = took.given_is ∙ ap (λ (g : Told). then_given g took.arrival) far.given_is ∙ sym (given-more given es took.arrival);
+      left_is = far.left_is ∙ ap (before_all es) took.left_is ∙ sym (left-more es took.arrival left'');
+      stages = far.stages ++ stage new k ∷ [];
+      anyway = along-more GoesAnyway es (stage old i) far.stages (stage mid j) (stage new k) took.arrival far.anyway took.anyway;
+      reads_few = along-more (GoesReading holds ready reads) es (stage old i) far.stages (stage mid j) (stage new k) took.arrival far.reads_few took.reads_few;
+      records = λ past noted.
+          let before = outputs_along (stage old i) far.stages in
+          let more = outputs-more GoesAnyway es (stage old i) far.stages (stage mid j) (stage new k) far.anyway in
+          let joined = took.records (past ++ before) (far.records past noted) in
+          subst (λ (os : List Outputs). recorded'' os) (append_assoc past before (outputs_at (stage mid j) ∷ []) ∙ ap (λ (os : List Outputs). past ++ os) (sym more)) joined;
+      runs = λ s fits. let run = far.runs s fits in runs-more es took.arrival s old mid new i j k far.stages fits run (took.turns run.after run.fits);
+    }
 
-  -- One event of the host.
-  pub took-event : (event : Event) (into : List ℕ) (len : ℕ) (old new : Serving K) (i m j : Outer) (given given' given'' left left' left'' : Told) (recorded recorded' recorded'' : List Outputs → Type 0) → len ≡ piece_len event.what → GaveOne event into left left' given given' → m ≡ i
-      → Turns holds ready leaves (event, take len into) old m new j → left'' ≡ left' → given'' ≡ given' → ((past : List Outputs) → recorded past → recorded' (past ++ outputs i.taken i.closings i.lost ∷ [])) → ((past : List Outputs) → recorded' past → recorded'' past)
-      → TookOne holds ready leaves old i new j given given'' left left'' recorded recorded'' (is_stop event.what)
-  took-event event into len old new i m j given given' given'' left left' left'' recorded recorded' recorded'' size gave out turns left_same given_same noted later =
-      let piece = take (piece_len event.what) into in
-      let turned : Turns holds ready leaves (event, piece) old i new j = subst (λ (o : Outer). Turns holds ready leaves (event, piece) old o new j) out (subst (λ (n : ℕ). Turns holds ready leaves (event, take n into) old m new j) size turns) in
-      record {
-        arrival = (event, piece);
-        given_is = given_same ∙ gave.last;
-        left_is = gave.first ∙ ap (before_left (event, piece)) (sym left_same);
-        stop_is = refl;
-        turns = turned;
-        records = λ past is. later (past ++ outputs i.taken i.closings i.lost ∷ []) (noted past is);
-      }
+    pub sofar-more : (n : ℕ) (old mid new : Serving K) (i j k : Outer) (given given' given'' left left' left'' : Told) (recorded recorded' recorded'' : List Outputs → Type 0) → SoFar n old i mid j given given' left left' recorded recorded' → TookOne holds rests ready leaves reads mid j new k given' given'' left' left'' recorded' recorded'' false
+        → SoFar (n + 1) old i new k given given'' left left'' recorded recorded''
+    sofar-more n old mid new i j k given given' given'' left left' left'' recorded recorded' recorded'' far took = record {
+      arrivals = far.arrivals ++ took.arrival ∷ [];
+      count = let len = length-append far.arrivals (took.arrival ∷ []) in omega (arith, len, far.count);
+      none = none-more far.arrivals took.arrival far.none took.stop_is;
+      reached = reached-more far.arrivals old mid new i j k given given' given'' left left' left'' recorded recorded' recorded'' false far.reached took;
+    }
 
-  -- It was a stop, or was none.
-  pub takes-one : (taken : Taken) (stops : Bool) (old new : Serving K) (i j : Outer) (given given' left left' : Told) (faults faults' : ℕ) (recorded recorded' : List Outputs → Type 0) → taken ≡ (if stops then Stops else Went) → TookOne holds ready leaves old i new j given given' left left' recorded recorded' stops
-      → TakesOne holds ready leaves taken old i new j given given' left left' faults faults' recorded recorded'
-  takes-one taken true old new i j given given' left left' faults faults' recorded recorded' is took = subst (λ (t : Taken). TakesOne holds ready leaves t old i new j given given' left left' faults faults' recorded recorded') (sym is) took
-  takes-one taken false old new i j given given' left left' faults faults' recorded recorded' is took = subst (λ (t : Taken). TakesOne holds ready leaves t old i new j given given' left left' faults faults' recorded recorded') (sym is) took
+    -- One event of the host.
+    pub took-event : (event : Event) (into : List ℕ) (len : ℕ) (old new : Serving K) (i m j : Outer) (given given' given'' left left' left'' : Told) (recorded recorded' recorded'' : List Outputs → Type 0) → len ≡ piece_len event.what → GaveOne event into left left' given given' → m ≡ i
+        → Turns holds rests ready leaves (event, take len into) old m new j → TurnsAnyway (event, take len into) old m new j → ReadsBy holds ready reads event.moment event.what (take len into) old new → left'' ≡ left' → given'' ≡ given' → ((past : List Outputs) → recorded past → recorded' (past ++ outputs i.taken i.closings i.lost ∷ []))
+        → ((past : List Outputs) → recorded' past → recorded'' past) → TookOne holds rests ready leaves reads old i new j given given'' left left'' recorded recorded'' (is_stop event.what)
+    took-event event into len old new i m j given given' given'' left left' left'' recorded recorded' recorded'' size gave out turns anyway read left_same given_same noted later =
+        let piece = take (piece_len event.what) into in
+        record {
+          arrival = (event, piece);
+          given_is = given_same ∙ gave.last;
+          left_is = gave.first ∙ ap (before_left (event, piece)) (sym left_same);
+          stop_is = refl;
+          turns = subst (λ (o : Outer). Turns holds rests ready leaves (event, piece) old o new j) out (subst (λ (n : ℕ). Turns holds rests ready leaves (event, take n into) old m new j) size turns);
+          anyway = subst (λ (o : Outer). TurnsAnyway (event, piece) old o new j) out (subst (λ (n : ℕ). TurnsAnyway (event, take n into) old m new j) size anyway);
+          reads_few = subst (λ (n : ℕ). ReadsBy holds ready reads event.moment event.what (take n into) old new) size read;
+          records = λ past is. later (past ++ outputs i.taken i.closings i.lost ∷ []) (noted past is);
+        }
 
-  -- The ends.
+    -- It was a stop, or was none.
+    pub takes-one : (taken : Taken) (stops : Bool) (old new : Serving K) (i j : Outer) (given given' left left' : Told) (faults faults' : ℕ) (recorded recorded' : List Outputs → Type 0) → taken ≡ (if stops then Stops else Went) → TookOne holds rests ready leaves reads old i new j given given' left left' recorded recorded' stops
+        → TakesOne holds rests ready leaves reads taken old i new j given given' left left' faults faults' recorded recorded'
+    takes-one taken true old new i j given given' left left' faults faults' recorded recorded' is took = subst (λ (t : Taken). TakesOne holds rests ready leaves reads t old i new j given given' left left' faults faults' recorded recorded') (sym is) took
+    takes-one taken false old new i j given given' left left' faults faults' recorded recorded' is took = subst (λ (t : Taken). TakesOne holds rests ready leaves reads t old i new j given given' left left' faults faults' recorded recorded') (sym is) took
 
-  pub ends-stopped : (n turns : ℕ) → n < turns → (old mid new : Serving K) (i j k : Outer) (given given' given'' left left' left'' : Told) (faults faults' : ℕ) (recorded recorded' recorded'' : List Outputs → Type 0) → SoFar n old i mid j given given' left left' recorded recorded' → TookOne holds ready leaves mid j new k given' given'' left' left'' recorded' recorded'' true → faults' ≡ faults
-      → ServesTo holds ready leaves end.Stopped turns old i new k given given'' left left'' faults faults' recorded recorded''
-  ends-stopped n turns before old mid new i j k given given' given'' left left' left'' faults faults' recorded recorded' recorded'' far took kept = record {
-    arrivals = far.arrivals ++ took.arrival ∷ [];
-    given_is = took.given_is ∙ ap (λ (g : Told). then_given g took.arrival) far.given_is ∙ sym (given-more given far.arrivals took.arrival);
-    left_is = far.left_is ∙ ap (before_all far.arrivals) took.left_is ∙ sym (left-more far.arrivals took.arrival left'');
-    none = false;
-    ends = (
-      record { before = far.arrivals; last = took.arrival; none = far.none; stops = took.stop_is; are = refl },
-      (let len = length-append far.arrivals (took.arrival ∷ []) in omega (arith, len, far.count, before)),
-      kept,
-    );
-    runs = λ s fits. over-more far.arrivals s old mid new i j k given' given'' left' left'' recorded recorded' recorded'' true fits (far.runs s fits) took;
-  }
+    -- The ends.
 
-  pub ends-none : (n turns : ℕ) → n < turns → (old mid new : Serving K) (i j k : Outer) (given given' given'' left left' left'' : Told) (faults faults' : ℕ) (recorded recorded' recorded'' : List Outputs → Type 0) → SoFar n old i mid j given given' left left' recorded recorded' → TookNone mid j new k given' given'' left' left'' → NoneLeft left''
-      → ((past : List Outputs) → recorded' past → recorded'' (past ++ outputs j.taken j.closings j.lost ∷ [])) → faults' ≡ faults → ServesTo holds ready leaves end.Stopped turns old i new k given given'' left left'' faults faults' recorded recorded''
-  ends-none n turns before old mid new i j k given given' given'' left left' left'' faults faults' recorded recorded' recorded'' far took none noted kept = record {
-    arrivals = far.arrivals;
-    given_is = took.given_kept ∙ far.given_is;
-    left_is = far.left_is ∙ ap (before_all far.arrivals) (sym took.left_kept);
-    none = true;
-    ends = (far.none, none, (omega (arith, far.count, before)), kept);
-    runs = λ s fits.
-        let over = far.runs s fits in
-        subst (λ (node : Serving K). RunsOver holds ready leaves recorded recorded'' true far.arrivals s old i node k) (sym took.node_kept) (subst (λ (o : Outer). RunsOver holds ready leaves recorded recorded'' true far.arrivals s old i mid o) (sym took.out_kept) (record {
-          runs = over.runs;
-          records = λ past is. let before = outputs_before (world_of s (places_in old) i) over.runs.turns in subst (λ (os : List Outputs). recorded'' os) (append_assoc past before (outputs j.taken j.closings j.lost ∷ [])) (noted (past ++ before) (over.records past is));
-        }));
-  }
+    pub ends-stopped : (n turns : ℕ) → n < turns → (old mid new : Serving K) (i j k : Outer) (given given' given'' left left' left'' : Told) (faults faults' : ℕ) (recorded recorded' recorded'' : List Outputs → Type 0) → SoFar n old i mid j given given' left left' recorded recorded'
+        → TookOne holds rests ready leaves reads mid j new k given' given'' left' left'' recorded' recorded'' true → faults' ≡ faults → ServesTo holds rests ready leaves reads end.Stopped turns old i new k given given'' left left'' faults faults' recorded recorded''
+    ends-stopped n turns before old mid new i j k given given' given'' left left' left'' faults faults' recorded recorded' recorded'' far took kept =
+        let reached = reached-more far.arrivals old mid new i j k given given' given'' left left' left'' recorded recorded' recorded'' true far.reached took in
+        record {
+          arrivals = far.arrivals ++ took.arrival ∷ [];
+          given_is = reached.given_is;
+          left_is = reached.left_is;
+          none = false;
+          ends = (
+            record { before = far.arrivals; last = took.arrival; none = far.none; stops = took.stop_is; are = refl },
+            (let len = length-append far.arrivals (took.arrival ∷ []) in omega (arith, len, far.count, before)),
+            kept,
+          );
+          stages = reached.stages;
+          anyway = reached.anyway;
+          reads_few = reached.reads_few;
+          records = reached.records;
+          runs = reached.runs;
+        }
 
-  -- No memory for the first event.
-  pub ends-starved : (turns : ℕ) (node : Serving K) (i : Outer) (given left : Told) (faults : ℕ) (recorded : List Outputs → Type 0) → ServesTo holds ready leaves end.NoMemory turns node i node i given given left left faults faults recorded recorded
-  unfolding sofar-none
-  ends-starved turns node i given left faults recorded = record { arrivals = []; given_is = refl; left_is = refl; none = false; ends = (refl, refl); runs = (sofar-none node i given left recorded).runs }
+    -- Nothing more was taken.
+    reached-still : (es : List Arrival) (old mid new : Serving K) (i j k : Outer) (given given' given'' left left' left'' : Told) (recorded recorded' : List Outputs → Type 0) → Reached es old i mid j given given' left left' recorded recorded' → TookNone mid j new k given' given'' left' left'' → Reached es old i new k given given'' left left'' recorded recorded'
+    reached-still es old mid new i j k given given' given'' left left' left'' recorded recorded' far took =
+        let begun : Reached es old i mid j given given'' left left'' recorded recorded' = record {
+          given_is = took.given_kept ∙ far.given_is;
+          left_is = far.left_is ∙ ap (before_all es) (sym took.left_kept);
+          stages = far.stages;
+          anyway = far.anyway;
+          reads_few = far.reads_few;
+          records = far.records;
+          runs = far.runs;
+        } in
+        subst (λ (node : Serving K). Reached es old i node k given given'' left left'' recorded recorded') (sym took.node_kept) (subst (λ (o : Outer). Reached es old i mid o given given'' left left'' recorded recorded') (sym took.out_kept) begun)
 
-  -- The host failed, or enough was taken.
-  pub ends-early : (how : ServeEnd) (n turns : ℕ) (old mid new : Serving K) (i j k : Outer) (given given' given'' left left' left'' : Told) (faults faults' : ℕ) (recorded recorded' recorded'' : List Outputs → Type 0) → (far : SoFar n old i mid j given given' left left' recorded recorded') → TookNone mid j new k given' given'' left' left''
-      → ((past : List Outputs) → recorded' past → recorded'' past) → EndsBy how false far.arrivals turns left'' faults faults' → ServesTo holds ready leaves how turns old i new k given given'' left left'' faults faults' recorded recorded''
-  ends-early how n turns old mid new i j k given given' given'' left left' left'' faults faults' recorded recorded' recorded'' far took noted ends = record {
-    arrivals = far.arrivals;
-    given_is = took.given_kept ∙ far.given_is;
-    left_is = far.left_is ∙ ap (before_all far.arrivals) (sym took.left_kept);
-    none = false;
-    ends = ends;
-    runs = λ s fits.
-        let over = far.runs s fits in
-        subst (λ (node : Serving K). RunsOver holds ready leaves recorded recorded'' false far.arrivals s old i node k) (sym took.node_kept) (subst (λ (o : Outer). RunsOver holds ready leaves recorded recorded'' false far.arrivals s old i mid o) (sym took.out_kept) (record {
-          runs = over.runs;
-          records = λ past is. noted _ (over.records past is);
-        }));
-  }
+    pub ends-none : (n turns : ℕ) → n < turns → (old mid new : Serving K) (i j k : Outer) (given given' given'' left left' left'' : Told) (faults faults' : ℕ) (recorded recorded' recorded'' : List Outputs → Type 0) → SoFar n old i mid j given given' left left' recorded recorded' → TookNone mid j new k given' given'' left' left'' → NoneLeft left''
+        → ((past : List Outputs) → recorded' past → recorded'' (past ++ outputs_at (stage mid j) ∷ [])) → faults' ≡ faults → ServesTo holds rests ready leaves reads end.Stopped turns old i new k given given'' left left'' faults faults' recorded recorded''
+    ends-none n turns before old mid new i j k given given' given'' left left' left'' faults faults' recorded recorded' recorded'' far took none noted kept =
+        let reached = reached-still far.arrivals old mid new i j k given given' given'' left left' left'' recorded recorded' far.reached took in
+        let before_last = outputs_along (stage old i) reached.stages in
+        record {
+          arrivals = far.arrivals;
+          given_is = reached.given_is;
+          left_is = reached.left_is;
+          none = true;
+          ends = (far.none, none, (omega (arith, far.count, before)), kept);
+          stages = reached.stages;
+          anyway = reached.anyway;
+          reads_few = reached.reads_few;
+          records = λ past is. subst (λ (o : Outer). recorded'' (past ++ (before_last ++ outputs o.taken o.closings o.lost ∷ []))) (sym took.out_kept)
+              (subst (λ (os : List Outputs). recorded'' os) (append_assoc past before_last (outputs_at (stage mid j) ∷ [])) (noted (past ++ before_last) (reached.records past is)));
+          runs = reached.runs;
+        }
+
+    -- No memory for the first event.
+    pub ends-starved : (turns : ℕ) (node : Serving K) (i : Outer) (given left : Told) (faults : ℕ) (recorded : List Outputs → Type 0) → ServesTo holds rests ready leaves reads end.NoMemory turns node i node i given given left left faults faults recorded recorded
+    ends-starved turns node i given left faults recorded = record {
+      arrivals = [];
+      given_is = refl;
+      left_is = refl;
+      none = false;
+      ends = (refl, refl);
+      stages = [];
+      anyway = refl;
+      reads_few = refl;
+      records = λ past noted. subst (λ (os : List Outputs). recorded os) (sym (append-none past)) noted;
+      runs = λ s fits. runs-none s node i fits;
+    }
+
+    -- The host failed, or enough was taken.
+    pub ends-early : (how : ServeEnd) (n turns : ℕ) (old mid new : Serving K) (i j k : Outer) (given given' given'' left left' left'' : Told) (faults faults' : ℕ) (recorded recorded' recorded'' : List Outputs → Type 0) → (far : SoFar n old i mid j given given' left left' recorded recorded') → TookNone mid j new k given' given'' left' left''
+        → ((past : List Outputs) → recorded' past → recorded'' past) → EndsBy how false far.arrivals turns left'' faults faults' → ServesTo holds rests ready leaves reads how turns old i new k given given'' left left'' faults faults' recorded recorded''
+    ends-early how n turns old mid new i j k given given' given'' left left' left'' faults faults' recorded recorded' recorded'' far took noted ends =
+        let reached = reached-still far.arrivals old mid new i j k given given' given'' left left' left'' recorded recorded' far.reached took in
+        record {
+          arrivals = far.arrivals;
+          given_is = reached.given_is;
+          left_is = reached.left_is;
+          none = false;
+          ends = ends;
+          stages = reached.stages;
+          anyway = reached.anyway;
+          reads_few = reached.reads_few;
+          records = λ past is. noted _ (reached.records past is);
+          runs = reached.runs;
+        }

@@ -16,6 +16,8 @@ use Rattle.line_door.specs.Acts.{Outside, Way, held_if}
 use Rattle.line_door.specs.Course.{talk}
 use Rattle.keep_course.specs.Answering as answering
 use Rattle.keep_course.specs.Courses.{Course, archives_of}
+use Rattle.control_door.specs.Counting.{Meets, asks_for}
+use Rattle.nntp_reader.specs.Counting.{ReadsLines}
 use Rattle.http_front.specs.Sessions.{ReadsBytes, ReadsNothing}
 use Rattle.arch_model.specs.Archives.{Archive}
 use Rattle.arch_model.specs.Keeping.{Passes, Fits}
@@ -142,41 +144,94 @@ AnywayBy what.Stop arrival old i new j = TurnsStill arrival old i new j
 abbrev pub TurnsAnyway : {K : Type 0} → Arrival → Serving K → Outer → Serving K → Outer → Type 0
 TurnsAnyway arrival old i new j = AnywayBy arrival.0.what arrival old i new j
 
--- A keeper: the archives that it holds, and whether it is ready.
-module _ {K : Type 0} (holds : K → Archive → Type 0) (ready : K → Bool) where
-  -- How many texts a piece reads at most at a ready keeper, by its session. At the door of pages these
-  -- are no more than the heads ask for that the piece makes whole, and none where none of them asks
-  -- for one: so the archive isn't read anew before it. Of the other doors nothing is said.
-  abbrev pub ReadsAt : Session → List ℕ → K → ℕ → ℕ → Type 0
-  ReadsAt (kind.Control bytes) piece keep before now = Unit {0}
-  ReadsAt (kind.News reader) piece keep before now = Unit {0}
-  ReadsAt (kind.Http bytes) piece keep before now =
-      ReadsBytes holds (bytes ++ piece) keep before now
-      × ReadsNothing holds (bytes ++ piece) keep before now
+-- A node and what is outside of it, between two turns.
+pub record Stage (K : Type 0) : Type 0 where
+  pub node : Serving K
+  pub out : Outer
+
+-- The stage of these two parts.
+abbrev pub stage : {K : Type 0} → Serving K → Outer → Stage K
+stage node out = record { node = node; out = out }
+
+-- The world at a stage, where the keeper stands so.
+abbrev pub world_at : {K : Type 0} → Standing → Stage K → World
+world_at s p = world_of s (places_in p.node) p.out
+
+-- Each of these events does this, from one stage to the next.
+abbrev pub Along : {K : Type 0} → (Arrival → Stage K → Stage K → Type 0) → List Arrival → Stage K
+    → List (Stage K) → Stage K → Type 0
+Along does [] p [] q = q ≡ p
+Along does [] p (m ∷ ms) q = ⊥
+Along does (e ∷ es) p [] q = ⊥
+Along does (e ∷ es) p (m ∷ ms) q = does e p m × Along does es m ms q
+
+-- What an event changes of a stage, whatever the keeper holds.
+abbrev pub GoesAnyway : {K : Type 0} → Arrival → Stage K → Stage K → Type 0
+GoesAnyway arrival p q = TurnsAnyway arrival p.node p.out q.node q.out
+
+-- The worlds after these turns are those of the stages, each with how the archive stands then.
+abbrev pub AreAt : {K : Type 0} → List (Stage K) → List Turn → Type 0
+AreAt [] [] = Unit {0}
+AreAt [] (t ∷ ts) = ⊥
+AreAt (m ∷ ms) [] = ⊥
+AreAt (m ∷ ms) (t ∷ ts) = (t.after ≡ world_at t.after.standing m) × AreAt ms ts
+
+-- What connections had taken, how often each was closed, and how many sends were lost, at a stage.
+abbrev pub outputs_at : {K : Type 0} → Stage K → Outputs
+outputs_at p = outputs p.out.taken p.out.closings p.out.lost
+
+-- The same at the stage before each of these.
+abbrev pub outputs_along : {K : Type 0} → Stage K → List (Stage K) → List Outputs
+outputs_along p [] = []
+outputs_along p (m ∷ ms) = outputs_at p ∷ outputs_along m ms
+
+-- The same each time that a host was asked for the next event and answered: before each turn, and at
+-- the last stage if it answered that none is left.
+abbrev pub outputs_noted : {K : Type 0} → Bool → Stage K → List (Stage K) → Stage K → List Outputs
+outputs_noted true p ms q = outputs_along p ms ++ outputs_at q ∷ []
+outputs_noted false p ms q = outputs_along p ms
+
+-- A keeper: the archives that it holds, whether it is ready, and its count of reads.
+module _ {K : Type 0} (holds : K → Archive → Type 0) (ready : K → Bool) (reads : K → ℕ) where
+  -- How many texts a piece reads at most at a moment at a ready keeper, by its session: no more than the
+  -- requests ask for that the piece makes whole. So the archive isn't read anew before it. The keeper
+  -- stays ready, unless a request at the control door may change the archive.
+  abbrev pub ReadsAt : ℕ → Session → List ℕ → K → K → Type 0
+  ReadsAt moment (kind.Control bytes) piece old new =
+      Meets (asks_for (bytes ++ piece)) (ready new) (reads old) (reads new)
+  ReadsAt moment (kind.News reader) piece old new = (ready new ≡ true)
+      × ReadsLines holds moment (reader.bytes ++ piece) old (reads old) (reads new)
+  ReadsAt moment (kind.Http bytes) piece old new = (ready new ≡ true)
+      × ReadsBytes holds (bytes ++ piece) old (reads old) (reads new)
+      × ReadsNothing holds (bytes ++ piece) old (reads old) (reads new)
 
   -- The same of a piece that came to a connection. Without a session nothing is read.
-  abbrev pub ReadsCame : Option Session → List ℕ → K → ℕ → ℕ → Type 0
-  ReadsCame None piece keep before now = now ≡ before
-  ReadsCame (Some start) piece keep before now =
-      ready keep ≡ true → ReadsAt start piece keep before now
+  abbrev pub ReadsCame : ℕ → Option Session → List ℕ → K → K → Type 0
+  ReadsCame moment None piece old new = reads new ≡ reads old
+  ReadsCame moment (Some start) piece old new =
+      ready old ≡ true → ReadsAt moment start piece old new
 
   -- The same of what happened. Only a piece reads.
-  abbrev pub ReadsBy : What → List ℕ → Serving K → ℕ → ℕ → Type 0
-  ReadsBy (what.Opened c door) piece old before now = now ≡ before
-  ReadsBy (what.Bytes c len) piece old before now =
-      ReadsCame ((places_in old).session c) piece old.keep before now
-  ReadsBy (what.Ended c) piece old before now = now ≡ before
-  ReadsBy what.Quiet piece old before now = now ≡ before
-  ReadsBy what.Stop piece old before now = now ≡ before
+  abbrev pub ReadsBy : ℕ → What → List ℕ → Serving K → Serving K → Type 0
+  ReadsBy moment (what.Opened c door) piece old new = reads new.keep ≡ reads old.keep
+  ReadsBy moment (what.Bytes c len) piece old new =
+      ReadsCame moment ((places_in old).session c) piece old.keep new.keep
+  ReadsBy moment (what.Ended c) piece old new = reads new.keep ≡ reads old.keep
+  ReadsBy moment what.Quiet piece old new = reads new.keep ≡ reads old.keep
+  ReadsBy moment what.Stop piece old new = reads new.keep ≡ reads old.keep
 
--- A keeper: the archives that it holds, whether it is ready, and what each crash since a state may
--- have left.
-module _ {K : Type 0} (holds : K → Archive → Type 0) (ready : K → Bool)
+  -- The same of an event, from one stage to the next.
+  abbrev pub GoesReading : Arrival → Stage K → Stage K → Type 0
+  GoesReading arrival p q = ReadsBy arrival.0.moment arrival.0.what arrival.1 p.node q.node
+
+-- A keeper: the archives that it holds, those of which its files are exactly, whether it is ready, and
+-- what each crash since a state may have left.
+module _ {K : Type 0} (holds rests : K → Archive → Type 0) (ready : K → Bool)
     (leaves : K → K → List (Option Archive) → Type 0) where
   -- Whatever the keeper fits, it is reopened before a piece, or that is refused and the session's
   -- door says so.
   abbrev pub Opens : ℕ → Session → K → Outside → Bool → K → Outside → Type 0
-  Opens moment start old i goes_on new j = answering.Opens holds ready leaves
+  Opens moment start old i goes_on new j = answering.Opens holds rests ready leaves
       (λ (s : Standing) (piece : List ℕ) (way : Way). said moment s (Came start piece) way)
       (λ (piece : List ℕ). with_piece start piece) old i goes_on new j
 
@@ -185,7 +240,7 @@ module _ {K : Type 0} (holds : K → Archive → Type 0) (ready : K → Bool)
   pub record FedFrom (moment : ℕ) (start : Held) (s : Standing) (old : K) (i : Outside)
       (goes_on : Bool) (left : Session) (new : K) (j : Outside) : Type 0 where
     pub after : Standing
-    pub fits : Fits holds ready leaves new after
+    pub fits : Fits holds rests ready leaves new after
     pub held : Option Held
     pub rest_is : held_if goes_on left ≡ rest_if held
     pub course : Course leaves (said moment) is_asked old new (talk (Some start) s i)
@@ -193,7 +248,7 @@ module _ {K : Type 0} (holds : K → Archive → Type 0) (ready : K → Bool)
 
   -- The same of a session before a piece, whose archive has yet to be reopened.
   abbrev pub Feeds : ℕ → Session → List ℕ → K → Outside → Bool → Session → K → Outside → Type 0
-  Feeds moment start piece old i goes_on left new j = (s : Standing) → Fits holds ready leaves old s
+  Feeds moment start piece old i goes_on left new j = (s : Standing) → Fits holds rests ready leaves old s
       → FedFrom moment (Came start piece) s old i goes_on left new j
 
   -- A node took an event to its end. A crash since it began leaves an archive that stood before it
@@ -201,7 +256,7 @@ module _ {K : Type 0} (holds : K → Archive → Type 0) (ready : K → Bool)
   pub record TurnsTo (arrival : Arrival) (s : Standing) (old : Serving K) (i : Outer)
       (new : Serving K) (j : Outer) : Type 0 where
     pub after : Standing
-    pub fits : Fits holds ready leaves new.keep after
+    pub fits : Fits holds rests ready leaves new.keep after
     pub passed : List Standing
     pub turned : Turned arrival (world_of s (places_in old) i) passed (world_of after (places_in new) j)
     pub passes : Passes leaves old.keep new.keep (s ∷ passed)
@@ -209,73 +264,79 @@ module _ {K : Type 0} (holds : K → Archive → Type 0) (ready : K → Bool)
 
   -- Whatever the node's keeper fits, this is so.
   abbrev pub Turns : Arrival → Serving K → Outer → Serving K → Outer → Type 0
-  Turns arrival old i new j = (s : Standing) → Fits holds ready leaves old.keep s
+  Turns arrival old i new j = (s : Standing) → Fits holds rests ready leaves old.keep s
       → TurnsTo arrival s old i new j
 
-  -- A keeper went from one state to another by these turns. After each it fits what stands then, and a
-  -- crash within a turn leaves an archive that stood before it or after one of its acts, or one that
-  -- was in doubt there.
-  abbrev pub StepsTo : K → Standing → List Turn → K → Type 0
-  StepsTo old s [] new = new ≡ old
-  StepsTo old s (t ∷ ts) new = (mid : K) × Fits holds ready leaves mid t.after.standing
-      × Passes leaves old mid (s ∷ t.passed) × StepsTo mid t.after.standing ts new
+  -- A keeper went from one state to another by these turns, through these stages. After each it fits
+  -- what stands then, and a crash within a turn leaves an archive that stood before it or after one of
+  -- its acts, or one that was in doubt there.
+  abbrev pub StepsTo : K → Standing → List (Stage K) → List Turn → K → Type 0
+  StepsTo old s [] [] new = new ≡ old
+  StepsTo old s [] (t ∷ ts) new = ⊥
+  StepsTo old s (m ∷ ms) [] new = ⊥
+  StepsTo old s (m ∷ ms) (t ∷ ts) new = Fits holds rests ready leaves m.node.keep t.after.standing
+      × Passes leaves old m.node.keep (s ∷ t.passed)
+      × StepsTo m.node.keep t.after.standing ms ts new
 
-  -- A node took these events to their end, one after another.
+  -- A node took these events to their end, one after another, through these stages.
   pub record RunsTo (arrivals : List Arrival) (s : Standing) (old : Serving K) (i : Outer)
-      (new : Serving K) (j : Outer) : Type 0 where
+      (stages : List (Stage K)) (new : Serving K) (j : Outer) : Type 0 where
     pub after : Standing
-    pub fits : Fits holds ready leaves new.keep after
+    pub fits : Fits holds rests ready leaves new.keep after
     pub turns : List Turn
     pub served : Served arrivals (world_of s (places_in old) i) turns (world_of after (places_in new) j)
-    pub steps : StepsTo old.keep s turns new.keep
+    pub at : AreAt stages turns
+    pub steps : StepsTo old.keep s stages turns new.keep
     pub passes : Passes leaves old.keep new.keep (s ∷ passed_in turns)
     pub crash : leaves old.keep new.keep (archives_of (s ∷ passed_in turns))
 
-  -- The same, and the host, whose records these are, was asked before each of them, and at the end
-  -- if it then answered that none is left.
-  pub record RunsOver (recorded recorded' : List Outputs → Type 0) (none : Bool)
-      (arrivals : List Arrival) (s : Standing) (old : Serving K) (i : Outer) (new : Serving K)
-      (j : Outer) : Type 0 where
-    pub runs : RunsTo arrivals s old i new j
-    pub records : (past : List Outputs) → recorded past → recorded'
-        (past ++ outputs_asked none (world_of s (places_in old) i) runs.turns
-        (world_of runs.after (places_in new) j))
+  -- With the keeper's count of reads.
+  module _ (reads : K → ℕ) where
+    -- A node served the events that a host gave, in order, each from one stage to the next. Whatever
+    -- the keeper holds, an event changes nothing of other connections, and reads no more than it asks
+    -- for. The host, whose records these are, was asked before each event, when all before it had been
+    -- answered, and at the end if it then answered that none is left.
+    pub record ServesTo (end : ServeEnd) (turns : ℕ) (old : Serving K) (i : Outer) (new : Serving K)
+        (j : Outer) (given given' left left' : Told) (faults faults' : ℕ)
+        (recorded recorded' : List Outputs → Type 0) : Type 0 where
+      pub arrivals : List Arrival
+      pub given_is : given' ≡ given_after given arrivals
+      pub left_is : left ≡ before_all arrivals left'
+      pub none : Bool
+      pub ends : EndsBy end none arrivals turns left' faults faults'
+      pub stages : List (Stage K)
+      pub anyway : Along GoesAnyway arrivals (stage old i) stages (stage new j)
+      pub reads_few : Along (GoesReading holds ready reads) arrivals (stage old i) stages (stage new j)
+      pub records : (past : List Outputs) → recorded past
+          → recorded' (past ++ outputs_noted none (stage old i) stages (stage new j))
+      pub runs : (s : Standing) → Fits holds rests ready leaves old.keep s
+          → RunsTo arrivals s old i stages new j
 
-  -- A node served the events that a host gave, in order.
-  pub record ServesTo (end : ServeEnd) (turns : ℕ) (old : Serving K) (i : Outer) (new : Serving K)
-      (j : Outer) (given given' left left' : Told) (faults faults' : ℕ)
-      (recorded recorded' : List Outputs → Type 0) : Type 0 where
-    pub arrivals : List Arrival
-    pub given_is : given' ≡ given_after given arrivals
-    pub left_is : left ≡ before_all arrivals left'
-    pub none : Bool
-    pub ends : EndsBy end none arrivals turns left' faults faults'
-    pub runs : (s : Standing) → Fits holds ready leaves old.keep s
-        → RunsOver recorded recorded' none arrivals s old i new j
+    -- An event was taken from the host, and to its end.
+    pub record TookOne (old : Serving K) (i : Outer) (new : Serving K) (j : Outer)
+        (given given' left left' : Told) (recorded recorded' : List Outputs → Type 0) (stops : Bool)
+        : Type 0 where
+      pub arrival : Arrival
+      pub given_is : given' ≡ then_given given arrival
+      pub left_is : left ≡ before_left arrival left'
+      pub stop_is : is_stop arrival.0.what ≡ stops
+      pub turns : Turns arrival old i new j
+      pub anyway : GoesAnyway arrival (stage old i) (stage new j)
+      pub reads_few : GoesReading holds ready reads arrival (stage old i) (stage new j)
+      pub records : (past : List Outputs) → recorded past
+          → recorded' (past ++ outputs_at (stage old i) ∷ [])
 
-  -- An event was taken from the host, and to its end.
-  pub record TookOne (old : Serving K) (i : Outer) (new : Serving K) (j : Outer)
-      (given given' left left' : Told) (recorded recorded' : List Outputs → Type 0) (stops : Bool)
-      : Type 0 where
-    pub arrival : Arrival
-    pub given_is : given' ≡ then_given given arrival
-    pub left_is : left ≡ before_left arrival left'
-    pub stop_is : is_stop arrival.0.what ≡ stops
-    pub turns : Turns arrival old i new j
-    pub records : (past : List Outputs) → recorded past
-        → recorded' (past ++ outputs i.taken i.closings i.lost ∷ [])
-
-  -- An event was taken, which is a stop or is none; or none is left; or the host failed.
-  abbrev pub TakesOne : Taken → Serving K → Outer → Serving K → Outer → Told → Told → Told → Told → ℕ → ℕ
-      → (List Outputs → Type 0) → (List Outputs → Type 0) → Type 0
-  TakesOne Went old i new j given given' left left' faults faults' recorded recorded' =
-      TookOne old i new j given given' left left' recorded recorded' false
-  TakesOne Stops old i new j given given' left left' faults faults' recorded recorded' =
-      TookOne old i new j given given' left left' recorded recorded' true
-  TakesOne Nothing old i new j given given' left left' faults faults' recorded recorded' =
-      TookNone old i new j given given' left left' × NoneLeft left'
-      × ((past : List Outputs) → recorded past
-      → recorded' (past ++ outputs i.taken i.closings i.lost ∷ []))
-  TakesOne Fault old i new j given given' left left' faults faults' recorded recorded' =
-      TookNone old i new j given given' left left' × Rose faults faults'
-      × ((past : List Outputs) → recorded past → recorded' past)
+    -- An event was taken, which is a stop or is none; or none is left; or the host failed.
+    abbrev pub TakesOne : Taken → Serving K → Outer → Serving K → Outer → Told → Told → Told → Told → ℕ
+        → ℕ → (List Outputs → Type 0) → (List Outputs → Type 0) → Type 0
+    TakesOne Went old i new j given given' left left' faults faults' recorded recorded' =
+        TookOne old i new j given given' left left' recorded recorded' false
+    TakesOne Stops old i new j given given' left left' faults faults' recorded recorded' =
+        TookOne old i new j given given' left left' recorded recorded' true
+    TakesOne Nothing old i new j given given' left left' faults faults' recorded recorded' =
+        TookNone old i new j given given' left left' × NoneLeft left'
+        × ((past : List Outputs) → recorded past
+        → recorded' (past ++ outputs_at (stage old i) ∷ []))
+    TakesOne Fault old i new j given given' left left' faults faults' recorded recorded' =
+        TookNone old i new j given given' left left' × Rose faults faults'
+        × ((past : List Outputs) → recorded past → recorded' past)

@@ -72,15 +72,16 @@ impl<K: Keep> Node<K> {
     /// leaves an archive that stood before it or after one of its acts, or one that was in doubt
     /// there.
     ///
-    /// A ready keeper isn't reopened: a piece for pages reads no more texts than its heads ask for, and
-    /// an event that is no piece reads none.
+    /// A ready keeper isn't reopened: a piece reads no more texts than the requests ask for that it makes
+    /// whole, and an event that is no piece reads none. The keeper stays ready, unless a request at the
+    /// control door may change the archive.
     ///
     /// Where the keeper holds no archive, as after a file was found damaged, nothing is said of what is
     /// written to the connection. Nothing of other connections changes all the same.
     pub fn turn<H: Host>(&mut self, event: &Event, piece: &[u8], host: &mut H)
         requires moment { event.now.moment ≤ last_moment }
         requires whole { length piece.now ≡ piece_len event.now.what }
-        ensures turned { Turns K.holds K.ready K.leaves (event.now, piece.now) self.old
+        ensures turned { Turns K.holds K.rests K.ready K.leaves (event.now, piece.now) self.old
             (outer (H.taken host.old) (H.closings host.old) (K.faults self.old.keep)
             (H.lost host.old) (H.closed_at host.old)) self.new
             (outer (H.taken host.new) (H.closings host.new) (K.faults self.new.keep)
@@ -90,8 +91,8 @@ impl<K: Keep> Node<K> {
             (H.lost host.old) (H.closed_at host.old)) self.new
             (outer (H.taken host.new) (H.closings host.new) (K.faults self.new.keep)
             (H.lost host.new) (H.closed_at host.new)) }
-        ensures reads { ReadsBy K.holds K.ready event.now.what piece.now self.old
-            (K.reads self.old.keep) (K.reads self.new.keep) }
+        ensures reads { ReadsBy K.holds K.ready K.reads event.now.moment event.now.what piece.now
+            self.old self.new }
         ensures later { K.faults self.old.keep ≤ K.faults self.new.keep }
         ensures events { SameEvents H.left H.given H.recorded H.faults host.old host.new }
     {

@@ -160,7 +160,7 @@ pub(crate) fn feed<K: Keep, H: Host>(
     host: &mut H,
 )
     requires moment { moment ≤ last_moment }
-    ensures turned { (len : ℕ) → Turns K.holds K.ready K.leaves
+    ensures turned { (len : ℕ) → Turns K.holds K.rests K.ready K.leaves
         (record { moment = moment; what = Bytes conn len }, piece.now)
         (serving keep.old sessions.old.entries)
         (outer (H.taken host.old) (H.closings host.old) (K.faults keep.old) (H.lost host.old)
@@ -176,8 +176,8 @@ pub(crate) fn feed<K: Keep, H: Host>(
         (serving keep.new sessions.new.entries)
         (outer (H.taken host.new) (H.closings host.new) (K.faults keep.new) (H.lost host.new)
         (H.closed_at host.new)) }
-    ensures reads { ReadsCame K.holds K.ready ((places_of sessions.old.entries).session conn)
-        piece.now keep.old (K.reads keep.old) (K.reads keep.new) }
+    ensures reads { ReadsCame K.holds K.ready K.reads moment
+        ((places_of sessions.old.entries).session conn) piece.now keep.old keep.new }
     ensures later { K.faults keep.old ≤ K.faults keep.new }
     ensures events { SameEvents H.left H.given H.recorded H.faults host.old host.new }
 {

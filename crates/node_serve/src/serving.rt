@@ -42,6 +42,9 @@ pub(crate) enum Taken {
 /// Takes events from a host and turns each, until a stop comes or none is left, or as many were taken
 /// as are allowed, or the host fails. It isn't asked again after it failed.
 ///
+/// Each event does what `Node::turn` says. Also where the keeper holds no archive, as after a file was
+/// found damaged, it changes nothing of other connections.
+///
 /// A crash since the call began leaves an archive that stood before it or after one of the acts, or
 /// one that was in doubt there.
 pub fn serve<K: Keep, H: Host>(
@@ -50,7 +53,7 @@ pub fn serve<K: Keep, H: Host>(
     host: &mut H,
     turns: u64,
 ) -> ServeEnd
-    ensures served { ServesTo K.holds K.ready K.leaves result turns node.old
+    ensures served { ServesTo K.holds K.rests K.ready K.leaves K.reads result turns node.old
         (outer (H.taken host.old) (H.closings host.old) (K.faults node.old.keep) (H.lost host.old)
         (H.closed_at host.old))
         node.new
@@ -75,7 +78,7 @@ fn serve_with<K: Keep, H: Host>(
     buffer: &mut [u8],
 ) -> ServeEnd
     requires { 1048576 ≤ length buffer.old }
-    ensures served { ServesTo K.holds K.ready K.leaves result turns node.old
+    ensures served { ServesTo K.holds K.rests K.ready K.leaves K.reads result turns node.old
         (outer (H.taken host.old) (H.closings host.old) (K.faults node.old.keep) (H.lost host.old)
         (H.closed_at host.old))
         node.new
@@ -107,7 +110,7 @@ fn new_buffer(alloc: Global) -> Result<Vec<u8>, AllocError>
 /// Takes one event and turns it. The host fails only where that is the result.
 fn take_one<K: Keep, H: Host>(node: &mut Node<K>, host: &mut H, buffer: &mut [u8]) -> Taken
     requires { 1048576 ≤ length buffer.old }
-    ensures taken { TakesOne K.holds K.ready K.leaves result node.old
+    ensures taken { TakesOne K.holds K.rests K.ready K.leaves K.reads result node.old
         (outer (H.taken host.old) (H.closings host.old) (K.faults node.old.keep) (H.lost host.old)
         (H.closed_at host.old))
         node.new

@@ -41,12 +41,12 @@ pub(crate) fn feed_one<K: Keep, H: Host>(
     host: &mut H,
 ) -> Next
     requires moment { moment ≤ last_moment }
-    ensures fed { Feeds K.holds K.ready K.leaves moment session.old piece.now keep.old
+    ensures fed { Feeds K.holds K.rests K.ready K.leaves moment session.old piece.now keep.old
         (outside (H.taken host.old conn) (K.faults keep.old) (H.lost host.old))
         (continues result) session.new keep.new
         (outside (H.taken host.new conn) (K.faults keep.new) (H.lost host.new)) }
-    ensures reads { K.ready keep.old ≡ true → ReadsAt K.holds K.ready session.old piece.now
-        keep.old (K.reads keep.old) (K.reads keep.new) }
+    ensures reads { K.ready keep.old ≡ true → ReadsAt K.holds K.ready K.reads moment session.old
+        piece.now keep.old keep.new }
     ensures later { K.faults keep.old ≤ K.faults keep.new }
     ensures host { SameElsewhere H.left H.given H.recorded H.faults H.taken H.closings H.closed_at conn
         host.old host.new }
@@ -67,12 +67,12 @@ fn take<K: Keep, O: Sink>(
     out: &mut O,
 ) -> Next
     requires moment { moment ≤ last_moment }
-    ensures fed { Feeds K.holds K.ready K.leaves moment session.old piece.now keep.old
+    ensures fed { Feeds K.holds K.rests K.ready K.leaves moment session.old piece.now keep.old
         (outside (O.taken out.old) (K.faults keep.old) (O.faults out.old))
         (continues result) session.new keep.new
         (outside (O.taken out.new) (K.faults keep.new) (O.faults out.new)) }
-    ensures reads { K.ready keep.old ≡ true → ReadsAt K.holds K.ready session.old piece.now
-        keep.old (K.reads keep.old) (K.reads keep.new) }
+    ensures reads { K.ready keep.old ≡ true → ReadsAt K.holds K.ready K.reads moment session.old
+        piece.now keep.old keep.new }
     ensures later { K.faults keep.old ≤ K.faults keep.new }
     ensures sink { O.alike out.old out.new }
 {
@@ -87,7 +87,7 @@ fn take<K: Keep, O: Sink>(
 /// Does nothing if no command is in doubt. If reopening is refused, writes the door's word for it.
 fn reopen<K: Keep, O: Sink>(session: &Session, moment: u64, keep: &mut K, out: &mut O) -> Next
     requires moment { moment ≤ last_moment }
-    ensures acts { Opens K.holds K.ready K.leaves moment session.now keep.old
+    ensures acts { Opens K.holds K.rests K.ready K.leaves moment session.now keep.old
         (outside (O.taken out.old) (K.faults keep.old) (O.faults out.old))
         (continues result) keep.new
         (outside (O.taken out.new) (K.faults keep.new) (O.faults out.new)) }
@@ -136,13 +136,12 @@ fn feed<K: Keep, O: Sink>(
 ) -> Next
     requires ready { K.ready keep.old ≡ true }
     requires moment { moment ≤ last_moment }
-    ensures fed { (s : Standing) → Fits K.holds K.ready K.leaves keep.old s
-        → FedFrom K.holds K.ready K.leaves moment (with_piece session.old piece.now) s keep.old
+    ensures fed { (s : Standing) → Fits K.holds K.rests K.ready K.leaves keep.old s
+        → FedFrom K.holds K.rests K.ready K.leaves moment (with_piece session.old piece.now) s keep.old
         (outside (O.taken out.old) (K.faults keep.old) (O.faults out.old))
         (continues result) session.new keep.new
         (outside (O.taken out.new) (K.faults keep.new) (O.faults out.new)) }
-    ensures reads { ReadsAt K.holds K.ready session.old piece.now keep.old (K.reads keep.old)
-        (K.reads keep.new) }
+    ensures reads { ReadsAt K.holds K.ready K.reads moment session.old piece.now keep.old keep.new }
     ensures later { K.faults keep.old ≤ K.faults keep.new }
     ensures sink { O.alike out.old out.new }
 {
