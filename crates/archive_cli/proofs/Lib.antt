@@ -4,6 +4,7 @@ pub mod LoadLines
 pub mod Printed
 pub mod Leaving
 pub mod OnDisk
+pub mod Committing
 pub mod Rows
 pub mod PlayedEvents
 pub mod ServedNumbers

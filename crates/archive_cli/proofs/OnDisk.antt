@@ -1,16 +1,19 @@
 -- What `init`, `reindex`, `check` and a command do, by the calls below them.
-use Rattle.std.specs.Prelude.{◌≡◌, ◌≤◌, ℕ, true, List, [], length, Option, Some, None, Result, Ok, Err, refl}
+use Rattle.std.specs.Prelude.{◌≡◌, ◌⊎◌, ◌≤◌, ℕ, true, List, [], ◌∷◌, length, Option, Some, None, Result, Ok, Err, refl}
+use Rattle.std.specs.List.{Contains}
 use Rattle.std.proofs.Common.{◌∙◌, sym, ap, subst, inl, inr, arith}
 use Rattle.arch_base.specs.Counts.{Rose, RoseIf}
 use Rattle.arch_base.specs.declared.config.Config.{Config}
 use Rattle.disk_model.specs.Disk.{Files, Content, Image, WhereTold, ReadsFit, LeavesOnly}
 use Rattle.disk_model.specs.Moments.{joined, weaker}
+use Rattle.disk_model.specs.Synced.{IsSettled}
 use Rattle.root_slots.specs.RootName.{root_name}
-use Rattle.root_slots.specs.Slots.{IsShutFile}
+use Rattle.root_slots.specs.Slots.{HasFirstRoot, IsShutFile}
+use Rattle.root_slots.specs.Spelling.{spelling}
 use Rattle.arch_model.specs.Archives.{Archive, empty_archive, live as live_entries}
 use Rattle.arch_model.specs.Delivery.{Done}
 use Rattle.arch_model.specs.Keeping.{Settles, Comes, Obeys, Doubts}
-use Rattle.arch_model.specs.Standing.{Standing, standing, one_of, IsFound}
+use Rattle.arch_model.specs.Standing.{Standing, standing, one_of, with_doubt, IsFound}
 use Rattle.arch_model.specs.declared.answer.Answer.{Answer}
 use Rattle.arch_model.specs.declared.answer.Answer.TheVariants as answer
 use Rattle.arch_model.specs.declared.opening.OpenRefusal.{OpenRefusal}
@@ -18,24 +21,26 @@ use Rattle.arch_model.specs.declared.opening.OpenRefusal.TheVariants as refusal
 use Rattle.epoch_store.specs.declared.entries.StoredEntry.{StoredEntry}
 use Rattle.epoch_store.specs.declared.refusal.InitRefusal.{InitRefusal}
 use Rattle.epoch_store.specs.declared.refusal.InitRefusal.TheVariants as making
-use Rattle.epoch_store.specs.First.{MakingAnswers, RefusesToMake}
+use Rattle.epoch_store.specs.First.{MakingAnswers, RefusesToMake, first_root_of}
 use Rattle.epoch_store.specs.Files.{as_read}
-use Rattle.epoch_store.specs.Opens.{Opens, OpensNone, ReadsAs, ReadsWith, RecoversOf, RecoversOfWith, AllRecoverWith, IsWant, SyncsFirst, SyncsAtMost, OnSynced}
+use Rattle.epoch_store.specs.Opens.{Opens, OpensNone, ReadsWith, IsWant, SyncsFirst, SyncsAtMost, OnSynced}
 use Rattle.epoch_store.specs.Promises.{Way, Appends, Renews, cache_by}
-use Rattle.epoch_store.specs.Recovery.{Recovers, RecoversWith}
-use Rattle.epoch_store.specs.Stores.{View, IsStoreOf, IsStoreWith, IsDiskOf, RecoversEither, RecoversOneOf}
+use Rattle.epoch_store.specs.Recovery.{RecoversWith}
+use Rattle.epoch_store.specs.Stores.{View, IsStoreWith, IsDiskOf}
 use Rattle.archive_core.specs.Commands.{DoneBy, IsDone}
+use Rattle.archive_core.specs.Engines.{RecoversOrBare, AllRecoverOrBare}
 use Rattle.archive_core.specs.Openings.{LeavesKindly}
 use Rattle.archive_core.proofs.Stored.{stored-length}
-use Rattle.archive_core.proofs.Engines.{all_recover, reads_one, stands_for}
-use Rattle.archive_cli.specs.DiskCommands.{Makes, unmade, IsFault, IsOpenedAs, TakesTo, ReindexesTo, ChecksTo, StandsAs, StaysUnopened, TakesOn, RunsOrStays, LeavesEither}
+use Rattle.archive_core.proofs.Engines.{all_or_bare, either_of, left_is, recovers_either, stands_for, with_cache}
+use Rattle.archive_cli.specs.DiskCommands.{Makes, unmade, IsFault, IsOpenedAs, IsReadAs, TakesTo, ReindexesTo, ChecksTo, StandsAs, StaysUnopened, TakesOn, RunsOrStays, LeavesEither}
 use Rattle.archive_cli.specs.declared.outcome.Outcome.{Outcome}
 use Rattle.archive_cli.specs.declared.outcome.Outcome.TheVariants.{Made, Reindexed, Checked, Answered, Unopened}
 
 -- An archive was made.
-pub made-makes : (config : Config) (name : List ℕ) (v : View) (old new : Option Content) → name ≡ config.name → WhereTold (λ (k : Content). IsShutFile (k root_name).seen) old → WhereTold (IsDiskOf v (empty_archive config)) new → Makes config (Made name) old new
-made-makes config name v old None is shut done = (is, shut, tt)
-made-makes config name v old (Some k) is shut done = (is, shut, (v, done))
+pub made-makes : (config : Config) (name : List ℕ) (v : View) (old new : Option Content) → name ≡ config.name → WhereTold (λ (k : Content). IsShutFile (k root_name).seen) old → WhereTold (IsDiskOf v (empty_archive config)) new
+    → WhereTold (HasFirstRoot (spelling (first_root_of config))) new → WhereTold IsSettled new → Makes config (Made name) old new
+made-makes config name v old None is shut done rooted settled = (is, shut, tt)
+made-makes config name v old (Some k) is shut done rooted settled = (is, shut, record { own = (v, done); rooted = rooted; settled = settled })
 
 -- None was.
 pub unmade-makes : (config : Config) (why : InitRefusal) (o : Outcome) (old new : Option Content) → o ≡ unmade why → WhereTold (MakingAnswers {T = View} (Err why)) old → RefusesToMake {T = View} (Err why) old new → Makes config o old new
@@ -159,10 +164,33 @@ pub opened-as : (v : View) (content : Option Content) (entries live next : ℕ) 
 opened-as v None entries live next answer count following = tt
 opened-as v (Some k) entries live next answer count following = (v, answer, count, following)
 
--- Where there was no cache a command leaves none.
-no-cache : (way : Way) → cache_by way [] ≡ []
-no-cache Appends = refl
-no-cache Renews = refl
+-- A command leaves the cache that there was, or none.
+kept-by : (way : Way) (cache : List ℕ) → (cache_by way cache ≡ cache) ⊎ (cache_by way cache ≡ [])
+kept-by Appends cache = inl refl
+kept-by Renews cache = inr refl
+
+-- A standing's archive and the one in doubt are among those that a crash may leave.
+among : (x : Archive) (d : Option Archive) (b : Archive) → (b ≡ x) ⊎ (d ≡ Some b) → Contains (with_doubt x d) (Some b)
+among x None b (inl is) = (0, omega arith, sym (ap Some is))
+among x None b (inr is) = absurd (cc is)
+among x (Some y) b (inl is) = (0, omega arith, sym (ap Some is))
+among x (Some y) b (inr is) = (1, omega arith, is)
+
+is-among : (s : Standing) (b : Archive) → IsFound s b → Contains (one_of s) (Some b)
+is-among s b is = among s.archive s.doubt b is
+
+-- What each image stands for.
+each-of : (may : List (Option Archive)) (cache : List ℕ) (k : Option Content) → AllRecoverOrBare cache may k → (image : Files) → Image k image → RecoversOrBare cache may image
+each-of may cache None all image left = absurd all
+each-of may cache (Some k) all image left = all image left
+
+-- The archive as which a disk reads that stands so, and its cache.
+found-own : (s : Standing) (cache : List ℕ) (k : Option Content) → ReadsFit k → StandsAs cache s k → (b : Archive) × (own : List ℕ) × IsFound s b × ReadsWith own b k × ((own ≡ cache) ⊎ (own ≡ []))
+found-own s cache None fit all = absurd all
+found-own s cache (Some k) fit all = by (all (as_read k) (λ name. fit k refl name)) where
+  by : RecoversOrBare cache (one_of s) (as_read k) → (b : Archive) × (own : List ℕ) × IsFound s b × RecoversWith own (as_read k) b × ((own ≡ cache) ⊎ (own ≡ []))
+  by (inl one) = let found = recovers_either s cache (as_read k) one in (found.0, cache, found.1, found.2, inl refl)
+  by (inr bare) = let found = recovers_either s [] (as_read k) bare in (found.0, [], found.1, found.2, inr refl)
 
 -- What was opened can be.
 opened-none : (v : View) (k : Option Content) → WhereTold (λ (c : Content). Opens (as_read c) (Ok v)) k → OpensNone k → ⊥
@@ -176,30 +204,37 @@ module _ {D : Type 0} (content : D → Option Content) (moment : D → ℕ) (lef
   now-left : (old new : D) (P : Files → Type 0) → LeavesOnly moment left_since old new P → (image : Files) → Image (content new) image → P image
   now-left old new P run image left = run.each image (counts_now new (moment old) image run.later left)
 
-  -- After a run that leaves one of its archives the disk stands as before.
-  pub run-stands : (s : Standing) (old new : D) → LeavesOnly moment left_since old new (RecoversOf (one_of s)) → StandsAs s (content new)
-  run-stands s old new run = all_recover s [] (content new) (λ image left. now-left old new (RecoversOf (one_of s)) run image left)
-
-  -- The disk of one archive.
-  pub one-stands : (a : Archive) (disk : D) → ((image : Files) → Image (content disk) image → Recovers image a) → StandsAs (standing a None) (content disk)
-  one-stands a disk each = all_recover (standing a None) [] (content disk) (λ image left. (Some a, (0, omega arith, refl), each image left))
+  -- The disk of one archive, with its cache or with none.
+  pub one-stands : (a : Archive) (own cache : List ℕ) → (own ≡ cache) ⊎ (own ≡ []) → (disk : D) → ((image : Files) → Image (content disk) image → RecoversWith own image a) → StandsAs cache (standing a None) (content disk)
+  one-stands a own cache is disk each = all_or_bare (standing a None) cache (content disk) (λ image left. with_cache own cache (Some a ∷ []) a image is (0, omega arith, refl) (each image left))
 
   -- What was found before anything was done.
-  pub found-at : (s : Standing) (disk : D) → StandsAs s (content disk) → (b : Archive) × IsFound s b × ReadsAs b (content disk)
-  found-at s disk all = reads_one s [] (content disk) (reads_fit disk) all
+  pub found-at : (s : Standing) (cache : List ℕ) (disk : D) → StandsAs cache s (content disk) → (b : Archive) × (own : List ℕ) × IsFound s b × ReadsWith own b (content disk) × ((own ≡ cache) ⊎ (own ≡ []))
+  found-at s cache disk all = found-own s cache (content disk) (reads_fit disk) all
+
+  -- It is the one of an archive that was synced.
+  synced-stands : (s : Standing) (cache : List ℕ) (old new : D) → StandsAs cache s (content old) → SyncsFirst content moment left_since old new → (t : Standing) × StandsAs cache t (content new) × (Settles s t × IsReadAs t.archive (content old))
+  synced-stands s cache old new all first =
+      let (b, own, is, reads, kept) = found-at s cache old all in (
+        standing b None,
+        one-stands b own cache kept new (λ image left. now-left first.synced new (λ (i : Files). RecoversWith own i b) (first.after b own reads) image left),
+        (record { found = is; sure = refl }, (own, reads)),
+      )
+
+  -- An opening that failed leaves what it might have left before.
+  failed-stands : (s : Standing) (cache : List ℕ) (old new : D) → StandsAs cache s (content old) → SyncsAtMost content moment left_since old new → StandsAs cache s (content new)
+  failed-stands s cache old new all (inl only) = all_or_bare s cache (content new) (λ image left. each-of (one_of s) cache (content old) all image (now-left old new (Image (content old)) only image left))
+  failed-stands s cache old new all (inr first) =
+      let (b, own, is, reads, kept) = found-at s cache old all in
+      all_or_bare s cache (content new) (λ image left. with_cache own cache (one_of s) b image kept (is-among s b is) (now-left first.synced new (λ (i : Files). RecoversWith own i b) (first.after b own reads) image left))
 
   -- An archive wasn't opened.
-  pub unopened-stands : (s : Standing) (old new : D) (why : OpenRefusal) → StandsAs s (content old) → ((may : List (Option Archive)) (cache : List ℕ) → AllRecoverWith cache may (content old) → LeavesOnly moment left_since old new (RecoversOfWith cache may))
-      → ((a : Archive) (cache : List ℕ) → ReadsWith cache a (content old) → IsWant why) → OnSynced {T = View} (Err why) (SyncsFirst content moment left_since old new) → (t : Standing) × StandsAs t (content new) × StaysUnopened s (content old) why t
-  unopened-stands s old new refusal.NoArchive all run want first = absurd (let found = found-at s old all in want found.0 [] found.2)
-  unopened-stands s old new (refusal.Damaged file at) all run want first = absurd (let found = found-at s old all in want found.0 [] found.2)
-  unopened-stands s old new refusal.DiskFault all run want first = (s, run-stands s old new (run (one_of s) [] all), refl)
-  unopened-stands s old new refusal.NoMemory all run want first =
-      let found = found-at s old all in (
-        standing found.0 None,
-        one-stands found.0 new (λ image left. now-left first.synced new (λ (i : Files). Recovers i found.0) (first.after found.0 [] found.2) image left),
-        (record { found = found.1; sure = refl }, found.2),
-      )
+  pub unopened-stands : (s : Standing) (cache : List ℕ) (old new : D) (why : OpenRefusal) → StandsAs cache s (content old) → SyncsAtMost content moment left_since old new → ((a : Archive) (cache : List ℕ) → ReadsWith cache a (content old) → IsWant why)
+      → OnSynced {T = View} (Err why) (SyncsFirst content moment left_since old new) → (t : Standing) × StandsAs cache t (content new) × StaysUnopened s (content old) why t
+  unopened-stands s cache old new refusal.NoArchive all before want first = absurd (let found = found-at s cache old all in want found.0 found.1 found.3)
+  unopened-stands s cache old new (refusal.Damaged file at) all before want first = absurd (let found = found-at s cache old all in want found.0 found.1 found.3)
+  unopened-stands s cache old new refusal.DiskFault all before want first = (s, failed-stands s cache old new all before, refl)
+  unopened-stands s cache old new refusal.NoMemory all before want first = synced-stands s cache old new all first
 
   -- A command didn't run, since the archive wasn't opened.
   pub unopened-runs : (old new : D) (way : Way) (wanted : Archive → Done) → SyncsAtMost content moment left_since old new → RunsOrStays content moment left_since old new (LeavesEither way wanted)
@@ -215,13 +250,8 @@ module _ {D : Type 0} (content : D → Option Content) (moment : D → ℕ) (lef
   -- An archive was opened.
   module _ (old opened : D) (v : View) (done : (a : Archive) (cache : List ℕ) → ReadsWith cache a (content old) → IsStoreWith v cache a (content opened)) (first : SyncsFirst content moment left_since old opened) where
     -- It is the one that was found.
-    pub opened-stands : (s : Standing) → StandsAs s (content old) → (t : Standing) × StandsAs t (content opened) × (Settles s t × ReadsAs t.archive (content old))
-    opened-stands s all =
-        let found = found-at s old all in (
-          standing found.0 None,
-          one-stands found.0 opened (λ image left. now-left first.synced opened (λ (i : Files). Recovers i found.0) (first.after found.0 [] found.2) image left),
-          (record { found = found.1; sure = refl }, found.2),
-        )
+    pub opened-stands : (s : Standing) (cache : List ℕ) → StandsAs cache s (content old) → (t : Standing) × StandsAs cache t (content opened) × (Settles s t × IsReadAs t.archive (content old))
+    opened-stands s cache all = synced-stands s cache old opened all first
 
     -- A command was taken.
     module _ (new : D) (way : Way) (wanted : Archive → Done) (left : (a : Archive) (cache : List ℕ) → IsStoreWith v cache a (content opened) → LeavesOnly moment left_since opened new (LeavesEither way wanted cache a)) where
@@ -234,42 +264,38 @@ module _ {D : Type 0} (content : D → Option Content) (moment : D → ℕ) (lef
         none = λ none. absurd (opened-none v (content old) answer none);
       })
 
-      module _ (s : Standing) (b : Archive) (found : IsFound s b) (reads : ReadsAs b (content old)) where
-        -- The disk of a store's archive.
-        own-stands : (u : View) (a : Archive) → IsStoreOf u a (content new) → StandsAs (standing a None) (content new)
-        own-stands u a own = one-stands a new (λ image now. stands_for u [] a (content new) image own now)
+      module _ (s : Standing) (b : Archive) (own cache : List ℕ) (found : IsFound s b) (reads : ReadsWith own b (content old)) (kept : (own ≡ cache) ⊎ (own ≡ [])) where
+        -- The disk of a store's archive, whose cache is that of the one that was found, or none.
+        own-stands : (u : View) (a : Archive) (now : List ℕ) → (now ≡ own) ⊎ (now ≡ []) → IsStoreWith u now a (content new) → StandsAs cache (standing a None) (content new)
+        own-stands u a now is store = one-stands a now cache (left_is own now cache kept is) new (λ image left. stands_for u now a (content new) image store left)
 
-        stands-done : (r : Answer) (u : View) → IsDone u [] (wanted b) r (content new) → ((t : Standing) → Obeys (standing b None) wanted r t → Comes true (standing b None) wanted r t) → (t : Standing) × StandsAs t (content new) × TakesOn s (content old) wanted (Answered r) t
-        stands-done r u is comes =
-            let obeys : Obeys (standing b None) wanted r (standing (wanted b).archive None) = record { found = b; is_found = inl refl; answer_is = is.answer_is; stands = refl } in
-            (standing (wanted b).archive None, own-stands u (wanted b).archive is.store, record { found = b; is_found = found; reads = reads; comes = comes (standing (wanted b).archive None) obeys })
+        stands-done : (r : Answer) (u : View) (now : List ℕ) → (now ≡ own) ⊎ (now ≡ []) → IsDone u now (wanted b) r (content new) → ((t : Standing) → Obeys (standing b None) wanted r t → Comes true (standing b None) wanted r t) → (t : Standing) × StandsAs cache t (content new) × TakesOn s (content old) wanted (Answered r) t
+        stands-done r u now is done comes =
+            let obeys : Obeys (standing b None) wanted r (standing (wanted b).archive None) = record { found = b; is_found = inl refl; answer_is = done.answer_is; stands = refl } in
+            (standing (wanted b).archive None, own-stands u (wanted b).archive now is done.store, record { found = b; is_found = found; reads = (own, reads); comes = comes (standing (wanted b).archive None) obeys })
 
-        stands-by : (r : Answer) (u : View) → DoneBy u [] [] b (wanted b) r (content new) → (t : Standing) × StandsAs t (content new) × TakesOn s (content old) wanted (Answered r) t
-        stands-by answer.NoMemory u own = (standing b None, own-stands u b own, record { found = b; is_found = found; reads = reads; comes = inr (record { found = inl refl; sure = refl }) })
+        stands-by : (r : Answer) (u : View) → DoneBy u own (cache_by way own) b (wanted b) r (content new) → (t : Standing) × StandsAs cache t (content new) × TakesOn s (content old) wanted (Answered r) t
+        stands-by answer.NoMemory u store = (standing b None, own-stands u b own (inl refl) store, record { found = b; is_found = found; reads = (own, reads); comes = inr (record { found = inl refl; sure = refl }) })
         stands-by answer.DiskFault u nothing =
-            let run = subst (λ (cache : List ℕ). LeavesOnly moment left_since opened new (RecoversOneOf [] b cache (wanted b).archive)) (no-cache way) (left b [] (done b [] reads)) in
             let doubts : Doubts (standing b None) wanted (standing b (Some (wanted b).archive)) = record { found = b; is_found = inl refl; stands = refl } in (
               standing b (Some (wanted b).archive),
-              all_recover (standing b (Some (wanted b).archive)) [] (content new) (λ image now. of_either image (now-left opened new (RecoversEither b (wanted b).archive) run image now)),
-              record { found = b; is_found = found; reads = reads; comes = inr doubts },
+              all_or_bare (standing b (Some (wanted b).archive)) cache (content new) (λ image now. either_of own (cache_by way own) cache (one_of (standing b (Some (wanted b).archive))) b (wanted b).archive image kept (kept-by way own) (0, omega arith, refl) (1, omega arith, refl) (now-left opened new (LeavesEither way wanted own b) (left b own (done b own reads)) image now)),
+              record { found = b; is_found = found; reads = (own, reads); comes = inr doubts },
             )
-          where
-            of_either : (image : Files) → RecoversEither b (wanted b).archive image → RecoversOf (one_of (standing b (Some (wanted b).archive))) image
-            of_either image (inl before) = (Some b, (0, omega arith, refl), before)
-            of_either image (inr after) = (Some (wanted b).archive, (1, omega arith, refl), after)
-        stands-by (answer.Ok number id) u is = stands-done (answer.Ok number id) u is (λ t obeys. obeys)
-        stands-by (answer.Duplicate number) u is = stands-done (answer.Duplicate number) u is (λ t obeys. obeys)
-        stands-by answer.NoFields u is = stands-done answer.NoFields u is (λ t obeys. obeys)
-        stands-by (answer.TooLarge len) u is = stands-done (answer.TooLarge len) u is (λ t obeys. obeys)
-        stands-by (answer.Full max) u is = stands-done (answer.Full max) u is (λ t obeys. obeys)
-        stands-by (answer.Collision number) u is = stands-done (answer.Collision number) u is (λ t obeys. obeys)
-        stands-by answer.IsMirror u is = stands-done answer.IsMirror u is (λ t obeys. obeys)
-        stands-by (answer.NotLive number) u is = stands-done (answer.NotLive number) u is (λ t obeys. obeys)
-        stands-by (answer.NoText number) u is = stands-done (answer.NoText number) u is (λ t obeys. obeys)
+        stands-by (answer.Ok number id) u is = stands-done (answer.Ok number id) u (cache_by way own) (kept-by way own) is (λ t obeys. obeys)
+        stands-by (answer.Duplicate number) u is = stands-done (answer.Duplicate number) u own (inl refl) is (λ t obeys. obeys)
+        stands-by answer.NoFields u is = stands-done answer.NoFields u own (inl refl) is (λ t obeys. obeys)
+        stands-by (answer.TooLarge len) u is = stands-done (answer.TooLarge len) u own (inl refl) is (λ t obeys. obeys)
+        stands-by (answer.Full max) u is = stands-done (answer.Full max) u own (inl refl) is (λ t obeys. obeys)
+        stands-by (answer.Collision number) u is = stands-done (answer.Collision number) u own (inl refl) is (λ t obeys. obeys)
+        stands-by answer.IsMirror u is = stands-done answer.IsMirror u own (inl refl) is (λ t obeys. obeys)
+        stands-by (answer.NotLive number) u is = stands-done (answer.NotLive number) u own (inl refl) is (λ t obeys. obeys)
+        stands-by (answer.NoText number) u is = stands-done (answer.NoText number) u own (inl refl) is (λ t obeys. obeys)
         stands-by (answer.Damaged file at) u never = absurd never
 
-      pub taken-stands : (reply : Answer) → ((a : Archive) (cache : List ℕ) → IsStoreWith v cache a (content opened) → (u : View) × DoneBy u cache (cache_by way cache) a (wanted a) reply (content new)) → (s : Standing) → StandsAs s (content old) → (t : Standing) × StandsAs t (content new) × TakesOn s (content old) wanted (Answered reply) t
-      taken-stands reply answers s all =
-          let found = found-at s old all in
-          let own = answers found.0 [] (done found.0 [] found.2) in
-          stands-by s found.0 found.1 found.2 reply own.0 (subst (λ (cache : List ℕ). DoneBy own.0 [] cache found.0 (wanted found.0) reply (content new)) (no-cache way) own.1)
+      pub taken-stands : (reply : Answer) → ((a : Archive) (cache : List ℕ) → IsStoreWith v cache a (content opened) → (u : View) × DoneBy u cache (cache_by way cache) a (wanted a) reply (content new))
+          → (s : Standing) (cache : List ℕ) → StandsAs cache s (content old) → (t : Standing) × StandsAs cache t (content new) × TakesOn s (content old) wanted (Answered reply) t
+      taken-stands reply answers s cache all =
+          let (b, own, is, reads, kept) = found-at s cache old all in
+          let store = answers b own (done b own reads) in
+          stands-by s b own cache is reads kept reply store.0 store.1

@@ -1,5 +1,5 @@
 -- How what is due is printed.
-use Rattle.std.proofs.Common.{◌≡◌, ◌≢◌, ◌≤◌, ◌<◌, ◌⊎◌, inl, inr, ℕ, List, [], ◌++◌, length, take, codes, decimal, Option, Some, None, Result, Ok, Err, is_ok, refl, sym, ◌∙◌, ap, subst, append_assoc, arith, length-append, if◌then◌else◌}
+use Rattle.std.proofs.Common.{◌≡◌, ◌≤◌, ◌<◌, ◌⊎◌, inl, inr, ℕ, List, [], ◌++◌, length, take, codes, decimal, Option, Some, None, Result, Ok, Err, is_ok, refl, sym, ◌∙◌, ap, subst, append_assoc, arith, length-append, if◌then◌else◌}
 use Rattle.arch_base.specs.declared.config.Config.{Config}
 use Rattle.edge_io.specs.Left.{before, IsUsedUp}
 use Rattle.edge_io.specs.Scripts.{Arrival, IsScript, IsBad}
@@ -10,12 +10,11 @@ use Rattle.std.proofs.Math.Seq.{take-append_seam}
 use Rattle.answer_lines.specs.Lines.{whole_line}
 use Rattle.arch_model.specs.Archives.{Archive}
 use Rattle.arch_model.specs.Delivery.{Done}
-use Rattle.arch_model.specs.declared.answer.Answer.TheVariants as answer
-use Rattle.archive_core.proofs.Answered.{delivery-lives}
-use Rattle.archive_cli.specs.DiskCommands.{TakesTo, delivering}
-use Rattle.epoch_store.specs.Promises.{Way, Appends}
+use Rattle.arch_model.specs.declared.answer.Answer.{Answer}
+use Rattle.archive_cli.specs.DiskCommands.{IsReply}
+use Rattle.epoch_store.specs.Promises.{Way}
 use Rattle.epoch_store.specs.Stores.{View}
-use Rattle.archive_core.specs.Commands.{IsDone}
+use Rattle.archive_cli.proofs.Committing.{commits-as}
 use Rattle.archive_cli.specs.Words.{IsJob, AsksFor}
 use Rattle.archive_cli.specs.Turns.{Transcript}
 use Rattle.archive_cli.specs.Serving.{ServeRun, Shut, run_line, run_status}
@@ -25,8 +24,8 @@ use Rattle.disk_model.specs.Disk.{Content}
 use Rattle.edge_io.specs.Coming.{Moments, IsFirst, after_first}
 use Rattle.archive_cli.specs.Outcomes.{outcome_line, status_of}
 use Rattle.archive_cli.specs.declared.outcome.Outcome.{Outcome}
-use Rattle.archive_cli.specs.declared.outcome.Outcome.TheVariants.{Answered}
-use Rattle.archive_cli.specs.Program.{Edges, all_edges, NoneFailed, JobActs, JobEnds, InitActs, CommandActs, MessageActs, putting, putting_way, AsksForMessage, AsksForCommand, ReindexActs, CheckActs, PlaysPart, IsInput, IsDue, unasked, Ends, Ran, input_limit, message_of, TookAtMost}
+use Rattle.archive_cli.specs.declared.outcome.Outcome.TheVariants.{Made, Exists, Reindexed, Checked, Answered, Unopened}
+use Rattle.archive_cli.specs.Program.{Edges, all_edges, NoneFailed, JobActs, JobEnds, InitActs, CommandActs, MessageActs, putting, putting_answers, putting_files, putting_way, AsksForMessage, AsksForCommand, ReindexActs, CheckActs, PlaysPart, IsInput, IsDue, unasked, Ends, Ran, input_limit, message_of, TookAtMost}
 use Rattle.archive_cli.specs.Printing.{Printed, Exactly, IsLoadDue, IsReplayDue, Replayed, IsPieceRead, JobDone, InputDone, IsUnread}
 use Rattle.archive_cli.specs.declared.status.Status.{Status}
 use Rattle.archive_cli.specs.declared.status.Status.TheVariants as exit
@@ -153,12 +152,12 @@ ran-put words place status i j asked (inr (inl p)) =
 ran-put words place status i j asked (inr (inr failed)) = inr (inl (record { asked = inr (asks-put words place asked); rose = failed.1; clock_kept = failed.2; silent = failed.0 }))
 
 -- A command without a message is a run.
-pub ran-command : (words : List (List ℕ)) (job : Job) (way : Way) (wanted : ℕ → Archive → Done) (status : Status) (i j : Edges) → AsksFor words job → AsksForCommand words → ((input : List ℕ) (s : Status) (printed : List ℕ) → JobEnds (CommandActs way wanted) after_first i j s printed → Ends (Some job) input i j s printed)
-    → JobDone (CommandActs way wanted) status i j → Ran words status i j
-ran-command words job way wanted status i j asked command ends (inl p) =
+pub ran-command : (words : List (List ℕ)) (job : Job) (way : Way) (keeps : View → View → Type 0) (may : Answer → Type 0) (wanted : ℕ → Archive → Done) (status : Status) (i j : Edges) → AsksFor words job → AsksForCommand words → ((input : List ℕ) (s : Status) (printed : List ℕ) → JobEnds (CommandActs way keeps may wanted) after_first i j s printed → Ends (Some job) input i j s printed)
+    → JobDone (CommandActs way keeps may wanted) status i j → Ran words status i j
+ran-command words job way keeps may wanted status i j asked command ends (inl p) =
     let given = some-input i.left in
-    ran-printed words given.0 status i j (JobEnds (CommandActs way wanted) after_first i j) given.1 (λ s printed due. inl (record { job = Some job; asked = asked; ends = ends given.0 s printed due })) p
-ran-command words job way wanted status i j asked command ends (inr missed) = inr (inr (inl (record { asked = inr command; rose = missed.1; input_kept = missed.2; silent = missed.0 })))
+    ran-printed words given.0 status i j (JobEnds (CommandActs way keeps may wanted) after_first i j) given.1 (λ s printed due. inl (record { job = Some job; asked = asked; ends = ends given.0 s printed due })) p
+ran-command words job way keeps may wanted status i j asked command ends (inr missed) = inr (inr (inl (record { asked = inr command; rose = missed.1; input_kept = missed.2; silent = missed.0 })))
 
 -- A reindexing is a run.
 pub ran-reindexed : (words : List (List ℕ)) (status : Status) (i j : Edges) (o : Outcome) → AsksFor words Reindex → JobActs ReindexActs unasked i j o → Printed (Exactly (whole_line (outcome_line o)) (status_of o)) status i.taken i.lost j.taken j.lost → Ran words status i j
@@ -199,21 +198,23 @@ job-as did other status i j also (inl p) =
     }))
 job-as did other status i j also (inr missed) = inr missed
 
--- On the disk of an archive a delivery isn't answered that a number isn't live.
-never-dead : (bytes : List ℕ) (moment : ℕ) (cache : List ℕ) (a : Archive) (number : ℕ) (o : Outcome) (new : Option Content) → TakesTo Appends cache a (delivering bytes moment a) o new → o ≢ Answered (answer.NotLive number)
-never-dead bytes moment cache a number o new takes is =
-    let done : (v : View) × IsDone v cache (delivering bytes moment a) (answer.NotLive number) new = subst (λ (p : Outcome). TakesTo Appends cache a (delivering bytes moment a) p new) is takes in
-    delivery-lives a bytes moment number done.1.answer_is
-
 -- The command that puts the message on an input into the archive did what the job does.
-pub message-as : (place : Option ℕ) (bytes input : List ℕ) (way : Way) (wanted : ℕ → Archive → Done) → way ≡ putting_way place → wanted ≡ putting place bytes → bytes ≡ message_of input → (moment : ℕ) (old new : Option Content) (o : Outcome) → CommandActs way wanted moment old new o → MessageActs place (message_of input) moment old new o
-message-as place bytes input way wanted way_is is front moment old new o acts =
-    by place (subst (λ (y : Way). CommandActs y (putting place (message_of input)) moment old new o) way_is
-    (subst (λ (b : List ℕ). CommandActs way (putting place b) moment old new o) front (subst (λ (w : ℕ → Archive → Done). CommandActs way w moment old new o) is acts)))
+pub message-as : (place : Option ℕ) (bytes input : List ℕ) (way : Way) (keeps : View → View → Type 0) (may : Answer → Type 0) (wanted : ℕ → Archive → Done) → way ≡ putting_way place → ((found made : View) → keeps found made → putting_files place found made) → ((reply : Answer) → may reply → putting_answers place reply) → wanted ≡ putting place bytes → bytes ≡ message_of input
+    → (moment : ℕ) (old new : Option Content) (o : Outcome) → CommandActs way keeps may wanted moment old new o → MessageActs place (message_of input) moment old new o
+message-as place bytes input way keeps may wanted way_is files answers is front moment old new o acts =
+    answered (subst (λ (y : Way). CommandActs y keeps may (putting place (message_of input)) moment old new o) way_is
+    (subst (λ (b : List ℕ). CommandActs way keeps may (putting place b) moment old new o) front (subst (λ (w : ℕ → Archive → Done). CommandActs way keeps may w moment old new o) is acts)))
   where
-    by : (p : Option ℕ) → CommandActs (putting_way p) (putting p (message_of input)) moment old new o → MessageActs p (message_of input) moment old new o
-    by None done = record { acts = done; lives = λ a cache reads number. never-dead (message_of input) moment cache a number o new (done.done a cache reads) }
-    by (Some number) done = done
+    reply : (p : Outcome) → IsReply may p → IsReply (putting_answers place) p
+    reply (Made name) never = absurd never
+    reply Exists never = absurd never
+    reply (Reindexed live) never = absurd never
+    reply (Checked entries live next) never = absurd never
+    reply (Answered r) has = answers r has
+    reply (Unopened why) has = tt
+
+    answered : CommandActs (putting_way place) keeps may (putting place (message_of input)) moment old new o → MessageActs place (message_of input) moment old new o
+    answered done = record { kind = reply o done.kind; done = done.done; stands = done.stands; answer = done.answer; files = done.files; commits = commits-as (putting_way place) keeps (putting_files place) o old new files done.commits }
 
 -- A job over the disk does not depend on the end of the input.
 pub job-moved : (did : ℕ → Option Content → Option Content → Outcome → Type 0) (status : Status) (left left' : Option (List ℕ)) (unread unread' : ℕ) (taken taken' : Option (List ℕ)) (lost lost' : ℕ) (coming coming' : Option Moments) (missed missed' : ℕ) (content content' : Option Content) (broken broken' : ℕ)

@@ -29,10 +29,11 @@ use Rattle.archive_cli.specs.declared.status.Status.{Status}
 use Rattle.archive_cli.specs.declared.status.Status.TheVariants as exit
 use Rattle.archive_cli.specs.declared.words.Job.{Job}
 use Rattle.archive_cli.specs.declared.words.Job.TheVariants.{Help, Version, Replay, Load, Init, Deliver, Remove, Purge, Edit, Reindex, Check, Serve}
-use Rattle.archive_cli.specs.DiskCommands.{Makes, StandsAs, StaysUnopened, TakesOn, ReindexesOn, ChecksOn, delivering, removing, purging, editing}
+use Rattle.archive_core.specs.Commands.{AnswersPurge, AnswersRemoval}
+use Rattle.archive_cli.specs.DiskCommands.{IsMade, Makes, StandsAs, StaysUnopened, TakesOn, ReindexesOn, ChecksOn, delivering, removing, purging, editing}
 use Rattle.archive_cli.specs.Laws.{WithMessage, WithRemoval, WithPurge, WithEdit, Goes, RunsInARow}
 use Rattle.archive_cli.specs.Outcomes.{status_of}
-use Rattle.archive_cli.specs.Program.{Edges, JobEnds, InitActs, CommandActs, DeliverActs, ReindexActs, CheckActs, IsDue, Ends, Ran, IsInput, IsOnArchive, AsksForInit, AsksOfArchive, message_of, made_at, unasked}
+use Rattle.archive_cli.specs.Program.{Edges, JobEnds, InitActs, CommandActs, MessageActs, ReindexActs, CheckActs, IsDue, Ends, Ran, IsInput, IsOnArchive, AsksForInit, AsksOfArchive, message_of, made_at, unasked, any_files, purge_files}
 use Rattle.archive_cli.specs.Statuses.{code_of}
 use Rattle.archive_cli.specs.Words.{AsksFor, IsJob, serve_word}
 
@@ -180,41 +181,41 @@ module _ (words : List (List ℕ)) (i : Edges) where
 
   -- A command leads from what the disk stood for to what it stands for then.
   abbrev Leads : Standing → Edges → Type 0
-  Leads s j = (t : Standing) × StandsAs t j.content × Steps words i s t
+  Leads s j = (t : Standing) × StandsAs [] t j.content × Steps words i s t
 
-  module _ (j : Edges) (s : Standing) (all : StandsAs s i.content) where
+  module _ (j : Edges) (s : Standing) (all : StandsAs [] s i.content) where
     leads-kept : j.content ≡ i.content → Leads s j
-    leads-kept same = (s, subst (λ (k : Option Content). StandsAs s k) (sym same) all, steps-same s s refl)
+    leads-kept same = (s, subst (λ (k : Option Content). StandsAs [] s k) (sym same) all, steps-same s s refl)
 
-    leads-delivered : AsksFor words Deliver → (input : List ℕ) → IsInput i.left input → (status : Status) (printed : List ℕ) → JobEnds (DeliverActs (message_of input)) after_first i j status printed → Leads s j
+    leads-delivered : AsksFor words Deliver → (input : List ℕ) → IsInput i.left input → (status : Status) (printed : List ℕ) → JobEnds (MessageActs None (message_of input)) after_first i j status printed → Leads s j
     leads-delivered asked input told status printed ends =
         let at = ends.acts.moment in
-        let t = ends.acts.acts.acts.stands s all in
+        let t = ends.acts.acts.stands s [] all in
         (t.0, t.1, steps-done (delivering (message_of input) at) (λ a b is. inr (inl (record { asked = asked; input = input; told = told; at = at; first = ends.acts.first; is = is }))) s t.0 i.content ends.outcome t.2)
 
-    leads-edited : (number : ℕ) → AsksFor words (Edit number) → (input : List ℕ) → IsInput i.left input → (status : Status) (printed : List ℕ) → JobEnds (CommandActs Renews (editing number (message_of input))) after_first i j status printed → Leads s j
+    leads-edited : (number : ℕ) → AsksFor words (Edit number) → (input : List ℕ) → IsInput i.left input → (status : Status) (printed : List ℕ) → JobEnds (MessageActs (Some number) (message_of input)) after_first i j status printed → Leads s j
     leads-edited number asked input told status printed ends =
         let at = ends.acts.moment in
-        let t = ends.acts.acts.stands s all in
+        let t = ends.acts.acts.stands s [] all in
         (t.0, t.1, steps-done (editing number (message_of input) at) (λ a b is. inr (inr (inr (inr (record { number = number; asked = asked; input = input; told = told; at = at; first = ends.acts.first; is = is }))))) s t.0 i.content ends.outcome t.2)
 
-    leads-removed : (number : ℕ) → AsksFor words (Remove number) → (status : Status) (printed : List ℕ) → JobEnds (CommandActs Appends (removing number)) after_first i j status printed → Leads s j
+    leads-removed : (number : ℕ) → AsksFor words (Remove number) → (status : Status) (printed : List ℕ) → JobEnds (CommandActs Appends any_files (AnswersRemoval number) (removing number)) after_first i j status printed → Leads s j
     leads-removed number asked status printed ends =
         let at = ends.acts.moment in
-        let t = ends.acts.acts.stands s all in
+        let t = ends.acts.acts.stands s [] all in
         (t.0, t.1, steps-done (removing number at) (λ a b is. inr (inr (inl (record { number = number; asked = asked; at = at; first = ends.acts.first; is = is })))) s t.0 i.content ends.outcome t.2)
 
-    leads-purged : (number : ℕ) → AsksFor words (Purge number) → (status : Status) (printed : List ℕ) → JobEnds (CommandActs Renews (purging number)) after_first i j status printed → Leads s j
+    leads-purged : (number : ℕ) → AsksFor words (Purge number) → (status : Status) (printed : List ℕ) → JobEnds (CommandActs Renews (purge_files number) (AnswersPurge number) (purging number)) after_first i j status printed → Leads s j
     leads-purged number asked status printed ends =
         let at = ends.acts.moment in
-        let t = ends.acts.acts.stands s all in
+        let t = ends.acts.acts.stands s [] all in
         (t.0, t.1, steps-done (purging number at) (λ a b is. inr (inr (inr (inl (record { number = number; asked = asked; is = is }))))) s t.0 i.content ends.outcome t.2)
 
     leads-reindexed : (status : Status) (printed : List ℕ) → JobEnds ReindexActs unasked i j status printed → Leads s j
-    leads-reindexed status printed ends = let t = ends.acts.acts.stands s all in (t.0, t.1, steps-reindexed s t.0 i.content ends.outcome t.2)
+    leads-reindexed status printed ends = let t = ends.acts.acts.stands s [] all in (t.0, t.1, steps-reindexed s t.0 i.content ends.outcome t.2)
 
     leads-checked : (status : Status) (printed : List ℕ) → JobEnds CheckActs unasked i j status printed → Leads s j
-    leads-checked status printed ends = let t = ends.acts.acts.stands s all in (t.0, t.1, steps-checked s t.0 i.content ends.outcome t.2)
+    leads-checked status printed ends = let t = ends.acts.acts.stands s [] all in (t.0, t.1, steps-checked s t.0 i.content ends.outcome t.2)
 
     module _ (asked : AsksOfArchive words) where
       leads-does : (input : List ℕ) → IsInput i.left input → (status : Status) (printed : List ℕ) (job : Option Job) → IsJob words job → Ends job input i j status printed → Leads s j
@@ -256,8 +257,8 @@ pub record IsMadeOn (words : List (List ℕ)) (i : Edges) (k : Content) : Type 0
 module _ (words : List (List ℕ)) (asked : AsksForInit words) (i j : Edges) (k : Content) (told : j.content ≡ Some k) where
   made-by : (config : Config) → AsksFor words (Init config) → (born : ℕ) → IsFirst born i.coming → (o : Outcome) → Makes (made_at config born) o i.content j.content → status_of o ≡ exit.Done → IsMadeOn words i k
   made-by config asks born first (Made name) makes done =
-      let disk = subst (λ (c : Option Content). WhereTold (λ (m : Content). (v : View) × IsDiskOf v (empty_archive (made_at config born)) m) c) told makes.2 in
-      record { config = config; asked = asks; born = born; is_born = first; view = disk.0; disk = disk.1 }
+      let disk = subst (λ (c : Option Content). WhereTold (λ (m : Content). IsMade (made_at config born) m) c) told makes.2 in
+      record { config = config; asked = asks; born = born; is_born = first; view = disk.own.0; disk = disk.own.1 }
   made-by config asks born first Exists makes done = absurd (cc done)
   made-by config asks born first (Reindexed live) makes done = absurd makes
   made-by config asks born first (Checked entries live next) makes done = absurd makes
@@ -337,10 +338,10 @@ module _ (keeps : KeepsNumbers) (takes : TakesFromView) (itself : FollowsItself)
   in-a-row first second third a b i j k l m n made asks_first one told kept asks_second two on asks_third three image left =
       let e = made-ran first asks_first i j made told one.0 one.2 (done-code one.0 one.1) in
       let empty : Archive = empty_archive (made_at e.config e.born) in
-      let start : StandsAs (standing empty None) k.content =
-      subst (λ (c : Option Content). StandsAs (standing empty None) c) (sym kept) (λ image there. store-recovers e.view [] empty (Some made) (one_of (standing empty None)) image e.disk (0, omega arith, refl) there) in
+      let start : StandsAs [] (standing empty None) k.content =
+      subst (λ (c : Option Content). StandsAs [] (standing empty None) c) (sym kept) (λ image there. inl (store-recovers e.view [] empty (Some made) (one_of (standing empty None)) image e.disk (0, omega arith, refl) there)) in
       let t = leads second k l (standing empty None) start asks_second two.0 two.2 in
-      let u = leads third m n t.0 (subst (λ (c : Option Content). StandsAs t.0 c) (sym on) t.1) asks_third three.0 three.2 in
+      let u = leads third m n t.0 (subst (λ (c : Option Content). StandsAs [] t.0 c) (sym on) t.1) asks_third three.0 three.2 in
       let last = recovers_either u.0 [] image (at_last u.0 n.content u.1 image left) in
       let back = u.2 last.0 last.1 in
       let before = t.2 back.0 back.1 in
@@ -356,6 +357,6 @@ module _ (keeps : KeepsNumbers) (takes : TakesFromView) (itself : FollowsItself)
         stands = last.2;
       }
     where
-      at_last : (s : Standing) (c : Option Content) → StandsAs s c → (image : Files) → Image c image → RecoversOf (one_of s) image
+      at_last : (s : Standing) (c : Option Content) → StandsAs [] s c → (image : Files) → Image c image → RecoversOf (one_of s) image
       at_last s None all image left = absurd all
-      at_last s (Some c) all image left = all image left
+      at_last s (Some c) all image left = elim (all image left) [ inl one ↦ one | inr bare ↦ bare ]

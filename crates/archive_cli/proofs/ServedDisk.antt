@@ -1,10 +1,13 @@
 -- What serving the archive on a disk did there.
-use Rattle.std.proofs.Common.{◌≡◌, ◌≤◌, ℕ, Bool, List, [], ◌∷◌, ◌++◌, Option, Some, None, Result, Ok, Err, inl, refl, sym, ap, subst, arith}
+use Rattle.std.proofs.Common.{◌≡◌, ◌≤◌, ℕ, Bool, true, false, List, [], ◌∷◌, ◌++◌, Option, Some, None, Result, Ok, Err, inl, inr, refl, sym, ap, subst, arith, ◌∙◌}
 use Rattle.std.specs.List.{Contains}
 use Rattle.std.proofs.lemmas.List.Elements.{Contains-append_left, Contains-append_right}
+use Rattle.std.proofs.lemmas.Bool.{false≢true}
 use Rattle.arch_base.specs.Counts.{Rose, RoseIf}
-use Rattle.disk_model.specs.Disk.{Content, Files, Image, LeavesOnly, ReadsFit, WhereTold}
-use Rattle.disk_model.specs.Moments.{weaker}
+use Rattle.disk_model.specs.Disk.{Content, Files, Image, ReadsFit, Told, WhereTold}
+use Rattle.disk_model.specs.declared.name.FileName.{FileName}
+use Rattle.disk_model.specs.Synced.{IsSettled, settled_image}
+use Rattle.root_slots.specs.Between.{RunsBetween, WentBetween, between_image, between_then}
 use Rattle.edge_io.specs.Frames.{Outputs}
 use Rattle.edge_io.specs.Scripts.{Arrival}
 use Rattle.arch_model.specs.Archives.{Archive, live}
@@ -16,14 +19,19 @@ use Rattle.arch_model.specs.Standing.{Standing, standing, one_of}
 use Rattle.arch_model.specs.declared.opening.OpenRefusal.{OpenRefusal}
 use Rattle.arch_model.specs.declared.opening.OpenRefusal.TheVariants as opening
 use Rattle.arch_model.proofs.Keepers.{has-own, fits-held, all-split}
-use Rattle.archive_core.specs.Engines.{Owning, Holds, Leaves, AllRecoverOrBare, is_ready}
-use Rattle.archive_core.proofs.Engines.{all_or_bare}
+use Rattle.archive_core.specs.Engines.{Owning, Holds, Rests, LeftWith, Leaves, AllRecoverOrBare, is_ready}
+use Rattle.archive_core.proofs.Engines.{all_or_bare, cache_is, read_in, reopening-from}
 use Rattle.epoch_store.specs.Files.{as_read}
-use Rattle.epoch_store.specs.Opens.{Opens, ReadsWith, RecoversOfWith, AllRecoverWith, SyncsFirst}
+use Rattle.epoch_store.specs.Opens.{ReadsWith, RecoversOfWith, AllRecoverWith, IsOnlySynced, SyncsFirst}
+use Rattle.epoch_store.specs.Recovery.{RecoversWith}
+use Rattle.epoch_store.specs.Laws.{CachesOne, RecoversSomeOne}
 use Rattle.epoch_store.specs.Stores.{View, IsStoreWith}
 use Rattle.keep_course.specs.Courses.{archives_of}
 use Rattle.keep_course.proofs.Courses.{all-own}
-use Rattle.node_serve.specs.Nodes.{Serving, StepsTo, RunsOver, places_in, world_of}
+use Rattle.edge_io.specs.declared.events.What.{What}
+use Rattle.edge_io.specs.declared.events.What.TheVariants as what
+use Rattle.node_serve.specs.Nodes.{Serving, Stage, stage, serving, StepsTo, RunsTo, Along, AreAt, TurnsStill, CameAnyway, AnywayBy, GoesAnyway, outputs_at, outputs_along, outputs_noted, places_in, world_of}
+use Rattle.node_serve.specs.declared.session.Session.{Session}
 use Rattle.node_serve.specs.Plain.{last_world}
 use Rattle.node_serve.specs.Turns.{Turn, Served, passed_in}
 use Rattle.node_serve.specs.World.{Outer, World}
@@ -45,12 +53,7 @@ all-later : (more may : List (Option Archive)) (ss : List Standing) → HasAll m
 all-later more may [] has = tt
 all-later more may (s ∷ ss) has = (record { archive = Contains-append_right more may (Some s.archive) has.0.archive; doubt = has-later more may s.doubt has.0.doubt }, all-later more may ss has.1)
 
--- The archive was opened.
-pub opened-some : (v : View) (k : Option Content) → WhereTold (λ (c : Content). Opens (as_read c) (Ok v)) k → WhereTold (λ (c : Content). (u : View) × Opens (as_read c) (Ok u)) k
-opened-some v None answer = tt
-opened-some v (Some k) answer = (v, answer)
-
--- Why it wasn't.
+-- Why an archive wasn't opened.
 why-is : (a b : OpenRefusal) → Shut a ≡ Shut b → a ≡ b
 why-is a b is = cc is
 
@@ -66,89 +69,184 @@ pub shut-faults : {D : Type 0} (content : D → Option Content) (moment : D → 
 shut-faults content moment left_since turns (Shut why) old new i j recorded recorded' shut is = shut.cause.failed (why-is why opening.DiskFault is)
 shut-faults content moment left_since turns (Ended how) old new i j recorded recorded' served is = absurd (cc is)
 
+-- The disk of an engine, at each stage.
+abbrev pub disk-stage : {D : Type 0} → Stage (Owning D) → Stage D
+disk-stage p = stage (serving p.node.keep.disk p.node.sessions) p.out
+
+abbrev pub disk-stages : {D : Type 0} → List (Stage (Owning D)) → List (Stage D)
+disk-stages [] = []
+disk-stages (m ∷ ms) = disk-stage m ∷ disk-stages ms
+
+at-disk : {D : Type 0} (ms : List (Stage (Owning D))) (ts : List Turn) → AreAt ms ts → AreAt (disk-stages ms) ts
+at-disk [] [] at = tt
+at-disk [] (t ∷ ts) never = absurd never
+at-disk (m ∷ ms) [] never = absurd never
+at-disk (m ∷ ms) (t ∷ ts) at = (at.0, at-disk ms ts at.1)
+
+along-disk : {D : Type 0} (p : Stage (Owning D)) (ms : List (Stage (Owning D))) → outputs_along (disk-stage p) (disk-stages ms) ≡ outputs_along p ms
+along-disk p [] = refl
+along-disk p (m ∷ ms) = ap (λ (os : List Outputs). outputs_at p ∷ os) (along-disk m ms)
+
+pub noted-disk : {D : Type 0} (none : Bool) (p : Stage (Owning D)) (ms : List (Stage (Owning D))) (q : Stage (Owning D)) → outputs_noted none (disk-stage p) (disk-stages ms) (disk-stage q) ≡ outputs_noted none p ms q
+noted-disk true p ms q = ap (λ (os : List Outputs). os ++ outputs_at q ∷ []) (along-disk p ms)
+noted-disk false p ms q = along-disk p ms
+
+goes-disk : {D : Type 0} (e : Arrival) (p q : Stage (Owning D)) → GoesAnyway e p q → GoesAnyway e (disk-stage p) (disk-stage q)
+goes-disk {D} e p q goes = by e.0.what goes
+  where
+    still : TurnsStill e p.node p.out q.node q.out → TurnsStill e (disk-stage p).node p.out (disk-stage q).node q.out
+    still t = record { kept = ap (λ (k : Owning D). k.disk) t.kept; turned = t.turned }
+
+    came : (c : ℕ) (x : Option Session) → CameAnyway x c e p.node p.out q.node q.out → CameAnyway x c e (disk-stage p).node p.out (disk-stage q).node q.out
+    came c None t = still t
+    came c (Some start) t = t
+
+    by : (x : What) → AnywayBy x e p.node p.out q.node q.out → AnywayBy x e (disk-stage p).node p.out (disk-stage q).node q.out
+    by (what.Opened c at) t = still t
+    by (what.Bytes c len) t = came c ((places_in p.node).session c) t
+    by (what.Ended c) t = still t
+    by what.Quiet t = still t
+    by what.Stop t = still t
+
+pub anyway-disk : {D : Type 0} (es : List Arrival) (p : Stage (Owning D)) (ms : List (Stage (Owning D))) (q : Stage (Owning D)) → Along GoesAnyway es p ms q → Along GoesAnyway es (disk-stage p) (disk-stages ms) (disk-stage q)
+anyway-disk [] p [] q run = ap disk-stage run
+anyway-disk [] p (m ∷ ms) q never = absurd never
+anyway-disk (e ∷ es) p [] q never = absurd never
+anyway-disk (e ∷ es) p (m ∷ ms) q run = (goes-disk e p m run.0, anyway-disk es m ms q run.1)
+
 -- Turns by steps.
-module _ {K : Type 0} (holds : K → Archive → Type 0) (ready : K → Bool) (leaves : K → K → List (Option Archive) → Type 0) where
+module _ {K : Type 0} (holds rests : K → Archive → Type 0) (ready : K → Bool) (leaves : K → K → List (Option Archive) → Type 0) where
   -- A crash in them leaves an archive of one of their standings.
-  pub steps-pass : (es : List Arrival) (w : World) (ts : List Turn) (v : World) (k m : K) → Served es w ts v → StepsTo holds ready leaves k w.standing ts m → Passes leaves k m (w.standing ∷ passed_in ts)
-  steps-pass [] w [] v k m run steps = λ start may has since. subst (λ (x : K). leaves start x may) (sym steps) since
-  steps-pass [] w (t ∷ ts) v k m never steps = absurd never
-  steps-pass (e ∷ es) w [] v k m never steps = absurd never
-  steps-pass (e ∷ es) w (t ∷ ts) v k m run steps = λ start may has since.
+  pub steps-pass : (es : List Arrival) (w : World) (ms : List (Stage K)) (ts : List Turn) (v : World) (k m : K) → Served es w ts v → StepsTo holds rests ready leaves k w.standing ms ts m → Passes leaves k m (w.standing ∷ passed_in ts)
+  steps-pass [] w [] [] v k m run steps = λ start may has since. subst (λ (x : K). leaves start x may) (sym steps) since
+  steps-pass [] w (x ∷ ms) [] v k m run never = absurd never
+  steps-pass [] w ms (t ∷ ts) v k m never steps = absurd never
+  steps-pass (e ∷ es) w ms [] v k m never steps = absurd never
+  steps-pass (e ∷ es) w [] (t ∷ ts) v k m run never = absurd never
+  steps-pass (e ∷ es) w (x ∷ ms) (t ∷ ts) v k m run steps = λ start may has since.
       let parts = all-split may t.passed (passed_in ts) has.1 in
       let now = turned-has may e w t.passed t.after run.0 has.0 parts.0 in
-      steps-pass es t.after ts v steps.0 m run.1 steps.3 start may (now, parts.1) (steps.2 start may (has.0, parts.0) since)
+      steps-pass es t.after ms ts v x.node.keep m run.1 steps.2 start may (now, parts.1) (steps.1 start may (has.0, parts.0) since)
+
+-- What a disk that was only synced reads as, and what a crash leaves of it.
+synced-same : (k m : Content) → IsOnlySynced k m → as_read m ≡ as_read k
+synced-same k m synced = λ i. λ (name : FileName). synced.seen name i
+
+synced-reads : (cache : List ℕ) (a : Archive) (old new : Option Content) → Told IsOnlySynced old new → ReadsWith cache a old → ReadsWith cache a new
+synced-reads cache a None new synced reads = absurd reads
+synced-reads cache a (Some k) None synced reads = absurd synced
+synced-reads cache a (Some k) (Some m) synced reads = subst (λ (files : Files). RecoversWith cache files a) (sym (synced-same k m synced)) reads
+
+synced-read : (told cache : List ℕ) (a : Archive) (old new : Option Content) → Told IsOnlySynced old new → ReadsWith told a old → ReadsWith cache a new → ReadsWith cache a old
+synced-read told cache a None new synced was reads = absurd was
+synced-read told cache a (Some k) None synced was reads = absurd synced
+synced-read told cache a (Some k) (Some m) synced was reads = subst (λ (files : Files). RecoversWith cache files a) (synced-same k m synced) reads
+
+synced-stands : (cache : List ℕ) (a : Archive) (old new : Option Content) (image : Files) → Told IsOnlySynced old new → ReadsWith cache a old → Image new image → RecoversWith cache image a
+synced-stands cache a None new image synced reads now = absurd reads
+synced-stands cache a (Some k) None image synced reads now = absurd synced
+synced-stands cache a (Some k) (Some m) image synced reads now =
+    let is : image ≡ as_read k = (λ i. λ (name : FileName). settled_image m image synced.settled now name i) ∙ synced-same k m synced in
+    subst (λ (files : Files). RecoversWith cache files a) (sym is) reads
+
+-- Each image of a disk that stands for some archives does.
+all-images : (cache : List ℕ) (may : List (Option Archive)) (k : Option Content) → AllRecoverWith cache may k → (image : Files) → Image k image → RecoversOfWith cache may image
+all-images cache may None never image now = absurd never
+all-images cache may (Some k) all image now = all image now
 
 module _ {D : Type 0} (content : D → Option Content) (moment : D → ℕ) (left_since : D → ℕ → Files → Type 0)
     (counts_now : (disk : D) (t : ℕ) (image : Files) → t ≤ moment disk → Image (content disk) image → left_since disk t image)
-    (holds_left : (k : Owning D) (a : Archive) (may : List (Option Archive)) → Holds content k a → Contains may (Some a) → Leaves moment left_since k k may) where
+    (only_now : (disk : D) (image : Files) → left_since disk (moment disk) image → Image (content disk) image) (reads_fit : (disk : D) → ReadsFit (content disk))
+    (holds_left : (k : Owning D) (a : Archive) (may : List (Option Archive)) → Holds content k a → Contains may (Some a) → Leaves content moment left_since k k may) where
   -- How the disk of an engine stands that fits a standing.
-  fits-stand : (k : Owning D) (s : Standing) → Fits (Holds content) is_ready (Leaves moment left_since) k s → (cache : List ℕ) × AllRecoverOrBare cache (one_of s) (content k.disk)
+  fits-stand : (k : Owning D) (s : Standing) → Fits (Holds content) (Rests content) is_ready (Leaves content moment left_since) k s → (cache : List ℕ) × AllRecoverOrBare cache (one_of s) (content k.disk)
   fits-stand k s fits =
       let now = fits.left (one_of s) (has-own s) in
-      (now.1, all_or_bare s now.1 (content k.disk) (λ image is. now.2 image (counts_now k.disk (moment k.disk) image (omega arith) is)))
+      (now.1.0, all_or_bare s now.1.0 (content k.disk) (λ image is. now.1.1 image (counts_now k.disk (moment k.disk) image (omega arith) is)))
+
+  -- It is where the bytes between the gates and the bodies of the root file are followed from.
+  abbrev here : Owning D → Owning D
+  here k = record k { stale = false }
+
+  from-here : (k : Owning D) (may : List (Option Archive)) → Leaves content moment left_since k k may → Leaves content moment left_since (here k) k may
+  from-here k may left = (left.0, left.1, left.2, λ ready image now. between_image (content k.disk) image (only_now k.disk image now))
 
   -- Before some turns it stood for the archive of that moment, and a crash since then leaves that one
   -- or a later one.
-  stood-first : (es : List Arrival) (w : World) (ts : List Turn) (v : World) (k m : Owning D) → Served es w ts v → Fits (Holds content) is_ready (Leaves moment left_since) k w.standing → StepsTo (Holds content) is_ready (Leaves moment left_since) k w.standing ts m
+  stood-first : (es : List Arrival) (w : World) (ms : List (Stage (Owning D))) (ts : List Turn) (v : World) (k m : Owning D) → Served es w ts v → Fits (Holds content) (Rests content) is_ready (Leaves content moment left_since) k w.standing → StepsTo (Holds content) (Rests content) is_ready (Leaves content moment left_since) k w.standing ms ts m
       → StoodFor content moment left_since w.standing ts m.disk
-  stood-first es w ts v k m run fits steps =
+  stood-first es w ms ts v k m run fits steps =
       let may = archives_of (w.standing ∷ passed_in ts) in
       let own = all-own (w.standing ∷ passed_in ts) in
-      let left = steps-pass (Holds content) is_ready (Leaves moment left_since) es w ts v k m run steps k may own (fits.left may own.0) in
-      record { at = k.disk; stood = fits-stand k w.standing fits; crash = (left.1, record { later = left.0; each = left.2 }) }
+      let left = steps-pass (Holds content) (Rests content) is_ready (Leaves content moment left_since) es w ms ts v k m run steps (here k) may own (from-here k may (fits.left may own.0)) in
+      record { at = k.disk; stood = fits-stand k w.standing fits; rested = fits.exact; crash = (left.1.0, record { later = left.0; each = left.2 left.1.0 left.1.1 }); between = left.3 refl }
 
-  stood-at : (es : List Arrival) (w : World) (ts : List Turn) (v : World) (k m : Owning D) → Served es w ts v → Fits (Holds content) is_ready (Leaves moment left_since) k w.standing → StepsTo (Holds content) is_ready (Leaves moment left_since) k w.standing ts m
+  stood-at : (es : List Arrival) (w : World) (ms : List (Stage (Owning D))) (ts : List Turn) (v : World) (k m : Owning D) → Served es w ts v → Fits (Holds content) (Rests content) is_ready (Leaves content moment left_since) k w.standing → StepsTo (Holds content) (Rests content) is_ready (Leaves content moment left_since) k w.standing ms ts m
       → (earlier later : List Turn) → ts ≡ earlier ++ later → StoodFor content moment left_since (last_world w earlier).standing later m.disk
-  stood-at es w ts v k m run fits steps [] later is = subst (λ (us : List Turn). StoodFor content moment left_since w.standing us m.disk) is (stood-first es w ts v k m run fits steps)
-  stood-at [] w [] v k m run fits steps (t ∷ earlier) later is = absurd (cc is)
-  stood-at [] w (u ∷ us) v k m never fits steps (t ∷ earlier) later is = absurd never
-  stood-at (e ∷ es) w [] v k m never fits steps (t ∷ earlier) later is = absurd never
-  stood-at (e ∷ es) w (u ∷ us) v k m run fits steps (t ∷ earlier) later is =
+  stood-at es w ms ts v k m run fits steps [] later is = subst (λ (us : List Turn). StoodFor content moment left_since w.standing us m.disk) is (stood-first es w ms ts v k m run fits steps)
+  stood-at [] w ms [] v k m run fits steps (t ∷ earlier) later is = absurd (cc is)
+  stood-at [] w ms (u ∷ us) v k m never fits steps (t ∷ earlier) later is = absurd never
+  stood-at (e ∷ es) w ms [] v k m never fits steps (t ∷ earlier) later is = absurd never
+  stood-at (e ∷ es) w [] (u ∷ us) v k m run fits never (t ∷ earlier) later is = absurd never
+  stood-at (e ∷ es) w (x ∷ ms) (u ∷ us) v k m run fits steps (t ∷ earlier) later is =
       let same : u ≡ t = cc is in
-      subst (λ (x : Turn). StoodFor content moment left_since (last_world x.after earlier).standing later m.disk) same (stood-at es u.after us v steps.0 m run.1 steps.1 steps.3 earlier later (cc is))
+      subst (λ (x : Turn). StoodFor content moment left_since (last_world x.after earlier).standing later m.disk) same (stood-at es u.after ms us v x.node.keep m run.1 steps.0 steps.2 earlier later (cc is))
 
-  -- An archive was opened, and events were served by a node without sessions.
-  pub served-on : FollowsItself → CommandFollows → (a : Archive) (cache : List ℕ) (old : D) (e : Owning D) (node new : Serving (Owning D)) (arrivals : List Arrival) (i j : Hosted) (o : Outer) (none_left : Bool) (recorded recorded' : List Outputs → Type 0) → node.keep ≡ e → ((c : ℕ) → (places_in node).session c ≡ None) → (places_in node).count ≡ 0 → o ≡ i.out
-      → IsStoreWith e.view cache a (content e.disk) → e.views ≡ views_of (live a.entries)
-      → ((may : List (Option Archive)) (cache : List ℕ) → AllRecoverWith cache may (content old) → LeavesOnly moment left_since old e.disk (RecoversOfWith cache may)) → SyncsFirst content moment left_since old e.disk
-      → ((t : Standing) → Fits (Holds content) is_ready (Leaves moment left_since) node.keep t → RunsOver (Holds content) is_ready (Leaves moment left_since) recorded recorded' none_left arrivals t node o new j.out)
-      → ReadsWith cache a (content old) → ServedOn content moment left_since a old new.keep.disk arrivals i j none_left recorded recorded'
-  served-on itself commands a cache old e node new arrivals i j o none_left recorded recorded' keep none count out store rows opened sync runs reads =
-      let held : Holds content e a = (cache, store, rows) in
-      let start : Fits (Holds content) is_ready (Leaves moment left_since) node.keep (standing a None) =
-      subst (λ (k : Owning D). Fits (Holds content) is_ready (Leaves moment left_since) k (standing a None)) (sym keep) (fits-held (Holds content) is_ready (Leaves moment left_since) holds_left e a held) in
-      let over = runs (standing a None) start in
-      let run = over.runs in
+  -- An archive was opened, and events were served by a node.
+  pub served-on : RecoversSomeOne → CachesOne → FollowsItself → CommandFollows → (a : Archive) (cache : List ℕ) (old : D) (e : Owning D) (node new : Serving (Owning D)) (arrivals : List Arrival) (stages : List (Stage (Owning D))) (o p : Outer) → node.keep ≡ e → IsStoreWith e.view cache a (content e.disk) → e.views ≡ views_of (live a.entries) → WhereTold IsSettled (content e.disk)
+      → SyncsFirst content moment left_since old e.disk
+      → RunsBetween content moment left_since old e.disk → Told WentBetween (content old) (content e.disk)
+      → ((t : Standing) → Fits (Holds content) (Rests content) is_ready (Leaves content moment left_since) node.keep t → RunsTo (Holds content) (Rests content) is_ready (Leaves content moment left_since) arrivals t node o stages new p) → ReadsWith cache a (content old)
+      → ServedOn content moment left_since a old e.disk new.keep.disk arrivals (disk-stage (stage node o)) (disk-stages stages) (disk-stage (stage new p))
+  served-on one caches itself commands a cache old e node new arrivals stages o p keep store rows still sync beside went runs reads =
+      let held : Holds content e a = (cache, store, rows, still) in
+      let start : Fits (Holds content) (Rests content) is_ready (Leaves content moment left_since) node.keep (standing a None) =
+      subst (λ (k : Owning D). Fits (Holds content) (Rests content) is_ready (Leaves content moment left_since) k (standing a None)) (sym keep) (fits-held (Holds content) (Rests content) is_ready (Leaves content moment left_since) (λ k b own. (k.view, own.0, own.1, own.3)) holds_left e a held) in
+      let run = runs (standing a None) start in
       let first = world_of (standing a None) (places_in node) o in
-      let last = world_of run.after (places_in new) j.out in
+      let last = world_of run.after (places_in new) p in
       let more = passed_in run.turns in
       let narrow = archives_of (standing a None ∷ more) in
-      let halted : Owning D = record e { disk = sync.synced } in
+      let halted : Owning D = record e { disk = sync.synced; stale = true } in
       let one-from = sync.after a cache reads in
-      let after : Leaves moment left_since halted e narrow = (one-from.later, cache, λ image is. inl (Some a, (0, omega arith, refl), one-from.each image is)) in
-      let kept = run.passes halted narrow (all-own (standing a None ∷ more)) (subst (λ (k : Owning D). Leaves moment left_since halted k narrow) (sym keep) after) in
+      let from : (c : List ℕ) → ReadsWith c a (content old) → LeftWith left_since sync.synced (moment sync.synced) c narrow =
+      λ c is image now. inl (Some a, (0, omega arith, refl), synced-stands c a (content old) (content sync.synced) image sync.only is (only_now sync.synced image now)) in
+      let after : Leaves content moment left_since halted e narrow = (
+        one-from.later,
+        (cache, from cache reads),
+        λ c all image since.
+            let there = read_in one (content sync.synced) a cache c narrow (reads_fit sync.synced) (synced-reads cache a (content old) (content sync.synced) sync.only reads) (λ im now. all im (counts_now sync.synced (moment sync.synced) im (omega arith) now)) in
+            let run-from = sync.after a there.0 (synced-read cache there.0 a (content old) (content sync.synced) sync.only reads there.1) in
+            there.2 image (run-from.each image since),
+        λ never. absurd (false≢true (sym never)),
+      ) in
+      let kept = run.passes halted narrow (all-own (standing a None ∷ more)) (subst (λ (k : Owning D). Leaves content moment left_since halted k narrow) (sym keep) after) in
+      let now = from-here e narrow (holds_left e a narrow held (0, omega arith, refl)) in
+      let since-opened = run.passes (here e) narrow (all-own (standing a None ∷ more)) (subst (λ (k : Owning D). Leaves content moment left_since (here e) k narrow) (sym keep) now) in
       record {
-        first = first;
-        starts = record { stands = refl; none = none; count = count };
-        first_out = out;
         turns = run.turns;
-        last = last;
-        last_out = refl;
+        left = run.after;
         served = run.served;
+        at = at-disk stages run.turns run.at;
         stands = fits-stand new.keep run.after run.fits;
+        rests = λ none_in c is.
+            let exact = run.fits.exact none_in in
+            let own = cache_is caches exact.0 exact.1 run.after.archive (content new.keep.disk) (reads_fit new.keep.disk) exact.2 c narrow (λ image now. kept.2 c (from c is) image (counts_now new.keep.disk (moment sync.synced) image kept.0 now)) in
+            (exact.0, exact.1, own, exact.2, exact.3);
         synced = sync.synced;
         only = sync.only;
         before = sync.before;
-        after = (kept.1, record { later = kept.0; each = kept.2 });
+        after = λ c is. record { later = kept.0; each = kept.2 c (from c is) };
         crash = λ may known has-found all.
             let wide = may ++ archives_of more in
-            let begun : Owning D = record e { disk = old } in
-            let all-from = opened wide known (widened known may (archives_of more) (content old) all) in
-            let since : Leaves moment left_since begun e wide = (all-from.later, known, λ image is. inl (all-from.each image is)) in
+            let begun : Owning D = record e { disk = old; stale = false } in
+            let at-old : LeftWith left_since old (moment old) known wide = λ image now. inl (all-images known wide (content old) (widened known may (archives_of more) (content old) all) image (only_now old image now)) in
+            let still-old : Leaves content moment left_since begun begun wide = (omega arith, (known, at-old), λ c covers. covers, λ ready image now. between_image (content old) image (only_now old image now)) in
+            let since : Leaves content moment left_since begun e wide = reopening-from content moment left_since counts_now only_now reads_fit one begun e (inr sync, beside) a cache reads begun wide still-old in
             let has : HasAll wide (standing a None ∷ more) = (record { archive = Contains-append_left may (archives_of more) (Some a) has-found; doubt = tt }, all-later may (archives_of more) more (all-own more)) in
-            let left = run.passes begun wide has (subst (λ (k : Owning D). Leaves moment left_since begun k wide) (sym keep) since) in
-            (left.1, record { later = left.0; each = left.2 });
-        stood = λ earlier later is. stood-at arrivals first run.turns last node.keep new.keep run.served start run.steps earlier later is;
+            let left = run.passes begun wide has (subst (λ (k : Owning D). Leaves content moment left_since begun k wide) (sym keep) since) in
+            (record { later = left.0; each = left.2 known at-old }, left.3 refl);
+        between = record { later = since-opened.0; each = λ image left. between_then (content old) (content e.disk) image went (since-opened.3 refl image left) };
+        stood = λ earlier later is. stood-at arrivals first stages run.turns last node.keep new.keep run.served start run.steps earlier later is;
         numbers = served-follows itself commands arrivals first run.turns last run.served (λ b is. absurd (cc is));
-        records = over.records;
       }

@@ -11,7 +11,7 @@ use Rattle.arch_model.specs.Archives.{Archive}
 use Rattle.arch_model.specs.Delivery.{delivered, removed, purged, edited}
 use Rattle.arch_model.specs.Following.{Follows, FollowsItself}
 use Rattle.arch_model.specs.Laws.{CommandFollows}
-use Rattle.arch_model.specs.Standing.{Standing, standing}
+use Rattle.arch_model.specs.Standing.{Standing, standing, unsure_of, unsure}
 use Rattle.arch_model.specs.declared.command.Command.TheVariants as command
 use Rattle.arch_model.specs.declared.opening.OpenRefusal.{OpenRefusal}
 use Rattle.answer_lines.specs.Lines as lines
@@ -62,6 +62,14 @@ module _ (itself : FollowsItself) (commands : CommandFollows) where
   doubts : (a b : Archive) → Follows a b → FollowsIn a (standing a (Some b))
   doubts a b follows = record { archive = itself a; doubt = λ x is. subst (λ (y : Archive). Follows a y) (cc is) follows }
 
+  -- Nothing changed, but that nothing is in doubt isn't said any more.
+  unsure-after : (a : Archive) (d : Option Archive) → ((b : Archive) → d ≡ Some b → Follows a b) → FollowsIn a (unsure_of a d)
+  unsure-after a None kept = doubts a a (itself a)
+  unsure-after a (Some b) kept = doubts a b (kept b refl)
+
+  unsure-stays : (s : Standing) → DoubtFollows s → FollowsIn s.archive (unsure s)
+  unsure-stays s kept = unsure-after s.archive s.doubt kept
+
   -- Commands.
   with-message : (a : Archive) (message : List ℕ) (moment : ℕ) → Follows a (delivered a message moment).archive
   with-message a message moment = commands a (command.Deliver (record { ref_ptr = (0, 0); now = message })) moment
@@ -84,7 +92,7 @@ module _ (itself : FollowsItself) (commands : CommandFollows) where
   reopened words s h Plain kept = sure s.archive s.archive (itself s.archive)
   reopened words s h Newer kept = sure s.archive (newer_of s.archive s.doubt) (newer-follows s.archive s.doubt kept)
   reopened words s h Memory kept = stays s kept
-  reopened words s h Disk kept = stays s kept
+  reopened words s h Disk kept = unsure-stays s kept
 
   -- The control door.
   answers : (moment : ℕ) (s : Standing) (request : Request) (rest : List ℕ) → DoubtFollows s → FollowsIn s.archive (control.answered moment s request rest).after
@@ -121,7 +129,7 @@ module _ (itself : FollowsItself) (commands : CommandFollows) where
   fails moment s (Edits number message) rest kept = doubts s.archive _ (with-edit s.archive number message moment)
   fails moment s (Threads number) rest kept = stays s kept
   fails moment s Lists rest kept = stays s kept
-  fails moment s Reindexes rest kept = stays s kept
+  fails moment s Reindexes rest kept = unsure-stays s kept
   fails moment s Quits rest kept = stays s kept
   fails moment s Mistakes rest kept = stays s kept
   fails moment s Exceeds rest kept = stays s kept

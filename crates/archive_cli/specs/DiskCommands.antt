@@ -3,8 +3,10 @@
 use Rattle.std.specs.Prelude.{◌≡◌, ◌⊎◌, ℕ, true, List, length, Option, None, Ok, Err}
 use Rattle.arch_base.specs.declared.config.Config.{Config}
 use Rattle.disk_model.specs.Disk.{Files, Content, Image, Told, WhereTold, LeavesOnly}
+use Rattle.disk_model.specs.Synced.{IsSettled}
 use Rattle.root_slots.specs.RootName.{root_name}
-use Rattle.root_slots.specs.Slots.{IsShutFile}
+use Rattle.root_slots.specs.Slots.{HasFirstRoot, IsShutFile}
+use Rattle.root_slots.specs.Spelling.{spelling}
 use Rattle.arch_model.specs.Archives.{Archive, empty_archive, live as live_entries}
 use Rattle.arch_model.specs.Delivery.{Done, delivered, removed, purged, edited, applied}
 use Rattle.arch_model.specs.Keeping.{Settles, Comes}
@@ -16,11 +18,12 @@ use Rattle.arch_model.specs.declared.opening.OpenRefusal.{OpenRefusal}
 use Rattle.arch_model.specs.declared.opening.OpenRefusal.TheVariants as refusal
 use Rattle.epoch_store.specs.declared.refusal.InitRefusal.{InitRefusal}
 use Rattle.epoch_store.specs.declared.refusal.InitRefusal.TheVariants as making
+use Rattle.epoch_store.specs.First.{first_root_of}
 use Rattle.epoch_store.specs.Promises.{Way, cache_by}
-use Rattle.epoch_store.specs.Opens.{IsOnlySynced, Opens, ReadsAs, ReadsWith, AllRecoverOf, SyncsThen}
+use Rattle.epoch_store.specs.Opens.{IsOnlySynced, Opens, ReadsWith, SyncsThen}
 use Rattle.epoch_store.specs.Stores.{View, IsStoreWith, IsDiskOf, RecoversOneOf}
 use Rattle.archive_core.specs.Commands.{DoneBy}
-use Rattle.archive_core.specs.Openings.{LeavesKindly}
+use Rattle.archive_core.specs.Engines.{AllRecoverOrBare}
 use Rattle.archive_cli.specs.declared.outcome.Outcome.{Outcome}
 use Rattle.archive_cli.specs.declared.outcome.Outcome.TheVariants.{Made, Exists, Reindexed, Checked, Answered, Unopened}
 
@@ -29,12 +32,19 @@ use Rattle.archive_cli.specs.declared.outcome.Outcome.TheVariants.{Made, Exists,
 abbrev pub IsOwn : List ℕ → Archive → Option Content → Type 0
 IsOwn cache a content = (v : View) × IsStoreWith v cache a content
 
+-- A disk is the own one of an archive of these settings without entries. The root file has its first
+-- root, in the first slot, and is otherwise zeros. All that reads give is on the disk.
+pub record IsMade (config : Config) (k : Content) : Type 0 where
+  pub own : (v : View) × IsDiskOf v (empty_archive config) k
+  pub rooted : HasFirstRoot (spelling (first_root_of config)) k
+  pub settled : IsSettled k
+
 -- How `init` ends. An archive is made if no slot is open, and the disk is its own. Otherwise there
 -- is one already, or memory ran out, and the disk is synced and nothing more; or the disk failed.
 abbrev pub Makes : Config → Outcome → Option Content → Option Content → Type 0
 Makes config (Made name) old new = (name ≡ config.name)
     × WhereTold (λ k. IsShutFile (k root_name).seen) old
-    × WhereTold (λ k. (v : View) × IsDiskOf v (empty_archive config) k) new
+    × WhereTold (IsMade config) new
 Makes config Exists old new = WhereTold (λ k. IsShutFile (k root_name).seen → ⊥) old
     × Told IsOnlySynced old new
 Makes config (Answered answer.DiskFault) old new = Unit {0}
@@ -132,25 +142,14 @@ IsOpenedAs files (Answered reply) = (v : View) × Opens files (Ok v)
 IsOpenedAs files (Made name) = ⊥
 IsOpenedAs files Exists = ⊥
 
--- What can't be opened is left alone. Without an archive, and with a damaged file, all files are
--- synced and nothing more, also out of memory. Out of memory the files still read as the same archive.
--- Nothing is said of a fault of the disk, nor of any other outcome.
-abbrev pub LeavesUnopened : Outcome → Option Content → Option Content → Type 0
-LeavesUnopened (Unopened why) old new = LeavesKindly why old new
-LeavesUnopened (Reindexed live) old new = Unit {0}
-LeavesUnopened (Checked entries live next) old new = Unit {0}
-LeavesUnopened (Answered reply) old new = Unit {0}
-LeavesUnopened (Made name) old new = Unit {0}
-LeavesUnopened Exists old new = Unit {0}
-
--- A command is answered, or the archive wasn't opened.
-abbrev pub IsReply : Outcome → Type 0
-IsReply (Made name) = ⊥
-IsReply Exists = ⊥
-IsReply (Reindexed live) = ⊥
-IsReply (Checked entries live next) = ⊥
-IsReply (Answered reply) = Unit {0}
-IsReply (Unopened why) = Unit {0}
+-- A command has one of these answers, or the archive wasn't opened.
+abbrev pub IsReply : (Answer → Type 0) → Outcome → Type 0
+IsReply may (Made name) = ⊥
+IsReply may Exists = ⊥
+IsReply may (Reindexed live) = ⊥
+IsReply may (Checked entries live next) = ⊥
+IsReply may (Answered reply) = may reply
+IsReply may (Unopened why) = Unit {0}
 
 -- A reindexing counts what it built, or the archive wasn't opened.
 abbrev pub IsReindex : Outcome → Type 0
@@ -171,15 +170,19 @@ IsCheck (Answered reply) = ⊥
 IsCheck (Unopened why) = Unit {0}
 
 -- Each crash of the disk leaves files that stand for the archive of a standing, or for the one in
--- doubt there.
-abbrev pub StandsAs : Standing → Option Content → Type 0
-StandsAs s content = AllRecoverOf (one_of s) content
+-- doubt there, with a cache of these bytes or with none. A purge and an edit drop the cache.
+abbrev pub StandsAs : List ℕ → Standing → Option Content → Type 0
+StandsAs cache s content = AllRecoverOrBare cache (one_of s) content
+
+-- A disk that tells its content reads as files that stand for an archive, with whatever cache.
+abbrev pub IsReadAs : Archive → Option Content → Type 0
+IsReadAs a content = (cache : List ℕ) × ReadsWith cache a content
 
 -- How a refused opening leaves a disk that stood so. After the disk failed it stands as before; after
 -- memory ran out it is the archive as which it read.
 abbrev pub StaysUnopened : Standing → Option Content → OpenRefusal → Standing → Type 0
 StaysUnopened s old refusal.DiskFault t = t ≡ s
-StaysUnopened s old refusal.NoMemory t = Settles s t × ReadsAs t.archive old
+StaysUnopened s old refusal.NoMemory t = Settles s t × IsReadAs t.archive old
 StaysUnopened s old refusal.NoArchive t = ⊥
 StaysUnopened s old (refusal.Damaged file at) t = ⊥
 
@@ -188,7 +191,7 @@ pub record TakenOn (s : Standing) (old : Option Content) (wanted : Archive → D
     (reply : Answer) (t : Standing) : Type 0 where
   pub found : Archive
   pub is_found : IsFound s found
-  pub reads : ReadsAs found old
+  pub reads : IsReadAs found old
   pub comes : Comes true (standing found None) wanted reply t
 
 -- How a command leaves a disk that stood so.
@@ -202,7 +205,7 @@ TakesOn s old wanted (Checked entries live next) t = ⊥
 
 -- How `reindex` leaves a disk that stood so.
 abbrev pub ReindexesOn : Standing → Option Content → Outcome → Standing → Type 0
-ReindexesOn s old (Reindexed live) t = Settles s t × ReadsAs t.archive old
+ReindexesOn s old (Reindexed live) t = Settles s t × IsReadAs t.archive old
 ReindexesOn s old (Unopened why) t = StaysUnopened s old why t
 ReindexesOn s old (Made name) t = ⊥
 ReindexesOn s old Exists t = ⊥
@@ -212,7 +215,7 @@ ReindexesOn s old (Answered reply) t = ⊥
 -- How `check` leaves a disk that stood so.
 abbrev pub ChecksOn : Standing → Option Content → Outcome → Standing → Type 0
 ChecksOn s old (Reindexed live) t = ⊥
-ChecksOn s old (Checked entries live next) t = Settles s t × ReadsAs t.archive old
+ChecksOn s old (Checked entries live next) t = Settles s t × IsReadAs t.archive old
 ChecksOn s old (Unopened why) t = StaysUnopened s old why t
 ChecksOn s old (Made name) t = ⊥
 ChecksOn s old Exists t = ⊥

@@ -9,3 +9,4 @@ pub mod Laws
 pub mod Statuses
 pub mod Outcomes
 pub mod DiskCommands
+pub mod OpenedFiles

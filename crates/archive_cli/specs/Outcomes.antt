@@ -5,6 +5,7 @@ use Rattle.arch_model.specs.declared.answer.Answer.{Answer}
 use Rattle.arch_model.specs.declared.answer.Answer.TheVariants as answer
 use Rattle.arch_model.specs.declared.opening.OpenRefusal.{OpenRefusal}
 use Rattle.arch_model.specs.declared.opening.OpenRefusal.TheVariants as refusal
+use Rattle.disk_model.specs.declared.name.FileName.{FileName}
 use Rattle.archive_cli.specs.declared.outcome.Outcome.{Outcome}
 use Rattle.archive_cli.specs.declared.outcome.Outcome.TheVariants.{Made, Exists, Reindexed, Checked, Answered, Unopened}
 use Rattle.archive_cli.specs.declared.status.Status.{Status}
@@ -19,10 +20,20 @@ abbrev pub checked_line : ℕ → ℕ → ℕ → List ℕ
 checked_line entries live next = codes "entries " ++ (decimal entries
     ++ (codes " live " ++ (decimal live ++ (codes " next " ++ decimal next))))
 
+-- The line of a damaged file, and the offset of the damage.
+abbrev pub damage_line : FileName → ℕ → List ℕ
+damage_line file at = codes "damaged " ++ (file_words file ++ 32 ∷ decimal at)
+
+-- The line of an answer to a command. That of damage has no number in front, as where an opening finds
+-- it.
+abbrev pub reply_line : Answer → List ℕ
+reply_line (answer.Damaged file at) = damage_line file at
+reply_line other = answer_line other
+
 -- The line of an archive that could not be opened.
 abbrev pub refusal_line : OpenRefusal → List ℕ
 refusal_line refusal.NoArchive = codes "no archive"
-refusal_line (refusal.Damaged file at) = codes "damaged " ++ (file_words file ++ 32 ∷ decimal at)
+refusal_line (refusal.Damaged file at) = damage_line file at
 refusal_line refusal.DiskFault = answer_line answer.DiskFault
 refusal_line refusal.NoMemory = answer_line answer.NoMemory
 
@@ -32,7 +43,7 @@ outcome_line (Made name) = codes "made " ++ name
 outcome_line Exists = codes "exists"
 outcome_line (Reindexed live) = reindexed_line live
 outcome_line (Checked entries live next) = checked_line entries live next
-outcome_line (Answered reply) = answer_line reply
+outcome_line (Answered reply) = reply_line reply
 outcome_line (Unopened why) = refusal_line why
 
 -- The status for an answer. A message that is there already is done.

@@ -1,5 +1,5 @@
 -- What a run of the program ends with: its status, and all that it prints.
-use Rattle.std.specs.Prelude.{◌≡◌, ◌≢◌, ◌<◌, ◌≤◌, ◌⊎◌, ◌+◌, ℕ, min, max, List, [], ◌++◌, length, take, codes, decimal, Option, Some, None, MatchOption}
+use Rattle.std.specs.Prelude.{◌≡◌, ◌<◌, ◌≤◌, ◌⊎◌, ◌+◌, ℕ, min, max, List, [], ◌++◌, length, take, codes, decimal, Option, Some, None, MatchOption}
 use Rattle.arch_base.specs.Counts.{Rose}
 use Rattle.arch_base.specs.declared.config.Config.{Config}
 use Rattle.disk_model.specs.Disk.{Files, Content, WhereTold, LeavesOnly}
@@ -10,14 +10,18 @@ use Rattle.edge_io.specs.Scripts.{Arrival, IsScript, IsBad}
 use Rattle.arch_model.specs.Archives.{Archive, empty_archive}
 use Rattle.arch_model.specs.Delivery.{Done}
 use Rattle.arch_model.specs.Standing.{Standing}
-use Rattle.arch_model.specs.declared.answer.Answer.TheVariants as answer
+use Rattle.arch_model.specs.declared.answer.Answer.{Answer}
 use Rattle.arch_model.specs.declared.opening.OpenRefusal.TheVariants as opening
 use Rattle.epoch_store.specs.Files.{as_read}
 use Rattle.epoch_store.specs.First.{MakingLeaves}
 use Rattle.epoch_store.specs.Opens.{ReadsWith, SyncsAtMost}
 use Rattle.epoch_store.specs.Promises.{Way, Appends, Renews}
+use Rattle.epoch_store.specs.Stores.{View, EditsFiles, KeepsFiles}
+use Rattle.epoch_store.specs.declared.entries.StoredEntry.{StoredEntry}
+use Rattle.archive_core.specs.Commands.{AnswersDelivery, AnswersEdit, AnswersPurge, AnswersRemoval, IsEntryOf}
 use Rattle.answer_lines.specs.Lines.{whole_line}
-use Rattle.archive_cli.specs.DiskCommands.{Makes, TakesTo, ReindexesTo, ChecksTo, IsOpenedAs, IsFault, IsReply, IsReindex, IsCheck, StandsAs, TakesOn, ReindexesOn, ChecksOn, RunsOrStays, LeavesEither, LeavesUnopened, delivering, removing, purging, editing}
+use Rattle.archive_cli.specs.DiskCommands.{Makes, TakesTo, ReindexesTo, ChecksTo, IsOpenedAs, IsFault, IsReply, IsReindex, IsCheck, StandsAs, TakesOn, ReindexesOn, ChecksOn, RunsOrStays, LeavesEither, delivering, removing, purging, editing}
+use Rattle.archive_cli.specs.OpenedFiles.{CommitsIfDone, LeavesFiles}
 use Rattle.archive_cli.specs.Loading.{loaded_line}
 use Rattle.archive_cli.specs.Outcomes.{outcome_line, status_of}
 use Rattle.archive_cli.specs.Statuses.{code_of}
@@ -27,7 +31,6 @@ use Rattle.archive_cli.specs.Turns.{Transcript, TranscriptFront}
 use Rattle.archive_cli.specs.declared.words.Job.{Job}
 use Rattle.archive_cli.specs.declared.words.Job.TheVariants.{Help, Version, Replay, Load, Init, Deliver, Remove, Purge, Edit, Reindex, Check, Serve}
 use Rattle.archive_cli.specs.declared.outcome.Outcome.{Outcome}
-use Rattle.archive_cli.specs.declared.outcome.Outcome.TheVariants.{Answered}
 use Rattle.archive_cli.specs.declared.status.Status.{Status}
 use Rattle.archive_cli.specs.declared.status.Status.TheVariants as exit
 use Rattle.archive_cli.specs.declared.texts.TheConstants.{HELP, VERSION}
@@ -136,25 +139,21 @@ message_of input = take message_limit input
 abbrev pub InitActs : Config → ℕ → Option Content → Option Content → Outcome → Type 0
 InitActs config moment old new o = Makes (made_at config moment) o old new
 
--- How a command ended that changes files in such a way, and at a moment is to make this of an archive.
--- Whatever the disk stood for, it stands for what is answered.
-pub record CommandActs (way : Way) (wanted : ℕ → Archive → Done) (moment : ℕ)
-    (old new : Option Content) (o : Outcome) : Type 0 where
-  pub kind : IsReply o
+-- How a command ended that changes files in such a way, keeps these, has one of these answers, also
+-- where the disk tells nothing, and at a moment is to make this of an archive. Whatever the disk stood
+-- for, it stands for what is answered. Whatever its files held, one root is committed if the command
+-- was done, and otherwise, but for a fault of the disk, none.
+pub record CommandActs (way : Way) (keeps : View → View → Type 0) (may : Answer → Type 0)
+    (wanted : ℕ → Archive → Done) (moment : ℕ) (old new : Option Content) (o : Outcome)
+    : Type 0 where
+  pub kind : IsReply may o
   pub done : (a : Archive) (cache : List ℕ) → ReadsWith cache a old
       → TakesTo way cache a (wanted moment a) o new
-  pub stands : (s : Standing) → StandsAs s old → (t : Standing) × StandsAs t new
-      × TakesOn s old (wanted moment) o t
+  pub stands : (s : Standing) (cache : List ℕ) → StandsAs cache s old → (t : Standing)
+      × StandsAs cache t new × TakesOn s old (wanted moment) o t
   pub answer : WhereTold (λ k. IsOpenedAs (as_read k) o) old
-  pub unopened : LeavesUnopened o old new
-
--- How `deliver` of a message ended at a moment: as a command, and on the disk of an archive never
--- with the answer that a number isn't live.
-pub record DeliverActs (bytes : List ℕ) (moment : ℕ) (old new : Option Content) (o : Outcome)
-    : Type 0 where
-  pub acts : CommandActs Appends (delivering bytes) moment old new o
-  pub lives : (a : Archive) (cache : List ℕ) → ReadsWith cache a old → (number : ℕ)
-      → o ≢ Answered (answer.NotLive number)
+  pub files : LeavesFiles o old new
+  pub commits : CommitsIfDone way keeps o old new
 
 -- What a message is for: a new number, or the place of the one with a number.
 abbrev pub putting : Option ℕ → List ℕ → ℕ → Archive → Done
@@ -166,29 +165,56 @@ abbrev pub putting_way : Option ℕ → Way
 putting_way None = Appends
 putting_way (Some number) = Renews
 
+-- Which files a purge of a number keeps: those of the epochs without an entry with the text that it
+-- drops.
+abbrev pub purge_files : ℕ → View → View → Type 0
+purge_files number found made = (s : StoredEntry) × IsEntryOf found number s
+    × KeepsFiles found made s.seen.blob
+
+-- Which files an edit of a number keeps: the same, but that of the new entry may grow.
+abbrev pub edit_files : ℕ → View → View → Type 0
+edit_files number found made = (s : StoredEntry) × IsEntryOf found number s
+    × EditsFiles found made s.seen.blob
+
+-- Which files a command keeps that only appends, is said by how the root goes on.
+abbrev pub any_files : View → View → Type 0
+any_files found made = Unit {0}
+
+-- Which files that keeps.
+abbrev pub putting_files : Option ℕ → View → View → Type 0
+putting_files None = any_files
+putting_files (Some number) = edit_files number
+
+-- The answers to that.
+abbrev pub putting_answers : Option ℕ → Answer → Type 0
+putting_answers None = AnswersDelivery
+putting_answers (Some number) = AnswersEdit number
+
 -- How `deliver` of a message ended at a moment, or `edit` of a number with it.
 abbrev pub MessageActs : Option ℕ → List ℕ → ℕ → Option Content → Option Content → Outcome → Type 0
-MessageActs None bytes moment old new o = DeliverActs bytes moment old new o
-MessageActs (Some number) bytes moment old new o =
-    CommandActs Renews (editing number bytes) moment old new o
+MessageActs place bytes =
+    CommandActs (putting_way place) (putting_files place) (putting_answers place)
+    (putting place bytes)
 
 -- How `reindex` ended, at whatever moment. Whatever the disk stood for, it stands for what is
--- counted.
+-- counted. Whatever its files held, no root is committed, but for a fault of the disk.
 pub record ReindexActs (moment : ℕ) (old new : Option Content) (o : Outcome) : Type 0 where
   pub kind : IsReindex o
   pub done : (a : Archive) (cache : List ℕ) → ReadsWith cache a old → ReindexesTo cache a o new
-  pub stands : (s : Standing) → StandsAs s old → (t : Standing) × StandsAs t new
-      × ReindexesOn s old o t
+  pub stands : (s : Standing) (cache : List ℕ) → StandsAs cache s old → (t : Standing)
+      × StandsAs cache t new × ReindexesOn s old o t
   pub answer : WhereTold (λ k. IsOpenedAs (as_read k) o) old
-  pub unopened : LeavesUnopened o old new
+  pub files : LeavesFiles o old new
 
 -- How `check` ended, at whatever moment. Whatever the disk stood for, it stands for what is counted.
+-- Whatever its files held, no root is committed, but for a fault of the disk.
 pub record CheckActs (moment : ℕ) (old new : Option Content) (o : Outcome) : Type 0 where
   pub kind : IsCheck o
   pub done : (a : Archive) (cache : List ℕ) → ReadsWith cache a old → ChecksTo cache a o new
-  pub stands : (s : Standing) → StandsAs s old → (t : Standing) × StandsAs t new × ChecksOn s old o t
+  pub stands : (s : Standing) (cache : List ℕ) → StandsAs cache s old → (t : Standing)
+      × StandsAs cache t new × ChecksOn s old o t
   pub answer : WhereTold (λ k. IsOpenedAs (as_read k) o) old
-  pub unopened : LeavesUnopened o old new
+  pub files : LeavesFiles o old new
 
 -- The moments to come of a clock that isn't asked.
 abbrev pub unasked : Option Moments → Option Moments
@@ -246,13 +272,15 @@ Ends (Some (Load count seed)) input i j status printed = (status ≡ exit.Done)
 Ends (Some (Init config)) input i j status printed =
     JobEnds (InitActs config) after_first i j status printed
 Ends (Some Deliver) input i j status printed =
-    JobEnds (DeliverActs (message_of input)) after_first i j status printed
+    JobEnds (MessageActs None (message_of input)) after_first i j status printed
 Ends (Some (Remove number)) input i j status printed =
-    JobEnds (CommandActs Appends (removing number)) after_first i j status printed
+    JobEnds (CommandActs Appends any_files (AnswersRemoval number) (removing number)) after_first i j
+    status printed
 Ends (Some (Purge number)) input i j status printed =
-    JobEnds (CommandActs Renews (purging number)) after_first i j status printed
+    JobEnds (CommandActs Renews (purge_files number) (AnswersPurge number) (purging number))
+    after_first i j status printed
 Ends (Some (Edit number)) input i j status printed =
-    JobEnds (CommandActs Renews (editing number (message_of input))) after_first i j status printed
+    JobEnds (MessageActs (Some number) (message_of input)) after_first i j status printed
 Ends (Some Reindex) input i j status printed = JobEnds ReindexActs unasked i j status printed
 Ends (Some Check) input i j status printed = JobEnds CheckActs unasked i j status printed
 Ends (Some (Serve turns port)) input i j status printed = ServeEnds i j status printed

@@ -1,5 +1,5 @@
 -- How serving the archive on a disk ends, and what it does there.
-use Rattle.std.specs.Prelude.{◌≡◌, ◌≤◌, ℕ, List, [], ◌∷◌, ◌++◌, Bool, Option, Some, Ok, Err}
+use Rattle.std.specs.Prelude.{◌≡◌, ◌≤◌, ℕ, List, [], ◌∷◌, ◌++◌, Bool, Option, Some, None, Err}
 use Rattle.std.specs.List.{Contains}
 use Rattle.arch_base.specs.Counts.{RoseIf}
 use Rattle.disk_model.specs.Disk.{Content, Files, Image, LeavesOnly, Told, WhereTold}
@@ -7,27 +7,27 @@ use Rattle.edge_io.specs.Frames.{Outputs}
 use Rattle.edge_io.specs.Hosts as hosts
 use Rattle.edge_io.specs.Scripts.{Arrival}
 use Rattle.keep_course.specs.Courses.{archives_of}
+use Rattle.root_slots.specs.Between.{BetweenStays, RunsBetween}
 use Rattle.arch_model.specs.Archives.{Archive}
 use Rattle.arch_model.specs.Following.{Follows}
-use Rattle.arch_model.specs.Standing.{Standing, one_of}
+use Rattle.arch_model.specs.Standing.{Standing, standing, one_of}
 use Rattle.arch_model.specs.declared.opening.OpenRefusal.{OpenRefusal}
 use Rattle.arch_model.specs.declared.opening.OpenRefusal.TheVariants as opening
 use Rattle.epoch_store.specs.Files.{as_read}
-use Rattle.epoch_store.specs.Opens.{Opens, IsOnlySynced, ReadsWith, AllRecoverWith, SyncsAtMost}
-use Rattle.epoch_store.specs.Stores.{View}
-use Rattle.archive_core.specs.Engines.{RecoversOrBare, AllRecoverOrBare}
+use Rattle.epoch_store.specs.Opens.{Opens, IsOnlySynced, ReadsWith, AllRecoverWith, SyncsFirst, SyncsAtMost}
+use Rattle.archive_core.specs.Engines.{RecoversOrBare, AllRecoverOrBare, BetweenSince, RestsOn, RestsWith}
 use Rattle.archive_core.specs.Openings.{LeavesKindly}
 use Rattle.answer_lines.specs.Lines.{whole_line, memory_word}
 use Rattle.node_serve.specs.Ends.{EndsBy, given_after, before_all}
-use Rattle.node_serve.specs.Nodes.{outputs_asked}
+use Rattle.node_serve.specs.Nodes.{Stage, Along, GoesAnyway, AreAt, outputs_noted, places_in, world_at}
 use Rattle.node_serve.specs.Plain.{last_world}
 use Rattle.node_serve.specs.Turns.{Turn, Served, passed_in}
-use Rattle.node_serve.specs.World.{Outer, World}
+use Rattle.node_serve.specs.World.{Outer}
 use Rattle.node_serve.specs.declared.serving.ServeEnd.{ServeEnd}
 use Rattle.node_serve.specs.declared.serving.ServeEnd.TheVariants as end
 use Rattle.archive_cli.specs.DiskCommands.{StandsAs, StaysUnopened}
+use Rattle.archive_cli.specs.OpenedFiles.{OnlySettled}
 use Rattle.archive_cli.specs.Outcomes.{refusal_line, refusal_status}
-use Rattle.archive_cli.specs.Turns.{IsStart}
 use Rattle.archive_cli.specs.declared.status.Status.{Status}
 use Rattle.archive_cli.specs.declared.status.Status.TheVariants as exit
 
@@ -100,6 +100,12 @@ abbrev pub FollowOn : Archive → List Standing → Type 0
 FollowOn a [] = Unit {0}
 FollowOn a (s ∷ ss) = FollowsIn a s × FollowOn s.archive ss
 
+-- Before the first event no connection has a session, and this is outside of the node.
+pub record IsFirst {K : Type 0} (first : Stage K) (out : Outer) : Type 0 where
+  pub unopened : (c : ℕ) → (places_in first.node).session c ≡ None
+  pub count : (places_in first.node).count ≡ 0
+  pub out_is : first.out ≡ out
+
 -- A disk, by its content and by what each crash since a moment may have left.
 module _ {D : Type 0} (content : D → Option Content) (moment : D → ℕ)
     (left_since : D → ℕ → Files → Type 0) where
@@ -109,49 +115,58 @@ module _ {D : Type 0} (content : D → Option Content) (moment : D → ℕ)
     pub later : moment old ≤ moment new
     pub each : (image : Files) → left_since new (moment old) image → RecoversOrBare cache may image
 
-  -- The disk stood for the archive of a standing, or for the one in doubt there. A crash since then
-  -- leaves one of the two, or an archive of a standing after one of the acts of later turns, or one
-  -- that was in doubt there.
+  -- Each crash since a later state has left a root file with the bytes between its gates and its bodies
+  -- of one that a crash of the first state might have left.
+  pub record StaysBetween (old opened new : D) : Type 0 where
+    pub later : moment opened ≤ moment new
+    pub each : (image : Files) → left_since new (moment opened) image
+        → BetweenStays (content old) image
+
+  -- The disk stood for the archive of a standing, or for the one in doubt there; if nothing was, it had
+  -- exactly the archive's files. A crash since then leaves one of the two, or an archive of a standing
+  -- after one of the acts of later turns, or one that was in doubt there. The bytes between the gates and
+  -- the bodies of the root file stayed.
   pub record StoodFor (s : Standing) (later : List Turn) (new : D) : Type 0 where
     pub at : D
     pub stood : (cache : List ℕ) × AllRecoverOrBare cache (one_of s) (content at)
+    pub rested : s.doubt ≡ None → RestsOn s.archive (content at)
     pub crash : (cache : List ℕ) × CrashLeaves at new cache (archives_of (s ∷ passed_in later))
+    pub between : BetweenSince content moment left_since at new
 
-  -- This archive was found, and the events were taken to their end, one after another, each with its
-  -- replies over the archive of that moment.
+  -- This archive was found, and the events were taken to their end, one after another through these
+  -- stages, each with its replies over the archive of that moment.
   --
   -- Until the disk was synced, a crash leaves what it might have left before; from then on the archive
   -- that was found, or one of a standing after one of the acts, or one in doubt there. So where the disk
   -- stood for one of some archives, a crash leaves one of these, or one of the latter. Before each
   -- event, and after the last one, the disk stood for the archive of that moment, and a crash since
-  -- then leaves that one or a later one: so no acknowledged command is lost. No number names a second
-  -- message.
-  --
-  -- The host, whose records these are, was asked before each event, when all before it had been
-  -- answered, and at the end if it then answered that none is left.
-  pub record ServedOn (found : Archive) (old new : D) (arrivals : List Arrival) (i j : Hosted)
-      (none : Bool) (recorded recorded' : List Outputs → Type 0) : Type 0 where
-    pub first : World
-    pub starts : IsStart found first
-    pub first_out : first.out ≡ i.out
+  -- then leaves that one or a later one: so no acknowledged command is lost. Where nothing is in doubt
+  -- then, the disk has exactly the archive's files, and all that reads give is on it: so no text stays
+  -- that a purge dropped. At the end the cache is that with which the archive was found, or there is
+  -- none, and so it is after each crash. No number names a second message. Once the archive was opened
+  -- the bytes between the gates and the bodies of the root file stay, too.
+  pub record ServedOn (found : Archive) (old opened new : D) (arrivals : List Arrival)
+      (first : Stage D) (stages : List (Stage D)) (last : Stage D) : Type 0 where
     pub turns : List Turn
-    pub last : World
-    pub last_out : last.out ≡ j.out
-    pub served : Served arrivals first turns last
-    pub stands : (cache : List ℕ) × AllRecoverOrBare cache (one_of last.standing) (content new)
+    pub left : Standing
+    pub served : Served arrivals (world_at (standing found None) first) turns (world_at left last)
+    pub at : AreAt stages turns
+    pub stands : (cache : List ℕ) × AllRecoverOrBare cache (one_of left) (content new)
+    pub rests : left.doubt ≡ None → (cache : List ℕ) → ReadsWith cache found (content old)
+        → RestsWith cache left.archive (content new)
     pub synced : D
     pub only : Told IsOnlySynced (content old) (content synced)
     pub before : LeavesOnly moment left_since old synced (Image (content old))
-    pub after : (cache : List ℕ)
-        × CrashLeaves synced new cache (archives_of (first.standing ∷ passed_in turns))
+    pub after : (cache : List ℕ) → ReadsWith cache found (content old)
+        → CrashLeaves synced new cache (archives_of (standing found None ∷ passed_in turns))
     pub crash : (may : List (Option Archive)) (cache : List ℕ) → Contains may (Some found)
         → AllRecoverWith cache may (content old)
-        → (left : List ℕ) × CrashLeaves old new left (may ++ archives_of (passed_in turns))
+        → CrashLeaves old new cache (may ++ archives_of (passed_in turns))
+        × BetweenSince content moment left_since old new
+    pub between : StaysBetween old opened new
     pub stood : (earlier later : List Turn) → turns ≡ earlier ++ later
-        → StoodFor (last_world first earlier).standing later new
+        → StoodFor (last_world (world_at (standing found None) first) earlier).standing later new
     pub numbers : FollowOn found (passed_in turns)
-    pub records : (past : List Outputs) → recorded past
-        → recorded' (past ++ outputs_asked none first turns last)
 
   -- The archive wasn't opened. The refusal is that of the files as they read, the disk is left as it
   -- stood, and the host wasn't asked. The disk's count of faults rose exactly if it failed.
@@ -161,22 +176,41 @@ module _ {D : Type 0} (content : D → Option Content) (moment : D → ℕ)
     pub answer : WhereTold (λ k. Opens (as_read k) (Err why)) (content old)
     pub unopened : LeavesKindly why (content old) (content new)
     pub crash : SyncsAtMost content moment left_since old new
-    pub stands : (s : Standing) → StandsAs s (content old) → (t : Standing)
-        × StandsAs t (content new) × StaysUnopened s (content old) why t
+    pub between : RunsBetween content moment left_since old new
+    pub stands : (s : Standing) (cache : List ℕ) → StandsAs cache s (content old) → (t : Standing)
+        × StandsAs cache t (content new) × StaysUnopened s (content old) why t
     pub cause : RoseIf (why ≡ opening.DiskFault) i.out.disk j.out.disk
     pub records : (past : List Outputs) → recorded past → recorded' past
 
-  -- The archive was opened, and serving took these events and ended by them. They were served over the
-  -- archive as which the files read, whatever its cache.
+  -- The archive was opened, which synced the disk, and then settled it by the root that was found. At
+  -- each moment of that the bytes between the gates and the bodies of the root file stay. Then serving
+  -- took these events and ended by them, each from one stage to the next. Whatever the disk held, as
+  -- where a file was found damaged, an event changed nothing of other connections, and only a piece used
+  -- the disk. The events were served over the archive as which the files read, whatever its cache.
+  --
+  -- The host, whose records these are, was asked before each event, when all before it had been
+  -- answered, and at the end if it then answered that none is left.
   pub record ServedBy (how : ServeEnd) (turns : ℕ) (old new : D) (i j : Hosted)
       (recorded recorded' : List Outputs → Type 0) : Type 0 where
     pub arrivals : List Arrival
     pub took : TookFrom arrivals i j
     pub none : Bool
     pub ends : EndsBy how none arrivals turns j.left i.faults j.faults
-    pub answer : WhereTold (λ k. (v : View) × Opens (as_read k) (Ok v)) (content old)
+    pub opened : D
+    pub settles : OnlySettled (content old) (content opened)
+    pub crash : SyncsFirst content moment left_since old opened
+    pub between : RunsBetween content moment left_since old opened
+    pub first : Stage D
+    pub begins : IsFirst first i.out
+    pub stages : List (Stage D)
+    pub last : Stage D
+    pub last_disk : last.node.keep ≡ new
+    pub last_out : last.out ≡ j.out
+    pub anyway : Along GoesAnyway arrivals first stages last
+    pub records : (past : List Outputs) → recorded past
+        → recorded' (past ++ outputs_noted none first stages last)
     pub served : (found : Archive) (cache : List ℕ) → ReadsWith cache found (content old)
-        → ServedOn found old new arrivals i j none recorded recorded'
+        → ServedOn found old opened new arrivals first stages last
 
   -- What a run of `serve` did, by how it ended.
   abbrev pub ServesDisk : ℕ → ServeRun → D → D → Hosted → Hosted → (List Outputs → Type 0)

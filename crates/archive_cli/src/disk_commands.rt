@@ -13,8 +13,10 @@ ghost use Rattle.epoch_store.specs.Files.{as_read};
 ghost use Rattle.epoch_store.specs.First.{MakingLeaves};
 ghost use Rattle.epoch_store.specs.Opens.{ReadsWith, SyncsAtMost};
 ghost use Rattle.epoch_store.specs.Stores.{View, IsStoreWith, HasSizes};
-ghost use Rattle.archive_core.specs.Commands.{DoneBy, cache_left, way_of};
-ghost use Rattle.archive_cli.specs.DiskCommands.{Makes, unmade, TakesTo, ReindexesTo, ChecksTo, IsOpenedAs, LeavesUnopened, IsReply, IsReindex, IsCheck, StandsAs, TakesOn, ReindexesOn, ChecksOn, RunsOrStays, LeavesEither, IsFault, taking};
+ghost use Rattle.root_slots.specs.Between.{RunsBetween};
+ghost use Rattle.archive_core.specs.Commands.{DoneBy, FilesFor, IsForCommand, OnDone, OnRefusal, OnlyLooks, UnlessFault, cache_left, way_of};
+ghost use Rattle.archive_cli.specs.DiskCommands.{Makes, unmade, TakesTo, ReindexesTo, ChecksTo, IsOpenedAs, IsReply, IsReindex, IsCheck, StandsAs, TakesOn, ReindexesOn, ChecksOn, RunsOrStays, LeavesEither, IsFault, taking};
+ghost use Rattle.archive_cli.specs.OpenedFiles.{CommitsIfDone, CommitsOne, LeavesFiles};
 
 use crate::outcome::Outcome;
 use arch_base::Config;
@@ -59,15 +61,18 @@ pub(crate) fn take<D: Disk>(
     requires moment { moment ≤ last_moment }
     ensures any_moment { RunsOrStays D.content D.moment D.left_since disk result.1
         (LeavesEither (way_of command.now) (taking command.now moment)) }
-    ensures stands { (s : Standing) → StandsAs s (D.content disk) → (t : Standing)
-        × StandsAs t (D.content result.1)
+    ensures between { RunsBetween D.content D.moment D.left_since disk result.1 }
+    ensures stands { (s : Standing) (cache : List ℕ) → StandsAs cache s (D.content disk)
+        → (t : Standing) × StandsAs cache t (D.content result.1)
         × TakesOn s (D.content disk) (taking command.now moment) result.0 t }
     ensures done { (a : Archive) (cache : List ℕ) → ReadsWith cache a (D.content disk)
         → TakesTo (way_of command.now) cache a (taking command.now moment a) result.0
         (D.content result.1) }
     ensures answer { WhereTold (λ k. IsOpenedAs (as_read k) result.0) (D.content disk) }
-    ensures unopened { LeavesUnopened result.0 (D.content disk) (D.content result.1) }
-    ensures kind { IsReply result.0 }
+    ensures files { LeavesFiles result.0 (D.content disk) (D.content result.1) }
+    ensures commits { CommitsIfDone (way_of command.now) (FilesFor command.now) result.0
+        (D.content disk) (D.content result.1) }
+    ensures kind { IsReply (IsForCommand command.now) result.0 }
     ensures cause { RoseIf (IsFault result.0) (D.faults disk) (D.faults result.1) }
 {
     let mut disk = disk;
@@ -99,6 +104,12 @@ fn answered<D: Disk>(
         → IsStoreWith archive cache a (D.content disk.old) → (v : View)
         × DoneBy v cache (cache_left command.now cache) a (taking command.now moment a) result
         (D.content disk.new) }
+    ensures commits { OnDone result (CommitsOne (way_of command.now) (FilesFor command.now) archive
+        (D.content disk.old) (D.content disk.new)) }
+    ensures untouched { OnRefusal result (UnlessFault result
+        (OnlyLooks D.content D.moment D.left_since disk.old disk.new)) }
+    ensures between { RunsBetween D.content D.moment D.left_since disk.old disk.new }
+    ensures for_command { IsForCommand command.now result }
     ensures cause { RoseIf (result ≡ Answer.DiskFault) (D.faults disk.old) (D.faults disk.new) }
 {
     if !archive.has_next_root() {
@@ -115,12 +126,14 @@ fn answered<D: Disk>(
 /// outlives a run, so it is opened and counted.
 pub(crate) fn reindex<D: Disk>(alloc: Global, disk: D) -> (Outcome, D)
     ensures any_moment { SyncsAtMost D.content D.moment D.left_since disk result.1 }
-    ensures stands { (s : Standing) → StandsAs s (D.content disk) → (t : Standing)
-        × StandsAs t (D.content result.1) × ReindexesOn s (D.content disk) result.0 t }
+    ensures between { RunsBetween D.content D.moment D.left_since disk result.1 }
+    ensures stands { (s : Standing) (cache : List ℕ) → StandsAs cache s (D.content disk)
+        → (t : Standing) × StandsAs cache t (D.content result.1)
+        × ReindexesOn s (D.content disk) result.0 t }
     ensures done { (a : Archive) (cache : List ℕ) → ReadsWith cache a (D.content disk)
         → ReindexesTo cache a result.0 (D.content result.1) }
     ensures answer { WhereTold (λ k. IsOpenedAs (as_read k) result.0) (D.content disk) }
-    ensures unopened { LeavesUnopened result.0 (D.content disk) (D.content result.1) }
+    ensures files { LeavesFiles result.0 (D.content disk) (D.content result.1) }
     ensures kind { IsReindex result.0 }
     ensures cause { RoseIf (IsFault result.0) (D.faults disk) (D.faults result.1) }
 {
@@ -136,12 +149,14 @@ pub(crate) fn reindex<D: Disk>(alloc: Global, disk: D) -> (Outcome, D)
 /// Reads the whole archive on a disk, and counts its entries and live messages.
 pub(crate) fn check<D: Disk>(alloc: Global, disk: D) -> (Outcome, D)
     ensures any_moment { SyncsAtMost D.content D.moment D.left_since disk result.1 }
-    ensures stands { (s : Standing) → StandsAs s (D.content disk) → (t : Standing)
-        × StandsAs t (D.content result.1) × ChecksOn s (D.content disk) result.0 t }
+    ensures between { RunsBetween D.content D.moment D.left_since disk result.1 }
+    ensures stands { (s : Standing) (cache : List ℕ) → StandsAs cache s (D.content disk)
+        → (t : Standing) × StandsAs cache t (D.content result.1)
+        × ChecksOn s (D.content disk) result.0 t }
     ensures done { (a : Archive) (cache : List ℕ) → ReadsWith cache a (D.content disk)
         → ChecksTo cache a result.0 (D.content result.1) }
     ensures answer { WhereTold (λ k. IsOpenedAs (as_read k) result.0) (D.content disk) }
-    ensures unopened { LeavesUnopened result.0 (D.content disk) (D.content result.1) }
+    ensures files { LeavesFiles result.0 (D.content disk) (D.content result.1) }
     ensures kind { IsCheck result.0 }
     ensures cause { RoseIf (IsFault result.0) (D.faults disk) (D.faults result.1) }
 {

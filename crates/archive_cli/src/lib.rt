@@ -15,6 +15,7 @@ mod texts;
 mod words;
 
 pub use laws::{plain_is_transcript, runs_in_a_row};
+pub use outcome::say_reply;
 pub use playing::{CountedKeep, play_script};
 pub use program::{print_no_memory, run};
 pub use status::Status;

@@ -2,7 +2,7 @@
 ghost use Rattle.std.specs.Prelude.{◌≡◌, ◌++◌, codes, decimal};
 ghost use Rattle.edge_io.specs.Phrases.{Says};
 ghost use Rattle.answer_lines.specs.Lines.{whole_line};
-ghost use Rattle.archive_cli.specs.Outcomes.{outcome_line, refusal_line, reindexed_line, checked_line, status_of, answer_status, refusal_status};
+ghost use Rattle.archive_cli.specs.Outcomes.{outcome_line, reply_line, refusal_line, reindexed_line, checked_line, status_of, answer_status, refusal_status};
 
 use crate::status::Status;
 use answer_lines::{say_answer, say_damage, say_number};
@@ -57,7 +57,7 @@ impl Outcome {
                 live,
                 next,
             } => say_checked(*entries, *live, *next, out),
-            Outcome::Answered(answer) => say_answer(*answer, out),
+            Outcome::Answered(answer) => say_reply(*answer, out),
             Outcome::Unopened(refusal) => say_refusal(refusal, out),
         }
     }
@@ -129,6 +129,19 @@ fn say_numbers<O: Sink>(live: u32, next: u32, out: &mut O) -> Result<(), SinkFau
     say(b" live ", out)?;
     say(buffer.format(live).as_bytes(), out)?;
     say_number(b" next ", u64::from(next), out)
+}
+
+/// Writes the line of an answer to a command: of damage that it found the line of a damaged file,
+/// without a number in front.
+pub fn say_reply<O: Sink>(answer: Answer, out: &mut O) -> Result<(), SinkFault>
+    ensures said { Says (whole_line (reply_line answer)) (O.taken out.old) (O.faults out.old)
+        (O.taken out.new) (O.faults out.new) result }
+    ensures sink { O.alike out.old out.new }
+{
+    match answer {
+        Answer::Damaged { file, at } => say_damage(file, at, out),
+        _ => say_answer(answer, out),
+    }
 }
 
 /// Writes why an archive could not be opened.

@@ -1,14 +1,17 @@
 //! All that the program does, over the disk, host, input, output and clock that it is given.
-ghost use Rattle.std.specs.Prelude.{◌≡◌, ◌≤◌, ◌+◌, ◌++◌, ◌⊎◌, ℕ, List, All, None, length, codes, decimal};
+ghost use Rattle.std.specs.Prelude.{◌≡◌, ◌≤◌, ◌+◌, ◌++◌, ℕ, List, All, None, length, codes, decimal};
 ghost use Rattle.disk_model.specs.Disk.{LeavesOnly};
+ghost use Rattle.root_slots.specs.Between.{RunsBetween};
 ghost use Rattle.answer_lines.specs.Lines.{whole_line};
 ghost use Rattle.archive_cli.specs.Words.{spelled, AsksFor};
 ghost use Rattle.archive_cli.specs.declared.words.Job.TheVariants.{Serve};
 ghost use Rattle.arch_base.specs.declared.config.Config.{Config};
-ghost use Rattle.archive_core.specs.Commands.{way_of};
+ghost use Rattle.arch_model.specs.declared.answer.Answer.{Answer};
+ghost use Rattle.archive_core.specs.Commands.{FilesFor, IsForCommand, way_of};
+ghost use Rattle.epoch_store.specs.Stores.{View};
 ghost use Rattle.archive_cli.specs.DiskCommands.{taking};
 ghost use Rattle.archive_cli.specs.Outcomes.{outcome_line, status_of};
-ghost use Rattle.archive_cli.specs.Program.{RanTo, AsksForMoment, TakesInput, TookAtMost, CommandActs, InitActs, InitLeaves, CommandLeaves, MessageLeaves, WordsLeave, putting, putting_way, all_edges, edges, input_limit, message_limit, made_at};
+ghost use Rattle.archive_cli.specs.Program.{RanTo, AsksForInit, AsksForMoment, TakesInput, TookAtMost, CommandActs, InitActs, InitLeaves, CommandLeaves, MessageLeaves, WordsLeave, putting, putting_answers, putting_files, putting_way, all_edges, edges, input_limit, message_limit, made_at};
 ghost use Rattle.archive_cli.specs.Printing.{Printed, Exactly, IsReplayDue, Replayed, JobDone, InputDone, RunPrinted};
 ghost use Rattle.arch_base.specs.Configs.{IsConfig};
 ghost use Rattle.archive_cli.specs.Serving.{ServeRun, ServesDisk, hosted};
@@ -56,6 +59,11 @@ pub fn run<D: Disk, H: Host, S: Source, O: Sink, C: Clock>(
     // What the job of the words does to the disk, and what a crash leaves at each moment of it.
     ensures disk { WordsLeave D.content D.moment D.left_since (spelled words.now) disk result.1
         (S.left input.old) (C.coming clock.old) }
+    // Unless an archive is made, the bytes of the root file between its gates and its bodies are at
+    // each moment as before. While one is served, the next clause says so.
+    ensures between { (AsksForInit (spelled words.now) → ⊥)
+        → ((turns port : ℕ) → AsksFor (spelled words.now) (Serve turns port) → ⊥)
+        → RunsBetween D.content D.moment D.left_since disk result.1 }
     // What serving did: the events that it took, the replies to each over the archive of that moment,
     // the disk then, what a crash leaves, and why it ended. Its status and what is printed are those
     // of how it ended, unless the output failed.
@@ -179,6 +187,7 @@ fn put_input<D: Disk, S: Source, O: Sink, C: Clock>(
     ensures few { TookAtMost message_limit (S.left input.old) (S.left input.new) }
     ensures any_moment { MessageLeaves D.content D.moment D.left_since disk result.1
         (S.left input.old) (C.coming clock.old) (putting_way place) (putting place) }
+    ensures between { RunsBetween D.content D.moment D.left_since disk result.1 }
     ensures disk_later { D.faults disk ≤ D.faults result.1 }
     ensures clock_later { C.faults clock.old ≤ C.faults clock.new }
     ensures sink { O.alike out.old out.new }
@@ -203,6 +212,9 @@ fn put_input<D: Disk, S: Source, O: Sink, C: Clock>(
 fn command_of(place: Option<u32>, message: &[u8]) -> Command<'_>
     ensures wanted { taking result ≡ putting place message.now }
     ensures way { way_of result ≡ putting_way place }
+    ensures files { (found made : View) → FilesFor result found made
+        → putting_files place found made }
+    ensures answers { (reply : Answer) → IsForCommand result reply → putting_answers place reply }
 {
     match place {
         None => Command::Deliver(message),
@@ -218,13 +230,15 @@ fn carry_out<D: Disk, O: Sink, C: Clock>(
     out: &mut O,
     clock: &mut C,
 ) -> (Status, D)
-    ensures ends { JobDone (CommandActs (way_of command.now) (taking command.now)) result.0
+    ensures ends { JobDone (CommandActs (way_of command.now) (FilesFor command.now)
+        (IsForCommand command.now) (taking command.now)) result.0
         (all_edges None 0 (O.taken out.old) (O.faults out.old) (C.coming clock.old)
         (C.faults clock.old) (D.content disk) (D.faults disk))
         (all_edges None 0 (O.taken out.new) (O.faults out.new) (C.coming clock.new)
         (C.faults clock.new) (D.content result.1) (D.faults result.1)) }
     ensures any_moment { CommandLeaves D.content D.moment D.left_since disk result.1
         (C.coming clock.old) (way_of command.now) (taking command.now) }
+    ensures between { RunsBetween D.content D.moment D.left_since disk result.1 }
     ensures disk_later { D.faults disk ≤ D.faults result.1 }
     ensures clock_later { C.faults clock.old ≤ C.faults clock.new }
     ensures sink { O.alike out.old out.new }

@@ -11,6 +11,7 @@ use arch_model::{law_of_commands, law_of_numbers};
 use archive_core::{Engine, NotOpened};
 use disk_model::Disk;
 use edge_io::{Host, Sink};
+use epoch_store::law_of_recovery;
 use node_serve::{Node, ServeEnd, serve};
 use std::alloc::Global;
 
@@ -41,6 +42,7 @@ pub(crate) fn serve_disk<D: Disk, H: Host, O: Sink>(
 {
     match Engine::open(alloc, disk) {
         Ok(engine) => {
+            law_of_recovery();
             law_of_commands();
             law_of_numbers();
             let mut node = Node::new(alloc, engine);

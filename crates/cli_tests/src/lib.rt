@@ -13,6 +13,8 @@ mod purge_tests;
 #[cfg(test)]
 mod replay_tests;
 #[cfg(test)]
+mod reply_tests;
+#[cfg(test)]
 mod run_tests;
 #[cfg(test)]
 mod serve_tests;

@@ -32,4 +32,18 @@ returns-in-Err-clause-done g c = λ a cache reads.
     unopened-checks cache a c.in-Err.why (g.D.Disk.content c.args.disk) (g.D.Disk.content c.open.new.disk) reads (c.in-Err.ensures.opened.well a cache reads) c.in-Err.ensures.refused
 
 pub returns-in-Err-clause-stands : goal.returns-in-Err-clause-stands
-returns-in-Err-clause-stands g c = λ s all. unopened-stands g.D.Disk.content g.D.Disk.moment g.D.Disk.left_since g.met.D.Disk.counts_now g.met.D.Disk.reads_fit s c.args.disk c.open.new.disk c.in-Err.why all c.in-Err.ensures.opened.any_moment c.in-Err.ensures.opened.well c.in-Err.ensures.opened.first
+returns-in-Err-clause-stands g c = λ s cache all. unopened-stands g.D.Disk.content g.D.Disk.moment g.D.Disk.left_since g.met.D.Disk.counts_now g.met.D.Disk.reads_fit s cache c.args.disk c.open.new.disk c.in-Err.why all c.in-Err.ensures.opened.before c.in-Err.ensures.opened.well c.in-Err.ensures.opened.first
+
+pub returns-in-Ok-clause-files : goal.returns-in-Ok-clause-files
+returns-in-Ok-clause-files g c =
+    let opened = c.in-Ok.ensures.opened in
+    (c.in-Ok.counted, opened.answer, opened.kept, opened.done, opened.settled)
+
+pub returns-in-Ok-clause-between : goal.returns-in-Ok-clause-between
+returns-in-Ok-clause-between g c = c.in-Ok.ensures.opened.between
+
+pub returns-in-Err-clause-files : goal.returns-in-Err-clause-files
+returns-in-Err-clause-files g c = c.in-Err.ensures.refused
+
+pub returns-in-Err-clause-between : goal.returns-in-Err-clause-between
+returns-in-Err-clause-between g c = c.in-Err.ensures.opened.between

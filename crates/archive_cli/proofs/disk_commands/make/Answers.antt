@@ -3,7 +3,7 @@ use Rattle.archive_cli.proofs.disk_commands.make.Goals as goal
 
 pub returns-in-Ok-clause-made : goal.returns-in-Ok-clause-made
 returns-in-Ok-clause-made g c = rw c.into_disk.ensures
-    (made-makes c.args.config.now c.copy.result c.in-Ok.engine.view (g.D.Disk.content c.args.disk) (g.D.Disk.content c.in-Ok.engine.disk) c.copy.ensures c.in-Ok.ensures.made.answer c.in-Ok.ensures.made.done)
+    (made-makes c.args.config.now c.copy.result c.in-Ok.engine.view (g.D.Disk.content c.args.disk) (g.D.Disk.content c.in-Ok.engine.disk) c.copy.ensures c.in-Ok.ensures.made.answer c.in-Ok.ensures.made.done c.in-Ok.ensures.made.rooted c.in-Ok.ensures.made.settled)
 
 pub returns-in-Ok-clause-cause : goal.returns-in-Ok-clause-cause
 returns-in-Ok-clause-cause g c = rw c.into_disk.ensures

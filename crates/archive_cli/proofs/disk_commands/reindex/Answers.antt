@@ -8,7 +8,7 @@ pub returns-in-Ok-clause-done : goal.returns-in-Ok-clause-done
 returns-in-Ok-clause-done g c = λ a cache reads.
     let store = c.in-Ok.ensures.opened.done a cache reads in
     rw c.into_disk.ensures
-    (opened-reindexes c.in-Ok.engine.view cache a (g.D.Disk.content c.in-Ok.engine.disk) c.message_count-live.result store (c.message_count-live.ensures a (cache, store, c.in-Ok.ensures.rows a cache reads)))
+    (opened-reindexes c.in-Ok.engine.view cache a (g.D.Disk.content c.in-Ok.engine.disk) c.message_count-live.result store (c.message_count-live.ensures a (cache, store, c.in-Ok.ensures.rows a cache reads, c.in-Ok.ensures.opened.settled)))
 
 pub returns-in-Ok-clause-stands : goal.returns-in-Ok-clause-stands
 returns-in-Ok-clause-stands g c = rw c.into_disk.ensures
@@ -29,4 +29,18 @@ returns-in-Err-clause-done g c = λ a cache reads.
     unopened-reindexes cache a c.in-Err.field-0.why (g.D.Disk.content c.args.disk) (g.D.Disk.content c.in-Err.field-0.disk) reads (c.in-Err.ensures.opened.well a cache reads) c.in-Err.ensures.refused
 
 pub returns-in-Err-clause-stands : goal.returns-in-Err-clause-stands
-returns-in-Err-clause-stands g c = λ s all. unopened-stands g.D.Disk.content g.D.Disk.moment g.D.Disk.left_since g.met.D.Disk.counts_now g.met.D.Disk.reads_fit s c.args.disk c.in-Err.field-0.disk c.in-Err.field-0.why all c.in-Err.ensures.opened.any_moment c.in-Err.ensures.opened.well c.in-Err.ensures.opened.first
+returns-in-Err-clause-stands g c = λ s cache all. unopened-stands g.D.Disk.content g.D.Disk.moment g.D.Disk.left_since g.met.D.Disk.counts_now g.met.D.Disk.reads_fit s cache c.args.disk c.in-Err.field-0.disk c.in-Err.field-0.why all c.in-Err.ensures.opened.before c.in-Err.ensures.opened.well c.in-Err.ensures.opened.first
+
+pub returns-in-Ok-clause-files : goal.returns-in-Ok-clause-files
+returns-in-Ok-clause-files g c =
+    let opened = c.in-Ok.ensures.opened in
+    rw c.into_disk.ensures (c.in-Ok.engine.view, opened.answer, opened.kept, opened.done, opened.settled)
+
+pub returns-in-Ok-clause-between : goal.returns-in-Ok-clause-between
+returns-in-Ok-clause-between g c = rw c.into_disk.ensures c.in-Ok.ensures.opened.between
+
+pub returns-in-Err-clause-files : goal.returns-in-Err-clause-files
+returns-in-Err-clause-files g c = c.in-Err.ensures.refused
+
+pub returns-in-Err-clause-between : goal.returns-in-Err-clause-between
+returns-in-Err-clause-between g c = c.in-Err.ensures.opened.between

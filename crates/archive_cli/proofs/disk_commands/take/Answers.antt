@@ -1,6 +1,7 @@
-use Rattle.archive_core.specs.Commands.{way_of}
+use Rattle.archive_core.specs.Commands.{FilesFor, way_of}
 use Rattle.archive_cli.specs.DiskCommands.{taking}
 use Rattle.archive_cli.proofs.OnDisk.{unopened-takes, unopened-stands, taken-stands, taken-runs, unopened-runs, answered-cause, refused-cause}
+use Rattle.archive_cli.proofs.Committing.{opened-between, opened-commits, opened-refused, opened-some}
 use Rattle.archive_cli.proofs.disk_commands.take.Goals as goal
 
 pub returns-in-Ok-clause-any_moment : goal.returns-in-Ok-clause-any_moment
@@ -24,8 +25,32 @@ pub returns-in-Err-clause-any_moment : goal.returns-in-Err-clause-any_moment
 returns-in-Err-clause-any_moment g c = unopened-runs g.D.Disk.content g.D.Disk.moment g.D.Disk.left_since g.met.D.Disk.counts_now g.met.D.Disk.reads_fit c.args.disk c.open.new.disk (way_of c.args.command.now) (taking c.args.command.now c.args.moment) c.in-Err.ensures.opened.before
 
 pub returns-in-Err-clause-stands : goal.returns-in-Err-clause-stands
-returns-in-Err-clause-stands g c = λ s all. unopened-stands g.D.Disk.content g.D.Disk.moment g.D.Disk.left_since g.met.D.Disk.counts_now g.met.D.Disk.reads_fit s c.args.disk c.open.new.disk c.in-Err.why all c.in-Err.ensures.opened.any_moment c.in-Err.ensures.opened.well c.in-Err.ensures.opened.first
+returns-in-Err-clause-stands g c = λ s cache all. unopened-stands g.D.Disk.content g.D.Disk.moment g.D.Disk.left_since g.met.D.Disk.counts_now g.met.D.Disk.reads_fit s cache c.args.disk c.open.new.disk c.in-Err.why all c.in-Err.ensures.opened.before c.in-Err.ensures.opened.well c.in-Err.ensures.opened.first
 
 pub returns-in-Err-clause-done : goal.returns-in-Err-clause-done
 returns-in-Err-clause-done g c = λ a cache reads.
     unopened-takes (way_of c.args.command.now) cache a (taking c.args.command.now c.args.moment a) c.in-Err.why (g.D.Disk.content c.args.disk) (g.D.Disk.content c.open.new.disk) reads (c.in-Err.ensures.opened.well a cache reads) c.in-Err.ensures.refused
+
+pub returns-in-Ok-clause-files : goal.returns-in-Ok-clause-files
+returns-in-Ok-clause-files g c =
+    let opened = c.in-Ok.ensures.opened in
+    opened-refused g.D.Disk.content g.D.Disk.moment g.D.Disk.left_since (g.D.Disk.content c.args.disk) c.open.new.disk c.answered-answer.new.disk c.answered-answer.result (c.in-Ok.archive, opened.answer, opened.kept, opened.done, opened.settled) c.answered-answer.ensures.untouched
+
+pub returns-in-Ok-clause-commits : goal.returns-in-Ok-clause-commits
+returns-in-Ok-clause-commits g c =
+    let opened = c.in-Ok.ensures.opened in
+    opened-commits (way_of c.args.command.now) (FilesFor c.args.command.now) c.in-Ok.archive (g.D.Disk.content c.args.disk) (g.D.Disk.content c.open.new.disk) (g.D.Disk.content c.answered-answer.new.disk) c.answered-answer.result opened.answer opened.kept c.answered-answer.ensures.commits
+
+pub returns-in-Ok-clause-between : goal.returns-in-Ok-clause-between
+returns-in-Ok-clause-between g c =
+    let opened = c.in-Ok.ensures.opened in
+    opened-between g.D.Disk.content g.D.Disk.moment g.D.Disk.left_since c.in-Ok.archive c.args.disk c.open.new.disk c.answered-answer.new.disk (g.met.D.Disk.reads_fit c.args.disk) opened.answer opened.kept opened.settled opened.between c.answered-answer.ensures.between
+
+pub returns-in-Err-clause-between : goal.returns-in-Err-clause-between
+returns-in-Err-clause-between g c = c.in-Err.ensures.opened.between
+
+pub returns-in-Err-clause-files : goal.returns-in-Err-clause-files
+returns-in-Err-clause-files g c = c.in-Err.ensures.refused
+
+pub returns-in-Ok-clause-answer : goal.returns-in-Ok-clause-answer
+returns-in-Ok-clause-answer g c = opened-some c.in-Ok.archive (g.D.Disk.content c.args.disk) c.in-Ok.ensures.opened.answer

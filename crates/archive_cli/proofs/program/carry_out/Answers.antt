@@ -1,7 +1,8 @@
 use Rattle.std.proofs.Common.{inl, refl}
-use Rattle.archive_core.specs.Commands.{way_of}
+use Rattle.archive_core.specs.Commands.{FilesFor, IsForCommand, way_of}
 use Rattle.archive_cli.specs.DiskCommands.{taking}
 use Rattle.archive_cli.specs.Program.{CommandActs}
+use Rattle.archive_cli.proofs.Committing.{still-between}
 use Rattle.archive_cli.proofs.Leaving.{command-first}
 use Rattle.archive_cli.proofs.Printed.{outcome-due}
 use Rattle.archive_cli.proofs.program.carry_out.Goals as goal
@@ -14,7 +15,7 @@ returns-clause-any_moment g c = (c.in-Ok.moment, c.in-Ok.ensures.first, c.take-o
 
 pub returns-clause-ends : goal.returns-clause-ends
 returns-clause-ends g c =
-    inl (outcome-due (CommandActs (way_of c.args.command.now) (taking c.args.command.now)) _ _ _ c.take-outcome.result.0 (record {
+    inl (outcome-due (CommandActs (way_of c.args.command.now) (FilesFor c.args.command.now) (IsForCommand c.args.command.now) (taking c.args.command.now)) _ _ _ c.take-outcome.result.0 (record {
       moment = c.in-Ok.moment;
       first = c.in-Ok.ensures.first;
       coming = c.in-Ok.ensures.rest;
@@ -23,10 +24,17 @@ returns-clause-ends g c =
         done = c.take-outcome.ensures.done;
         stands = c.take-outcome.ensures.stands;
         answer = c.take-outcome.ensures.answer;
-        unopened = c.take-outcome.ensures.unopened;
+        files = c.take-outcome.ensures.files;
+        commits = c.take-outcome.ensures.commits;
       };
       fault = c.take-outcome.ensures.cause.failed;
       input_kept = refl;
       clock_kept = c.in-Ok.ensures.cause.kept;
       disk_kept = c.take-outcome.ensures.cause.kept;
     }) c.print_outcome.ensures.printed)
+
+pub returns-in-Err-clause-between : goal.returns-in-Err-clause-between
+returns-in-Err-clause-between g c = still-between g.D.Disk.content g.D.Disk.moment g.D.Disk.left_since g.met.D.Disk.only_now c.args.disk
+
+pub returns-clause-between : goal.returns-clause-between
+returns-clause-between g c = c.take-outcome.ensures.between

@@ -2,13 +2,15 @@ use Rattle.std.proofs.Common.{Some, None, codes, refl, ℕ, inl, inr}
 use Rattle.answer_lines.specs.Lines.{whole_line}
 use Rattle.node_serve.specs.World.{outer}
 use Rattle.epoch_store.specs.Promises.{Appends, Renews}
+use Rattle.archive_core.specs.Commands.{AnswersPurge, AnswersRemoval}
 use Rattle.archive_cli.specs.DiskCommands.{removing, purging}
-use Rattle.archive_cli.specs.Program.{CommandActs, InitActs}
+use Rattle.archive_cli.specs.Program.{CommandActs, InitActs, any_files, purge_files}
 use Rattle.archive_cli.specs.Serving.{hosted}
 use Rattle.archive_cli.specs.Words.{spelled}
 use Rattle.archive_cli.specs.declared.words.Job.TheVariants.{Help, Version, Replay, Load, Init, Deliver, Remove, Purge, Edit, Reindex, Check, Serve}
 use Rattle.archive_cli.specs.declared.status.Status.TheVariants as exit
 use Rattle.archive_cli.specs.declared.texts.TheConstants.{HELP, VERSION}
+use Rattle.archive_cli.proofs.Committing.{still-between}
 use Rattle.archive_cli.proofs.Grammar.{replay-config, init-config, same-serve}
 use Rattle.archive_cli.proofs.Printed.{ran-exactly, ran-replayed, ran-loaded, ran-made, ran-put, ran-command, ran-reindexed, ran-checked, ran-served, job-moved, some-moment}
 use Rattle.archive_cli.proofs.ServedDisk.{shut-faults}
@@ -64,7 +66,7 @@ returns-in-Some-Reindex-clause-ends g c =
       c.print_outcome.result,
       c.code-in-Some-Reindex.ensures,
       ran-reindexed (spelled c.args.words.now) _ _ _ c.reindex-outcome.result.0 (rw c.in-Some-Reindex.field-0-is at c.in-Some-Reindex.ensures)
-          (record { moment = some.0; first = some.1; coming = refl; acts = record { kind = c.reindex-outcome.ensures.kind; done = c.reindex-outcome.ensures.done; stands = c.reindex-outcome.ensures.stands; answer = c.reindex-outcome.ensures.answer; unopened = c.reindex-outcome.ensures.unopened }; fault = c.reindex-outcome.ensures.cause.failed; input_kept = refl; clock_kept = refl; disk_kept = c.reindex-outcome.ensures.cause.kept }) c.print_outcome.ensures.printed,
+          (record { moment = some.0; first = some.1; coming = refl; acts = record { kind = c.reindex-outcome.ensures.kind; done = c.reindex-outcome.ensures.done; stands = c.reindex-outcome.ensures.stands; answer = c.reindex-outcome.ensures.answer; files = c.reindex-outcome.ensures.files }; fault = c.reindex-outcome.ensures.cause.failed; input_kept = refl; clock_kept = refl; disk_kept = c.reindex-outcome.ensures.cause.kept }) c.print_outcome.ensures.printed,
     )
 
 pub returns-in-Some-Check-clause-ends : goal.returns-in-Some-Check-clause-ends
@@ -73,7 +75,7 @@ returns-in-Some-Check-clause-ends g c =
       c.print_outcome-in-Some-Check.result,
       c.code-in-Some-Check.ensures,
       ran-checked (spelled c.args.words.now) _ _ _ c.check-outcome.result.0 (rw c.in-Some-Check.field-0-is at c.in-Some-Check.ensures)
-          (record { moment = some.0; first = some.1; coming = refl; acts = record { kind = c.check-outcome.ensures.kind; done = c.check-outcome.ensures.done; stands = c.check-outcome.ensures.stands; answer = c.check-outcome.ensures.answer; unopened = c.check-outcome.ensures.unopened }; fault = c.check-outcome.ensures.cause.failed; input_kept = refl; clock_kept = refl; disk_kept = c.check-outcome.ensures.cause.kept }) c.print_outcome-in-Some-Check.ensures.printed,
+          (record { moment = some.0; first = some.1; coming = refl; acts = record { kind = c.check-outcome.ensures.kind; done = c.check-outcome.ensures.done; stands = c.check-outcome.ensures.stands; answer = c.check-outcome.ensures.answer; files = c.check-outcome.ensures.files }; fault = c.check-outcome.ensures.cause.failed; input_kept = refl; clock_kept = refl; disk_kept = c.check-outcome.ensures.cause.kept }) c.print_outcome-in-Some-Check.ensures.printed,
     )
 
 pub returns-in-Some-Remove-clause-ends : goal.returns-in-Some-Remove-clause-ends
@@ -82,8 +84,8 @@ returns-in-Some-Remove-clause-ends g c =
     let number = c.in-Some-Remove.number in (
       c.carry_out-status.result.0,
       c.code-in-Some-Remove.ensures,
-      ran-command (spelled c.args.words.now) (Remove number) Appends (removing number) _ _ _ asked (inr (inl (number, asked))) (λ input s printed due. due)
-          (job-moved (CommandActs Appends (removing number)) c.carry_out-status.result.0 _ _ _ _ _ _ _ _ _ _ _ _ _ _ _ _ refl c.carry_out-status.ensures.ends),
+      ran-command (spelled c.args.words.now) (Remove number) Appends any_files (AnswersRemoval number) (removing number) _ _ _ asked (inr (inl (number, asked))) (λ input s printed due. due)
+          (job-moved (CommandActs Appends any_files (AnswersRemoval number) (removing number)) c.carry_out-status.result.0 _ _ _ _ _ _ _ _ _ _ _ _ _ _ _ _ refl c.carry_out-status.ensures.ends),
     )
 
 pub returns-in-Some-Serve-clause-ends : goal.returns-in-Some-Serve-clause-ends
@@ -117,8 +119,8 @@ returns-in-Some-Purge-clause-ends g c =
     let number = c.in-Some-Purge.number in (
       c.carry_out-status-in-Some-Purge.result.0,
       c.code-in-Some-Purge.ensures,
-      ran-command (spelled c.args.words.now) (Purge number) Renews (purging number) _ _ _ asked (inr (inr (number, asked))) (λ input s printed due. due)
-          (job-moved (CommandActs Renews (purging number)) c.carry_out-status-in-Some-Purge.result.0 _ _ _ _ _ _ _ _ _ _ _ _ _ _ _ _ refl c.carry_out-status-in-Some-Purge.ensures.ends),
+      ran-command (spelled c.args.words.now) (Purge number) Renews (purge_files number) (AnswersPurge number) (purging number) _ _ _ asked (inr (inr (number, asked))) (λ input s printed due. due)
+          (job-moved (CommandActs Renews (purge_files number) (AnswersPurge number) (purging number)) c.carry_out-status-in-Some-Purge.result.0 _ _ _ _ _ _ _ _ _ _ _ _ _ _ _ _ refl c.carry_out-status-in-Some-Purge.ensures.ends),
     )
 
 pub returns-in-Some-Init-clause-disk : goal.returns-in-Some-Init-clause-disk
@@ -174,3 +176,42 @@ returns-in-Some-Remove-clause-clock g c = λ none. absurd (none (inr (inr (inl (
 
 pub returns-in-Some-Purge-clause-clock : goal.returns-in-Some-Purge-clause-clock
 returns-in-Some-Purge-clause-clock g c = λ none. absurd (none (inr (inr (inr (c.in-Some-Purge.number, rw c.in-Some-Purge.field-0-is at c.in-Some-Purge.ensures)))))
+
+pub returns-in-None-clause-between : goal.returns-in-None-clause-between
+returns-in-None-clause-between g c = λ made serves. still-between g.D.Disk.content g.D.Disk.moment g.D.Disk.left_since g.met.D.Disk.only_now c.args.disk
+
+pub returns-in-Some-Help-clause-between : goal.returns-in-Some-Help-clause-between
+returns-in-Some-Help-clause-between g c = λ made serves. still-between g.D.Disk.content g.D.Disk.moment g.D.Disk.left_since g.met.D.Disk.only_now c.args.disk
+
+pub returns-in-Some-Version-clause-between : goal.returns-in-Some-Version-clause-between
+returns-in-Some-Version-clause-between g c = λ made serves. still-between g.D.Disk.content g.D.Disk.moment g.D.Disk.left_since g.met.D.Disk.only_now c.args.disk
+
+pub returns-in-Some-Replay-clause-between : goal.returns-in-Some-Replay-clause-between
+returns-in-Some-Replay-clause-between g c = λ made serves. still-between g.D.Disk.content g.D.Disk.moment g.D.Disk.left_since g.met.D.Disk.only_now c.args.disk
+
+pub returns-in-Some-Load-clause-between : goal.returns-in-Some-Load-clause-between
+returns-in-Some-Load-clause-between g c = λ made serves. still-between g.D.Disk.content g.D.Disk.moment g.D.Disk.left_since g.met.D.Disk.only_now c.args.disk
+
+pub returns-in-Some-Deliver-clause-between : goal.returns-in-Some-Deliver-clause-between
+returns-in-Some-Deliver-clause-between g c = λ made serves. c.put_input-status.ensures.between
+
+pub returns-in-Some-Remove-clause-between : goal.returns-in-Some-Remove-clause-between
+returns-in-Some-Remove-clause-between g c = λ made serves. c.carry_out-status.ensures.between
+
+pub returns-in-Some-Purge-clause-between : goal.returns-in-Some-Purge-clause-between
+returns-in-Some-Purge-clause-between g c = λ made serves. c.carry_out-status-in-Some-Purge.ensures.between
+
+pub returns-in-Some-Edit-clause-between : goal.returns-in-Some-Edit-clause-between
+returns-in-Some-Edit-clause-between g c = λ made serves. c.put_input-status-in-Some-Edit.ensures.between
+
+pub returns-in-Some-Reindex-clause-between : goal.returns-in-Some-Reindex-clause-between
+returns-in-Some-Reindex-clause-between g c = λ made serves. c.reindex-outcome.ensures.between
+
+pub returns-in-Some-Check-clause-between : goal.returns-in-Some-Check-clause-between
+returns-in-Some-Check-clause-between g c = λ made serves. c.check-outcome.ensures.between
+
+pub returns-in-Some-Init-clause-between : goal.returns-in-Some-Init-clause-between
+returns-in-Some-Init-clause-between g c = λ made serves. absurd (made (c.in-Some-Init.config, rw c.in-Some-Init.field-0-is at c.in-Some-Init.ensures))
+
+pub returns-in-Some-Serve-clause-between : goal.returns-in-Some-Serve-clause-between
+returns-in-Some-Serve-clause-between g c = λ made serves. absurd (serves c.in-Some-Serve.turns c.in-Some-Serve._port (rw c.in-Some-Serve.field-0-is at c.in-Some-Serve.ensures))

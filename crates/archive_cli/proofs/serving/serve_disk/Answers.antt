@@ -1,9 +1,12 @@
-use Rattle.std.proofs.Common.{refl, ap, ◌∙◌, ℕ}
+use Rattle.std.proofs.Common.{refl, ap, sym, subst, ◌∙◌, ◌++◌, ℕ, List}
+use Rattle.edge_io.specs.Frames.{Outputs}
 use Rattle.archive_core.specs.Engines.{Owning, store-left}
+use Rattle.node_serve.specs.Nodes.{stage}
 use Rattle.node_serve.specs.World.{outer}
 use Rattle.archive_cli.specs.Serving.{Shut, Ended}
+use Rattle.archive_cli.proofs.Committing.{opened-went}
 use Rattle.archive_cli.proofs.OnDisk.{unopened-stands}
-use Rattle.archive_cli.proofs.ServedDisk.{served-on, opened-some, shut-cause}
+use Rattle.archive_cli.proofs.ServedDisk.{disk-stage, disk-stages, anyway-disk, noted-disk, served-on, shut-cause}
 use Rattle.archive_cli.proofs.serving.serve_disk.Goals as goal
 
 pub returns-in-Ok-clause-serves : goal.returns-in-Ok-clause-serves
@@ -15,17 +18,32 @@ returns-in-Ok-clause-serves g c =
     let moment = g.D.Disk.moment in
     let left = g.D.Disk.left_since in
     let at = λ (n : ℕ). outer (g.H.Host.taken c.args.host.now) (g.H.Host.closings c.args.host.now) n (g.H.Host.lost c.args.host.now) (g.H.Host.closed_at c.args.host.now) in
-    let out = ap (λ (e : Owning g.row.D.Denot). at (g.D.Disk.faults e.disk)) c.new-node.ensures.keep ∙ ap at kept in (
+    let out = ap (λ (e : Owning g.row.D.Denot). at (g.D.Disk.faults e.disk)) c.new-node.ensures.keep ∙ ap at kept in
+    let first = stage c.new-node.result (at (g.D.Disk.faults c.new-node.result.keep.disk)) in
+    let last =
+    stage c.serve-end.new.node
+    (outer (g.H.Host.taken c.serve-end.new.host) (g.H.Host.closings c.serve-end.new.host) (g.D.Disk.faults c.serve-end.new.node.keep.disk) (g.H.Host.lost c.serve-end.new.host) (g.H.Host.closed_at c.serve-end.new.host)) in (
       Ended c.serve-end.result,
       rw (c.into_disk.ensures, c.into_keep.ensures) (record {
         arrivals = served.arrivals;
         took = record { given_is = served.given_is; left_is = served.left_is; later = c.serve-end.ensures.later };
         none = served.none;
         ends = served.ends;
-        answer = opened-some c.in-Ok.engine.view (content c.args.disk) opened.answer;
+        opened = c.in-Ok.engine.disk;
+        settles = (c.in-Ok.engine.view, opened.answer, opened.kept, opened.done, opened.settled);
+        crash = opened.first;
+        between = opened.between;
+        first = disk-stage first;
+        begins = record { unopened = c.new-node.ensures.none; count = c.new-node.ensures.count; out_is = out };
+        stages = disk-stages served.stages;
+        last = disk-stage last;
+        last_disk = refl;
+        last_out = refl;
+        anyway = anyway-disk served.arrivals first served.stages last served.anyway;
+        records = λ past noted. subst (λ (os : List Outputs). g.H.Host.recorded c.serve-end.new.host (past ++ os)) (sym (noted-disk served.none first served.stages last)) (served.records past noted);
         served = λ a cache reads.
-            served-on content moment left g.met.D.Disk.counts_now (λ e b may held has. store-left content moment left g.met.D.Disk.counts_now g.met.D.Disk.only_now e b may (held.0, held.1) has) c.law_of_numbers.ensures.itself c.law_of_commands.ensures.follows a cache
-            c.args.disk c.in-Ok.engine c.new-node.result c.serve-end.new.node served.arrivals _ _ _ served.none (g.H.Host.recorded c.args.host.now) (g.H.Host.recorded c.serve-end.new.host) c.new-node.ensures.keep c.new-node.ensures.none c.new-node.ensures.count out (opened.done a cache reads) (c.in-Ok.ensures.rows a cache reads) opened.any_moment opened.first
+            served-on content moment left g.met.D.Disk.counts_now g.met.D.Disk.only_now g.met.D.Disk.reads_fit (λ e b may held has. store-left content moment left g.met.D.Disk.counts_now g.met.D.Disk.only_now e b may (held.0, held.1) has) c.law_of_recovery.ensures.some_one c.law_of_recovery.ensures.caches c.law_of_numbers.ensures.itself c.law_of_commands.ensures.follows a cache
+            c.args.disk c.in-Ok.engine c.new-node.result c.serve-end.new.node served.arrivals served.stages _ _ c.new-node.ensures.keep (opened.done a cache reads) (c.in-Ok.ensures.rows a cache reads) opened.settled opened.first opened.between (opened-went c.in-Ok.engine.view (content c.args.disk) (content c.in-Ok.engine.disk) (g.met.D.Disk.reads_fit c.args.disk) opened.answer opened.kept opened.settled)
             (λ t fits. served.runs t fits) reads;
       }),
       c.print_end.ensures.printed,
@@ -41,7 +59,8 @@ returns-in-Err-clause-serves g c =
         answer = opened.answer;
         unopened = c.in-Err.ensures.refused;
         crash = opened.before;
-        stands = λ s all. unopened-stands g.D.Disk.content g.D.Disk.moment g.D.Disk.left_since g.met.D.Disk.counts_now g.met.D.Disk.reads_fit s c.args.disk c.in-Err.field-0.disk why all opened.any_moment opened.well opened.first;
+        between = opened.between;
+        stands = λ s cache all. unopened-stands g.D.Disk.content g.D.Disk.moment g.D.Disk.left_since g.met.D.Disk.counts_now g.met.D.Disk.reads_fit s cache c.args.disk c.in-Err.field-0.disk why all opened.before opened.well opened.first;
         cause = shut-cause (g.D.Disk.faults c.args.disk) (g.D.Disk.faults c.in-Err.field-0.disk) why opened.cause;
         records = λ past noted. noted;
       },

@@ -1,0 +1,59 @@
+-- What a run leaves of files that it opened, or couldn't open, whatever they held.
+use Rattle.std.specs.Prelude.{◌≡◌, ◌-◌, Option, Ok}
+use Rattle.disk_model.specs.Disk.{Content, Told, WhereTold}
+use Rattle.disk_model.specs.Synced.{IsSettled}
+use Rattle.root_slots.specs.Slots.{HasNewRoot}
+use Rattle.root_slots.specs.Spelling.{spelling}
+use Rattle.epoch_store.specs.Files.{as_read}
+use Rattle.epoch_store.specs.Opens.{Opens}
+use Rattle.epoch_store.specs.Promises.{Way, GoesOnBy}
+use Rattle.epoch_store.specs.Stores.{View}
+use Rattle.archive_core.specs.Commands.{OnDone, OnRefusal, UnlessFault}
+use Rattle.archive_core.specs.Openings.{LeavesKindly, SettlesOpened}
+use Rattle.archive_cli.specs.declared.outcome.Outcome.{Outcome}
+use Rattle.archive_cli.specs.declared.outcome.Outcome.TheVariants.{Made, Exists, Reindexed, Checked, Answered, Unopened}
+
+-- The files were opened, and no more was done than to settle the disk by their root: but for a copy of
+-- the root in the other slot, if the gate of that is shut, the root file is as it was. All that reads
+-- give is on the disk.
+abbrev pub OnlySettled : Option Content → Option Content → Type 0
+OnlySettled old new = SettlesOpened old new
+
+-- One root was committed after the one that was found: the root file has it in the other slot, whose
+-- gate is open, and is otherwise as it was. It goes on from the root that was found, with these of its
+-- files, and all that reads give is on the disk.
+pub record CommitsOne (way : Way) (keeps : View → View → Type 0) (found : View)
+    (old new : Option Content) : Type 0 where
+  pub made : View
+  pub kept : keeps found made
+  pub goes_on : GoesOnBy way found.root made.root
+  pub slot : made.slot ≡ 1 - found.slot
+  pub rooted : Told (HasNewRoot made.slot (spelling made.root)) old new
+  pub settled : WhereTold IsSettled new
+
+-- The same of the root of the files, which were opened.
+abbrev pub CommitsOpened : Way → (View → View → Type 0) → Option Content → Option Content → Type 0
+CommitsOpened way keeps old new = (found : View) × WhereTold (λ k. Opens (as_read k) (Ok found)) old
+    × CommitsOne way keeps found old new
+
+-- What a run leaves that commits no root. What can't be opened is left alone: without an archive, and
+-- with a damaged file, all files are synced and nothing more, also out of memory. Out of memory the
+-- files still read as the same archive. What was opened is settled, and nothing more. Nothing is said
+-- of a fault of the disk, of a command that was done, and of an archive that was to be made.
+abbrev pub LeavesFiles : Outcome → Option Content → Option Content → Type 0
+LeavesFiles (Unopened why) old new = LeavesKindly why old new
+LeavesFiles (Reindexed live) old new = OnlySettled old new
+LeavesFiles (Checked entries live next) old new = OnlySettled old new
+LeavesFiles (Answered reply) old new = OnRefusal reply (UnlessFault reply (OnlySettled old new))
+LeavesFiles (Made name) old new = Unit {0}
+LeavesFiles Exists old new = Unit {0}
+
+-- A command that was done commits one root.
+abbrev pub CommitsIfDone : Way → (View → View → Type 0) → Outcome → Option Content → Option Content
+    → Type 0
+CommitsIfDone way keeps (Answered reply) old new = OnDone reply (CommitsOpened way keeps old new)
+CommitsIfDone way keeps (Unopened why) old new = Unit {0}
+CommitsIfDone way keeps (Reindexed live) old new = Unit {0}
+CommitsIfDone way keeps (Checked entries live next) old new = Unit {0}
+CommitsIfDone way keeps (Made name) old new = Unit {0}
+CommitsIfDone way keeps Exists old new = Unit {0}
