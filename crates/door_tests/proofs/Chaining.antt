@@ -8,9 +8,9 @@ use Rattle.keep_course.specs.Courses.{archives_of}
 use Rattle.keep_course.proofs.Courses.{all-own}
 use Rattle.door_tests.specs.Chains.{Chain}
 
-pub chained : {K : Type 0} (holds : K → Archive → Type 0) (ready : K → Bool) (leaves : K → K → List (Option Archive) → Type 0) (old one two new : K) (s t u v : Standing)
-    → Fits holds ready leaves old s → Moves holds ready leaves old s one t → Moves holds ready leaves one t two u → Moves holds ready leaves two u new v → Chain holds ready leaves old new s
-chained {K} holds ready leaves old one two new s t u v fits first second third =
+pub chained : {K : Type 0} (holds rests : K → Archive → Type 0) (ready : K → Bool) (leaves : K → K → List (Option Archive) → Type 0) (old one two new : K) (s t u v : Standing)
+    → Fits holds rests ready leaves old s → Moves holds rests ready leaves old s one t → Moves holds rests ready leaves one t two u → Moves holds rests ready leaves two u new v → Chain holds rests ready leaves old new s
+chained {K} holds rests ready leaves old one two new s t u v fits first second third =
     let two_runs : Passes leaves old two (s ∷ t ∷ u ∷ []) = passes-chain leaves old one two (s ∷ []) t (u ∷ []) first.passes second.passes in
     let all_runs : Passes leaves old new (s ∷ t ∷ u ∷ v ∷ []) = passes-chain leaves old two new (s ∷ t ∷ []) u (v ∷ []) two_runs third.passes in
     let own = all-own (s ∷ t ∷ u ∷ v ∷ []) in

@@ -7,10 +7,10 @@ use Rattle.keep_course.specs.Courses.{archives_of}
 
 -- The keeper fitted a standing, then one after each command; and a crash since the start has left the
 -- archive, or the one in doubt, of one of these.
-pub record Chain {K : Type 0} (holds : K → Archive → Type 0) (ready : K → Bool)
+pub record Chain {K : Type 0} (holds rests : K → Archive → Type 0) (ready : K → Bool)
     (leaves : K → K → List (Option Archive) → Type 0) (old new : K) (s : Standing) : Type 0 where
   pub first : Standing
   pub second : Standing
   pub third : Standing
-  pub fits : Fits holds ready leaves new third
+  pub fits : Fits holds rests ready leaves new third
   pub crash : leaves old new (archives_of (s ∷ first ∷ second ∷ third ∷ []))

@@ -1,11 +1,11 @@
 //! Streams to an archive whose disk fails or is damaged. A stale keeper is reopened before the next
 //! whole request, and not before a part of one.
 use crate::connection::archive;
-use crate::failing_keep::{Failing, FailingKeep};
 use arch_base::Numbers;
 use arch_model::Next;
 use control_door::Session;
 use edge_io::MemSink;
+use failing_archive::{Failing, FailingKeep, Unread};
 use std::alloc::Global;
 
 /// A stream that comes in one piece, and what it gets from a keeper that fails.
@@ -82,13 +82,13 @@ const STREAMS: [Stream; 22] = [
     },
     Stream {
         bytes: b"deliver 18\nMessage-ID: <a@x>\nshow 1\nshow 2\n",
-        failing: Failing::Text,
+        failing: Failing::Text(Unread::Fault, 1),
         answers: b"1 ok 1 df7a16e6b23ee491f39d84e89298f10b0d4ae4e0\n10 disk fault\n7 not live 2\n",
         next: Next::Go,
     },
     Stream {
         bytes: b"epochs\nshow 1\n",
-        failing: Failing::Epoch,
+        failing: Failing::Epoch(Unread::Fault),
         answers: b"10 disk fault\n7 not live 1\n",
         next: Next::Go,
     },
@@ -118,13 +118,13 @@ const STREAMS: [Stream; 22] = [
     },
     Stream {
         bytes: b"deliver 18\nMessage-ID: <a@x>\nshow 1\nshow 2\n",
-        failing: Failing::Damage,
+        failing: Failing::Text(Unread::Damage, 1),
         answers: b"1 ok 1 df7a16e6b23ee491f39d84e89298f10b0d4ae4e0\n11 damaged df7a16e6b23ee491f39d84e89298f10b0d4ae4e0 1d023c572ccd6f3cc82ae855343346b043adaba5\n7 not live 2\n",
         next: Next::Go,
     },
     Stream {
         bytes: b"deliver 18\nMessage-ID: <a@x>\nepochs\nshow 2\n",
-        failing: Failing::Damage,
+        failing: Failing::Epoch(Unread::Damage),
         answers: b"1 ok 1 df7a16e6b23ee491f39d84e89298f10b0d4ae4e0\n11 damaged df7a16e6b23ee491f39d84e89298f10b0d4ae4e0 1d023c572ccd6f3cc82ae855343346b043adaba5\n7 not live 2\n",
         next: Next::Go,
     },

@@ -6,8 +6,8 @@ ghost use Rattle.arch_model.specs.Standing.{Standing};
 ghost use Rattle.door_tests.specs.Chains.{Chain};
 
 use crate::connection::archive;
-use crate::failing_keep::{Failing, FailingKeep};
 use arch_model::{Answer, Command, Keep, OpenRefusal};
+use failing_archive::{Failing, FailingKeep};
 use std::alloc::Global;
 
 /// Delivers three messages at a moment, and returns the answers.
@@ -20,8 +20,8 @@ fn deliver_three<K: Keep>(
     keep: &mut K,
 ) -> (Answer, Answer, Answer)
     requires { moment ≤ last_moment }
-    ensures { (s : Standing) → Fits K.holds K.ready K.leaves keep.old s
-        → Chain K.holds K.ready K.leaves keep.old keep.new s }
+    ensures { (s : Standing) → Fits K.holds K.rests K.ready K.leaves keep.old s
+        → Chain K.holds K.rests K.ready K.leaves keep.old keep.new s }
 {
     let first = keep.command(&Command::Deliver(messages[0]), moment);
     let second = keep.command(&Command::Deliver(messages[1]), moment);

@@ -15,8 +15,6 @@ mod control_tests;
 #[cfg(test)]
 mod edge_tests;
 #[cfg(test)]
-mod failing_keep;
-#[cfg(test)]
 mod failure_tests;
 #[cfg(test)]
 mod keep_client;

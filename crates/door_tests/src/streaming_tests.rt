@@ -1,10 +1,10 @@
 //! Tests of a reader's streamed reply, over disks that fail.
 use crate::connection::archive;
-use crate::failing_keep::{Failing, FailingKeep};
 use crate::say_texts;
 use arch_base::Numbers;
 use arch_model::{Command, Keep};
 use edge_io::MemSink;
+use failing_archive::{Failing, FailingKeep, Unread};
 use mem_archive::MemArchive;
 use std::alloc::Global;
 
@@ -25,31 +25,31 @@ struct Request {
 const REQUESTS: [Request; 5] = [
     Request {
         removed: None,
-        failing: Failing::Epoch,
+        failing: Failing::Epoch(Unread::Fault),
         words: b"Message-ID: <a@x>\n\n\nMessage-ID: <b@x>\n\n\nend\n",
         goes_on: true,
     },
     Request {
         removed: Some(1),
-        failing: Failing::Epoch,
+        failing: Failing::Epoch(Unread::Fault),
         words: b"Message-ID: <b@x>\n\n\nend\n",
         goes_on: true,
     },
     Request {
         removed: None,
-        failing: Failing::Text,
+        failing: Failing::Text(Unread::Fault, 1),
         words: b"10 disk fault\n",
         goes_on: true,
     },
     Request {
         removed: None,
-        failing: Failing::Damage,
+        failing: Failing::Text(Unread::Damage, 1),
         words: b"11 damaged df7a16e6b23ee491f39d84e89298f10b0d4ae4e0 1d023c572ccd6f3cc82ae855343346b043adaba5\n",
         goes_on: true,
     },
     Request {
         removed: None,
-        failing: Failing::LaterText,
+        failing: Failing::Text(Unread::Fault, 2),
         words: b"Message-ID: <a@x>\n\n\n",
         goes_on: false,
     },

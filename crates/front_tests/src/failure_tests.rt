@@ -1,11 +1,11 @@
 //! What is said where texts can't be read, or a send is lost.
-use crate::failing_shelf::{Failing, FailingShelf};
 use crate::mails::{
     A, AFTER_ONE, LISTING, LONE_A, MOMENT, THREAD_A, archive_of_three, empty_archive,
 };
 use arch_base::Numbers;
 use arch_model::{Command, Keep, Next};
 use edge_io::MemSink;
+use failing_archive::{Failing, FailingKeep, Unread};
 use http_front::HttpSession;
 use mem_archive::MemArchive;
 use std::alloc::Global;
@@ -14,7 +14,7 @@ use std::alloc::Global;
 #[derive(Drop)]
 struct Failure {
     from: u32,
-    failing: Failing,
+    why: Unread,
     request: &'static [u8],
     reply: &'static [u8],
 }
@@ -23,81 +23,81 @@ struct Failure {
 static FAILURES: [Failure; 13] = [
     Failure {
         from: 1,
-        failing: Failing::Disk,
+        why: Unread::Fault,
         request: b"GET /list/a@x/ HTTP/1.1\r\n\r\n",
         reply: b"HTTP/1.1 500 Internal Server Error\r\nDate: Thu, 01 Feb 2024 10:03:20 GMT\r\nContent-Type: text/plain; charset=utf-8\r\nContent-Length: 11\r\nConnection: close\r\n\r\ndisk fault\n",
     },
     Failure {
         from: 1,
-        failing: Failing::Disk,
+        why: Unread::Fault,
         request: b"HEAD /list/a@x/raw HTTP/1.1\r\n\r\n",
         reply: b"HTTP/1.1 500 Internal Server Error\r\nDate: Thu, 01 Feb 2024 10:03:20 GMT\r\nContent-Type: text/plain; charset=utf-8\r\nContent-Length: 11\r\nConnection: close\r\n\r\n",
     },
     Failure {
         from: 1,
-        failing: Failing::Memory,
+        why: Unread::NoMemory,
         request: b"GET /list/a@x/raw HTTP/1.1\r\n\r\n",
         reply: b"HTTP/1.1 503 Service Unavailable\r\nDate: Thu, 01 Feb 2024 10:03:20 GMT\r\nContent-Type: text/plain; charset=utf-8\r\nContent-Length: 14\r\nConnection: close\r\n\r\nout of memory\n",
     },
     Failure {
         from: 2,
-        failing: Failing::Disk,
+        why: Unread::Fault,
         request: b"GET /list/new.atom HTTP/1.1\r\n\r\n",
         reply: b"HTTP/1.1 500 Internal Server Error\r\nDate: Thu, 01 Feb 2024 10:03:20 GMT\r\nContent-Type: text/plain; charset=utf-8\r\nContent-Length: 11\r\nConnection: close\r\n\r\ndisk fault\n",
     },
     Failure {
         from: 2,
-        failing: Failing::Memory,
+        why: Unread::NoMemory,
         request: b"GET /list/a@x/t.atom HTTP/1.1\r\n\r\n",
         reply: b"HTTP/1.1 503 Service Unavailable\r\nDate: Thu, 01 Feb 2024 10:03:20 GMT\r\nContent-Type: text/plain; charset=utf-8\r\nContent-Length: 14\r\nConnection: close\r\n\r\nout of memory\n",
     },
     Failure {
         from: 2,
-        failing: Failing::Disk,
+        why: Unread::Fault,
         request: b"GET /list/all.mbox HTTP/1.1\r\n\r\n",
         reply: b"HTTP/1.1 500 Internal Server Error\r\nDate: Thu, 01 Feb 2024 10:03:20 GMT\r\nContent-Type: text/plain; charset=utf-8\r\nContent-Length: 11\r\nConnection: close\r\n\r\ndisk fault\n",
     },
     Failure {
         from: 2,
-        failing: Failing::Memory,
+        why: Unread::NoMemory,
         request: b"GET /list/b%2F2@x/t.mbox HTTP/1.1\r\n\r\n",
         reply: b"HTTP/1.1 503 Service Unavailable\r\nDate: Thu, 01 Feb 2024 10:03:20 GMT\r\nContent-Type: text/plain; charset=utf-8\r\nContent-Length: 14\r\nConnection: close\r\n\r\nout of memory\n",
     },
     Failure {
         from: 1,
-        failing: Failing::Damage,
+        why: Unread::Damage,
         request: b"GET /list/a@x/ HTTP/1.1\r\n\r\n",
-        reply: b"HTTP/1.1 500 Internal Server Error\r\nDate: Thu, 01 Feb 2024 10:03:20 GMT\r\nContent-Type: text/plain; charset=utf-8\r\nContent-Length: 90\r\nConnection: close\r\n\r\ndamaged 1d023c572ccd6f3cc82ae855343346b043adaba5 553eb54ab0cac30f5588ebce77f475c0dee4a364\n",
+        reply: b"HTTP/1.1 500 Internal Server Error\r\nDate: Thu, 01 Feb 2024 10:03:20 GMT\r\nContent-Type: text/plain; charset=utf-8\r\nContent-Length: 90\r\nConnection: close\r\n\r\ndamaged df7a16e6b23ee491f39d84e89298f10b0d4ae4e0 1d023c572ccd6f3cc82ae855343346b043adaba5\n",
     },
     Failure {
         from: 1,
-        failing: Failing::Damage,
+        why: Unread::Damage,
         request: b"HEAD /list/a@x/raw HTTP/1.1\r\n\r\n",
         reply: b"HTTP/1.1 500 Internal Server Error\r\nDate: Thu, 01 Feb 2024 10:03:20 GMT\r\nContent-Type: text/plain; charset=utf-8\r\nContent-Length: 90\r\nConnection: close\r\n\r\n",
     },
     Failure {
         from: 1,
-        failing: Failing::Damage,
+        why: Unread::Damage,
         request: b"GET /list/a@x/raw HTTP/1.1\r\n\r\n",
-        reply: b"HTTP/1.1 500 Internal Server Error\r\nDate: Thu, 01 Feb 2024 10:03:20 GMT\r\nContent-Type: text/plain; charset=utf-8\r\nContent-Length: 90\r\nConnection: close\r\n\r\ndamaged 1d023c572ccd6f3cc82ae855343346b043adaba5 553eb54ab0cac30f5588ebce77f475c0dee4a364\n",
+        reply: b"HTTP/1.1 500 Internal Server Error\r\nDate: Thu, 01 Feb 2024 10:03:20 GMT\r\nContent-Type: text/plain; charset=utf-8\r\nContent-Length: 90\r\nConnection: close\r\n\r\ndamaged df7a16e6b23ee491f39d84e89298f10b0d4ae4e0 1d023c572ccd6f3cc82ae855343346b043adaba5\n",
     },
     Failure {
         from: 2,
-        failing: Failing::Damage,
+        why: Unread::Damage,
         request: b"GET /list/new.atom HTTP/1.1\r\n\r\n",
-        reply: b"HTTP/1.1 500 Internal Server Error\r\nDate: Thu, 01 Feb 2024 10:03:20 GMT\r\nContent-Type: text/plain; charset=utf-8\r\nContent-Length: 90\r\nConnection: close\r\n\r\ndamaged 1d023c572ccd6f3cc82ae855343346b043adaba5 553eb54ab0cac30f5588ebce77f475c0dee4a364\n",
+        reply: b"HTTP/1.1 500 Internal Server Error\r\nDate: Thu, 01 Feb 2024 10:03:20 GMT\r\nContent-Type: text/plain; charset=utf-8\r\nContent-Length: 90\r\nConnection: close\r\n\r\ndamaged df7a16e6b23ee491f39d84e89298f10b0d4ae4e0 1d023c572ccd6f3cc82ae855343346b043adaba5\n",
     },
     Failure {
         from: 2,
-        failing: Failing::Damage,
+        why: Unread::Damage,
         request: b"GET /list/a@x/t.atom HTTP/1.1\r\n\r\n",
-        reply: b"HTTP/1.1 500 Internal Server Error\r\nDate: Thu, 01 Feb 2024 10:03:20 GMT\r\nContent-Type: text/plain; charset=utf-8\r\nContent-Length: 90\r\nConnection: close\r\n\r\ndamaged 1d023c572ccd6f3cc82ae855343346b043adaba5 553eb54ab0cac30f5588ebce77f475c0dee4a364\n",
+        reply: b"HTTP/1.1 500 Internal Server Error\r\nDate: Thu, 01 Feb 2024 10:03:20 GMT\r\nContent-Type: text/plain; charset=utf-8\r\nContent-Length: 90\r\nConnection: close\r\n\r\ndamaged df7a16e6b23ee491f39d84e89298f10b0d4ae4e0 1d023c572ccd6f3cc82ae855343346b043adaba5\n",
     },
     Failure {
         from: 2,
-        failing: Failing::Damage,
+        why: Unread::Damage,
         request: b"GET /list/all.mbox HTTP/1.1\r\n\r\n",
-        reply: b"HTTP/1.1 500 Internal Server Error\r\nDate: Thu, 01 Feb 2024 10:03:20 GMT\r\nContent-Type: text/plain; charset=utf-8\r\nContent-Length: 90\r\nConnection: close\r\n\r\ndamaged 1d023c572ccd6f3cc82ae855343346b043adaba5 553eb54ab0cac30f5588ebce77f475c0dee4a364\n",
+        reply: b"HTTP/1.1 500 Internal Server Error\r\nDate: Thu, 01 Feb 2024 10:03:20 GMT\r\nContent-Type: text/plain; charset=utf-8\r\nContent-Length: 90\r\nConnection: close\r\n\r\ndamaged df7a16e6b23ee491f39d84e89298f10b0d4ae4e0 1d023c572ccd6f3cc82ae855343346b043adaba5\n",
     },
 ];
 
@@ -106,7 +106,7 @@ fn is_told(alloc: Global, failure: &Failure) -> bool {
     let Some(archive) = archive_of_three(alloc) else {
         return false;
     };
-    let mut shelf = FailingShelf::new(archive, failure.failing, failure.from);
+    let mut shelf = FailingKeep::new(archive, Failing::Text(failure.why, failure.from));
     let mut out = MemSink::new(alloc, Numbers::new(alloc));
     let mut session = HttpSession::open(alloc);
     let next = session.feed(failure.request, MOMENT, &mut shelf, &mut out);
@@ -134,7 +134,7 @@ fn is_shown(alloc: Global, request: &[u8], page: &[u8]) -> bool {
     let Some(archive) = archive_of_three(alloc) else {
         return false;
     };
-    let mut shelf = FailingShelf::new(archive, Failing::Disk, 1);
+    let mut shelf = FailingKeep::new(archive, Failing::Text(Unread::Fault, 1));
     let mut out = MemSink::new(alloc, Numbers::new(alloc));
     let mut session = HttpSession::open(alloc);
     let next = session.feed(request, MOMENT, &mut shelf, &mut out);
@@ -162,11 +162,11 @@ fn big_archive(alloc: Global) -> Option<MemArchive> {
 
 /// Returns whether the mailbox file of the big archive, whose texts from a number on can't be read,
 /// has this many bytes with its head, and the connection then continues or is closed.
-fn mailbox_has(alloc: Global, failing: Failing, from: u32, len: usize, wanted: Next) -> bool {
+fn mailbox_has(alloc: Global, why: Unread, from: u32, len: usize, wanted: Next) -> bool {
     let Some(archive) = big_archive(alloc) else {
         return false;
     };
-    let mut shelf = FailingShelf::new(archive, failing, from);
+    let mut shelf = FailingKeep::new(archive, Failing::Text(why, from));
     let mut out = MemSink::new(alloc, Numbers::new(alloc));
     let mut session = HttpSession::open(alloc);
     let request = b"GET /list/all.mbox HTTP/1.1\r\n\r\n";
@@ -176,10 +176,10 @@ fn mailbox_has(alloc: Global, failing: Failing, from: u32, len: usize, wanted: N
 
 #[test]
 fn a_mailbox_file_stops_where_a_text_is_not_read(rt: HostRuntime) {
-    assert!(rt; mailbox_has(rt.alloc(), Failing::Disk, 3, 70316, Next::Go));
-    assert!(rt; mailbox_has(rt.alloc(), Failing::Disk, 2, 70173, Next::Close));
-    assert!(rt; mailbox_has(rt.alloc(), Failing::Memory, 2, 70173, Next::Close));
-    assert!(rt; mailbox_has(rt.alloc(), Failing::Damage, 2, 70173, Next::Close));
+    assert!(rt; mailbox_has(rt.alloc(), Unread::Fault, 3, 70316, Next::Go));
+    assert!(rt; mailbox_has(rt.alloc(), Unread::Fault, 2, 70173, Next::Close));
+    assert!(rt; mailbox_has(rt.alloc(), Unread::NoMemory, 2, 70173, Next::Close));
+    assert!(rt; mailbox_has(rt.alloc(), Unread::Damage, 2, 70173, Next::Close));
 }
 
 /// Returns whether a request whose reply is lost, and another one, end the connection.

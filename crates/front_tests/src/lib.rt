@@ -3,8 +3,6 @@
 #![tactic(auto)]
 
 #[cfg(test)]
-mod failing_shelf;
-#[cfg(test)]
 mod failure_tests;
 #[cfg(test)]
 mod mails;

@@ -55,6 +55,11 @@ impl Connection {
         Some(Connection::to(alloc, two(alloc)?))
     }
 
+    /// Delivers a message, and returns whether that was carried out.
+    pub fn deliver(&mut self, message: &[u8]) -> bool {
+        is_ok(Keep::command(&mut self.archive, &Command::Deliver(message), MOMENT))
+    }
+
     /// Removes the message with a number.
     pub fn remove(&mut self, number: u32) -> bool {
         is_ok(Keep::command(&mut self.archive, &Command::Remove(number), MOMENT))

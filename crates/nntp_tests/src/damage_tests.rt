@@ -1,10 +1,10 @@
 //! A reader of an archive whose texts are damaged, and the words for what no session answers.
 use crate::connection::{MOMENT, are_lines, two};
-use crate::damaged_shelf::DamagedShelf;
 use arch_base::Numbers;
 use arch_model::{Next, OpenRefusal};
 use disk_model::{FileKind, FileName};
 use edge_io::MemSink;
+use failing_archive::{Failing, FailingKeep, Unread};
 use nntp_reader::{NntpSession, say_busy, say_no_memory, say_unopened};
 use std::alloc::Global;
 
@@ -14,7 +14,7 @@ type Case = (&'static [u8], u32, &'static [&'static [u8]], Next);
 
 /// The line that names the two ids.
 const DAMAGED: &[u8] =
-    b"403 damaged 11a11d90caea8de14e8511b3a4631b15e5de1095 9758e19362041bf478f889978378637b51c0fda9";
+    b"403 damaged df7a16e6b23ee491f39d84e89298f10b0d4ae4e0 1d023c572ccd6f3cc82ae855343346b043adaba5";
 
 /// Streams to damaged texts.
 static CASES: [Case; 4] = [
@@ -65,7 +65,7 @@ static CASES: [Case; 4] = [
 
 /// Returns whether a reader hears what a case says.
 fn is_answered(alloc: Global, case: &Case) -> Option<bool> {
-    let mut shelf = DamagedShelf::new(two(alloc)?, case.1);
+    let mut shelf = FailingKeep::new(two(alloc)?, Failing::Text(Unread::Damage, case.1));
     let mut out = MemSink::new(alloc, Numbers::new(alloc));
     let (mut session, _) = NntpSession::open(alloc, &mut out);
     out.clear();

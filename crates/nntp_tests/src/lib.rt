@@ -6,8 +6,6 @@ mod connection;
 #[cfg(test)]
 mod damage_tests;
 #[cfg(test)]
-mod damaged_shelf;
-#[cfg(test)]
 mod empty_tests;
 #[cfg(test)]
 mod failure_tests;

@@ -378,6 +378,17 @@ static LISTS: [Case; 32] = [
     (b"", b"NEWNEWS * 20240201\n", &[b"501 syntax"]),
 ];
 
+/// A message with fields on two lines, and with a MIME word in the field of its author.
+const FOLDED: &[u8] =
+    b"Received: from mx.example.net\n\tby lists.example.org; Thu, 1 Feb 2024 11:59:58 +0100\nFrom: =?UTF-8?Q?Bj=C3=B6rn?= <bob@example.net>\nTo: list@example.org\nSubject: [PATCH 1/2] fix\n\tthe build\nDate: Thu, 1 Feb 2024 11:59:57 +0100 (CET)\nMessage-ID: <p1@example.net>\nReferences: <a@x>\n <b@x>\n\n> quoted\ndiff\n";
+
+/// The reply to `OVER 1` where that is the only message.
+const FOLDED_OVERVIEW: [&[u8]; 3] = [
+    b"224 overview follows",
+    b"1\t[PATCH 1/2] fix the build\t=?UTF-8?Q?Bj=C3=B6rn?= <bob@example.net>\tThu, 1 Feb 2024 11:59:57 +0100 (CET)\t<p1@example.net>\t<a@x> <b@x>\t313\t2",
+    b".",
+];
+
 /// Returns whether a command gets its reply.
 fn is_answered(alloc: Global, case: &Case) -> Option<bool> {
     let mut connection = Connection::to_two(alloc)?;
@@ -385,6 +396,18 @@ fn is_answered(alloc: Global, case: &Case) -> Option<bool> {
     let before = connection.said();
     connection.hear(case.1);
     Some(connection.has_said(before, case.2, Next::Go))
+}
+
+/// Returns whether `OVER 1` of the folded message, which is the only one, gets its reply.
+fn is_unfolded(alloc: Global) -> Option<bool> {
+    let mut connection = Connection::to_empty(alloc)?;
+    if !connection.deliver(FOLDED) {
+        return Some(false);
+    }
+    connection.hear(GROUP);
+    let before = connection.said();
+    connection.hear(b"OVER 1\n");
+    Some(connection.has_said(before, &FOLDED_OVERVIEW, Next::Go))
 }
 
 #[test]
@@ -420,4 +443,9 @@ fn lists_are_answered(rt: HostRuntime) {
     for case in &LISTS {
         assert!(rt; is_answered(rt.alloc(), case) == Some(true));
     }
+}
+
+#[test]
+fn an_overview_unfolds_fields_and_keeps_mime_words(rt: HostRuntime) {
+    assert!(rt; is_unfolded(rt.alloc()) == Some(true));
 }

@@ -1,6 +1,8 @@
 use Rattle.arch_model.proofs.Keepers.{untold-fits}
-use Rattle.door_tests.proofs.Causes.{never-opened}
-use Rattle.door_tests.proofs.failing_keep.FailingKeepKeep.reindex.Goals as goal
+use Rattle.failing_archive.proofs.failing_keep.FailingKeepKeep.fresh.Goals as goal
+
+pub returns-then-not-self-clause-found : goal.returns-then-not-self-clause-found
+returns-then-not-self-clause-found c = λ s fits. absurd (untold-fits _ c.args.self.now s fits)
 
 pub returns-in-Opening-clause-found : goal.returns-in-Opening-clause-found
 returns-in-Opening-clause-found c = λ s fits. absurd (untold-fits _ c.args.self.now s fits)
@@ -16,6 +18,3 @@ returns-in-OpeningOfDamage-clause-found c = λ s fits. absurd (untold-fits _ c.a
 
 pub returns-in_default-clause-found : goal.returns-in_default-clause-found
 returns-in_default-clause-found c = λ s fits. absurd (untold-fits _ c.args.self.now s fits)
-
-pub returns-in_default-clause-cause : goal.returns-in_default-clause-cause
-returns-in_default-clause-cause c = never-opened _ c.reindex.result c.reindex.ensures.cause

@@ -1,6 +1,6 @@
 use Rattle.arch_model.specs.Keeping.{ending}
 use Rattle.arch_model.proofs.Keepers.{untold-fits, cause-earlier, unopened-cause}
-use Rattle.door_tests.proofs.failing_keep.FailingKeepKeep.command.Goals as goal
+use Rattle.failing_archive.proofs.failing_keep.FailingKeepKeep.command.Goals as goal
 
 pub returns-in-Ok-clause-done : goal.returns-in-Ok-clause-done
 returns-in-Ok-clause-done c = λ s fits. absurd (untold-fits _ c.args.self.now s fits)

@@ -1,5 +1,6 @@
 //! A keeper of an archive of which one kind of call fails.
-ghost use Rattle.std.specs.Prelude.{◌≡◌, ◌≤◌, ℕ, true, false, not, refl};
+ghost use Rattle.std.specs.Prelude.{◌≡◌, ◌≤◌, true, false, not, refl};
+ghost use Rattle.arch_base.specs.Counts.{Rose};
 ghost use Rattle.arch_model.specs.Keeping.{StaysReady, AnswerCause};
 ghost use Rattle.arch_model.specs.Shelves.{ReadingWhy};
 ghost use Rattle.arch_model.specs.Untold.{HoldsNone, LeavesUntold, untold-read};
@@ -10,8 +11,19 @@ use arch_model::{Answer, Command, EntryLine, Keep, OpenRefusal, Query, Row, Shel
 use disk_model::{FileKind, FileName};
 use mem_archive::MemArchive;
 
+/// Why a text or an epoch isn't read.
+#[derive(Clone, Copy, Debug, PartialEq, Eq, Drop)]
+pub enum Unread {
+    /// The disk fails.
+    Fault,
+    /// Memory runs out.
+    NoMemory,
+    /// Another text stands in its place.
+    Damage,
+}
+
 /// The call of a keeper that fails.
-#[derive(Clone, Copy, PartialEq, Eq, Drop)]
+#[derive(Clone, Copy, Debug, PartialEq, Eq, Drop)]
 pub enum Failing {
     /// A command, which is carried out or not, as the flag says.
     Command(bool),
@@ -26,14 +38,10 @@ pub enum Failing {
     /// A command, which finds a damaged epoch, and the reopening after it, which finds it, too; and so
     /// does a rebuilding.
     OpeningOfDamage,
-    /// A read of a text.
-    Text,
-    /// A read of a text but the first message's.
-    LaterText,
+    /// A read of the text of this number or a later one, or of a text by its id.
+    Text(Unread, u32),
     /// A read of an epoch.
-    Epoch,
-    /// A read of a text or of an epoch, which finds another text.
-    Damage,
+    Epoch(Unread),
 }
 
 /// The id of each text that is damaged: df7a16e6b23ee491f39d84e89298f10b0d4ae4e0.
@@ -60,8 +68,10 @@ const EPOCH: FileName = FileName {
 pub struct FailingKeep {
     archive: MemArchive,
     failing: Failing,
-    stale: bool,
-    faults: u64,
+    /// Whether it has to be reopened.
+    pub stale: bool,
+    /// How many calls of its disk failed.
+    pub faults: u64,
 }
 
 impl FailingKeep {
@@ -81,9 +91,28 @@ impl FailingKeep {
     fn fail(&mut self)
         ensures stale { self.new.stale ≡ self.old.stale }
         ensures later { self.old.faults ≤ self.new.faults }
-        ensures cause { AnswerCause self.old.faults self.new.faults Answer.DiskFault }
+        ensures rose { Rose self.old.faults self.new.faults }
     {
         self.faults = self.faults.saturating_add(1);
+    }
+
+    /// Returns why a text or an epoch isn't read, and counts the fault if the disk fails.
+    fn refuse(&mut self, why: Unread) -> TextRefusal
+        ensures stale { self.new.stale ≡ self.old.stale }
+        ensures later { self.old.faults ≤ self.new.faults }
+        ensures why { ReadingWhy self.old.faults self.new.faults result }
+    {
+        match why {
+            Unread::Fault => {
+                self.fail();
+                TextRefusal::DiskFault
+            }
+            Unread::NoMemory => TextRefusal::NoMemory,
+            Unread::Damage => TextRefusal::Damaged {
+                named: NAMED,
+                found: FOUND,
+            },
+        }
     }
 
     /// Carries out a command, or fails, as the keeper's kind says.
@@ -95,11 +124,9 @@ impl FailingKeep {
         ensures cause { AnswerCause self.old.faults self.new.faults result }
     {
         match self.failing {
-            Failing::Text | Failing::LaterText | Failing::Epoch | Failing::Damage => Keep::command(
-                &mut self.archive,
-                command,
-                moment,
-            ),
+            Failing::Text(..) | Failing::Epoch(_) => {
+                Keep::command(&mut self.archive, command, moment)
+            }
             Failing::Command(true) => {
                 let _ = Keep::command(&mut self.archive, command, moment);
                 self.stale = true;
@@ -119,16 +146,6 @@ impl FailingKeep {
                 Answer::DiskFault
             }
         }
-    }
-}
-
-/// Returns the refusal for a text in whose place another one was found.
-fn damage() -> TextRefusal
-    ensures { (faults : ℕ) → ReadingWhy faults faults result }
-{
-    TextRefusal::Damaged {
-        named: NAMED,
-        found: FOUND,
     }
 }
 
@@ -183,17 +200,19 @@ impl Shelf for FailingKeep {
         self.archive.search(query)
     }
 
+    fn search_page(&self, query: &Query, skip: u64, count: u64) -> Result<Numbers, NoMemory> {
+        self.archive.search_page(query, skip, count)
+    }
+
     fn entry(&self, index: u64) -> Option<EntryLine> {
         self.archive.entry(index)
     }
 
     fn text(&mut self, n: u32, into: &mut Bytes) -> Result<(), TextRefusal> {
-        if self.failing == Failing::Text || self.failing == Failing::LaterText && n > 1 {
-            self.fail();
-            return Err(TextRefusal::DiskFault);
-        }
-        if self.failing == Failing::Damage {
-            return Err(damage());
+        if let Failing::Text(why, from) = self.failing
+            && n >= from
+        {
+            return Err(self.refuse(why));
         }
         match self.archive.text(n) {
             None => Ok(()),
@@ -205,9 +224,8 @@ impl Shelf for FailingKeep {
     }
 
     fn blob(&mut self, id: &ObjectId, into: &mut Bytes) -> Result<bool, TextRefusal> {
-        if self.failing == Failing::Text {
-            self.fail();
-            return Err(TextRefusal::DiskFault);
+        if let Failing::Text(why, _) = self.failing {
+            return Err(self.refuse(why));
         }
         self.archive.blob(id, into)
     }
@@ -220,6 +238,8 @@ impl Shelf for FailingKeep {
 }
 
 impl Keep for FailingKeep {
+    ghost rests = { HoldsNone };
+
     ghost leaves = { LeavesUntold };
 
     fn is_stale(&self) -> bool {
@@ -279,18 +299,16 @@ impl Keep for FailingKeep {
     }
 
     fn epoch_bytes(&mut self, epoch: u32, into: &mut Bytes) -> Result<bool, TextRefusal> {
-        if self.failing == Failing::Epoch {
-            self.fail();
-            return Err(TextRefusal::DiskFault);
-        }
-        if self.failing == Failing::Damage {
-            return Err(damage());
+        if let Failing::Epoch(why) = self.failing {
+            return Err(self.refuse(why));
         }
         match self.archive.push_epoch(epoch, into) {
             Ok(found) => Ok(found),
             Err(NoMemory) => Err(TextRefusal::NoMemory),
         }
     }
+
+    ghost holds_rests = { λ k a no. no };
 
     ghost holds_left = { λ k a may no has. no };
 
