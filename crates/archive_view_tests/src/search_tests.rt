@@ -1,9 +1,12 @@
 //! Searches of archives in memory and on disks, as messages come and go, and after a reopening.
+ghost use Rattle.std.specs.Prelude.{◌≡◌, true};
+
+use arch_base::NoMemory;
 use arch_model::{Command, Keep, OpenRefusal};
 use archive_tests::{Check, answer, both_pass, on_disk, opened_passes};
 use disk_model::MemDisk;
 use epoch_tests::{LATER, MOMENT};
-use query_lang::read;
+use query_lang::{Query, read};
 use std::alloc::Global;
 use std::test::Fail;
 
@@ -102,12 +105,27 @@ static OF_OTHERS: [Search; 4] = [
     },
 ];
 
-/// Returns whether a search finds these numbers.
+/// Returns whether a search finds these numbers, and its pages have them.
 fn finds<K: Keep>(alloc: Global, keep: &mut K, search: &Search) -> Result<bool, Fail> {
     keep.fresh()?;
     let query = read(alloc, search.text)?;
     let found = keep.search(&query)?;
-    Ok(found.as_slice() == search.found)
+    let pages = has_pages(keep, &query, search.found)?;
+    Ok(found.as_slice() == search.found && pages)
+}
+
+/// Returns whether pages of a search are parts of these numbers.
+fn has_pages<K: Keep>(keep: &K, query: &Query, found: &[u64]) -> Result<bool, NoMemory>
+    requires { K.ready keep.now ≡ true }
+{
+    let mut all = true;
+    for (skip, count) in [(0, 1), (1, 1), (0, 2), (2, 201), (3, 1)] {
+        let page = keep.search_page(query, skip, count)?;
+        let rest = found.split_at(found.len().min(skip as usize)).1;
+        let wanted = rest.split_at(rest.len().min(count as usize)).0;
+        all = page.as_slice() == wanted && all;
+    }
+    Ok(all)
 }
 
 /// Delivers the mails.

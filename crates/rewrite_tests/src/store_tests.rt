@@ -6,6 +6,7 @@ ghost use Rattle.mail_reader.specs.Ids.{own_id as own_id_in};
 ghost use Rattle.epoch_store.specs.Stores.{HasSizes, MayEdit, MayPurge};
 
 use crate::entries_tests::{ALONE_COMMIT, put_two};
+use crate::map_tests::BYTES;
 use crate::plan_tests::ROOT;
 use arch_base::{Id20, ObjectId, id_of_hex};
 use disk_model::{Disk, DiskFault, FileKind, FileName, MemDisk};
@@ -195,11 +196,18 @@ fn has_files<D: Disk>(disk: &mut D, map: u64, first: u64) -> Result<bool, DiskFa
     Ok(lengths && last)
 }
 
+/// Returns whether the new map begins with the record of the number 1 without a message.
+fn begins_without_first<D: Disk>(disk: &mut D) -> Result<bool, DiskFault> {
+    let mut record = [7; 28];
+    let count = disk.read(MAP_ANEW, 0, &mut record)?;
+    Ok(count == 28 && record.as_slice() == BYTES.split_at(28).0)
+}
+
 /// Purges the first of two messages, and returns whether the second one is left, in files of its own.
 fn purges<D: Disk>(alloc: Global, disk: &mut D) -> Result<bool, Fail> {
     let (mut store, _index) = Store::open(alloc, disk)?;
     purge_first(alloc, disk, &mut store)?;
-    let files = has_files(disk, 56, 316)?;
+    let files = has_files(disk, 56, 316)? && begins_without_first(disk)?;
     Ok(files && has_second_alone(&store))
 }
 
