@@ -29,8 +29,8 @@ const ZONES: [[u8; 3]; 8] = [
 /// The minutes east of UTC of `ZONES`, in the same order.
 const ZONE_MINUTES: [i16; 8] = [-300, -240, -360, -300, -420, -360, -480, -420];
 
-/// Returns the number that two digits spell.
-fn number_of(high: u8, low: u8) -> Option<u8>
+/// Returns the number that two digits spell, or `None` if one of the two bytes is no digit.
+pub fn read_two_digits(high: u8, low: u8) -> Option<u8>
     ensures value { result ≡ number_of high low }
     ensures bound { IfSome result (λ n. n < 100) }
 {
@@ -45,8 +45,8 @@ pub fn day_of(word: &[u8]) -> Option<u8>
     ensures { result ≡ day_of word.now }
 {
     match word {
-        [low] => number_of(b'0', *low),
-        [high, low] => number_of(*high, *low),
+        [low] => read_two_digits(b'0', *low),
+        [high, low] => read_two_digits(*high, *low),
         _ => None,
     }
 }
@@ -66,8 +66,8 @@ pub fn year_of(word: &[u8]) -> Option<u16>
     let [a, b, c, d] = word else {
         return None;
     };
-    let century = number_of(*a, *b)?;
-    let year = number_of(*c, *d)?;
+    let century = read_two_digits(*a, *b)?;
+    let year = read_two_digits(*c, *d)?;
     Some(century as u16 * 100 + year as u16)
 }
 
@@ -76,9 +76,13 @@ pub fn clock_of(word: &[u8]) -> Option<Clock>
     ensures { result ≡ clock_of word.now }
 {
     match word {
-        [a, b, b':', c, d] => clock_at(number_of(*a, *b), number_of(*c, *d), Some(0)),
+        [a, b, b':', c, d] => clock_at(read_two_digits(*a, *b), read_two_digits(*c, *d), Some(0)),
         [a, b, b':', c, d, b':', e, f] => {
-            clock_at(number_of(*a, *b), number_of(*c, *d), number_of(*e, *f))
+            clock_at(
+                read_two_digits(*a, *b),
+                read_two_digits(*c, *d),
+                read_two_digits(*e, *f),
+            )
         }
         _ => None,
     }
@@ -101,7 +105,7 @@ pub fn zone_of(word: &[u8]) -> Option<i16>
     ensures bound { IfSome result IsZone }
 {
     if let [sign, a, b, c, d] = word {
-        offset_at(*sign, number_of(*a, *b), number_of(*c, *d))
+        offset_at(*sign, read_two_digits(*a, *b), read_two_digits(*c, *d))
     } else {
         named_zone(word)
     }

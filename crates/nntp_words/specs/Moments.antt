@@ -1,12 +1,7 @@
 -- Dates and times of commands (RFC 3977, section 7.3.2).
 use Rattle.std.specs.Prelude.{ℕ, ◌+◌, ◌-◌, ◌*◌, ◌/◌, min, Bool, ◌&&◌, nat_le, List, [], ◌∷◌, Option, Some, None, if◌then◌else◌, ℤ, pos, ◌+ℤ◌, ◌*ℤ◌}
-use Rattle.std.specs.Char.{is_ascii_digit}
 use Rattle.jiff_core.specs.Calendar.{days_in_month, days_from_civil}
-
--- The number that two digits spell.
-abbrev pub two_digits : ℕ → ℕ → Option ℕ
-two_digits high low =
-    if is_ascii_digit high && is_ascii_digit low then Some ((high - 48) * 10 + (low - 48)) else None
+use Rattle.mail_date.specs.Pieces.{number_of}
 
 -- The number that four digits spell, by their first and last two.
 abbrev pub four_digits : Option ℕ → Option ℕ → Option ℕ
@@ -36,9 +31,9 @@ day_in _ _ _ = None
 -- The day that a date of six or eight digits spells.
 unfoldable pub day_of : List ℕ → ℕ → Option ℤ
 day_of (a ∷ b ∷ c ∷ d ∷ e ∷ f ∷ []) this_year =
-    day_in (full_year (two_digits a b) this_year) (two_digits c d) (two_digits e f)
+    day_in (full_year (number_of a b) this_year) (number_of c d) (number_of e f)
 day_of (a ∷ b ∷ c ∷ d ∷ e ∷ f ∷ g ∷ h ∷ []) this_year =
-    day_in (four_digits (two_digits a b) (two_digits c d)) (two_digits e f) (two_digits g h)
+    day_in (four_digits (number_of a b) (number_of c d)) (number_of e f) (number_of g h)
 day_of _ this_year = None
 
 -- The second of the day of these numbers. Second 60 counts as second 59.
@@ -50,7 +45,7 @@ second_in _ _ _ = None
 
 -- The second of the day that a time of six digits spells.
 unfoldable pub second_of : List ℕ → Option ℕ
-second_of (a ∷ b ∷ c ∷ d ∷ e ∷ f ∷ []) = second_in (two_digits a b) (two_digits c d) (two_digits e f)
+second_of (a ∷ b ∷ c ∷ d ∷ e ∷ f ∷ []) = second_in (number_of a b) (number_of c d) (number_of e f)
 second_of _ = None
 
 -- The moment of a day and a second of it.

@@ -1,10 +1,11 @@
 //! Dates and times of commands.
 ghost use Rattle.std.specs.Prelude.{◌≡◌, ◌≤◌, ◌<◌, IfSome};
 ghost use Rattle.std.specs.Int.{IsInRange};
-ghost use Rattle.nntp_words.specs.Moments.{two_digits, four_digits, full_year, day_in, day_of, second_in, second_of, moment_of};
+ghost use Rattle.nntp_words.specs.Moments.{four_digits, full_year, day_in, day_of, second_in, second_of, moment_of};
 
 use jiff_core::civil;
 use jiff_core::civil::Date;
+use mail_date::read_two_digits;
 
 /// Returns the moment that a date and a time spell, in seconds since 1970 UTC (RFC 3977, section
 /// 7.3.2). It may be before 1970.
@@ -31,28 +32,17 @@ fn read_day(date: &[u8], this_year: u16) -> Option<i32>
 {
     match date {
         [a, b, c, d, e, f] => day_in(
-            full_year(two_digits(*a, *b), this_year),
-            two_digits(*c, *d),
-            two_digits(*e, *f),
+            full_year(read_two_digits(*a, *b), this_year),
+            read_two_digits(*c, *d),
+            read_two_digits(*e, *f),
         ),
         [a, b, c, d, e, f, g, h] => day_in(
-            four_digits(two_digits(*a, *b), two_digits(*c, *d)),
-            two_digits(*e, *f),
-            two_digits(*g, *h),
+            four_digits(read_two_digits(*a, *b), read_two_digits(*c, *d)),
+            read_two_digits(*e, *f),
+            read_two_digits(*g, *h),
         ),
         _ => None,
     }
-}
-
-/// Returns the number that two digits spell.
-fn two_digits(high: u8, low: u8) -> Option<u8>
-    ensures value { result ≡ two_digits high low }
-    ensures bound { IfSome result (λ n. n < 100) }
-{
-    if !high.is_ascii_digit() || !low.is_ascii_digit() {
-        return None;
-    }
-    Some((high - b'0') * 10 + (low - b'0'))
 }
 
 /// Returns the number that four digits spell, by their first and last two.
@@ -101,7 +91,11 @@ fn read_second(time: &[u8]) -> Option<u32>
 {
     match time {
         [a, b, c, d, e, f] => {
-            second_in(two_digits(*a, *b), two_digits(*c, *d), two_digits(*e, *f))
+            second_in(
+                read_two_digits(*a, *b),
+                read_two_digits(*c, *d),
+                read_two_digits(*e, *f),
+            )
         }
         _ => None,
     }

@@ -1,10 +1,10 @@
 //! Days, and ranges of days.
 ghost use Rattle.std.specs.Prelude.{◌≡◌, ◌<◌, ◌≤◌, [], ◌∷◌, length, IsTrue, IfSome};
-ghost use Rattle.mail_date.specs.Pieces.{number_of, year_of};
+ghost use Rattle.mail_date.specs.Pieces.{year_of};
 ghost use Rattle.query_lang.specs.Dates.{utc_day, from_1970, is_date, day_number, date_of, in_order, has_dots, range_of};
 
 use jiff_core::civil::{Date, days_in_month};
-use mail_date::Moment;
+use mail_date::{Moment, read_two_digits};
 
 /// The seconds of a day.
 const SECONDS_A_DAY: u64 = 86_400;
@@ -59,8 +59,8 @@ fn date_of(text: &[u8]) -> Option<u64>
         return None;
     };
     let year = year_of(*a, *b, *c, *d)?;
-    let month = number_of(*e, *f)?;
-    let day = number_of(*g, *h)?;
+    let month = read_two_digits(*e, *f)?;
+    let day = read_two_digits(*g, *h)?;
     day_number(year, month, day)
 }
 
@@ -69,20 +69,9 @@ fn year_of(a: u8, b: u8, c: u8, d: u8) -> Option<u16>
     ensures value { result ≡ year_of (a ∷ b ∷ c ∷ d ∷ []) }
     ensures bound { IfSome result (λ year. year ≤ 9999) }
 {
-    let century = number_of(a, b)?;
-    let year = number_of(c, d)?;
+    let century = read_two_digits(a, b)?;
+    let year = read_two_digits(c, d)?;
     Some(century as u16 * 100 + year as u16)
-}
-
-/// Returns the number that two digits spell.
-fn number_of(high: u8, low: u8) -> Option<u8>
-    ensures value { result ≡ number_of high low }
-    ensures bound { IfSome result (λ n. n < 100) }
-{
-    if !high.is_ascii_digit() || !low.is_ascii_digit() {
-        return None;
-    }
-    Some((high - b'0') * 10 + (low - b'0'))
 }
 
 /// Returns the number of a day, if the calendar has it and it isn't before 1970.
