@@ -6,7 +6,8 @@ ghost use Rattle.mail_forms.specs.Mailboxes.{mbox_of, quoted};
 ghost use Rattle.atom_mbox.specs.MailboxFiles.{mailbox_of, piece_len, told_len};
 
 use arch_base::{Bytes, NoMemory};
-use mail_forms::{Row, is_from_line, line_len};
+use mail_forms::{Row, is_from_line};
+use mail_reader::line_len;
 
 /// Returns the length of the mailbox file of the texts of these rows, in bytes: the sum of the lengths
 /// that the rows tell.

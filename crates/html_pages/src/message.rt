@@ -10,8 +10,8 @@ ghost use Rattle.html_pages.specs.Pages.{shown_fields, message_lines, message_of
 use crate::lines::{end_page, end_title, open_page};
 use crate::pieces::push_place;
 use arch_base::{Bytes, Name, NoMemory};
-use mail_forms::{Row, first_value};
-use mail_reader::flat;
+use mail_forms::Row;
+use mail_reader::{first_value, flat};
 use mime_words::decode;
 use std::alloc::Global;
 use web_text::{push_escaped, push_title};

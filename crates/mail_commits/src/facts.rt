@@ -1,11 +1,11 @@
 //! What a mail says of itself: its author, its subject and its date.
-ghost use Rattle.std.specs.Prelude.{◌≡◌, ◌++◌, ◌≤◌, length, drop, IfOk, IfSome, OnOk, codes, option_copied, option_map, Some};
+ghost use Rattle.std.specs.Prelude.{◌≡◌, ◌++◌, ◌≤◌, length, drop, IfOk, IfSome, OnOk, codes, option_copied, Some};
 ghost use Rattle.std.specs.List.{filter, flat_map, prefix_len, suffix_len};
 ghost use Rattle.std.specs.Str.{str_eq_ignore_ascii_case};
 ghost use Rattle.git_objects.specs.CleanText.{IsClean, is_clean_byte as clean_byte, clean as clean_of, trimmed as trimmed_of, is_space as space};
 ghost use Rattle.git_objects.specs.Commits.{IsZone};
 ghost use Rattle.mail_address.specs.Addresses.{addresses_of};
-ghost use Rattle.mail_reader.specs.Fields.{FieldText, fields_of, first_named};
+ghost use Rattle.mail_reader.specs.Fields.{fields_of};
 ghost use Rattle.mail_reader.specs.Values.{flat_of};
 ghost use Rattle.mime_words.specs.Decoding.{decoded};
 ghost use Rattle.mail_commits.specs.Commits.{written_at as written_of};
@@ -14,7 +14,7 @@ ghost use Rattle.mail_commits.specs.Facts.{from_list, after_comma, values_of, fi
 use arch_base::{Bytes, NoMemory};
 use mail_address::{Address, AddressKind, Addresses, list};
 use mail_date::{Moment, read};
-use mail_reader::{fields, flat};
+use mail_reader::{fields, first_value, flat};
 use mime_words::decode;
 use std::alloc::{AllocError, Global};
 
@@ -235,19 +235,6 @@ fn clean_flat(alloc: Global, value: &[u8]) -> Result<Bytes, NoMemory>
 {
     let value = flat(alloc, value)?;
     clean_words(alloc, value.as_slice())
-}
-
-/// Returns the value of the first field with a name.
-fn first_value<'a>(text: &'a [u8], name: &[u8]) -> Option<&'a [u8]>
-    ensures { option_copied result ≡ option_map (λ (field : FieldText).
-        field.value) (first_named name.now (fields_of text.now)) }
-{
-    for field in fields(text) {
-        if is_same_name(field.name, name) {
-            return Some(field.value);
-        }
-    }
-    None
 }
 
 /// Returns when a text was written, and in which zone, by its first Date field (RFC 5322, section

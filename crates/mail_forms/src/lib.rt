@@ -9,7 +9,7 @@ mod row;
 mod wire_form;
 
 pub use laws::{wire_len_is_sum, wire_lines_end_as_sent};
-pub use mailbox::{is_from_line, line_len, mbox_len};
-pub use named_values::{first_value, flat_first};
+pub use mailbox::{is_from_line, mbox_len};
+pub use named_values::flat_first;
 pub use row::Row;
 pub use wire_form::{line_feeds, wire, wire_len};

@@ -1,10 +1,10 @@
 //! The length of a text's piece of a mailbox file.
-ghost use Rattle.std.specs.Prelude.{◌≡◌, ◌<◌, ◌≤◌, ◌^◌, ◌∷◌, length, take, drop, count_by, if◌then◌else◌};
+ghost use Rattle.std.specs.Prelude.{◌≡◌, ◌<◌, ◌≤◌, ◌^◌, length, count_by, if◌then◌else◌};
 ghost use Rattle.std.specs.List.{prefix_len};
 ghost use Rattle.mail_reader.specs.Lines.{lines_of};
 ghost use Rattle.mail_forms.specs.Mailboxes.{mbox_of, is_from_line as from_line, is_mark as mark};
 
-use memchr::memchr;
+use mail_reader::line_len;
 
 /// The length of the line before each message, and of the empty line after it, in bytes.
 const AROUND: u64 = 40;
@@ -59,17 +59,4 @@ fn marks_before(line: &[u8]) -> usize
     ensures within { result ≤ length line.now }
 {
     line.iter().take_while(|byte| **byte == b'>').count()
-}
-
-/// Returns the length of the first line of a text that isn't empty, with its line feed.
-pub fn line_len(text: &[u8]) -> usize
-    requires { 0 < length text.now }
-    ensures some { 0 < result }
-    ensures within { result ≤ length text.now }
-    ensures lines { lines_of text.now ≡ take result text.now ∷ lines_of (drop result text.now) }
-{
-    match memchr(b'\n', text) {
-        Some(end) => end + 1,
-        None => text.len(),
-    }
 }

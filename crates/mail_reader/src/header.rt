@@ -78,8 +78,8 @@ pub(crate) fn field_len(text: &[u8]) -> Option<usize>
     Some(first + continuation_len(&text[first..]))
 }
 
-/// Returns the length of the first line of a text that isn't empty, including its line feed.
-fn line_len(text: &[u8]) -> usize
+/// Returns the length of the first line of a text that isn't empty, with its line feed.
+pub fn line_len(text: &[u8]) -> usize
     requires { 0 < length text.now }
     ensures some { 0 < result }
     ensures within { result ≤ length text.now }

@@ -16,14 +16,14 @@ mod values;
 
 pub use checking::{is_stored, stored_id};
 pub use content::content_id;
-pub use header::{Field, Fields};
+pub use header::{Field, Fields, line_len};
 pub use ids::Ids;
 pub use laws::{
     field_in_front, fields_are_front, form_is_parts, forms_are_clean, forms_are_short,
     id_line_is_kept, ids_are_pieces, ids_in_order, own_id_in_front, own_id_is_first, parts_lie_in,
     stored_once,
 };
-pub use reading::{body, fields, own_id};
+pub use reading::{body, fields, first_value, own_id};
 pub use references::refs_of;
 pub use storing::{StoredRefusal, stored};
 pub use values::flat;

@@ -1,7 +1,7 @@
 //! Reads the fields, the body and the own id of a text.
-ghost use Rattle.std.specs.Prelude.{◌≡◌, ◌≤◌, length, option_copied};
+ghost use Rattle.std.specs.Prelude.{◌≡◌, ◌≤◌, length, option_copied, option_map};
 ghost use Rattle.std.specs.Str.{str_eq_ignore_ascii_case};
-ghost use Rattle.mail_reader.specs.Fields.{fields_of};
+ghost use Rattle.mail_reader.specs.Fields.{FieldText, fields_of, first_named};
 ghost use Rattle.mail_reader.specs.Lines.{lines_of, after_header};
 ghost use Rattle.mail_reader.specs.Bodies.{body_of};
 ghost use Rattle.mail_reader.specs.Ids.{own_id};
@@ -40,6 +40,22 @@ fn after_header(text: &[u8]) -> &[u8]
         rest = rest.split_at(len).1;
     }
     rest
+}
+
+/// Returns the value of the first field with a name. Names are compared ignoring case (RFC 5322,
+/// section 1.2.2).
+///
+/// `None` if the text has no such field.
+pub fn first_value<'a>(text: &'a [u8], name: &[u8]) -> Option<&'a [u8]>
+    ensures { option_copied result ≡ option_map (λ (field : FieldText).
+        field.value) (first_named name.now (fields_of text.now)) }
+{
+    for field in Fields::of(text) {
+        if is_same_name(field.name, name) {
+            return Some(field.value);
+        }
+    }
+    None
 }
 
 /// Returns the own id of a text: the first id of its first Message-ID field (RFC 5322, section

@@ -17,8 +17,8 @@ use crate::overview::overview_line;
 use arch_base::{Bytes, NoMemory, ObjectId, Texts};
 use mail_commits::{TextIds, entry_commit};
 use mail_date::Moment;
-use mail_forms::{Row, first_value, line_feeds, mbox_len, wire_len};
-use mail_reader::{body, flat, own_id, refs_of};
+use mail_forms::{Row, line_feeds, mbox_len, wire_len};
+use mail_reader::{body, first_value, flat, own_id, refs_of};
 use mime_words::decode;
 use std::alloc::Global;
 

@@ -1,7 +1,7 @@
 //! Reads what the header of an entity says of its body.
-ghost use Rattle.std.specs.Prelude.{◌≡◌, length, take, codes, IfOk, option_copied, option_map, option_and_then};
+ghost use Rattle.std.specs.Prelude.{◌≡◌, length, take, codes, IfOk, option_and_then};
 ghost use Rattle.std.specs.Str.{str_eq_ignore_ascii_case};
-ghost use Rattle.mail_reader.specs.Fields.{FieldText, fields_of, first_named};
+ghost use Rattle.mail_reader.specs.Fields.{fields_of};
 ghost use Rattle.mail_reader.specs.Reading.{shown};
 ghost use Rattle.mime_parts.specs.Headings.{heading_of, flat_first, lower_token, type_of, encoding_name_of, encoding_of, is_attachment, shape_of, is_identity, is_digest, opaque_heading};
 ghost use Rattle.std.specs.List.{list_any};
@@ -11,7 +11,7 @@ use crate::content_type::{ContentType, read_type, split_token};
 use crate::params::{copied, is_same_name, lower};
 use crate::part::{Encoding, Shape};
 use arch_base::{Bytes, NoMemory};
-use mail_reader::{Field, fields, flat};
+use mail_reader::{Field, fields, first_value, flat};
 use std::alloc::Global;
 
 /// What the header of an entity says of its body.
@@ -103,19 +103,6 @@ fn is_identity(name: &[u8]) -> bool
     name.eq_ignore_ascii_case(b"7bit")
         || name.eq_ignore_ascii_case(b"8bit")
         || name.eq_ignore_ascii_case(b"binary")
-}
-
-/// Returns the value of the first field with a name.
-pub(crate) fn first_value<'a>(bytes: &'a [u8], name: &[u8]) -> Option<&'a [u8]>
-    ensures { option_copied result
-        ≡ option_map (λ (field : FieldText). field.value) (first_named name.now (fields_of bytes.now)) }
-{
-    for field in fields(bytes) {
-        if is_same_name(field.name, name) {
-            return Some(field.value);
-        }
-    }
-    None
 }
 
 /// Returns the type of an entity, which is the default if its header names none that can be read.

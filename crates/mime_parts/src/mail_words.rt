@@ -5,12 +5,11 @@ ghost use Rattle.mime_parts.specs.Words.{mail_words, field_words, leaf_words, pa
 ghost use Rattle.text_words.specs.Sets.{word_set as set_of};
 
 use crate::decoding::{decode_part, is_shown, read_in};
-use crate::heading::first_value;
 use crate::params::param;
 use crate::part::{Part, Shape};
 use crate::visiting::tree;
 use arch_base::{NoMemory, Texts};
-use mail_reader::flat;
+use mail_reader::{first_value, flat};
 use mime_words::decode;
 use std::alloc::Global;
 use text_words::{WordLists, push_words, word_set};

@@ -1,7 +1,8 @@
 //! Wire forms, pieces of mailbox files and first values against the rules.
 use crate::row_cases::{CASES, RowCase};
 use arch_base::{Bytes, NoMemory};
-use mail_forms::{first_value, flat_first, line_feeds, mbox_len, wire, wire_len};
+use mail_forms::{flat_first, line_feeds, mbox_len, wire, wire_len};
+use mail_reader::first_value;
 use std::alloc::Global;
 
 /// A text, and its wire form.

@@ -11,7 +11,7 @@ ghost use Rattle.wire_replies.specs.Waits.{Waits, piece_limit};
 use crate::phrase::Phrase;
 use edge_io::{Sink, SinkFault};
 use itoa::Buffer;
-use mail_forms::line_len;
+use mail_reader::line_len;
 use std::marker::Model;
 
 /// The greatest length of a piece that is written, in bytes.

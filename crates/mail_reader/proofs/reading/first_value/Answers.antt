@@ -1,7 +1,7 @@
 use Rattle.std.proofs.Common.{◌≡◌, Some, None, refl, sym, ap, ◌∙◌}
 use Rattle.mail_reader.specs.Fields.{fields_of, first_named}
 use Rattle.mail_reader.specs.Reading.{shown}
-use Rattle.mail_forms.proofs.named_values.first_value.Goals as goal
+use Rattle.mail_reader.proofs.reading.first_value.Goals as goal
 
 pub returns-then-is_same_name : goal.returns-then-is_same_name
 returns-then-is_same_name c =
