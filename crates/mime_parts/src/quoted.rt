@@ -1,10 +1,10 @@
 //! Decodes quoted-printable (RFC 2045, section 6.7).
-ghost use Rattle.std.specs.Prelude.{◌≡◌, ◌<◌, ◌∷◌, ◌++◌, length, IfOk, OnOk, IfSome};
-ghost use Rattle.mime_words.specs.Quoted.{hex_value, escape};
+ghost use Rattle.std.specs.Prelude.{◌≡◌, ◌<◌, ◌∷◌, ◌++◌, length, IfOk, OnOk};
 ghost use Rattle.mime_parts.specs.QuotedPrintable.{unquoted, line_bytes, content_bytes, decoded_escapes, trimmed};
 
 use crate::delimiters::split_line;
 use arch_base::{Bytes, NoMemory};
+use mime_words::escaped_byte;
 use std::alloc::Global;
 
 /// Returns the bytes that a text in quoted-printable encodes.
@@ -79,33 +79,8 @@ fn split_byte(text: &[u8]) -> (u8, &[u8])
     ensures bytes { decoded_escapes text.now ≡ result.0 ∷ decoded_escapes result.1.now }
     ensures shorter { length result.1.now < length text.now }
 {
-    match escape(text) {
+    match escaped_byte(text) {
         Some(byte) => (byte, &text[3..]),
         None => (text[0], &text[1..]),
-    }
-}
-
-/// Returns the byte that `=` and two digits at the front of a text encode.
-fn escape(text: &[u8]) -> Option<u8>
-    ensures { result ≡ escape text.now }
-{
-    let [b'=', high, low, ..] = text else {
-        return None;
-    };
-    let high = hex_value(*high)?;
-    let low = hex_value(*low)?;
-    Some(16 * high + low)
-}
-
-/// Returns the value of a hexadecimal digit, in either case.
-fn hex_value(digit: u8) -> Option<u8>
-    ensures value { result ≡ hex_value digit }
-    ensures bound { IfSome result (λ value. value < 16) }
-{
-    match digit {
-        b'0'..=b'9' => Some(digit - b'0'),
-        b'A'..=b'F' => Some(digit - b'A' + 10),
-        b'a'..=b'f' => Some(digit - b'a' + 10),
-        _ => None,
     }
 }

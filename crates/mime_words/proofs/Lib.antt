@@ -6,6 +6,7 @@ mod Plain
 mod Padded
 mod Spelling
 mod Quoting
+mod Escapes
 mod Outer
 mod Said
 mod Lenient

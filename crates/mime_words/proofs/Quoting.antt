@@ -3,7 +3,8 @@ use Rattle.std.proofs.Common.{◌≡◌, inl, inr, ◌<◌, ◌≤◌, ◌+◌, 
 use Rattle.std.specs.List.{list_all}
 use Rattle.std.proofs.lemmas.Bool.{eqb-true}
 use Rattle.std.proofs.lemmas.Bool.Decides.{nat_tests}
-use Rattle.mime_words.specs.Quoted.{hex_value, spelled as spelled_by, escape_or_plain, plain_byte, unquoted}
+use Rattle.hex.specs.Hex.{hex_digit_value}
+use Rattle.mime_words.specs.Quoted.{spelled as spelled_by, escape_or_plain, plain_byte, unquoted}
 use Rattle.mime_words.specs.Words.{is_text_byte}
 use Rattle.mime_words.specs.Spelled.{QuotedPart, Itself, Underscore, Digits, Equals, is_itself, IsDigit, BeginsWithDigits, HasNoDigits, LoneEqualsStays, AreQuoted, quoted_bytes, quoted_said}
 
@@ -24,58 +25,58 @@ itself_said b h =
 itself_text : (b : ℕ) → is_itself b ≡ true → is_text_byte b ≡ true
 itself_text b h = grind (arith, nat_tests)
 
-digit_by : (n c : ℕ) → IsDigit n c → (hex_value c ≡ Some n) × (is_text_byte c ≡ true)
+digit_by : (n c : ℕ) → IsDigit n c → (hex_digit_value c ≡ Some n) × (is_text_byte c ≡ true)
 digit_by n c (inl h) =
     let below : n < 10 = h.0 in
     let is : c ≡ 48 + n = h.1 in
+    let capital : (nat_le 65 c && nat_le c 70) ≡ false = grind (arith, nat_tests) in
+    let letter : (nat_le 97 c && nat_le c 102) ≡ false = grind (arith, nat_tests) in
     let figure : (nat_le 48 c && nat_le c 57) ≡ true = grind (arith, nat_tests) in
     let value : c - 48 ≡ n = omega arith in
-    (rw figure (ap Some value), grind (arith, nat_tests))
+    (rw (capital, letter, figure) (ap Some value), grind (arith, nat_tests))
 digit_by n c (inr (high, low, inl is)) =
-    let figure : (nat_le 48 c && nat_le c 57) ≡ false = grind (arith, nat_tests) in
-    let letter : (nat_le 65 c && nat_le c 70) ≡ true = grind (arith, nat_tests) in
+    let capital : (nat_le 65 c && nat_le c 70) ≡ true = grind (arith, nat_tests) in
     let value : c - 55 ≡ n = omega arith in
-    (rw (figure, letter) (ap Some value), grind (arith, nat_tests))
+    (rw capital (ap Some value), grind (arith, nat_tests))
 digit_by n c (inr (high, low, inr is)) =
-    let figure : (nat_le 48 c && nat_le c 57) ≡ false = grind (arith, nat_tests) in
     let capital : (nat_le 65 c && nat_le c 70) ≡ false = grind (arith, nat_tests) in
     let letter : (nat_le 97 c && nat_le c 102) ≡ true = grind (arith, nat_tests) in
     let value : c - 87 ≡ n = omega arith in
-    (rw (figure, capital, letter) (ap Some value), grind (arith, nat_tests))
+    (rw (capital, letter) (ap Some value), grind (arith, nat_tests))
 
 -- What is read as a digit is one.
-digit_read : (c n : ℕ) → hex_value c ≡ Some n → IsDigit n c
-digit_read c n e = step (nat_le 48 c && nat_le c 57) (nat_le 65 c && nat_le c 70) (nat_le 97 c && nat_le c 102) refl refl refl e
+digit_read : (c n : ℕ) → hex_digit_value c ≡ Some n → IsDigit n c
+digit_read c n e = step (nat_le 65 c && nat_le c 70) (nat_le 97 c && nat_le c 102) (nat_le 48 c && nat_le c 57) refl refl refl e
   where
     inside : (m : ℕ) → Some m ≡ Some n → m ≡ n
     inside m q = cc
 
-    step : (t u v : Bool) → (nat_le 48 c && nat_le c 57) ≡ t → (nat_le 65 c && nat_le c 70) ≡ u → (nat_le 97 c && nat_le c 102) ≡ v
-        → cond t (Some (c - 48)) (cond u (Some (c - 55)) (cond v (Some (c - 87)) None)) ≡ Some n → IsDigit n c
+    step : (t u v : Bool) → (nat_le 65 c && nat_le c 70) ≡ t → (nat_le 97 c && nat_le c 102) ≡ u → (nat_le 48 c && nat_le c 57) ≡ v
+        → cond t (Some (c - 55)) (cond u (Some (c - 87)) (cond v (Some (c - 48)) None)) ≡ Some n → IsDigit n c
     step true u v f g h q =
-        let value : c - 48 ≡ n = inside (c - 48) q in
-        let low : 48 ≤ c = grind (arith, nat_tests) in
-        let high : c ≤ 57 = grind (arith, nat_tests) in
-        inl (omega arith, omega arith)
-    step false true v f g h q =
         let value : c - 55 ≡ n = inside (c - 55) q in
         let low : 65 ≤ c = grind (arith, nat_tests) in
         let high : c ≤ 70 = grind (arith, nat_tests) in
         inr (omega arith, omega arith, inl (omega arith))
-    step false false true f g h q =
+    step false true v f g h q =
         let value : c - 87 ≡ n = inside (c - 87) q in
         let low : 97 ≤ c = grind (arith, nat_tests) in
         let high : c ≤ 102 = grind (arith, nat_tests) in
         inr (omega arith, omega arith, inr (omega arith))
+    step false false true f g h q =
+        let value : c - 48 ≡ n = inside (c - 48) q in
+        let low : 48 ≤ c = grind (arith, nat_tests) in
+        let high : c ≤ 57 = grind (arith, nat_tests) in
+        inl (omega arith, omega arith)
     step false false false f g h q = cc
 
 -- `=` without two digits stays.
 lone : (bs : List ℕ) → (BeginsWithDigits bs → ⊥) → unquoted (61 ∷ bs) ≡ 61 ∷ unquoted bs
 lone [] h = refl
 lone (x ∷ []) h = refl
-lone (x ∷ y ∷ bs) h = step (hex_value x) (hex_value y) refl refl
+lone (x ∷ y ∷ bs) h = step (hex_digit_value x) (hex_digit_value y) refl refl
   where
-    step : (m n : Option ℕ) → hex_value x ≡ m → hex_value y ≡ n
+    step : (m n : Option ℕ) → hex_digit_value x ≡ m → hex_digit_value y ≡ n
         → escape_or_plain (spelled_by m n) 61 (unquoted (x ∷ y ∷ bs)) (unquoted bs) ≡ 61 ∷ unquoted (x ∷ y ∷ bs)
     step None n e f = refl
     step (Some m) None e f = refl

@@ -1,14 +1,8 @@
 -- The encoding Q (RFC 2047, section 4.2), read from any bytes.
-use Rattle.std.specs.Prelude.{ℕ, ◌+◌, ◌-◌, ◌*◌, ◌&&◌, ◌==◌, nat_le, List, [], ◌∷◌, Option, Some, None, if◌then◌else◌}
+use Rattle.std.specs.Prelude.{ℕ, ◌+◌, ◌*◌, ◌==◌, List, [], ◌∷◌, Option, Some, None, if◌then◌else◌}
+use Rattle.hex.specs.Hex.{hex_digit_value}
 
--- The value of a hexadecimal digit, in either case.
-abbrev pub hex_value : ℕ → Option ℕ
-hex_value c =
-    if nat_le 48 c && nat_le c 57 then Some (c - 48)
-    else (if nat_le 65 c && nat_le c 70 then Some (c - 55)
-    else (if nat_le 97 c && nat_le c 102 then Some (c - 87) else None))
-
--- The byte that two digits spell.
+-- The byte that two hexadecimal digits spell, by their values.
 abbrev pub spelled : Option ℕ → Option ℕ → Option ℕ
 spelled None low = None
 spelled (Some high) None = None
@@ -19,7 +13,7 @@ abbrev pub escape : List ℕ → Option ℕ
 escape [] = None
 escape (b ∷ []) = None
 escape (b ∷ x ∷ []) = None
-escape (b ∷ x ∷ y ∷ bs) = if b == 61 then spelled (hex_value x) (hex_value y) else None
+escape (b ∷ x ∷ y ∷ bs) = if b == 61 then spelled (hex_digit_value x) (hex_digit_value y) else None
 
 -- An underscore is a space, and any other byte is itself.
 abbrev pub plain_byte : ℕ → ℕ

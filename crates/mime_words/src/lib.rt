@@ -15,4 +15,5 @@ pub use laws::{
     encoded_bytes, lone_equals_stays, loose_base64, spelled_is_said, value_without_words,
     words_are_spelled,
 };
+pub use quoted::escaped_byte;
 pub use symbols::unbase64;

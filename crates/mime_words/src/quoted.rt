@@ -1,8 +1,9 @@
 //! Decodes the encoding Q (RFC 2047, section 4.2).
-ghost use Rattle.std.specs.Prelude.{◌≡◌, ◌<◌, ◌∷◌, ◌++◌, OnOk, IfSome, length};
-ghost use Rattle.mime_words.specs.Quoted.{hex_value, escape, plain_byte, unquoted};
+ghost use Rattle.std.specs.Prelude.{◌≡◌, ◌<◌, ◌∷◌, ◌++◌, OnOk, length};
+ghost use Rattle.mime_words.specs.Quoted.{escape, plain_byte, unquoted};
 
 use arch_base::{Bytes, NoMemory};
+use hex::FromHex;
 
 /// Decodes a text in Q, and appends its bytes.
 ///
@@ -26,7 +27,7 @@ fn split_byte(text: &[u8]) -> (u8, &[u8])
     ensures bytes { unquoted text.now ≡ result.0 ∷ unquoted result.1.now }
     ensures shorter { length result.1.now < length text.now }
 {
-    match escape(text) {
+    match escaped_byte(text) {
         Some(byte) => (byte, &text[3..]),
         None => (plain_byte(text[0]), &text[1..]),
     }
@@ -39,27 +40,16 @@ fn plain_byte(byte: u8) -> u8
     if byte == b'_' { b' ' } else { byte }
 }
 
-/// Returns the byte that `=` and two digits at the front of a text encode.
-fn escape(text: &[u8]) -> Option<u8>
+/// Returns the byte that `=` and two hexadecimal digits at the front of a text encode, in either case
+/// (RFC 2045, section 6.7, rule 1; RFC 2047, section 4.2).
+///
+/// `None` if the text starts with anything else.
+pub fn escaped_byte(text: &[u8]) -> Option<u8>
     ensures { result ≡ escape text.now }
 {
     let [b'=', high, low, ..] = text else {
         return None;
     };
-    let high = hex_value(*high)?;
-    let low = hex_value(*low)?;
-    Some(16 * high + low)
-}
-
-/// Returns the value of a hexadecimal digit, in either case.
-fn hex_value(digit: u8) -> Option<u8>
-    ensures value { result ≡ hex_value digit }
-    ensures bound { IfSome result (λ value. value < 16) }
-{
-    match digit {
-        b'0'..=b'9' => Some(digit - b'0'),
-        b'A'..=b'F' => Some(digit - b'A' + 10),
-        b'a'..=b'f' => Some(digit - b'a' + 10),
-        _ => None,
-    }
+    let [byte] = <[u8; 1]>::from_hex([*high, *low]).ok()?;
+    Some(byte)
 }
