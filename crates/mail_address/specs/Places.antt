@@ -1,4 +1,4 @@
--- Where the bytes of an address list are: outside of quoted strings and comments, or in one of
+-- Where the bytes of a structured field are: outside of quoted strings and comments, or in one of
 -- them. The forms are those of RFC 5322, sections 3.2.1, 3.2.2 and 3.2.4. One that isn't closed
 -- ends with the bytes.
 use Rattle.std.specs.Prelude.{ℕ, ◌+◌, ◌-◌, Bool, true, false, ◌&&◌, ◌==◌, nat_le, List, [], ◌∷◌, if◌then◌else◌, map}

@@ -15,4 +15,5 @@ pub use laws::{
     mailbox_is_split, members_read_back, name_text_is_said, outside_is_between, plain_read_back,
     words_are_joined,
 };
+pub use place::Place;
 pub use reading::list;

@@ -1,15 +1,15 @@
-//! Tracks where the bytes of an address list are: in a quoted string, in a comment, or outside of
+//! Tracks where the bytes of a structured field are: in a quoted string, in a comment, or outside of
 //! both.
 ghost use Rattle.std.specs.Prelude.{◌≡◌, ◌≤◌, ◌<◌, ◌+◌, length};
 ghost use Rattle.mail_address.specs.Places.{depth_of, next_place, next_name_place, is_outside as stands_outside, is_in_one_comment as in_one_comment, is_sought, is_comment_start};
 ghost use Rattle.mail_address.specs.Items.{len_before as count_before};
 
-/// Where a byte is.
+/// Where a byte of a structured field is (RFC 5322, sections 3.2.1, 3.2.2 and 3.2.4).
 #[derive(Clone, Copy, Drop)]
-pub(crate) enum Place {
+pub enum Place {
     /// Outside of quoted strings and comments.
     Outside,
-    /// Outside, directly after a backslash that quotes the byte.
+    /// Outside, directly after a backslash that quotes the byte, which only a name has.
     Pair,
     /// In a quoted string.
     Quoted,
@@ -23,7 +23,10 @@ pub(crate) enum Place {
 
 impl Place {
     /// Returns the place of the byte after this one.
-    pub(crate) fn next(self, byte: u8) -> Place
+    ///
+    /// A quoted string extends from `"` to the next `"`, and a comment from `(` to the matching `)`.
+    /// Comments nest, and in both a backslash quotes the next byte.
+    pub fn next(self, byte: u8) -> Place
         requires { depth_of self < usize.MAX }
         ensures value { result ≡ next_place self byte }
         ensures depth { depth_of result ≤ depth_of self + 1 }

@@ -3,18 +3,18 @@ use Rattle.std.proofs.Common.{◌≡◌, ℕ, suc, ◌+◌, ◌-◌, ◌<◌, �
 use Rattle.std.specs.List.{prefix_len}
 use Rattle.std.proofs.lemmas.Bool.{eqb-true, or_parts, and_parts, true≢false}
 use Rattle.std.proofs.lemmas.List.{drop_more, take_more, take_all, drop_all, append-nil, get_or-drop}
-use Rattle.mime_parts.specs.declared.place.Place.{Place}
-use Rattle.mime_parts.specs.declared.place.Place.TheVariants.{Outside, Quoted, QuotedPair, Comment, CommentPair}
+use Rattle.mail_address.specs.declared.place.Place.{Place}
+use Rattle.mail_address.specs.declared.place.Place.TheVariants.{Outside, Pair, Quoted, QuotedPair, Comment, CommentPair}
+use Rattle.mail_address.specs.Places.{next_place}
 use Rattle.mime_parts.specs.declared.lexemes.Mark.{Mark}
-use Rattle.mime_parts.specs.Lexemes.{next_place, is_token_byte, mark_of, Role, Content, Opening, Gap, Single, is_gap, plain_role, role_of, TokenText, QuotedText, MarkText, Lexed, lexed, closed, lexed_by, lexed_from, lexemes_of}
+use Rattle.mime_parts.specs.Lexemes.{is_token_byte, mark_of, Role, Content, Opening, Gap, Single, is_gap, plain_role, role_of, TokenText, QuotedText, MarkText, Lexed, lexed, closed, lexed_by, lexed_from, lexemes_of}
 
 -- The place is not in a quoted string.
 abbrev pub is_between : Place → Bool
 is_between Outside = true
-is_between Quoted = false
-is_between QuotedPair = false
 is_between (Comment depth) = true
 is_between (CommentPair depth) = true
+is_between _ = false
 
 -- A space and an opening parenthesis are gaps.
 plain_gap : (b : ℕ) (s t : Bool) → eqb b 32 ≡ s → eqb b 40 ≡ t → (s || t) ≡ true → plain_role b ≡ Gap
@@ -24,6 +24,7 @@ plain_gap b false false p q h = cc
 
 gap_role : (p : Place) (b : ℕ) → is_gap p b ≡ true → role_of p b ≡ Gap
 gap_role Outside b h = plain_gap b (eqb b 32) (eqb b 40) refl refl h
+gap_role Pair b h = cc
 gap_role Quoted b h = cc
 gap_role QuotedPair b h = cc
 gap_role (Comment d) b h = refl
@@ -44,6 +45,7 @@ comment_between false false false w d e f = refl
 -- After a gap no quoted string is open.
 pub gap_between : (p : Place) (b : ℕ) → is_gap p b ≡ true → is_between (next_place p b) ≡ true
 gap_between Outside b h = plain_between b (eqb b 32) (eqb b 40) refl refl h
+gap_between Pair b h = cc
 gap_between Quoted b h = cc
 gap_between QuotedPair b h = cc
 gap_between (Comment d) b h = comment_between (eqb b 92) (eqb b 40) (eqb b 41) (leb d 1) d (d + 1) (d - 1)
@@ -52,6 +54,7 @@ gap_between (CommentPair d) b h = refl
 -- A byte that is no gap, and not in a quoted string, is outside.
 pub outside_of : (p : Place) (b : ℕ) → is_gap p b ≡ false → is_between p ≡ true → p ≡ Outside
 outside_of Outside b g h = refl
+outside_of Pair b g h = cc
 outside_of Quoted b g h = cc
 outside_of QuotedPair b g h = cc
 outside_of (Comment d) b g h = cc

@@ -1,46 +1,10 @@
 -- The lexemes of a structured field's flat value (RFC 2045, section 5.1, and RFC 822, section 3.3).
 use Rattle.std.specs.Prelude.{ℕ, ◌+◌, ◌-◌, Bool, true, false, ◌&&◌, ◌||◌, not, ◌==◌, nat_le, List, [], ◌∷◌, if◌then◌else◌}
-use Rattle.mime_parts.specs.declared.place.Place.{Place}
-use Rattle.mime_parts.specs.declared.place.Place.TheVariants.{Outside, Quoted, QuotedPair, Comment, CommentPair}
+use Rattle.mail_address.specs.declared.place.Place.{Place}
+use Rattle.mail_address.specs.declared.place.Place.TheVariants.{Outside, Quoted, Comment, CommentPair}
+use Rattle.mail_address.specs.Places.{next_place}
 use Rattle.mime_parts.specs.declared.lexemes.Mark.{Mark}
 use Rattle.mime_parts.specs.declared.lexemes.Mark.TheVariants.{Semicolon, Slash, Equals, Other}
-
--- The place after a byte that is outside of quoted strings and comments.
-abbrev pub after_plain : ℕ → Place
-after_plain b = if b == 34 then Quoted else (if b == 40 then Comment 1 else Outside)
-
--- The place after a byte of a quoted string, in which a backslash takes the next byte along (RFC
--- 822, section 3.3).
-abbrev pub after_quoted : ℕ → Place
-after_quoted b = if b == 92 then QuotedPair else (if b == 34 then Outside else Quoted)
-
--- The place after a closing parenthesis, by the number of comments that are open before it.
-abbrev pub after_close : ℕ → Place
-after_close depth = if nat_le depth 1 then Outside else Comment (depth - 1)
-
--- The place after a byte of a comment. Comments nest, and a backslash takes the next byte along
--- (RFC 822, section 3.3).
-abbrev pub after_comment : ℕ → ℕ → Place
-after_comment depth b =
-    if b == 92 then CommentPair depth
-    else (if b == 40 then Comment (depth + 1)
-    else (if b == 41 then after_close depth else Comment depth))
-
--- The place of the byte after one at a place.
-abbrev pub next_place : Place → ℕ → Place
-next_place Outside b = after_plain b
-next_place Quoted b = after_quoted b
-next_place QuotedPair b = Quoted
-next_place (Comment depth) b = after_comment depth b
-next_place (CommentPair depth) b = Comment depth
-
--- How many comments are open at a place.
-abbrev pub depth_of : Place → ℕ
-depth_of Outside = 0
-depth_of Quoted = 0
-depth_of QuotedPair = 0
-depth_of (Comment depth) = depth
-depth_of (CommentPair depth) = depth
 
 -- The byte is one of `()<>@,;:\"/[]?=`.
 abbrev pub is_special : ℕ → Bool
@@ -74,10 +38,9 @@ pub data Role : Type 0 where
 -- The byte separates lexemes: it is a space outside, or a byte of a comment.
 abbrev pub is_gap : Place → ℕ → Bool
 is_gap Outside b = b == 32 || b == 40
-is_gap Quoted b = false
-is_gap QuotedPair b = false
 is_gap (Comment depth) b = true
 is_gap (CommentPair depth) b = true
+is_gap _ b = false
 
 -- The role of a byte outside of quoted strings and comments.
 abbrev pub plain_role : ℕ → Role
@@ -86,13 +49,13 @@ plain_role b =
     else (if b == 34 then Opening
     else (if is_gap Outside b then Gap else Single (mark_of b)))
 
--- The role of a byte at its place.
+-- The role of a byte at its place. After a backslash it is content.
 abbrev pub role_of : Place → ℕ → Role
 role_of Outside b = plain_role b
 role_of Quoted b = if b == 34 then Gap else Content
-role_of QuotedPair b = Content
 role_of (Comment depth) b = Gap
 role_of (CommentPair depth) b = Gap
+role_of _ b = Content
 
 -- A lexeme: a token, the inside of a quoted string as it is written, or a mark.
 pub data LexemeText : Type 0 where

@@ -4,7 +4,7 @@ use Rattle.std.specs.Borrow.{Bor}
 use Rattle.mime_parts.specs.declared.params.Expected.{Expected}
 use Rattle.mime_parts.specs.declared.content_type.Front.{Front}
 use Rattle.mime_parts.specs.ContentTypes.{Step, Opening, first_token, after_slash, opening_of}
-use Rattle.mime_parts.specs.declared.place.Place.TheVariants as place
+use Rattle.mail_address.specs.declared.place.Place.TheVariants as place
 use Rattle.mime_parts.specs.declared.lexemes.Lexeme.{Lexeme}
 use Rattle.mime_parts.specs.declared.lexemes.Lexeme.TheVariants.{Token, Quoted, Mark}
 use Rattle.mime_parts.specs.Lexemes.{LexemeText, TokenText, QuotedText, MarkText, lexed, lexed_from, lexemes_of, unescaped}

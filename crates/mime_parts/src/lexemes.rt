@@ -4,8 +4,8 @@ ghost use Rattle.std.specs.List.{prefix_len};
 ghost use Rattle.mime_parts.specs.Lexemes.{lexemes_of, is_token_byte, is_special, is_gap, mark_of, unescaped};
 ghost use Rattle.mime_parts.specs.Reading.{shown, IsFirstLexeme, IsQuoted, IsFirstSaid};
 
-use crate::place::Place;
 use arch_base::{Bytes, NoMemory};
+use mail_address::Place;
 use std::alloc::Global;
 
 /// A byte that is a lexeme by itself.
@@ -65,7 +65,7 @@ fn is_gap(place: Place, byte: u8) -> bool
     match place {
         Place::Outside => byte == b' ' || byte == b'(',
         Place::Comment(_) | Place::CommentPair(_) => true,
-        Place::Quoted | Place::QuotedPair => false,
+        Place::Pair | Place::Quoted | Place::QuotedPair => false,
     }
 }
 

@@ -11,7 +11,6 @@ mod lexemes;
 mod mail_words;
 mod params;
 mod part;
-mod place;
 mod quoted;
 mod visiting;
 

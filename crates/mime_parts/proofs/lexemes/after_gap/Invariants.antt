@@ -1,5 +1,6 @@
 use Rattle.std.proofs.Common.{◌≡◌, ◌≤◌, true, drop}
-use Rattle.mime_parts.specs.Lexemes.{depth_of, closed, lexed_from, lexemes_of}
+use Rattle.mail_address.specs.Places.{depth_of}
+use Rattle.mime_parts.specs.Lexemes.{closed, lexed_from, lexemes_of}
 use Rattle.mime_parts.proofs.Lexing.{is_between}
 use Rattle.mime_parts.proofs.lexemes.after_gap.Given as goal
 

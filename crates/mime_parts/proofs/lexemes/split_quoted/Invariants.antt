@@ -1,5 +1,5 @@
 use Rattle.std.proofs.Common.{◌≡◌, take, drop}
-use Rattle.mime_parts.specs.declared.place.Place.TheVariants.{Quoted}
+use Rattle.mail_address.specs.declared.place.Place.TheVariants.{Quoted}
 use Rattle.mime_parts.specs.Lexemes.{lexed_from}
 use Rattle.mime_parts.proofs.Lexing.{onto_all, quote_place}
 use Rattle.mime_parts.proofs.lexemes.split_quoted.Given as goal
