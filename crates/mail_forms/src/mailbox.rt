@@ -1,5 +1,5 @@
 //! The length of a text's piece of a mailbox file.
-ghost use Rattle.std.specs.Prelude.{◌≡◌, ◌<◌, ◌≤◌, ◌^◌, length, count_by, if◌then◌else◌};
+ghost use Rattle.std.specs.Prelude.{◌≡◌, ◌<◌, ◌≤◌, ◌-◌, ◌^◌, min, length, count_by, if◌then◌else◌};
 ghost use Rattle.std.specs.List.{prefix_len};
 ghost use Rattle.mail_reader.specs.Lines.{lines_of};
 ghost use Rattle.mail_forms.specs.Mailboxes.{mbox_of, is_from_line as from_line, is_mark as mark};
@@ -15,7 +15,8 @@ const AROUND: u64 = 40;
 /// line of the text that starts with `From `, after any number of `>`, has one more `>` before it. If
 /// the length doesn't fit in a `u64`, which no text in memory reaches, this is the greatest `u64`.
 pub fn mbox_len(text: &[u8]) -> u64
-    ensures { length text.now < 2 ^ 62 → result ≡ length (mbox_of text.now) }
+    ensures value { length text.now < 2 ^ 62 → result ≡ length (mbox_of text.now) }
+    ensures most { result ≡ min (length (mbox_of text.now)) (2 ^ 64 - 1) }
 {
     let marks = from_lines(text) as u64;
     (text.len() as u64)

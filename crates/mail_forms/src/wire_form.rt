@@ -1,5 +1,5 @@
 //! The wire form of a text, and its length.
-ghost use Rattle.std.specs.Prelude.{◌≡◌, ◌++◌, ◌<◌, ◌≤◌, ◌^◌, length, take, OnOk, OnErr};
+ghost use Rattle.std.specs.Prelude.{◌-◌, min, ◌≡◌, ◌++◌, ◌<◌, ◌≤◌, ◌^◌, length, take, OnOk, OnErr};
 ghost use Rattle.mail_forms.specs.WireForms.{sent, wire_of, feeds_of};
 
 use arch_base::{Bytes, NoMemory};
@@ -51,7 +51,8 @@ fn push_sent(byte: u8, into: &mut Bytes) -> Result<(), NoMemory>
 ///
 /// If it doesn't fit in a `u64`, which no text in memory reaches, this is the greatest `u64`.
 pub fn wire_len(text: &[u8]) -> u64
-    ensures { length text.now < 2 ^ 63 → result ≡ length (wire_of text.now) }
+    ensures value { length text.now < 2 ^ 63 → result ≡ length (wire_of text.now) }
+    ensures most { result ≡ min (length (wire_of text.now)) (2 ^ 64 - 1) }
 {
     (text.len() as u64).saturating_add(line_feeds(text))
 }
