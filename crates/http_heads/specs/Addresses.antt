@@ -77,11 +77,8 @@ is_ours name first second = is_empty first && is_word second name
 -- What a path names, by its segments: `/NAME/`, `/NAME/new.atom`, `/NAME/all.mbox`, `/NAME/ID` with
 -- a slash after it or not, `/NAME/ID/raw`, `/NAME/ID/t/`, `/NAME/ID/t.atom` and `/NAME/ID/t.mbox`.
 abbrev pub named_by : List ℕ → List (List ℕ) → Option Named
-named_by name [] = None
-named_by name (first ∷ []) = None
-named_by name (first ∷ second ∷ []) = None
 named_by name (first ∷ second ∷ a ∷ []) = if is_ours name first second then one_segment a else None
 named_by name (first ∷ second ∷ a ∷ b ∷ []) = if is_ours name first second then two_segments a b else None
 named_by name (first ∷ second ∷ a ∷ b ∷ c ∷ []) =
     if is_ours name first second then three_segments a b c else None
-named_by name (first ∷ second ∷ a ∷ b ∷ c ∷ d ∷ more) = None
+named_by _ _ = None

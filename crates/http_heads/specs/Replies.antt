@@ -37,13 +37,7 @@ line_end = 13 ∷ 10 ∷ []
 -- The methods that are allowed are named by the reply that refuses another one.
 abbrev pub allow_line : Status → List ℕ
 allow_line MethodNotAllowed = codes "Allow: GET, HEAD" ++ line_end
-allow_line Done = []
-allow_line BadRequest = []
-allow_line NotFound = []
-allow_line TooManyRequests = []
-allow_line HeadTooLarge = []
-allow_line ServerError = []
-allow_line Unavailable = []
+allow_line _ = []
 
 -- A reply after which the connection is closed says so.
 abbrev pub close_line : Bool → List ℕ

@@ -9,12 +9,9 @@ use Rattle.mail_address.specs.declared.place.Sought.TheVariants.{OpenBracket, Cl
 
 -- The number of comments around a place.
 abbrev pub depth_of : Place → ℕ
-depth_of Outside = 0
-depth_of Pair = 0
-depth_of Quoted = 0
-depth_of QuotedPair = 0
 depth_of (Comment depth) = depth
 depth_of (CommentPair depth) = depth
+depth_of _ = 0
 
 -- The place after the end of a comment at this depth, which is 1 for an outermost comment.
 abbrev pub place_after_comment : ℕ → Place
@@ -37,11 +34,7 @@ next_place (CommentPair depth) b = Comment depth
 -- quoted strings and comments, too.
 abbrev pub next_name_place : Place → ℕ → Place
 next_name_place Outside b = if b == 92 then Pair else next_place Outside b
-next_name_place Pair b = next_place Pair b
-next_name_place Quoted b = next_place Quoted b
-next_name_place QuotedPair b = next_place QuotedPair b
-next_name_place (Comment depth) b = next_place (Comment depth) b
-next_name_place (CommentPair depth) b = next_place (CommentPair depth) b
+next_name_place place b = next_place place b
 
 -- Each byte with its place. The first byte is at `place`.
 abbrev pub marked_by : (Place → ℕ → Place) → Place → List ℕ → List (ℕ × Place)
@@ -59,20 +52,12 @@ bytes_of marks = map (λ (mark : ℕ × Place). mark.0) marks
 -- The place is outside of quoted strings and comments.
 abbrev pub is_outside : Place → Bool
 is_outside Outside = true
-is_outside Pair = false
-is_outside Quoted = false
-is_outside QuotedPair = false
-is_outside (Comment depth) = false
-is_outside (CommentPair depth) = false
+is_outside _ = false
 
 -- The place is in an outermost comment, and not after a backslash there.
 abbrev pub is_in_one_comment : Place → Bool
-is_in_one_comment Outside = false
-is_in_one_comment Pair = false
-is_in_one_comment Quoted = false
-is_in_one_comment QuotedPair = false
 is_in_one_comment (Comment depth) = nat_le depth 1
-is_in_one_comment (CommentPair depth) = false
+is_in_one_comment _ = false
 
 -- The byte is the one searched for: `<` or `>` outside of quoted strings and comments, or the `)`
 -- that ends an outermost comment.

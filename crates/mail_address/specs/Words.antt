@@ -46,11 +46,9 @@ name_text bytes = joined_words (spoken_from Outside bytes)
 -- The byte stays in an address: comments are removed, and so are spaces outside of quoted strings.
 abbrev pub stays_in_address : Place → ℕ → Bool
 stays_in_address Outside b = not (b == 40) && not (b == 32)
-stays_in_address Pair b = true
-stays_in_address Quoted b = true
-stays_in_address QuotedPair b = true
 stays_in_address (Comment depth) b = false
 stays_in_address (CommentPair depth) b = false
+stays_in_address _ b = true
 
 -- The bytes of an address that stay, in order. The first byte is at `place`.
 abbrev pub address_from : Place → List ℕ → List ℕ
