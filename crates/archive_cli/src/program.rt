@@ -57,7 +57,7 @@ pub fn run<D: Disk, H: Host, S: Source, O: Sink, C: Clock>(
         (S.left input.new) (S.faults input.new) }
     ensures sink { O.alike out.old out.new }
     // What the job of the words does to the disk, and what a crash leaves at each moment of it.
-    ensures disk { WordsLeave D.content D.moment D.left_since (spelled words.now) disk result.1
+    ensures any_moment { WordsLeave D.content D.moment D.left_since (spelled words.now) disk result.1
         (S.left input.old) (C.coming clock.old) }
     // Unless an archive is made, the bytes of the root file between its gates and its bodies are at
     // each moment as before. While one is served, the next clause says so.

@@ -8,7 +8,8 @@ use Rattle.disk_model.specs.declared.name.FileName.{FileName}
 use Rattle.disk_model.specs.Disk.{File, Files, Content, Told, WhereTold, exact, bytes_of, overlay, ReadsFit}
 use Rattle.disk_model.specs.Laws.{SameOutside, TornFile, Fits-exact, Fits-Within, overlay-torn, overlay-size, overlay-inside}
 use Rattle.disk_model.specs.Synced.{Writing, IsWriting, IsWritten, writing_inside}
-use Rattle.disk_tests.specs.Texts.{StandsFor, IsReady, HasSize, IfThere, EachFile, StandsForEither}
+use Rattle.root_slots.specs.Each.{IfThere}
+use Rattle.disk_tests.specs.Texts.{StandsFor, IsReady, HasSize, EachFile, StandsForEither}
 
 -- The gate is shut, and both texts are there.
 pub record IsFilled (old new file : List ℕ) : Type 0 where

@@ -2,6 +2,7 @@
 use Rattle.std.specs.Prelude.{◌≡◌, ◌≢◌, ◌⊎◌, ℕ, ◌==◌, if◌then◌else◌, Option, Some, None, List, length, get_or, take, drop}
 use Rattle.disk_model.specs.declared.name.FileName.{FileName}
 use Rattle.disk_model.specs.Disk.{File, Files, Content, Fits, IsLength}
+use Rattle.root_slots.specs.Each.{IfThere}
 
 -- The text that a file stands for: the second one if the gate is 1, otherwise the first.
 abbrev pub text_of : List ℕ → List ℕ
@@ -20,11 +21,6 @@ pub record IsReady (text file : List ℕ) : Type 0 where
 -- The file reads as seventeen bytes.
 abbrev pub HasSize : FileName → Content → Type 0
 HasSize name = IsLength name 17
-
--- The file exists, and this holds of it.
-abbrev pub IfThere : (List ℕ → Type 0) → File → Type 0
-IfThere P None = ⊥
-IfThere P (Some bytes) = P bytes
 
 -- The disk tells its content, and this holds of the file, whatever a crash leaves of it.
 abbrev pub EachFile : FileName → (List ℕ → Type 0) → Option Content → Type 0

@@ -7,7 +7,8 @@ use Rattle.std.specs.Ordering.{match_ordering}
 use Rattle.std.specs.BTreeSet.{insert_key}
 use Rattle.ranked_set.proofs.SortedKeys.{sorted-insert, sorted_nil}
 use Rattle.mail_forms.specs.declared.row.Row.{Row}
-use Rattle.overview_index.specs.Laws.{Among, AreSpots}
+use Rattle.thread_model.specs.Members.{Among}
+use Rattle.overview_index.specs.Laws.{AreSpots}
 use Rattle.overview_index.specs.Listings.{spot_of, spot_cmp, spots}
 use Rattle.overview_index.specs.declared.spot.Spot.{Spot}
 use Rattle.overview_index.proofs.Orders.{spots_total, exact_spots}

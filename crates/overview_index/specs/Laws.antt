@@ -1,16 +1,12 @@
 -- Laws of the listing.
-use Rattle.std.specs.Prelude.{◌≡◌, ◌⊎◌, ℕ, List, [], ◌∷◌}
+use Rattle.std.specs.Prelude.{◌≡◌, ℕ, List}
 use Rattle.std.specs.List.Sorted.{IsStrictlySortedBy}
 use Rattle.mail_forms.specs.declared.row.Row.{Row}
 use Rattle.arch_model.specs.Archives.{Entry}
 use Rattle.arch_model.specs.Listings.{rows_of, listing as listed}
+use Rattle.thread_model.specs.Members.{Among}
 use Rattle.overview_index.specs.Listings.{spot_of, spot_cmp, spots, listing}
 use Rattle.overview_index.specs.declared.spot.Spot.{Spot}
-
--- One of a list.
-abbrev pub Among : {X : Type 0} → List X → X → Type 0
-Among [] x = ⊥
-Among (y ∷ ys) x = (x ≡ y) ⊎ Among ys x
 
 -- Spots that rise are just those of some rows.
 pub record AreSpots (rows : List (ℕ × Row)) (found : List Spot) : Type 0 where

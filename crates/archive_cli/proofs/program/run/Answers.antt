@@ -123,44 +123,44 @@ returns-in-Some-Purge-clause-ends g c =
           (job-moved (CommandActs Renews (purge_files number) (AnswersPurge number) (purging number)) c.carry_out-status-in-Some-Purge.result.0 _ _ _ _ _ _ _ _ _ _ _ _ _ _ _ _ refl c.carry_out-status-in-Some-Purge.ensures.ends),
     )
 
-pub returns-in-Some-Init-clause-disk : goal.returns-in-Some-Init-clause-disk
-returns-in-Some-Init-clause-disk g c = ((Some (Init c.in-Some-Init.config)), rw c.in-Some-Init.field-0-is at c.in-Some-Init.ensures, c.init-status.ensures.any_moment)
+pub returns-in-Some-Init-clause-any_moment : goal.returns-in-Some-Init-clause-any_moment
+returns-in-Some-Init-clause-any_moment g c = ((Some (Init c.in-Some-Init.config)), rw c.in-Some-Init.field-0-is at c.in-Some-Init.ensures, c.init-status.ensures.any_moment)
 
-pub returns-in-Some-Deliver-clause-disk : goal.returns-in-Some-Deliver-clause-disk
-returns-in-Some-Deliver-clause-disk g c = ((Some Deliver), rw c.in-Some-Deliver.field-0-is at c.in-Some-Deliver.ensures, c.put_input-status.ensures.any_moment)
+pub returns-in-Some-Deliver-clause-any_moment : goal.returns-in-Some-Deliver-clause-any_moment
+returns-in-Some-Deliver-clause-any_moment g c = ((Some Deliver), rw c.in-Some-Deliver.field-0-is at c.in-Some-Deliver.ensures, c.put_input-status.ensures.any_moment)
 
-pub returns-in-Some-Remove-clause-disk : goal.returns-in-Some-Remove-clause-disk
-returns-in-Some-Remove-clause-disk g c = ((Some (Remove c.in-Some-Remove.number)), rw c.in-Some-Remove.field-0-is at c.in-Some-Remove.ensures, c.carry_out-status.ensures.any_moment)
+pub returns-in-Some-Remove-clause-any_moment : goal.returns-in-Some-Remove-clause-any_moment
+returns-in-Some-Remove-clause-any_moment g c = ((Some (Remove c.in-Some-Remove.number)), rw c.in-Some-Remove.field-0-is at c.in-Some-Remove.ensures, c.carry_out-status.ensures.any_moment)
 
-pub returns-in-Some-Purge-clause-disk : goal.returns-in-Some-Purge-clause-disk
-returns-in-Some-Purge-clause-disk g c = ((Some (Purge c.in-Some-Purge.number)), rw c.in-Some-Purge.field-0-is at c.in-Some-Purge.ensures, c.carry_out-status-in-Some-Purge.ensures.any_moment)
+pub returns-in-Some-Purge-clause-any_moment : goal.returns-in-Some-Purge-clause-any_moment
+returns-in-Some-Purge-clause-any_moment g c = ((Some (Purge c.in-Some-Purge.number)), rw c.in-Some-Purge.field-0-is at c.in-Some-Purge.ensures, c.carry_out-status-in-Some-Purge.ensures.any_moment)
 
-pub returns-in-Some-Edit-clause-disk : goal.returns-in-Some-Edit-clause-disk
-returns-in-Some-Edit-clause-disk g c = ((Some (Edit c.in-Some-Edit.number)), rw c.in-Some-Edit.field-0-is at c.in-Some-Edit.ensures, c.put_input-status-in-Some-Edit.ensures.any_moment)
+pub returns-in-Some-Edit-clause-any_moment : goal.returns-in-Some-Edit-clause-any_moment
+returns-in-Some-Edit-clause-any_moment g c = ((Some (Edit c.in-Some-Edit.number)), rw c.in-Some-Edit.field-0-is at c.in-Some-Edit.ensures, c.put_input-status-in-Some-Edit.ensures.any_moment)
 
-pub returns-in-Some-Reindex-clause-disk : goal.returns-in-Some-Reindex-clause-disk
-returns-in-Some-Reindex-clause-disk g c = ((Some Reindex), rw c.in-Some-Reindex.field-0-is at c.in-Some-Reindex.ensures, c.reindex-outcome.ensures.any_moment)
+pub returns-in-Some-Reindex-clause-any_moment : goal.returns-in-Some-Reindex-clause-any_moment
+returns-in-Some-Reindex-clause-any_moment g c = ((Some Reindex), rw c.in-Some-Reindex.field-0-is at c.in-Some-Reindex.ensures, c.reindex-outcome.ensures.any_moment)
 
-pub returns-in-Some-Check-clause-disk : goal.returns-in-Some-Check-clause-disk
-returns-in-Some-Check-clause-disk g c = ((Some Check), rw c.in-Some-Check.field-0-is at c.in-Some-Check.ensures, c.check-outcome.ensures.any_moment)
+pub returns-in-Some-Check-clause-any_moment : goal.returns-in-Some-Check-clause-any_moment
+returns-in-Some-Check-clause-any_moment g c = ((Some Check), rw c.in-Some-Check.field-0-is at c.in-Some-Check.ensures, c.check-outcome.ensures.any_moment)
 
-pub returns-in-Some-Help-clause-disk : goal.returns-in-Some-Help-clause-disk
-returns-in-Some-Help-clause-disk g c = ((Some Help), rw c.in-Some-Help.field-0-is at c.in-Some-Help.ensures, refl)
+pub returns-in-Some-Help-clause-any_moment : goal.returns-in-Some-Help-clause-any_moment
+returns-in-Some-Help-clause-any_moment g c = ((Some Help), rw c.in-Some-Help.field-0-is at c.in-Some-Help.ensures, refl)
 
-pub returns-in-Some-Version-clause-disk : goal.returns-in-Some-Version-clause-disk
-returns-in-Some-Version-clause-disk g c = ((Some Version), rw c.in-Some-Version.field-0-is at c.in-Some-Version.ensures, refl)
+pub returns-in-Some-Version-clause-any_moment : goal.returns-in-Some-Version-clause-any_moment
+returns-in-Some-Version-clause-any_moment g c = ((Some Version), rw c.in-Some-Version.field-0-is at c.in-Some-Version.ensures, refl)
 
-pub returns-in-Some-Replay-clause-disk : goal.returns-in-Some-Replay-clause-disk
-returns-in-Some-Replay-clause-disk g c = ((Some (Replay c.in-Some-Replay.config)), rw c.in-Some-Replay.field-0-is at c.in-Some-Replay.ensures, refl)
+pub returns-in-Some-Replay-clause-any_moment : goal.returns-in-Some-Replay-clause-any_moment
+returns-in-Some-Replay-clause-any_moment g c = ((Some (Replay c.in-Some-Replay.config)), rw c.in-Some-Replay.field-0-is at c.in-Some-Replay.ensures, refl)
 
-pub returns-in-Some-Load-clause-disk : goal.returns-in-Some-Load-clause-disk
-returns-in-Some-Load-clause-disk g c = ((Some (Load c.in-Some-Load.count c.in-Some-Load.seed)), rw c.in-Some-Load.field-0-is at c.in-Some-Load.ensures, refl)
+pub returns-in-Some-Load-clause-any_moment : goal.returns-in-Some-Load-clause-any_moment
+returns-in-Some-Load-clause-any_moment g c = ((Some (Load c.in-Some-Load.count c.in-Some-Load.seed)), rw c.in-Some-Load.field-0-is at c.in-Some-Load.ensures, refl)
 
-pub returns-in-Some-Serve-clause-disk : goal.returns-in-Some-Serve-clause-disk
-returns-in-Some-Serve-clause-disk g c = ((Some (Serve c.in-Some-Serve.turns c.in-Some-Serve._port)), rw c.in-Some-Serve.field-0-is at c.in-Some-Serve.ensures, tt)
+pub returns-in-Some-Serve-clause-any_moment : goal.returns-in-Some-Serve-clause-any_moment
+returns-in-Some-Serve-clause-any_moment g c = ((Some (Serve c.in-Some-Serve.turns c.in-Some-Serve._port)), rw c.in-Some-Serve.field-0-is at c.in-Some-Serve.ensures, tt)
 
-pub returns-in-None-clause-disk : goal.returns-in-None-clause-disk
-returns-in-None-clause-disk g c = (None, c.in-None.ensures, refl)
+pub returns-in-None-clause-any_moment : goal.returns-in-None-clause-any_moment
+returns-in-None-clause-any_moment g c = (None, c.in-None.ensures, refl)
 
 pub returns-in-Some-Init-clause-clock : goal.returns-in-Some-Init-clause-clock
 returns-in-Some-Init-clause-clock g c = λ none. absurd (none (inl (c.in-Some-Init.config, rw c.in-Some-Init.field-0-is at c.in-Some-Init.ensures)))
