@@ -179,44 +179,52 @@ impl Framer {
     fn feed_by(&mut self, piece: &[u8], literals: bool) -> Framed
         ensures { IsFramed literals self.old piece.now self.new result.used result.what }
     {
+        match self.take_part(piece, literals) {
+            Ok(framed) => framed,
+            Err(_) => Framed {
+                used: 0,
+                what: Found::NoMemory,
+            },
+        }
+    }
+
+    /// Finds the next part and holds it, or takes the command that it ends.
+    ///
+    /// `NoMemory` leaves the framer unchanged.
+    fn take_part(&mut self, piece: &[u8], literals: bool) -> Result<Framed, NoMemory>
+        ensures { MatchResult result
+            (λ framed. IsFramed literals self.old piece.now self.new framed.used framed.what)
+            (λ _. self.new ≡ self.old) }
+    {
         match self.next(piece, literals) {
-            NextPart::Last(used) => match self.finish(piece.split_at(used).0) {
-                Err(_) => Framed {
-                    used: 0,
-                    what: Found::NoMemory,
-                },
-                Ok(command) => Framed {
+            NextPart::Last(used) => {
+                let command = self.finish(piece.split_at(used).0)?;
+                Ok(Framed {
                     used,
                     what: Found::Command(command),
-                },
-            },
-            NextPart::Literal(used, octets) => match self.begin(piece.split_at(used).0, octets) {
-                Err(_) => Framed {
-                    used: 0,
-                    what: Found::NoMemory,
-                },
-                Ok(()) => Framed {
+                })
+            }
+            NextPart::Literal(used, octets) => {
+                self.begin(piece.split_at(used).0, octets)?;
+                Ok(Framed {
                     used,
                     what: Found::Continue,
-                },
-            },
+                })
+            }
             NextPart::TooLong(used) => {
                 self.clear();
-                Framed {
+                Ok(Framed {
                     used,
                     what: Found::TooLong,
-                }
+                })
             }
-            NextPart::More => match self.keep(piece) {
-                Err(_) => Framed {
-                    used: 0,
-                    what: Found::NoMemory,
-                },
-                Ok(()) => Framed {
+            NextPart::More => {
+                self.keep(piece)?;
+                Ok(Framed {
                     used: piece.len(),
                     what: Found::More,
-                },
-            },
+                })
+            }
         }
     }
 }
