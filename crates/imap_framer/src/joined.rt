@@ -44,8 +44,10 @@ fn without_return(line: Joined<'_>) -> Joined<'_>
 /// Returns the text before its last octet if that is `octet`, which is not 0.
 fn without_last(text: Joined<'_>, octet: u8) -> Option<Joined<'_>>
     requires { 0 < octet }
-    ensures { MatchOption result (before_last octet (text.entry.front.now ++ text.entry.back.now) ≡ None) (λ cut.
-        before_last octet (text.entry.front.now ++ text.entry.back.now) ≡ Some (cut.front.now ++ cut.back.now)) }
+    ensures { MatchOption result
+        (before_last octet (text.entry.front.now ++ text.entry.back.now) ≡ None)
+        (λ cut. before_last octet (text.entry.front.now ++ text.entry.back.now)
+        ≡ Some (cut.front.now ++ cut.back.now)) }
 {
     if text.back.is_empty() {
         let front = cut_last(text.front, octet)?;
@@ -75,8 +77,10 @@ fn cut_last(text: &[u8], octet: u8) -> Option<&[u8]>
 
 /// Returns the text after its last `{`, or `None` if it has none.
 fn after_last_brace(text: Joined<'_>) -> Option<Joined<'_>>
-    ensures { MatchOption result (after_brace (text.entry.front.now ++ text.entry.back.now) ≡ None) (λ after.
-        after_brace (text.entry.front.now ++ text.entry.back.now) ≡ Some (after.front.now ++ after.back.now)) }
+    ensures { MatchOption result
+        (after_brace (text.entry.front.now ++ text.entry.back.now) ≡ None)
+        (λ after. after_brace (text.entry.front.now ++ text.entry.back.now)
+        ≡ Some (after.front.now ++ after.back.now)) }
 {
     match brace_cut(text.back) {
         Some(back) => Some(Joined { front: &[], back }),
