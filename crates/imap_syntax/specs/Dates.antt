@@ -4,7 +4,7 @@ use Rattle.imap_words.specs.Kinds.{is_digit}
 use Rattle.imap_words.specs.Numbers.{day_of, pair_at, four_at, padded_pair_at}
 use Rattle.imap_words.specs.Reading.{◌>>=◌, with_rest, byte_at, run_at, word_of, behind_word}
 use Rattle.imap_words.specs.Words.{is_keyword}
-use Rattle.imap_syntax.specs.declared.dates.Date.{Date}
+use Rattle.imap_syntax.specs.declared.keys.Date.{Date}
 use Rattle.imap_syntax.specs.declared.dates.DateTime.{DateTime}
 use Rattle.imap_syntax.specs.declared.dates.Time.{Time}
 use Rattle.imap_syntax.specs.declared.dates.Zone.{Zone}

@@ -1,5 +1,5 @@
 -- Flags of commands (RFC 3501, section 9, flag, flag-list and store-att-flags).
-use Rattle.std.specs.Prelude.{ℕ, Bool, true, false, not, ◌&&◌, ◌==◌, nat_lt, List, [], ◌∷◌, length, drop, slice_index, codes, Option, Some, None, if◌then◌else◌}
+use Rattle.std.specs.Prelude.{ℕ, Bool, true, false, not, ◌&&◌, ◌==◌, List, [], ◌∷◌, length, slice_index, codes, Option, Some, None, if◌then◌else◌}
 use Rattle.std.specs.List.{list_all}
 use Rattle.imap_words.specs.Kinds.{is_atom_byte, is_flag_byte}
 use Rattle.imap_words.specs.Reading.{◌>>=◌, byte_at, run_at, many_at, with_rest, word_of, behind_word}
@@ -8,19 +8,14 @@ use Rattle.imap_syntax.specs.declared.flags.FlagChange.{FlagChange}
 use Rattle.imap_syntax.specs.declared.flags.FlagChange.TheVariants as change
 use Rattle.imap_syntax.specs.declared.flags.StoreItem.{StoreItem}
 
--- The word begins with a backslash.
-abbrev pub is_system_flag : List ℕ → Bool
-is_system_flag word = slice_index word 0 == 92
-
--- The name of a flag: what follows its backslash, if it has one.
-abbrev pub flag_name : List ℕ → List ℕ
-flag_name word = if is_system_flag word then drop 1 word else word
+-- The word is an atom.
+abbrev pub is_atom : List ℕ → Bool
+is_atom word = not (length word == 0) && list_all is_atom_byte word
 
 -- The word is a flag: an atom, before which a backslash may stand. `\Recent` is none.
 abbrev pub is_flag : List ℕ → Bool
-is_flag word =
-    nat_lt 0 (length (flag_name word)) && list_all is_atom_byte (flag_name word)
-    && not (is_system_flag word && is_keyword (codes "RECENT") (flag_name word))
+is_flag [] = false
+is_flag (b ∷ bs) = if b == 92 then is_atom bs && not (is_keyword (codes "RECENT") bs) else is_atom (b ∷ bs)
 
 -- The word, if it is a flag.
 abbrev pub flag_of : List ℕ → Option (List ℕ)

@@ -1,9 +1,12 @@
 -- What FETCH asks for (RFC 3501, section 9, fetch-att and section).
-use Rattle.std.specs.Prelude.{ℕ, Bool, true, false, ◌&&◌, ◌==◌, List, [], ◌∷◌, length, slice_index, codes, Option, Some, None, if◌then◌else◌}
+use Rattle.std.specs.Prelude.{◌≡◌, ℕ, Bool, true, false, ◌&&◌, ◌==◌, List, [], ◌∷◌, length, slice_index, codes, Option, Some, None, Result, Ok, Err, if◌then◌else◌}
 use Rattle.imap_words.specs.Numbers.{number_at, nz_number_at, nz_number_of}
-use Rattle.imap_words.specs.Reading.{◌>>=◌, with_rest, byte_at, many_at, word_of, behind_word}
-use Rattle.imap_words.specs.Strings.{astring_at}
+use Rattle.imap_words.specs.Reading.{◌>>=◌, Refuses, with_rest, byte_at, many_at, word_of, behind_word}
+use Rattle.imap_words.specs.Strings.{astrings_at}
 use Rattle.imap_words.specs.Words.{is_keyword, words_at}
+use Rattle.imap_words.specs.declared.stop.Stop.{Stop}
+use Rattle.imap_syntax.specs.declared.item_reading.Macro.{Macro}
+use Rattle.imap_syntax.specs.declared.item_reading.Macro.TheVariants as macro
 use Rattle.imap_syntax.specs.declared.items.Item.{Item}
 use Rattle.imap_syntax.specs.declared.items.Item.TheVariants as item
 use Rattle.imap_syntax.specs.declared.items.Partial.{Partial}
@@ -70,7 +73,7 @@ unfoldable pub names_at : List ℕ → Option (List (List ℕ) × List ℕ)
 names_at octets = do
   rest ← byte_at 32 octets
   inside ← byte_at 40 rest
-  names ← many_at astring_at (length inside) inside
+  names ← astrings_at inside
   behind ← byte_at 41 names.1
   Some (names.0, behind)
 
@@ -152,26 +155,34 @@ item_by word octets =
 unfoldable pub item_at : List ℕ → Option (Item × List ℕ)
 item_at octets = item_by (word_of octets) (behind_word octets)
 
--- The items that a macro stands for (RFC 3501, section 6.4.5).
-abbrev pub macro_of : List ℕ → Option (List Item)
+-- The macro that a keyword names (RFC 3501, section 6.4.5).
+abbrev pub macro_of : List ℕ → Option Macro
 macro_of word =
-    if is_keyword (codes "ALL") word
-      then Some (item.Flags ∷ item.InternalDate ∷ item.Size ∷ item.Envelope ∷ [])
-    else if is_keyword (codes "FULL") word
-      then Some (item.Flags ∷ item.InternalDate ∷ item.Size ∷ item.Envelope ∷ item.Body ∷ [])
-    else if is_keyword (codes "FAST") word then Some (item.Flags ∷ item.InternalDate ∷ item.Size ∷ [])
+    if is_keyword (codes "ALL") word then Some macro.All
+    else if is_keyword (codes "FULL") word then Some macro.Full
+    else if is_keyword (codes "FAST") word then Some macro.Fast
     else None
 
--- One item, as a list.
-abbrev pub one_item_at : List ℕ → Option (List Item × List ℕ)
-one_item_at octets = do
-  only ← item_at octets
+-- The items that a macro stands for (RFC 3501, section 6.4.5).
+abbrev pub items_of_macro : Macro → List Item
+items_of_macro macro.Fast = item.Flags ∷ item.InternalDate ∷ item.Size ∷ []
+items_of_macro macro.All = item.Flags ∷ item.InternalDate ∷ item.Size ∷ item.Envelope ∷ []
+items_of_macro macro.Full = item.Flags ∷ item.InternalDate ∷ item.Size ∷ item.Envelope ∷ item.Body ∷ []
+
+-- One item after its keyword, as a list.
+abbrev pub one_item_by : List ℕ → List ℕ → Option (List Item × List ℕ)
+one_item_by word octets = do
+  only ← item_by word octets
   Some (only.0 ∷ [], only.1)
 
 -- A macro, or else one item.
-abbrev pub macro_by : List ℕ → Option (List Item) → Option (List Item × List ℕ)
-macro_by octets None = one_item_at octets
-macro_by octets (Some items) = Some (items, behind_word octets)
+abbrev pub macro_by : List ℕ → List ℕ → Option Macro → Option (List Item × List ℕ)
+macro_by word octets None = one_item_by word octets
+macro_by word octets (Some found) = Some (items_of_macro found, octets)
+
+-- A macro or one item at the front.
+unfoldable pub macro_or_item_at : List ℕ → Option (List Item × List ℕ)
+macro_or_item_at octets = macro_by (word_of octets) (behind_word octets) (macro_of (word_of octets))
 
 -- Items in parentheses.
 abbrev pub item_list_at : List ℕ → Option (List Item × List ℕ)
@@ -184,4 +195,9 @@ item_list_at octets = do
 -- What FETCH asks for: items in parentheses, a macro, or one item (fetch).
 unfoldable pub items_at : List ℕ → Option (List Item × List ℕ)
 items_at octets =
-    if slice_index octets 0 == 40 then item_list_at octets else macro_by octets (macro_of (word_of octets))
+    if slice_index octets 0 == 40 then item_list_at octets else macro_or_item_at octets
+
+-- What reading the word of a section gives, unless memory ran out.
+abbrev pub SpellsSection : Result SectionWord Stop → Option SectionWord → Type 0
+SpellsSection (Ok found) word = word ≡ Some found
+SpellsSection (Err e) word = Refuses e word

@@ -1,5 +1,6 @@
 -- The grammar of search keys (RFC 3501, section 9, search-key).
 use Rattle.std.specs.Prelude.{◌≡◌, ℕ, zero, suc, Bool, true, false, ◌||◌, ◌==◌, List, [], ◌∷◌, length, map, slice_index, codes, Option, Some, None, option_map, Result, Ok, Err, if◌then◌else◌}
+use Rattle.std.specs.Global.{Vec}
 use Rattle.std.specs.Option.{option_or}
 use Rattle.imap_words.specs.Kinds.{is_digit}
 use Rattle.imap_words.specs.Numbers.{number_at}
@@ -190,10 +191,15 @@ key_at zero octets = None
 key_at (suc depth) octets = key_by (key_at depth) octets
 
 -- One or more keys with spaces between them.
-unfoldable pub keys_at : ℕ → List ℕ → Option (List KeyTree × List ℕ)
+abbrev pub keys_at : ℕ → List ℕ → Option (List KeyTree × List ℕ)
 keys_at depth octets = many_at (key_at depth) (length octets) octets
 
 -- An attempt to read a key gave what can be read, and left the octets after it, unless memory ran out.
 abbrev pub ObtainsKey : List ℕ → Result Key Stop → Option (KeyTree × List ℕ) → Type 0
 ObtainsKey rest (Ok key) read = read ≡ Some (tree_of key, rest)
 ObtainsKey rest (Err e) read = Refuses e read
+
+-- The same of keys.
+abbrev pub ObtainsKeys : List ℕ → Result (Vec Key) Stop → Option (List KeyTree × List ℕ) → Type 0
+ObtainsKeys rest (Ok keys) read = read ≡ Some (map tree_of keys.items, rest)
+ObtainsKeys rest (Err e) read = Refuses e read

@@ -1,10 +1,11 @@
 -- Sets of numbers (RFC 3501, section 9, sequence-set).
-use Rattle.std.specs.Prelude.{ℕ, min, max, Bool, ◌&&◌, ◌==◌, nat_le, List, [], ◌∷◌, Option, Some, None, if◌then◌else◌}
+use Rattle.std.specs.Prelude.{◌≡◌, ℕ, min, max, Bool, ◌&&◌, ◌==◌, nat_le, List, [], ◌∷◌, Option, Some, None, Result, Ok, Err, if◌then◌else◌}
 use Rattle.std.specs.List.{list_any}
 use Rattle.imap_words.specs.Kinds.{is_set_byte}
 use Rattle.imap_words.specs.Numbers.{nz_number_of}
-use Rattle.imap_words.specs.Reading.{◌>>=◌, byte_at, run_at}
+use Rattle.imap_words.specs.Reading.{◌>>=◌, Refuses, byte_at, run_at}
 use Rattle.imap_words.specs.Words.{words_at}
+use Rattle.imap_words.specs.declared.stop.Stop.{Stop}
 use Rattle.imap_syntax.specs.declared.sets.SetEnd.{SetEnd}
 use Rattle.imap_syntax.specs.declared.sets.SetEnd.TheVariants as end
 use Rattle.imap_syntax.specs.declared.sets.SetRange.{SetRange}
@@ -75,3 +76,8 @@ unfoldable pub set_argument_at : List ℕ → Option (List SetRange × List ℕ)
 set_argument_at octets = do
   rest ← byte_at 32 octets
   set_at rest
+
+-- What reading a word as a set gives, unless memory ran out.
+abbrev pub SpellsSet : Result (List SetRange) Stop → Option (List SetRange) → Type 0
+SpellsSet (Ok found) ranges = ranges ≡ Some found
+SpellsSet (Err e) ranges = Refuses e ranges

@@ -1,6 +1,6 @@
 -- Search keys as trees (RFC 3501, section 6.4.4).
 use Rattle.std.specs.Prelude.{ℕ, List, [], ◌∷◌}
-use Rattle.imap_syntax.specs.declared.dates.Date.{Date}
+use Rattle.imap_syntax.specs.declared.keys.Date.{Date}
 use Rattle.imap_syntax.specs.declared.key_names.DayKey.{DayKey}
 use Rattle.imap_syntax.specs.declared.key_names.DayKey.TheVariants as day
 use Rattle.imap_syntax.specs.declared.key_names.FlagKey.{FlagKey}

@@ -12,11 +12,11 @@ module _ (b c : ℕ) (cs : List ℕ) where
 
   first-by : (t : Bool)
       → (prefix_len (is_other b) cs < length cs
-        → words_at b cs ≡ take (prefix_len (is_other b) cs) cs ∷ words_at b (drop (suc (prefix_len (is_other b) cs)) cs))
+      → words_at b cs ≡ take (prefix_len (is_other b) cs) cs ∷ words_at b (drop (suc (prefix_len (is_other b) cs)) cs))
       → (if not t then 1 + prefix_len (is_other b) cs else 0) < suc (length cs)
       → (if t then [] ∷ words_at b cs else longer_first c (words_at b cs))
-        ≡ take (if not t then 1 + prefix_len (is_other b) cs else 0) (c ∷ cs)
-        ∷ words_at b (drop (suc (if not t then 1 + prefix_len (is_other b) cs else 0)) (c ∷ cs))
+      ≡ take (if not t then 1 + prefix_len (is_other b) cs else 0) (c ∷ cs)
+      ∷ words_at b (drop (suc (if not t then 1 + prefix_len (is_other b) cs else 0)) (c ∷ cs))
   first-by true ih h = refl
   first-by false ih h = rw (ih (omega arith)) (rw one-add refl)
 
@@ -37,8 +37,8 @@ pub words_cut : (b : ℕ) (xs first rest : List ℕ) (n : ℕ) → n ≡ prefix_
     → (words_at b xs ≡ first ∷ words_at b rest) × (length rest < length xs)
 words_cut b xs first rest n is less f r = (
   words_first b xs (omega arith) ∙ (ap (λ k. take k xs ∷ words_at b (drop (suc k) xs)) (sym is)
-    ∙ (ap (λ k. take n xs ∷ words_at b (drop k xs)) (sym (add-one n))
-    ∙ (ap (λ l. l ∷ words_at b (drop (n + 1) xs)) (sym f) ∙ ap (λ l. first ∷ words_at b l) (sym r)))),
+      ∙ (ap (λ k. take n xs ∷ words_at b (drop k xs)) (sym (add-one n))
+      ∙ (ap (λ l. l ∷ words_at b (drop (n + 1) xs)) (sym f) ∙ ap (λ l. first ∷ words_at b l) (sym r)))),
   omega (arith, ap length r, length-drop (n + 1) xs),
 )
 

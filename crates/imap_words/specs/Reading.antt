@@ -7,7 +7,6 @@ use Rattle.imap_words.specs.declared.stop.Stop.{Stop}
 use Rattle.imap_words.specs.declared.stop.Stop.TheVariants as stop
 
 infixl 10 ◌>>=◌
-
 -- What is read of what was read before, if there is something.
 abbrev pub ◌>>=◌ : {A B : Type 0} → Option A → (A → Option B) → Option B
 None >>= f = None

@@ -2,7 +2,7 @@
 use Rattle.std.specs.Prelude.{ℕ, Bool, true, false, ◌&&◌, ◌||◌, ◌==◌, nat_lt, nat_le, List, [], ◌∷◌, length, take, drop, slice_index, Option, Some, None, if◌then◌else◌}
 use Rattle.std.specs.List.{list_all}
 use Rattle.imap_words.specs.Kinds.{is_octet, is_atom_byte, is_astring_byte}
-use Rattle.imap_words.specs.Reading.{◌>>=◌, byte_at, run_at, line_end_at}
+use Rattle.imap_words.specs.Reading.{◌>>=◌, byte_at, run_at, line_end_at, many_at}
 use Rattle.imap_words.specs.Numbers.{number_at}
 use Rattle.imap_words.specs.declared.strings.Quoting.{Quoting}
 use Rattle.imap_words.specs.declared.strings.Quoting.TheVariants as quoting
@@ -64,7 +64,11 @@ string_at kind octets =
 abbrev pub astring_at : List ℕ → Option (List ℕ × List ℕ)
 astring_at octets = string_at is_astring_byte octets
 
--- The same after a space.
+-- One or more such texts with single spaces between them.
+abbrev pub astrings_at : List ℕ → Option (List (List ℕ) × List ℕ)
+astrings_at octets = many_at astring_at (length octets) octets
+
+-- Such a text after a space.
 unfoldable pub argument_at : List ℕ → Option (List ℕ × List ℕ)
 argument_at octets = do
   rest ← byte_at 32 octets

@@ -1,6 +1,7 @@
 //! A cursor over the octets of a command.
 //! Allocates.
 ghost use Rattle.std.specs.Prelude.{◌≡◌, ◌≤◌, [], ◌∷◌, length, take, drop, slice_index, MatchOption, is_some};
+ghost use Rattle.std.specs.List.{prefix_len};
 ghost use Rattle.imap_words.specs.Kinds.{is_of};
 ghost use Rattle.imap_words.specs.Reading.{ObtainsSlice, Skips, Continues, Copies, byte_at, run_at, word_of, behind_word, line_end_at, end_at};
 
@@ -147,6 +148,14 @@ impl<'a> Cursor<'a> {
             },
             [first, ..] => *first == b'\n',
         }
+    }
+
+    /// Returns the number of octets of a kind that come next.
+    pub fn run_len(&self, kind: Kind) -> usize
+        ensures value { result ≡ prefix_len (is_of kind) self.now }
+        ensures within { result ≤ length self.now }
+    {
+        run_len(kind, self.rest)
     }
 
     /// Takes one or more octets of a kind, as many as there are.

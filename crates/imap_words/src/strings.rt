@@ -4,12 +4,12 @@ ghost use Rattle.std.specs.Prelude.{◌≡◌, false};
 ghost use Rattle.std.specs.List.{list_all};
 ghost use Rattle.imap_words.specs.Kinds.{is_of, is_octet};
 ghost use Rattle.imap_words.specs.Reading.{Obtains, run_at};
-ghost use Rattle.imap_words.specs.Strings.{quoting_of as quoting_of_byte, quoted_at, quoted_from, octets_at, literal_at, string_at, astring_at, argument_at, atom_argument_at};
+ghost use Rattle.imap_words.specs.Strings.{quoting_of as quoting_of_byte, quoted_at, quoted_from, octets_at, literal_at, string_at, astring_at, astrings_at, argument_at, atom_argument_at};
 
 use crate::cursor::Cursor;
 use crate::kinds::Kind;
 use crate::stop::Stop;
-use arch_base::Bytes;
+use arch_base::{Bytes, Texts};
 
 /// What an octet is within quotes.
 #[derive(Clone, Copy)]
@@ -133,6 +133,23 @@ impl<'a> Cursor<'a> {
         ensures { Obtains self.new result (astring_at self.old) }
     {
         self.string(Kind::Astring)
+    }
+
+    /// Takes one or more such texts with single spaces between them.
+    pub fn astrings(&mut self) -> Result<Texts, Stop>
+        ensures { Obtains self.new result (astrings_at self.old) }
+    {
+        let mut texts = Texts::new(self.alloc());
+        for _index in 0..self.rest.len() {
+            match self.astring() {
+                Err(stop) => return Err(stop),
+                Ok(text) => texts.push(text)?,
+            }
+            if !self.has(b' ') {
+                return Ok(texts);
+            }
+        }
+        Err(Stop::Bad)
     }
 
     /// Takes a space and such a text.

@@ -8,4 +8,4 @@ returns-then-len-text c = words_whole c.args.byte c.args.text.now (sym c.len_bef
 pub returns : goal.returns
 returns c =
     words_cut c.args.byte c.args.text.now c.split_at.result.0.now c.split_at-2.result.1.now c.len_before-len.result
-      c.len_before-len.ensures.value (omega arith) c.split_at.ensures.front c.split_at-2.ensures.back
+    c.len_before-len.ensures.value (omega arith) c.split_at.ensures.front c.split_at-2.ensures.back
