@@ -158,7 +158,7 @@ fn date_at(moment: &Moment) -> CivilDate
     date_of_seconds(seconds as u64, moment.zone)
 }
 
-/// Returns the date that a clock in UTC shows.
+/// Returns the date that a clock in UTC shows, so many seconds after the start of 1970.
 pub fn utc_date(secs: u64) -> CivilDate
     requires { secs ≤ last_second }
     ensures { IsDateAt (utc secs) result }

@@ -1,3 +1,4 @@
 pub mod WireLengths
 pub mod MailboxLengths
 pub mod FirstValues
+pub mod Headers

@@ -23,7 +23,7 @@ pub use laws::{
     id_line_is_kept, ids_are_pieces, ids_in_order, own_id_in_front, own_id_is_first, parts_lie_in,
     stored_once,
 };
-pub use reading::{body, fields, first_value, own_id};
+pub use reading::{body, fields, first_value, is_same_name, own_id};
 pub use references::refs_of;
 pub use storing::{StoredRefusal, stored};
 pub use values::flat;

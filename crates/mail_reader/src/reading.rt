@@ -73,8 +73,9 @@ pub fn own_id(text: &[u8]) -> Option<&[u8]>
     None
 }
 
-/// Returns whether two names are equal, ignoring case.
-pub(crate) fn is_same_name(name: &[u8], other: &[u8]) -> bool
+/// Returns whether two field names are equal, ignoring the case of ASCII letters (RFC 5322, section
+/// 1.2.2).
+pub fn is_same_name(name: &[u8], other: &[u8]) -> bool
     ensures { result ≡ str_eq_ignore_ascii_case name.now other.now }
 {
     name.eq_ignore_ascii_case(other)
