@@ -275,13 +275,13 @@ written_whole from n to seen gone plan long (Some c) (Some d) (Some e) epoch pla
     written_now from n to seen gone plan long c e epoch plans count (subst (λ (l : Content). PutSources plan.bytes plan.sources to 0 l e) (content_same c d same) put)
 
 -- The plan is whole where the epoch was read.
-pub never_short : (from : FileName) (n : ℕ) (to : FileName) (seen : List Seen) (gone : List ℕ) (plan : Plan) (whole : Bool) (k m o : Option Content) → WhereTold (λ c. Walks n (bytes_of (c from).seen) (Ok seen)) k → WhereTold (PlansFile from n seen gone (Ok plan)) k → Told Unchanged k m → Told (OthersStay to) m o
-    → (HasSources plan.bytes m plan.sources → whole ≡ true) → whole ≡ false → Told (λ c d. Rewrites from n to gone c d (Err NoMemory)) k o
-never_short from n to seen gone plan whole None None None epoch plans same others all short = tt
-never_short from n to seen gone plan whole None None (Some e) epoch plans same others all short = absurd others
-never_short from n to seen gone plan whole None (Some d) o epoch plans same others all short = absurd same
-never_short from n to seen gone plan whole (Some c) None o epoch plans same others all short = absurd same
-never_short from n to seen gone plan whole (Some c) (Some d) None epoch plans same others all short = absurd others
-never_short from n to seen gone plan whole (Some c) (Some d) (Some e) epoch plans same others all short =
+pub never_short : (from : FileName) (n : ℕ) (to : FileName) (seen : List Seen) (gone : List ℕ) (at : ℕ) (plan : Plan) (whole : Bool) (k m o : Option Content) → WhereTold (λ c. Walks n (bytes_of (c from).seen) (Ok seen)) k → WhereTold (PlansFile from n seen gone (Ok plan)) k → Told Unchanged k m → Told (OthersStay to) m o
+    → (HasSources plan.bytes m plan.sources → whole ≡ true) → whole ≡ false → Told (λ c d. Rewrites from n to gone c d (Err (Damaged at))) k o
+never_short from n to seen gone at plan whole None None None epoch plans same others all short = tt
+never_short from n to seen gone at plan whole None None (Some e) epoch plans same others all short = absurd others
+never_short from n to seen gone at plan whole None (Some d) o epoch plans same others all short = absurd same
+never_short from n to seen gone at plan whole (Some c) None o epoch plans same others all short = absurd same
+never_short from n to seen gone at plan whole (Some c) (Some d) None epoch plans same others all short = absurd others
+never_short from n to seen gone at plan whole (Some c) (Some d) (Some e) epoch plans same others all short =
     let there = subst (λ (l : Content). HasSources plan.bytes (Some l) plan.sources) (sym (content_same c d same)) (sources_there plan c (plans epoch).0) in
     absurd (not_both whole (all there) short)

@@ -68,9 +68,8 @@ abbrev pub Stays : Texts → List EpochEntry → List EpochEntry → EpochEntry 
     → Result Seen WalkRefusal → Type 0
 Stays texts es kept e new (Ok seen) = (seen ≡ seen_after kept e)
     × IsPlanned texts (es ++ e ∷ []) (kept ++ e ∷ []) new
-Stays texts es kept e new (Err DiskFault) = Unit {0}
-Stays texts es kept e new (Err NoMemory) = Unit {0}
 Stays texts es kept e new (Err (Damaged at)) = ⊥
+Stays texts es kept e new (Err _) = Unit {0}
 
 -- Where the entries of a file are planned so, and it has another one, that stays.
 abbrev pub KeepsNext : Planned → Seen → Planned → Result Seen WalkRefusal → Content → Type 0
@@ -184,9 +183,8 @@ kept_from gone n (e ∷ es) = if is_among gone n then kept_from gone (n + 1) es
 -- damaged.
 abbrev pub GivesPlan : Texts → List EpochEntry → List ℕ → Result (Option Plan) WalkRefusal → Type 0
 GivesPlan texts es gone (Ok plan) = IsFinished texts es (kept_from gone 0 es) plan
-GivesPlan texts es gone (Err DiskFault) = Unit {0}
-GivesPlan texts es gone (Err NoMemory) = Unit {0}
 GivesPlan texts es gone (Err (Damaged at)) = ⊥
+GivesPlan texts es gone (Err _) = Unit {0}
 
 -- The same for a file that is an epoch with these records, whatever its entries are.
 abbrev pub PlansWhole : FileName → List Seen → List ℕ → Result (Option Plan) WalkRefusal → Content
@@ -202,9 +200,8 @@ staying_with leaves kept e = if leaves then kept else kept ++ e ∷ []
 abbrev pub IsTaken : Texts → List EpochEntry → List EpochEntry → Planned → Result Unit WalkRefusal
     → Type 0
 IsTaken texts es kept new (Ok _) = IsPlanned texts es kept new
-IsTaken texts es kept new (Err DiskFault) = Unit {0}
-IsTaken texts es kept new (Err NoMemory) = Unit {0}
 IsTaken texts es kept new (Err (Damaged at)) = ⊥
+IsTaken texts es kept new (Err _) = Unit {0}
 
 -- Where the entries of a file are planned so, and it has another one, that is left out or stays.
 abbrev pub TakesNext : Planned → Seen → Bool → Planned → Result Unit WalkRefusal → Content → Type 0
@@ -218,9 +215,8 @@ abbrev pub PlansFile : FileName → ℕ → List Seen → List ℕ → Result Pl
 PlansFile file n seen gone (Ok plan) k = (is : IsEpoch n (bytes_of (k file).seen) seen)
     → IsPlanWhole (texts_in k) plan
     × (written_by (texts_in k) plan ≡ file_of (kept_from gone 0 is.entries))
-PlansFile file n seen gone (Err DiskFault) k = Unit {0}
-PlansFile file n seen gone (Err NoMemory) k = Unit {0}
 PlansFile file n seen gone (Err (Damaged at)) k = IsEpoch n (bytes_of (k file).seen) seen → ⊥
+PlansFile file n seen gone (Err _) k = Unit {0}
 
 -- The results of a rewriting: the old file is an epoch, and the new one, if it wasn't there, has its
 -- entries but those with these indexes, and is so long, and stays as it was where these are all; or
@@ -262,10 +258,9 @@ abbrev pub GivesCommit : Seen → Option Id20 → List ℕ → Result NewCommit 
 GivesCommit seen parent text (Ok made) = (length text ≡ seen.size) × (blob_id_of text ≡ seen.blob)
     × (made.bytes ≡ commit_text seen.kind text seen.moment parent)
     × (made.id ≡ commit_id seen.kind text seen.moment parent)
-GivesCommit seen parent text (Err DiskFault) = Unit {0}
-GivesCommit seen parent text (Err NoMemory) = Unit {0}
 GivesCommit seen parent text (Err (Damaged at)) =
     (at ≡ seen.at) × (length text ≡ seen.size → blob_id_of text ≡ seen.blob → ⊥)
+GivesCommit seen parent text (Err _) = Unit {0}
 
 -- The same, where the file has the text that its record names.
 abbrev pub CommitsAnew : FileName → Seen → Option Id20 → Result NewCommit WalkRefusal → Content
@@ -277,11 +272,10 @@ CommitsAnew file seen parent result k =
 abbrev pub ChecksText : FileName → Seen → Result Seen WalkRefusal → Content → Type 0
 ChecksText file seen (Ok made) k = (length (file_range k file seen.text_at seen.size) ≡ seen.size)
     × (blob_id_of (file_range k file seen.text_at seen.size) ≡ seen.blob)
-ChecksText file seen (Err DiskFault) k = Unit {0}
-ChecksText file seen (Err NoMemory) k = Unit {0}
 ChecksText file seen (Err (Damaged at)) k = (at ≡ seen.at)
     × (length (file_range k file seen.text_at seen.size) ≡ seen.size
     → blob_id_of (file_range k file seen.text_at seen.size) ≡ seen.blob → ⊥)
+ChecksText file seen (Err _) k = Unit {0}
 
 -- So it is where an entry was left out before.
 abbrev pub Checks : Planned → Seen → Result Seen WalkRefusal → Content → Type 0
@@ -295,6 +289,5 @@ LacksText file seen k = length (file_range k file seen.text_at seen.size) ≡ se
 -- An error that tells of damage tells the offset of the entry, whose text isn't in its place where the
 -- disk tells its content.
 abbrev pub TellsLack : FileName → Seen → Option Content → WalkRefusal → Type 0
-TellsLack file seen content DiskFault = Unit {0}
-TellsLack file seen content NoMemory = Unit {0}
 TellsLack file seen content (Damaged at) = (at ≡ seen.at) × WhereTold (LacksText file seen) content
+TellsLack file seen content _ = Unit {0}

@@ -14,10 +14,8 @@ pub record OnlyReads {D : Type 0} (content : D → Option Content) (moment : D �
 
 -- The count of faults rose if the disk failed, and otherwise stays the same.
 abbrev pub FaultRose : {T : Type 0} → ℕ → ℕ → Result T WalkRefusal → Type 0
-FaultRose before now (Ok value) = now ≡ before
 FaultRose before now (Err DiskFault) = Rose before now
-FaultRose before now (Err NoMemory) = now ≡ before
-FaultRose before now (Err (Damaged offset)) = now ≡ before
+FaultRose before now _ = now ≡ before
 
 -- The same if nothing else can go wrong than that and running out of memory.
 abbrev pub StopRose : {T : Type 0} → ℕ → ℕ → Result T WalkRefusal → Type 0

@@ -3,7 +3,7 @@ use Rattle.std.specs.Prelude.{◌≡◌, ◌≢◌, ◌⊎◌, ◌<◌, ◌+◌,
 use Rattle.std.specs.Fmt.{decimal}
 use Rattle.arch_base.specs.declared.ids.Id20.{Id20}
 use Rattle.disk_model.specs.declared.refusal.WalkRefusal.{WalkRefusal}
-use Rattle.disk_model.specs.declared.refusal.WalkRefusal.TheVariants.{DiskFault, NoMemory, Damaged}
+use Rattle.disk_model.specs.declared.refusal.WalkRefusal.TheVariants.{Damaged}
 use Rattle.git_objects.specs.Objects.{blob_id_of}
 use Rattle.mail_reader.specs.Ids.{own_id}
 use Rattle.mail_reader.specs.Content.{content_id_of}
@@ -75,5 +75,4 @@ IsDamagedAt n bytes offset = ((offset ≡ 0) × LacksMagic n bytes) ⊎ EndsEarl
 abbrev pub Walks : ℕ → List ℕ → Result (List Seen) WalkRefusal → Type 0
 Walks n bytes (Ok seen) = IsEpoch n bytes seen
 Walks n bytes (Err (Damaged offset)) = IsDamagedAt n bytes offset
-Walks n bytes (Err DiskFault) = Unit {0}
-Walks n bytes (Err NoMemory) = Unit {0}
+Walks n bytes (Err _) = Unit {0}

@@ -120,6 +120,9 @@ fn plan_file<D: Disk>(
 /// The commits after the first entry that is left out are made anew. The other file isn't there
 /// before; it isn't made if no entry stays. Reads the epoch first: it is `Damaged` where `walk` says
 /// so. `Damaged` and `NoMemory` leave all files. `DiskFault` comes only if the count of faults rose.
+///
+/// An epoch that gets shorter while it is copied is `Damaged` at its end. The other file may then have
+/// some of its bytes.
 pub fn rewrite<D: Disk>(
     alloc: Global,
     disk: &mut D,
@@ -140,8 +143,8 @@ pub fn rewrite<D: Disk>(
     let plan = plan_file(alloc, disk, from, count, &seen, gone)?;
     let whole = put_sources(disk, plan.bytes(), plan.sources(), to, 0)?;
     if !whole {
-        // The entries were whole when they were read.
-        return Err(WalkRefusal::NoMemory);
+        // The file got shorter after its entries were read.
+        return Err(WalkRefusal::Damaged { at: count });
     }
     Ok(plan.count())
 }

@@ -50,13 +50,13 @@ rewritten from count to gone plan lines (Some c) (Some d) None walks planned sam
 rewritten from count to gone plan lines (Some c) (Some d) (Some e) walks planned same put = rewritten_now from count to gone plan lines c d e walks planned same put
 
 -- The plan is whole where the map was read.
-pub never_short : (from : FileName) (count : ℕ) (to : FileName) (gone : List ℕ) (plan : Plan) (lines : List Record) (whole : Bool) (k m o : Option Content) → WhereTold (λ c. Walks count (bytes_of (c from).seen) (Ok lines)) k → PlansMap from count gone plan → Told Unchanged k m → Told (OthersStay to) m o → (HasSources plan.bytes m plan.sources → whole ≡ true) → whole ≡ false
-    → Told (λ c d. Rewrites from count to gone c d (Err NoMemory)) k o
-never_short from count to gone plan lines whole None None None walks planned same others all short = tt
-never_short from count to gone plan lines whole None None (Some e) walks planned same others all short = absurd others
-never_short from count to gone plan lines whole None (Some d) o walks planned same others all short = absurd same
-never_short from count to gone plan lines whole (Some c) None o walks planned same others all short = absurd same
-never_short from count to gone plan lines whole (Some c) (Some d) None walks planned same others all short = absurd others
-never_short from count to gone plan lines whole (Some c) (Some d) (Some e) walks planned same others all short =
+pub never_short : (from : FileName) (count : ℕ) (to : FileName) (gone : List ℕ) (at : ℕ) (plan : Plan) (lines : List Record) (whole : Bool) (k m o : Option Content) → WhereTold (λ c. Walks count (bytes_of (c from).seen) (Ok lines)) k → PlansMap from count gone plan → Told Unchanged k m → Told (OthersStay to) m o → (HasSources plan.bytes m plan.sources → whole ≡ true) → whole ≡ false
+    → Told (λ c d. Rewrites from count to gone c d (Err (Damaged at))) k o
+never_short from count to gone at plan lines whole None None None walks planned same others all short = tt
+never_short from count to gone at plan lines whole None None (Some e) walks planned same others all short = absurd others
+never_short from count to gone at plan lines whole None (Some d) o walks planned same others all short = absurd same
+never_short from count to gone at plan lines whole (Some c) None o walks planned same others all short = absurd same
+never_short from count to gone at plan lines whole (Some c) (Some d) None walks planned same others all short = absurd others
+never_short from count to gone at plan lines whole (Some c) (Some d) (Some e) walks planned same others all short =
     let there = sources_there plan d (planned.written (λ (name : FileName). bytes_of (d name).seen) lines walks.0 (begins_still from lines c d walks.1 same)).0 in
     absurd (not_both whole (all there) short)

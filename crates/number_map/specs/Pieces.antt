@@ -43,5 +43,4 @@ IsEnough wanted bytes after = (record_size * wanted ≤ length bytes) ⊎ (after
 abbrev pub ReadsOn : {T : Type 0} → Result T WalkRefusal → ℕ → List ℕ → List Record → Type 0
 ReadsOn (Ok _) count bytes new = (length new ≡ count) × BeginsWith new bytes
 ReadsOn (Err (Damaged at)) count bytes new = IsDamaged count at bytes
-ReadsOn (Err DiskFault) count bytes new = Unit {0}
-ReadsOn (Err NoMemory) count bytes new = Unit {0}
+ReadsOn (Err _) count bytes new = Unit {0}

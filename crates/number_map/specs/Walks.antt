@@ -2,7 +2,7 @@
 use Rattle.std.specs.Prelude.{◌≡◌, ◌≢◌, ◌+◌, ◌*◌, ◌<◌, ℕ, Result, Ok, Err, List, length, take, drop}
 use Rattle.std.specs.List.{flat_map}
 use Rattle.disk_model.specs.declared.refusal.WalkRefusal.{WalkRefusal}
-use Rattle.disk_model.specs.declared.refusal.WalkRefusal.TheVariants.{DiskFault, Damaged, NoMemory}
+use Rattle.disk_model.specs.declared.refusal.WalkRefusal.TheVariants.{Damaged}
 use Rattle.disk_model.specs.Sizes.{record_size}
 use Rattle.number_map.specs.declared.line.Record.{Record}
 use Rattle.number_map.specs.Records.{record_bytes, IsRecord, AreRecordsFrom}
@@ -26,5 +26,4 @@ pub record IsDamaged (count at : ℕ) (bytes : List ℕ) : Type 0 where
 abbrev pub Walks : ℕ → List ℕ → Result (List Record) WalkRefusal → Type 0
 Walks count bytes (Ok lines) = (length lines ≡ count) × BeginsWith lines bytes
 Walks count bytes (Err (Damaged at)) = IsDamaged count at bytes
-Walks count bytes (Err DiskFault) = Unit {0}
-Walks count bytes (Err NoMemory) = Unit {0}
+Walks count bytes (Err _) = Unit {0}

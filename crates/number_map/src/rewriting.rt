@@ -79,6 +79,9 @@ pub fn plan_without(
 /// The other file isn't there before. Reads the records first: the map is `Damaged` at the offset of
 /// the first of them that isn't whole in the file or isn't a valid one of its number. `Damaged` and
 /// `NoMemory` leave all files. `DiskFault` comes only if the count of faults rose.
+///
+/// A map that gets shorter while it is copied is `Damaged` at the end of its records. The other file
+/// may then have some of them.
 pub fn rewrite<D: Disk>(
     alloc: Global,
     disk: &mut D,
@@ -100,8 +103,10 @@ pub fn rewrite<D: Disk>(
     let plan = plan_without(alloc, from, count, gone)?;
     let whole = put_sources(disk, plan.bytes(), plan.sources(), to, 0)?;
     if !whole {
-        // The records were whole when they were read.
-        return Err(WalkRefusal::NoMemory);
+        // The file got shorter after its records were read.
+        return Err(WalkRefusal::Damaged {
+            at: RECORD_SIZE as u64 * u64::from(count),
+        });
     }
     Ok(())
 }

@@ -54,9 +54,7 @@ names_file root name = named_by root name.kind name.number name.gen_
 -- Whether a name is that of the root file, by the parts of the name.
 abbrev pub root_by : FileKind → ℕ → ℕ → Bool
 root_by kind.Root number gen_ = number == 0 && gen_ == 0
-root_by kind.Map number gen_ = false
-root_by kind.Epoch number gen_ = false
-root_by kind.Cache number gen_ = false
+root_by _ number gen_ = false
 
 -- Whether a name is that of the root file.
 abbrev pub is_root_name : FileName → Bool

@@ -116,21 +116,10 @@ pub record IsPlan (plan : Plan) : Type 0 where
 -- Two kinds of files are the same.
 abbrev pub same_kind : FileKind → FileKind → Bool
 same_kind kind.Root kind.Root = true
-same_kind kind.Root kind.Map = false
-same_kind kind.Root kind.Epoch = false
-same_kind kind.Root kind.Cache = false
-same_kind kind.Map kind.Root = false
 same_kind kind.Map kind.Map = true
-same_kind kind.Map kind.Epoch = false
-same_kind kind.Map kind.Cache = false
-same_kind kind.Epoch kind.Root = false
-same_kind kind.Epoch kind.Map = false
 same_kind kind.Epoch kind.Epoch = true
-same_kind kind.Epoch kind.Cache = false
-same_kind kind.Cache kind.Root = false
-same_kind kind.Cache kind.Map = false
-same_kind kind.Cache kind.Epoch = false
 same_kind kind.Cache kind.Cache = true
+same_kind _ _ = false
 
 -- The first plan of a part, if there is one.
 abbrev pub plan_of : List Plan → FileKind → ℕ → Option Plan
@@ -204,10 +193,9 @@ pub record IsRootAfter (old : Root) (plans : List Plan) (number : ℕ) (new : Ro
 
 -- A part may be planned: the map, or an epoch.
 abbrev pub IsPartToPlan : FileKind → ℕ → Type 0
-IsPartToPlan kind.Root number = ⊥
 IsPartToPlan kind.Map number = number ≡ 0
 IsPartToPlan kind.Epoch number = number < epoch_count
-IsPartToPlan kind.Cache number = ⊥
+IsPartToPlan _ number = ⊥
 
 -- The file of a part by a root.
 abbrev pub file_by : Root → FileKind → ℕ → FileName
@@ -250,15 +238,13 @@ MapFits old plans number =
 
 -- A range wasn't whole.
 abbrev pub IsShort : {T : Type 0} → Result T RewriteRefusal → Type 0
-IsShort (Ok x) = ⊥
-IsShort (Err DiskFault) = ⊥
 IsShort (Err (Short file at)) = Unit {0}
+IsShort _ = ⊥
 
 -- What holds of the file and the offset with which it is told that a range wasn't whole.
 abbrev pub IfShort : {T : Type 0} → Result T RewriteRefusal → (FileName → ℕ → Type 0) → Type 0
-IfShort (Ok x) P = Unit {0}
-IfShort (Err DiskFault) P = Unit {0}
 IfShort (Err (Short file at)) P = P file at
+IfShort _ P = Unit {0}
 
 -- The file of a plan's part by a root, and how many of its bytes count there.
 pub record IsPartOf (root : Root) (plan : Plan) (file : FileName) (at : ℕ) : Type 0 where
@@ -274,9 +260,8 @@ pub record IsPlannedPart (root : Root) (plans : List Plan) (file : FileName) (at
 
 -- The disk failed.
 abbrev pub IsFailed : {T : Type 0} → Result T RewriteRefusal → Type 0
-IsFailed (Ok x) = ⊥
 IsFailed (Err DiskFault) = Unit {0}
-IsFailed (Err (Short file at)) = ⊥
+IsFailed _ = ⊥
 
 -- Files stand for parts by the old root, or for those after plans by the root after them.
 abbrev pub RecoversPlanned : Root → List Plan → ℕ → Parts → Files → Type 0

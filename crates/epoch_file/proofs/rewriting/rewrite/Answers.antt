@@ -112,7 +112,7 @@ returns-then-not-whole-clause-rewritten g c =
     let m = content c.plan_file.new.disk in
     let all = subst (λ (bytes : List ℕ). HasSources bytes m plan.sources → c.in_ok-whole.whole ≡ true) c.bytes.ensures
     (subst (λ (sources : List Source). HasSources c.bytes.result.now m sources → c.in_ok-whole.whole ≡ true) c.sources.ensures c.in_ok-whole.ensures.whole) in
-    never_short c.args.from c.args.count c.args.to seen gone plan c.in_ok-whole.whole k m (content c.put_sources.new.disk) c.in_ok-seen.ensures.walked
+    never_short c.args.from c.args.count c.args.to seen gone _ plan c.in_ok-whole.whole k m (content c.put_sources.new.disk) c.in_ok-seen.ensures.walked
     (told_back (PlansFile c.args.from c.args.count seen gone (Ok plan)) k (content c.walk.new.disk) c.walk.ensures.same c.in_ok-plan.ensures.planned) (unchanged_then (content c.args.disk.now) (content c.walk.new.disk) (content c.plan_file.new.disk) c.walk.ensures.same c.plan_file.ensures.same) c.put_sources.ensures.others all c.if-not-whole.true
 
 pub returns-clause-rewritten : goal.returns-clause-rewritten

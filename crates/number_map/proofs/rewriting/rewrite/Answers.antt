@@ -53,4 +53,4 @@ returns-then-not-whole-clause-rewritten g c =
     let m = content c.walk.new.disk in
     let all = subst (λ (bytes : List ℕ). HasSources bytes m plan.sources → c.in_ok-whole.whole ≡ true) c.bytes.ensures
     (subst (λ (sources : List Source). HasSources c.bytes.result.now m sources → c.in_ok-whole.whole ≡ true) c.sources.ensures c.in_ok-whole.ensures.whole) in
-    never_short c.args.from c.args.count c.args.to c.args.gone.now plan c.in_ok-walk.field-0 c.in_ok-whole.whole (content c.args.disk.now) m (content c.put_sources.new.disk) c.in_ok-walk.ensures.walked c.in_ok-plan.ensures c.walk.ensures.same c.put_sources.ensures.others all c.if-not-whole.true
+    never_short c.args.from c.args.count c.args.to c.args.gone.now _ plan c.in_ok-walk.field-0 c.in_ok-whole.whole (content c.args.disk.now) m (content c.put_sources.new.disk) c.in_ok-walk.ensures.walked c.in_ok-plan.ensures c.walk.ensures.same c.put_sources.ensures.others all c.if-not-whole.true
