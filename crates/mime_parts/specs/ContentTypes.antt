@@ -20,33 +20,24 @@ step added next = Some (record { added = added; next = next })
 -- A semicolon is the only mark after a type, a parameter or another semicolon.
 abbrev pub mark_after_pair : Mark → Option Step
 mark_after_pair Semicolon = step [] expected.Name
-mark_after_pair Slash = None
-mark_after_pair Equals = None
-mark_after_pair Other = None
+mark_after_pair _ = None
 
 -- An equals sign is the only mark after the name of a parameter.
 abbrev pub mark_after_name : Mark → Option Step
-mark_after_name Semicolon = None
-mark_after_name Slash = None
 mark_after_name Equals = step [] expected.Value
-mark_after_name Other = None
+mark_after_name _ = None
 
 -- After a type and after each parameter a semicolon is expected, and after the semicolon the name
 -- of a parameter, in any case. Another semicolon may be there instead. After the name `=` is
 -- expected, and then the value: a token or a quoted string. `None` for any other lexeme.
 abbrev pub step_of : Expected → LexemeText → Option Step
-step_of expected.Semicolon (TokenText token) = None
-step_of expected.Semicolon (QuotedText inside) = None
 step_of expected.Semicolon (MarkText mark) = mark_after_pair mark
 step_of expected.Name (TokenText token) = step (str_to_ascii_lowercase token ∷ []) expected.Equals
-step_of expected.Name (QuotedText inside) = None
 step_of expected.Name (MarkText mark) = mark_after_pair mark
-step_of expected.Equals (TokenText token) = None
-step_of expected.Equals (QuotedText inside) = None
 step_of expected.Equals (MarkText mark) = mark_after_name mark
 step_of expected.Value (TokenText token) = step (token ∷ []) expected.Semicolon
 step_of expected.Value (QuotedText inside) = step (unescaped inside ∷ []) expected.Semicolon
-step_of expected.Value (MarkText mark) = None
+step_of _ _ = None
 
 -- A value may end after its type, after a parameter and after a semicolon.
 abbrev pub end_at : Expected → Option (List (List ℕ))
@@ -89,10 +80,8 @@ first_token (l ∷ ls) = token_at l ls
 
 -- The lexemes after a mark, if it is a slash.
 abbrev pub slash_by : Mark → List LexemeText → Option (List LexemeText)
-slash_by Semicolon later = None
 slash_by Slash later = Some later
-slash_by Equals later = None
-slash_by Other later = None
+slash_by _ later = None
 
 -- The lexemes after a lexeme, if it is a slash.
 abbrev pub slash_at : LexemeText → List LexemeText → Option (List LexemeText)

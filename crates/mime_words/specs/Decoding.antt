@@ -39,17 +39,11 @@ without_gaps after_word (piece ∷ later) =
 -- Both are the same charset, or both are none.
 abbrev pub same_charset : Option Charset → Option Charset → Bool
 same_charset None None = true
-same_charset None (Some b) = false
 same_charset (Some a) None = false
 same_charset (Some Utf8) (Some Utf8) = true
-same_charset (Some Utf8) (Some UsAscii) = false
-same_charset (Some Utf8) (Some Latin1) = false
-same_charset (Some UsAscii) (Some Utf8) = false
 same_charset (Some UsAscii) (Some UsAscii) = true
-same_charset (Some UsAscii) (Some Latin1) = false
-same_charset (Some Latin1) (Some Utf8) = false
-same_charset (Some Latin1) (Some UsAscii) = false
 same_charset (Some Latin1) (Some Latin1) = true
+same_charset _ _ = false
 
 -- A piece before others. It is joined with the first of them if both have the same charset, or both
 -- have none.
@@ -68,10 +62,8 @@ joined (piece ∷ later) = before piece (joined later)
 -- A byte of ISO-8859-1 is the character with that number. All other bytes are UTF-8, with U+FFFD
 -- for those that aren't.
 abbrev pub read_as : Option Charset → List ℕ → List ℕ
-read_as None bytes = utf8_lossy bytes
-read_as (Some Utf8) bytes = utf8_lossy bytes
-read_as (Some UsAscii) bytes = utf8_lossy bytes
 read_as (Some Latin1) bytes = encode_utf8_all bytes
+read_as _ bytes = utf8_lossy bytes
 
 -- The text of a piece, in UTF-8.
 abbrev pub text_of : Piece → List ℕ

@@ -10,10 +10,8 @@ spelled (Some high) (Some low) = Some (16 * high + low)
 
 -- The byte that `=` and two digits at the front encode, if the bytes start with them.
 abbrev pub escape : List ℕ → Option ℕ
-escape [] = None
-escape (b ∷ []) = None
-escape (b ∷ x ∷ []) = None
 escape (b ∷ x ∷ y ∷ bs) = if b == 61 then spelled (hex_digit_value x) (hex_digit_value y) else None
+escape _ = None
 
 -- An underscore is a space, and any other byte is itself.
 abbrev pub plain_byte : ℕ → ℕ

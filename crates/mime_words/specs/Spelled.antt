@@ -172,10 +172,8 @@ outer_text parts = flat_map outer_bytes parts
 
 -- The first part is no bytes without `=?`.
 abbrev pub IsNoStretch : List OuterPart → Type 0
-IsNoStretch [] = Unit {0}
 IsNoStretch (Stretch text ∷ later) = ⊥
-IsNoStretch (Foreign word ∷ later) = Unit {0}
-IsNoStretch (Stray ∷ later) = Unit {0}
+IsNoStretch _ = Unit {0}
 
 -- Parts of such a text, with bytes after them. No two neighbours are both bytes without `=?`.
 abbrev pub AreOuter : List OuterPart → List ℕ → Type 0
@@ -221,10 +219,8 @@ is_all_spaces text = list_all (λ b. b == 32) text
 
 -- A text between words isn't only spaces.
 abbrev pub IsNoGap : Before → List ℕ → List Run → Type 0
-IsNoGap Start text later = Unit {0}
-IsNoGap AfterText text later = Unit {0}
-IsNoGap (AfterWords charset) text [] = Unit {0}
 IsNoGap (AfterWords charset) text (next ∷ later) = is_all_spaces text ≡ false
+IsNoGap _ _ _ = Unit {0}
 
 -- No two neighbours are both texts.
 abbrev pub MayBeText : Before → Type 0
