@@ -58,8 +58,8 @@ pub ranges_more : (rest first others : List ℕ) (range : SetRange) (done : List
     → with_ranges (done ++ range ∷ []) (ranges_of (words_at 44 others)) ≡ all
 ranges_more rest first others range done all s r h =
     let e : with_ranges done (ranges_of (first ∷ words_at 44 others))
-        ≡ with_ranges (done ++ range ∷ []) (ranges_of (words_at 44 others))
-      = rw r (with-range done range (ranges_of (words_at 44 others))) in
+    ≡ with_ranges (done ++ range ∷ []) (ranges_of (words_at 44 others))
+    = rw r (with-range done range (ranges_of (words_at 44 others))) in
     sym e ∙ (ap (λ w. with_ranges done (ranges_of w)) (sym s) ∙ h)
 
 -- Three words are no range.
@@ -89,8 +89,8 @@ parts_named numbered rest first others found done all s r is h =
     let p = split_words 46 rest first others s in
     let is' : section_name_of numbered (first ∷ p.0) ≡ Some found = ap (λ w. section_name_of numbered w) (sym p.1) ∙ is in
     let e : with_parts done (parts_by (nz_number_of first) (word_by [] (section_name_of numbered (first ∷ p.0))) (parts_of true p.0))
-        ≡ Some (record { part = done; name = found })
-      = rw r (rw is' (ap (λ (l : List ℕ). Some (record { part = l; name = found })) (append-nil done))) in
+    ≡ Some (record { part = done; name = found })
+    = rw r (rw is' (ap (λ (l : List ℕ). Some (record { part = l; name = found })) (append-nil done))) in
     sym h ∙ (ap (λ w. with_parts done (parts_of numbered w)) p.1 ∙ e)
 
 -- A keyword comes next, and names nothing.
@@ -102,8 +102,8 @@ parts_bad numbered rest first others done all s r is h =
     let p = split_words 46 rest first others s in
     let is' : section_name_of numbered (first ∷ p.0) ≡ None = ap (λ w. section_name_of numbered w) (sym p.1) ∙ is in
     let e : with_parts done (parts_by (nz_number_of first) (word_by [] (section_name_of numbered (first ∷ p.0))) (parts_of true p.0))
-        ≡ None
-      = rw r (rw is' refl) in
+    ≡ None
+    = rw r (rw is' refl) in
     sym h ∙ (ap (λ w. with_parts done (parts_of numbered w)) p.1 ∙ e)
 
 -- The last word is a number.
@@ -113,8 +113,8 @@ pub parts_whole : (numbered : Bool) (rest first : List ℕ) (n : ℕ) (done : Li
     → all ≡ Some (record { part = done ++ n ∷ []; name = name.Whole })
 parts_whole numbered rest first n done all s r h =
     let e : with_parts done (parts_by (nz_number_of first) (word_by [] (section_name_of numbered (first ∷ []))) (parts_of true []))
-        ≡ Some (record { part = done ++ n ∷ []; name = name.Whole })
-      = rw r refl in
+    ≡ Some (record { part = done ++ n ∷ []; name = name.Whole })
+    = rw r refl in
     sym h ∙ (ap (λ w. with_parts done (parts_of numbered w)) s ∙ e)
 
 -- A number before other words.
@@ -124,9 +124,9 @@ pub parts_more : (numbered : Bool) (rest first others : List ℕ) (n : ℕ) (don
     → with_parts (done ++ n ∷ []) (parts_of true (words_at 46 others)) ≡ all
 parts_more numbered rest first others n done all s r h =
     let e : with_parts done (parts_by (nz_number_of first)
-          (word_by [] (section_name_of numbered (first ∷ words_at 46 others))) (parts_of true (words_at 46 others)))
-        ≡ with_parts (done ++ n ∷ []) (parts_of true (words_at 46 others))
-      = rw r (with-part done n (parts_of true (words_at 46 others))) in
+    (word_by [] (section_name_of numbered (first ∷ words_at 46 others))) (parts_of true (words_at 46 others)))
+    ≡ with_parts (done ++ n ∷ []) (parts_of true (words_at 46 others))
+    = rw r (with-part done n (parts_of true (words_at 46 others))) in
     sym e ∙ (ap (λ w. with_parts done (parts_of numbered w)) (sym s) ∙ h)
 
 -- Two words or more, whatever the others are.
