@@ -1,0 +1,9 @@
+pub mod Arrivals
+pub mod Names
+pub mod PieceLemmas
+pub mod Placing
+pub mod Shown
+pub mod Spans
+pub mod Unread
+pub mod Valuing
+pub mod Windows

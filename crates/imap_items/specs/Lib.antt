@@ -1,0 +1,9 @@
+pub mod Sections
+pub mod Items
+pub mod Searching
+pub mod Days
+pub mod Keys
+pub mod Laws
+pub mod Finding
+pub mod NameSets
+pub mod Kept
