@@ -31,12 +31,13 @@ $writable->done;
 """
 
 
-def lack():
-    """Returns what is missing for a server of public-inbox, or nothing."""
+def lack(modules=MODULES):
+    """Returns what is missing for a server of public-inbox, or nothing. These modules of Perl have to be
+    there."""
     words = ["public-inbox-init", "public-inbox-httpd", "public-inbox-nntpd"]
     if missing := [it for it in words if not shutil.which(it)]:
         return f"no {missing[0]}"
-    for name in MODULES:
+    for name in modules:
         done = subprocess.run(["perl", f"-M{name}", "-e", "1"], stderr=subprocess.DEVNULL, check=False)
         if done.returncode:
             return f"no {name}"
@@ -65,6 +66,18 @@ def make_inbox(texts, home):
     subprocess.run(init, stderr=subprocess.DEVNULL, **how)
     subprocess.run(["git", "config", "-f", f"{home}/config", f"publicinbox.{NAME}.newsgroup", NAME], **how)
     subprocess.run(["perl", "-e", IMPORT, f"{home}/mails"], **how)
+
+
+def make_epoch(folder, changes):
+    """Makes the repository of an epoch, without an index, by git. A change is a file's name, `m` or `d`,
+    and its content."""
+    os.makedirs(folder)
+    how = {"check": True, "stdout": subprocess.DEVNULL}
+    subprocess.run(["git", "init", "-q", "--bare", folder], **how)
+    head = b"commit refs/heads/master\ncommitter a <a@b> 1700000000 +0000\ndata 0\ndeleteall\nM 100644 inline "
+    stream = b"".join(b"%b%b\ndata %d\n%b\n" % (head, name, len(text), text) for name, text in changes)
+    subprocess.run(["git", "--git-dir", folder, "fast-import", "--quiet"], input=stream, **how)
+    subprocess.run(["git", "--git-dir", folder, "symbolic-ref", "HEAD", "refs/heads/master"], **how)
 
 
 @contextmanager
