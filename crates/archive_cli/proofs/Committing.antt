@@ -16,12 +16,12 @@ use Rattle.arch_model.specs.declared.answer.Answer.{Answer}
 use Rattle.arch_model.specs.declared.answer.Answer.TheVariants as answer
 use Rattle.arch_model.specs.declared.command.Command.{Command}
 use Rattle.arch_model.specs.declared.command.Command.TheVariants.{Deliver, Remove, Purge, Edit}
-use Rattle.epoch_store.specs.Files.{as_read}
-use Rattle.epoch_store.specs.Finding.{IsCurrentRoot}
+use Rattle.store_finding.specs.Files.{as_read}
+use Rattle.store_finding.specs.Finding.{IsCurrentRoot}
 use Rattle.epoch_store.specs.Opens.{Opens}
 use Rattle.epoch_store.specs.Promises.{Way, GoesOnBy}
 use Rattle.epoch_store.specs.Settling.{IsSettledBy, KeepsSlots}
-use Rattle.epoch_store.specs.Stores.{View}
+use Rattle.store_finding.specs.Kept.{View}
 use Rattle.epoch_store.proofs.Readying.{committed_over}
 use Rattle.archive_core.specs.Commands.{IsForCommand, OnDone, OnRefusal, OnlyLooks, UnlessFault}
 use Rattle.archive_core.specs.Engines.{unchanged-is}

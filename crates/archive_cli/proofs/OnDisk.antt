@@ -18,15 +18,15 @@ use Rattle.arch_model.specs.declared.answer.Answer.{Answer}
 use Rattle.arch_model.specs.declared.answer.Answer.TheVariants as answer
 use Rattle.arch_model.specs.declared.opening.OpenRefusal.{OpenRefusal}
 use Rattle.arch_model.specs.declared.opening.OpenRefusal.TheVariants as refusal
-use Rattle.epoch_store.specs.declared.entries.StoredEntry.{StoredEntry}
+use Rattle.store_finding.specs.declared.entries.StoredEntry.{StoredEntry}
 use Rattle.epoch_store.specs.declared.refusal.InitRefusal.{InitRefusal}
 use Rattle.epoch_store.specs.declared.refusal.InitRefusal.TheVariants as making
 use Rattle.epoch_store.specs.First.{MakingAnswers, RefusesToMake, first_root_of}
-use Rattle.epoch_store.specs.Files.{as_read}
+use Rattle.store_finding.specs.Files.{as_read}
 use Rattle.epoch_store.specs.Opens.{Opens, OpensNone, ReadsWith, IsWant, SyncsFirst, SyncsAtMost, OnSynced}
 use Rattle.epoch_store.specs.Promises.{Way, Appends, Renews, cache_by}
-use Rattle.epoch_store.specs.Recovery.{RecoversWith}
-use Rattle.epoch_store.specs.Stores.{View, IsStoreWith, IsDiskOf}
+use Rattle.store_finding.specs.Recovery.{RecoversWith}
+use Rattle.store_finding.specs.Kept.{View, IsStoreWith, IsDiskOf}
 use Rattle.archive_core.specs.Commands.{DoneBy, IsDone}
 use Rattle.archive_core.specs.Engines.{RecoversOrBare, AllRecoverOrBare}
 use Rattle.archive_core.specs.Openings.{LeavesKindly}

@@ -13,7 +13,7 @@ use Rattle.arch_model.specs.Delivery.{Done}
 use Rattle.arch_model.specs.declared.answer.Answer.{Answer}
 use Rattle.archive_cli.specs.DiskCommands.{IsReply}
 use Rattle.epoch_store.specs.Promises.{Way}
-use Rattle.epoch_store.specs.Stores.{View}
+use Rattle.store_finding.specs.Kept.{View}
 use Rattle.archive_cli.proofs.Committing.{commits-as}
 use Rattle.archive_cli.specs.Words.{IsJob, AsksFor}
 use Rattle.archive_cli.specs.Turns.{Transcript}

@@ -20,7 +20,7 @@ use Rattle.arch_model.specs.declared.opening.OpenRefusal.TheVariants as refusal
 use Rattle.arch_model.proofs.Keepers.{found-one}
 use Rattle.epoch_store.specs.Opens.{RecoversOf}
 use Rattle.epoch_store.specs.Promises.{Appends, Renews}
-use Rattle.epoch_store.specs.Stores.{View, IsDiskOf}
+use Rattle.store_finding.specs.Kept.{View, IsDiskOf}
 use Rattle.archive_core.specs.Engines.{store-recovers}
 use Rattle.archive_core.proofs.Engines.{recovers_either}
 use Rattle.archive_cli.specs.declared.outcome.Outcome.{Outcome}

@@ -21,11 +21,11 @@ use Rattle.arch_model.specs.declared.opening.OpenRefusal.TheVariants as opening
 use Rattle.arch_model.proofs.Keepers.{has-own, fits-held, all-split}
 use Rattle.archive_core.specs.Engines.{Owning, Holds, Rests, LeftWith, Leaves, AllRecoverOrBare, is_ready}
 use Rattle.archive_core.proofs.Engines.{all_or_bare, cache_is, read_in, reopening-from}
-use Rattle.epoch_store.specs.Files.{as_read}
+use Rattle.store_finding.specs.Files.{as_read}
 use Rattle.epoch_store.specs.Opens.{ReadsWith, RecoversOfWith, AllRecoverWith, IsOnlySynced, SyncsFirst}
-use Rattle.epoch_store.specs.Recovery.{RecoversWith}
+use Rattle.store_finding.specs.Recovery.{RecoversWith}
 use Rattle.epoch_store.specs.Laws.{CachesOne, RecoversSomeOne}
-use Rattle.epoch_store.specs.Stores.{View, IsStoreWith}
+use Rattle.store_finding.specs.Kept.{View, IsStoreWith}
 use Rattle.keep_course.specs.Courses.{archives_of}
 use Rattle.keep_course.proofs.Courses.{all-own}
 use Rattle.edge_io.specs.declared.events.What.{What}

@@ -21,7 +21,8 @@ use Rattle.epoch_store.specs.declared.refusal.InitRefusal.TheVariants as making
 use Rattle.epoch_store.specs.First.{first_root_of}
 use Rattle.epoch_store.specs.Promises.{Way, cache_by}
 use Rattle.epoch_store.specs.Opens.{IsOnlySynced, Opens, ReadsWith, SyncsThen}
-use Rattle.epoch_store.specs.Stores.{View, IsStoreWith, IsDiskOf, RecoversOneOf}
+use Rattle.store_finding.specs.Kept.{View, IsStoreWith, IsDiskOf}
+use Rattle.epoch_store.specs.Commands.{RecoversOneOf}
 use Rattle.archive_core.specs.Commands.{DoneBy}
 use Rattle.archive_core.specs.Engines.{AllRecoverOrBare}
 use Rattle.archive_cli.specs.declared.outcome.Outcome.{Outcome}

@@ -7,7 +7,7 @@ use Rattle.edge_io.specs.Scripts.{Arrival}
 use Rattle.arch_model.specs.Archives.{Archive, empty_archive, live, text_of}
 use Rattle.arch_model.specs.Delivery.{delivered, removed, purged, edited}
 use Rattle.arch_model.specs.Following.{Follows}
-use Rattle.epoch_store.specs.Recovery.{Recovers}
+use Rattle.store_finding.specs.Recovery.{Recovers}
 use Rattle.archive_cli.specs.declared.words.Job.TheVariants.{Init, Deliver, Remove, Purge, Edit}
 use Rattle.archive_cli.specs.Words.{AsksFor}
 use Rattle.archive_cli.specs.Program.{Edges, RanTo, IsInput, AsksForInit, AsksOfArchive, AsksForEdit, AsksForPurge, message_of, made_at}

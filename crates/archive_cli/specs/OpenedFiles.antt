@@ -4,10 +4,10 @@ use Rattle.disk_model.specs.Disk.{Content, Told, WhereTold}
 use Rattle.disk_model.specs.Synced.{IsSettled}
 use Rattle.root_slots.specs.Slots.{HasNewRoot}
 use Rattle.root_slots.specs.Spelling.{spelling}
-use Rattle.epoch_store.specs.Files.{as_read}
+use Rattle.store_finding.specs.Files.{as_read}
 use Rattle.epoch_store.specs.Opens.{Opens}
 use Rattle.epoch_store.specs.Promises.{Way, GoesOnBy}
-use Rattle.epoch_store.specs.Stores.{View}
+use Rattle.store_finding.specs.Kept.{View}
 use Rattle.archive_core.specs.Commands.{OnDone, OnRefusal, UnlessFault}
 use Rattle.archive_core.specs.Openings.{LeavesKindly, SettlesOpened}
 use Rattle.archive_cli.specs.declared.outcome.Outcome.{Outcome}

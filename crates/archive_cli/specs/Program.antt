@@ -12,12 +12,13 @@ use Rattle.arch_model.specs.Delivery.{Done}
 use Rattle.arch_model.specs.Standing.{Standing}
 use Rattle.arch_model.specs.declared.answer.Answer.{Answer}
 use Rattle.arch_model.specs.declared.opening.OpenRefusal.TheVariants as opening
-use Rattle.epoch_store.specs.Files.{as_read}
+use Rattle.store_finding.specs.Files.{as_read}
 use Rattle.epoch_store.specs.First.{MakingLeaves}
 use Rattle.epoch_store.specs.Opens.{ReadsWith, SyncsAtMost}
 use Rattle.epoch_store.specs.Promises.{Way, Appends, Renews}
-use Rattle.epoch_store.specs.Stores.{View, EditsFiles, KeepsFiles}
-use Rattle.epoch_store.specs.declared.entries.StoredEntry.{StoredEntry}
+use Rattle.store_finding.specs.Kept.{View}
+use Rattle.epoch_store.specs.Commands.{EditsFiles, KeepsFiles}
+use Rattle.store_finding.specs.declared.entries.StoredEntry.{StoredEntry}
 use Rattle.archive_core.specs.Commands.{AnswersDelivery, AnswersEdit, AnswersPurge, AnswersRemoval, IsEntryOf}
 use Rattle.answer_lines.specs.Lines.{whole_line}
 use Rattle.archive_cli.specs.DiskCommands.{Makes, TakesTo, ReindexesTo, ChecksTo, IsOpenedAs, IsFault, IsReply, IsReindex, IsCheck, StandsAs, TakesOn, ReindexesOn, ChecksOn, RunsOrStays, LeavesEither, delivering, removing, purging, editing}

@@ -13,7 +13,7 @@ use Rattle.arch_model.specs.Following.{Follows}
 use Rattle.arch_model.specs.Standing.{Standing, standing, one_of}
 use Rattle.arch_model.specs.declared.opening.OpenRefusal.{OpenRefusal}
 use Rattle.arch_model.specs.declared.opening.OpenRefusal.TheVariants as opening
-use Rattle.epoch_store.specs.Files.{as_read}
+use Rattle.store_finding.specs.Files.{as_read}
 use Rattle.epoch_store.specs.Opens.{Opens, IsOnlySynced, ReadsWith, AllRecoverWith, SyncsFirst, SyncsAtMost}
 use Rattle.archive_core.specs.Engines.{RecoversOrBare, AllRecoverOrBare, BetweenSince, RestsOn, RestsWith}
 use Rattle.archive_core.specs.Openings.{LeavesKindly}

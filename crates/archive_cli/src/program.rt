@@ -8,7 +8,7 @@ ghost use Rattle.archive_cli.specs.declared.words.Job.TheVariants.{Serve};
 ghost use Rattle.arch_base.specs.declared.config.Config.{Config};
 ghost use Rattle.arch_model.specs.declared.answer.Answer.{Answer};
 ghost use Rattle.archive_core.specs.Commands.{FilesFor, IsForCommand, way_of};
-ghost use Rattle.epoch_store.specs.Stores.{View};
+ghost use Rattle.store_finding.specs.Kept.{View};
 ghost use Rattle.archive_cli.specs.DiskCommands.{taking};
 ghost use Rattle.archive_cli.specs.Outcomes.{outcome_line, status_of};
 ghost use Rattle.archive_cli.specs.Program.{RanTo, AsksForInit, AsksForMoment, TakesInput, TookAtMost, CommandActs, InitActs, InitLeaves, CommandLeaves, MessageLeaves, WordsLeave, putting, putting_answers, putting_files, putting_way, all_edges, edges, input_limit, message_limit, made_at};

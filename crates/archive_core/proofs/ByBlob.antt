@@ -12,9 +12,9 @@ use Rattle.arch_model.specs.declared.line.EntryLine.{EntryLine}
 use Rattle.arch_model.specs.declared.text_refusal.TextRefusal.{TextRefusal}
 use Rattle.arch_model.specs.declared.text_refusal.TextRefusal.TheVariants.{DiskFault, Damaged, NoMemory}
 use Rattle.arch_model.proofs.Shelving.{rises-from, blob_found-text, blob-found, blob-none}
-use Rattle.epoch_store.specs.declared.entries.StoredEntry.{StoredEntry}
+use Rattle.store_finding.specs.declared.entries.StoredEntry.{StoredEntry}
 use Rattle.epoch_store.specs.Reads.{GivesTextOf, line_if, line_of, text_if}
-use Rattle.epoch_store.specs.Stores.{View, Keeps}
+use Rattle.store_finding.specs.Kept.{View, Keeps}
 use Rattle.archive_core.specs.Numbers.{IsMessageAt, HasBlobAt, IsBlobIndex}
 use Rattle.archive_core.proofs.Stored.{kept-at, message-at}
 

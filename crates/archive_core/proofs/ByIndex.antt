@@ -3,9 +3,9 @@ use Rattle.std.specs.Prelude.{◌≡◌, ℕ, zero, suc, List, [], ◌∷◌, �
 use Rattle.std.proofs.Common.{◌∙◌, ap}
 use Rattle.arch_model.specs.Archives.{Entry, Archive}
 use Rattle.arch_model.specs.Shelves.{lines_after, line_at}
-use Rattle.epoch_store.specs.declared.entries.StoredEntry.{StoredEntry}
+use Rattle.store_finding.specs.declared.entries.StoredEntry.{StoredEntry}
 use Rattle.epoch_store.specs.Reads.{line_if}
-use Rattle.epoch_store.specs.Stores.{View, Keeps, stored_after}
+use Rattle.store_finding.specs.Kept.{View, Keeps, stored_after}
 
 -- The line at an index.
 lines_same : (before es : List Entry) (i : ℕ) → line_if (slice_get (stored_after before es) i) ≡ slice_get (lines_after before es) i

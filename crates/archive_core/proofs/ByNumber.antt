@@ -11,9 +11,10 @@ use Rattle.arch_model.specs.Standing.{GivesTextIn, KeepsUnlessFound}
 use Rattle.arch_model.proofs.Shelving.{appends-none}
 use Rattle.arch_model.specs.declared.text_refusal.TextRefusal.{TextRefusal}
 use Rattle.arch_model.specs.declared.text_refusal.TextRefusal.TheVariants.{DiskFault, Damaged, NoMemory}
-use Rattle.epoch_store.specs.declared.entries.StoredEntry.{StoredEntry}
+use Rattle.store_finding.specs.declared.entries.StoredEntry.{StoredEntry}
 use Rattle.epoch_store.specs.Reads.{GivesText, FindsText, GivesTextOf, text_if, IsEpochFound}
-use Rattle.epoch_store.specs.Stores.{View, Keeps, live_kept, stored_after}
+use Rattle.store_finding.specs.Kept.{View, Keeps, stored_after}
+use Rattle.epoch_store.specs.Commands.{live_kept}
 use Rattle.archive_core.specs.Numbers.{has_live, IsMessageAt, IsLiveAt, GivesKept, GivesTextKept, TellsOther}
 use Rattle.archive_core.specs.Placing.{message_places, PlacesFrom, PlacesRise, live_place, IsPlaceOf}
 use Rattle.archive_core.specs.declared.placing.MessagePlace.{MessagePlace}

@@ -9,8 +9,9 @@ use Rattle.arch_model.specs.Shelves.{is_between, live_between}
 use Rattle.arch_model.specs.Validity.{IsArchive}
 use Rattle.arch_model.proofs.LiveEntries.{live-all}
 use Rattle.arch_judge.proofs.Endings.{Ascend, live-ascend}
-use Rattle.epoch_store.specs.declared.entries.StoredEntry.{StoredEntry}
-use Rattle.epoch_store.specs.Stores.{View, Keeps, live_kept, is_ended_in, stored_after}
+use Rattle.store_finding.specs.declared.entries.StoredEntry.{StoredEntry}
+use Rattle.store_finding.specs.Kept.{View, Keeps, stored_after}
+use Rattle.epoch_store.specs.Commands.{live_kept, is_ended_in}
 use Rattle.archive_core.specs.Placing.{message_places}
 use Rattle.archive_core.specs.declared.placing.MessagePlace.{MessagePlace}
 use Rattle.archive_core.proofs.Places.{place_of}

@@ -17,13 +17,15 @@ use Rattle.mail_reader.specs.Content.{content_id_of}
 use Rattle.arch_model.specs.Archives.{is_message}
 use Rattle.arch_judge.specs.Indexes.{Puts, Loses}
 use Rattle.arch_judge.specs.declared.index.Index.{Index}
-use Rattle.epoch_store.specs.declared.entries.StoredEntry.{StoredEntry}
-use Rattle.epoch_store.specs.Stores.{View, DropsEntries, EditsEntries, KeptOf, is_ended_in, without_blob}
-use Rattle.epoch_store.specs.Indexes.{IndexesStored, TakesBy, Takes, owner_kept}
+use Rattle.store_finding.specs.declared.entries.StoredEntry.{StoredEntry}
+use Rattle.store_finding.specs.Kept.{View}
+use Rattle.epoch_store.specs.Commands.{DropsEntries, EditsEntries, is_ended_in}
+use Rattle.store_planning.specs.Dropping.{KeptOf, without_blob}
+use Rattle.store_finding.specs.Indexes.{IndexesStored, TakesBy, Takes, owner_kept}
 use Rattle.archive_core.specs.Kept.{IndexesKept, PutsText}
 use Rattle.archive_core.specs.Placing.{message_places, has_ended, PlacesBy, PlacesFrom, has_blob_at, IsLiveWith}
 use Rattle.archive_core.specs.declared.placing.MessagePlace.{MessagePlace}
-use Rattle.epoch_store.proofs.Indexes.{indexes_none, indexes_more}
+use Rattle.store_finding.proofs.Indexes.{indexes_none, indexes_more}
 use Rattle.archive_core.proofs.Places.{place_of, places-low}
 use Rattle.archive_core.proofs.Removing.{places-message}
 

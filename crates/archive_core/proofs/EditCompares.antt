@@ -12,9 +12,9 @@ use Rattle.arch_model.specs.Delivery.{is_form}
 use Rattle.arch_model.specs.declared.answer.Answer.{Answer}
 use Rattle.arch_model.specs.declared.text_refusal.TextRefusal.{TextRefusal}
 use Rattle.arch_model.specs.declared.text_refusal.TextRefusal.TheVariants as reading
-use Rattle.epoch_store.specs.declared.entries.StoredEntry.{StoredEntry}
+use Rattle.store_finding.specs.declared.entries.StoredEntry.{StoredEntry}
 use Rattle.epoch_store.specs.Reads.{GivesTextOf, text_if}
-use Rattle.epoch_store.specs.Stores.{View, Keeps}
+use Rattle.store_finding.specs.Kept.{View, Keeps}
 use Rattle.archive_core.specs.Commands.{unread_answer}
 use Rattle.archive_core.specs.Numbers.{IsLiveAt}
 use Rattle.archive_core.specs.Rewriting.{ComparesForm}

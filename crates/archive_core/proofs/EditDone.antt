@@ -9,7 +9,8 @@ use Rattle.arch_model.specs.Archives.{Archive, live, text_of}
 use Rattle.arch_model.specs.Delivery.{edited, is_form}
 use Rattle.arch_model.specs.declared.answer.Answer.{Answer}
 use Rattle.arch_model.specs.declared.answer.Answer.TheVariants as answer
-use Rattle.epoch_store.specs.Stores.{View, HasSizes, IsStoreWith}
+use Rattle.store_finding.specs.Kept.{View, IsStoreWith}
+use Rattle.epoch_store.specs.Commands.{HasSizes}
 use Rattle.archive_core.specs.Commands.{AnswersEdit, DoneBy, IfUnread, IfUnreadEdit, OnDone, TellsText}
 use Rattle.archive_core.specs.Engines.{unchanged-is}
 use Rattle.archive_core.specs.Rewriting.{ComparesForm, IsUnformed}

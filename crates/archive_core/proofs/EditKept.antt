@@ -8,7 +8,9 @@ use Rattle.arch_model.specs.Archives.{Archive, live, text_of, with_entry, withou
 use Rattle.arch_model.specs.Delivery.{Done, delivered, new_epoch, unless_refused}
 use Rattle.arch_judge.specs.declared.index.Index.{Index}
 use Rattle.arch_judge.specs.declared.judging.Verdict.TheVariants.{Take}
-use Rattle.epoch_store.specs.Stores.{View, IsStoreWith, MayPurge, without_blob}
+use Rattle.store_finding.specs.Kept.{View, IsStoreWith}
+use Rattle.epoch_store.specs.Commands.{MayPurge}
+use Rattle.store_planning.specs.Dropping.{without_blob}
 use Rattle.archive_core.specs.Commands.{JudgesOn, KeepsText}
 use Rattle.archive_core.specs.Kept.{IndexesKept}
 use Rattle.archive_core.proofs.Standing.{store_keeps}

@@ -25,13 +25,14 @@ use Rattle.arch_model.specs.declared.opening.OpenRefusal.TheVariants as refusal
 use Rattle.arch_model.specs.declared.text_refusal.TextRefusal.{TextRefusal}
 use Rattle.arch_model.specs.declared.text_refusal.TextRefusal.TheVariants as reading
 use Rattle.arch_model.proofs.Keepers.{has-own, has-unsure-of, unsure-doubts, moves-stale, moves-on, comes-by, unopened-comes, unopened-ready, unopened-cause}
-use Rattle.epoch_store.specs.Files.{as_read}
+use Rattle.store_finding.specs.Files.{as_read}
 use Rattle.epoch_store.specs.Laws.{CachesOne, RecoversSomeOne}
 use Rattle.epoch_store.specs.Leaving.{disk_recovers}
 use Rattle.epoch_store.specs.Opens.{RecoversOfWith, AllRecoverWith, ReadsWith, IsWant, SyncsAtMost}
 use Rattle.epoch_store.specs.Reads.{AnswersQuietly}
-use Rattle.epoch_store.specs.Recovery.{RecoversWith, RecoversSomeWith}
-use Rattle.epoch_store.specs.Stores.{View, Keeps, IsStoreWith, RecoversOneOf}
+use Rattle.store_finding.specs.Recovery.{RecoversWith, RecoversSomeWith}
+use Rattle.store_finding.specs.Kept.{View, Keeps, IsStoreWith}
+use Rattle.epoch_store.specs.Commands.{RecoversOneOf}
 use Rattle.archive_core.specs.Commands.{AnswersDelivery, AnswersEdit, AnswersPurge, AnswersRemoval, DoneBy, OnDone, OnRefusal, UnlessFault, IfUnread, IfUnreadEdit, IfUnreadFor, IfDelivery, IfRemoval, IsForCommand, IsGone, KeepsTextFor, OnlyLooks, cache_left, is_delivery}
 use Rattle.archive_core.specs.Engines.{Owning, needs_opening, RecoversOrBare, AllRecoverOrBare, BetweenSince, Holds, Rests, LeftWith, ViewsKeepUp, IfRefused, is_ready, Leaves, ReadsOn, reading-same, store-left, holds-rest, now-left, unchanged-is, reading-kept}
 use Rattle.archive_core.specs.Numbers.{GivesBlobKept, TellsOther}

@@ -11,10 +11,11 @@ use Rattle.arch_model.specs.Validity.{IsArchive}
 use Rattle.arch_judge.specs.Indexes.{IsIndex, Puts, owner_in}
 use Rattle.arch_judge.specs.declared.index.Index.{Index}
 use Rattle.arch_judge.proofs.Indexes.{unowned}
-use Rattle.epoch_store.specs.declared.entries.StoredEntry.{StoredEntry}
-use Rattle.epoch_store.specs.Stores.{View, AddsEntry, EndsEntry, Keeps}
-use Rattle.epoch_store.specs.Indexes.{AreInOrder, AreOf, IndexesStored, TakesBy, owner_kept}
-use Rattle.epoch_store.proofs.Indexes.{indexes_more}
+use Rattle.store_finding.specs.declared.entries.StoredEntry.{StoredEntry}
+use Rattle.store_finding.specs.Kept.{View, Keeps}
+use Rattle.epoch_store.specs.Commands.{AddsEntry, EndsEntry}
+use Rattle.store_finding.specs.Indexes.{AreInOrder, AreOf, IndexesStored, TakesBy, owner_kept}
+use Rattle.store_finding.proofs.Indexes.{indexes_more}
 use Rattle.archive_core.specs.Kept.{PutsText, LosesText, IsNewTo}
 
 -- The entries of a valid archive are in order.

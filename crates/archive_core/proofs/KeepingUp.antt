@@ -27,7 +27,7 @@ use Rattle.arch_model.proofs.ValidArchives.{all_weaker}
 use Rattle.arch_model.proofs.Purging.{live_climbs, live_without, none_gone, text_gone, valid_without}
 use Rattle.arch_model.proofs.Rewrites.{purged_is, edited_is}
 use Rattle.arch_judge.proofs.Endings.{Ascend, live-ascend}
-use Rattle.epoch_store.specs.Stores.{View}
+use Rattle.store_finding.specs.Kept.{View}
 use Rattle.view_set.specs.Viewed.{Viewed, with_mail, without_mail, views_of}
 use Rattle.view_set.proofs.MailLists.{mails-added, mails-taken}
 use Rattle.overview_index.proofs.Messages.{HasId, AllBelow, Ascends}

@@ -11,7 +11,7 @@ use Rattle.arch_judge.specs.declared.index.Index.{Index}
 use Rattle.arch_judge.specs.declared.judging.Verdict.TheVariants.{Refuse}
 use Rattle.epoch_file.specs.declared.refusal.StoreRefusal.{StoreRefusal}
 use Rattle.epoch_file.specs.declared.refusal.StoreRefusal.TheVariants as refusal
-use Rattle.epoch_store.specs.Stores.{View}
+use Rattle.store_finding.specs.Kept.{View}
 use Rattle.archive_core.specs.Commands.{AnswersDelivery, AnswersEdit, IsForCommand, OnDone, TellsText, is_delivery, refusal_answer}
 use Rattle.archive_core.specs.Kept.{TakesWhatMay}
 

@@ -12,14 +12,15 @@ use Rattle.arch_model.specs.declared.opening.OpenRefusal.TheVariants as opening
 use Rattle.arch_model.specs.Shelves.{ReadingWhy, IsUndamaged}
 use Rattle.arch_model.specs.declared.text_refusal.TextRefusal.{TextRefusal}
 use Rattle.arch_model.specs.declared.text_refusal.TextRefusal.TheVariants as reading
-use Rattle.epoch_store.specs.declared.entries.StoredEntry.{StoredEntry}
-use Rattle.epoch_store.specs.Files.{as_read}
+use Rattle.store_finding.specs.declared.entries.StoredEntry.{StoredEntry}
+use Rattle.store_finding.specs.Files.{as_read}
 use Rattle.epoch_store.specs.Opens.{RecoversOfWith, ReadsWith, Opens, OpensWell, SyncsFirst, SyncsAtMost, OnSynced}
 use Rattle.epoch_store.specs.Promises.{OpensArchive}
 use Rattle.epoch_store.specs.Reads.{HasTexts}
-use Rattle.epoch_store.specs.Recovery.{RecoversWith}
+use Rattle.store_finding.specs.Recovery.{RecoversWith}
 use Rattle.epoch_store.specs.Settling.{IsSettledBy}
-use Rattle.epoch_store.specs.Stores.{View, IsStoreWith, HasSizes}
+use Rattle.store_finding.specs.Kept.{View, IsStoreWith}
+use Rattle.epoch_store.specs.Commands.{HasSizes}
 use Rattle.archive_core.specs.Commands.{OnlyLooks}
 use Rattle.archive_core.specs.Engines.{unchanged-is}
 use Rattle.archive_core.specs.Openings.{StillReads, LeavesKindly}

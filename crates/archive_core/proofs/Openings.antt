@@ -12,12 +12,12 @@ use Rattle.root_slots.specs.Each.{IfThere}
 use Rattle.root_slots.specs.RootName.{root_name}
 use Rattle.root_slots.specs.Slots.{HasRoot}
 use Rattle.root_slots.specs.Spelling.{spelling}
-use Rattle.epoch_store.specs.Files.{as_read}
+use Rattle.store_finding.specs.Files.{as_read}
 use Rattle.epoch_store.specs.Leaving.{disk_recovers}
 use Rattle.epoch_store.specs.Laws.{StoreRecovers, ExactRecovers}
 use Rattle.epoch_store.specs.Opens.{ReadsWith, IsOnlySynced, RefusesBefore}
-use Rattle.epoch_store.specs.Recovery.{RecoversWith}
-use Rattle.epoch_store.specs.Stores.{View, IsStoreWith}
+use Rattle.store_finding.specs.Recovery.{RecoversWith}
+use Rattle.store_finding.specs.Kept.{View, IsStoreWith}
 use Rattle.archive_core.specs.Engines.{RestsOn}
 use Rattle.archive_core.specs.Openings.{StillReads, SettlesOpened, LeavesKindly}
 

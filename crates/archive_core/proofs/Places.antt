@@ -10,8 +10,9 @@ use Rattle.git_objects.specs.declared.entry_kind.EntryKind.{EntryKind}
 use Rattle.git_objects.specs.declared.entry_kind.EntryKind.TheVariants.{Message, Deletion}
 use Rattle.arch_model.specs.Archives.{Entry, is_message, messages, text_of}
 use Rattle.arch_model.specs.Validity.{IsFrom, number_after, Rise}
-use Rattle.epoch_store.specs.declared.entries.StoredEntry.{StoredEntry}
-use Rattle.epoch_store.specs.Stores.{is_ended_in, live_kept, stored_after}
+use Rattle.store_finding.specs.declared.entries.StoredEntry.{StoredEntry}
+use Rattle.epoch_store.specs.Commands.{is_ended_in, live_kept}
+use Rattle.store_finding.specs.Kept.{stored_after}
 use Rattle.archive_core.specs.Numbers.{has_number, has_live}
 use Rattle.archive_core.specs.Placing.{message_places, has_ended, PlacesFrom, PlacesRise, live_place}
 use Rattle.archive_core.specs.declared.placing.MessagePlace.{MessagePlace}

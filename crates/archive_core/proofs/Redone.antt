@@ -20,7 +20,9 @@ use Rattle.epoch_store.specs.Promises.{ChangesStore, Renews, Replaces}
 use Rattle.root_slots.specs.Between.{looks_between}
 use Rattle.root_slots.specs.Spelling.{spelling}
 use Rattle.epoch_store.proofs.Readying.{read_between}
-use Rattle.epoch_store.specs.Stores.{View, HasSizes, IsStoreWith, Keeps, MayPurge, RecoversOneOf, without_blob}
+use Rattle.store_finding.specs.Kept.{View, IsStoreWith, Keeps}
+use Rattle.epoch_store.specs.Commands.{HasSizes, MayPurge, RecoversOneOf}
+use Rattle.store_planning.specs.Dropping.{without_blob}
 use Rattle.archive_core.specs.Commands.{AnswersDelivery, DoneBy, IfUnreadEdit, JudgesOn, OnDone, OnlyLooks, refusal_answer}
 use Rattle.archive_core.specs.DamageTold.{TellsEntry}
 use Rattle.archive_core.specs.Engines.{unchanged-is}

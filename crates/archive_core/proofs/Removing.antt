@@ -14,9 +14,10 @@ use Rattle.arch_model.specs.Archives.{Entry, Archive, with_deletion, is_message,
 use Rattle.arch_model.specs.Validity.{IsEntry}
 use Rattle.arch_model.specs.Delivery.{removed, removed_text, refused, new_epoch}
 use Rattle.arch_model.specs.declared.answer.Answer.TheVariants as answer
-use Rattle.epoch_store.specs.declared.entries.StoredEntry.{StoredEntry}
+use Rattle.store_finding.specs.declared.entries.StoredEntry.{StoredEntry}
 use Rattle.epoch_store.specs.Reads.{text_if}
-use Rattle.epoch_store.specs.Stores.{View, Keeps, AddsEntry, EndsEntry, is_ended_in}
+use Rattle.store_finding.specs.Kept.{View, Keeps}
+use Rattle.epoch_store.specs.Commands.{AddsEntry, EndsEntry, is_ended_in}
 use Rattle.archive_core.specs.Commands.{IsNamed}
 use Rattle.archive_core.specs.Numbers.{IsLiveAt}
 use Rattle.archive_core.specs.Placing.{message_places, ends_place, ended_place}

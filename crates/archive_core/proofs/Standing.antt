@@ -13,7 +13,8 @@ use Rattle.arch_judge.specs.declared.judging.Verdict.TheVariants.{Refuse}
 use Rattle.epoch_store.specs.Laws.{StoreRecovers}
 use Rattle.epoch_store.specs.Promises.{Adds}
 use Rattle.epoch_store.specs.Reads.{GivesTextOf}
-use Rattle.epoch_store.specs.Stores.{View, Keeps, IsStoreWith, RecoversOneOf}
+use Rattle.store_finding.specs.Kept.{View, Keeps, IsStoreWith}
+use Rattle.epoch_store.specs.Commands.{RecoversOneOf}
 use Rattle.archive_core.specs.Commands.{DoneBy, JudgesRead, unread_answer}
 use Rattle.archive_core.specs.Engines.{unchanged-is}
 

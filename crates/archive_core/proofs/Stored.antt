@@ -8,8 +8,9 @@ use Rattle.git_objects.specs.declared.entry_kind.EntryKind.TheVariants.{Message,
 use Rattle.arch_model.specs.Archives.{Entry, is_message, is_ended, live, messages, text_of}
 use Rattle.arch_model.specs.Validity.{IsFrom, number_after, Rise}
 use Rattle.arch_model.proofs.LiveEntries.{live-one}
-use Rattle.epoch_store.specs.declared.entries.StoredEntry.{StoredEntry}
-use Rattle.epoch_store.specs.Stores.{is_ended_in, live_kept, stored_at, stored_after}
+use Rattle.store_finding.specs.declared.entries.StoredEntry.{StoredEntry}
+use Rattle.epoch_store.specs.Commands.{is_ended_in, live_kept}
+use Rattle.store_finding.specs.Kept.{stored_at, stored_after}
 use Rattle.archive_core.specs.Numbers.{has_number, has_live}
 
 -- What is kept of an entry, after some others.

@@ -19,7 +19,9 @@ use Rattle.epoch_file.specs.declared.refusal.StoreRefusal.TheVariants as refusal
 use Rattle.epoch_store.specs.Laws.{StoreRecovers}
 use Rattle.arch_base.specs.declared.ids.Id20.{Id20}
 use Rattle.epoch_store.specs.Promises.{Appends, ChangesStore, Renews, StaysBy, Way}
-use Rattle.epoch_store.specs.Stores.{View, HasSizes, IsStoreWith, IsUndamaged, Keeps, RecoversOneOf, UnlessFailed}
+use Rattle.store_finding.specs.Kept.{View, IsStoreWith, Keeps}
+use Rattle.epoch_store.specs.Commands.{HasSizes, RecoversOneOf, UnlessFailed}
+use Rattle.store_planning.specs.Dropping.{IsUndamaged}
 use Rattle.epoch_store.proofs.Readying.{read_between}
 use Rattle.archive_core.specs.Commands.{DoneBy, FilesFor, IfUnreadFor, IsForCommand, OnDone, OnlyLooks, TakesCommand, UnlessFault, cache_left, refusal_answer, way_of}
 use Rattle.archive_core.specs.DamageTold.{TellsDamage}

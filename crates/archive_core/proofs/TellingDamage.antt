@@ -13,10 +13,11 @@ use Rattle.arch_judge.specs.declared.judging.Verdict.{Verdict}
 use Rattle.arch_judge.specs.declared.judging.Verdict.TheVariants.{Take, Compare, Refuse}
 use Rattle.epoch_file.specs.declared.refusal.StoreRefusal.{StoreRefusal}
 use Rattle.epoch_file.specs.declared.refusal.StoreRefusal.TheVariants as refusal
-use Rattle.epoch_store.specs.declared.entries.StoredEntry.{StoredEntry}
-use Rattle.epoch_store.specs.DamagedTexts.{DamageBy, IsDamageIn, IsDamagedEntry}
-use Rattle.epoch_store.specs.Reads.{FindsText, GivesText, HasText}
-use Rattle.epoch_store.specs.Stores.{View}
+use Rattle.store_finding.specs.declared.entries.StoredEntry.{StoredEntry}
+use Rattle.store_planning.specs.DamagedTexts.{DamageBy, IsDamageIn, IsDamagedEntry}
+use Rattle.epoch_store.specs.Reads.{FindsText, GivesText}
+use Rattle.store_finding.specs.Reading.{HasText}
+use Rattle.store_finding.specs.Kept.{View}
 use Rattle.archive_core.specs.Commands.{IsNamed, IsTextAt, damaged_place, refusal_answer, unread_answer}
 use Rattle.archive_core.specs.DamageTold.{OnDamage, RefusesEntry, TellsDamage, TellsEntry}
 use Rattle.archive_core.specs.Engines.{unchanged-is}

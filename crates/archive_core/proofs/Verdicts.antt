@@ -23,10 +23,10 @@ use Rattle.arch_judge.specs.declared.judging.Verdict.TheVariants.{Take, Compare,
 use Rattle.arch_model.specs.declared.answer.Answer.{Answer}
 use Rattle.arch_model.specs.declared.answer.Answer.TheVariants as answer
 use Rattle.epoch_store.specs.Reads.{GivesTextOf}
-use Rattle.epoch_store.specs.Stores.{View, Keeps}
+use Rattle.store_finding.specs.Kept.{View, Keeps}
 use Rattle.archive_core.specs.Commands.{ReadsMessage, JudgesRead, IsAlone, IsUnread, unread_answer}
 use Rattle.archive_core.specs.Numbers.{IsMessageAt}
-use Rattle.epoch_store.specs.Indexes.{IndexesStored}
+use Rattle.store_finding.specs.Indexes.{IndexesStored}
 use Rattle.archive_core.specs.Kept.{IsNewTo, MayGoIn, TakesWhatMay}
 use Rattle.archive_core.proofs.ByBlob.{blob-index}
 use Rattle.archive_core.proofs.Indexes.{are-of, new-to}

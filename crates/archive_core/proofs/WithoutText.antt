@@ -31,9 +31,11 @@ use Rattle.arch_judge.specs.declared.index.Index.{Index}
 use Rattle.arch_judge.specs.declared.judging.Verdict.TheVariants.{Refuse}
 use Rattle.arch_judge.proofs.Endings.{live-few}
 use Rattle.arch_judge.proofs.Indexes.{unowned}
-use Rattle.epoch_store.specs.declared.entries.StoredEntry.{StoredEntry}
+use Rattle.store_finding.specs.declared.entries.StoredEntry.{StoredEntry}
 use Rattle.epoch_store.specs.Reads.{text_if}
-use Rattle.epoch_store.specs.Stores.{View, Keeps, IsStoreWith, KeptOf, MayPurge, stored_at, stored_after, without_blob}
+use Rattle.store_finding.specs.Kept.{View, Keeps, IsStoreWith, stored_at, stored_after}
+use Rattle.store_planning.specs.Dropping.{KeptOf, without_blob}
+use Rattle.epoch_store.specs.Commands.{MayPurge}
 use Rattle.archive_core.specs.Commands.{DoneBy, IsLiveOf, JudgesRead, ReadsMessage, left_without}
 use Rattle.archive_core.specs.Kept.{IndexesKept}
 use Rattle.archive_core.specs.Numbers.{IsLiveAt, IsMessageAt}

@@ -15,8 +15,8 @@ use Rattle.arch_judge.specs.Judging.{Judges}
 use Rattle.arch_judge.specs.declared.index.Index.{Index}
 use Rattle.arch_judge.specs.declared.judging.Verdict.{Verdict}
 use Rattle.arch_judge.specs.declared.judging.Verdict.TheVariants.{Take, Compare, Refuse}
-use Rattle.epoch_store.specs.declared.entries.StoredEntry.{StoredEntry}
-use Rattle.epoch_store.specs.Files.{epoch_file_of}
+use Rattle.store_finding.specs.declared.entries.StoredEntry.{StoredEntry}
+use Rattle.store_finding.specs.Files.{epoch_file_of}
 use Rattle.arch_model.specs.Keeping.{ReadsFor}
 use Rattle.arch_model.specs.Shelves.{blob_text}
 use Rattle.disk_model.specs.Synced.{IsSettled}
@@ -32,7 +32,8 @@ use Rattle.arch_model.specs.declared.answer.Answer.TheVariants as answer
 use Rattle.epoch_file.specs.declared.refusal.StoreRefusal.{StoreRefusal}
 use Rattle.epoch_file.specs.declared.refusal.StoreRefusal.TheVariants as refusal
 use Rattle.epoch_store.specs.Promises.{Appends, GoesOnBy, Renews, Way, cache_by}
-use Rattle.epoch_store.specs.Stores.{View, IsStoreWith, HasSizes, RecoversOneOf, KeepsFiles, EditsFiles}
+use Rattle.store_finding.specs.Kept.{View, IsStoreWith}
+use Rattle.epoch_store.specs.Commands.{HasSizes, RecoversOneOf, KeepsFiles, EditsFiles}
 use Rattle.epoch_store.specs.Reads.{IsTextOf}
 use Rattle.archive_core.specs.DamageTold.{TellsDamage}
 use Rattle.archive_core.specs.declared.texts.KeptText.{KeptText}

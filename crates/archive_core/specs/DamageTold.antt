@@ -7,11 +7,11 @@ use Rattle.arch_model.specs.declared.answer.Answer.{Answer}
 use Rattle.arch_model.specs.declared.answer.Answer.TheVariants as answer
 use Rattle.arch_judge.specs.declared.judging.Verdict.{Verdict}
 use Rattle.arch_judge.specs.declared.judging.Verdict.TheVariants.{Take, Compare, Refuse}
-use Rattle.epoch_store.specs.declared.entries.StoredEntry.{StoredEntry}
-use Rattle.epoch_store.specs.DamagedTexts.{IsDamageIn, IsDamagedEntry}
-use Rattle.epoch_store.specs.Files.{epoch_file_of}
+use Rattle.store_finding.specs.declared.entries.StoredEntry.{StoredEntry}
+use Rattle.store_planning.specs.DamagedTexts.{IsDamageIn, IsDamagedEntry}
+use Rattle.store_finding.specs.Files.{epoch_file_of}
 use Rattle.epoch_store.specs.Reads.{IsTextOf}
-use Rattle.epoch_store.specs.Stores.{View}
+use Rattle.store_finding.specs.Kept.{View}
 
 -- What holds of the file and the offset of the damage that an answer tells.
 abbrev pub OnDamage : Answer → (FileName → ℕ → Type 0) → Type 0

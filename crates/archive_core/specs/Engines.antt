@@ -13,7 +13,8 @@ use Rattle.arch_model.specs.Keeping.{OnlyRead}
 use Rattle.arch_model.specs.declared.answer.Answer.{Answer}
 use Rattle.arch_model.specs.declared.answer.Answer.TheVariants as answer
 use Rattle.epoch_store.specs.Opens.{RecoversOfWith}
-use Rattle.epoch_store.specs.Stores.{View, HasSizes, IsStoreWith}
+use Rattle.store_finding.specs.Kept.{View, IsStoreWith}
+use Rattle.epoch_store.specs.Commands.{HasSizes}
 use Rattle.epoch_store.specs.Leaving.{disk_recovers}
 use Rattle.view_set.specs.Viewed.{Viewed, views_of}
 

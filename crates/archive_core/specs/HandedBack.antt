@@ -2,7 +2,7 @@
 use Rattle.std.specs.Prelude.{Result, Ok, Err}
 use Rattle.arch_model.specs.declared.opening.OpenRefusal.{OpenRefusal}
 use Rattle.epoch_store.specs.declared.refusal.InitRefusal.{InitRefusal}
-use Rattle.epoch_store.specs.Stores.{View}
+use Rattle.store_finding.specs.Kept.{View}
 use Rattle.archive_core.specs.Engines.{Owning}
 use Rattle.archive_core.specs.declared.not_made.NotMade.{NotMade}
 use Rattle.archive_core.specs.declared.not_made.NotOpened.{NotOpened}

@@ -14,9 +14,11 @@ use Rattle.arch_model.specs.declared.answer.Answer.TheVariants as answer
 use Rattle.arch_judge.specs.declared.index.Index.{Index}
 use Rattle.arch_judge.specs.declared.judging.Verdict.{Verdict}
 use Rattle.arch_judge.specs.declared.judging.Verdict.TheVariants.{Take, Compare, Refuse}
-use Rattle.epoch_store.specs.declared.entries.StoredEntry.{StoredEntry}
-use Rattle.epoch_store.specs.Indexes.{AreOf, IndexesStored}
-use Rattle.epoch_store.specs.Stores.{View, Accepts, KeptOf}
+use Rattle.store_finding.specs.declared.entries.StoredEntry.{StoredEntry}
+use Rattle.store_finding.specs.Indexes.{AreOf, IndexesStored}
+use Rattle.store_finding.specs.Kept.{View}
+use Rattle.epoch_store.specs.Commands.{Accepts}
+use Rattle.store_planning.specs.Dropping.{KeptOf}
 
 -- An index is that of entries, wherever in their epochs they are kept.
 abbrev pub IndexesKept : List StoredEntry → Index → Type 0

@@ -8,8 +8,9 @@ use Rattle.disk_model.specs.Disk.{Content, WhereTold}
 use Rattle.arch_model.specs.Archives.{Entry, is_message}
 use Rattle.arch_model.specs.Shelves.{blob_text}
 use Rattle.epoch_store.specs.Reads.{GivesText, FindsText, text_if}
-use Rattle.epoch_store.specs.Stores.{View, live_kept}
-use Rattle.epoch_store.specs.declared.entries.StoredEntry.{StoredEntry}
+use Rattle.store_finding.specs.Kept.{View}
+use Rattle.epoch_store.specs.Commands.{live_kept}
+use Rattle.store_finding.specs.declared.entries.StoredEntry.{StoredEntry}
 
 -- Whether an entry has this number.
 abbrev pub has_number : List StoredEntry → ℕ → Bool

@@ -5,10 +5,10 @@ use Rattle.disk_model.specs.Synced.{IsSettled}
 use Rattle.arch_model.specs.Archives.{Archive}
 use Rattle.arch_model.specs.declared.opening.OpenRefusal.{OpenRefusal}
 use Rattle.arch_model.specs.declared.opening.OpenRefusal.TheVariants.{NoArchive, Damaged, DiskFault, NoMemory}
-use Rattle.epoch_store.specs.Files.{as_read}
+use Rattle.store_finding.specs.Files.{as_read}
 use Rattle.epoch_store.specs.Opens.{ReadsWith, Opens, IsOnlySynced}
 use Rattle.epoch_store.specs.Settling.{IsSettledBy}
-use Rattle.epoch_store.specs.Stores.{View, IsStoreWith}
+use Rattle.store_finding.specs.Kept.{View, IsStoreWith}
 
 -- Files that read as those of an archive with a cache still do.
 abbrev pub StillReads : Option Content → Option Content → Type 0

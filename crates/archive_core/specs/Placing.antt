@@ -8,8 +8,8 @@ use Rattle.std.specs.BTreeSet.{BTreeSet, contains}
 use Rattle.git_objects.specs.declared.entry_kind.EntryKind.{EntryKind}
 use Rattle.git_objects.specs.declared.entry_kind.EntryKind.TheVariants.{Message, Deletion}
 use Rattle.arch_model.specs.Archives.{is_message}
-use Rattle.epoch_store.specs.declared.entries.StoredEntry.{StoredEntry}
-use Rattle.epoch_store.specs.Stores.{is_ended_in}
+use Rattle.store_finding.specs.declared.entries.StoredEntry.{StoredEntry}
+use Rattle.epoch_store.specs.Commands.{is_ended_in}
 use Rattle.archive_core.specs.declared.placing.MessagePlace.{MessagePlace}
 
 -- The places of the messages among entries, the first of which has this index. One is live if no

@@ -16,7 +16,8 @@ use Rattle.arch_model.specs.Delivery.{delivered, is_form, unless_refused}
 use Rattle.arch_model.specs.declared.answer.Answer.{Answer}
 use Rattle.arch_model.specs.declared.answer.Answer.TheVariants as answer
 use Rattle.epoch_file.specs.declared.refusal.StoreRefusal.{StoreRefusal}
-use Rattle.epoch_store.specs.Stores.{View, HasSizes, IsStoreWith, MayEdit, RecoversOneOf, GoesOnAnew}
+use Rattle.store_finding.specs.Kept.{View, IsStoreWith}
+use Rattle.epoch_store.specs.Commands.{HasSizes, MayEdit, RecoversOneOf, GoesOnAnew}
 use Rattle.archive_core.specs.DamageTold.{TellsDamage}
 use Rattle.archive_core.specs.Commands.{AnswersDelivery, DoneBy, IfUnreadEdit, OnDone, OnRefusal, OnlyLooks, UnlessFault}
 

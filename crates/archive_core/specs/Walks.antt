@@ -17,10 +17,10 @@ use Rattle.arch_model.specs.declared.opening.OpenRefusal.{OpenRefusal}
 use Rattle.arch_model.specs.declared.opening.OpenRefusal.TheVariants as opening
 use Rattle.arch_model.specs.declared.text_refusal.TextRefusal.{TextRefusal}
 use Rattle.arch_model.specs.declared.text_refusal.TextRefusal.TheVariants as reading
-use Rattle.epoch_store.specs.Files.{epoch_file_of}
+use Rattle.store_finding.specs.Files.{epoch_file_of}
 use Rattle.epoch_store.specs.Reads.{line_of, HasTexts}
-use Rattle.epoch_store.specs.Stores.{View, IsStoreWith}
-use Rattle.epoch_store.specs.declared.entries.StoredEntry.{StoredEntry}
+use Rattle.store_finding.specs.Kept.{View, IsStoreWith}
+use Rattle.store_finding.specs.declared.entries.StoredEntry.{StoredEntry}
 use Rattle.view_set.specs.Viewed.{Viewed, with_mail, without_mail}
 use Rattle.archive_core.specs.Commands.{OnlyLooks}
 use Rattle.archive_core.specs.Engines.{unchanged-is, told-same}

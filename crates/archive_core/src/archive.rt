@@ -21,7 +21,8 @@ ghost use Rattle.arch_base.specs.Moments.{last_moment};
 ghost use Rattle.archive_core.specs.Openings.{RefusesKindly};
 ghost use Rattle.epoch_store.specs.Promises.{Adds, Appends, ChangesStore, MakesArchive, OpensArchive};
 ghost use Rattle.epoch_store.specs.Reads.{HasTexts};
-ghost use Rattle.epoch_store.specs.Stores.{IsStoreWith, HasSizes, RecoversEitherWith, GoesOn};
+ghost use Rattle.store_finding.specs.Kept.{IsStoreWith};
+ghost use Rattle.epoch_store.specs.Commands.{HasSizes, RecoversEitherWith, GoesOn};
 ghost use Rattle.archive_core.specs.DamageTold.{RefusesEntry, TellsDamage, TellsEntry};
 ghost use Rattle.archive_core.specs.Commands.{DoneBy, OnDone, OnRefusal, UnlessFault, OnlyLooks, AnswersRemoval, IfUnread, IfRefusedUnread, IsFaultRead, JudgesOn, left_without, TakesCommand, refusal_answer, unread_answer, damaged_place, IsNamed, IsTextAt, ReadsMessage, IsUnread, is_delivery, IfDelivery, TellsText, KeepsText, KeepsTextFor, IsGone};
 
@@ -50,9 +51,9 @@ pub struct DiskArchive {
 }
 
 impl Model for DiskArchive {
-    ghost use Rattle.epoch_store.specs.Stores.{View};
+    ghost use Rattle.store_finding.specs.Kept.{View};
     ghost use Rattle.std.specs.Prelude.{◌≡◌};
-    ghost use Rattle.epoch_store.specs.Indexes.{IndexesStored};
+    ghost use Rattle.store_finding.specs.Indexes.{IndexesStored};
     ghost use Rattle.archive_core.specs.Placing.{message_places, PlacesRise};
 
     ghost Value = { View };
@@ -66,13 +67,7 @@ impl Model for DiskArchive {
 impl DiskArchive {
     /// Creates an archive without entries on a disk without an open slot.
     ///
-    /// Removes all files and creates a root file with the first root, of sequence 1. At each moment
-    /// a crash leaves what it might have left before; if no slot was open, it may also leave no
-    /// open slot, or the archive.
-    ///
-    /// `Exists` comes exactly if a slot is open, and then nothing is written. `DiskFault` comes
-    /// only if the disk's count of faults rose, and `NoMemory` only if memory runs out, before
-    /// anything is written.
+    /// The promises and the errors are those of `Store::init`, which it calls.
     pub fn init<D: Disk>(
         alloc: Global,
         disk: &mut D,
@@ -93,17 +88,10 @@ impl DiskArchive {
 
     /// Opens the archive on a disk.
     ///
-    /// Syncs first, reads all that the current root names, and only then changes the disk: writes
-    /// the current root to the other slot if that is shut, and leaves it shut; cuts tails; and
-    /// removes the files that the root doesn't name. At each moment a crash leaves files that stand
-    /// for an archive that they might have stood for before.
-    ///
-    /// `NoArchive` comes only if no slot is open. `Damaged` comes only if a file that the root
-    /// names isn't in its form; it has the first such offset, in the root, then the map, then the
-    /// epochs in order. Neither comes if the files stand for an archive, and after either all files
-    /// read as before. `DiskFault` comes only if the disk's count of faults rose. `NoMemory` comes
-    /// only if memory runs out: the files still stand for the archive that they stood for, and where
-    /// none can be opened, all files read as before.
+    /// The promises and the errors are those of `Store::open`, which it calls. After `NoArchive` and
+    /// `Damaged` all files read as before. `NoMemory` may also come once the disk is settled: the files
+    /// still stand for the archive that they stood for, and where none can be opened, all files read as
+    /// before.
     pub fn open<D: Disk>(alloc: Global, disk: &mut D) -> Result<DiskArchive, OpenRefusal>
         ensures opened { OpensArchive D.content D.moment D.left_since D.faults disk.old disk.new
             result }

@@ -4,7 +4,7 @@ ghost use Rattle.arch_model.specs.Archives.{Archive, live};
 ghost use Rattle.archive_core.specs.Openings.{RefusesKindly};
 ghost use Rattle.archive_core.specs.declared.placing.MessagePlace.{MessagePlace};
 ghost use Rattle.epoch_store.specs.Promises.{OpensArchive};
-ghost use Rattle.epoch_store.specs.Stores.{Keeps};
+ghost use Rattle.store_finding.specs.Kept.{Keeps};
 
 use crate::placing::{MessagePlace, places_of};
 use arch_model::OpenRefusal;
@@ -24,7 +24,8 @@ pub struct CountedArchive {
 }
 
 impl Model for CountedArchive {
-    ghost use Rattle.epoch_store.specs.Stores.{View, live_kept};
+    ghost use Rattle.store_finding.specs.Kept.{View};
+    ghost use Rattle.epoch_store.specs.Commands.{live_kept};
     ghost use Rattle.std.specs.Prelude.{◌≡◌, length};
 
     ghost Value = { View };

@@ -10,7 +10,8 @@ ghost use Rattle.arch_model.specs.Shelves.{GivesBlobIn, AppendsTo, Stays, ReadCa
 ghost use Rattle.arch_model.specs.Standing.{Standing, standing, GivesTextIn, KeepsUnlessFound};
 ghost use Rattle.epoch_store.specs.Opens.{ReadsWith};
 ghost use Rattle.epoch_store.specs.Promises.{MakesArchive, OpensArchive};
-ghost use Rattle.epoch_store.specs.Stores.{IsStoreWith, RecoversOneOf};
+ghost use Rattle.store_finding.specs.Kept.{IsStoreWith};
+ghost use Rattle.epoch_store.specs.Commands.{RecoversOneOf};
 ghost use Rattle.archive_core.specs.Commands.{DoneBy, OnDone, IfUnreadFor, IfRemoval, cache_left, IsForCommand, is_delivery};
 ghost use Rattle.archive_core.specs.DamageTold.{TellsDamage};
 ghost use Rattle.archive_core.specs.Engines.{Holds, Rests, IfRefused, Leaves, ReadsOn, is_ready, needs_opening as needs_opening_after, reading-same, reading-joined, store-left, holds-rest, now-left, reading-kept};
@@ -61,15 +62,7 @@ impl<D: Disk> Model for Engine<D> {
 impl<D: Disk> Engine<D> {
     /// Creates an archive without entries on a disk without an open slot.
     ///
-    /// An error hands the disk back.
-    ///
-    /// Removes all files and creates a root file with the first root, of sequence 1. At each moment
-    /// a crash leaves what it might have left before; if no slot was open, it may also leave no
-    /// open slot, or the archive.
-    ///
-    /// `Exists` comes exactly if a slot is open, and then nothing is written. `DiskFault` comes
-    /// only if the disk's count of faults rose, and `NoMemory` only if memory runs out, before
-    /// anything is written.
+    /// The promises and the errors are those of `Store::init`. An error hands the disk back.
     pub fn make(alloc: Global, disk: D, config: &Config) -> Result<Engine<D>, NotMade<D>>
         requires config { IsConfig config.now }
         ensures made { MakesArchive D.content D.moment D.left_since D.faults disk
@@ -90,19 +83,9 @@ impl<D: Disk> Engine<D> {
         }
     }
 
-    /// Opens the archive on a disk. An error hands the disk back.
+    /// Opens the archive on a disk.
     ///
-    /// Syncs first, reads all that the current root names, and only then changes the disk: writes
-    /// the current root to the other slot if that is shut, and leaves it shut; cuts tails; and
-    /// removes the files that the root doesn't name. At each moment a crash leaves files that stand
-    /// for an archive that they might have stood for before.
-    ///
-    /// `NoArchive` comes only if no slot is open. `Damaged` comes only if a file that the root
-    /// names isn't in its form; it has the first such offset, in the root, then the map, then the
-    /// epochs in order. Neither comes if the files stand for an archive, and after either all files
-    /// read as before. `DiskFault` comes only if the disk's count of faults rose. `NoMemory` comes
-    /// only if memory runs out: the files still stand for the archive that they stood for, and where
-    /// none can be opened, all files read as before.
+    /// The promises and the errors are those of `DiskArchive::open`. An error hands the disk back.
     pub fn open(alloc: Global, disk: D) -> Result<Engine<D>, NotOpened<D>>
         ensures opened { OpensArchive D.content D.moment D.left_since D.faults disk
             (disk_opened result) (opened_or_why result) }

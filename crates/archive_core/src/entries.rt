@@ -1,12 +1,12 @@
 //! The index of the entries that a store keeps after a purge or an edit.
 ghost use Rattle.std.specs.Prelude.{IfOk};
 ghost use Rattle.archive_core.specs.Kept.{IndexesKept};
-ghost use Rattle.epoch_store.specs.Stores.{without_blob};
+ghost use Rattle.store_planning.specs.Dropping.{without_blob};
 
 use arch_base::{NoMemory, ObjectId};
 use arch_judge::Index;
-use epoch_store::{StoredEntry, take_entry};
 use std::alloc::Global;
+use store_finding::{StoredEntry, take_entry};
 
 /// Returns the index of the entries but those with a blob id, wherever they are kept.
 pub(crate) fn index_without(

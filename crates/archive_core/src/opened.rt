@@ -6,7 +6,7 @@ ghost use Rattle.arch_model.specs.Archives.{Archive, live};
 ghost use Rattle.arch_model.specs.declared.opening.OpenRefusal.{OpenRefusal};
 ghost use Rattle.epoch_store.specs.Opens.{ReadsWith, OpensWell};
 ghost use Rattle.epoch_store.specs.Promises.{OpensArchive};
-ghost use Rattle.epoch_store.specs.Stores.{IsStoreWith};
+ghost use Rattle.store_finding.specs.Kept.{IsStoreWith};
 ghost use Rattle.archive_core.specs.Commands.{OnlyLooks};
 ghost use Rattle.archive_core.specs.HandedBack.{view_opened};
 ghost use Rattle.archive_core.specs.Openings.{RefusesKindly};

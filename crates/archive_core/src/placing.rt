@@ -1,13 +1,13 @@
 //! Where the messages of an archive on a disk are, by their numbers.
 ghost use Rattle.std.specs.Prelude.{◌≡◌, true, IfOk, OnOk, length};
 ghost use Rattle.archive_core.specs.Placing.{message_places, PlacesBy, PlacesRise, MayFollow, IsPlaceOf, IsLiveWith, ends_place, has_blob_at};
-ghost use Rattle.epoch_store.specs.Stores.{without_blob};
+ghost use Rattle.store_planning.specs.Dropping.{without_blob};
 
 use arch_base::{NoMemory, ObjectId};
-use epoch_store::StoredEntry;
 use git_objects::EntryKind;
 use std::alloc::Global;
 use std::collections::BTreeSet;
+use store_finding::StoredEntry;
 
 /// Where the message of a number is.
 #[derive(Clone, Copy, Drop)]

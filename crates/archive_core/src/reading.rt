@@ -7,7 +7,7 @@ ghost use Rattle.arch_model.specs.Shelves.{line_at, GivesBlobIn, AppendsTo};
 ghost use Rattle.arch_model.specs.Standing.{GivesTextIn, GivesEpochIn, KeepsUnlessFound};
 ghost use Rattle.arch_model.specs.declared.text_refusal.TextRefusal.{TextRefusal};
 ghost use Rattle.epoch_store.specs.Reads.{AnswersQuietly};
-ghost use Rattle.epoch_store.specs.Stores.{IsStoreWith, Keeps};
+ghost use Rattle.store_finding.specs.Kept.{IsStoreWith, Keeps};
 ghost use Rattle.archive_core.specs.Numbers.{has_live, IsMessageAt, IsLiveAt, HasBlobAt, IsBlobIndex, GivesTextKept, GivesBlobKept, Names, TellsOther};
 
 use crate::archive::DiskArchive;

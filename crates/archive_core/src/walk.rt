@@ -3,7 +3,7 @@ ghost use Rattle.std.specs.Prelude.{◌≡◌, ℕ, List, refl};
 ghost use Rattle.std.proofs.Common.{◌∙◌};
 ghost use Rattle.archive_core.specs.Commands.{OnlyLooks};
 ghost use Rattle.archive_core.specs.Walks.{lines_kept, IsSound, store-valid, looks-same, looks-joined};
-ghost use Rattle.epoch_store.specs.Stores.{IsStoreWith};
+ghost use Rattle.store_finding.specs.Kept.{IsStoreWith};
 
 use arch_base::Bytes;
 use arch_model::{EntryLine, TextRefusal, Walked};

@@ -1,7 +1,7 @@
 //! Courses of commands on archives on disks in memory: what is left where the disk stops.
 ghost use Rattle.std.specs.Prelude.{◌≤◌, IfOk, OnOk};
 ghost use Rattle.disk_model.specs.Disk.{WhereTold};
-ghost use Rattle.epoch_store.specs.Stores.{HasSizes};
+ghost use Rattle.epoch_store.specs.Commands.{HasSizes};
 
 use arch_model::{Answer, Command, OpenRefusal};
 use archive_core::DiskArchive;

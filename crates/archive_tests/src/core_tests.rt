@@ -2,7 +2,7 @@
 //! out by git.
 ghost use Rattle.std.specs.Prelude.{◌≤◌, IfOk, OnOk};
 ghost use Rattle.disk_model.specs.Disk.{WhereTold};
-ghost use Rattle.epoch_store.specs.Stores.{HasSizes};
+ghost use Rattle.epoch_store.specs.Commands.{HasSizes};
 
 use crate::archives::accepted;
 use arch_model::{Answer, Command};

@@ -2,11 +2,11 @@
 use crate::crashes::{Stopped, stop};
 use crate::file_names::{A, B, M};
 use arch_base::Numbers;
-use disk_files::{file_names, remove_files};
-use disk_model::{Disk, DiskFault, FileKind, FileName, FuseDisk, MemDisk, WalkRefusal};
+use disk_model::{Disk, DiskFault, FileKind, FileName, FuseDisk, MemDisk};
 use std::alloc::Global;
 use std::process::Abort;
 use std::test::Fail;
+use store_finding::{ReadRefusal, file_names, remove_files};
 
 /// A cache.
 const C: FileName = FileName {
@@ -65,7 +65,7 @@ fn reads_as_or_nothing(
 }
 
 /// Returns whether a disk lists these names.
-fn lists<D: Disk>(alloc: Global, disk: &mut D, names: &[FileName]) -> Result<bool, WalkRefusal> {
+fn lists<D: Disk>(alloc: Global, disk: &mut D, names: &[FileName]) -> Result<bool, ReadRefusal> {
     Ok(file_names(alloc, disk)?.as_slice() == names)
 }
 
@@ -76,12 +76,12 @@ fn lists_in_four_calls(alloc: Global, passes: u64) -> Result<bool, DiskFault> {
     // A look at each of three names, and one after them.
     match lists(alloc, &mut fuse, &[A, B, C]) {
         Ok(listed) => Ok(passes >= 4 && listed),
-        Err(refusal) => Ok(passes < 4 && refusal == WalkRefusal::DiskFault),
+        Err(refusal) => Ok(passes < 4 && refusal == ReadRefusal::DiskFault),
     }
 }
 
 /// Returns whether no name is listed of a disk without files.
-fn lists_nothing(alloc: Global) -> Result<bool, WalkRefusal> {
+fn lists_nothing(alloc: Global) -> Result<bool, ReadRefusal> {
     let mut disk = MemDisk::new(alloc, Numbers::new(alloc));
     lists(alloc, &mut disk, &[])
 }
@@ -110,7 +110,7 @@ fn is_removed_or_whole(image: &mut MemDisk) -> Result<bool, DiskFault> {
 }
 
 /// Returns whether one file of the three is left, whole.
-fn has_one_file(alloc: Global, disk: &mut MemDisk) -> Result<bool, WalkRefusal> {
+fn has_one_file(alloc: Global, disk: &mut MemDisk) -> Result<bool, ReadRefusal> {
     let listed = lists(alloc, disk, &[A])?;
     let whole = reads_as(disk, A, b"abcdPQRS")?;
     Ok(listed && whole)

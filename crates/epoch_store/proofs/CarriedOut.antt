@@ -23,11 +23,13 @@ use Rattle.root_slots.specs.RootName.{root_name}
 use Rattle.root_slots.specs.Slots.{HasNewRoot, with_root}
 use Rattle.epoch_file.specs.declared.refusal.StoreRefusal.{StoreRefusal}
 use Rattle.epoch_file.specs.declared.refusal.StoreRefusal.TheVariants.{DiskFault, NoMemory, Damaged}
-use Rattle.epoch_store.specs.declared.entries.StoredEntry.{StoredEntry}
-use Rattle.epoch_store.specs.Planning.{KeepsPlanned, Planning, PlansArchive, PlansPurge, PlansWithout}
-use Rattle.epoch_store.specs.Stores.{DropsEntries, HasSizes, InEpochs, IsDiskWith, IsStoreWith, Keeps, KeptOf, UnlessFailed, View, stored_after, without_blob}
-use Rattle.epoch_store.proofs.FindingTold.{reads_both}
-use Rattle.epoch_store.proofs.Planned.{last_at_most}
+use Rattle.store_finding.specs.declared.entries.StoredEntry.{StoredEntry}
+use Rattle.store_planning.specs.Planning.{KeepsPlanned, Planning, PlansArchive, PlansPurge, PlansWithout}
+use Rattle.epoch_store.specs.Commands.{DropsEntries, HasSizes, UnlessFailed}
+use Rattle.store_finding.specs.Kept.{InEpochs, IsDiskWith, IsStoreWith, Keeps, View, stored_after}
+use Rattle.store_planning.specs.Dropping.{KeptOf, without_blob}
+use Rattle.store_finding.proofs.FindingTold.{reads_both}
+use Rattle.store_planning.proofs.Planned.{last_at_most}
 use Rattle.epoch_store.proofs.Purged.{one_content}
 
 -- A disk that reads as before is the same store's, and was it before.

@@ -20,13 +20,14 @@ use Rattle.root_change.proofs.Drops.{named, named_root, named_map, named_number,
 use Rattle.root_change.proofs.Grown.{epoch_isnt_root, map_isnt_root, epoch_is_named, map_is_named}
 use Rattle.root_change.proofs.Sizes.{end_at_most}
 use Rattle.arch_model.specs.Archives.{Archive}
-use Rattle.epoch_store.specs.declared.entries.StoredEntry.{StoredEntry}
-use Rattle.epoch_store.specs.Files.{map_file_of, epoch_file_of}
-use Rattle.epoch_store.specs.Planning.{IsReady, Planning, PlansArchive}
-use Rattle.epoch_store.specs.Recovery.{parts_of}
-use Rattle.epoch_store.specs.Stores.{HasSizes, IsStoreWith, RecoversOneOf, GoesOnAnew, View}
+use Rattle.store_finding.specs.declared.entries.StoredEntry.{StoredEntry}
+use Rattle.store_finding.specs.Files.{map_file_of, epoch_file_of}
+use Rattle.store_planning.specs.Planning.{IsReady, Planning, PlansArchive}
+use Rattle.store_finding.specs.Recovery.{parts_of}
+use Rattle.epoch_store.specs.Commands.{HasSizes, RecoversOneOf, GoesOnAnew}
+use Rattle.store_finding.specs.Kept.{IsStoreWith, View}
 use Rattle.epoch_store.proofs.NextArchive.{IsNext, next_leaves, store_next}
-use Rattle.epoch_store.proofs.Parted.{store_keeps, store_owns}
+use Rattle.store_finding.proofs.FrontParts.{store_keeps, store_owns}
 
 -- Plans of a store's own disk make the next archive.
 module _ (v : View) (cache : List ℕ) (a b : Archive) (p : Planning) (next : ℕ) (k : Option Content) (store : IsStoreWith v cache a k) (made : PlansArchive v.root cache a b p next) where

@@ -17,14 +17,16 @@ use Rattle.root_change.specs.declared.rewriting.RewriteRefusal.{RewriteRefusal}
 use Rattle.root_change.specs.declared.rewriting.RewriteRefusal.TheVariants as rewrite
 use Rattle.root_change.specs.Names.{bounds_of}
 use Rattle.root_change.specs.Rewriting.{CarriesOut, Plan}
-use Rattle.epoch_store.specs.declared.entries.StoredEntry.{StoredEntry}
-use Rattle.epoch_store.specs.DamagedTexts.{DamageBy, IfDamaged, IsDamageIn}
-use Rattle.epoch_store.specs.Planning.{IsReady, Planning, PlansArchive, PlansUndamaged}
+use Rattle.store_finding.specs.declared.entries.StoredEntry.{StoredEntry}
+use Rattle.store_planning.specs.DamagedTexts.{DamageBy, IfDamaged, IsDamageIn}
+use Rattle.store_planning.specs.Planning.{IsReady, Planning, PlansArchive, PlansUndamaged}
 use Rattle.epoch_store.specs.Promises.{Appends, ChangesStore, ReadsBy, Renews, StaysBy, UndamagedBy, Way, cache_by}
-use Rattle.epoch_store.specs.Stores.{IsStoreWith, IsUndamaged, RecoversOneOf, UnlessFailed, View}
+use Rattle.store_finding.specs.Kept.{IsStoreWith, View}
+use Rattle.store_planning.specs.Dropping.{IsUndamaged}
+use Rattle.epoch_store.specs.Commands.{RecoversOneOf, UnlessFailed}
 use Rattle.epoch_store.proofs.CarriedOut.{reads_then, rooted_since, store_back, store_same}
 use Rattle.epoch_store.proofs.Carrying.{carried_leaves, carried_on, carried_store, sizes_carried}
-use Rattle.epoch_store.proofs.FindingTold.{reads_none}
+use Rattle.store_finding.proofs.FindingTold.{reads_none}
 use Rattle.epoch_store.proofs.Kept.{stands_now}
 use Rattle.epoch_store.proofs.Readying.{read_between}
 use Rattle.epoch_store.proofs.TextDamage.{content_is, short_told}

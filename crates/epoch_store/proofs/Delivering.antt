@@ -26,16 +26,17 @@ use Rattle.epoch_file.specs.Entries.{bytes_after}
 use Rattle.root_slots.specs.declared.root.Root.{Root}
 use Rattle.root_change.specs.Parts.{Parts, IsOwn}
 use Rattle.root_change.proofs.Roots.{equal_or_not, same_test, other_test}
-use Rattle.epoch_store.specs.declared.entries.StoredEntry.{StoredEntry}
-use Rattle.epoch_store.specs.declared.next.NextPlace.{NextPlace}
+use Rattle.store_finding.specs.declared.entries.StoredEntry.{StoredEntry}
+use Rattle.store_planning.specs.declared.next.NextPlace.{NextPlace}
 use Rattle.epoch_store.specs.Entering.{Enters, RecoversEntered, line_by, line_of, numbers_by, parts_with, root_with, with_new}
 use Rattle.epoch_store.specs.Promises.{Adds, ChangesStore, Ends, Way}
-use Rattle.epoch_store.specs.Recovery.{bytes_in, map_bytes, parts_of}
-use Rattle.epoch_store.specs.Stores.{Accepts, IsNextPlace, IsStoreWith, Keeps, RecoversOneOf, View, next_sequence, stored_after, stored_at}
+use Rattle.store_finding.specs.Recovery.{bytes_in, map_bytes, parts_of}
+use Rattle.epoch_store.specs.Commands.{Accepts, IsNextPlace, RecoversOneOf, next_sequence}
+use Rattle.store_finding.specs.Kept.{IsStoreWith, Keeps, View, stored_after, stored_at}
 use Rattle.epoch_store.proofs.CarriedOut.{edited_valid, epoch_low}
-use Rattle.epoch_store.proofs.Growing.{bytes_here, bytes_other, map_grows, map_stays, stored_more}
+use Rattle.store_finding.proofs.Growing.{bytes_here, bytes_other, map_grows, map_stays, stored_more}
 use Rattle.epoch_store.proofs.NextArchive.{IsNext, next_leaves, store_next}
-use Rattle.epoch_store.proofs.Parted.{store_cache, store_keeps, store_owns}
+use Rattle.store_finding.proofs.FrontParts.{store_cache, store_keeps, store_owns}
 
 -- A number that has a text is below a bound of all.
 below_step : (b : Bool) (e : Entry) (rest : Option (List ℕ)) (high n : ℕ) (text : List ℕ) → (e.number == n) ≡ b → e.number < high → (rest ≡ Some text → n < high) → (if b then Some e.text else rest) ≡ Some text → n < high

@@ -9,10 +9,11 @@ use Rattle.git_objects.specs.Objects.{blob_id_of}
 use Rattle.arch_model.specs.Archives.{Archive, live, text_of, with_entry, without_entries}
 use Rattle.arch_model.specs.Delivery.{collision, new_epoch}
 use Rattle.arch_model.proofs.LiveEntries.{live-one}
-use Rattle.epoch_store.specs.Planning.{KeepsPlanned, Planning, PlansArchive, PlansEdit, PlansOwn, PlansPurge}
-use Rattle.epoch_store.specs.Stores.{EditsEntries, InEpochs, IsStoreWith, MayEdit, View}
+use Rattle.store_planning.specs.Planning.{KeepsPlanned, Planning, PlansArchive, PlansEdit, PlansOwn, PlansPurge}
+use Rattle.epoch_store.specs.Commands.{EditsEntries, MayEdit}
+use Rattle.store_finding.specs.Kept.{InEpochs, IsStoreWith, View}
 use Rattle.epoch_store.proofs.CarriedOut.{edited_valid, kept_low, purged_archive}
-use Rattle.epoch_store.proofs.Parted.{store_keeps}
+use Rattle.store_finding.proofs.FrontParts.{store_keeps}
 use Rattle.epoch_store.proofs.Kept.{in_epochs_more}
 
 -- The plans write the archive with the message.

@@ -8,7 +8,7 @@ use Rattle.disk_model.specs.declared.name.FileKind.{FileKind}
 use Rattle.disk_model.specs.declared.name.FileKind.TheVariants as kind
 use Rattle.disk_model.specs.declared.name.FileName.{FileName}
 use Rattle.disk_model.specs.Beside.{Respects, RunsBeside}
-use Rattle.disk_model.specs.Disk.{File, Files, Kept, Content, Told, WhereTold, OneFile, Wrote, IsAtMostLength, LeavesOnly, bytes_of}
+use Rattle.disk_model.specs.Disk.{File, Files, Content, Told, WhereTold, OneFile, Wrote, IsAtMostLength, LeavesOnly, bytes_of}
 use Rattle.disk_model.specs.Images.{same_or_other}
 use Rattle.disk_model.specs.Moments.{weaker}
 use Rattle.disk_model.specs.Tells.{told_then, told_weaker, told_where}
@@ -41,10 +41,10 @@ use Rattle.root_change.proofs.Grown.{epoch_isnt_root, map_isnt_root, epoch_isnt_
 use Rattle.root_change.proofs.Phases.{beside_between, beside_went}
 use Rattle.root_change.proofs.Roots.{equal_or_not, same_test, other_test, set_here, set_elsewhere}
 use Rattle.root_change.proofs.Sizes.{end_at_most, end_respects}
-use Rattle.epoch_store.specs.declared.next.NextPlace.{NextPlace}
+use Rattle.store_planning.specs.declared.next.NextPlace.{NextPlace}
 use Rattle.epoch_store.specs.Entering.{numbers_by, line_by, line_of, root_after, root_with, parts_with, Entered, RecoversEntered}
-use Rattle.epoch_store.specs.Stores.{next_sequence, GoesOn}
-use Rattle.epoch_store.specs.Stores.{place_of as place_at}
+use Rattle.epoch_store.specs.Commands.{next_sequence, GoesOn}
+use Rattle.epoch_store.specs.Commands.{place_of as place_at}
 
 -- Bytes that are written at the end of those of a file are added to it, if the disk tells its content.
 pub wrote_told : (bytes : List ℕ) (to : FileName) (end_ : ℕ) (k m : Option Content) → 0 < length bytes → WhereTold (IsAtMostLength to end_) k → Told (OneFile to (Wrote end_ bytes)) k m → Told (Added bytes to end_) k m

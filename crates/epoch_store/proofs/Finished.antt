@@ -37,12 +37,12 @@ use Rattle.arch_model.specs.Validity.{IsArchive}
 use Rattle.arch_model.proofs.Purging.{Climbs, messages_climb, messages_kept}
 use Rattle.arch_model.proofs.ValidArchives.{all_weaker, none_later}
 use Rattle.epoch_file.specs.Planning.{Planned, texts_in}
-use Rattle.epoch_store.specs.Files.{map_file_of}
-use Rattle.epoch_store.specs.Planning.{AreFrom, ClosesLast, FinishesPlans, IsCurrent, IsPlannedUpTo, Planning, PlansWithout, gone_of}
-use Rattle.epoch_store.specs.Recovery.{bytes_in, entry_of, map_bytes, parts_of, record_for, records_from, records_of}
-use Rattle.epoch_store.specs.Stores.{View, IsDiskWith, stored_after}
-use Rattle.epoch_store.proofs.Mapped.{map_length, records_few, records_valid}
-use Rattle.epoch_store.proofs.Planned.{IsShut, each_plan, in_epoch_none, of_first, planned_none, shut, without_all}
+use Rattle.store_finding.specs.Files.{map_file_of}
+use Rattle.store_planning.specs.Planning.{AreFrom, ClosesLast, FinishesPlans, IsCurrent, IsPlannedUpTo, Planning, PlansWithout, gone_of}
+use Rattle.store_finding.specs.Recovery.{bytes_in, entry_of, map_bytes, parts_of, record_for, records_from, records_of}
+use Rattle.store_finding.specs.Kept.{View, IsDiskWith, stored_after}
+use Rattle.store_finding.proofs.Mapped.{map_length, records_few, records_valid}
+use Rattle.store_planning.proofs.Planned.{IsShut, each_plan, in_epoch_none, of_first, planned_none, shut, without_all}
 
 -- Numbers of the messages that are gone, of messages alone.
 abbrev nums : List Entry → List ℕ → List ℕ

@@ -3,7 +3,7 @@ use Rattle.std.specs.Prelude.{◌≡◌, ◌<◌, ◌==◌, ℕ, Bool, true, fal
 use Rattle.std.proofs.Common.{◌∙◌, sym, ap, subst, inl, inr, arith}
 use Rattle.std.proofs.lemmas.List.{get_or-replicate, length-replicate}
 use Rattle.std.specs.List.{Contains}
-use Rattle.disk_files.specs.Listing.{AreAllNames}
+use Rattle.store_finding.specs.Listing.{AreAllNames}
 use Rattle.arch_base.specs.declared.config.Config.{Config}
 use Rattle.arch_base.specs.Configs.{IsConfig}
 use Rattle.arch_base.specs.Names.{IsName}
@@ -27,11 +27,12 @@ use Rattle.root_change.specs.Names.{names_file}
 use Rattle.root_change.specs.Texts.{Fronts, StandsFor}
 use Rattle.root_change.specs.Parts.{texts_of}
 use Rattle.arch_model.specs.Validity.{IsArchive}
-use Rattle.epoch_store.specs.Recovery.{map_bytes, parts_of, Names}
-use Rattle.epoch_store.specs.Stores.{IsDiskOf, HasSizes}
+use Rattle.store_finding.specs.Recovery.{map_bytes, parts_of, Names}
+use Rattle.store_finding.specs.Kept.{IsDiskOf}
+use Rattle.epoch_store.specs.Commands.{HasSizes}
 use Rattle.epoch_store.specs.First.{MakesRoot, MakingLeaves, HasOnly, first_root_of}
 use Rattle.root_change.proofs.Drops.{unnamed_apart}
-use Rattle.epoch_store.proofs.FindingTold.{where_so}
+use Rattle.store_finding.proofs.FindingTold.{where_so}
 use Rattle.epoch_store.proofs.Making.{first_is_root}
 
 -- An archive without entries is valid.

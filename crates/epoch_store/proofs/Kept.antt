@@ -5,11 +5,12 @@ use Rattle.std.proofs.lemmas.Bool.Decides.{nat_tests}
 use Rattle.disk_model.specs.Disk.{Files, Content, Image, WhereTold, IsAtMostLength, bytes_of}
 use Rattle.arch_model.specs.Archives.{Archive}
 use Rattle.root_slots.specs.declared.root.Root.{Root}
-use Rattle.epoch_store.specs.declared.entries.StoredEntry.{StoredEntry}
+use Rattle.store_finding.specs.declared.entries.StoredEntry.{StoredEntry}
 use Rattle.root_slots.specs.Valid.{no_place}
 use Rattle.root_change.specs.Names.{epoch_name}
-use Rattle.epoch_store.specs.declared.next.NextPlace.{NextPlace}
-use Rattle.epoch_store.specs.Stores.{HasSizes, next_sequence, place_of, View, IsStoreWith, RecoversOneOf, InEpochs}
+use Rattle.store_planning.specs.declared.next.NextPlace.{NextPlace}
+use Rattle.epoch_store.specs.Commands.{HasSizes, next_sequence, place_of, RecoversOneOf}
+use Rattle.store_finding.specs.Kept.{View, IsStoreWith, InEpochs}
 use Rattle.epoch_store.specs.Leaving.{disk_recovers}
 
 -- A number that is tested as 0 is 0.

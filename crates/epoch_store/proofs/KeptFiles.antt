@@ -16,9 +16,10 @@ use Rattle.root_change.proofs.Drops.{both, is_same, true_or_false}
 use Rattle.root_change.proofs.PlanParts.{found}
 use Rattle.root_change.proofs.Pushes.{count_with_bytes}
 use Rattle.root_change.proofs.Roots.{equal_or_not, same_test}
-use Rattle.epoch_store.specs.declared.entries.StoredEntry.{StoredEntry}
-use Rattle.epoch_store.specs.Planning.{KeepsPlanned, Planning, PlansEdit, PlansPurge, loses}
-use Rattle.epoch_store.specs.Stores.{EditsFiles, Grows, HasBlob, IsMadeAnew, KeepsFiles, View}
+use Rattle.store_finding.specs.declared.entries.StoredEntry.{StoredEntry}
+use Rattle.store_planning.specs.Planning.{KeepsPlanned, Planning, PlansEdit, PlansPurge, loses}
+use Rattle.epoch_store.specs.Commands.{EditsFiles, Grows, HasBlob, IsMadeAnew, KeepsFiles}
+use Rattle.store_finding.specs.Kept.{View}
 use Rattle.epoch_store.proofs.Carrying.{anew_goes}
 use Rattle.epoch_store.proofs.Purged.{id_is}
 

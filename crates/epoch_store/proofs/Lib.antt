@@ -1,52 +1,27 @@
-mod Parted
-mod Growing
+mod CarriedOut
+mod Carrying
+pub mod Changing
+mod Delivering
+mod Edited
 mod Ends
 mod Entering
-mod Extents
-mod Delivering
-mod NextArchive
-mod Mapped
-mod Live
-mod Firsts
-pub mod Indexes
-mod Joins
-mod Recorded
-mod Kept
-pub mod UniqueRoots
-mod UniqueEntries
-mod Unique
-mod FirstRoots
-mod Making
-mod Initial
-pub mod Readying
-mod Opening
-mod Opened
-mod Undamaged
-mod ReadUpTo
-mod FindingTold
-mod FindingTurns
-mod Texts
-mod TextsOpened
-mod Recovered
-mod Reopening
-mod WholeEpochs
-mod Settles
-mod Comparing
-mod Carrying
-mod Planned
-mod Taking
+mod EntryExtents
 mod Finished
-mod Messaged
+mod FirstRoots
+mod Initial
+mod Kept
+mod KeptFiles
+mod LosingAll
+mod Making
 mod MessagedArchive
-mod Indexed
+mod NextArchive
 mod Placed
 mod Purged
-mod Finishing
-mod Ranges
-mod Taken
-mod CarriedOut
+pub mod Readying
+mod Reopening
+mod Settles
 mod TextDamage
-pub mod Changing
-mod Edited
-mod Losing
-mod KeptFiles
+mod Texts
+mod TextsOpened
+mod Unique
+mod WholeEpochs

@@ -11,9 +11,9 @@ use Rattle.disk_model.specs.declared.name.FileName.{FileName}
 use Rattle.disk_model.specs.Moments.{joined, weaker}
 use Rattle.disk_model.specs.Disk.{LeavesOnly, File, Files, Kept, Content, Image, Told, WhereTold, Fits, Sure, remove_sure, exact, bytes_of}
 use Rattle.disk_model.specs.Laws.{Fits-Within, Fits-exact}
-use Rattle.disk_files.specs.Listing.{AreAllNames}
-use Rattle.disk_files.proofs.NameLists.{contains_or_not}
-use Rattle.disk_files.specs.Removing.{Fewer, AreRemoved}
+use Rattle.store_finding.specs.Listing.{AreAllNames}
+use Rattle.store_finding.proofs.NameLists.{contains_or_not}
+use Rattle.store_finding.specs.Removing.{Fewer, AreRemoved}
 use Rattle.root_slots.specs.RootName.{root_name}
 use Rattle.root_slots.specs.Each.{IfThere, EachRoot}
 use Rattle.root_slots.specs.Slots.{HasRootSize, Ready, IsShutFile, EachShut, LeavesShut, IsBegun, IsCommitted, HasNewRoot, with_root}

@@ -31,16 +31,17 @@ use Rattle.epoch_file.specs.Appending.{front_at}
 use Rattle.epoch_file.specs.Entries.{EpochEntry, bytes_after}
 use Rattle.epoch_file.specs.Lying.{LiesIn}
 use Rattle.epoch_file.specs.Planning.{Planned}
-use Rattle.epoch_store.specs.declared.entries.StoredEntry.{StoredEntry}
-use Rattle.epoch_store.specs.declared.next.NextPlace.{NextPlace}
-use Rattle.epoch_store.specs.Extents.{AreNamedAfter, AreUpToEpoch, LieFrom, length_planned}
-use Rattle.epoch_store.specs.Planning.{AppendsRecord, AreAnew, AreValid, IsPlaceAfter, IsReady, Planning, PlansArchive, PlansEdit, length_after, length_by, plans_with, with_record}
-use Rattle.epoch_store.specs.Recovery.{Names, bytes_in, map_bytes, parts_of}
-use Rattle.epoch_store.specs.Stores.{EndsAt, View, stored_at}
+use Rattle.store_finding.specs.declared.entries.StoredEntry.{StoredEntry}
+use Rattle.store_planning.specs.declared.next.NextPlace.{NextPlace}
+use Rattle.store_finding.specs.Extents.{AreNamedAfter, AreUpToEpoch, LieFrom, length_planned}
+use Rattle.store_planning.specs.Planning.{AppendsRecord, AreAnew, AreValid, IsPlaceAfter, IsReady, Planning, PlansArchive, PlansEdit, length_after, length_by, plans_with, with_record}
+use Rattle.store_finding.specs.Recovery.{Names, bytes_in, map_bytes, parts_of}
+use Rattle.epoch_store.specs.Commands.{EndsAt}
+use Rattle.store_finding.specs.Kept.{View, stored_at}
 use Rattle.epoch_store.proofs.Entering.{some_bytes}
-use Rattle.epoch_store.proofs.Extents.{after_planned, planned_more}
-use Rattle.epoch_store.proofs.Growing.{bytes_here, bytes_other, map_grows, stored_more}
-use Rattle.epoch_store.proofs.Messaged.{each_record, each_with, epoch_isnt_map, here_record, here_with, other_record, other_with, ready_more}
+use Rattle.epoch_store.proofs.EntryExtents.{after_planned, planned_more}
+use Rattle.store_finding.proofs.Growing.{bytes_here, bytes_other, map_grows, stored_more}
+use Rattle.store_planning.proofs.Messaged.{each_record, each_with, epoch_isnt_map, here_record, here_with, other_record, other_with, ready_more}
 
 -- More bytes than a plan writes follow those of the part.
 by_more : (t : Target) (before written more : List ℕ) → bytes_by t before (written ++ more) ≡ bytes_by t before written ++ more

@@ -12,10 +12,11 @@ use Rattle.root_slots.specs.Valid.{IsRoot, RootFits}
 use Rattle.root_change.specs.Names.{place_of}
 use Rattle.root_change.specs.Parts.{Parts, PartsFit, IsOwn, RecoversBy as RecoversParts, texts_of}
 use Rattle.root_change.specs.Texts.{IsOn, StandsFor}
-use Rattle.epoch_store.specs.declared.entries.StoredEntry.{StoredEntry}
-use Rattle.epoch_store.specs.Recovery.{Names, parts_of, RecoversWith}
-use Rattle.epoch_store.specs.Stores.{IsStoreWith, RecoversOneOf, View, stored_after}
-use Rattle.epoch_store.proofs.Parted.{store_keeps, store_cache}
+use Rattle.store_finding.specs.declared.entries.StoredEntry.{StoredEntry}
+use Rattle.store_finding.specs.Recovery.{Names, parts_of, RecoversWith}
+use Rattle.store_finding.specs.Kept.{IsStoreWith, View, stored_after}
+use Rattle.epoch_store.specs.Commands.{RecoversOneOf}
+use Rattle.store_finding.proofs.FrontParts.{store_keeps, store_cache}
 
 -- Parts are those of an archive and a cache, and each root that comes after another one has its
 -- settings, its next number, and the length of the cache.

@@ -7,10 +7,11 @@ use Rattle.arch_model.specs.Delivery.{last_epoch}
 use Rattle.arch_model.specs.Epochs.{last_commit}
 use Rattle.arch_model.specs.Validity.{IsArchive}
 use Rattle.root_slots.specs.declared.root.Root.{Root}
-use Rattle.epoch_store.specs.declared.next.End.{End}
-use Rattle.epoch_store.specs.Planning.{IsPlaceAfter, Planning, length_after}
-use Rattle.epoch_store.specs.Recovery.{bytes_in}
-use Rattle.epoch_store.specs.Stores.{IsEnd, stored_after}
+use Rattle.store_planning.specs.declared.next.End.{End}
+use Rattle.store_planning.specs.Planning.{IsPlaceAfter, Planning, length_after}
+use Rattle.store_finding.specs.Recovery.{bytes_in}
+use Rattle.store_planning.specs.Dropping.{IsEnd}
+use Rattle.store_finding.specs.Kept.{stored_after}
 use Rattle.epoch_store.proofs.Ends.{epoch_after, epoch_here, none_after}
 
 module _ (root : Root) (p : Planning) (end_ : End) (ends : (b : Archive) → IsArchive b → p.entries ≡ stored_after [] b.entries → IsEnd b end_) where

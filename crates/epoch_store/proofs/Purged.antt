@@ -27,11 +27,12 @@ use Rattle.arch_model.proofs.ValidArchives.{agrees-has, all_weaker}
 use Rattle.epoch_file.specs.Planning.{Planned, texts_in}
 use Rattle.epoch_file.specs.declared.refusal.StoreRefusal.{StoreRefusal}
 use Rattle.epoch_file.specs.declared.refusal.StoreRefusal.TheVariants.{DiskFault, NoMemory, Damaged}
-use Rattle.epoch_store.specs.declared.entries.StoredEntry.{StoredEntry}
-use Rattle.epoch_store.specs.Extents.{AreNamedAfter}
-use Rattle.epoch_store.specs.Files.{epoch_file_of, map_file_of}
-use Rattle.epoch_store.specs.Planning.{AreAnew, AreFrom, ArePlansIn, ClosesAs, ClosesLast, FinishesPlans, GivesNext, IsPlannedUpTo, IsReady, IsTaken, KeepsBut, PicksText, Planning, PlansFirst, PlansLost, PlansOwn, PlansPurge, PlansUndamaged, PlansNext, no_planning, without_current}
-use Rattle.epoch_store.specs.Stores.{KeptOf, SeesNoDamage, View, IsDiskWith, stored_after, stored_at, without_blob}
+use Rattle.store_finding.specs.declared.entries.StoredEntry.{StoredEntry}
+use Rattle.store_finding.specs.Extents.{AreNamedAfter}
+use Rattle.store_finding.specs.Files.{epoch_file_of, map_file_of}
+use Rattle.store_planning.specs.Planning.{AreAnew, AreFrom, ArePlansIn, ClosesAs, ClosesLast, FinishesPlans, GivesNext, IsPlannedUpTo, IsReady, IsTaken, KeepsBut, PicksText, Planning, PlansFirst, PlansLost, PlansOwn, PlansPurge, PlansUndamaged, PlansNext, no_planning, without_current}
+use Rattle.store_planning.specs.Dropping.{KeptOf, SeesNoDamage, without_blob}
+use Rattle.store_finding.specs.Kept.{View, IsDiskWith, stored_after, stored_at}
 use Rattle.epoch_store.proofs.Finished.{entries_are, finished_without}
 use Rattle.epoch_store.proofs.Texts.{kept_found}
 

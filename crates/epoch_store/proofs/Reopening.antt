@@ -18,7 +18,7 @@ use Rattle.root_slots.specs.declared.root.Root.{Root}
 use Rattle.root_slots.specs.Laws.{SpellingsDiffer}
 use Rattle.root_slots.specs.RootName.{root_name}
 use Rattle.root_slots.specs.Each.{IfThere}
-use Rattle.root_slots.specs.Slots.{slot_number, HasRootSize, Current, HasRoot, body_at}
+use Rattle.root_slots.specs.Slots.{slot_number, Current, HasRoot, body_at}
 use Rattle.root_slots.specs.Slots as slots
 use Rattle.root_slots.specs.Sizes.{spelling_length}
 use Rattle.root_slots.specs.Spelling.{spelling}
@@ -29,22 +29,23 @@ use Rattle.root_change.specs.Parts.{texts_of}
 use Rattle.root_change.proofs.Phases.{current_has}
 use Rattle.root_change.proofs.Roots.{none_at_most}
 use Rattle.root_change.proofs.Grown.{epoch_isnt_root, map_isnt_root, epoch_is_named, map_is_named}
-use Rattle.epoch_store.specs.declared.entries.StoredEntry.{StoredEntry}
-use Rattle.epoch_store.specs.declared.finding.Found.{Found}
-use Rattle.epoch_store.specs.Files.{map_file_of, epoch_file_of, as_read}
-use Rattle.epoch_store.specs.Finding.{Finds, IsFoundIn, IsCurrentRoot, IsDamagedFile}
-use Rattle.epoch_store.specs.Joined.{AreBefore}
+use Rattle.store_finding.specs.declared.entries.StoredEntry.{StoredEntry}
+use Rattle.store_finding.specs.declared.finding.Found.{Found}
+use Rattle.store_finding.specs.Files.{map_file_of, epoch_file_of, as_read}
+use Rattle.store_finding.specs.Finding.{Finds, IsFoundIn, IsCurrentRoot, IsDamagedFile}
+use Rattle.store_finding.specs.Joined.{AreBefore}
 use Rattle.epoch_store.specs.Laws.{RecoversOne}
-use Rattle.epoch_store.specs.Openings.{archive_of, HasMap, OpenedRecovers, RecoversUndamaged}
-use Rattle.epoch_store.specs.Opens.{RecoversOfWith, AllRecoverWith, ReadsWith, OpensNone, IsWant, IsOnlySynced, SyncsBy, OnSynced}
+use Rattle.store_finding.specs.Openings.{archive_of, HasMap, OpenedRecovers, RecoversUndamaged}
+use Rattle.epoch_store.specs.Opens.{RecoversOfWith, AllRecoverWith, ReadsWith, Opens, OpensNone, IsOpenedIn, IsWant, IsOnlySynced, SyncsBy, OnSynced}
 use Rattle.epoch_store.specs.Reads.{HasTexts}
-use Rattle.epoch_store.specs.Recovery.{parts_of, RecoversWith, RecoversBy}
+use Rattle.store_finding.specs.Recovery.{parts_of, RecoversWith, RecoversBy}
 use Rattle.epoch_store.specs.Settling.{IsFound, FoundOn, KeepsSlots, IsSettledBy}
-use Rattle.epoch_store.specs.Stores.{View, IsStoreWith, HasSizes, InEpochs, stored_after}
+use Rattle.store_finding.specs.Kept.{View, IsStoreWith, InEpochs, stored_after}
+use Rattle.epoch_store.specs.Commands.{HasSizes}
 use Rattle.epoch_store.proofs.TextsOpened.{fronts-kept, texts-stand}
-use Rattle.epoch_store.proofs.Parted.{parts_front, texts_measure}
+use Rattle.store_finding.proofs.FrontParts.{parts_front, texts_measure}
 use Rattle.epoch_store.proofs.Readying.{slots_size}
-use Rattle.epoch_store.proofs.UniqueRoots.{root_is_one, not_shut}
+use Rattle.store_finding.proofs.UniqueRoots.{root_is_one, not_shut}
 
 -- What is found after a sync is found of the files as they read before it.
 pub found_before : (result : Result Found OpenRefusal) (k m : Option Content) → Told Synced k m → WhereTold (λ c. Finds (as_read c) result) m → WhereTold (λ c. Finds (as_read c) result) k
@@ -116,10 +117,29 @@ found_archive found cache a k m is r synced =
 abbrev pub view_of : Found → View
 view_of found = record { root = found.root; slot = slot_number found.slot; entries = found.entries.items }
 
+-- What is answered of what was found, of an error of reading, and of one that says nothing of the files.
+pub opens_view : (found : Found) (k : Option Content) → WhereTold (λ c. IsFoundIn (as_read c) found) k → WhereTold (λ c. IsOpenedIn (as_read c) (view_of found)) k
+opens_view found None is = tt
+opens_view found (Some k) is = record { records = is.records; root = is.root; has = is.has; read = is.read }
+
+pub opens_refused : (refusal : OpenRefusal) (k : Option Content) → WhereTold (λ c. Finds (as_read c) (Err refusal)) k → WhereTold (λ c. Opens (as_read c) (Err refusal)) k
+opens_refused refusal None is = tt
+opens_refused NoArchive (Some k) is = is
+opens_refused (Damaged file at) (Some k) is = is
+opens_refused DiskFault (Some k) is = tt
+opens_refused NoMemory (Some k) is = tt
+
+pub opens_want : (refusal : OpenRefusal) (k : Option Content) → IsWant refusal → WhereTold (λ c. Opens (as_read c) (Err refusal)) k
+opens_want refusal None is = tt
+opens_want NoArchive (Some k) is = absurd is
+opens_want (Damaged file at) (Some k) is = absurd is
+opens_want DiskFault (Some k) is = tt
+opens_want NoMemory (Some k) is = tt
+
 -- Files of which an archive was found can be opened.
 pub opens_found : (found : Found) (k : Option Content) → WhereTold (λ c. IsFoundIn (as_read c) found) k → OpensNone k → ⊥
 opens_found found None is none = none
-opens_found found (Some k) is none = none (view_of found) (record { records = is.records; root = is.root; has = is.has; read = is.read })
+opens_found found (Some k) is none = none (view_of found) (opens_view found (Some k) is)
 
 -- A file with the bytes that count has at least as many.
 still_long : (root : Root) (name : FileName) (k n : Content) → named_end root name ≤ length (bytes_of (k name).seen) → take (named_end root name) (bytes_of (n name).seen) ≡ take (named_end root name) (bytes_of (k name).seen) → named_end root name ≤ length (bytes_of (n name).seen)

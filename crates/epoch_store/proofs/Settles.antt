@@ -2,7 +2,7 @@
 use Rattle.std.specs.Prelude.{◌≡◌, ◌⊎◌, ◌-◌, ℕ, List, length, take, Option, Some, None, IsSome, refl}
 use Rattle.std.specs.List.{Contains}
 use Rattle.std.proofs.Common.{◌∙◌, sym, ap, subst, inl, inr}
-use Rattle.disk_files.specs.Listing.{AreAllNames}
+use Rattle.store_finding.specs.Listing.{AreAllNames}
 use Rattle.disk_model.specs.declared.name.FileName.{FileName}
 use Rattle.disk_model.specs.Disk.{File, Files, Content, Image, Told, WhereTold, Unchanged, LeavesOnly, bytes_of}
 use Rattle.disk_model.specs.Images.{same_or_other}

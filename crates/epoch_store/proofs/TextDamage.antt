@@ -7,12 +7,13 @@ use Rattle.root_change.specs.Rewriting.{IsPlannedPart}
 use Rattle.epoch_file.specs.Planning.{LacksText}
 use Rattle.epoch_file.specs.declared.refusal.StoreRefusal.{StoreRefusal}
 use Rattle.epoch_file.specs.declared.refusal.StoreRefusal.TheVariants.{DiskFault, NoMemory, Damaged}
-use Rattle.epoch_store.specs.declared.entries.StoredEntry.{StoredEntry}
-use Rattle.epoch_store.specs.DamagedTexts.{DamageBy, IsDamageIn, IsDamageOf, IsDamagedEntry, IsShortPart}
-use Rattle.epoch_store.specs.Files.{epoch_file_of}
-use Rattle.epoch_store.specs.Planning.{IsReady, Planning}
-use Rattle.epoch_store.specs.Reads.{HasText}
-use Rattle.epoch_store.specs.Stores.{IsUndamaged, View}
+use Rattle.store_finding.specs.declared.entries.StoredEntry.{StoredEntry}
+use Rattle.store_planning.specs.DamagedTexts.{DamageBy, IsDamageIn, IsDamageOf, IsDamagedEntry, IsShortPart}
+use Rattle.store_finding.specs.Files.{epoch_file_of}
+use Rattle.store_planning.specs.Planning.{IsReady, Planning}
+use Rattle.store_finding.specs.Reading.{HasText}
+use Rattle.store_planning.specs.Dropping.{IsUndamaged}
+use Rattle.store_finding.specs.Kept.{View}
 use Rattle.epoch_store.proofs.Purged.{one_content}
 
 -- An error that isn't damage tells of none.

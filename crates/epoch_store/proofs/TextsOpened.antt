@@ -9,10 +9,10 @@ use Rattle.arch_model.specs.Epochs.{epoch_bytes}
 use Rattle.arch_model.specs.Validity.{IsEntry}
 use Rattle.git_objects.specs.Objects.{blob_id_of}
 use Rattle.root_change.specs.Texts.{Fronts}
-use Rattle.epoch_store.specs.Files.{epoch_file_of}
+use Rattle.store_finding.specs.Files.{epoch_file_of}
 use Rattle.epoch_store.specs.Reads.{HasTexts}
-use Rattle.epoch_store.specs.Stores.{View, stored_after}
-use Rattle.epoch_store.specs.declared.entries.StoredEntry.{StoredEntry}
+use Rattle.store_finding.specs.Kept.{View, stored_after}
+use Rattle.store_finding.specs.declared.entries.StoredEntry.{StoredEntry}
 use Rattle.epoch_store.proofs.Texts.{text_at}
 
 -- Bytes that a file starts with are those of a file whose front is the same.

@@ -10,14 +10,14 @@ use Rattle.root_slots.specs.Laws.{SpellingsDiffer}
 use Rattle.root_slots.specs.RootName.{root_name}
 use Rattle.root_slots.specs.Spelling.{spelling}
 use Rattle.root_change.specs.Parts.{texts_of}
-use Rattle.epoch_store.specs.Files.{cache_file_of}
+use Rattle.store_finding.specs.Files.{cache_file_of}
 use Rattle.epoch_store.specs.Laws.{RecoversOne, RecoversSomeOne, CachesOne, ExactRecovers, StoreRecovers}
-use Rattle.epoch_store.specs.Recovery.{records_of, parts_of, RecoversBy}
+use Rattle.store_finding.specs.Recovery.{records_of, parts_of, RecoversBy}
 use Rattle.epoch_store.specs.Leaving.{disk_recovers}
-use Rattle.epoch_store.proofs.Parted.{parts_front, exact_stands}
-use Rattle.epoch_store.proofs.UniqueRoots.{root_is_one, not_shut, front_is_one}
-use Rattle.epoch_store.proofs.Opened.{recovers_map, recovers_opened}
-use Rattle.epoch_store.proofs.Undamaged.{whole_one}
+use Rattle.store_finding.proofs.FrontParts.{parts_front, exact_stands}
+use Rattle.store_finding.proofs.UniqueRoots.{root_is_one, not_shut, front_is_one}
+use Rattle.store_finding.proofs.Opened.{recovers_map, recovers_opened}
+use Rattle.store_finding.proofs.Undamaged.{whole_one}
 
 -- Archives with three equal values are equal.
 archive_is : (a b : Archive) → a.config ≡ b.config → a.entries ≡ b.entries → a.next ≡ b.next → a ≡ b

@@ -9,11 +9,11 @@ use Rattle.arch_model.specs.Epochs.{epoch_bytes, entries_bytes}
 use Rattle.mail_commits.specs.Entries.{magic}
 use Rattle.arch_model.specs.Standing.{GivesEpochIn}
 use Rattle.root_slots.specs.Valid.{no_place}
-use Rattle.epoch_store.specs.Files.{epoch_file_of}
-use Rattle.epoch_store.specs.Recovery.{bytes_in}
-use Rattle.epoch_store.specs.Reads.{StandsAt}
-use Rattle.epoch_store.specs.Stores.{View, IsStoreWith}
-use Rattle.epoch_store.proofs.Parted.{none_above, disk_fronts}
+use Rattle.store_finding.specs.Files.{epoch_file_of}
+use Rattle.store_finding.specs.Recovery.{bytes_in}
+use Rattle.store_finding.specs.Reading.{StandsAt}
+use Rattle.store_finding.specs.Kept.{View, IsStoreWith}
+use Rattle.store_finding.proofs.FrontParts.{none_above, disk_fronts}
 
 -- An epoch without bytes has no entry.
 empty : (es : List Entry) → length (epoch_bytes es) ≡ 0 → es ≡ []

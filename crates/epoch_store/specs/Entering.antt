@@ -19,11 +19,12 @@ use Rattle.root_change.specs.Changing.{grown}
 use Rattle.root_change.specs.Copying.{Added}
 use Rattle.root_change.specs.Names.{epoch_name}
 use Rattle.root_change.specs.Parts.{Parts, RecoversBy}
-use Rattle.epoch_store.specs.declared.next.NextPlace.{NextPlace}
-use Rattle.epoch_store.specs.declared.entries.StoredEntry.{StoredEntry}
-use Rattle.epoch_store.specs.Files.{map_file_of}
-use Rattle.epoch_store.specs.Recovery.{map_bytes}
-use Rattle.epoch_store.specs.Stores.{View, next_sequence}
+use Rattle.store_planning.specs.declared.next.NextPlace.{NextPlace}
+use Rattle.store_finding.specs.declared.entries.StoredEntry.{StoredEntry}
+use Rattle.store_finding.specs.Files.{map_file_of}
+use Rattle.store_finding.specs.Recovery.{map_bytes}
+use Rattle.store_finding.specs.Kept.{View}
+use Rattle.epoch_store.specs.Commands.{next_sequence}
 
 -- How many numbers an entry takes: a message the next one, a deletion none.
 abbrev pub numbers_by : EntryKind → ℕ

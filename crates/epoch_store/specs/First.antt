@@ -6,14 +6,14 @@ use Rattle.disk_model.specs.Sizes.{epoch_count}
 use Rattle.root_slots.specs.declared.root.Root.{Root}
 use Rattle.root_slots.specs.Valid.{no_place}
 use Rattle.epoch_store.specs.declared.refusal.InitRefusal.{InitRefusal}
-use Rattle.epoch_store.specs.declared.refusal.InitRefusal.TheVariants.{Exists, DiskFault, NoMemory}
+use Rattle.epoch_store.specs.declared.refusal.InitRefusal.TheVariants.{Exists, DiskFault}
 use Rattle.disk_model.specs.Disk.{File, Files, Content, Image, Told, WhereTold, Fits}
 use Rattle.disk_model.specs.Synced.{IsSettled}
 use Rattle.arch_model.specs.Archives.{Archive}
 use Rattle.root_slots.specs.RootName.{root_name}
 use Rattle.root_slots.specs.Each.{IfThere}
 use Rattle.root_slots.specs.Slots.{root_size, Elsewhere, HasFirstRoot, HasRoot, Ready, IsShutFile}
-use Rattle.epoch_store.specs.Recovery.{Recovers}
+use Rattle.store_finding.specs.Recovery.{Recovers}
 use Rattle.epoch_store.specs.Opens.{IsOnlySynced}
 
 -- All bytes of a root file are zeros.
@@ -70,14 +70,12 @@ pub record HasOnly (body : List ℕ) (k : Content) : Type 0 where
 abbrev pub MakingAnswers : {T : Type 0} → Result T InitRefusal → Content → Type 0
 MakingAnswers (Ok store) k = IsShutFile (k root_name).seen
 MakingAnswers (Err Exists) k = IsShutFile (k root_name).seen → ⊥
-MakingAnswers (Err DiskFault) k = Unit {0}
-MakingAnswers (Err NoMemory) k = Unit {0}
+MakingAnswers (Err _) k = Unit {0}
 
 -- After this error, unless the disk failed, all files are synced, and otherwise unchanged.
 abbrev pub OnlySyncs : InitRefusal → Option Content → Option Content → Type 0
-OnlySyncs Exists old new = Told IsOnlySynced old new
 OnlySyncs DiskFault old new = Unit {0}
-OnlySyncs NoMemory old new = Told IsOnlySynced old new
+OnlySyncs _ old new = Told IsOnlySynced old new
 
 -- An error of creating an archive, except a fault of the disk, comes before anything is changed.
 abbrev pub RefusesToMake : {T : Type 0} → Result T InitRefusal → Option Content → Option Content

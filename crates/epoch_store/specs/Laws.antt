@@ -2,9 +2,9 @@
 use Rattle.std.specs.Prelude.{◌≡◌, ℕ, List, Option, Some}
 use Rattle.disk_model.specs.Disk.{Files, Content, Image}
 use Rattle.arch_model.specs.Archives.{Archive}
-use Rattle.epoch_store.specs.Files.{as_read}
-use Rattle.epoch_store.specs.Recovery.{RecoversWith, RecoversSomeWith, ExactWith}
-use Rattle.epoch_store.specs.Stores.{View, IsDiskWith}
+use Rattle.store_finding.specs.Files.{as_read}
+use Rattle.store_finding.specs.Recovery.{RecoversWith, RecoversSomeWith, ExactWith}
+use Rattle.store_finding.specs.Kept.{View, IsDiskWith}
 
 -- Files stand for at most one archive, with whatever caches.
 abbrev pub RecoversOne : Type 0

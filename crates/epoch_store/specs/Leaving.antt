@@ -4,8 +4,8 @@ use Rattle.disk_model.specs.Disk.{Files, Content, Image}
 use Rattle.arch_model.specs.Archives.{Archive}
 use Rattle.root_change.specs.Leaving.{on_stands}
 use Rattle.root_change.specs.Parts.{texts_of}
-use Rattle.epoch_store.specs.Recovery.{parts_of, RecoversWith}
-use Rattle.epoch_store.specs.Stores.{View, IsDiskWith}
+use Rattle.store_finding.specs.Recovery.{parts_of, RecoversWith}
+use Rattle.store_finding.specs.Kept.{View, IsDiskWith}
 
 -- Each crash leaves files that stand for its archive.
 pub disk_recovers : (v : View) (cache : List ℕ) (a : Archive) (k : Content) (image : Files)

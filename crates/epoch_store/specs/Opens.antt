@@ -11,11 +11,11 @@ use Rattle.arch_judge.specs.declared.index.Index.{Index}
 use Rattle.number_map.specs.declared.line.Record.{Record}
 use Rattle.root_slots.specs.RootName.{root_name}
 use Rattle.root_slots.specs.Slots.{IsShutFile}
-use Rattle.epoch_store.specs.Files.{as_read}
-use Rattle.epoch_store.specs.Openings.{AreRead}
-use Rattle.epoch_store.specs.Finding.{IsCurrentRoot, HasRecords, IsDamagedFile}
-use Rattle.epoch_store.specs.Recovery.{RecoversWith, RecoversSomeWith}
-use Rattle.epoch_store.specs.Stores.{View}
+use Rattle.store_finding.specs.Files.{as_read}
+use Rattle.store_finding.specs.Openings.{AreRead}
+use Rattle.store_finding.specs.Finding.{IsCurrentRoot, HasRecords, IsDamagedFile}
+use Rattle.store_finding.specs.Recovery.{RecoversWith, RecoversSomeWith}
+use Rattle.store_finding.specs.Kept.{View}
 
 -- Files stand for one of these archives with a cache of these bytes, or for none if that is one of
 -- these.
@@ -66,15 +66,13 @@ abbrev pub Opens : Files → Result View OpenRefusal → Type 0
 Opens files (Ok store) = IsOpenedIn files store
 Opens files (Err NoArchive) = IsShutFile (files root_name)
 Opens files (Err (Damaged file at)) = IsDamagedFile files file at
-Opens files (Err DiskFault) = Unit {0}
-Opens files (Err NoMemory) = Unit {0}
+Opens files (Err _) = Unit {0}
 
 -- An error that says nothing of the files: the disk failed, or memory ran out.
 abbrev pub IsWant : OpenRefusal → Type 0
-IsWant NoArchive = ⊥
-IsWant (Damaged file at) = ⊥
 IsWant DiskFault = Unit {0}
 IsWant NoMemory = Unit {0}
+IsWant _ = ⊥
 
 -- A result without errors but those.
 abbrev pub OpensWell : {T : Type 0} → Result T OpenRefusal → Type 0
@@ -88,20 +86,15 @@ pub record IsOnlySynced (old new : Content) : Type 0 where
 
 -- Unless the disk failed, all files are synced, and otherwise unchanged.
 abbrev pub SyncsBy : {T : Type 0} → Result T OpenRefusal → Option Content → Option Content → Type 0
-SyncsBy (Ok found) old new = Told IsOnlySynced old new
-SyncsBy (Err NoArchive) old new = Told IsOnlySynced old new
-SyncsBy (Err (Damaged file at)) old new = Told IsOnlySynced old new
 SyncsBy (Err DiskFault) old new = Unit {0}
-SyncsBy (Err NoMemory) old new = Told IsOnlySynced old new
+SyncsBy _ old new = Told IsOnlySynced old new
 
 -- An error, except a fault of the disk, comes before anything is changed.
 abbrev pub RefusesBefore : {T : Type 0} → Result T OpenRefusal → Option Content → Option Content
     → Type 0
 RefusesBefore (Ok store) old new = Unit {0}
-RefusesBefore (Err NoArchive) old new = Told IsOnlySynced old new
-RefusesBefore (Err (Damaged file at)) old new = Told IsOnlySynced old new
 RefusesBefore (Err DiskFault) old new = Unit {0}
-RefusesBefore (Err NoMemory) old new = Told IsOnlySynced old new
+RefusesBefore _ old new = Told IsOnlySynced old new
 
 -- Nothing can be opened of what a disk that tells its content reads as: there is no archive, or a
 -- file is damaged.
@@ -137,8 +130,5 @@ SyncsAtMost content moment left_since old new = LeavesOnly moment left_since old
 
 -- What holds after any result but a fault of the disk, which may come before the sync.
 abbrev pub OnSynced : {T : Type 0} → Result T OpenRefusal → Type 0 → Type 0
-OnSynced (Ok found) P = P
-OnSynced (Err NoArchive) P = P
-OnSynced (Err (Damaged file at)) P = P
 OnSynced (Err DiskFault) P = Unit {0}
-OnSynced (Err NoMemory) P = P
+OnSynced _ P = P

@@ -20,13 +20,15 @@ use Rattle.epoch_file.specs.declared.refusal.StoreRefusal.{StoreRefusal}
 use Rattle.epoch_file.specs.declared.refusal.StoreRefusal.TheVariants as refusal
 use Rattle.epoch_store.specs.declared.refusal.InitRefusal.{InitRefusal}
 use Rattle.epoch_store.specs.declared.refusal.InitRefusal.TheVariants as making
-use Rattle.epoch_store.specs.Files.{as_read}
+use Rattle.store_finding.specs.Files.{as_read}
 use Rattle.epoch_store.specs.First.{MakingAnswers, MakingLeaves, RefusesToMake, first_root_of}
-use Rattle.epoch_store.specs.DamagedTexts.{IfDamaged, IsDamageIn}
+use Rattle.store_planning.specs.DamagedTexts.{IfDamaged, IsDamageIn}
 use Rattle.epoch_store.specs.Opens.{RecoversOfWith, AllRecoverWith, ReadsWith, Opens, OpensWell, SyncsFirst, SyncsAtMost, OnSynced}
-use Rattle.epoch_store.specs.Planning.{PlansUndamaged}
+use Rattle.store_planning.specs.Planning.{PlansUndamaged}
 use Rattle.epoch_store.specs.Settling.{IsSettledBy}
-use Rattle.epoch_store.specs.Stores.{View, GoesOn, HasSizes, IsDiskOf, IsStoreWith, RecoversOneOf, GoesOnAnew, SeesNoDamage, UnlessFailed}
+use Rattle.store_finding.specs.Kept.{View, IsDiskOf, IsStoreWith}
+use Rattle.epoch_store.specs.Commands.{GoesOn, HasSizes, RecoversOneOf, GoesOnAnew, UnlessFailed}
+use Rattle.store_planning.specs.Dropping.{SeesNoDamage}
 
 -- An archive without entries is made, of these settings. At each moment a crash leaves what it might
 -- have left before; if no slot was open, it may also leave no open slot, or the archive. The answer

@@ -1,5 +1,5 @@
 -- What a store tells of its entries, and the results of reading a text.
-use Rattle.std.specs.Prelude.{◌≡◌, ◌≢◌, ◌+◌, ◌<◌, ◌≤◌, ℕ, Bool, true, false, List, ◌++◌, length, take, drop, slice_get, get_or, Option, Some, None, Result, Ok, Err}
+use Rattle.std.specs.Prelude.{◌≡◌, ◌≢◌, ◌+◌, ◌<◌, ℕ, Bool, true, false, List, ◌++◌, length, slice_get, get_or, Option, Some, None, Result, Ok, Err}
 use Rattle.arch_base.specs.declared.ids.Id20.{Id20}
 use Rattle.disk_model.specs.declared.name.FileName.{FileName}
 use Rattle.disk_model.specs.Disk.{Content, bytes_of}
@@ -7,12 +7,13 @@ use Rattle.git_objects.specs.Objects.{blob_id_of}
 use Rattle.arch_model.specs.Archives.{Archive, Entry}
 use Rattle.arch_model.specs.declared.line.EntryLine.{EntryLine}
 use Rattle.arch_model.specs.declared.text_refusal.TextRefusal.{TextRefusal}
-use Rattle.arch_model.specs.declared.text_refusal.TextRefusal.TheVariants.{DiskFault, Damaged, NoMemory}
+use Rattle.arch_model.specs.declared.text_refusal.TextRefusal.TheVariants.{Damaged}
 use Rattle.root_slots.specs.declared.root.Root.{Root}
 use Rattle.root_slots.specs.Valid.{no_place}
-use Rattle.epoch_store.specs.declared.entries.StoredEntry.{StoredEntry}
-use Rattle.epoch_store.specs.Files.{epoch_file_of}
-use Rattle.epoch_store.specs.Stores.{View}
+use Rattle.store_finding.specs.declared.entries.StoredEntry.{StoredEntry}
+use Rattle.store_finding.specs.Files.{epoch_file_of}
+use Rattle.store_finding.specs.Kept.{View}
+use Rattle.store_finding.specs.Reading.{StandsAt, HasText}
 
 -- An entry without its text.
 abbrev pub line_of : StoredEntry → EntryLine
@@ -52,12 +53,7 @@ abbrev pub GivesText : StoredEntry → List ℕ → List ℕ → Result Unit Tex
 GivesText s old new (Ok _) = (text : List ℕ) × IsTextOf s text × (new ≡ old ++ text)
 GivesText s old new (Err (Damaged named found)) = (new ≡ old) × (named ≡ s.seen.blob)
     × (found ≢ named) × IsIdOfSize s.seen.size found
-GivesText s old new (Err DiskFault) = new ≡ old
-GivesText s old new (Err NoMemory) = new ≡ old
-
--- A text is the bytes of a file from an offset on, if the file has so many.
-abbrev pub StandsAt : List ℕ → ℕ → ℕ → List ℕ → Type 0
-StandsAt file offset size text = offset + size ≤ length file → text ≡ take size (drop offset file)
+GivesText s old new (Err _) = new ≡ old
 
 -- What is read and what is found are the bytes at the offset of an entry's text, in the file of its
 -- epoch.
@@ -69,8 +65,7 @@ FindsText root s old new (Ok _) k = (text : List ℕ)
 FindsText root s old new (Err (Damaged named found)) k = (text : List ℕ)
     × StandsAt (bytes_of (k (epoch_file_of root s.epoch)).seen) s.seen.text_at s.seen.size text
     × (found ≡ blob_id_of text)
-FindsText root s old new (Err DiskFault) k = Unit {0}
-FindsText root s old new (Err NoMemory) k = Unit {0}
+FindsText root s old new (Err _) k = Unit {0}
 
 -- The text of an entry that may be missing.
 abbrev pub text_if : Option Entry → Option (List ℕ)
@@ -83,14 +78,12 @@ abbrev pub GivesTextOf : Archive → ℕ → List ℕ → List ℕ → Result Un
 GivesTextOf a i old new (Ok _) = (text : List ℕ) × (text_if (slice_get a.entries i) ≡ Some text)
     × (new ≡ old ++ text)
 GivesTextOf a i old new (Err (Damaged named found)) = ⊥
-GivesTextOf a i old new (Err DiskFault) = Unit {0}
-GivesTextOf a i old new (Err NoMemory) = Unit {0}
+GivesTextOf a i old new (Err _) = Unit {0}
 
 -- An error that isn't damage.
 abbrev pub IsQuiet : TextRefusal → Type 0
-IsQuiet DiskFault = Unit {0}
-IsQuiet NoMemory = Unit {0}
 IsQuiet (Damaged named found) = ⊥
+IsQuiet _ = Unit {0}
 
 -- A result that isn't damage.
 abbrev pub AnswersQuietly : {T : Type 0} → Result T TextRefusal → Type 0
@@ -110,15 +103,7 @@ abbrev pub FindsEpoch : Root → ℕ → List ℕ → List ℕ → Result Bool T
 FindsEpoch root e old new (Ok true) k = (bytes : List ℕ)
     × StandsAt (bytes_of (k (epoch_file_of root e)).seen) 0
     (get_or root.epochs e no_place).length bytes × (new ≡ old ++ bytes)
-FindsEpoch root e old new (Ok false) k = Unit {0}
-FindsEpoch root e old new (Err refused) k = Unit {0}
-
--- The text of an entry is in its place in the file of its epoch: bytes with the entry's blob id.
-pub record HasText (root : Root) (s : StoredEntry) (k : Content) : Type 0 where
-  pub long : s.seen.text_at + s.seen.size
-      ≤ length (bytes_of (k (epoch_file_of root s.epoch)).seen)
-  pub blob : blob_id_of (take s.seen.size (drop s.seen.text_at
-      (bytes_of (k (epoch_file_of root s.epoch)).seen))) ≡ s.seen.blob
+FindsEpoch root e old new _ k = Unit {0}
 
 -- The texts of all entries that are kept are in their places.
 abbrev pub HasTexts : View → Content → Type 0

@@ -7,14 +7,14 @@ ghost use Rattle.disk_model.specs.Disk.{Image, Told, WhereTold, Unchanged, Leave
 ghost use Rattle.disk_model.specs.Sizes.{greatest_epoch};
 ghost use Rattle.arch_model.specs.declared.text_refusal.TextRefusal.{TextRefusal};
 ghost use Rattle.root_slots.specs.Valid.{no_place};
-ghost use Rattle.epoch_store.specs.Stores.{IsStoreWith};
+ghost use Rattle.store_finding.specs.Kept.{IsStoreWith};
 ghost use Rattle.epoch_store.specs.Reads.{AnswersQuietly, IsEpochFound, FindsEpoch};
 
-use crate::reads::read_text;
 use crate::store::Store;
 use arch_base::Bytes;
 use arch_model::TextRefusal;
 use disk_model::Disk;
+use store_finding::{ReadRefusal, read_text};
 
 impl Store {
     /// Returns the sequence of the current root.
@@ -70,7 +70,11 @@ impl Store {
         }
         let file = self.file_of(epoch);
         let alloc = *self.entries.allocator();
-        let bytes = read_text(alloc, disk, file, 0, named)?;
+        let bytes = match read_text(alloc, disk, file, 0, named) {
+            Ok(bytes) => bytes,
+            Err(ReadRefusal::DiskFault) => return Err(TextRefusal::DiskFault),
+            Err(ReadRefusal::NoMemory) => return Err(TextRefusal::NoMemory),
+        };
         into.push_slice(bytes.as_slice())?;
         Ok(true)
     }

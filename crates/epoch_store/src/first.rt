@@ -9,17 +9,17 @@ ghost use Rattle.root_slots.specs.Valid.{IsRoot};
 ghost use Rattle.root_slots.specs.Slots.{EachShut};
 ghost use Rattle.arch_base.specs.Configs.{IsConfig};
 ghost use Rattle.arch_base.specs.Names.{IsName};
-ghost use Rattle.disk_files.specs.Listing.{AreAllNames};
+ghost use Rattle.store_finding.specs.Listing.{AreAllNames};
 ghost use Rattle.epoch_store.specs.First.{AreZeros, ShutOrFirst, MakesRoot, HasOnly, MakingAnswers, RefusesToMake, first_root_of};
 ghost use Rattle.arch_base.specs.Counts.{RoseIf};
 ghost use Rattle.epoch_store.specs.declared.refusal.InitRefusal.{InitRefusal};
 
 use crate::refusal::InitRefusal;
 use arch_base::Config;
-use disk_files::{FileNames, file_names, remove_files};
-use disk_model::{Disk, DiskFault, EPOCHS, FileName, WalkRefusal};
+use disk_model::{Disk, DiskFault, EPOCHS, FileName};
 use root_slots::{Place, Root, RootRefusal, Slot, begin, fill, raise, read};
 use std::alloc::Global;
+use store_finding::{FileNames, ReadRefusal, file_names, remove_files};
 
 /// Returns the root of an archive without entries.
 pub fn first_root(config: &Config) -> Root
@@ -111,9 +111,7 @@ pub fn all_names<D: Disk>(alloc: Global, disk: &mut D) -> Result<FileNames, Init
 {
     match file_names(alloc, disk) {
         Ok(names) => Ok(names),
-        Err(WalkRefusal::DiskFault) => Err(InitRefusal::DiskFault),
-        Err(WalkRefusal::NoMemory) => Err(InitRefusal::NoMemory),
-        // No file is read, so none is damaged.
-        Err(WalkRefusal::Damaged { at: _ }) => Err(InitRefusal::NoMemory),
+        Err(ReadRefusal::DiskFault) => Err(InitRefusal::DiskFault),
+        Err(ReadRefusal::NoMemory) => Err(InitRefusal::NoMemory),
     }
 }

@@ -1,23 +1,22 @@
 //! Reads the entries of an archive on a disk.
-ghost use Rattle.std.specs.Prelude.{◌≡◌, ◌≤◌, ◌<◌, ◌+◌, ℕ, List, Err, Some, IfOk, length, slice_get};
+ghost use Rattle.std.specs.Prelude.{◌≡◌, ◌≤◌, ◌<◌, ◌+◌, ℕ, List, Err, Some, length, slice_get};
 ghost use Rattle.arch_base.specs.Counts.{RoseIf};
 ghost use Rattle.arch_model.specs.Archives.{Archive};
-ghost use Rattle.disk_model.specs.Disk.{Image, Told, WhereTold, Unchanged, LeavesOnly, bytes_of};
+ghost use Rattle.disk_model.specs.Disk.{Image, Told, WhereTold, Unchanged, LeavesOnly};
 ghost use Rattle.arch_model.specs.declared.text_refusal.TextRefusal.{TextRefusal};
 ghost use Rattle.disk_model.specs.Sizes.{greatest_epoch};
-ghost use Rattle.epoch_store.specs.declared.entries.StoredEntry.{StoredEntry};
-ghost use Rattle.epoch_store.specs.Files.{epoch_file_of};
-ghost use Rattle.epoch_store.specs.Stores.{IsStoreWith};
-ghost use Rattle.epoch_store.specs.Reads.{line_of, line_if, place_if, GivesText, FindsText, GivesTextOf, StandsAt, AnswersQuietly};
+ghost use Rattle.store_finding.specs.declared.entries.StoredEntry.{StoredEntry};
+ghost use Rattle.store_finding.specs.Files.{epoch_file_of};
+ghost use Rattle.store_finding.specs.Kept.{IsStoreWith};
+ghost use Rattle.epoch_store.specs.Reads.{line_of, line_if, place_if, GivesText, FindsText, GivesTextOf};
 
-use crate::entries::StoredEntry;
 use crate::store::Store;
-use arch_base::{Bytes, Config, NoMemory};
+use arch_base::{Bytes, Config};
 use arch_model::{EntryLine, TextRefusal};
 use disk_model::{Disk, FileName};
 use git_objects::blob_id;
 use root_change::epoch_file;
-use std::alloc::Global;
+use store_finding::{ReadRefusal, StoredEntry, read_text};
 
 impl Store {
     /// Returns the settings of the archive.
@@ -106,7 +105,11 @@ impl Store {
         let entry = &self.entries[index as usize];
         let file = self.file_of(entry.epoch);
         let alloc = *self.entries.allocator();
-        let text = read_text(alloc, disk, file, entry.seen.text_at, entry.seen.size)?;
+        let text = match read_text(alloc, disk, file, entry.seen.text_at, entry.seen.size) {
+            Ok(text) => text,
+            Err(ReadRefusal::DiskFault) => return Err(TextRefusal::DiskFault),
+            Err(ReadRefusal::NoMemory) => return Err(TextRefusal::NoMemory),
+        };
         let found = blob_id(text.as_slice());
         if found != entry.seen.blob {
             return Err(TextRefusal::Damaged {
@@ -132,37 +135,4 @@ fn entry_line(entry: &StoredEntry) -> EntryLine
         size: entry.seen.size,
         commit: entry.seen.commit,
     }
-}
-
-/// Allocates room for `size` bytes.
-fn room_for(alloc: Global, size: u64) -> Result<Vec<u8>, NoMemory>
-    ensures { IfOk result (λ room. length room.items ≡ size) }
-{
-    Ok(vec![in alloc; 0; size as usize]?)
-}
-
-/// Returns `size` bytes of a file, from an offset on.
-///
-/// If the file ends before, the rest may be anything.
-pub(crate) fn read_text<D: Disk>(
-    alloc: Global,
-    disk: &mut D,
-    file: FileName,
-    offset: u64,
-    size: u64,
-) -> Result<Vec<u8>, TextRefusal>
-    ensures size { IfOk result (λ text. length text.items ≡ size) }
-    ensures found { IfOk result (λ text. WhereTold (λ k.
-        StandsAt (bytes_of (k file).seen) offset size text.items) (D.content disk.old)) }
-    ensures other { AnswersQuietly result }
-    ensures same { Told Unchanged (D.content disk.old) (D.content disk.new) }
-    ensures any_moment { LeavesOnly D.moment D.left_since disk.old disk.new
-        (Image (D.content disk.old)) }
-    ensures cause { RoseIf (result ≡ Err TextRefusal.DiskFault) (D.faults disk.old) (D.faults disk.new) }
-    ensures fewest { D.reads disk.old ≤ D.reads disk.new }
-    ensures count { D.reads disk.new ≤ D.reads disk.old + 1 }
-{
-    let mut text = room_for(alloc, size)?;
-    disk.read(file, offset, text.as_mut_slice())?;
-    Ok(text)
 }

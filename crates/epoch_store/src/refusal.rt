@@ -1,6 +1,6 @@
 //! The errors of creating an archive.
 use arch_base::NoMemory;
-use disk_model::{DiskFault, WalkRefusal};
+use disk_model::DiskFault;
 use thiserror::Error;
 
 /// Why an archive was not created.

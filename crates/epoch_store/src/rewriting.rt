@@ -1,5 +1,5 @@
 //! Purges and edits of the archive on a disk.
-ghost use Rattle.std.specs.Prelude.{◌≡◌, ◌+◌, ◌-◌, ◌^◌, ◌<◌, ◌≤◌, ℕ, List, Err, Some, None, IfOk, OnOk, OnErr, length};
+ghost use Rattle.std.specs.Prelude.{◌≡◌, ◌+◌, ◌-◌, ◌<◌, ◌≤◌, ℕ, List, Err, Some, None, IfOk, OnOk, OnErr, length};
 ghost use Rattle.std.specs.List.{AllZip, Contains};
 ghost use Rattle.arch_base.specs.Counts.{RoseIf};
 ghost use Rattle.arch_base.specs.Moments.{last_moment};
@@ -7,16 +7,18 @@ ghost use Rattle.disk_model.specs.Disk.{WhereTold};
 ghost use Rattle.disk_model.specs.Sizes.{greatest_epoch};
 ghost use Rattle.mail_reader.specs.StorageTexts.{IsStorageText};
 ghost use Rattle.mail_commits.specs.Ids.{text_ids_of};
-ghost use Rattle.epoch_store.specs.declared.entries.StoredEntry.{StoredEntry};
-ghost use Rattle.epoch_store.specs.Extents.{AreNamedAfter, AreUpToEpoch, LieFrom};
-ghost use Rattle.epoch_store.specs.Planning.{ArePlansIn, IsPlaceAfter, IsReady, IsTaken, KeepsPlanned, PlansArchive, PlansEdit, PlansFirst, PlansOwn, PlansPurge, PlansUndamaged, is_anew, length_after, loses, no_planning};
+ghost use Rattle.store_finding.specs.declared.entries.StoredEntry.{StoredEntry};
+ghost use Rattle.store_finding.specs.Extents.{AreNamedAfter, AreUpToEpoch, LieFrom};
+ghost use Rattle.disk_model.specs.declared.name.FileKind.TheVariants as kind;
+ghost use Rattle.root_change.specs.Rewriting.{Plan, plan_of};
+ghost use Rattle.store_planning.specs.Planning.{ArePlansIn, IsPlaceAfter, IsReady, IsTaken, KeepsPlanned, PlansArchive, PlansEdit, PlansFirst, PlansOwn, PlansPurge, PlansUndamaged, is_anew, length_after, loses, no_planning};
 ghost use Rattle.epoch_file.specs.Runs.{OnlyReads};
-ghost use Rattle.epoch_store.specs.DamagedTexts.{IfDamaged, IsDamagedEntry};
+ghost use Rattle.store_planning.specs.DamagedTexts.{IfDamaged, IsDamagedEntry};
 ghost use Rattle.epoch_store.specs.Promises.{ChangesStore, Drops, Renews, Replaces};
-ghost use Rattle.epoch_store.specs.Stores.{DropsEntries, EditsEntries, EditsFiles, HasSizes, InEpochs, IsStoreWith, KeepsFiles, KeptOf, MayEdit, MayPurge, without_blob};
+ghost use Rattle.epoch_store.specs.Commands.{DropsEntries, EditsEntries, EditsFiles, HasSizes, KeepsFiles, MayEdit, MayPurge};
+ghost use Rattle.store_finding.specs.Kept.{InEpochs, IsStoreWith};
+ghost use Rattle.store_planning.specs.Dropping.{KeptOf, without_blob};
 
-use crate::next::NextPlace;
-use crate::planning::Planner;
 use crate::store::{MOST, Store, own_id_of};
 use arch_base::ObjectId;
 use disk_model::{Disk, FileKind, LAST_EPOCH};
@@ -26,6 +28,7 @@ use mail_commits::TextIds;
 use number_map::Record;
 use root_change::{RewriteRefusal, map_file, rewrite};
 use std::alloc::Global;
+use store_planning::{NextPlace, Planner};
 
 impl Store {
     /// Drops each entry with the blob id of a message, in all epochs.
@@ -165,7 +168,7 @@ impl Store {
         ensures { result ≡ length_after self.now.root planned.now.plans epoch }
     {
         match planned.find(FileKind::Epoch, epoch) {
-            Some(at) => planned.plans[at].count(),
+            Some(at) => planned.plans()[at].count(),
             None => self.root.epochs[epoch as usize].length,
         }
     }
@@ -213,11 +216,13 @@ impl Store {
         requires storage { IsStorageText text.now }
         requires moment { moment ≤ last_moment }
         requires left { self.now.root.next ≤ self.now.root.config.max }
+        requires map { (plan : Plan) × (plan_of planned.old.plans kind.Map 0 ≡ Some plan) }
         ensures planned { OnOk result (PlansEdit self.now planned.old text.now moment planned.new) }
         ensures refused { OnErr result (result ≡ Err StoreRefusal.NoMemory) }
     {
         let place = self.place_after(planned);
         if place.length >= MOST {
+            // No disk has so many bytes.
             return Err(StoreRefusal::NoMemory);
         }
         let id = own_id_of(alloc, text)?;
@@ -242,9 +247,7 @@ impl Store {
             commit: made.commit,
         };
         let stored = self.new_entry(&place, self.root.next, &entry, &written, id);
-        let Ok(()) = planned.entries.push(stored) else {
-            return Err(StoreRefusal::NoMemory);
-        };
+        planned.push_entry(stored)?;
         Ok(())
     }
 
@@ -271,7 +274,7 @@ impl Store {
             return Err(StoreRefusal::NoMemory);
         }
         let slot = self.slot.other();
-        match rewrite(disk, slot, &self.root, planned.plans.as_slice(), next) {
+        match rewrite(disk, slot, &self.root, planned.plans(), next) {
             Ok(root) => {
                 self.root = root;
                 self.slot = slot;

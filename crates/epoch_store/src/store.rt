@@ -1,32 +1,26 @@
 //! The archive on a disk, as it is kept in memory.
-ghost use Rattle.std.specs.Prelude.{◌≡◌, ◌≤◌, ◌<◌, ◌+◌, ◌-◌, ◌^◌, ℕ, List, [], Err, Some, None, IsSome, IfOk, OnOk, ◌==◌, if◌then◌else◌, decimal, length};
-ghost use Rattle.arch_base.specs.Counts.{RoseIf};
-ghost use Rattle.disk_model.specs.Disk.{Told, WhereTold, LeavesOnly};
-ghost use Rattle.disk_model.specs.Sizes.{greatest_epoch, epoch_count};
-ghost use Rattle.disk_model.specs.Synced.{IsSettled};
+ghost use Rattle.std.specs.Prelude.{◌≡◌, ◌≤◌, ◌<◌, ◌+◌, ◌-◌, ◌^◌, List, Err, Some, None, IsSome, IfOk, OnOk, ◌==◌, if◌then◌else◌, decimal, length};
+ghost use Rattle.disk_model.specs.Disk.{Told, WhereTold};
+ghost use Rattle.disk_model.specs.Sizes.{greatest_epoch};
 ghost use Rattle.mail_reader.specs.Ids.{own_id as own_id_in};
 ghost use Rattle.mail_reader.specs.Content.{content_id_of};
 ghost use Rattle.git_objects.specs.Objects.{blob_id_of};
 ghost use Rattle.mail_commits.specs.Ids.{text_ids_of};
-ghost use Rattle.arch_model.specs.Archives.{Archive, Entry, empty_archive};
+ghost use Rattle.arch_model.specs.Archives.{Archive, Entry};
 ghost use Rattle.arch_base.specs.Moments.{last_moment};
 ghost use Rattle.epoch_file.specs.Appending.{written_of};
 ghost use Rattle.epoch_file.specs.Lying.{LiesIn};
-ghost use Rattle.root_slots.specs.Between.{RunsBetween};
-ghost use Rattle.root_slots.specs.Slots.{HasFirstRoot, HasNewRoot};
-ghost use Rattle.root_slots.specs.Spelling.{spelling};
 ghost use Rattle.root_slots.specs.Valid.{IsRoot};
 ghost use Rattle.arch_base.specs.Configs.{IsConfig};
-ghost use Rattle.epoch_store.specs.Extents.{AreUpToEpoch};
-ghost use Rattle.epoch_store.specs.First.{MakingLeaves, MakingAnswers, RefusesToMake, first_root_of};
+ghost use Rattle.store_finding.specs.Extents.{AreUpToEpoch};
 ghost use Rattle.epoch_store.specs.declared.refusal.InitRefusal.{InitRefusal};
-ghost use Rattle.epoch_store.specs.Promises.{Adds, Appends, ChangesStore, Ends};
+ghost use Rattle.epoch_store.specs.Promises.{Adds, Appends, ChangesStore, Ends, MakesArchive};
 ghost use Rattle.epoch_store.specs.Entering.{Enters, KeepsEntry, numbers_by};
-ghost use Rattle.epoch_store.specs.Stores.{IsDiskOf, Keeps, IsEnd, IsNextPlace, next_sequence, place_of, HasSizes, Accepts, MayEnd, stored_at, AddsEntry, EndsAt, EndsEntry};
+ghost use Rattle.store_finding.specs.Kept.{Keeps, stored_at};
+ghost use Rattle.store_planning.specs.Dropping.{IsEnd};
+ghost use Rattle.epoch_store.specs.Commands.{IsNextPlace, next_sequence, place_of, HasSizes, Accepts, MayEnd, AddsEntry, EndsAt, EndsEntry};
 
-use crate::entries::StoredEntry;
 use crate::first::{all_names, first_root, make, no_archive};
-use crate::next::{End, NextPlace};
 use crate::refusal::InitRefusal;
 use crate::writing::write_entry;
 use arch_base::{Bytes, Config, NoMemory, ObjectId};
@@ -39,6 +33,8 @@ use mail_reader::own_id;
 use root_slots::{Root, Slot, root_fits};
 use std::alloc::Global;
 use std::marker::Model;
+use store_finding::StoredEntry;
+use store_planning::{End, NextPlace};
 
 /// The length from which on a file takes no further entry. The result is then `NoMemory`.
 pub(crate) const MOST: u64 = 1 << 62;
@@ -60,8 +56,8 @@ pub struct Store {
 impl Model for Store {
     ghost use Rattle.root_slots.specs.Slots.{slot_number};
     ghost use Rattle.root_slots.specs.Valid.{IsRoot};
-    ghost use Rattle.epoch_store.specs.Extents.{AreNamed};
-    ghost use Rattle.epoch_store.specs.Stores.{View, InEpochs};
+    ghost use Rattle.store_finding.specs.Extents.{AreNamed};
+    ghost use Rattle.store_finding.specs.Kept.{View, InEpochs};
 
     ghost Value = { View };
 
@@ -84,23 +80,8 @@ impl Store {
     /// anything is written.
     pub fn init<D: Disk>(alloc: Global, disk: &mut D, config: &Config) -> Result<Store, InitRefusal>
         requires config { IsConfig config.now }
-        ensures any_moment { LeavesOnly D.moment D.left_since disk.old disk.new
-            (MakingLeaves (empty_archive config.now) (D.content disk.old)) }
-        ensures answer { WhereTold (MakingAnswers result) (D.content disk.old) }
-        // After `Exists` and `NoMemory` the disk is synced, and otherwise unchanged.
-        ensures refused { RefusesToMake result (D.content disk.old) (D.content disk.new) }
-        ensures done { IfOk result (λ store.
-            WhereTold (IsDiskOf store (empty_archive config.now)) (D.content disk.new)) }
-        ensures sizes { IfOk result (λ store. WhereTold (HasSizes store) (D.content disk.new)) }
-        ensures settled { OnOk result (WhereTold IsSettled (D.content disk.new)) }
-        ensures first { IfOk result (λ store. store.root.sequence ≡ 1) }
-        ensures slot { IfOk result (λ store. store.slot ≡ 0) }
-        ensures none { IfOk result (λ store. store.entries ≡ []) }
-        ensures cause { RoseIf (result ≡ Err InitRefusal.DiskFault) (D.faults disk.old)
-            (D.faults disk.new) }
-        // The root file has the first root in slot 0, and is otherwise zeros.
-        ensures rooted { OnOk result (WhereTold
-            (HasFirstRoot (spelling (first_root_of config.now))) (D.content disk.new)) }
+        ensures made { MakesArchive D.content D.moment D.left_since D.faults disk.old disk.new
+            config.now result }
     {
         no_archive(disk)?;
         let names = all_names(alloc, disk)?;
@@ -246,6 +227,7 @@ impl Store {
     {
         let place = self.next_place();
         if place.length >= MOST {
+            // No disk has so many bytes.
             return Err(StoreRefusal::NoMemory);
         }
         let id = own_id_of(alloc, text)?;

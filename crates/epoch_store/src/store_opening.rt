@@ -1,5 +1,5 @@
 //! Opens an archive: syncs, reads its files, and settles the disk.
-ghost use Rattle.std.specs.Prelude.{◌≡◌, ◌≢◌, ◌-◌, ℕ, List, Option, Err, IfOk, OnOk};
+ghost use Rattle.std.specs.Prelude.{◌≡◌, ◌≢◌, ◌-◌, Err, IfOk, OnOk};
 ghost use Rattle.arch_base.specs.Counts.{Rose, RoseIf};
 ghost use Rattle.disk_model.specs.Disk.{Image, Told, WhereTold, Unchanged, LeavesOnly};
 ghost use Rattle.disk_model.specs.Sizes.{epoch_count};
@@ -10,29 +10,29 @@ ghost use Rattle.epoch_file.specs.Runs.{OnlyReads};
 ghost use Rattle.root_slots.specs.Between.{RunsBetween};
 ghost use Rattle.root_slots.specs.Slots.{slot_number, HasRootSize};
 ghost use Rattle.root_slots.specs.Valid.{IsRoot};
-ghost use Rattle.disk_files.specs.Listing.{AreAllNames};
+ghost use Rattle.store_finding.specs.Listing.{AreAllNames};
 ghost use Rattle.root_change.specs.Texts.{Texts, StandsFor, OnDisk};
-ghost use Rattle.epoch_store.specs.Extents.{AreNamed};
-ghost use Rattle.epoch_store.specs.Files.{as_read};
-ghost use Rattle.epoch_store.specs.Finding.{Finds};
-ghost use Rattle.epoch_store.specs.Indexes.{IndexesStored};
-ghost use Rattle.epoch_store.specs.Joined.{AreBefore};
+ghost use Rattle.store_finding.specs.Extents.{AreNamed};
+ghost use Rattle.store_finding.specs.Files.{as_read};
+ghost use Rattle.store_finding.specs.Finding.{Finds};
+ghost use Rattle.store_finding.specs.Indexes.{IndexesStored};
+ghost use Rattle.store_finding.specs.Joined.{AreBefore};
+ghost use Rattle.epoch_store.specs.Promises.{OpensArchive};
 ghost use Rattle.epoch_store.specs.Settling.{FoundOn, IsSettledBy};
 ghost use Rattle.epoch_store.specs.Reads.{HasTexts};
-ghost use Rattle.epoch_store.specs.Stores.{IsStoreWith, HasSizes};
-ghost use Rattle.epoch_store.specs.Opens.{store_of, RecoversOfWith, AllRecoverWith, ReadsWith, Opens, OpensWell, SyncsBy, RefusesBefore, SyncsFirst, SyncsAtMost, OnSynced};
+ghost use Rattle.epoch_store.specs.Opens.{store_of, Opens, OpensWell, SyncsBy, RefusesBefore};
 
-use crate::finding::{Found, find};
 use crate::laws::law_of_recovery;
-use crate::opening_laws::{law_of_opening, law_of_undamaged_files};
 use crate::settling::sweep;
 use crate::store::Store;
 use arch_judge::Index;
 use arch_model::OpenRefusal;
-use disk_files::{FileNames, file_names};
-use disk_model::{Disk, WalkRefusal};
+use disk_model::Disk;
 use root_slots::{Root, Slot, law_of_spellings};
 use std::alloc::Global;
+use store_finding::{
+    FileNames, Found, ReadRefusal, file_names, find, law_of_opening, law_of_undamaged_files,
+};
 
 /// Syncs, and reads the archive on a disk. A crash leaves what a crash before might have left.
 fn find_synced<D: Disk>(alloc: Global, disk: &mut D) -> Result<Found, OpenRefusal>
@@ -61,8 +61,8 @@ fn present_files<D: Disk>(alloc: Global, disk: &mut D) -> Result<FileNames, Open
 {
     match file_names(alloc, disk) {
         Ok(names) => Ok(names),
-        Err(WalkRefusal::DiskFault) => Err(OpenRefusal::DiskFault),
-        Err(_refused) => Err(OpenRefusal::NoMemory),
+        Err(ReadRefusal::DiskFault) => Err(OpenRefusal::DiskFault),
+        Err(ReadRefusal::NoMemory) => Err(OpenRefusal::NoMemory),
     }
 }
 
@@ -107,34 +107,12 @@ impl Store {
     /// the disk's count of faults rose, and `NoMemory` only if memory runs out. Every error but
     /// `DiskFault` leaves all files as they read.
     pub fn open<D: Disk>(alloc: Global, disk: &mut D) -> Result<(Store, Index), OpenRefusal>
-        ensures any_moment { (may : List (Option Archive)) (cache : List ℕ)
-            → AllRecoverWith cache may (D.content disk.old)
-            → LeavesOnly D.moment D.left_since disk.old disk.new (RecoversOfWith cache may) }
-        ensures answer { WhereTold (λ k. Opens (as_read k) (store_of result)) (D.content disk.old) }
-        ensures done { (a : Archive) (cache : List ℕ) → ReadsWith cache a (D.content disk.old)
-            → IfOk result (λ opened. IsStoreWith opened.0 cache a (D.content disk.new)) }
+        ensures opened { OpensArchive D.content D.moment D.left_since D.faults disk.old disk.new
+            (store_of result) }
         ensures indexed { IfOk result (λ opened. IndexesStored opened.0.entries opened.1) }
-        ensures well { (a : Archive) (cache : List ℕ) → ReadsWith cache a (D.content disk.old)
-            → OpensWell result }
         ensures refused { RefusesBefore result (D.content disk.old) (D.content disk.new) }
-        // Once it is synced, only the archive as which the files read is left. Where nothing can be
-        // opened, the files are left as they read.
-        ensures first { OnSynced result
-            (SyncsFirst D.content D.moment D.left_since disk.old disk.new) }
-        // Until then a crash leaves what it might have left before, whatever the answer.
-        ensures before { SyncsAtMost D.content D.moment D.left_since disk.old disk.new }
-        ensures settled { OnOk result (WhereTold IsSettled (D.content disk.new)) }
-        // Whatever the files are: all bytes that count stay, those of a cache too, no other file is
-        // left, and no root is committed.
-        ensures kept { IfOk result (λ opened. Told (IsSettledBy opened.0.root opened.0.slot)
-            (D.content disk.old) (D.content disk.new)) }
-        ensures sizes { IfOk result (λ opened. WhereTold (HasSizes opened.0) (D.content disk.new)) }
         // Each text that was read when it was opened is in its place.
         ensures texts { IfOk result (λ opened. WhereTold (HasTexts opened.0) (D.content disk.new)) }
-        // At each moment the bytes of the root file between its gates and its bodies are as before.
-        ensures between { RunsBetween D.content D.moment D.left_since disk.old disk.new }
-        ensures cause { RoseIf (result ≡ Err OpenRefusal.DiskFault) (D.faults disk.old)
-            (D.faults disk.new) }
     {
         law_of_recovery();
         law_of_opening();

@@ -17,10 +17,10 @@ ghost use Rattle.root_change.specs.Names.{bounds_of};
 ghost use Rattle.root_change.specs.Parts.{Parts, IsOwn};
 ghost use Rattle.root_change.specs.Texts.{HasPartSizes};
 ghost use Rattle.epoch_store.specs.Entering.{Entered, RecoversEntered, line_by, numbers_by, parts_with, root_after, root_with};
-ghost use Rattle.epoch_store.specs.Files.{map_file_of};
-ghost use Rattle.epoch_store.specs.Stores.{GoesOn, SeesNoDamage, place_of};
+ghost use Rattle.store_finding.specs.Files.{map_file_of};
+ghost use Rattle.epoch_store.specs.Commands.{GoesOn, place_of};
+ghost use Rattle.store_planning.specs.Dropping.{SeesNoDamage};
 
-use crate::next::NextPlace;
 use arch_base::ObjectId;
 use disk_model::{Disk, DiskFault, RECORD_SIZE};
 use epoch_file::{NewEntry, StoreRefusal, Written, append_entry};
@@ -29,6 +29,7 @@ use number_map::{Record, append};
 use root_change::{epoch_file, map_file, replace_root};
 use root_slots::{Place, Root, Slot, root_fits};
 use std::alloc::Global;
+use store_planning::NextPlace;
 
 /// Returns how many numbers an entry takes: a message the next one, a deletion none.
 fn numbers_of(kind: EntryKind) -> u32

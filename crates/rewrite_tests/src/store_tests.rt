@@ -3,7 +3,7 @@ ghost use Rattle.std.specs.Prelude.{◌≡◌, ◌≢◌, Some, IsTrue};
 ghost use Rattle.disk_model.specs.Disk.{WhereTold};
 ghost use Rattle.git_objects.specs.declared.entry_kind.EntryKind.TheVariants.{Message};
 ghost use Rattle.mail_reader.specs.Ids.{own_id as own_id_in};
-ghost use Rattle.epoch_store.specs.Stores.{HasSizes, MayEdit, MayPurge};
+ghost use Rattle.epoch_store.specs.Commands.{HasSizes, MayEdit, MayPurge};
 
 use crate::entries_tests::{ALONE_COMMIT, put_two};
 use crate::map_tests::BYTES;
@@ -11,7 +11,7 @@ use crate::plan_tests::ROOT;
 use arch_base::{Id20, ObjectId, id_of_hex};
 use disk_model::{Disk, DiskFault, FileKind, FileName, MemDisk};
 use epoch_file::StoreRefusal;
-use epoch_store::{Store, StoredEntry};
+use epoch_store::Store;
 use epoch_tests::{FIRST, LATER, MOMENT, SECOND, SECOND_ID, THIRD, empty_disk, write};
 use git_objects::{EntryKind, blob_id};
 use mail_commits::text_ids;
@@ -19,6 +19,7 @@ use mail_reader::{is_stored, own_id};
 use number_map::{Record, append};
 use std::alloc::Global;
 use std::test::Fail;
+use store_finding::StoredEntry;
 
 /// The map.
 const MAP: FileName = FileName {

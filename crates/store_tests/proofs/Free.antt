@@ -7,9 +7,10 @@ use Rattle.std.proofs.lemmas.Bool.{false_from_ne_true}
 use Rattle.std.proofs.lemmas.Slice.Eq.{bytes_eq-Decides}
 use Rattle.mail_reader.specs.Ids.{own_id}
 use Rattle.arch_model.specs.Archives.{Entry, Archive, is_message, is_ended, is_id, live, owner, IsFree}
-use Rattle.epoch_store.specs.declared.entries.StoredEntry.{StoredEntry}
+use Rattle.store_finding.specs.declared.entries.StoredEntry.{StoredEntry}
 use Rattle.mail_reader.specs.StorageTexts.{IsStorageText}
-use Rattle.epoch_store.specs.Stores.{View, Keeps, Accepts, stored_after}
+use Rattle.store_finding.specs.Kept.{View, Keeps, stored_after}
+use Rattle.epoch_store.specs.Commands.{Accepts}
 
 -- Each of these entries has another own id than a text.
 abbrev pub Apart : List ℕ → List StoredEntry → Type 0

@@ -3,13 +3,13 @@
 use crate::making_tests::{FIRST_EPOCH, MAP, ROOT, SECOND_EPOCH, append, put};
 use crate::opening_tests::{begin, listed_after, opened};
 use arch_model::OpenRefusal;
-use disk_files::file_names;
 use disk_model::{Disk, DiskFault, FileKind, FileName, MemDisk};
 use epoch_store::Store;
 use epoch_tests::{SECOND, cut, empty_disk, write};
 use std::alloc::Global;
 use std::process::Abort;
 use std::test::Fail;
+use store_finding::file_names;
 
 /// A file: its name and its bytes.
 #[derive(PartialEq, Eq, Drop)]

@@ -2,20 +2,21 @@
 //! which entries belong to which records.
 ghost use Rattle.std.specs.Prelude.{ℕ, false, Ok};
 ghost use Rattle.epoch_file.specs.declared.entry.Seen.{Seen};
-ghost use Rattle.epoch_store.specs.Joined.{Joined, JoinsOne, Held};
+ghost use Rattle.store_finding.specs.Joined.{Joined, JoinsOne, Held};
 
 use crate::making_tests::{MAP, ROOT, epoch, make};
 use arch_base::Id20;
 use arch_model::OpenRefusal;
 use disk_model::{Disk, DiskFault, FileKind, MemDisk};
 use epoch_file::{NewEntry, StoreRefusal};
-use epoch_store::{Store, StoredEntry};
+use epoch_store::Store;
 use epoch_tests::{FIRST, MOMENT, OTHER, SECOND, THIRD, add_entry, empty_disk, write};
 use git_objects::{EntryKind, blob_id};
 use mail_commits::text_ids;
 use number_map::{Record, append};
 use std::alloc::Global;
 use std::test::Fail;
+use store_finding::StoredEntry;
 
 /// The epoch of a number that has no message.
 const NONE: u32 = 4_294_967_295;

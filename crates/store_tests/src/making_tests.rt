@@ -3,14 +3,14 @@ ghost use Rattle.std.specs.Prelude.{◌≢◌, ◌≤◌, Some, IfOk, IsTrue, On
 ghost use Rattle.disk_model.specs.Disk.{WhereTold};
 ghost use Rattle.git_objects.specs.Objects.{blob_id_of};
 ghost use Rattle.mail_reader.specs.Ids.{own_id as own_id_in};
-ghost use Rattle.epoch_store.specs.Stores.{Accepts, HasSizes};
+ghost use Rattle.epoch_store.specs.Commands.{Accepts, HasSizes};
 
 use crate::memory::{is_epoch_of, settings, two_in_memory};
 use arch_base::{Bytes, NoMemory, id_of_hex};
 use arch_model::TextRefusal;
 use disk_model::{Disk, DiskFault, FileKind, FileName, FuseDisk, MemDisk};
 use epoch_file::StoreRefusal;
-use epoch_store::{InitRefusal, Store, StoredEntry};
+use epoch_store::{InitRefusal, Store};
 use epoch_tests::{FIRST, FIRST_ID, MOMENT, SECOND, SECOND_COMMIT, SECOND_ID, empty_disk, write};
 use git_objects::{EntryKind, blob_id};
 use mail_commits::text_ids;
@@ -18,6 +18,7 @@ use mail_reader::{is_stored, own_id};
 use std::alloc::Global;
 use std::process::Abort;
 use std::test::Fail;
+use store_finding::StoredEntry;
 
 /// The file of the root.
 pub(crate) const ROOT: FileName = FileName {

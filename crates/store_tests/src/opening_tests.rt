@@ -2,7 +2,7 @@
 //! failed, and after an opening failed.
 ghost use Rattle.std.specs.Prelude.{◌≤◌, IfSome, IfOk, OnOk};
 ghost use Rattle.disk_model.specs.Disk.{WhereTold};
-ghost use Rattle.epoch_store.specs.Stores.{HasSizes};
+ghost use Rattle.epoch_store.specs.Commands.{HasSizes};
 
 use crate::making_tests::{make, put};
 use crate::removal_tests::remove_first;

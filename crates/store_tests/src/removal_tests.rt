@@ -4,7 +4,7 @@ ghost use Rattle.disk_model.specs.Disk.{WhereTold};
 ghost use Rattle.git_objects.specs.Objects.{blob_id_of};
 ghost use Rattle.git_objects.specs.declared.entry_kind.EntryKind.TheVariants.{Message};
 ghost use Rattle.mail_reader.specs.Ids.{own_id as own_id_in};
-ghost use Rattle.epoch_store.specs.Stores.{HasSizes, MayEnd};
+ghost use Rattle.epoch_store.specs.Commands.{HasSizes, MayEnd};
 
 use crate::damage_tests::is_refused;
 use crate::joining_tests::{
@@ -16,7 +16,7 @@ use arch_base::{Bytes, NoMemory, id_of_hex};
 use arch_model::{Command, OpenRefusal, TextRefusal};
 use disk_model::{Disk, MemDisk};
 use epoch_file::StoreRefusal;
-use epoch_store::{Store, StoredEntry};
+use epoch_store::Store;
 use epoch_tests::{
     FIRST, FIRST_ID, LATER, MOMENT, OTHER, REMOVAL_COMMIT, SECOND, THIRD, empty_disk,
 };
@@ -25,6 +25,7 @@ use mail_commits::text_ids;
 use mail_reader::own_id;
 use std::alloc::Global;
 use std::test::Fail;
+use store_finding::StoredEntry;
 
 /// Returns whether an entry is the message with a number, and has the ids of a text.
 fn is_message(one: &StoredEntry, number: u32, text: &[u8]) -> bool

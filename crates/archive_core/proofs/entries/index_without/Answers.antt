@@ -1,8 +1,8 @@
 use Rattle.std.proofs.Common.{◌≡◌, ◌+◌, sym, subst, take, arith, List}
 use Rattle.std.proofs.lemmas.List.{take_all}
 use Rattle.arch_judge.specs.declared.index.Index.{Index}
-use Rattle.epoch_store.specs.declared.entries.StoredEntry.{StoredEntry}
-use Rattle.epoch_store.specs.Stores.{without_blob}
+use Rattle.store_finding.specs.declared.entries.StoredEntry.{StoredEntry}
+use Rattle.store_planning.specs.Dropping.{without_blob}
 use Rattle.archive_core.specs.Kept.{IndexesKept}
 use Rattle.archive_core.proofs.Dropping.{is-other, is-same, kept-none, kept-stays, kept-goes}
 use Rattle.archive_core.proofs.entries.index_without.Goals as goal

@@ -1,6 +1,6 @@
 use Rattle.std.proofs.Common.{◌≡◌, ◌+◌, ◌-◌, ◌<◌, subst, ℕ, take, length, refl, arith}
-use Rattle.epoch_store.specs.declared.entries.StoredEntry.{StoredEntry}
-use Rattle.epoch_store.specs.Stores.{without_blob}
+use Rattle.store_finding.specs.declared.entries.StoredEntry.{StoredEntry}
+use Rattle.store_planning.specs.Dropping.{without_blob}
 use Rattle.archive_core.proofs.Dropping.{FrontWithout, is-other, is-same, none-ended, front-none, front-stays, front-goes, left-some, front-all}
 use Rattle.archive_core.proofs.placing.places_without.Goals as goal
 

@@ -1,6 +1,6 @@
 -- The files still have their sizes.
 use Rattle.disk_model.specs.Disk.{WhereTold}
-use Rattle.epoch_store.specs.Stores.{HasSizes}
+use Rattle.epoch_store.specs.Commands.{HasSizes}
 use Rattle.archive_crash_tests.proofs.course.carry_out.Given as goal
 
 abbrev pub invariant-loop-step : goal.invariant-loop-step

@@ -1,6 +1,6 @@
 -- The files still have their sizes.
 use Rattle.disk_model.specs.Disk.{WhereTold}
-use Rattle.epoch_store.specs.Stores.{HasSizes}
+use Rattle.epoch_store.specs.Commands.{HasSizes}
 use Rattle.archive_tests.proofs.core_tests.answers_alike.Given as goal
 
 abbrev pub invariant-loop-bytes : goal.invariant-loop-bytes

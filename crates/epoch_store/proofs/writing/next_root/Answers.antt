@@ -1,7 +1,7 @@
 -- The root goes on from the one before.
 use Rattle.std.proofs.Common.{rules, subst}
 use Rattle.root_slots.specs.declared.root.Root.{Root}
-use Rattle.epoch_store.specs.Stores.{GoesOn}
+use Rattle.epoch_store.specs.Commands.{GoesOn}
 use Rattle.epoch_store.proofs.Entering.{goes_on_after}
 use Rattle.epoch_store.proofs.writing.next_root.Goals as goal
 

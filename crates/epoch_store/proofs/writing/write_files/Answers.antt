@@ -10,7 +10,7 @@ use Rattle.epoch_file.specs.declared.entry.Written.{Written}
 use Rattle.root_change.specs.Copying.{Added}
 use Rattle.root_change.specs.Names.{epoch_name, bounds_of}
 use Rattle.epoch_store.specs.Entering.{Entered, line_by, line_of}
-use Rattle.epoch_store.specs.Files.{map_file_of}
+use Rattle.store_finding.specs.Files.{map_file_of}
 use Rattle.epoch_store.proofs.Entering.{appended_some, map_inside, place_inside, place_respects, wrote_told}
 use Rattle.epoch_store.proofs.writing.write_files.Goals as goal
 

@@ -10,7 +10,7 @@ use Rattle.number_map.specs.Records.{record_bytes}
 use Rattle.root_change.specs.Copying.{Added}
 use Rattle.root_change.specs.Names.{bounds_of}
 use Rattle.epoch_store.specs.Entering.{line_by}
-use Rattle.epoch_store.specs.Files.{map_file_of}
+use Rattle.store_finding.specs.Files.{map_file_of}
 use Rattle.epoch_store.proofs.Entering.{map_respects, nothing_told, wrote_told}
 use Rattle.epoch_store.proofs.writing.write_record.Goals as goal
 

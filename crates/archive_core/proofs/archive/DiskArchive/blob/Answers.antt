@@ -1,6 +1,6 @@
 use Rattle.std.proofs.Common.{◌≡◌, ℕ, sym, subst, slice_get, Option, Some}
 use Rattle.std.proofs.lemmas.Option.{slice_get_within}
-use Rattle.epoch_store.specs.Stores.{View, IsStoreWith}
+use Rattle.store_finding.specs.Kept.{View, IsStoreWith}
 use Rattle.archive_core.specs.Numbers.{IsBlobIndex}
 use Rattle.archive_core.proofs.ByBlob.{blob-gives, blob-refuses}
 use Rattle.archive_core.proofs.Standing.{store_keeps}

@@ -5,8 +5,8 @@ use Rattle.arch_model.specs.Delivery.{Done, delivered}
 use Rattle.arch_model.specs.Shelves.{ReadsOnce}
 use Rattle.arch_model.specs.declared.command.Command.TheVariants.{Deliver}
 use Rattle.epoch_store.specs.Promises.{Adds}
-use Rattle.epoch_store.specs.Indexes.{IndexesStored}
-use Rattle.epoch_store.specs.Stores.{View, IsStoreWith}
+use Rattle.store_finding.specs.Indexes.{IndexesStored}
+use Rattle.store_finding.specs.Kept.{View, IsStoreWith}
 use Rattle.archive_core.specs.Commands.{AnswersDelivery, IfUnread}
 use Rattle.archive_core.specs.Kept.{MayGoIn}
 use Rattle.archive_core.proofs.Indexes.{index-of_kept}

@@ -1,6 +1,7 @@
 use Rattle.std.proofs.Common.{refl, ◌≡◌, ◌∙◌, ap, subst, sym, Ok, List}
-use Rattle.epoch_store.specs.declared.entries.StoredEntry.{StoredEntry}
-use Rattle.epoch_store.specs.Stores.{View, Keeps, without_blob}
+use Rattle.store_finding.specs.declared.entries.StoredEntry.{StoredEntry}
+use Rattle.store_finding.specs.Kept.{View, Keeps}
+use Rattle.store_planning.specs.Dropping.{without_blob}
 use Rattle.epoch_store.specs.Promises.{ChangesStore, Drops, Renews}
 use Rattle.epoch_store.proofs.Changing.{unstarted}
 use Rattle.archive_core.specs.Kept.{IndexesKept}

@@ -9,7 +9,8 @@ use Rattle.arch_model.specs.Delivery.{Done, edited, edited_text}
 use Rattle.arch_model.specs.declared.answer.Answer.TheVariants as answer
 use Rattle.arch_model.specs.declared.command.Command.TheVariants.{Edit}
 use Rattle.epoch_store.proofs.Readying.{read_between}
-use Rattle.epoch_store.specs.Stores.{View, IsStoreWith, EditsFiles, RecoversOneOf}
+use Rattle.store_finding.specs.Kept.{View, IsStoreWith}
+use Rattle.epoch_store.specs.Commands.{EditsFiles, RecoversOneOf}
 use Rattle.archive_core.specs.Commands.{DoneBy}
 use Rattle.archive_core.specs.Walks.{looks-joined}
 use Rattle.archive_core.proofs.EditDone.{unformed-unmoved, unformed-answers, unformed-tells, unformed-never, sizes-read, cause-compared, unformed-done, same-done}

@@ -6,7 +6,8 @@ use Rattle.arch_model.specs.Delivery.{Done}
 use Rattle.arch_model.specs.declared.answer.Answer.TheVariants as answer
 use Rattle.mail_commits.specs.declared.ids.TextIds.{TextIds}
 use Rattle.root_slots.specs.Between.{looks_between}
-use Rattle.epoch_store.specs.Stores.{View, IsStoreWith, RecoversEitherWith}
+use Rattle.store_finding.specs.Kept.{View, IsStoreWith}
+use Rattle.epoch_store.specs.Commands.{RecoversEitherWith}
 use Rattle.archive_core.specs.DamageTold.{TellsDamage}
 use Rattle.archive_core.specs.Engines.{told-same}
 use Rattle.archive_core.specs.Placing.{message_places, ends_place, PlacesRise}

@@ -1,6 +1,6 @@
 use Rattle.std.proofs.Common.{◌∙◌, ap, slice_get}
 use Rattle.epoch_store.specs.Reads.{line_if}
-use Rattle.epoch_store.specs.Stores.{View}
+use Rattle.store_finding.specs.Kept.{View}
 use Rattle.archive_core.proofs.ByIndex.{line-kept}
 use Rattle.archive_core.proofs.archive.DiskArchive.entry.Goals as goal
 

@@ -1,5 +1,5 @@
 use Rattle.std.proofs.Common.{sym, subst}
-use Rattle.epoch_store.specs.Stores.{View, IsStoreWith}
+use Rattle.store_finding.specs.Kept.{View, IsStoreWith}
 use Rattle.archive_core.proofs.ByNumber.{epoch_appends}
 use Rattle.archive_core.proofs.archive.DiskArchive.epoch_bytes.Goals as goal
 

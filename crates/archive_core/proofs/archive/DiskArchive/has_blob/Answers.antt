@@ -1,6 +1,6 @@
 use Rattle.std.proofs.Common.{◌≡◌, ◌∙◌, ap, Some, slice_get}
 use Rattle.epoch_store.specs.Reads.{line_if}
-use Rattle.epoch_store.specs.Stores.{View}
+use Rattle.store_finding.specs.Kept.{View}
 use Rattle.archive_core.proofs.ByBlob.{blob-line}
 use Rattle.archive_core.proofs.archive.DiskArchive.has_blob.Goals as goal
 

@@ -1,5 +1,5 @@
 use Rattle.std.proofs.Common.{◌≡◌, ◌∙◌, ap}
-use Rattle.epoch_store.specs.Stores.{View}
+use Rattle.store_finding.specs.Kept.{View}
 use Rattle.archive_core.proofs.Removing.{named-yes, named-no}
 use Rattle.archive_core.proofs.archive.DiskArchive.is_named.Goals as goal
 

@@ -1,6 +1,6 @@
 use Rattle.std.proofs.Common.{◌≡◌, ◌∙◌, sym, ap, subst}
 use Rattle.mail_reader.specs.Stored.{stored as stored_of}
-use Rattle.epoch_store.specs.Stores.{View, IsStoreWith}
+use Rattle.store_finding.specs.Kept.{View, IsStoreWith}
 use Rattle.archive_core.proofs.ByNumber.{inside-message}
 use Rattle.archive_core.proofs.EditCompares.{compares-other, compares-read, compares-unread}
 use Rattle.archive_core.proofs.Standing.{store_keeps}

@@ -1,6 +1,6 @@
 use Rattle.std.proofs.Common.{refl, Ok, ◌≡◌, ◌∙◌, ◌++◌, ◌∷◌, [], ℕ, true, List, length, is_ok, sym, ap, subst, arith, rules}
 use Rattle.epoch_store.specs.Promises.{Adds, Appends, ChangesStore}
-use Rattle.epoch_store.specs.Stores.{View}
+use Rattle.store_finding.specs.Kept.{View}
 use Rattle.epoch_store.proofs.Changing.{unstarted}
 use Rattle.mail_commits.specs.declared.ids.TextIds.{TextIds}
 use Rattle.archive_core.specs.Kept.{PutsText}

@@ -1,7 +1,8 @@
 use Rattle.std.proofs.Common.{refl, ◌≡◌, ◌∙◌, ◌++◌, ◌∷◌, [], true, List, Ok, length, sym, ap, subst, rules, ℕ}
 use Rattle.mail_commits.specs.declared.ids.TextIds.{TextIds}
-use Rattle.epoch_store.specs.declared.entries.StoredEntry.{StoredEntry}
-use Rattle.epoch_store.specs.Stores.{View, without_blob}
+use Rattle.store_finding.specs.declared.entries.StoredEntry.{StoredEntry}
+use Rattle.store_finding.specs.Kept.{View}
+use Rattle.store_planning.specs.Dropping.{without_blob}
 use Rattle.epoch_store.specs.Promises.{ChangesStore, Replaces, Renews}
 use Rattle.epoch_store.proofs.Changing.{unstarted}
 use Rattle.archive_core.specs.Kept.{IndexesKept, PutsText}

@@ -1,5 +1,5 @@
 use Rattle.std.proofs.Common.{◌≡◌, ◌∙◌, ap, List, slice_get, Some, sym}
-use Rattle.epoch_store.specs.Stores.{View}
+use Rattle.store_finding.specs.Kept.{View}
 use Rattle.archive_core.specs.Placing.{message_places}
 use Rattle.archive_core.specs.declared.placing.MessagePlace.{MessagePlace}
 use Rattle.archive_core.proofs.ByNumber.{place-is, message-found, said, unsaid}

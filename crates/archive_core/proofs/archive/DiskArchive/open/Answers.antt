@@ -1,6 +1,6 @@
 use Rattle.std.proofs.Common.{inr}
 use Rattle.arch_judge.specs.declared.index.Index.{Index}
-use Rattle.epoch_store.specs.Stores.{View}
+use Rattle.store_finding.specs.Kept.{View}
 use Rattle.archive_core.proofs.Openings.{opened_reads, refused_kindly}
 use Rattle.archive_core.proofs.archive.DiskArchive.open.Goals as goal
 
@@ -9,12 +9,12 @@ returns-in-Err-clause-refused g c = refused_kindly (View × Index) c.in-Err.refu
 
 pub returns-in_default-clause-refused : goal.returns-in_default-clause-refused
 returns-in_default-clause-refused g c = (
-  opened_reads c.law_of_stores.ensures.recovers c.law_of_stores.ensures.exact c.in-Ok.opened.0 (g.D.Disk.content c.args.disk.now) (g.D.Disk.content c.open.new.disk) c.in-Ok.ensures.done,
-  inr (c.in-Ok.opened.0, c.in-Ok.ensures.answer, c.in-Ok.ensures.kept, c.in-Ok.ensures.done, c.in-Ok.ensures.settled),
+  opened_reads c.law_of_stores.ensures.recovers c.law_of_stores.ensures.exact c.in-Ok.opened.0 (g.D.Disk.content c.args.disk.now) (g.D.Disk.content c.open.new.disk) c.in-Ok.ensures.opened.done,
+  inr (c.in-Ok.opened.0, c.in-Ok.ensures.opened.answer, c.in-Ok.ensures.opened.kept, c.in-Ok.ensures.opened.done, c.in-Ok.ensures.opened.settled),
 )
 
 pub returns-then-not-are_rising-clause-refused : goal.returns-then-not-are_rising-clause-refused
 returns-then-not-are_rising-clause-refused g c = (
-  opened_reads c.law_of_stores.ensures.recovers c.law_of_stores.ensures.exact c.in-Ok.opened.0 (g.D.Disk.content c.args.disk.now) (g.D.Disk.content c.open.new.disk) c.in-Ok.ensures.done,
-  inr (c.in-Ok.opened.0, c.in-Ok.ensures.answer, c.in-Ok.ensures.kept, c.in-Ok.ensures.done, c.in-Ok.ensures.settled),
+  opened_reads c.law_of_stores.ensures.recovers c.law_of_stores.ensures.exact c.in-Ok.opened.0 (g.D.Disk.content c.args.disk.now) (g.D.Disk.content c.open.new.disk) c.in-Ok.ensures.opened.done,
+  inr (c.in-Ok.opened.0, c.in-Ok.ensures.opened.answer, c.in-Ok.ensures.opened.kept, c.in-Ok.ensures.opened.done, c.in-Ok.ensures.opened.settled),
 )

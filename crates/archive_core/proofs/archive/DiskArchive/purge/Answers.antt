@@ -5,7 +5,8 @@ use Rattle.arch_model.specs.Archives.{Archive, messages, text_of}
 use Rattle.arch_model.specs.Delivery.{purged, purged_text}
 use Rattle.arch_model.specs.declared.answer.Answer.TheVariants as answer
 use Rattle.arch_model.specs.declared.command.Command.TheVariants.{Purge}
-use Rattle.epoch_store.specs.Stores.{View, IsStoreWith, KeepsFiles}
+use Rattle.store_finding.specs.Kept.{View, IsStoreWith}
+use Rattle.epoch_store.specs.Commands.{KeepsFiles}
 use Rattle.archive_core.specs.Commands.{AnswersPurge, FilesFor, IfUnread}
 use Rattle.archive_core.specs.Walks.{looks-same}
 use Rattle.archive_core.proofs.KeptTexts.{error-then}

@@ -10,7 +10,7 @@ use Rattle.arch_model.specs.declared.answer.Answer.TheVariants as answer
 use Rattle.arch_model.specs.declared.command.Command.TheVariants.{Remove}
 use Rattle.epoch_store.specs.Reads.{GivesTextOf}
 use Rattle.epoch_store.proofs.Readying.{read_between}
-use Rattle.epoch_store.specs.Stores.{View, IsStoreWith}
+use Rattle.store_finding.specs.Kept.{View, IsStoreWith}
 use Rattle.archive_core.specs.Commands.{AnswersRemoval, IfUnread, OnDone}
 use Rattle.archive_core.proofs.ByNumber.{inside-message, text-gives}
 use Rattle.archive_core.proofs.Replies.{done-then, refused-then, when-done}

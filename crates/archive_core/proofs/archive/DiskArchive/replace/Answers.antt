@@ -1,8 +1,9 @@
 use Rattle.std.proofs.Common.{◌≡◌, ◌∙◌, ap, subst, sym, List, ℕ}
 use Rattle.arch_model.specs.declared.answer.Answer.{Answer}
 use Rattle.arch_judge.specs.declared.judging.Verdict.TheVariants.{Take}
-use Rattle.epoch_store.specs.Stores.{View, without_blob}
-use Rattle.epoch_store.specs.declared.entries.StoredEntry.{StoredEntry}
+use Rattle.store_finding.specs.Kept.{View}
+use Rattle.store_planning.specs.Dropping.{without_blob}
+use Rattle.store_finding.specs.declared.entries.StoredEntry.{StoredEntry}
 use Rattle.archive_core.specs.Commands.{JudgesOn}
 use Rattle.archive_core.specs.Kept.{IndexesKept}
 use Rattle.archive_core.specs.Rewriting.{EditsAs, MayReplace}

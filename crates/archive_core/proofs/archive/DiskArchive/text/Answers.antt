@@ -1,7 +1,7 @@
 use Rattle.std.proofs.Common.{◌≡◌, sym, subst, slice_get, Some}
 use Rattle.disk_model.specs.Disk.{WhereTold}
 use Rattle.epoch_store.specs.Reads.{FindsText}
-use Rattle.epoch_store.specs.Stores.{View, IsStoreWith}
+use Rattle.store_finding.specs.Kept.{View, IsStoreWith}
 use Rattle.archive_core.proofs.ByNumber.{inside-message, text-gives, text-kept, wanting-kept}
 use Rattle.archive_core.proofs.Standing.{store_keeps}
 use Rattle.archive_core.proofs.archive.DiskArchive.text.Goals as goal

@@ -1,6 +1,6 @@
 use Rattle.std.proofs.Common.{◌≡◌, ◌∙◌, true, false, sym, ap, subst, refl, length, List, ℕ, Ok}
 use Rattle.arch_judge.specs.declared.judging.Verdict.TheVariants.{Refuse}
-use Rattle.epoch_store.specs.Stores.{View}
+use Rattle.store_finding.specs.Kept.{View}
 use Rattle.archive_core.specs.Commands.{ReadsMessage, left_without}
 use Rattle.archive_core.proofs.Standing.{store_keeps}
 use Rattle.archive_core.proofs.TellingDamage.{compared-damage, judged-damage}

@@ -1,5 +1,6 @@
 use Rattle.std.proofs.Common.{◌∙◌, ap, length, min}
-use Rattle.epoch_store.specs.Stores.{View, live_kept}
+use Rattle.store_finding.specs.Kept.{View}
+use Rattle.epoch_store.specs.Commands.{live_kept}
 use Rattle.archive_core.proofs.Counting.{kept-counted}
 use Rattle.archive_core.proofs.counted.CountedArchive.message_count.Goals as goal
 

@@ -1,6 +1,6 @@
 use Rattle.std.proofs.Common.{◌∙◌, ap, inr}
 use Rattle.arch_judge.specs.declared.index.Index.{Index}
-use Rattle.epoch_store.specs.Stores.{View}
+use Rattle.store_finding.specs.Kept.{View}
 use Rattle.archive_core.specs.Placing.{message_places}
 use Rattle.archive_core.proofs.Counting.{live-places-counted}
 use Rattle.archive_core.proofs.Openings.{opened_reads, refused_kindly}
@@ -11,8 +11,8 @@ returns-in-Err-clause-refused g c = refused_kindly (View × Index) c.in-Err.refu
 
 pub returns-in_default-clause-refused : goal.returns-in_default-clause-refused
 returns-in_default-clause-refused g c = (
-  opened_reads c.law_of_stores.ensures.recovers c.law_of_stores.ensures.exact c.in-Ok.store (g.D.Disk.content c.args.disk.now) (g.D.Disk.content c.open.new.disk) c.in-Ok.ensures.done,
-  inr (c.in-Ok.store, c.in-Ok.ensures.answer, c.in-Ok.ensures.kept, c.in-Ok.ensures.done, c.in-Ok.ensures.settled),
+  opened_reads c.law_of_stores.ensures.recovers c.law_of_stores.ensures.exact c.in-Ok.store (g.D.Disk.content c.args.disk.now) (g.D.Disk.content c.open.new.disk) c.in-Ok.ensures.opened.done,
+  inr (c.in-Ok.store, c.in-Ok.ensures.opened.answer, c.in-Ok.ensures.opened.kept, c.in-Ok.ensures.opened.done, c.in-Ok.ensures.opened.settled),
 )
 
 pub invariant_of-result : goal.invariant_of-result

@@ -2,7 +2,7 @@ use Rattle.std.proofs.Common.{◌≡◌, ◌∙◌, ◌||◌, ℕ, List, false, 
 use Rattle.arch_model.specs.Keeping.{text_known}
 use Rattle.archive_core.specs.Commands.{cache_left, is_delivery}
 use Rattle.archive_core.specs.DamageTold.{TellsDamage}
-use Rattle.epoch_store.specs.Stores.{IsStoreWith}
+use Rattle.store_finding.specs.Kept.{IsStoreWith}
 use Rattle.archive_core.specs.Engines.{Owning, needs_opening, reading-same}
 use Rattle.arch_model.specs.Archives.{Archive}
 use Rattle.arch_model.specs.Delivery.{applied}

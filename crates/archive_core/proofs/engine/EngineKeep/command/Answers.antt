@@ -5,7 +5,8 @@ use Rattle.arch_model.specs.Delivery.{applied}
 use Rattle.arch_model.specs.Keeping.{ReadsFor, ending}
 use Rattle.arch_model.proofs.Keepers.{cause-earlier}
 use Rattle.disk_model.specs.Disk.{LeavesOnly}
-use Rattle.epoch_store.specs.Stores.{IsStoreWith, RecoversOneOf}
+use Rattle.store_finding.specs.Kept.{IsStoreWith}
+use Rattle.epoch_store.specs.Commands.{RecoversOneOf}
 use Rattle.archive_core.specs.Commands.{DoneBy, IfRemoval, IfUnreadFor, OnDone, cache_left, is_delivery}
 use Rattle.archive_core.specs.DamageTold.{TellsDamage}
 use Rattle.archive_core.specs.Engines.{Owning, Holds, IfRefused, ReadsOn, is_ready}

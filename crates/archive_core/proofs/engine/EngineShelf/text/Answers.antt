@@ -1,6 +1,6 @@
 use Rattle.std.proofs.Common.{◌≡◌, ◌∙◌, sym, refl}
 use Rattle.std.proofs.lemmas.Bool.{false≢true}
-use Rattle.epoch_store.specs.declared.entries.StoredEntry.{StoredEntry}
+use Rattle.store_finding.specs.declared.entries.StoredEntry.{StoredEntry}
 use Rattle.archive_core.proofs.ByNumber.{tells-other, kept-appends}
 use Rattle.arch_model.proofs.Shelving.{appends-none}
 use Rattle.archive_core.proofs.Engines.{kept-inside, held-inside, stays-still, stays-from, cause-from, once-from}

@@ -1,7 +1,7 @@
 use Rattle.std.specs.Prelude.{ℕ, List}
 use Rattle.arch_model.specs.Archives.{Archive}
 use Rattle.epoch_store.specs.Opens.{ReadsWith}
-use Rattle.epoch_store.specs.Stores.{IsStoreWith}
+use Rattle.store_finding.specs.Kept.{IsStoreWith}
 use Rattle.archive_core.proofs.OpeningRows.{opened-read, unopened-read, kindly-read, cause-of}
 use Rattle.archive_core.proofs.Openings.{opened_reads}
 use Rattle.archive_core.proofs.Standing.{still_own}

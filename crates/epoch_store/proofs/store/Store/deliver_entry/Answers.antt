@@ -3,7 +3,8 @@ use Rattle.std.proofs.Common.{◌∙◌, ap, sym, subst}
 use Rattle.std.proofs.lemmas.Result.{on_ok_weaker}
 use Rattle.git_objects.specs.declared.entry_kind.EntryKind.TheVariants.{Message}
 use Rattle.epoch_store.specs.Entering.{Enters, KeepsEntry}
-use Rattle.epoch_store.specs.Stores.{AddsEntry, View}
+use Rattle.epoch_store.specs.Commands.{AddsEntry}
+use Rattle.store_finding.specs.Kept.{View}
 use Rattle.epoch_store.proofs.Delivering.{changes_so, message_enters}
 use Rattle.epoch_store.proofs.store.Store.deliver_entry.Goals as goal
 

@@ -3,8 +3,8 @@ use Rattle.std.proofs.Common.{rules, ◌≡◌, ◌+◌, ℕ, sym, ap, subst}
 use Rattle.std.proofs.lemmas.Result.{on_ok_weaker}
 use Rattle.arch_model.specs.Archives.{Archive, with_entry, without_entries}
 use Rattle.arch_model.specs.Delivery.{new_epoch}
-use Rattle.epoch_store.specs.Planning.{KeepsPlanned, PlansArchive}
-use Rattle.epoch_store.specs.Stores.{InEpochs, View}
+use Rattle.store_planning.specs.Planning.{KeepsPlanned, PlansArchive}
+use Rattle.store_finding.specs.Kept.{InEpochs, View}
 use Rattle.epoch_store.proofs.CarriedOut.{kept_low}
 use Rattle.epoch_store.proofs.Changing.{planned, unplanned}
 use Rattle.epoch_file.specs.declared.refusal.StoreRefusal.TheVariants.{NoMemory}

@@ -2,11 +2,11 @@
 use Rattle.std.proofs.Common.{◌≡◌, ◌-◌, ◌∙◌, sym, ap, subst, List, length, arith}
 use Rattle.std.specs.List.{slice_get}
 use Rattle.std.proofs.lemmas.List.{nil_from_length}
-use Rattle.epoch_store.specs.declared.entries.StoredEntry.{StoredEntry}
-use Rattle.epoch_store.specs.Stores.{View}
+use Rattle.store_finding.specs.declared.entries.StoredEntry.{StoredEntry}
+use Rattle.store_finding.specs.Kept.{View}
 use Rattle.epoch_store.proofs.Ends.{end_of_none, end_of_last}
-use Rattle.epoch_store.specs.Extents.{LieFrom}
-use Rattle.epoch_store.proofs.Extents.{up_to_last, up_to_none}
+use Rattle.store_finding.specs.Extents.{LieFrom}
+use Rattle.store_planning.proofs.PlannedExtents.{up_to_last, up_to_none}
 use Rattle.epoch_store.proofs.store.Store.end.Goals as goal
 
 pub returns-in-None-clause-end : goal.returns-in-None-clause-end

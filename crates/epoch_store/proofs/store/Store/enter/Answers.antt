@@ -8,13 +8,14 @@ use Rattle.epoch_file.specs.declared.entry.Written.{Written}
 use Rattle.root_slots.specs.declared.root.Root.{Root}
 use Rattle.root_slots.specs.Slots.{slot_number}
 use Rattle.root_change.specs.Texts.{HasPartSizes}
-use Rattle.epoch_store.specs.declared.entries.StoredEntry.{StoredEntry}
-use Rattle.epoch_store.specs.Extents.{AreNamed, AreUpToEpoch}
-use Rattle.epoch_store.specs.Stores.{GoesOn, InEpochs, View, place_of}
+use Rattle.store_finding.specs.declared.entries.StoredEntry.{StoredEntry}
+use Rattle.store_finding.specs.Extents.{AreNamed, AreUpToEpoch}
+use Rattle.epoch_store.specs.Commands.{GoesOn, place_of}
+use Rattle.store_finding.specs.Kept.{InEpochs, View}
 use Rattle.epoch_store.proofs.Carrying.{part_sizes, sizes_of_parts}
 use Rattle.epoch_store.proofs.Changing.{stopped, unless_short, unstarted}
 use Rattle.epoch_store.proofs.Delivering.{enters_leaves, enters_store}
-use Rattle.epoch_store.proofs.Extents.{written_named}
+use Rattle.epoch_store.proofs.EntryExtents.{written_named}
 use Rattle.epoch_store.proofs.Kept.{in_epochs_more, pushed, same_view}
 use Rattle.epoch_store.proofs.TextDamage.{none_told}
 use Rattle.epoch_store.proofs.store.Store.enter.Goals as goal

@@ -1,7 +1,7 @@
 -- The new entry lies at the end of its file.
 use Rattle.std.proofs.Common.{◌≡◌, length, refl, rules}
 use Rattle.epoch_file.specs.Walking.{blob_front}
-use Rattle.epoch_store.proofs.Extents.{written_lies}
+use Rattle.epoch_store.proofs.EntryExtents.{written_lies}
 use Rattle.epoch_store.proofs.store.Store.new_entry.Goals as goal
 
 pub returns-clause-lies : goal.returns-clause-lies

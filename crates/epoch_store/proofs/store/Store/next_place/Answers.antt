@@ -1,11 +1,11 @@
 -- The next epoch.
 use Rattle.std.proofs.Common.{◌≤◌, ◌<◌, ◌+◌, sym, arith, subst, get_or}
 use Rattle.root_slots.specs.Valid.{no_place}
-use Rattle.epoch_store.specs.Stores.{View}
-use Rattle.epoch_store.specs.Extents.{AreUpToEpoch}
-use Rattle.epoch_store.specs.declared.next.NextPlace.{NextPlace}
+use Rattle.store_finding.specs.Kept.{View}
+use Rattle.store_finding.specs.Extents.{AreUpToEpoch}
+use Rattle.store_planning.specs.declared.next.NextPlace.{NextPlace}
 use Rattle.epoch_store.proofs.Ends.{next_after}
-use Rattle.epoch_store.proofs.Extents.{up_to_later}
+use Rattle.epoch_store.proofs.EntryExtents.{up_to_later}
 use Rattle.epoch_store.proofs.store.Store.next_place.Goals as goal
 
 pub returns-clause-next : goal.returns-clause-next

@@ -1,7 +1,7 @@
 -- The next epoch.
 use Rattle.std.proofs.Common.{◌≤◌, ◌<◌, ◌+◌, arith, subst}
-use Rattle.epoch_store.specs.Stores.{View}
-use Rattle.epoch_store.proofs.Extents.{up_to_later}
+use Rattle.store_finding.specs.Kept.{View}
+use Rattle.epoch_store.proofs.EntryExtents.{up_to_later}
 use Rattle.epoch_store.proofs.Placed.{place_next}
 use Rattle.epoch_store.proofs.store.Store.place_after.Goals as goal
 

@@ -4,14 +4,16 @@ use Rattle.std.specs.List.{AllZip}
 use Rattle.disk_model.specs.Disk.{WhereTold}
 use Rattle.disk_model.specs.declared.name.FileName.{FileName}
 use Rattle.std.proofs.lemmas.List.{take_all}
-use Rattle.epoch_store.specs.declared.entries.StoredEntry.{StoredEntry}
-use Rattle.epoch_store.specs.Extents.{AreNamed}
-use Rattle.epoch_store.specs.Planning.{ArePlansIn, IsTakenUpTo, Planning, PlansFirst, is_anew, loses}
-use Rattle.epoch_store.specs.Stores.{KeptOf, View, without_blob}
-use Rattle.epoch_store.proofs.FindingTold.{reads_none, reads_both}
-use Rattle.epoch_store.proofs.Losing.{lost_more}
+use Rattle.store_finding.specs.declared.entries.StoredEntry.{StoredEntry}
+use Rattle.store_finding.specs.Extents.{AreNamed}
+use Rattle.store_planning.specs.Planning.{ArePlansIn, IsTakenUpTo, Planning, PlansFirst, is_anew, loses}
+use Rattle.store_planning.specs.Dropping.{KeptOf, without_blob}
+use Rattle.store_finding.specs.Kept.{View}
+use Rattle.store_finding.proofs.FindingTold.{reads_none, reads_both}
+use Rattle.epoch_store.proofs.LosingAll.{lost_more}
 use Rattle.epoch_store.proofs.Purged.{entry_at, first_none, first_more, first_stops, first_whole, kept_more, plans_none, rose_later_than}
-use Rattle.epoch_store.proofs.Taken.{taken_more, taken_none}
+use Rattle.store_planning.proofs.Apart.{taken_apart}
+use Rattle.store_planning.proofs.Taken.{taken_more, taken_none}
 use Rattle.epoch_store.proofs.TextDamage.{entry_damage}
 use Rattle.epoch_store.proofs.store.Store.plan_entries.Goals as goal
 
@@ -101,3 +103,6 @@ returns-clause-all g c =
 
 pub returns-clause-taken : goal.returns-clause-taken
 returns-clause-taken g c = (let so = c.loop-entry.invariant.taken in record { epoch = so.epoch; from = so.from; taken = so.taken })
+
+pub take-requires-clause-apart : goal.take-requires-clause-apart
+take-requires-clause-apart g c = (let so = c.loop-entry.invariant.taken in taken_apart c.args.self.now.root so.epoch so.from c.loop-entry.planned so.taken)

@@ -1,9 +1,11 @@
 -- One more message is planned.
-use Rattle.std.proofs.Common.{◌≡◌, ◌∙◌, List, ℕ, Some, rules, sym, ap, subst, is_ok}
+use Rattle.std.proofs.Common.{◌≡◌, ◌∙◌, ◌++◌, List, [], ◌∷◌, ℕ, Some, refl, rules, sym, ap, subst}
 use Rattle.root_slots.specs.Slots.{slot_number}
-use Rattle.epoch_store.specs.Planning.{IsPlaceAfter, PlansEdit, length_after}
-use Rattle.epoch_store.specs.Stores.{View}
-use Rattle.epoch_store.proofs.Kept.{pushed}
+use Rattle.disk_model.specs.declared.name.FileKind.TheVariants as kind
+use Rattle.root_change.specs.Rewriting.{plan_of}
+use Rattle.store_planning.specs.Planning.{IsPlaceAfter, Planning, PlansEdit, length_after}
+use Rattle.store_finding.specs.Kept.{View}
+use Rattle.store_planning.proofs.Messaged.{epoch_isnt_map, other_with}
 use Rattle.epoch_store.proofs.MessagedArchive.{message_planned}
 use Rattle.epoch_store.proofs.store.Store.plan_message.Goals as goal
 
@@ -18,9 +20,18 @@ returns-clause-planned c =
     let long = subst (λ (u : View). p.length ≡ length_after u.root old.plans p.epoch) (sym c.self.view_is) c.place_after-place.ensures.length in
     let piece_is = c.as_slice.ensures ∙ c.in_ok-piece.ensures.piece in
     let id_is = c.in_ok-id.ensures ∙ ap (λ (i : List ℕ). Some i) (sym c.new_entry-stored.ensures.id) in
-    let more = pushed (is_ok c.push.result) c.planned.inside.entries.items c.push.new.self.items stored c.push.ensures.items (ap is_ok c.in-Ok.is) in
-    subst (λ (u : View). PlansEdit u old text c.args.moment (record { plans = c.planned.inside.plans.items; entries = c.push.new.self.items; gone = c.planned.inside.gone; current = c.planned.inside.current })) c.self.view_is
-    (message_planned v old c.append.new.self c.append_record.new.self p text c.args.moment c.as_slice.result.now c.in_ok-piece.made.blob stored place c.place_after-place.ensures.small long c.if-place-ge-MOST.false piece_is c.in_ok-piece.ensures.blob
-    c.new_entry-stored.ensures.after c.in_ok-append.ensures.appended c.in_ok-append.ensures.valid.0 c.in_ok-append_record.ensures.appended c.in_ok-append_record.ensures.valid.1 c.planned.inside.plans.items c.planned.inside.entries.items c.planned.inside.gone c.planned.inside.current c.planned.view_is
-    c.push.new.self.items more c.new_entry-stored.ensures.kind c.new_entry-stored.ensures.number id_is c.new_entry-stored.ensures.blob c.new_entry-stored.ensures.content c.new_entry-stored.ensures.epoch
-    _ c.new_entry-stored.ensures.lies (search rules) c.place_after-place.ensures.last)
+    let two = c.append_record.new.self in
+    subst (PlansEdit c.args.self.now old text c.args.moment) (sym c.in_ok-push_entry.ensures)
+    (subst (λ (u : View). PlansEdit u old text c.args.moment (record { plans = two.plans; entries = two.entries ++ stored ∷ []; gone = two.gone; current = two.current })) c.self.view_is
+    (message_planned v old c.append.new.self two p text c.args.moment c.as_slice.result.now c.in_ok-piece.made.blob stored place c.place_after-place.ensures.small long c.if-place-ge-MOST.false piece_is c.in_ok-piece.ensures.blob
+    c.new_entry-stored.ensures.after c.in_ok-append.ensures.appended c.in_ok-append.ensures.valid.0 c.in_ok-append_record.ensures.appended c.in_ok-append_record.ensures.valid.1 two.plans two.entries two.gone two.current refl
+    (two.entries ++ stored ∷ []) refl c.new_entry-stored.ensures.kind c.new_entry-stored.ensures.number id_is c.new_entry-stored.ensures.blob c.new_entry-stored.ensures.content c.new_entry-stored.ensures.epoch
+    _ c.new_entry-stored.ensures.lies (search rules) c.place_after-place.ensures.last))
+
+pub append_record-requires : goal.append_record-requires
+append_record-requires c =
+    let old = c.args.planned.now in
+    let epoch = c.place_after-place.result.epoch in
+    let bytes = c.as_slice.result.now in
+    let mid = c.append.new.self in
+    record { map = (c.requires.map.0, ap (λ (q : Planning). plan_of q.plans kind.Map 0) c.in_ok-append.ensures.appended ∙ (other_with old.plans epoch bytes kind.Map 0 (λ k_is n_is. epoch_isnt_map k_is) ∙ c.requires.map.1)) }

@@ -2,11 +2,11 @@
 use Rattle.std.proofs.Common.{refl, rules, ◌≡◌, ℕ, sym, ap, subst}
 use Rattle.std.proofs.lemmas.Result.{on_ok_weaker}
 use Rattle.arch_model.specs.Archives.{Archive, without_entries}
-use Rattle.epoch_store.specs.Planning.{KeepsPlanned, PlansArchive}
-use Rattle.epoch_store.specs.Stores.{InEpochs, View}
+use Rattle.store_planning.specs.Planning.{KeepsPlanned, PlansArchive}
+use Rattle.store_finding.specs.Kept.{InEpochs, View}
 use Rattle.epoch_store.proofs.CarriedOut.{kept_low, purged_archive}
 use Rattle.epoch_store.proofs.Changing.{planned, unplanned}
-use Rattle.epoch_store.proofs.Parted.{store_keeps}
+use Rattle.store_finding.proofs.FrontParts.{store_keeps}
 use Rattle.epoch_store.proofs.KeptFiles.{purge_keeps}
 use Rattle.epoch_store.proofs.TextDamage.{entry_told}
 use Rattle.epoch_store.proofs.store.Store.purge_text.Goals as goal

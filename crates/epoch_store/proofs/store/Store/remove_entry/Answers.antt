@@ -3,7 +3,7 @@ use Rattle.std.proofs.Common.{arith}
 use Rattle.std.proofs.lemmas.Result.{on_ok_weaker}
 use Rattle.git_objects.specs.declared.entry_kind.EntryKind.TheVariants.{Deletion}
 use Rattle.epoch_store.specs.Entering.{KeepsEntry}
-use Rattle.epoch_store.specs.Stores.{EndsEntry}
+use Rattle.epoch_store.specs.Commands.{EndsEntry}
 use Rattle.epoch_store.proofs.Delivering.{changes_so, deletion_enters}
 use Rattle.epoch_store.proofs.store.Store.remove_entry.Goals as goal
 

@@ -1,9 +1,0 @@
-use Rattle.epoch_store.proofs.Opened.{recovers_opened}
-use Rattle.epoch_store.proofs.Undamaged.{opened_undamaged}
-use Rattle.epoch_store.proofs.opening_laws.law_of_opening.Goals as goal
-
-pub returns-clause-opened : goal.returns-clause-opened
-returns-clause-opened c = recovers_opened c.law_of_records.ensures.differ
-
-pub returns-clause-undamaged : goal.returns-clause-undamaged
-returns-clause-undamaged c = opened_undamaged c.law_of_entries.ensures c.law_of_epochs.ensures

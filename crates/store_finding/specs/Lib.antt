@@ -1,0 +1,12 @@
+pub mod Damage
+pub mod Extents
+pub mod Files
+pub mod Finding
+pub mod Indexes
+pub mod Joined
+pub mod Openings
+pub mod Reading
+pub mod Recovery
+pub mod Kept
+pub mod Listing
+pub mod Removing

@@ -1,0 +1,457 @@
+-- What is planned of an archive's entries, with one more.
+use Rattle.std.specs.Prelude.{◌≡◌, ◌≢◌, ◌+◌, ◌<◌, ◌≤◌, ◌==◌, nat_lt, not, ℕ, zero, suc, Bool, true, false, ◌&&◌, if◌then◌else◌, List, [], ◌∷◌, ◌++◌, length, get_or, slice_get, Option, Some, None, refl}
+use Rattle.std.specs.List.{AllByRecursion}
+use Rattle.std.specs.Str.{bytes_eq}
+use Rattle.std.proofs.Common.{◌∙◌, sym, ap, subst, inl, inr, arith, append_assoc, length-append}
+use Rattle.std.proofs.lemmas.Bool.{cases_lt}
+use Rattle.std.proofs.lemmas.Bool.Decides.{nat_tests}
+use Rattle.std.proofs.lemmas.List.{append-nil}
+use Rattle.std.proofs.lemmas.List.Elements.{filter-append}
+use Rattle.std.proofs.lemmas.Option.{same_Some}
+use Rattle.arch_base.specs.declared.ids.Id20.{Id20}
+use Rattle.disk_model.specs.declared.name.FileKind.{FileKind}
+use Rattle.disk_model.specs.declared.name.FileKind.TheVariants as kind
+use Rattle.disk_model.specs.declared.name.FileName.{FileName}
+use Rattle.disk_model.specs.Name.{kind_index}
+use Rattle.disk_model.specs.Disk.{Content}
+use Rattle.root_slots.specs.declared.root.Root.{Root}
+use Rattle.root_slots.specs.Valid.{no_place}
+use Rattle.root_change.specs.declared.plan.Target.{Target}
+use Rattle.root_change.specs.Rewriting.{Plan, IsPlanWhole, bytes_by, plan_of, planned, written_by}
+use Rattle.root_change.specs.Texts.{Texts}
+use Rattle.root_change.proofs.Changes.{text_named}
+use Rattle.root_change.proofs.Grown.{epoch_isnt_root, epoch_is_named}
+use Rattle.root_change.proofs.PlanParts.{is_of, is_of_own, of_more, of_others, other_part}
+use Rattle.root_change.proofs.Roots.{equal_or_not, other_test}
+use Rattle.git_objects.specs.declared.entry_kind.EntryKind.{EntryKind}
+use Rattle.git_objects.specs.declared.entry_kind.EntryKind.TheVariants.{Message, Deletion}
+use Rattle.mail_commits.specs.Entries.{commit_id, entry_bytes, magic}
+use Rattle.arch_model.specs.Archives.{Entry, Archive, in_epoch, is_message, without_text, without_entries}
+use Rattle.arch_model.specs.Delivery.{greater, last_epoch}
+use Rattle.arch_model.specs.Epochs.{entries_bytes, epoch_bytes, last_commit}
+use Rattle.arch_model.specs.Validity.{IsEntry, Rise, number_after}
+use Rattle.arch_model.proofs.ValidArchives.{all_weaker, none_later}
+use Rattle.epoch_file.specs.Entries.{EpochEntry, bytes_after, chain, commit_after, epoch_of, last_of}
+use Rattle.epoch_file.specs.Planning.{Finishes, HasNext, IsFinished, IsOfEpoch, IsPlanned, Planned, file_of, seen_after, texts_in}
+use Rattle.epoch_file.specs.Walking.{seen_at}
+use Rattle.store_finding.specs.declared.entries.StoredEntry.{StoredEntry}
+use Rattle.store_finding.specs.Files.{epoch_file_of}
+use Rattle.store_planning.specs.Planning.{ClosesAs, IsCurrent, IsPlannedUpTo, OpensBy, Planning, epoch_start, gone_of, gone_with, in_files, without_current}
+use Rattle.store_finding.specs.Recovery.{bytes_in, parts_of}
+use Rattle.store_finding.specs.Kept.{View, IsDiskWith, in_file, stored_after, stored_at}
+use Rattle.store_finding.proofs.Growing.{in_epoch-here, stored_more}
+use Rattle.store_finding.proofs.TextBytes.{in_epoch_split, one_of_all}
+
+-- An epoch that no entry is in.
+pub in_epoch_none : (es : List Entry) (x : ℕ) → AllByRecursion (λ (e : Entry). e.epoch ≢ x) es → in_epoch es x ≡ []
+in_epoch_none [] x all = refl
+in_epoch_none (e ∷ es) x all = rw (other_test e.epoch x all.0) (in_epoch_none es x all.1)
+
+-- An epoch that no later entry is in.
+in_epoch_front : (es more : List Entry) (x : ℕ) → AllByRecursion (λ (e : Entry). e.epoch ≢ x) more → in_epoch (es ++ more) x ≡ in_epoch es x
+in_epoch_front es more x all = filter-append (λ (e : Entry). e.epoch == x) es more ∙ (ap (λ (l : List Entry). in_epoch es x ++ l) (in_epoch_none more x all) ∙ append-nil (in_epoch es x))
+
+-- What holds of all entries holds of those that stay.
+keep_all : (P : Entry → Type 0) (t : Bool) (e : Entry) (es : List Entry) → P e → AllByRecursion P es → AllByRecursion P (if t then e ∷ es else es)
+keep_all P true e es one all = (one, all)
+keep_all P false e es one all = all
+
+pub without_all : (P : Entry → Type 0) (es : List Entry) (text : List ℕ) → AllByRecursion P es → AllByRecursion P (without_text es text)
+without_all P [] text all = tt
+without_all P (e ∷ es) text all = keep_all P (not (bytes_eq text e.text)) e (without_text es text) all.0 (without_all P es text all.1)
+
+-- Entries with one more that stays, or that doesn't.
+kept_step : (t : Bool) (e : Entry) (es : List Entry) → t ≡ true → (if t then e ∷ es else es) ≡ e ∷ es
+kept_step true e es is = refl
+kept_step false e es is = absurd (let wrong : false ≡ true = is in cc)
+
+left_step : (t : Bool) (e : Entry) (es : List Entry) → t ≡ false → (if t then e ∷ es else es) ≡ es
+left_step false e es is = refl
+left_step true e es is = absurd (let wrong : true ≡ false = is in cc)
+
+without_append : (es more : List Entry) (text : List ℕ) → without_text (es ++ more) text ≡ without_text es text ++ without_text more text
+without_append es more text = filter-append (λ (e : Entry). not (bytes_eq text e.text)) es more
+
+pub without_kept : (es : List Entry) (e : Entry) (text : List ℕ) → bytes_eq text e.text ≡ false → without_text (es ++ e ∷ []) text ≡ without_text es text ++ e ∷ []
+without_kept es e text other = without_append es (e ∷ []) text ∙ ap (λ (l : List Entry). without_text es text ++ l) (kept_step (not (bytes_eq text e.text)) e [] (ap not other))
+
+pub without_left : (es : List Entry) (e : Entry) (text : List ℕ) → bytes_eq text e.text ≡ true → without_text (es ++ e ∷ []) text ≡ without_text es text
+without_left es e text same = without_append es (e ∷ []) text ∙ (ap (λ (l : List Entry). without_text es text ++ l) (left_step (not (bytes_eq text e.text)) e [] (ap not same)) ∙ append-nil (without_text es text))
+
+-- Epochs never fall.
+rises : (number epoch : ℕ) (es : List Entry) → Rise number epoch es → AllByRecursion (λ (f : Entry). epoch ≤ f.epoch) es
+rises number epoch [] rise = tt
+rises number epoch (e ∷ es) rise =
+    let first : epoch ≤ e.epoch = rise.1 in
+    (first, all_weaker (λ (f : Entry). e.epoch ≤ f.epoch) (λ (f : Entry). epoch ≤ f.epoch) es (λ f less. omega (arith, first, less)) (rises (number_after e.kind number e.number) e.epoch es rise.2))
+
+later_ones : (number epoch : ℕ) (es : List Entry) (e : Entry) (rest : List Entry) → Rise number epoch (es ++ e ∷ rest) → AllByRecursion (λ (f : Entry). e.epoch ≤ f.epoch) (e ∷ rest)
+later_ones number epoch [] e rest rise = (omega arith, rises (number_after e.kind number e.number) e.epoch rest rise.2)
+later_ones number epoch (x ∷ es) e rest rise = later_ones (number_after x.kind number x.number) x.epoch es e rest rise.2
+
+earlier_ones : (number epoch : ℕ) (es : List Entry) (e : Entry) (rest : List Entry) → Rise number epoch (es ++ e ∷ rest) → AllByRecursion (λ (f : Entry). f.epoch ≤ e.epoch) es
+earlier_ones number epoch [] e rest rise = tt
+earlier_ones number epoch (x ∷ es) e rest rise = (
+  one_of_all (λ (f : Entry). x.epoch ≤ f.epoch) es e rest (rises (number_after x.kind number x.number) x.epoch (es ++ e ∷ rest) rise.2),
+  earlier_ones (number_after x.kind number x.number) x.epoch es e rest rise.2,
+)
+
+-- The last epoch.
+greater_most : (m n top : ℕ) → m ≤ top → n ≤ top → greater m n ≤ top
+greater_most m n top one two = by (nat_lt m n) where
+  by : (t : Bool) → (if t then n else m) ≤ top
+  by true = two
+  by false = one
+
+pub last_at_most : (es : List Entry) (top : ℕ) → AllByRecursion (λ (f : Entry). f.epoch ≤ top) es → last_epoch es ≤ top
+last_at_most [] top all = omega arith
+last_at_most (e ∷ es) top all = greater_most e.epoch (last_epoch es) top all.0 (last_at_most es top all.1)
+
+greater_is : (m n : ℕ) → m ≤ n → greater m n ≡ n
+greater_is m n less = by (nat_lt m n) refl where
+  by : (t : Bool) → nat_lt m n ≡ t → (if t then n else m) ≡ n
+  by true is = refl
+  by false is = grind (arith, nat_tests)
+
+pub last_more : (es : List Entry) (e : Entry) → AllByRecursion (λ (f : Entry). f.epoch ≤ e.epoch) es → last_epoch (es ++ e ∷ []) ≡ e.epoch
+last_more [] e all = by (nat_lt e.epoch 0) refl where
+  by : (t : Bool) → nat_lt e.epoch 0 ≡ t → (if t then 0 else e.epoch) ≡ e.epoch
+  by true is = grind (arith, nat_tests)
+  by false is = refl
+last_more (x ∷ es) e all =
+    let rest = last_more es e all.1 in
+    ap (greater x.epoch) rest ∙ greater_is x.epoch e.epoch all.0
+
+-- The bytes of entries as those of the entries of a file.
+chain_is : (parent : Option Id20) (es : List Entry) → entries_bytes parent es ≡ chain parent (in_files es)
+chain_is parent [] = refl
+chain_is parent (e ∷ es) = ap (λ (b : List ℕ). entry_bytes e.kind e.text e.moment parent ++ b) (chain_is (Some (commit_id e.kind e.text e.moment parent)) es)
+
+pub commit_is : (parent : Option Id20) (es : List Entry) → last_commit parent es ≡ last_of parent (in_files es)
+commit_is parent [] = refl
+commit_is parent (e ∷ es) = commit_is (Some (commit_id e.kind e.text e.moment parent)) es
+
+pub file_is : (es : List Entry) → epoch_bytes es ≡ file_of (in_files es)
+file_is [] = refl
+file_is (e ∷ es) = ap (λ (b : List ℕ). magic ++ b) (chain_is None (e ∷ es))
+
+files_more : (es : List Entry) (e : Entry) → in_files (es ++ e ∷ []) ≡ in_files es ++ in_file e ∷ []
+files_more [] e = refl
+files_more (x ∷ es) e = ap (λ (l : List EpochEntry). in_file x ∷ l) (files_more es e)
+
+-- With one among them.
+chain_split : (parent : Option Id20) (xs : List Entry) (e : Entry) (ys : List Entry)
+    → chain parent (in_files (xs ++ e ∷ ys)) ≡ chain parent (in_files xs ++ in_file e ∷ []) ++ chain (Some (commit_after (last_of parent (in_files xs)) (in_file e))) (in_files ys)
+chain_split parent [] e ys = ap (λ (b : List ℕ). b ++ chain (Some (commit_after parent (in_file e))) (in_files ys)) (sym (append-nil (bytes_after parent (in_file e))))
+chain_split parent (x ∷ xs) e ys =
+    let next : Option Id20 = Some (commit_after parent (in_file x)) in
+    ap (λ (b : List ℕ). bytes_after parent (in_file x) ++ b) (chain_split next xs e ys)
+    ∙ sym (append_assoc (bytes_after parent (in_file x)) (chain next (in_files xs ++ in_file e ∷ [])) (chain (Some (commit_after (last_of next (in_files xs)) (in_file e))) (in_files ys)))
+
+whole_is : (xs : List Entry) (e : Entry) (ys : List Entry) → epoch_bytes (xs ++ e ∷ ys) ≡ magic ++ chain None (in_files (xs ++ e ∷ ys))
+whole_is [] e ys = ap (λ (b : List ℕ). magic ++ b) (chain_is None (e ∷ ys))
+whole_is (x ∷ xs) e ys = ap (λ (b : List ℕ). magic ++ b) (chain_is None ((x ∷ xs) ++ e ∷ ys))
+
+-- What is kept of an entry is what is recorded of it in its file.
+pub seen_is : (es : List Entry) (e : Entry) → (stored_at es e).seen ≡ seen_after (in_files (in_epoch es e.epoch)) (in_file e)
+seen_is es e = λ i. seen_at (at i) (commit_is None (in_epoch es e.epoch) i) (in_file e) where
+  at : 8 + length (entries_bytes None (in_epoch es e.epoch)) ≡ length (epoch_of (in_files (in_epoch es e.epoch)))
+  at = ap (λ (b : List ℕ). 8 + length b) (chain_is None (in_epoch es e.epoch)) ∙ sym (length-append magic (chain None (in_files (in_epoch es e.epoch))))
+
+-- The numbers of messages with a text, with one more entry.
+gone_step : (t : Bool) (n : ℕ) (ns more : List ℕ) → (if t then n ∷ (ns ++ more) else (ns ++ more)) ≡ (if t then n ∷ ns else ns) ++ more
+gone_step true n ns more = refl
+gone_step false n ns more = refl
+
+gone_append : (es : List Entry) (e : Entry) (text : List ℕ) → gone_of (es ++ e ∷ []) text ≡ gone_of es text ++ gone_of (e ∷ []) text
+gone_append [] e text = refl
+gone_append (x ∷ es) e text =
+    ap (λ (l : List ℕ). if is_message x.kind && bytes_eq text x.text then x.number ∷ l else l) (gone_append es e text)
+    ∙ gone_step (is_message x.kind && bytes_eq text x.text) x.number (gone_of es text) (gone_of (e ∷ []) text)
+
+no_both : (s t : Bool) (n : ℕ) → t ≡ false → (if s && t then n ∷ [] else []) ≡ []
+no_both true t n is = ap (λ (b : Bool). if b then n ∷ [] else []) is
+no_both false t n is = refl
+
+gone_kept : (es : List Entry) (e : Entry) (text : List ℕ) → bytes_eq text e.text ≡ false → gone_of (es ++ e ∷ []) text ≡ gone_of es text
+gone_kept es e text other = gone_append es e text ∙ (ap (λ (l : List ℕ). gone_of es text ++ l) (no_both (is_message e.kind) (bytes_eq text e.text) e.number other) ∙ append-nil (gone_of es text))
+
+gone_kind : (k : EntryKind) (t : Bool) (ns : List ℕ) (n : ℕ) → t ≡ true → ns ++ (if is_message k && t then n ∷ [] else []) ≡ gone_with k ns n
+gone_kind Message t ns n is = ap (λ (b : Bool). ns ++ (if b then n ∷ [] else [])) is
+gone_kind Deletion t ns n is = append-nil ns
+
+gone_left : (es : List Entry) (e : Entry) (text : List ℕ) → bytes_eq text e.text ≡ true → gone_of (es ++ e ∷ []) text ≡ gone_with e.kind (gone_of es text) e.number
+gone_left es e text this = gone_append es e text ∙ gone_kind e.kind (bytes_eq text e.text) (gone_of es text) e.number this
+
+-- The first plan, if it is that of the part, and the others, if it isn't.
+pub of_first : (p : Plan) (ps : List Plan) (k : FileKind) (n : ℕ) → is_of p k n ≡ true → plan_of (p ∷ ps) k n ≡ Some p
+of_first p ps k n is = ap (λ (b : Bool). if b then Some p else plan_of ps k n) is
+
+pub of_rest : (p : Plan) (ps : List Plan) (k : FileKind) (n : ℕ) → is_of p k n ≡ false → plan_of (p ∷ ps) k n ≡ plan_of ps k n
+of_rest p ps k n isnt = ap (λ (b : Bool). if b then Some p else plan_of ps k n) isnt
+
+-- What holds of each plan, and of one more.
+pub each_plan : (P : Plan → Type 0) (plans : List Plan) (last : Plan) → ((i : ℕ) (p : Plan) → slice_get plans i ≡ Some p → P p) → P last → (i : ℕ) (p : Plan) → slice_get (plans ++ last ∷ []) i ≡ Some p → P p
+each_plan P [] last each one zero p is = subst P (same_Some last p is) one
+each_plan P [] last each one (suc i) p is = absurd (let wrong : None ≡ Some p = is in cc)
+each_plan P (x ∷ xs) last each one zero p is = each zero p is
+each_plan P (x ∷ xs) last each one (suc i) p is = each_plan P xs last (λ j q here. each (suc j) q here) one i p is
+
+-- A plan is ready for the next entry: epochs before its own are planned whole, and none from it on.
+pub record IsOpened (texts : Texts) (root : Root) (a : Archive) (es : List Entry) (text : List ℕ) (n : ℕ) (mid : Planning) (plan : Planned) : Type 0 where
+  pub entries : mid.entries ≡ stored_after [] (without_text es text)
+  pub gone : mid.gone ≡ gone_of es text
+  pub before : (x : ℕ) → x < n → planned texts (plan_of mid.plans kind.Epoch x) (bytes_in a x) ≡ bytes_in (without_entries a text) x
+  pub after : (x : ℕ) → n ≤ x → plan_of mid.plans kind.Epoch x ≡ None
+  pub map : (x : ℕ) → plan_of mid.plans kind.Map x ≡ None
+  pub whole : (i : ℕ) (p : Plan) → slice_get mid.plans i ≡ Some p → IsPlanWhole texts p
+  pub file : plan.file ≡ epoch_file_of root n
+  pub is : IsPlanned texts (in_files (in_epoch es n)) (in_files (in_epoch (without_text es text) n)) plan
+
+-- The bytes of an epoch by its plan, if it has one.
+pub planned_none : (texts : Texts) (p : Option Plan) (before : List ℕ) → p ≡ None → planned texts p before ≡ before
+planned_none texts p before is = ap (λ (o : Option Plan). planned texts o before) is
+
+pub epochs_same : (es fs : List Entry) → in_files fs ≡ in_files es → epoch_bytes es ≡ epoch_bytes fs
+epochs_same es fs is = file_is es ∙ (ap file_of (sym is) ∙ sym (file_is fs))
+
+-- The current epoch was closed: epochs up to it are planned whole, and none after it.
+pub record IsShut (texts : Texts) (a : Archive) (es : List Entry) (text : List ℕ) (mid : Planning) : Type 0 where
+  pub entries : mid.entries ≡ stored_after [] (without_text es text)
+  pub gone : mid.gone ≡ gone_of es text
+  pub before : (x : ℕ) → x ≤ last_epoch es → planned texts (plan_of mid.plans kind.Epoch x) (bytes_in a x) ≡ bytes_in (without_entries a text) x
+  pub after : (x : ℕ) → last_epoch es < x → plan_of mid.plans kind.Epoch x ≡ None
+  pub map : (x : ℕ) → plan_of mid.plans kind.Map x ≡ None
+  pub whole : (i : ℕ) (p : Plan) → slice_get mid.plans i ≡ Some p → IsPlanWhole texts p
+
+module _ (texts : Texts) (root : Root) (a : Archive) (es : List Entry) (text : List ℕ) (old : Planning) (up : IsPlannedUpTo texts root a es text old) (c : Planned) (current : IsCurrent texts root es text (Some c))
+    (reads : (x : ℕ) → x ≤ last_epoch es → bytes_in a x ≡ epoch_bytes (in_epoch es x)) (keeps : (x : ℕ) → x ≤ last_epoch es → bytes_in (without_entries a text) x ≡ epoch_bytes (in_epoch (without_text es text) x)) where
+  pub shut : (finished : Option Plan) → Finishes c finished → IsOfEpoch c.file finished → (mid : Planning) → ClosesAs (without_current old) finished mid → IsShut texts a es text mid
+  shut None finishes of mid stays = subst (IsShut texts a es text) (sym stays) (record {
+    entries = up.entries;
+    gone = up.gone;
+    before = λ x most. elim (cases_lt x (last_epoch es)) [
+      | inl low ↦ up.before x low
+      | inr high ↦
+          let x_is : last_epoch es ≡ x = omega (arith, high, most) in
+          let unchanged : in_files (in_epoch (without_text es text) (last_epoch es)) ≡ in_files (in_epoch es (last_epoch es)) = finishes texts (in_files (in_epoch es (last_epoch es))) (in_files (in_epoch (without_text es text) (last_epoch es))) current.1 in
+          let so : epoch_bytes (in_epoch es x) ≡ epoch_bytes (in_epoch (without_text es text) x) = subst (λ (n : ℕ). epoch_bytes (in_epoch es n) ≡ epoch_bytes (in_epoch (without_text es text) n)) x_is (epochs_same (in_epoch es (last_epoch es)) (in_epoch (without_text es text) (last_epoch es)) unchanged) in
+          planned_none texts (plan_of old.plans kind.Epoch x) (bytes_in a x) (up.after x high) ∙ (reads x most ∙ (so ∙ sym (keeps x most)))
+    ];
+    after = λ x high. up.after x (omega (arith, high));
+    map = up.map;
+    whole = up.whole;
+  })
+  shut (Some plan) finishes of mid pushed = subst (IsShut texts a es text) (sym pushed.0) (record {
+    entries = up.entries;
+    gone = up.gone;
+    before = λ x most. elim (equal_or_not x (last_epoch es)) [
+      | inl x_is ↦
+          let here : plan_of (old.plans ++ plan ∷ []) kind.Epoch x ≡ Some plan = of_more old.plans (plan ∷ []) kind.Epoch x (up.after x (omega (arith, x_is))) ∙ of_first plan [] kind.Epoch x (is_of_own plan kind.Epoch x of.kind (number_is ∙ sym x_is)) in
+          let written : written_by texts plan ≡ file_of (in_files (in_epoch (without_text es text) x)) = subst (λ (n : ℕ). written_by texts plan ≡ file_of (in_files (in_epoch (without_text es text) n))) (sym x_is) whole_so.2 in
+          ap (λ (o : Option Plan). planned texts o (bytes_in a x)) here
+          ∙ (ap (λ (t : Target). bytes_by t (bytes_in a x) (written_by texts plan)) of.target ∙ (written ∙ (sym (file_is (in_epoch (without_text es text) x)) ∙ sym (keeps x most))))
+      | inr other ↦
+          let stays : plan_of (old.plans ++ plan ∷ []) kind.Epoch x ≡ plan_of old.plans kind.Epoch x = of_others old.plans plan kind.Epoch x (other_part plan kind.Epoch x (λ k_is n_is. other (sym n_is ∙ number_is))) in
+          ap (λ (o : Option Plan). planned texts o (bytes_in a x)) stays ∙ up.before x (omega (arith, most, other))
+    ];
+    after = λ x high. of_others old.plans plan kind.Epoch x (other_part plan kind.Epoch x (λ k_is n_is. (let n = number_is in absurd (omega (arith, n_is, n, high))))) ∙ up.after x (omega (arith, high));
+    map = λ x. of_others old.plans plan kind.Map x (other_part plan kind.Map x (λ k_is n_is. absurd (let wrong : kind_index kind.Epoch ≡ kind_index kind.Map = ap kind_index (sym of.kind ∙ k_is) in omega (arith, wrong)))) ∙ up.map x;
+    whole = each_plan (IsPlanWhole texts) old.plans plan up.whole whole_so.1;
+  }) where
+    number_is : plan.number ≡ last_epoch es
+    number_is = of.number ∙ ap (λ (f : FileName). f.number) current.0
+
+    whole_so : IsFinished texts (in_files (in_epoch es (last_epoch es))) (in_files (in_epoch (without_text es text) (last_epoch es))) (Some plan)
+    whole_so = finishes texts (in_files (in_epoch es (last_epoch es))) (in_files (in_epoch (without_text es text) (last_epoch es))) current.1
+
+-- The next entry of an archive on its disk.
+module _ (k : Content) (v : View) (cache : List ℕ) (a : Archive) (own : IsDiskWith v cache a k) (es rest : List Entry) (e : Entry) (is : a.entries ≡ es ++ e ∷ rest) (text : List ℕ) where
+  rise : Rise 1 0 (es ++ e ∷ rest)
+  rise = subst (Rise 1 0) is own.keeps.valid.order
+
+  pub earlier : AllByRecursion (λ (f : Entry). f.epoch ≤ e.epoch) es
+  earlier = earlier_ones 1 0 es e rest rise
+
+  later : AllByRecursion (λ (f : Entry). e.epoch ≤ f.epoch) (e ∷ rest)
+  later = later_ones 1 0 es e rest rise
+
+  apart_later : (x : ℕ) → x < e.epoch → AllByRecursion (λ (f : Entry). f.epoch ≢ x) (e ∷ rest)
+  apart_later x less = all_weaker (λ (f : Entry). e.epoch ≤ f.epoch) (λ (f : Entry). f.epoch ≢ x) (e ∷ rest) (λ f at same. absurd (omega (arith, at, same, less))) later
+
+  -- The bytes of epochs before its own.
+  bytes_before : (x : ℕ) → x < e.epoch → bytes_in a x ≡ epoch_bytes (in_epoch es x)
+  bytes_before x less = ap (λ (l : List Entry). epoch_bytes (in_epoch l x)) is ∙ ap epoch_bytes (in_epoch_front es (e ∷ rest) x (apart_later x less))
+
+  kept_before : (x : ℕ) → x < e.epoch → bytes_in (without_entries a text) x ≡ epoch_bytes (in_epoch (without_text es text) x)
+  kept_before x less =
+      ap (λ (l : List Entry). epoch_bytes (in_epoch (without_text l text) x)) is
+      ∙ (ap (λ (l : List Entry). epoch_bytes (in_epoch l x)) (without_append es (e ∷ rest) text)
+      ∙ ap epoch_bytes (in_epoch_front (without_text es text) (without_text (e ∷ rest) text) x (without_all (λ (f : Entry). f.epoch ≢ x) (e ∷ rest) text (apart_later x less))))
+
+  -- No entry so far is in an epoch after the last one.
+  none_so_far : (x : ℕ) → last_epoch es < x → AllByRecursion (λ (f : Entry). f.epoch ≢ x) es
+  none_so_far x less = all_weaker (λ (f : Entry). f.epoch ≤ last_epoch es) (λ (f : Entry). f.epoch ≢ x) es (λ f low same. absurd (omega (arith, low, same, less))) (none_later es)
+
+  entry : IsEntry e
+  entry = one_of_all IsEntry es e rest (subst (AllByRecursion IsEntry) is own.keeps.valid.entries)
+
+  bytes_are : bytes_in a e.epoch ≡ magic ++ chain None (in_files (in_epoch es e.epoch ++ e ∷ in_epoch rest e.epoch))
+  bytes_are =
+      ap (λ (l : List Entry). epoch_bytes (in_epoch l e.epoch)) is
+      ∙ (ap epoch_bytes (in_epoch_split es e rest) ∙ whole_is (in_epoch es e.epoch) e (in_epoch rest e.epoch))
+
+  file_reads : texts_in k (epoch_file_of v.root e.epoch) ≡ bytes_in a e.epoch
+  file_reads =
+      let name = epoch_file_of v.root e.epoch in
+      let gen_ = (get_or v.root.epochs e.epoch no_place).gen_ in
+      let low = entry.epoch in
+      let size = ap length bytes_are in
+      let parts = length-append magic (chain None (in_files (in_epoch es e.epoch ++ e ∷ in_epoch rest e.epoch))) in
+      let long = own.keeps.names.epochs e.epoch (omega (arith, low)) in
+      let some : 0 < (get_or v.root.epochs e.epoch no_place).length = omega (arith, size, parts, long) in
+      own.on.exact.ends name (epoch_isnt_root e.epoch gen_) ∙ text_named v.root (parts_of a cache) name (epoch_is_named v.root e.epoch gen_ (omega (arith, low)) some refl)
+
+  -- Its file has it after those before.
+  pub has_next : HasNext (texts_in k) (epoch_file_of v.root e.epoch) (in_files (in_epoch es e.epoch)) (in_file e)
+  has_next =
+      let xs = in_epoch es e.epoch in
+      let ys = in_epoch rest e.epoch in
+      let more = chain (Some (commit_after (last_of None (in_files xs)) (in_file e))) (in_files ys) in
+      record {
+        valid = record { text = entry.text; moment = entry.moment };
+        rest = more;
+        is = file_reads ∙ (bytes_are ∙ (ap (λ (b : List ℕ). magic ++ b) (chain_split None xs e ys) ∙ sym (append_assoc magic (chain None (in_files xs ++ in_file e ∷ [])) more)));
+      }
+
+  module _ (old : Planning) (up : IsPlannedUpTo (texts_in k) v.root a es text old) (file : FileName) (file_by : file ≡ epoch_file_of v.root e.epoch) where
+    abbrev top : ℕ
+    top = last_epoch es
+
+    top_low : top ≤ e.epoch
+    top_low = last_at_most es e.epoch earlier
+
+    -- An epoch that no entry is in so far.
+    gap : (plans : List Plan) (x : ℕ) → x < e.epoch → plan_of plans kind.Epoch x ≡ None → AllByRecursion (λ (f : Entry). f.epoch ≢ x) es → planned (texts_in k) (plan_of plans kind.Epoch x) (bytes_in a x) ≡ bytes_in (without_entries a text) x
+    gap plans x less none all =
+        planned_none (texts_in k) (plan_of plans kind.Epoch x) (bytes_in a x) none
+        ∙ (bytes_before x less ∙ (ap epoch_bytes (in_epoch_none es x all) ∙ (ap epoch_bytes (sym (in_epoch_none (without_text es text) x (without_all (λ (f : Entry). f.epoch ≢ x) es text all))) ∙ sym (kept_before x less))))
+
+    -- The plan of a file before its first entry.
+    starts : AllByRecursion (λ (f : Entry). f.epoch ≢ e.epoch) es → IsPlanned (texts_in k) (in_files (in_epoch es e.epoch)) (in_files (in_epoch (without_text es text) e.epoch)) (epoch_start file)
+    starts all =
+        let here = in_epoch_none es e.epoch all in
+        let kept = in_epoch_none (without_text es text) e.epoch (without_all (λ (f : Entry). f.epoch ≢ e.epoch) es text all) in
+        record { plan = ap in_files (kept ∙ sym here); parent = ap (λ (l : List Entry). last_of None (in_files l)) (sym kept) }
+
+    first : es ≡ [] → IsOpened (texts_in k) v.root a es text e.epoch (without_current old) (epoch_start file)
+    first none =
+        let no : (x : ℕ) → AllByRecursion (λ (f : Entry). f.epoch ≢ x) es = λ x. subst (AllByRecursion (λ (f : Entry). f.epoch ≢ x)) (sym none) tt in
+        let zero_is : top ≡ 0 = ap last_epoch none in
+        record {
+          entries = up.entries;
+          gone = up.gone;
+          before = λ x less. gap old.plans x less (up.after x (omega (arith, zero_is))) (no x);
+          after = λ x high. up.after x (omega (arith, zero_is));
+          map = up.map;
+          whole = up.whole;
+          file = file_by;
+          is = starts (no e.epoch);
+        }
+
+    same : (c : Planned) → IsCurrent (texts_in k) v.root es text (Some c) → c.file ≡ file → IsOpened (texts_in k) v.root a es text e.epoch (without_current old) c
+    same c current here =
+        let epoch_is : top ≡ e.epoch = ap (λ (f : FileName). f.number) (sym current.0 ∙ (here ∙ file_by)) in
+        record {
+          entries = up.entries;
+          gone = up.gone;
+          before = λ x less. up.before x (omega (arith, less, epoch_is));
+          after = λ x high. up.after x (omega (arith, high, epoch_is));
+          map = up.map;
+          whole = up.whole;
+          file = here ∙ file_by;
+          is = subst (λ (n : ℕ). IsPlanned (texts_in k) (in_files (in_epoch es n)) (in_files (in_epoch (without_text es text) n)) c) epoch_is current.1;
+        }
+
+    -- The current epoch is before this one, and was closed.
+    module _ (c : Planned) (current : IsCurrent (texts_in k) v.root es text (Some c)) (apart : c.file ≢ file) where
+      below : top < e.epoch
+      below = elim (cases_lt top e.epoch) [
+        | inl less ↦ less
+        | inr high ↦ absurd (let low = top_low in let epoch_is : top ≡ e.epoch = omega (arith, low, high) in apart (current.0 ∙ (ap (epoch_file_of v.root) epoch_is ∙ sym file_by)))
+      ]
+
+      no_more : (x : ℕ) → top < x → AllByRecursion (λ (f : Entry). f.epoch ≢ x) es
+      no_more x less = none_so_far x less
+
+      closed : (finished : Option Plan) → Finishes c finished → IsOfEpoch c.file finished → (mid : Planning) → ClosesAs (without_current old) finished mid → IsOpened (texts_in k) v.root a es text e.epoch mid (epoch_start file)
+      closed finished finishes of mid closes =
+          let less = below in
+          let shut_so = shut (texts_in k) v.root a es text old up c current (λ x low. bytes_before x (omega (arith, low, less))) (λ x low. kept_before x (omega (arith, low, less))) finished finishes of mid closes in
+          record {
+            entries = shut_so.entries;
+            gone = shut_so.gone;
+            before = λ x low. elim (cases_lt top x) [
+              | inl above ↦ gap mid.plans x low (shut_so.after x above) (no_more x above)
+              | inr most ↦ shut_so.before x (omega (arith, most))
+            ];
+            after = λ x high. shut_so.after x (omega (arith, high, less));
+            map = shut_so.map;
+            whole = shut_so.whole;
+            file = file_by;
+            is = starts (no_more e.epoch less);
+          }
+
+    -- The plan of the entry's file, whatever was current.
+    pub opened : (current : Option Planned) → IsCurrent (texts_in k) v.root es text current → (mid : Planning) (plan : Planned) → OpensBy old file current mid plan → IsOpened (texts_in k) v.root a es text e.epoch mid plan
+    opened None none mid plan by =
+        subst (λ (p : Planning). IsOpened (texts_in k) v.root a es text e.epoch p plan) (sym by.0) (subst (IsOpened (texts_in k) v.root a es text e.epoch (without_current old)) (sym by.1) (first none))
+    opened (Some c) current mid plan (inl here) =
+        subst (λ (p : Planning). IsOpened (texts_in k) v.root a es text e.epoch p plan) (sym here.2) (subst (IsOpened (texts_in k) v.root a es text e.epoch (without_current old)) (sym here.1) (same c current here.0))
+    opened (Some c) current mid plan (inr next) =
+        subst (IsOpened (texts_in k) v.root a es text e.epoch mid) (sym next.1) (closed c current next.0 next.2.0 next.2.1 next.2.2 mid next.2.3)
+
+  -- One more entry was planned.
+  module _ (mid : Planning) (plan : Planned) (open_ : IsOpened (texts_in k) v.root a es text e.epoch mid plan) (after : Planned) (after_file : after.file ≡ plan.file) where
+    here_more : in_files (in_epoch (es ++ e ∷ []) e.epoch) ≡ in_files (in_epoch es e.epoch) ++ in_file e ∷ []
+    here_more = ap in_files (in_epoch-here es e e.epoch refl) ∙ files_more (in_epoch es e.epoch) e
+
+    -- The planner then.
+    abbrev pub with_plan : List StoredEntry → List ℕ → Planning
+    with_plan entries gone = record { plans = mid.plans; entries = entries; gone = gone; current = Some after }
+
+    up_more : (entries : List StoredEntry) (gone : List ℕ) → entries ≡ stored_after [] (without_text (es ++ e ∷ []) text) → gone ≡ gone_of (es ++ e ∷ []) text
+        → IsPlanned (texts_in k) (in_files (in_epoch es e.epoch) ++ in_file e ∷ []) (in_files (in_epoch (without_text (es ++ e ∷ []) text) e.epoch)) after → IsPlannedUpTo (texts_in k) v.root a (es ++ e ∷ []) text (with_plan entries gone)
+    up_more entries gone entries_are gone_are planned_so =
+        let n = last_more es e earlier in
+        record {
+          entries = entries_are;
+          gone = gone_are;
+          before = λ x less. open_.before x (omega (arith, less, n));
+          after = λ x high. open_.after x (omega (arith, high, n));
+          map = open_.map;
+          whole = open_.whole;
+          current = subst (λ (m : ℕ). (after.file ≡ epoch_file_of v.root m) × IsPlanned (texts_in k) (in_files (in_epoch (es ++ e ∷ []) m)) (in_files (in_epoch (without_text (es ++ e ∷ []) text) m)) after) (sym n) (
+            after_file ∙ open_.file,
+            subst (λ (l : List EpochEntry). IsPlanned (texts_in k) l (in_files (in_epoch (without_text (es ++ e ∷ []) text) e.epoch)) after) (sym here_more) planned_so,
+          );
+        }
+
+    pub up_kept : (made : StoredEntry) → bytes_eq text e.text ≡ false → made ≡ stored_at (without_text es text) e
+        → IsPlanned (texts_in k) (in_files (in_epoch es e.epoch) ++ in_file e ∷ []) (in_files (in_epoch (without_text es text) e.epoch) ++ in_file e ∷ []) after → IsPlannedUpTo (texts_in k) v.root a (es ++ e ∷ []) text (with_plan (mid.entries ++ made ∷ []) mid.gone)
+    up_kept made other made_is planned_so =
+        let stays = without_kept es e text other in
+        up_more (mid.entries ++ made ∷ []) mid.gone
+        (ap (λ (l : List StoredEntry). l ++ made ∷ []) open_.entries ∙ (ap (λ (s : StoredEntry). stored_after [] (without_text es text) ++ s ∷ []) made_is ∙ (sym (stored_more [] (without_text es text) e) ∙ ap (stored_after []) (sym stays))))
+        (open_.gone ∙ sym (gone_kept es e text other))
+        (subst (λ (l : List EpochEntry). IsPlanned (texts_in k) (in_files (in_epoch es e.epoch) ++ in_file e ∷ []) l after)
+        (sym (ap (λ (l : List Entry). in_files (in_epoch l e.epoch)) stays ∙ (ap in_files (in_epoch-here (without_text es text) e e.epoch refl) ∙ files_more (in_epoch (without_text es text) e.epoch) e))) planned_so)
+
+    pub up_left : bytes_eq text e.text ≡ true
+        → IsPlanned (texts_in k) (in_files (in_epoch es e.epoch) ++ in_file e ∷ []) (in_files (in_epoch (without_text es text) e.epoch)) after → IsPlannedUpTo (texts_in k) v.root a (es ++ e ∷ []) text (with_plan mid.entries (gone_with e.kind mid.gone e.number))
+    up_left this planned_so =
+        let dropped = without_left es e text this in
+        up_more mid.entries (gone_with e.kind mid.gone e.number)
+        (open_.entries ∙ ap (stored_after []) (sym dropped))
+        (ap (λ (l : List ℕ). gone_with e.kind l e.number) open_.gone ∙ sym (gone_left es e text this))
+        (subst (λ (l : List EpochEntry). IsPlanned (texts_in k) (in_files (in_epoch es e.epoch) ++ in_file e ∷ []) l after) (sym (ap (λ (l : List Entry). in_files (in_epoch l e.epoch)) dropped)) planned_so)

@@ -1,0 +1,42 @@
+-- What stays of the entries that are kept, where they end, and errors that tell no damage.
+use Rattle.std.specs.Prelude.{not, ◌≡◌, ℕ, List, None, Result, Ok, Err}
+use Rattle.std.specs.List.{filter}
+use Rattle.std.specs.Str.{bytes_eq}
+use Rattle.arch_model.specs.Archives.{Entry, Archive, in_epoch}
+use Rattle.arch_model.specs.Delivery.{last_epoch}
+use Rattle.arch_model.specs.Epochs.{last_commit}
+use Rattle.epoch_file.specs.declared.refusal.StoreRefusal.{StoreRefusal}
+use Rattle.epoch_file.specs.declared.refusal.StoreRefusal.TheVariants.{Damaged}
+use Rattle.store_finding.specs.declared.entries.StoredEntry.{StoredEntry}
+use Rattle.store_planning.specs.declared.next.End.{End}
+
+-- The epoch of the last entry of an archive, or 0, and its last commit.
+pub record IsEnd (a : Archive) (end_ : End) : Type 0 where
+  pub epoch : end_.epoch ≡ last_epoch a.entries
+  pub parent : end_.parent ≡ last_commit None (in_epoch a.entries (last_epoch a.entries))
+
+-- An error tells of no damage.
+abbrev pub IsUndamaged : StoreRefusal → Type 0
+IsUndamaged (Damaged file offset) = ⊥
+IsUndamaged _ = Unit {0}
+
+-- A call that doesn't read never returns `Damaged`.
+abbrev pub SeesNoDamage : {T : Type 0} → Result T StoreRefusal → Type 0
+SeesNoDamage (Ok given) = Unit {0}
+SeesNoDamage (Err why) = IsUndamaged why
+
+-- The entries that are kept but those with a blob id.
+abbrev pub without_blob : List StoredEntry → List ℕ → List StoredEntry
+without_blob entries blob = filter (λ (e : StoredEntry). not (bytes_eq blob e.seen.blob.0)) entries
+
+-- An entry was kept of the one before: in the same epoch, under its number, with the ids of its text.
+-- Its offset and its commit may be others.
+pub record KeptOf (old new : StoredEntry) : Type 0 where
+  pub number : new.number ≡ old.number
+  pub epoch : new.epoch ≡ old.epoch
+  pub kind : new.seen.kind ≡ old.seen.kind
+  pub size : new.seen.size ≡ old.seen.size
+  pub blob : new.seen.blob ≡ old.seen.blob
+  pub moment : new.seen.moment ≡ old.seen.moment
+  pub id : new.seen.id ≡ old.seen.id
+  pub content : new.seen.content ≡ old.seen.content

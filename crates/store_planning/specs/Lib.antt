@@ -1,0 +1,3 @@
+pub mod DamagedTexts
+pub mod Planning
+pub mod Dropping

@@ -1,0 +1,8 @@
+//! Plans how an archive is written anew without the entries of a text.
+#![tactic(auto)]
+
+mod next;
+mod planning;
+
+pub use next::{End, NextPlace};
+pub use planning::Planner;

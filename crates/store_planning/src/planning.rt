@@ -1,0 +1,380 @@
+//! Plans an archive without the entries of a text.
+ghost use Rattle.std.specs.Prelude.{◌≡◌, ◌+◌, ◌*◌, ◌≤◌, ◌++◌, [], ◌∷◌, Some, None, Err, IfErr, IfOk, OnOk};
+ghost use Rattle.std.specs.Str.{bytes_eq};
+ghost use Rattle.arch_base.specs.Counts.{RoseIf};
+ghost use Rattle.disk_model.specs.Sizes.{greatest_epoch, record_size};
+ghost use Rattle.root_slots.specs.declared.root.Root.{Root};
+ghost use Rattle.root_slots.specs.Valid.{IsRoot};
+ghost use Rattle.disk_model.specs.declared.name.FileKind.TheVariants as kind;
+ghost use Rattle.root_change.specs.Rewriting.{IsPlan, Plan, plan_of};
+ghost use Rattle.arch_model.specs.Archives.{Archive};
+ghost use Rattle.arch_model.specs.Validity.{IsArchive};
+ghost use Rattle.epoch_file.specs.Planning.{TellsLack};
+ghost use Rattle.epoch_file.specs.Runs.{OnlyReads};
+ghost use Rattle.store_planning.specs.DamagedTexts.{IfDamaged, IsDamageOf};
+ghost use Rattle.store_finding.specs.Extents.{AreNamedAfter, AreUpToEpoch, LieFrom};
+ghost use Rattle.store_finding.specs.Files.{epoch_file_of, map_file_of};
+ghost use Rattle.store_planning.specs.Planning.{AppendsRecord, AreAnew, AreFrom, IsApart, ArePlansIn, AreValid, ChangesNext, Closes, ClosesLast, FinishesPlans, IsIndexOf, IsReady, IsTaken, KeepsBut, KeepsEntry, LeavesOut, OpensPlan, Pushes, RefusesEntry, PlansNext, TakesOn, no_planning, plans_with, refusal_in, with_gone};
+ghost use Rattle.store_finding.specs.Kept.{InEpochs, stored_after};
+ghost use Rattle.store_planning.specs.Dropping.{IsEnd};
+
+use crate::next::End;
+use arch_base::{NoMemory, Numbers, ObjectId};
+use disk_model::{Disk, FileKind, FileName, WalkRefusal};
+use epoch_file::{EpochPlan, StoreRefusal};
+use git_objects::EntryKind;
+use number_map::{Record, plan_without, push_record};
+use root_change::{PartPlan, Target};
+use std::alloc::Global;
+use std::marker::Model;
+use store_finding::StoredEntry;
+
+/// What is planned of the entries of an archive so far, without those of a text.
+///
+/// Its contract view is the plans, what is kept of the entries that stay, the numbers of the messages that
+/// don't, and the plan of the current epoch.
+#[derive(Drop)]
+pub struct Planner {
+    alloc: Global,
+    /// The plans of the epochs that lose an entry, up to the one before the current, and at the end
+    /// the plan of the map.
+    plans: Vec<PartPlan>,
+    /// What is kept of the entries that stay.
+    entries: Vec<StoredEntry>,
+    /// The numbers of the messages that don't stay, which rise.
+    gone: Numbers,
+    /// The last of these numbers, or 0.
+    top: u32,
+    /// The plan of the current epoch.
+    current: Option<EpochPlan>,
+}
+
+impl Model for Planner {
+    ghost use Rattle.std.specs.Prelude.{◌≡◌};
+    ghost use Rattle.store_planning.specs.Planning.{Planning, IsPlanning};
+
+    ghost Value = { Planning };
+
+    ghost view = { λ p. record {
+      plans = p.plans.items;
+      entries = p.entries.items;
+      gone = p.gone;
+      current = p.current;
+    } };
+
+    ghost invariant = { λ p. IsPlanning p.top (record {
+      plans = p.plans.items;
+      entries = p.entries.items;
+      gone = p.gone;
+      current = p.current;
+    }) };
+}
+
+impl Planner {
+    /// Returns the plan of no entries.
+    pub fn new(alloc: Global) -> Planner
+        ensures { result ≡ no_planning }
+    {
+        Planner {
+            alloc,
+            plans: Vec::new(alloc),
+            entries: Vec::new(alloc),
+            gone: Numbers::new(alloc),
+            top: 0,
+            current: None,
+        }
+    }
+
+    /// Takes the next entry, which stays unless it has this blob id. `file` is that of its epoch.
+    ///
+    /// `Damaged`, at the offset of the entry, if the text of one that gets another commit has another
+    /// blob id. The plan is of no more use after an error.
+    pub fn take<D: Disk>(
+        &mut self,
+        disk: &mut D,
+        file: FileName,
+        entry: &StoredEntry,
+        blob: &ObjectId,
+    ) -> Result<(), StoreRefusal>
+        requires epoch { entry.now.epoch ≤ greatest_epoch }
+        requires apart { IsApart self.old.plans self.old.current }
+        ensures taken { PlansNext self.old file entry.now blob.now (D.content disk.old) self.new
+            result }
+        ensures damage { IfDamaged result (IsDamageOf file entry.now (D.content disk.old)) }
+        // Whatever the disk holds.
+        ensures kept { OnOk result (KeepsBut (bytes_eq blob.now.0 entry.now.seen.blob.0)
+            self.old.entries entry.now self.new.entries) }
+        ensures plans { (root : Root) → file ≡ epoch_file_of root entry.now.epoch
+            → ArePlansIn root self.old → OnOk result (ArePlansIn root self.new) }
+        ensures changes { OnOk result (ChangesNext self.old file.number
+            (bytes_eq blob.now.0 entry.now.seen.blob.0) self.new) }
+        ensures lies { OnOk result (TakesOn self.old file entry.now self.new) }
+        ensures reads { OnlyReads D.content D.moment D.left_since D.faults disk.old disk.new }
+        ensures fewest { D.reads disk.old ≤ D.reads disk.new }
+        ensures cause { RoseIf (result ≡ Err StoreRefusal.DiskFault) (D.faults disk.old)
+            (D.faults disk.new) }
+    {
+        let plan = self.open(file)?;
+        if *blob == entry.seen.blob {
+            self.leave_out(plan, entry)?;
+            return Ok(());
+        }
+        match self.keep(disk, plan, entry) {
+            Ok(()) => Ok(()),
+            Err(refusal) => Err(damaged_in(file, &refusal)),
+        }
+    }
+
+    /// Leaves an entry out of the current epoch, which is planned so far.
+    fn leave_out(&mut self, plan: EpochPlan, entry: &StoredEntry) -> Result<(), NoMemory>
+        ensures { OnOk result (LeavesOut self.old plan entry.now self.new) }
+    {
+        let mut plan = plan;
+        plan.leave_out(self.alloc, &entry.seen)?;
+        self.drop_number(entry)?;
+        self.current = Some(plan);
+        Ok(())
+    }
+
+    /// Keeps an entry of the current epoch, which is planned so far.
+    fn keep<D: Disk>(
+        &mut self,
+        disk: &mut D,
+        plan: EpochPlan,
+        entry: &StoredEntry,
+    ) -> Result<(), WalkRefusal>
+        ensures kept { OnOk result (KeepsEntry self.old plan entry.now (D.content disk.old) self.new) }
+        ensures refused { IfErr result (λ refusal.
+            RefusesEntry plan entry.now (D.content disk.old) refusal) }
+        ensures damage { IfErr result (TellsLack plan.file entry.now.seen (D.content disk.old)) }
+        ensures reads { OnlyReads D.content D.moment D.left_since D.faults disk.old disk.new }
+        ensures fewest { D.reads disk.old ≤ D.reads disk.new }
+        ensures cause { RoseIf (result ≡ Err WalkRefusal.DiskFault) (D.faults disk.old)
+            (D.faults disk.new) }
+    {
+        let mut plan = plan;
+        let seen = match plan.keep(self.alloc, disk, &entry.seen) {
+            Ok(seen) => seen,
+            Err(refusal) => return Err(refusal),
+        };
+        let kept = StoredEntry {
+            number: entry.number,
+            epoch: entry.epoch,
+            seen,
+        };
+        let Ok(()) = self.entries.push(kept) else {
+            return Err(WalkRefusal::NoMemory);
+        };
+        self.current = Some(plan);
+        Ok(())
+    }
+
+    /// Returns the plan of a file, which is the current one or a new one. Closes the current one if it
+    /// is of another file.
+    fn open(&mut self, file: FileName) -> Result<EpochPlan, NoMemory>
+        requires { IsApart self.old.plans self.old.current }
+        ensures opened { IfOk result (OpensPlan self.old file self.new) }
+    {
+        let Some(plan) = self.current.take() else {
+            return Ok(EpochPlan::new(file));
+        };
+        if plan.file() == file {
+            return Ok(plan);
+        }
+        self.close(plan)?;
+        Ok(EpochPlan::new(file))
+    }
+
+    /// Keeps the plan of an epoch whose entries have all been taken, if it loses one.
+    fn close(&mut self, plan: EpochPlan) -> Result<(), NoMemory>
+        requires { plan_of self.old.plans kind.Epoch plan.file.number ≡ None }
+        ensures { OnOk result (Closes self.old plan self.new) }
+    {
+        match plan.finish(self.alloc) {
+            Some(plan) => self.push(plan),
+            None => Ok(()),
+        }
+    }
+
+    /// Keeps a plan of a part that isn't planned yet.
+    fn push(&mut self, plan: PartPlan) -> Result<(), NoMemory>
+        requires valid { IsPlan plan }
+        requires apart { plan_of self.old.plans plan.kind plan.number ≡ None }
+        ensures { OnOk result (Pushes self.old plan self.new) }
+    {
+        let Ok(()) = self.plans.push(plan) else {
+            return Err(NoMemory);
+        };
+        Ok(())
+    }
+
+    /// Returns the index of the plan of a part, if there is one.
+    pub fn find(&self, kind: FileKind, number: u32) -> Option<usize>
+        ensures { IsIndexOf self.now.plans kind number result }
+    {
+        for at in 0..self.plans.len() {
+            let plan = &self.plans[at];
+            if plan.kind() == kind && plan.number() == number {
+                return Some(at);
+            }
+        }
+        None
+    }
+
+    /// Returns the epoch of the last entry that stays, and its commit.
+    pub fn end(&self) -> End
+        requires { InEpochs self.now.entries }
+        ensures small { result.epoch ≤ greatest_epoch }
+        ensures last { LieFrom 0 0 self.now.entries → AreUpToEpoch result.epoch self.now.entries }
+        ensures end { (b : Archive) → IsArchive b → self.now.entries ≡ stored_after [] b.entries
+            → IsEnd b result }
+    {
+        match self.entries.last() {
+            None => End {
+                epoch: 0,
+                parent: None,
+            },
+            Some(entry) => End {
+                epoch: entry.epoch,
+                parent: Some(entry.seen.commit),
+            },
+        }
+    }
+
+    /// Keeps the number of an entry that is left out, if that is a message.
+    ///
+    /// The numbers of an archive's messages rise. `NoMemory` also stands for one that doesn't, since no
+    /// clause of a store says that what it keeps is of an archive.
+    fn drop_number(&mut self, entry: &StoredEntry) -> Result<(), NoMemory>
+        ensures { OnOk result (self.new ≡ with_gone self.old entry.now) }
+    {
+        match entry.seen.kind {
+            EntryKind::Deletion => Ok(()),
+            EntryKind::Message => {
+                if entry.number <= self.top {
+                    // Not of an archive.
+                    return Err(NoMemory);
+                }
+                self.gone.push(u64::from(entry.number))?;
+                self.top = entry.number;
+                Ok(())
+            }
+        }
+    }
+
+    /// Closes the current epoch, and plans the map of `count` records without the messages that are
+    /// gone.
+    ///
+    /// `NoMemory` also stands for a number that has no record, since no clause of a store says that what
+    /// it keeps is of an archive.
+    pub fn finish(&mut self, map: FileName, count: u32) -> Result<(), NoMemory>
+        requires apart { IsApart self.old.plans self.old.current }
+        requires map { plan_of self.old.plans kind.Map 0 ≡ None }
+        ensures finished { OnOk result (FinishesPlans self.old map count self.new) }
+        // Whatever the disk holds.
+        ensures ready { (root : Root) → IsRoot root → map ≡ map_file_of root
+            → root.map.length ≡ record_size * count → ArePlansIn root self.old
+            → IsTaken root self.old → OnOk result
+            (AreFrom root self.new.plans × AreAnew self.new.plans
+            × IsReady root self.new.plans (count + 1)
+            × AreNamedAfter root self.new.plans self.new.entries) }
+    {
+        self.close_last()?;
+        if self.top > count {
+            // Not of an archive.
+            return Err(NoMemory);
+        }
+        let plan = plan_without(self.alloc, map, count, &self.gone)?;
+        self.push(plan)?;
+        Ok(())
+    }
+
+    /// Closes the current epoch, if there is one.
+    fn close_last(&mut self) -> Result<(), NoMemory>
+        requires { IsApart self.old.plans self.old.current }
+        ensures { OnOk result (ClosesLast self.old self.old.current self.new) }
+    {
+        match self.current.take() {
+            Some(plan) => self.close(plan),
+            None => Ok(()),
+        }
+    }
+
+    /// Appends bytes to those of an epoch, after what is planned of it.
+    pub fn append(&mut self, epoch: u32, bytes: &[u8]) -> Result<(), NoMemory>
+        ensures appended { OnOk result (self.new ≡ record {
+          plans = plans_with self.old.plans epoch bytes.now;
+          entries = self.old.entries;
+          gone = self.old.gone;
+          current = self.old.current;
+        }) }
+        ensures valid { OnOk result (AreValid self.old.plans × AreValid self.new.plans) }
+    {
+        match self.find(FileKind::Epoch, epoch) {
+            Some(at) => self.plans[at].push_bytes(bytes),
+            None => {
+                let mut plan = PartPlan::new(self.alloc, FileKind::Epoch, epoch, Target::Behind);
+                plan.push_bytes(bytes)?;
+                self.push(plan)
+            }
+        }
+    }
+
+    /// Appends a record to the plan of the map.
+    pub fn append_record(&mut self, line: &Record) -> Result<(), NoMemory>
+        requires map { (plan : Plan) × (plan_of self.old.plans kind.Map 0 ≡ Some plan) }
+        ensures appended { OnOk result (AppendsRecord self.old line.now self.new) }
+        ensures valid { OnOk result (AreValid self.old.plans × AreValid self.new.plans) }
+    {
+        match self.find(FileKind::Map, 0) {
+            Some(at) => push_record(&mut self.plans[at], line),
+            None => unreachable!(),
+        }
+    }
+
+    /// Appends an entry to those that are kept.
+    pub fn push_entry(&mut self, entry: StoredEntry) -> Result<(), NoMemory>
+        ensures { OnOk result (self.new ≡ record {
+          plans = self.old.plans;
+          entries = self.old.entries ++ entry ∷ [];
+          gone = self.old.gone;
+          current = self.old.current;
+        }) }
+    {
+        self.entries.push(entry)?;
+        Ok(())
+    }
+
+    /// Returns the plans.
+    pub fn plans(&self) -> &[PartPlan]
+        ensures { result.now ≡ self.now.plans }
+    {
+        self.plans.as_slice()
+    }
+
+    /// Returns what is kept of the entries that stay.
+    pub fn into_entries(self) -> Vec<StoredEntry>
+        ensures { result.items ≡ self.entries }
+    {
+        let Planner {
+            alloc: _,
+            plans: _,
+            entries,
+            gone: _,
+            top: _,
+            current: _,
+        } = self;
+        entries
+    }
+}
+
+/// Returns the error of a file's reading.
+fn damaged_in(file: FileName, refusal: &WalkRefusal) -> StoreRefusal
+    ensures { result ≡ refusal_in file refusal.now }
+{
+    match refusal {
+        WalkRefusal::DiskFault => StoreRefusal::DiskFault,
+        WalkRefusal::NoMemory => StoreRefusal::NoMemory,
+        WalkRefusal::Damaged { at } => StoreRefusal::Damaged { file, at: *at },
+    }
+}
