@@ -4,9 +4,6 @@ use Rattle.std.specs.List.{flat_map}
 use Rattle.std.proofs.Common.{◌∙◌, sym, ap, subst, arith, append_assoc, add-one}
 use Rattle.std.proofs.lemmas.List.{take_more_set}
 use Rattle.std.proofs.Math.Seq.{take-append_seam, take-suc, drop-cons}
-use Rattle.std.specs.Int.{from_be_bytes, w32, w64}
-use Rattle.byteorder.specs.Endian.{big_number}
-use Rattle.byteorder.specs.Numbers.{big_from-take}
 use Rattle.arch_base.specs.declared.config.Config.{Config}
 use Rattle.arch_base.specs.Names.{IsName}
 use Rattle.root_slots.specs.declared.root.Place.{Place}
@@ -117,14 +114,3 @@ reads_on i all ps left after more next below size count fits read before =
     let both = read p (tail ++ more) fits is in
     let grown : take (i + 1) ps ≡ take i ps ++ p ∷ [] = rw add-one (take-suc ps i no_place (omega (arith, below, count))) in
     (take_more_set all i next (omega (arith, below, size)) ∙ (ap (λ (l : List Place). l ++ next ∷ []) before.0 ∙ (ap (λ (q : Place). take i ps ++ q ∷ []) both.0 ∙ sym grown)), both.1)
-
--- The kit's reader gives what std's does of as many bytes.
-pub reads64 : (bytes : List ℕ) → big_number 8 bytes ≡ from_be_bytes w64 (take 8 bytes)
-reads64 bytes =
-    let number : from_be_bytes w64 (take 8 bytes) ≡ big_number 8 (take 8 bytes) = omega arith in
-    sym (number ∙ big_from-take 0 8 8 bytes (omega arith))
-
-pub reads32 : (bytes : List ℕ) → big_number 4 bytes ≡ from_be_bytes w32 (take 4 bytes)
-reads32 bytes =
-    let number : from_be_bytes w32 (take 4 bytes) ≡ big_number 4 (take 4 bytes) = omega arith in
-    sym (number ∙ big_from-take 0 4 4 bytes (omega arith))

@@ -17,7 +17,6 @@ ghost use Rattle.root_slots.specs.Valid.{no_place, PlaceFits, RootFits, IsRoot};
 
 use crate::root::{Place, Root};
 use arch_base::{Config, Name};
-use byteorder::{BigEndian, ByteOrder};
 use disk_model::EPOCHS;
 
 /// Reads a number of 64 bits, the highest byte first.
@@ -28,7 +27,10 @@ pub fn number64(bytes: &[u8]) -> (u64, &[u8])
         → (result.0 ≡ n) × (result.1.now ≡ rest) }
     ensures size { length result.1.now + 8 ≡ length bytes.now }
 {
-    (BigEndian::read_u64(bytes), bytes.split_at(8).1)
+    let (front, rest) = bytes.split_at(8);
+    let mut digits = [0; 8];
+    digits.copy_from_slice(front);
+    (u64::from_be_bytes(digits), rest)
 }
 
 /// Reads a number of 32 bits, the highest byte first.
@@ -38,7 +40,10 @@ fn number32(bytes: &[u8]) -> (u32, &[u8])
         → (result.0 ≡ n) × (result.1.now ≡ rest) }
     ensures size { length result.1.now + 4 ≡ length bytes.now }
 {
-    (BigEndian::read_u32(bytes), bytes.split_at(4).1)
+    let (front, rest) = bytes.split_at(4);
+    let mut digits = [0; 4];
+    digits.copy_from_slice(front);
+    (u32::from_be_bytes(digits), rest)
 }
 
 /// Reads a `Place`: the generation, then the length.
