@@ -1,0 +1,6 @@
+pub mod Numbers
+pub mod Fronting
+pub mod Goings
+pub mod Announcing
+pub mod PartLaws
+pub mod Doors
