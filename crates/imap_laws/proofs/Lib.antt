@@ -1,1 +1,2 @@
+pub mod BareTexts
 pub mod QuotedTexts

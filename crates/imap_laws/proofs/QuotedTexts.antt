@@ -46,9 +46,9 @@ pub read_inside : (text rest : List ℕ) → list_all is_quoted_octet text ≡ t
 read_inside [] rest ok = refl
 read_inside (b ∷ bs) rest ok =
     read-step (b == 34) (b == 92) (b == 0 || b == 10 || b == 13 || nat_lt 127 b) b (escaped bs) (34 ∷ rest) bs rest
-      (and-left (is_quoted_octet b) (list_all is_quoted_octet bs) ok)
-      (read_inside bs rest (and-right (is_quoted_octet b) (list_all is_quoted_octet bs) ok))
-      (read-special b (escaped bs ++ 34 ∷ rest)) (read-plain b (escaped bs ++ 34 ∷ rest))
+    (and-left (is_quoted_octet b) (list_all is_quoted_octet bs) ok)
+    (read_inside bs rest (and-right (is_quoted_octet b) (list_all is_quoted_octet bs) ok))
+    (read-special b (escaped bs ++ 34 ∷ rest)) (read-plain b (escaped bs ++ 34 ∷ rest))
 
 -- What a text in quotes is from some octets on, after a backslash or not: these octets spell it.
 abbrev pub Spelled : Bool → List ℕ → List ℕ → List ℕ → Type 0
@@ -101,7 +101,7 @@ plain-step : (q s w : Bool) (b : ℕ) (bs text rest : List ℕ) → (b == 34) �
     → ((more : List ℕ) → quoted_from false bs ≡ Some (more, rest) → Spelled false bs more rest)
     → ((more : List ℕ) → quoted_from true bs ≡ Some (more, rest) → Spelled true bs more rest)
     → quoted_by (if q then quoting.End else if s then quoting.Escape else if w then quoting.Wrong else quoting.Text)
-        b bs (λ behind. quoted_from behind bs) ≡ Some (text, rest)
+    b bs (λ behind. quoted_from behind bs) ≡ Some (text, rest)
     → Spelled false (b ∷ bs) text rest
 plain-step true s w b bs text rest q s' w' plain special h =
     let e : ([], bs) ≡ (text, rest) = cc in
@@ -125,7 +125,7 @@ spelled_inside true (b ∷ bs) text rest h =
     special-step (b == 34 || b == 92) b bs text rest refl (λ more. spelled_inside false bs more rest) h
 spelled_inside false (b ∷ bs) text rest h =
     plain-step (b == 34) (b == 92) (b == 0 || b == 10 || b == 13 || nat_lt 127 b) b bs text rest refl refl refl
-      (λ more. spelled_inside false bs more rest) (λ more. spelled_inside true bs more rest) h
+    (λ more. spelled_inside false bs more rest) (λ more. spelled_inside true bs more rest) h
 
 -- The law of texts in quotes, from left to right.
 pub quoted_read : (text spelling rest : List ℕ) → SpellsQuoted text spelling
@@ -133,7 +133,7 @@ pub quoted_read : (text spelling rest : List ℕ) → SpellsQuoted text spelling
 unfolding quoted_at
 quoted_read text spelling rest s =
     let e : spelling ++ rest ≡ 34 ∷ (escaped text ++ 34 ∷ rest)
-      = ap (λ l. l ++ rest) s.spelled ∙ ap (λ l. 34 ∷ l) (append_assoc (escaped text) (34 ∷ []) rest) in
+    = ap (λ l. l ++ rest) s.spelled ∙ ap (λ l. 34 ∷ l) (append_assoc (escaped text) (34 ∷ []) rest) in
     ap quoted_at e ∙ read_inside text rest s.octets
 
 -- And from right to left.

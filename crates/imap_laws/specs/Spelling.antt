@@ -1,6 +1,7 @@
 -- The octets that spell a text (RFC 3501, section 9, string and astring).
-use Rattle.std.specs.Prelude.{◌≡◌, ℕ, Bool, true, not, ◌||◌, ◌==◌, nat_lt, List, [], ◌∷◌, ◌++◌, Option, Some, if◌then◌else◌}
+use Rattle.std.specs.Prelude.{◌≡◌, ◌<◌, ℕ, Bool, true, false, not, ◌||◌, ◌==◌, nat_lt, List, [], ◌∷◌, ◌++◌, length, Option, Some, if◌then◌else◌}
 use Rattle.std.specs.List.{list_all}
+use Rattle.imap_words.specs.Reading.{run_at}
 use Rattle.imap_words.specs.Strings.{quoted_at}
 
 -- An octet of a text in quotes: 1 to 127, and no line end.
@@ -29,3 +30,22 @@ pub record QuotedTextsAreRead : Type 0 where
       → quoted_at (spelling ++ rest) ≡ Some (text, rest)
   pub spelled : (octets text rest : List ℕ) → quoted_at octets ≡ Some (text, rest)
       → BeginsQuoted octets text rest
+
+-- No octet of a kind comes first.
+abbrev pub StopsKind : (ℕ → Bool) → List ℕ → Type 0
+StopsKind kind [] = Unit {0}
+StopsKind kind (b ∷ bs) = kind b ≡ false
+
+-- The text is a run of octets of a kind, before octets that begin with none.
+pub record SpellsBare (kind : ℕ → Bool) (octets text rest : List ℕ) : Type 0 where
+  pub of_kind : list_all kind text ≡ true
+  pub some : 0 < length text
+  pub first : octets ≡ text ++ rest
+  pub stops : StopsKind kind rest
+
+-- A bare text is read exactly where the octets begin with it, and no further octet of its kind follows.
+pub record BareTextsAreRead : Type 0 where
+  pub read : (kind : ℕ → Bool) (octets text rest : List ℕ) → SpellsBare kind octets text rest
+      → run_at kind octets ≡ Some (text, rest)
+  pub spelled : (kind : ℕ → Bool) (octets text rest : List ℕ) → run_at kind octets ≡ Some (text, rest)
+      → SpellsBare kind octets text rest

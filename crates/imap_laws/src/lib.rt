@@ -2,11 +2,16 @@
 //! Pure.
 #![tactic(auto)]
 
-ghost use Rattle.imap_laws.specs.Spelling.{QuotedTextsAreRead};
+ghost use Rattle.imap_laws.specs.Spelling.{BareTextsAreRead, QuotedTextsAreRead};
 
 /// A law: a text in quotes is read exactly where the octets begin with one (RFC 3501, section 9,
 /// quoted).
 pub fn quoted_texts_are_read()
     ensures { QuotedTextsAreRead }
-{
-}
+{}
+
+/// A law: a bare text is read exactly where the octets begin with it, and no further octet of its
+/// kind follows (RFC 3501, section 9, atom and astring).
+pub fn bare_texts_are_read()
+    ensures { BareTextsAreRead }
+{}
