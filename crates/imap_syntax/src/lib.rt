@@ -1,0 +1,26 @@
+//! The commands of IMAP (RFC 3501, section 9, and RFC 2177), and their reader.
+//! Allocates.
+#![tactic(auto)]
+
+mod asks;
+mod command_names;
+mod commands;
+mod dates;
+mod flags;
+mod item_reading;
+mod items;
+mod key_names;
+mod key_reading;
+mod keys;
+mod reading;
+mod sections;
+mod set_reading;
+mod sets;
+
+pub use asks::{Ask, AskRefusal, StatusItem};
+pub use dates::{DateTime, Time, Zone};
+pub use flags::{FlagChange, StoreItem};
+pub use items::{Item, Partial, Section, SectionText};
+pub use keys::{Date, Key};
+pub use reading::read;
+pub use sets::{SeqSet, SetEnd, SetRange};

@@ -1,0 +1,5 @@
+pub mod Kinds
+pub mod Reading
+pub mod Numbers
+pub mod Strings
+pub mod Words
