@@ -148,7 +148,7 @@ abbrev pub item_by : List ℕ → List ℕ → Option (Item × List ℕ)
 item_by word octets =
     if is_keyword (codes "BODY.PEEK") word then body_at octets
     else if is_keyword (codes "BODY") word
-      then (if slice_index octets 0 == 91 then body_at octets else Some (item.Body, octets))
+    then (if slice_index octets 0 == 91 then body_at octets else Some (item.Body, octets))
     else with_rest octets (plain_item_of word)
 
 -- The item at the front (fetch-att).

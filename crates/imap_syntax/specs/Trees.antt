@@ -35,6 +35,7 @@ mutual
     Opposite : KeyTree → KeyTree
     Either : KeyTree → KeyTree → KeyTree
     Every : KeyTrees → KeyTree
+
   -- Some keys.
   pub data KeyTrees : Type 0 where
     no_tree : KeyTrees

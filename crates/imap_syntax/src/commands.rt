@@ -10,7 +10,7 @@ use crate::command_names::{
     CommandName, ListCommand, MailboxCommand, NumberedCommand, PlainCommand, command_name,
     numbered_command, status_item,
 };
-use crate::dates::{DateTime, date_time};
+use crate::dates::{DateTime, moment};
 use crate::flags::{flag_list, store_item, stored_flags};
 use crate::item_reading::items;
 use crate::key_reading::keys;
@@ -200,7 +200,7 @@ fn message_date(cursor: &mut Cursor<'_>) -> Result<Option<DateTime>, Stop>
     if cursor.first() != b'"' {
         return Ok(None);
     }
-    let date = date_time(cursor)?;
+    let date = moment(cursor)?;
     cursor.byte(b' ')?;
     Ok(Some(date))
 }

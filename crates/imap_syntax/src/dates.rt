@@ -44,12 +44,12 @@ pub(crate) fn date_argument(cursor: &mut Cursor<'_>) -> Result<Date, Stop>
     ensures { Obtains cursor.new result (date_argument_at cursor.old) }
 {
     cursor.byte(b' ')?;
-    date(cursor)
+    one_date(cursor)
 }
 
 /// Takes a date, in quotes or bare.
 #[tactic(auto, unfolding(crate::specs::Dates::date_at))]
-fn date(cursor: &mut Cursor<'_>) -> Result<Date, Stop>
+fn one_date(cursor: &mut Cursor<'_>) -> Result<Date, Stop>
     ensures { Obtains cursor.new result (date_at cursor.old) }
 {
     if cursor.has(b'"') {
@@ -138,7 +138,7 @@ fn month_of(word: &[u8]) -> Option<u8>
 
 /// Takes a date, a time and a zone in quotes.
 #[tactic(auto, unfolding(crate::specs::Dates::date_time_at))]
-pub(crate) fn date_time(cursor: &mut Cursor<'_>) -> Result<DateTime, Stop>
+pub(crate) fn moment(cursor: &mut Cursor<'_>) -> Result<DateTime, Stop>
     ensures { Obtains cursor.new result (date_time_at cursor.old) }
 {
     cursor.byte(b'"')?;
@@ -161,16 +161,16 @@ fn rest_of_moment(cursor: &mut Cursor<'_>, date: Date) -> Result<DateTime, Stop>
     ensures { Obtains cursor.new result (time_behind date cursor.old) }
 {
     cursor.byte(b' ')?;
-    let time = time(cursor)?;
+    let time = clock_time(cursor)?;
     cursor.byte(b' ')?;
-    let zone = zone(cursor)?;
+    let zone = time_zone(cursor)?;
     cursor.byte(b'"')?;
     Ok(DateTime { date, time, zone })
 }
 
 /// Takes a time of the day.
 #[tactic(auto, unfolding(crate::specs::Dates::time_at))]
-fn time(cursor: &mut Cursor<'_>) -> Result<Time, Stop>
+fn clock_time(cursor: &mut Cursor<'_>) -> Result<Time, Stop>
     ensures { Obtains cursor.new result (time_at cursor.old) }
 {
     let hour = cursor.pair()?;
@@ -187,7 +187,7 @@ fn time(cursor: &mut Cursor<'_>) -> Result<Time, Stop>
 
 /// Takes a zone: a sign and four digits.
 #[tactic(auto, unfolding(crate::specs::Dates::zone_at))]
-fn zone(cursor: &mut Cursor<'_>) -> Result<Zone, Stop>
+fn time_zone(cursor: &mut Cursor<'_>) -> Result<Zone, Stop>
     ensures { Obtains cursor.new result (zone_at cursor.old) }
 {
     if cursor.has(b'-') {

@@ -1,6 +1,8 @@
 //! Flags of commands (RFC 3501, section 9, flag, flag-list and store-att-flags).
 //! Allocates.
 ghost use Rattle.std.specs.Prelude.{◌≡◌};
+ghost use Rattle.std.specs.List.{list_all};
+ghost use Rattle.imap_words.specs.Kinds.{is_atom_byte};
 ghost use Rattle.imap_words.specs.Reading.{Obtains};
 ghost use Rattle.imap_syntax.specs.Flags.{is_flag as flag_is, is_atom as atom_is, flag_at, flags_at, flags_inside, flag_list_at, stored_flags_at, silence_of as silence_named, store_item_by, store_item_at};
 
@@ -102,7 +104,14 @@ fn is_flag(word: &[u8]) -> bool
 fn is_atom(word: &[u8]) -> bool
     ensures { result ≡ atom_is word.now }
 {
-    !word.is_empty() && word.iter().all(|byte| Kind::Atom.has(*byte))
+    !word.is_empty() && are_atom_bytes(word)
+}
+
+/// Returns whether all octets may stand in an atom.
+fn are_atom_bytes(octets: &[u8]) -> bool
+    ensures { result ≡ list_all is_atom_byte octets.now }
+{
+    octets.iter().all(|byte| Kind::Atom.has(*byte))
 }
 
 /// Takes the name of a change of flags, with its sign.

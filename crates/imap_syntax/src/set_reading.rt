@@ -1,8 +1,9 @@
 //! Reads sets of numbers (RFC 3501, section 9, sequence-set).
 //! Allocates.
-ghost use Rattle.std.specs.Prelude.{◌≡◌};
-ghost use Rattle.imap_words.specs.Reading.{Obtains, Refuses};
-ghost use Rattle.imap_syntax.specs.Sets.{end_of, range_of, set_of, set_at, set_argument_at, SpellsSet};
+ghost use Rattle.std.specs.Prelude.{◌≡◌, ◌∷◌};
+ghost use Rattle.imap_words.specs.Reading.{Obtains};
+ghost use Rattle.imap_words.specs.Words.{words_at};
+ghost use Rattle.imap_syntax.specs.Sets.{end_of, range_of_words, range_of, set_of, set_at, set_argument_at, SpellsSet};
 
 use crate::sets::{SeqSet, SetEnd, SetRange};
 use arch_base::Sequence;
@@ -61,11 +62,18 @@ fn read_range(word: &[u8]) -> Option<SetRange>
                 last: only,
             })
         }
-        Some(rest) => {
-            let (last, others) = split(b':', rest);
-            if others.is_some() {
-                return None;
-            }
+        Some(rest) => two_ends(first, rest),
+    }
+}
+
+/// Returns the range whose first end is a word, and whose other end is a text without colons.
+fn two_ends(first: &[u8], text: &[u8]) -> Option<SetRange>
+    ensures { result ≡ range_of_words (first.now ∷ words_at 58 text.now) }
+{
+    let (last, others) = split(b':', text);
+    match others {
+        Some(_) => None,
+        None => {
             let first = read_end(first)?;
             let last = read_end(last)?;
             Some(SetRange { first, last })

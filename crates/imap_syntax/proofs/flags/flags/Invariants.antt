@@ -1,0 +1,9 @@
+use Rattle.std.proofs.Common.{◌≡◌, ◌-◌, length}
+use Rattle.imap_words.specs.Reading.{many_at}
+use Rattle.imap_syntax.specs.Flags.{flag_at}
+use Rattle.imap_words.proofs.Lists.{with_all}
+use Rattle.imap_syntax.proofs.flags.flags.Given as goal
+
+abbrev pub invariant-loop-index : goal.invariant-loop-index
+invariant-loop-index l =
+    with_all l.flags (many_at flag_at (l._index-end - l._index) l.cursor) ≡ many_at flag_at (length l.fn.cursor) l.fn.cursor
