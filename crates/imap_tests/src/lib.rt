@@ -9,4 +9,6 @@ mod limit_tests;
 #[cfg(test)]
 mod reading_tests;
 #[cfg(test)]
+mod speed_tests;
+#[cfg(test)]
 mod spelling;
