@@ -1,4 +1,5 @@
-//! The commands of IMAP (RFC 3501, section 9, and RFC 2177), and their reader.
+//! The commands of IMAP (RFC 3501, section 9, and RFC 2177), their reader, and the framer of
+//! `imap_framer`.
 //! Allocates.
 #![tactic(auto)]
 
@@ -20,6 +21,7 @@ mod sets;
 pub use asks::{Ask, AskRefusal, StatusItem};
 pub use dates::{DateTime, Time, Zone};
 pub use flags::{FlagChange, StoreItem};
+pub use imap_framer::{Found, Framed, Framer};
 pub use items::{Item, Partial, Section, SectionText};
 pub use keys::{Date, Key};
 pub use reading::read;

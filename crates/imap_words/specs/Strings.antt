@@ -42,7 +42,8 @@ quoted_at octets = do
 -- So many octets, none of which is NUL.
 abbrev pub octets_at : ℕ → List ℕ → Option (List ℕ × List ℕ)
 octets_at n octets =
-    if nat_le n (length octets) && list_all is_octet (take n octets) then Some (take n octets, drop n octets) else None
+    if nat_le n (length octets) && list_all is_octet (take n octets)
+    then Some (take n octets, drop n octets) else None
 
 -- A text whose number of octets is announced (literal).
 unfoldable pub literal_at : List ℕ → Option (List ℕ × List ℕ)

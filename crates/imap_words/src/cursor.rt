@@ -72,7 +72,8 @@ impl<'a> Cursor<'a> {
 
     /// Takes the first octet, if one is left.
     pub(crate) fn next(&mut self) -> Option<u8>
-        ensures { MatchOption result ((self.old ≡ []) × (self.new ≡ [])) (λ byte. self.old ≡ byte ∷ self.new) }
+        ensures { MatchOption result ((self.old ≡ []) × (self.new ≡ []))
+            (λ byte. self.old ≡ byte ∷ self.new) }
     {
         match self.rest {
             [] => None,
