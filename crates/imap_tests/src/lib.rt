@@ -1,4 +1,4 @@
-//! Tests of `imap_framer`, by its public calls alone.
+//! Tests of `imap_framer` and `imap_syntax`, by their public calls alone.
 //! Allocates.
 #![tactic(auto)]
 
@@ -6,3 +6,9 @@
 mod framer_tests;
 #[cfg(test)]
 mod limit_tests;
+#[cfg(test)]
+mod reading_tests;
+#[cfg(test)]
+mod speed_tests;
+#[cfg(test)]
+mod spelling;
