@@ -2,7 +2,7 @@
 use Rattle.std.specs.Prelude.{◌≤◌, ◌+◌, ℕ, zero, suc, Bool, true, false, not, List, [], ◌∷◌, length, Option, Some, None, if◌then◌else◌}
 use Rattle.std.specs.List.{list_all, sum_by}
 use Rattle.arch_model.specs.Archives.{Entry, Archive, live}
-use Rattle.http_heads.specs.Addresses.{Named, TheListing, TextOf, ThreadOf, MessageOf, TheFeed, TheMailbox, ThreadFeedOf, ThreadMailboxOf, named_by, segments_of}
+use Rattle.http_heads.specs.Addresses.{Named, TheMailbox, ThreadMailboxOf, named_by, segments_of}
 use Rattle.http_heads.specs.Heads.{Asked}
 use Rattle.http_heads.specs.Parameters.{path_of}
 use Rattle.http_heads.specs.Replies.{verdict_of}
@@ -20,14 +20,9 @@ thread_len entries (Some n) = length (oldest_first (thread_rows entries n))
 
 -- How many texts are read at most while what is named is said: one for each mail of a mailbox file.
 abbrev pub texts_said : Archive → Named → ℕ
-texts_said a TheListing = 0
-texts_said a (MessageOf id) = 0
-texts_said a (TextOf id) = 0
-texts_said a (ThreadOf id) = 0
-texts_said a TheFeed = 0
-texts_said a (ThreadFeedOf id) = 0
 texts_said a TheMailbox = length (live a.entries)
 texts_said a (ThreadMailboxOf id) = thread_len a.entries (number_named a.entries id)
+texts_said a other = 0
 
 -- How many texts are read at most while what a path names is said, if it names anything.
 abbrev pub path_said : Archive → Option Named → ℕ

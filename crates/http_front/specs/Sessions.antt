@@ -95,27 +95,19 @@ form_found a form.Mailbox n =
 
 -- Texts are read for a form.
 abbrev pub form_reads : Form → Bool
-form_reads form.Message = true
-form_reads form.Text = true
 form_reads form.Thread = false
-form_reads form.Feed = true
-form_reads form.Mailbox = true
+form_reads other = true
 
 -- How many texts are read at most while what is asked for in a form is said, if a live mail has the id.
 abbrev pub form_said : List Entry → Form → Option ℕ → ℕ
-form_said entries form.Message o = 0
-form_said entries form.Text o = 0
-form_said entries form.Thread o = 0
-form_said entries form.Feed o = 0
 form_said entries form.Mailbox o = thread_len entries o
+form_said entries other o = 0
 
 -- How many texts are still to be read for what was found, while it is said.
 abbrev pub unread : Archive → Held → ℕ
-unread a (what.Whole body bytes) = 0
 unread a what.EveryMail = length (live a.entries)
 unread a (what.Mails numbers) = length numbers
-unread a what.Nothing = 0
-unread a what.BadRange = 0
+unread a other = 0
 
 -- How many texts are read at most to find what is asked for in a form.
 abbrev pub form_texts : Form → ℕ
