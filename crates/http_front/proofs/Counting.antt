@@ -5,7 +5,7 @@ use Rattle.std.proofs.lemmas.Bool.Decides.{nat_tests}
 use Rattle.std.proofs.lemmas.List.Sums.{sum_by-cons}
 use Rattle.line_door.specs.Acts.{Outside, Way, Plain, Memory, Disk, Newer, Acts, StopsShort}
 use Rattle.arch_model.specs.Archives.{Entry, Archive, text_of}
-use Rattle.arch_model.specs.Shelves.{ReadsOnce}
+use Rattle.arch_model.specs.Shelves.{ReadsOnce, ReadsUpTo, ReadsAhead}
 use Rattle.arch_model.specs.declared.text_refusal.TextRefusal.{TextRefusal}
 use Rattle.mail_forms.specs.declared.row.Row.{Row}
 use Rattle.http_heads.specs.Addresses.{Named, TheListing, TextOf, ThreadOf, MessageOf, TheFeed, TheMailbox, ThreadFeedOf, ThreadMailboxOf, named_by, segments_of}
@@ -15,8 +15,8 @@ use Rattle.http_heads.specs.Replies.{verdict_of}
 use Rattle.http_heads.specs.declared.reply.Verdict.{Verdict}
 use Rattle.http_heads.specs.declared.reply.Verdict.TheVariants.{Serve, Refuse}
 use Rattle.http_front.specs.Fronts.{Front, Whole, Long, Partial, front, head_limit}
-use Rattle.http_front.specs.Asking.{Reading, Found, Gives, Streams, Missing, BadRange, message_found, text_found, target_found, target_reads, path_reads, path_texts, ReadsUpTo}
-use Rattle.http_front.specs.Counting.{served_texts, body_texts, path_said, verdict_texts, head_texts, reads_nothing, goes_on, verdict_goes_on, asked_at, asked_from, all_asked, texts_for_bytes, bytes_read_nothing, ReadsAhead}
+use Rattle.http_front.specs.Asking.{Reading, Found, Gives, Streams, Missing, BadRange, message_found, text_found, target_found, target_reads, path_reads, path_texts}
+use Rattle.http_front.specs.Counting.{served_texts, body_texts, path_said, verdict_texts, head_texts, reads_nothing, goes_on, verdict_goes_on, asked_at, asked_from, all_asked, texts_for_bytes, bytes_read_nothing}
 use Rattle.http_front.specs.Door.{served, said_found, said_verdict, said_head}
 use Rattle.http_front.specs.Sessions.{IsHeldFor, Finds, MakesPage, IsTurnReads, unread}
 use Rattle.http_front.specs.declared.session.Turn.TheVariants.{Went, Closed}

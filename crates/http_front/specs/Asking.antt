@@ -1,5 +1,5 @@
 -- What an archive has under the target of a request.
-use Rattle.std.specs.Prelude.{◌≡◌, ◌≤◌, ◌+◌, ℕ, Bool, true, false, List, take, drop, reverse, codes, Option, Some, None}
+use Rattle.std.specs.Prelude.{◌≡◌, ◌+◌, ℕ, Bool, true, false, List, take, drop, reverse, codes, Option, Some, None}
 use Rattle.arch_model.specs.Archives.{Archive, live}
 use Rattle.arch_model.specs.Listings.{listing}
 use Rattle.arch_model.specs.Searching.{search}
@@ -154,8 +154,3 @@ path_texts (Some named) = texts_for named
 -- How many texts are read at most to find what stands under a target.
 abbrev pub target_texts : Archive → List ℕ → ℕ
 target_texts a target = path_texts (named_by a.config.name (segments_of (path_of target)))
-
--- A call reads at most so many times.
-pub record ReadsUpTo (most before now : ℕ) : Type 0 where
-  pub later : before ≤ now
-  pub bound : now ≤ before + most

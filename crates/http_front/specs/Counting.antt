@@ -1,5 +1,5 @@
 -- How many texts the door of pages reads at most to answer the bytes of a session.
-use Rattle.std.specs.Prelude.{◌≤◌, ◌+◌, ℕ, zero, suc, Bool, true, false, not, List, [], ◌∷◌, length, Option, Some, None, if◌then◌else◌}
+use Rattle.std.specs.Prelude.{◌+◌, ℕ, zero, suc, Bool, true, false, not, List, [], ◌∷◌, length, Option, Some, None, if◌then◌else◌}
 use Rattle.std.specs.List.{list_all, sum_by}
 use Rattle.arch_model.specs.Archives.{Entry, Archive, live}
 use Rattle.http_heads.specs.Addresses.{Named, TheMailbox, ThreadMailboxOf, named_by, segments_of}
@@ -92,8 +92,3 @@ texts_for_bytes reading a bytes = sum_by (head_texts a) (all_asked reading bytes
 -- No text is read to answer these bytes.
 abbrev pub bytes_read_nothing : Reading → Archive → List ℕ → Bool
 bytes_read_nothing reading a bytes = list_all (reads_nothing a) (all_asked reading bytes)
-
--- The reads of a call, and as many more as are still to follow, are at most so many.
-pub record ReadsAhead (most ahead before now : ℕ) : Type 0 where
-  pub later : before ≤ now
-  pub bound : now + ahead ≤ before + most

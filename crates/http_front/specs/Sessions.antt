@@ -5,6 +5,7 @@ use Rattle.line_door.specs.Making as door
 use Rattle.line_door.specs.Making.{in_ways}
 use Rattle.line_door.specs.Course.{talk, Fed}
 use Rattle.arch_model.specs.Archives.{Entry, Archive, live}
+use Rattle.arch_model.specs.Shelves.{ReadsUpTo, ReadsAhead}
 use Rattle.arch_base.specs.declared.sequence.NoMemory.{NoMemory}
 use Rattle.arch_model.specs.declared.text_refusal.TextRefusal.{TextRefusal}
 use Rattle.arch_model.specs.declared.text_refusal.TextRefusal.TheVariants as refusal
@@ -16,8 +17,8 @@ use Rattle.http_heads.specs.declared.reply.Body.TheVariants.{Mailbox}
 use Rattle.http_heads.specs.declared.reply.Status.TheVariants.{Done, ServerError, Unavailable}
 use Rattle.http_front.specs.Views.{shown_row, shown_text}
 use Rattle.http_front.specs.Threads.{thread_rows, oldest_first}
-use Rattle.http_front.specs.Asking.{Reading, IsReading, Found, Gives, Streams, Missing, BadRange, message_found, text_found, thread_found, feed_found, feed_len, ReadsUpTo}
-use Rattle.http_front.specs.Counting.{thread_len, head_texts, texts_for_bytes, bytes_read_nothing, ReadsAhead}
+use Rattle.http_front.specs.Asking.{Reading, IsReading, Found, Gives, Streams, Missing, BadRange, message_found, text_found, thread_found, feed_found, feed_len}
+use Rattle.http_front.specs.Counting.{thread_len, head_texts, texts_for_bytes, bytes_read_nothing}
 use Rattle.http_front.specs.Door.{Says as SaysAct, replies, said_found, said, said_head, said_asked, has_request}
 use Rattle.http_front.specs.Mailboxes.{mailbox_at, whole_mailbox}
 use Rattle.http_front.specs.Replies.{reply, word, word_of, damaged_line}
@@ -134,10 +135,6 @@ module _ {S : Type 0} (holds : S → Archive → Type 0) where
   abbrev pub FindsIn : (Archive → Found) → (Archive → Bool) → S → Result Held TextRefusal → Type 0
   FindsIn found reads shelf result = (a : Archive) → holds shelf a
       → Finds a (found a) (reads a) result
-
-  -- Whichever archive is held, at most so many texts were read.
-  abbrev pub ReadsIn : (Archive → ℕ) → S → ℕ → ℕ → Type 0
-  ReadsIn most shelf before now = (a : Archive) → holds shelf a → ReadsUpTo (most a) before now
 
   -- Whichever archive is held, at most so many texts are still to be read for what was found.
   abbrev pub LeavesIn : (Archive → ℕ) → S → Result Held TextRefusal → Type 0

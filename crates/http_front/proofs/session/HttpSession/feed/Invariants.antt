@@ -2,9 +2,9 @@ use Rattle.std.proofs.Common.{◌++◌, length, Some}
 use Rattle.line_door.specs.Acts.{outside}
 use Rattle.line_door.specs.Course.{talk, Going}
 use Rattle.arch_model.specs.Archives.{Archive}
-use Rattle.arch_model.specs.Shelves.{Stays}
+use Rattle.arch_model.specs.Shelves.{Stays, ReadsAhead}
 use Rattle.http_front.specs.Asking.{Reading, IsReading}
-use Rattle.http_front.specs.Counting.{texts_for_bytes, ReadsAhead}
+use Rattle.http_front.specs.Counting.{texts_for_bytes}
 use Rattle.http_front.specs.Door.{said, has_request}
 use Rattle.http_front.proofs.session.HttpSession.feed.Given as goal
 
