@@ -34,23 +34,12 @@ pub record IsKnownBy (config : Config) (index : Index) (count next : ℕ) (a : A
 -- answer that isn't for a delivery never comes.
 abbrev pub RefusesBy : Archive → List ℕ → Answer → Type 0
 RefusesBy a bytes answer.NoMemory = Unit {0}
-RefusesBy a bytes (answer.Duplicate number) = (moment : ℕ)
-    → delivered a bytes moment ≡ refused a (answer.Duplicate number)
-RefusesBy a bytes answer.NoFields = (moment : ℕ)
-    → delivered a bytes moment ≡ refused a answer.NoFields
-RefusesBy a bytes (answer.TooLarge len) = (moment : ℕ)
-    → delivered a bytes moment ≡ refused a (answer.TooLarge len)
-RefusesBy a bytes (answer.Full max) = (moment : ℕ)
-    → delivered a bytes moment ≡ refused a (answer.Full max)
-RefusesBy a bytes (answer.Collision number) = (moment : ℕ)
-    → delivered a bytes moment ≡ refused a (answer.Collision number)
-RefusesBy a bytes answer.IsMirror = (moment : ℕ)
-    → delivered a bytes moment ≡ refused a answer.IsMirror
 RefusesBy a bytes (answer.Ok number id) = ⊥
 RefusesBy a bytes (answer.NotLive number) = ⊥
 RefusesBy a bytes (answer.NoText number) = ⊥
 RefusesBy a bytes answer.DiskFault = ⊥
 RefusesBy a bytes (answer.Damaged file offset) = ⊥
+RefusesBy a bytes other = (moment : ℕ) → delivered a bytes moment ≡ refused a other
 
 -- A text collides with that of a number, unless it is the same.
 abbrev pub unless_same : List ℕ → List ℕ → ℕ → Option ℕ
@@ -89,18 +78,12 @@ pub record MayBeKept (config : Config) (index : Index) (next : ℕ) (text : List
 
 -- The answer is one that may refuse a delivery.
 abbrev pub IsForDelivery : Answer → Type 0
-IsForDelivery answer.NoMemory = Unit {0}
-IsForDelivery (answer.Duplicate number) = Unit {0}
-IsForDelivery answer.NoFields = Unit {0}
-IsForDelivery (answer.TooLarge len) = Unit {0}
-IsForDelivery (answer.Full max) = Unit {0}
-IsForDelivery (answer.Collision number) = Unit {0}
-IsForDelivery answer.IsMirror = Unit {0}
 IsForDelivery (answer.Ok number id) = ⊥
 IsForDelivery (answer.NotLive number) = ⊥
 IsForDelivery (answer.NoText number) = ⊥
 IsForDelivery answer.DiskFault = ⊥
 IsForDelivery (answer.Damaged file offset) = ⊥
+IsForDelivery other = Unit {0}
 
 -- A text that is taken may be kept, and no entry has its blob id. One that is to be compared may
 -- come, and this is the number of its blob id. A refusal is for a delivery.

@@ -125,17 +125,7 @@ purged a number =
 -- The answer is that a command was carried out.
 abbrev pub is_accepted : Answer → Bool
 is_accepted (answer.Ok number id) = true
-is_accepted (answer.Duplicate number) = false
-is_accepted answer.NoFields = false
-is_accepted (answer.TooLarge len) = false
-is_accepted (answer.Full max) = false
-is_accepted (answer.Collision number) = false
-is_accepted (answer.NotLive number) = false
-is_accepted (answer.NoText number) = false
-is_accepted answer.IsMirror = false
-is_accepted answer.DiskFault = false
-is_accepted (answer.Damaged file offset) = false
-is_accepted answer.NoMemory = false
+is_accepted other = false
 
 -- What was done on another archive, if that was accepted. A refusal leaves this archive unchanged.
 abbrev pub unless_refused : Archive → Done → Done
@@ -173,24 +163,9 @@ applied a (Edit number bytes) moment = edited a number bytes.now moment
 -- damaged.
 abbrev pub Delivers : Archive → Answer → Archive → Done → Type 0
 Delivers old answer.NoMemory new wanted = new ≡ old
-Delivers old (answer.Ok number id) new wanted =
-    wanted ≡ record { archive = new; answer = answer.Ok number id }
-Delivers old (answer.Duplicate number) new wanted =
-    wanted ≡ record { archive = new; answer = answer.Duplicate number }
-Delivers old answer.NoFields new wanted = wanted ≡ record { archive = new; answer = answer.NoFields }
-Delivers old (answer.TooLarge len) new wanted =
-    wanted ≡ record { archive = new; answer = answer.TooLarge len }
-Delivers old (answer.Full max) new wanted =
-    wanted ≡ record { archive = new; answer = answer.Full max }
-Delivers old (answer.Collision number) new wanted =
-    wanted ≡ record { archive = new; answer = answer.Collision number }
-Delivers old (answer.NotLive number) new wanted =
-    wanted ≡ record { archive = new; answer = answer.NotLive number }
-Delivers old (answer.NoText number) new wanted =
-    wanted ≡ record { archive = new; answer = answer.NoText number }
-Delivers old answer.IsMirror new wanted = wanted ≡ record { archive = new; answer = answer.IsMirror }
 Delivers old answer.DiskFault new wanted = ⊥
 Delivers old (answer.Damaged file offset) new wanted = ⊥
+Delivers old other new wanted = wanted ≡ record { archive = new; answer = other }
 
 -- The words for a kind of file and a number: `root`, `map`, `epoch E` or `cache`.
 abbrev pub kind_words : FileKind → ℕ → List ℕ

@@ -101,17 +101,10 @@ pub data Ending : Type 0 where
 -- The way in which each answer ends a command.
 abbrev pub ending : Answer → Ending
 ending (answer.Ok number id) = Accepts
-ending (answer.Duplicate number) = Refuses
-ending answer.NoFields = Refuses
-ending (answer.TooLarge len) = Refuses
-ending (answer.Full max) = Refuses
-ending (answer.Collision number) = Refuses
-ending (answer.NotLive number) = Refuses
-ending (answer.NoText number) = Refuses
-ending answer.IsMirror = Refuses
 ending answer.DiskFault = Fails
 ending (answer.Damaged file at) = Breaks
 ending answer.NoMemory = Starves
+ending other = Refuses
 
 -- A command was answered by the rules, on the archive that was found.
 pub record Obeys (s : Standing) (wanted : Archive → Done) (reply : Answer) (t : Standing)
@@ -162,11 +155,8 @@ StaysReady was reply now = ReadyBy was now (ending reply)
 -- The disk's count of faults rises exactly when the answer is that it failed. So no fault of the
 -- disk is told as out of memory, and none is left out.
 abbrev pub CauseBy : ℕ → ℕ → Ending → Type 0
-CauseBy before now Accepts = now ≡ before
-CauseBy before now Refuses = now ≡ before
-CauseBy before now Starves = now ≡ before
 CauseBy before now Fails = Rose before now
-CauseBy before now Breaks = now ≡ before
+CauseBy before now other = now ≡ before
 
 -- The same by the answer.
 abbrev pub AnswerCause : ℕ → ℕ → Answer → Type 0
@@ -175,9 +165,7 @@ AnswerCause before now reply = CauseBy before now (ending reply)
 -- Why an archive wasn't opened: the count of faults rises exactly when the disk failed.
 abbrev pub OpeningWhy : ℕ → ℕ → OpenRefusal → Type 0
 OpeningWhy before now opening.DiskFault = Rose before now
-OpeningWhy before now opening.NoMemory = now ≡ before
-OpeningWhy before now opening.NoArchive = now ≡ before
-OpeningWhy before now (opening.Damaged file at) = now ≡ before
+OpeningWhy before now other = now ≡ before
 
 -- A refusal to open has a cause. An opening that succeeded met no fault.
 abbrev pub OpeningCause : {T : Type 0} → ℕ → ℕ → Result T OpenRefusal → Type 0
@@ -217,6 +205,4 @@ ReadsFor (Edit number bytes) before now = before ≤ now
 -- removed, purged or edited.
 abbrev pub text_known : Archive → Command → Bool
 text_known a (Deliver bytes) = form_known a (stored bytes.now)
-text_known a (Remove number) = true
-text_known a (Purge number) = true
-text_known a (Edit number bytes) = true
+text_known a other = true

@@ -98,3 +98,17 @@ IsUndamaged refusal.NoMemory = Unit {0}
 pub record ReadsOnce (before now : ℕ) : Type 0 where
   pub later : before ≤ now
   pub most : now ≤ before + 1
+
+-- A call reads at most so many times.
+pub record ReadsUpTo (most before now : ℕ) : Type 0 where
+  pub later : before ≤ now
+  pub bound : now ≤ before + most
+
+-- The reads of a call, and as many more as are still to follow, are at most so many.
+pub record ReadsAhead (most ahead before now : ℕ) : Type 0 where
+  pub later : before ≤ now
+  pub bound : now + ahead ≤ before + most
+
+-- Whichever archive a shelf holds, at most so many texts were read.
+abbrev pub ReadsIn : {S : Type 0} → (S → Archive → Type 0) → (Archive → ℕ) → S → ℕ → ℕ → Type 0
+ReadsIn holds most shelf before now = (a : Archive) → holds shelf a → ReadsUpTo (most a) before now

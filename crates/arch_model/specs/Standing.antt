@@ -71,15 +71,7 @@ abbrev pub IsUntouched : {K : Type 0} → Answer → K → K → Type 0
 IsUntouched (answer.Ok number id) old new = Unit {0}
 IsUntouched answer.DiskFault old new = Unit {0}
 IsUntouched (answer.Damaged file at) old new = Unit {0}
-IsUntouched (answer.Duplicate number) old new = new ≡ old
-IsUntouched answer.NoFields old new = new ≡ old
-IsUntouched (answer.TooLarge len) old new = new ≡ old
-IsUntouched (answer.Full max) old new = new ≡ old
-IsUntouched (answer.Collision number) old new = new ≡ old
-IsUntouched (answer.NotLive number) old new = new ≡ old
-IsUntouched (answer.NoText number) old new = new ≡ old
-IsUntouched answer.IsMirror old new = new ≡ old
-IsUntouched answer.NoMemory old new = new ≡ old
+IsUntouched other old new = new ≡ old
 
 -- Reopening found the archive, or the one in doubt.
 abbrev pub IsFound : Standing → Archive → Type 0

@@ -50,19 +50,7 @@ Makes config Exists old new = WhereTold (λ k. IsShutFile (k root_name).seen →
     × Told IsOnlySynced old new
 Makes config (Answered answer.DiskFault) old new = Unit {0}
 Makes config (Answered answer.NoMemory) old new = Told IsOnlySynced old new
-Makes config (Answered (answer.Ok number id)) old new = ⊥
-Makes config (Answered (answer.Duplicate number)) old new = ⊥
-Makes config (Answered answer.NoFields) old new = ⊥
-Makes config (Answered (answer.TooLarge len)) old new = ⊥
-Makes config (Answered (answer.Full max)) old new = ⊥
-Makes config (Answered (answer.Collision number)) old new = ⊥
-Makes config (Answered (answer.NotLive number)) old new = ⊥
-Makes config (Answered (answer.NoText number)) old new = ⊥
-Makes config (Answered answer.IsMirror) old new = ⊥
-Makes config (Answered (answer.Damaged file at)) old new = ⊥
-Makes config (Reindexed live) old new = ⊥
-Makes config (Checked entries live next) old new = ⊥
-Makes config (Unopened why) old new = ⊥
+Makes config other old new = ⊥
 
 -- How `init` ends if no archive is made.
 abbrev pub unmade : InitRefusal → Outcome
@@ -99,12 +87,7 @@ TakesTo way cache a wanted (Answered reply) new = (v : View)
     × DoneBy v cache (cache_by way cache) a wanted reply new
 TakesTo way cache a wanted (Unopened refusal.DiskFault) new = Unit {0}
 TakesTo way cache a wanted (Unopened refusal.NoMemory) new = ReadsWith cache a new
-TakesTo way cache a wanted (Unopened refusal.NoArchive) new = ⊥
-TakesTo way cache a wanted (Unopened (refusal.Damaged file at)) new = ⊥
-TakesTo way cache a wanted (Made name) new = ⊥
-TakesTo way cache a wanted Exists new = ⊥
-TakesTo way cache a wanted (Reindexed live) new = ⊥
-TakesTo way cache a wanted (Checked entries live next) new = ⊥
+TakesTo way cache a wanted other new = ⊥
 
 -- How `reindex` ends on the disk of an archive with a cache of these bytes.
 abbrev pub ReindexesTo : List ℕ → Archive → Outcome → Option Content → Type 0
@@ -112,25 +95,15 @@ ReindexesTo cache a (Reindexed live) new = (live ≡ length (live_entries a.entr
     × IsOwn cache a new
 ReindexesTo cache a (Unopened refusal.DiskFault) new = Unit {0}
 ReindexesTo cache a (Unopened refusal.NoMemory) new = ReadsWith cache a new
-ReindexesTo cache a (Unopened refusal.NoArchive) new = ⊥
-ReindexesTo cache a (Unopened (refusal.Damaged file at)) new = ⊥
-ReindexesTo cache a (Made name) new = ⊥
-ReindexesTo cache a Exists new = ⊥
-ReindexesTo cache a (Checked entries live next) new = ⊥
-ReindexesTo cache a (Answered reply) new = ⊥
+ReindexesTo cache a other new = ⊥
 
 -- How `check` ends on the disk of an archive with a cache of these bytes.
 abbrev pub ChecksTo : List ℕ → Archive → Outcome → Option Content → Type 0
-ChecksTo cache a (Reindexed live) new = ⊥
 ChecksTo cache a (Checked entries live next) new = (entries ≡ length a.entries)
     × (live ≡ length (live_entries a.entries)) × (next ≡ a.next) × IsOwn cache a new
 ChecksTo cache a (Unopened refusal.DiskFault) new = Unit {0}
 ChecksTo cache a (Unopened refusal.NoMemory) new = ReadsWith cache a new
-ChecksTo cache a (Unopened refusal.NoArchive) new = ⊥
-ChecksTo cache a (Unopened (refusal.Damaged file at)) new = ⊥
-ChecksTo cache a (Made name) new = ⊥
-ChecksTo cache a Exists new = ⊥
-ChecksTo cache a (Answered reply) new = ⊥
+ChecksTo cache a other new = ⊥
 
 -- How a run on opened files ends, whether or not they stand for an archive: with the refusal to
 -- open them, or with what was done with what was found.
@@ -145,30 +118,21 @@ IsOpenedAs files Exists = ⊥
 
 -- A command has one of these answers, or the archive wasn't opened.
 abbrev pub IsReply : (Answer → Type 0) → Outcome → Type 0
-IsReply may (Made name) = ⊥
-IsReply may Exists = ⊥
-IsReply may (Reindexed live) = ⊥
-IsReply may (Checked entries live next) = ⊥
 IsReply may (Answered reply) = may reply
 IsReply may (Unopened why) = Unit {0}
+IsReply may other = ⊥
 
 -- A reindexing counts what it built, or the archive wasn't opened.
 abbrev pub IsReindex : Outcome → Type 0
-IsReindex (Made name) = ⊥
-IsReindex Exists = ⊥
 IsReindex (Reindexed live) = Unit {0}
-IsReindex (Checked entries live next) = ⊥
-IsReindex (Answered reply) = ⊥
 IsReindex (Unopened why) = Unit {0}
+IsReindex other = ⊥
 
 -- A check counts, or the archive wasn't opened.
 abbrev pub IsCheck : Outcome → Type 0
-IsCheck (Made name) = ⊥
-IsCheck Exists = ⊥
-IsCheck (Reindexed live) = ⊥
 IsCheck (Checked entries live next) = Unit {0}
-IsCheck (Answered reply) = ⊥
 IsCheck (Unopened why) = Unit {0}
+IsCheck other = ⊥
 
 -- Each crash of the disk leaves files that stand for the archive of a standing, or for the one in
 -- doubt there, with a cache of these bytes or with none. A purge and an edit drop the cache.
@@ -199,28 +163,19 @@ pub record TakenOn (s : Standing) (old : Option Content) (wanted : Archive → D
 abbrev pub TakesOn : Standing → Option Content → (Archive → Done) → Outcome → Standing → Type 0
 TakesOn s old wanted (Answered reply) t = TakenOn s old wanted reply t
 TakesOn s old wanted (Unopened why) t = StaysUnopened s old why t
-TakesOn s old wanted (Made name) t = ⊥
-TakesOn s old wanted Exists t = ⊥
-TakesOn s old wanted (Reindexed live) t = ⊥
-TakesOn s old wanted (Checked entries live next) t = ⊥
+TakesOn s old wanted other t = ⊥
 
 -- How `reindex` leaves a disk that stood so.
 abbrev pub ReindexesOn : Standing → Option Content → Outcome → Standing → Type 0
 ReindexesOn s old (Reindexed live) t = Settles s t × IsReadAs t.archive old
 ReindexesOn s old (Unopened why) t = StaysUnopened s old why t
-ReindexesOn s old (Made name) t = ⊥
-ReindexesOn s old Exists t = ⊥
-ReindexesOn s old (Checked entries live next) t = ⊥
-ReindexesOn s old (Answered reply) t = ⊥
+ReindexesOn s old other t = ⊥
 
 -- How `check` leaves a disk that stood so.
 abbrev pub ChecksOn : Standing → Option Content → Outcome → Standing → Type 0
-ChecksOn s old (Reindexed live) t = ⊥
 ChecksOn s old (Checked entries live next) t = Settles s t × IsReadAs t.archive old
 ChecksOn s old (Unopened why) t = StaysUnopened s old why t
-ChecksOn s old (Made name) t = ⊥
-ChecksOn s old Exists t = ⊥
-ChecksOn s old (Answered reply) t = ⊥
+ChecksOn s old other t = ⊥
 
 -- The files stand for the archive that was found, with its cache, or for what a command makes of it,
 -- with the cache that this kind of command leaves.

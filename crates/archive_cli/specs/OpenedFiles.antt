@@ -52,8 +52,4 @@ LeavesFiles Exists old new = Unit {0}
 abbrev pub CommitsIfDone : Way → (View → View → Type 0) → Outcome → Option Content → Option Content
     → Type 0
 CommitsIfDone way keeps (Answered reply) old new = OnDone reply (CommitsOpened way keeps old new)
-CommitsIfDone way keeps (Unopened why) old new = Unit {0}
-CommitsIfDone way keeps (Reindexed live) old new = Unit {0}
-CommitsIfDone way keeps (Checked entries live next) old new = Unit {0}
-CommitsIfDone way keeps (Made name) old new = Unit {0}
-CommitsIfDone way keeps Exists old new = Unit {0}
+CommitsIfDone way keeps other old new = Unit {0}

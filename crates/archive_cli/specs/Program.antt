@@ -393,18 +393,13 @@ AsksForCommand words = AsksForMessage words ⊎ (AsksForRemoval words ⊎ AsksFo
 
 -- A job on the archive that is there: a command, a reindexing or a check.
 abbrev pub IsOnArchive : Job → Type 0
-IsOnArchive Help = ⊥
-IsOnArchive Version = ⊥
-IsOnArchive (Replay config) = ⊥
-IsOnArchive (Load count seed) = ⊥
-IsOnArchive (Init config) = ⊥
 IsOnArchive Deliver = Unit {0}
 IsOnArchive (Remove number) = Unit {0}
 IsOnArchive (Purge number) = Unit {0}
 IsOnArchive (Edit number) = Unit {0}
 IsOnArchive Reindex = Unit {0}
 IsOnArchive Check = Unit {0}
-IsOnArchive (Serve turns port) = ⊥
+IsOnArchive other = ⊥
 
 -- The words ask for such a job.
 abbrev pub AsksOfArchive : List (List ℕ) → Type 0
@@ -495,11 +490,6 @@ module _ {D : Type 0} (content : D → Option Content) (moment : D → ℕ)
   -- What a job does to the disk, and what a crash leaves at each moment of it. A reindexing and a
   -- check change no archive. Nothing is said of `serve`, which has a clause of its own.
   abbrev pub JobLeaves : Option Job → D → D → Option (List ℕ) → Option Moments → Type 0
-  JobLeaves None old new left coming = new ≡ old
-  JobLeaves (Some Help) old new left coming = new ≡ old
-  JobLeaves (Some Version) old new left coming = new ≡ old
-  JobLeaves (Some (Replay config)) old new left coming = new ≡ old
-  JobLeaves (Some (Load count seed)) old new left coming = new ≡ old
   JobLeaves (Some (Init config)) old new left coming =
       LeavesOnly moment left_since old new (InitLeaves config coming (content old))
   JobLeaves (Some Deliver) old new left coming =
@@ -513,6 +503,7 @@ module _ {D : Type 0} (content : D → Option Content) (moment : D → ℕ)
   JobLeaves (Some Reindex) old new left coming = SyncsAtMost content moment left_since old new
   JobLeaves (Some Check) old new left coming = SyncsAtMost content moment left_since old new
   JobLeaves (Some (Serve turns port)) old new left coming = Unit {0}
+  JobLeaves other old new left coming = new ≡ old
 
   -- The words ask for a job, which does this to the disk.
   abbrev pub WordsLeave : List (List ℕ) → D → D → Option (List ℕ) → Option Moments → Type 0

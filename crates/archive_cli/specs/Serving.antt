@@ -40,10 +40,8 @@ end_status end.NoMemory = exit.Memory
 
 -- What is printed then: nothing, or that memory ran out.
 abbrev pub end_line : ServeEnd → List ℕ
-end_line end.Stopped = []
-end_line (end.Spent n) = []
-end_line end.HostFault = []
 end_line end.NoMemory = memory_word
+end_line other = []
 
 -- How a run of `serve` ended: the archive wasn't opened, and no event was taken; or it was served.
 pub data ServeRun : Type 0 where

@@ -36,30 +36,22 @@ IsSetting Mirror = Unit {0}
 -- The limit that a setting gives, if it is of that kind.
 abbrev pub limit_of : Setting → List ℕ
 limit_of (Limit n) = n ∷ []
-limit_of (Slice n) = []
-limit_of (Max n) = []
-limit_of Mirror = []
+limit_of other = []
 
 -- The slice that a setting gives, if it is of that kind.
 abbrev pub slice_of : Setting → List ℕ
-slice_of (Limit n) = []
 slice_of (Slice n) = n ∷ []
-slice_of (Max n) = []
-slice_of Mirror = []
+slice_of other = []
 
 -- The greatest number that a setting gives, if it is of that kind.
 abbrev pub max_of : Setting → List ℕ
-max_of (Limit n) = []
-max_of (Slice n) = []
 max_of (Max n) = n ∷ []
-max_of Mirror = []
+max_of other = []
 
 -- A mark that the archive is a mirror, if the setting says so.
 abbrev pub mirror_of : Setting → List Bool
-mirror_of (Limit n) = []
-mirror_of (Slice n) = []
-mirror_of (Max n) = []
 mirror_of Mirror = true ∷ []
+mirror_of other = []
 
 -- All limits that settings give.
 abbrev pub limits : List Setting → List ℕ
@@ -172,9 +164,7 @@ Gives (serving.Turns n ∷ []) turns port = (turns ≡ n) × (port ≡ first_por
 Gives (serving.Port m ∷ []) turns port = (turns ≡ most_turns) × (port ≡ m)
 Gives (serving.Turns n ∷ serving.Port m ∷ []) turns port = (turns ≡ n) × (port ≡ m)
 Gives (serving.Port m ∷ serving.Turns n ∷ []) turns port = (turns ≡ n) × (port ≡ m)
-Gives (serving.Turns n ∷ serving.Turns m ∷ []) turns port = ⊥
-Gives (serving.Port n ∷ serving.Port m ∷ []) turns port = ⊥
-Gives (a ∷ b ∷ c ∷ more) turns port = ⊥
+Gives other turns port = ⊥
 
 -- The word `serve`, and then options.
 pub record IsServe (words : List (List ℕ)) (turns port : ℕ) : Type 0 where

@@ -18,60 +18,28 @@ use Rattle.archive_core.proofs.WithoutText.{edited-formless, edited-large, edite
 
 -- An answer of the comparison.
 pub unformed-unmoved : (reply : Answer) (P : Type 0) → IsUnformed reply → IfUnread reply P → IfUnreadEdit reply P
-unformed-unmoved (answer.Ok n id) P one is = absurd one
 unformed-unmoved answer.NoMemory P one is = is
 unformed-unmoved answer.DiskFault P one is = is
-unformed-unmoved (answer.Duplicate n) P one is = absurd one
 unformed-unmoved answer.NoFields P one is = is
 unformed-unmoved (answer.TooLarge len) P one is = is
-unformed-unmoved (answer.Full max) P one is = absurd one
-unformed-unmoved (answer.Collision n) P one is = absurd one
-unformed-unmoved (answer.NotLive n) P one is = absurd one
-unformed-unmoved (answer.NoText n) P one is = absurd one
-unformed-unmoved answer.IsMirror P one is = absurd one
 unformed-unmoved (answer.Damaged file at) P one is = is
+unformed-unmoved other P one is = absurd one
 
 pub unformed-answers : (number : ℕ) (reply : Answer) → IsUnformed reply → AnswersEdit number reply
-unformed-answers number (answer.Ok n id) one = absurd one
 unformed-answers number answer.NoMemory one = tt
 unformed-answers number answer.DiskFault one = tt
-unformed-answers number (answer.Duplicate n) one = absurd one
 unformed-answers number answer.NoFields one = tt
 unformed-answers number (answer.TooLarge len) one = tt
-unformed-answers number (answer.Full max) one = absurd one
-unformed-answers number (answer.Collision n) one = absurd one
-unformed-answers number (answer.NotLive n) one = absurd one
-unformed-answers number (answer.NoText n) one = absurd one
-unformed-answers number answer.IsMirror one = absurd one
 unformed-answers number (answer.Damaged file at) one = tt
+unformed-answers number other one = absurd one
 
 pub unformed-tells : (reply : Answer) (text : KeptText) → IsUnformed reply → TellsText reply text
 unformed-tells (answer.Ok n id) text one = absurd one
-unformed-tells answer.NoMemory text one = tt
-unformed-tells answer.DiskFault text one = tt
-unformed-tells (answer.Duplicate n) text one = tt
-unformed-tells answer.NoFields text one = tt
-unformed-tells (answer.TooLarge len) text one = tt
-unformed-tells (answer.Full max) text one = tt
-unformed-tells (answer.Collision n) text one = tt
-unformed-tells (answer.NotLive n) text one = tt
-unformed-tells (answer.NoText n) text one = tt
-unformed-tells answer.IsMirror text one = tt
-unformed-tells (answer.Damaged file at) text one = tt
+unformed-tells other text one = tt
 
 pub unformed-never : (reply : Answer) (P : Type 0) → IsUnformed reply → OnDone reply P
 unformed-never (answer.Ok n id) P one = absurd one
-unformed-never answer.NoMemory P one = tt
-unformed-never answer.DiskFault P one = tt
-unformed-never (answer.Duplicate n) P one = tt
-unformed-never answer.NoFields P one = tt
-unformed-never (answer.TooLarge len) P one = tt
-unformed-never (answer.Full max) P one = tt
-unformed-never (answer.Collision n) P one = tt
-unformed-never (answer.NotLive n) P one = tt
-unformed-never (answer.NoText n) P one = tt
-unformed-never answer.IsMirror P one = tt
-unformed-never (answer.Damaged file at) P one = tt
+unformed-never other P one = tt
 
 -- The sizes of a disk that was only read.
 pub sizes-read : (v : View) (old new : Option Content) → Told Unchanged old new → WhereTold (HasSizes v) old → WhereTold (HasSizes v) new
@@ -87,18 +55,11 @@ cause-compared reply before now cause = record {
 
 -- The bytes have no form, or the text wasn't read.
 pub unformed-done : (v : View) (cache : List ℕ) (a : Archive) (n : ℕ) (bytes : List ℕ) (moment : ℕ) (text : List ℕ) (k : Option Content) (reply : Answer) → IsStoreWith v cache a k → a.config.mirror ≡ false → text_of (live a.entries) n ≡ Some text → ComparesForm a n (stored bytes) (Err reply) → DoneBy v cache [] a (edited a n bytes moment) reply k
-unformed-done v cache a n bytes moment text k (answer.Ok m id) store writable shown compared = absurd compared
 unformed-done v cache a n bytes moment text k answer.NoMemory store writable shown compared = store
 unformed-done v cache a n bytes moment text k answer.DiskFault store writable shown compared = tt
-unformed-done v cache a n bytes moment text k (answer.Duplicate m) store writable shown compared = absurd compared
 unformed-done v cache a n bytes moment text k answer.NoFields store writable shown compared = left-done v cache [] a (edited a n bytes moment) k answer.NoFields store refl refl (edited-formless a n bytes moment text writable shown compared)
 unformed-done v cache a n bytes moment text k (answer.TooLarge len) store writable shown compared = left-done v cache [] a (edited a n bytes moment) k (answer.TooLarge len) store refl refl (edited-large a n bytes moment len text writable shown compared)
-unformed-done v cache a n bytes moment text k (answer.Full max) store writable shown compared = absurd compared
-unformed-done v cache a n bytes moment text k (answer.Collision m) store writable shown compared = absurd compared
-unformed-done v cache a n bytes moment text k (answer.NotLive m) store writable shown compared = absurd compared
-unformed-done v cache a n bytes moment text k (answer.NoText m) store writable shown compared = absurd compared
-unformed-done v cache a n bytes moment text k answer.IsMirror store writable shown compared = absurd compared
-unformed-done v cache a n bytes moment text k (answer.Damaged file at) store writable shown compared = absurd compared
+unformed-done v cache a n bytes moment text k other store writable shown compared = absurd compared
 
 -- The form is the text.
 pub same-done : (v : View) (cache : List ℕ) (a : Archive) (n : ℕ) (bytes : List ℕ) (moment : ℕ) (text : List ℕ) (k : Option Content) → IsStoreWith v cache a k → a.config.mirror ≡ false → text_of (live a.entries) n ≡ Some text → true ≡ is_form text (stored bytes) → DoneBy v cache [] a (edited a n bytes moment) (answer.Duplicate n) k

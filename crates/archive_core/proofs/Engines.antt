@@ -103,17 +103,7 @@ read_in one (Some k) b own cache may fit reads each = by (each (as_read k) (λ n
 -- What follows where no text is read follows so for each command.
 unread-edit : (reply : Answer) (P Q : Type 0) → (IfUnread reply P → IfUnread reply Q) → IfUnreadEdit reply P → IfUnreadEdit reply Q
 unread-edit (answer.Duplicate number) P Q more is = tt
-unread-edit (answer.Ok number id) P Q more is = more is
-unread-edit answer.NoFields P Q more is = more is
-unread-edit (answer.TooLarge len) P Q more is = more is
-unread-edit (answer.Full max) P Q more is = more is
-unread-edit (answer.Collision number) P Q more is = more is
-unread-edit (answer.NotLive number) P Q more is = more is
-unread-edit (answer.NoText number) P Q more is = more is
-unread-edit answer.IsMirror P Q more is = more is
-unread-edit answer.DiskFault P Q more is = more is
-unread-edit (answer.Damaged file at) P Q more is = more is
-unread-edit answer.NoMemory P Q more is = more is
+unread-edit other P Q more is = more is
 
 unread-for : (command : Command) (reply : Answer) (P Q : Type 0) → (IfUnread reply P → IfUnread reply Q) → IfUnreadFor command reply P → IfUnreadFor command reply Q
 unread-for (Deliver bytes) reply P Q more is = more is
@@ -189,17 +179,7 @@ quiet-other (Err reading.NoMemory) quiet = tt
 
 pub answer-cause : (before now : ℕ) (reply : Answer) → RoseIf (reply ≡ answer.DiskFault) before now → AnswerCause before now reply
 answer-cause before now answer.DiskFault rose = rose.failed refl
-answer-cause before now answer.NoMemory rose = rose.kept (λ fault. absurd (cc fault))
-answer-cause before now (answer.Ok number id) rose = rose.kept (λ fault. absurd (cc fault))
-answer-cause before now (answer.Duplicate number) rose = rose.kept (λ fault. absurd (cc fault))
-answer-cause before now answer.NoFields rose = rose.kept (λ fault. absurd (cc fault))
-answer-cause before now (answer.TooLarge len) rose = rose.kept (λ fault. absurd (cc fault))
-answer-cause before now (answer.Full max) rose = rose.kept (λ fault. absurd (cc fault))
-answer-cause before now (answer.Collision number) rose = rose.kept (λ fault. absurd (cc fault))
-answer-cause before now (answer.NotLive number) rose = rose.kept (λ fault. absurd (cc fault))
-answer-cause before now (answer.NoText number) rose = rose.kept (λ fault. absurd (cc fault))
-answer-cause before now answer.IsMirror rose = rose.kept (λ fault. absurd (cc fault))
-answer-cause before now (answer.Damaged file at) rose = rose.kept (λ fault. absurd (cc fault))
+answer-cause before now other rose = rose.kept (λ fault. absurd (cc fault))
 
 -- What a command leaves of a ready keeper is what one leaves of any that was reopened first.
 pub ready-after : (was : Bool) (now : Bool) (e : Ending) → ReadyBy true now e → ReadyBy was now e
@@ -450,33 +430,20 @@ module _ {D : Type 0} (content : D → Option Content) (moment : D → ℕ) (lef
 
     pub refused-at : (reply : Answer) → e.stale ≡ false → new.stale ≡ (needs_opening reply || not ok) → OnRefusal reply (ok ≡ true) → OnRefusal reply (new.view ≡ e.view) → (ok ≡ true → ViewsAfter command gone reply text arrived e.views new.views)
         → OnRefusal reply (UnlessFault reply (OnlyLooks content moment left_since e.disk new.disk)) → IfRefused reply (ReadsOn content moment left_since e new)
-    refused-at answer.NoMemory ready stale followed view rows looks = only-reads view (rows followed) (stale ∙ ap not followed ∙ sym ready) looks
-    refused-at (answer.Duplicate n) ready stale followed view rows looks = only-reads view (rows followed) (stale ∙ ap not followed ∙ sym ready) looks
-    refused-at answer.NoFields ready stale followed view rows looks = only-reads view (rows followed) (stale ∙ ap not followed ∙ sym ready) looks
-    refused-at (answer.TooLarge len) ready stale followed view rows looks = only-reads view (rows followed) (stale ∙ ap not followed ∙ sym ready) looks
-    refused-at (answer.Full max) ready stale followed view rows looks = only-reads view (rows followed) (stale ∙ ap not followed ∙ sym ready) looks
-    refused-at (answer.Collision n) ready stale followed view rows looks = only-reads view (rows followed) (stale ∙ ap not followed ∙ sym ready) looks
-    refused-at (answer.NotLive n) ready stale followed view rows looks = only-reads view (rows followed) (stale ∙ ap not followed ∙ sym ready) looks
-    refused-at (answer.NoText n) ready stale followed view rows looks = only-reads view (rows followed) (stale ∙ ap not followed ∙ sym ready) looks
-    refused-at answer.IsMirror ready stale followed view rows looks = only-reads view (rows followed) (stale ∙ ap not followed ∙ sym ready) looks
     refused-at (answer.Ok n id) ready stale followed view rows looks = tt
     refused-at answer.DiskFault ready stale followed view rows looks = tt
     refused-at (answer.Damaged file at) ready stale followed view rows looks = tt
+    refused-at other ready stale followed view rows looks = only-reads view (rows followed) (stale ∙ ap not followed ∙ sym ready) looks
 
     unmoved : (reply : Answer) → e.stale ≡ false → new.stale ≡ (needs_opening reply || not ok) → OnRefusal reply (ok ≡ true) → OnRefusal reply (new.view ≡ e.view) → (ok ≡ true → ViewsAfter command gone reply text arrived e.views new.views) → IfUnread reply (new.disk ≡ e.disk)
         → IfUnread reply (new ≡ e)
-    unmoved answer.NoMemory ready stale followed view rows disk = tt
     unmoved (answer.Duplicate n) ready stale followed view rows disk = same-owning disk view (rows followed) (stale ∙ ap not followed ∙ sym ready)
     unmoved answer.NoFields ready stale followed view rows disk = same-owning disk view (rows followed) (stale ∙ ap not followed ∙ sym ready)
     unmoved (answer.TooLarge len) ready stale followed view rows disk = same-owning disk view (rows followed) (stale ∙ ap not followed ∙ sym ready)
-    unmoved (answer.Full max) ready stale followed view rows disk = tt
-    unmoved (answer.Collision n) ready stale followed view rows disk = tt
     unmoved (answer.NotLive n) ready stale followed view rows disk = same-owning disk view (rows followed) (stale ∙ ap not followed ∙ sym ready)
     unmoved (answer.NoText n) ready stale followed view rows disk = same-owning disk view (rows followed) (stale ∙ ap not followed ∙ sym ready)
     unmoved answer.IsMirror ready stale followed view rows disk = same-owning disk view (rows followed) (stale ∙ ap not followed ∙ sym ready)
-    unmoved (answer.Ok n id) ready stale followed view rows disk = tt
-    unmoved answer.DiskFault ready stale followed view rows disk = tt
-    unmoved (answer.Damaged file at) ready stale followed view rows disk = tt
+    unmoved other ready stale followed view rows disk = tt
 
     pub unmoved-at : (reply : Answer) → e.stale ≡ false → new.stale ≡ (needs_opening reply || not ok) → OnRefusal reply (ok ≡ true) → OnRefusal reply (new.view ≡ e.view) → (ok ≡ true → ViewsAfter command gone reply text arrived e.views new.views)
         → IfUnreadFor command reply (new.disk ≡ e.disk) → IfUnreadFor command reply (new ≡ e)

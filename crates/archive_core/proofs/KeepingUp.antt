@@ -80,17 +80,7 @@ purged_keeps false a number never = found_keeps a number (text_of (messages a.en
 -- An answer that a command was carried out has a number and an id.
 never_accepted : (reply : Answer) → ((n : ℕ) (id : Id20) → reply ≡ answer.Ok n id → ⊥) → is_accepted reply ≡ false
 never_accepted (answer.Ok n id) never = absurd (never n id refl)
-never_accepted (answer.Duplicate n) never = refl
-never_accepted answer.NoFields never = refl
-never_accepted (answer.TooLarge len) never = refl
-never_accepted (answer.Full max) never = refl
-never_accepted (answer.Collision n) never = refl
-never_accepted (answer.NotLive n) never = refl
-never_accepted (answer.NoText n) never = refl
-never_accepted answer.IsMirror never = refl
-never_accepted answer.DiskFault never = refl
-never_accepted (answer.Damaged file at) never = refl
-never_accepted answer.NoMemory never = refl
+never_accepted other never = refl
 
 unless_keeps : (a : Archive) (d : Done) (t : Bool) → is_accepted d.answer ≡ t → KeepsUnlessOk a (if t then d else refused a d.answer)
 unless_keeps a d true accepted never = absurd (let none : is_accepted d.answer ≡ false = never_accepted d.answer never in let wrong : true ≡ false = sym accepted ∙ none in cc)
@@ -257,11 +247,4 @@ stays-ready stale ok answer.NoMemory is refused = λ was. ap not (is ∙ ap not 
 stays-ready stale ok answer.DiskFault is refused = ap not is
 stays-ready stale ok (answer.Ok number id) is refused = tt
 stays-ready stale ok (answer.Damaged file at) is refused = ap not is
-stays-ready stale ok (answer.Duplicate number) is refused = ap not (is ∙ ap not refused)
-stays-ready stale ok answer.NoFields is refused = ap not (is ∙ ap not refused)
-stays-ready stale ok (answer.TooLarge len) is refused = ap not (is ∙ ap not refused)
-stays-ready stale ok (answer.Full max) is refused = ap not (is ∙ ap not refused)
-stays-ready stale ok (answer.Collision number) is refused = ap not (is ∙ ap not refused)
-stays-ready stale ok (answer.NotLive number) is refused = ap not (is ∙ ap not refused)
-stays-ready stale ok (answer.NoText number) is refused = ap not (is ∙ ap not refused)
-stays-ready stale ok answer.IsMirror is refused = ap not (is ∙ ap not refused)
+stays-ready stale ok other is refused = ap not (is ∙ ap not refused)

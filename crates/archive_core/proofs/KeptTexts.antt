@@ -71,18 +71,8 @@ error-done why reply P is = subst (λ (r : Answer). OnDone r P) (sym is) (error-
 
 -- An answer to a delivery is one to an edit.
 pub delivery-edit : (number : ℕ) (reply : Answer) → AnswersDelivery reply → AnswersEdit number reply
-delivery-edit number (answer.Ok n id) is = is
-delivery-edit number (answer.Duplicate n) is = is
-delivery-edit number answer.NoFields is = is
-delivery-edit number (answer.TooLarge len) is = is
-delivery-edit number (answer.Full max) is = is
-delivery-edit number (answer.Collision n) is = is
 delivery-edit number (answer.NotLive n) is = absurd is
-delivery-edit number (answer.NoText n) is = is
-delivery-edit number answer.IsMirror is = is
-delivery-edit number answer.DiskFault is = is
-delivery-edit number (answer.Damaged file at) is = is
-delivery-edit number answer.NoMemory is = is
+delivery-edit number other is = is
 
 -- An answer to a delivery is one to a command that delivers.
 pub for-delivery : (m : Command) (reply : Answer) → is_delivery m ≡ true → AnswersDelivery reply → IsForCommand m reply

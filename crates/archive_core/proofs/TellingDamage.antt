@@ -26,33 +26,13 @@ use Rattle.archive_core.proofs.WithoutText.{is_damage}
 
 -- Damage that is told holds of less.
 damage-then : (reply : Answer) (P Q : FileName → ℕ → Type 0) → ((file : FileName) (at : ℕ) → P file at → Q file at) → OnDamage reply P → OnDamage reply Q
-damage-then (answer.Ok number id) P Q weaken is = tt
-damage-then (answer.Duplicate number) P Q weaken is = tt
-damage-then answer.NoFields P Q weaken is = tt
-damage-then (answer.TooLarge len) P Q weaken is = tt
-damage-then (answer.Full max) P Q weaken is = tt
-damage-then (answer.Collision number) P Q weaken is = tt
-damage-then (answer.NotLive number) P Q weaken is = tt
-damage-then (answer.NoText number) P Q weaken is = tt
-damage-then answer.IsMirror P Q weaken is = tt
-damage-then answer.DiskFault P Q weaken is = tt
-damage-then answer.NoMemory P Q weaken is = tt
 damage-then (answer.Damaged file at) P Q weaken is = weaken file at is
+damage-then other P Q weaken is = tt
 
 -- An answer that isn't damage.
 pub none-damaged : (reply : Answer) (P : FileName → ℕ → Type 0) → is_damage reply ≡ false → OnDamage reply P
-none-damaged (answer.Ok number id) P none = tt
-none-damaged (answer.Duplicate number) P none = tt
-none-damaged answer.NoFields P none = tt
-none-damaged (answer.TooLarge len) P none = tt
-none-damaged (answer.Full max) P none = tt
-none-damaged (answer.Collision number) P none = tt
-none-damaged (answer.NotLive number) P none = tt
-none-damaged (answer.NoText number) P none = tt
-none-damaged answer.IsMirror P none = tt
-none-damaged answer.DiskFault P none = tt
-none-damaged answer.NoMemory P none = tt
 none-damaged (answer.Damaged file at) P none = absurd (cc)
+none-damaged other P none = tt
 
 pub entry-damage : (v : View) (k : Option Content) (reply : Answer) → TellsEntry v k reply → TellsDamage v k reply
 entry-damage v k reply is = damage-then reply (λ (f : FileName) (at : ℕ). IsDamagedEntry v f at k) _ (λ f at entry. inl (inl entry)) is
@@ -136,15 +116,5 @@ compared-damage v k (Refuse reply) is = last_damage v k reply is
 
 -- A refusal that comes late.
 pub late-damage : (v : View) (k : Option Content) (reply : Answer) → TellsEntry v k reply → TellsDamage v k (late_answer reply)
-late-damage v k (answer.Ok number id) is = tt
-late-damage v k (answer.Duplicate number) is = tt
-late-damage v k answer.NoFields is = tt
-late-damage v k (answer.TooLarge len) is = tt
-late-damage v k (answer.Full max) is = tt
-late-damage v k (answer.Collision number) is = tt
-late-damage v k (answer.NotLive number) is = tt
-late-damage v k (answer.NoText number) is = tt
-late-damage v k answer.IsMirror is = tt
-late-damage v k answer.DiskFault is = tt
-late-damage v k answer.NoMemory is = tt
 late-damage v k (answer.Damaged file at) is = inl (inl is)
+late-damage v k other is = tt

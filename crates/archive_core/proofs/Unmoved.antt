@@ -18,63 +18,42 @@ use Rattle.archive_core.specs.Commands.{IfUnread, IfUnreadEdit, IfRefusedUnread,
 
 -- What holds at any rate.
 pub if-unread : (reply : Answer) (P : Type 0) → P → IfUnread reply P
-if-unread (answer.Ok number id) P is = tt
 if-unread (answer.Duplicate number) P is = is
 if-unread answer.NoFields P is = is
 if-unread (answer.TooLarge len) P is = is
-if-unread (answer.Full max) P is = tt
-if-unread (answer.Collision number) P is = tt
 if-unread (answer.NotLive number) P is = is
 if-unread (answer.NoText number) P is = is
 if-unread answer.IsMirror P is = is
-if-unread answer.DiskFault P is = tt
-if-unread (answer.Damaged file at) P is = tt
-if-unread answer.NoMemory P is = tt
+if-unread other P is = tt
 
 -- An answer before which a text is read.
 pub if-read : (reply : Answer) (P : Type 0) → IfUnread reply ⊥ → IfUnread reply P
-if-read (answer.Ok number id) P never = tt
 if-read (answer.Duplicate number) P never = absurd never
 if-read answer.NoFields P never = absurd never
 if-read (answer.TooLarge len) P never = absurd never
-if-read (answer.Full max) P never = tt
-if-read (answer.Collision number) P never = tt
 if-read (answer.NotLive number) P never = absurd never
 if-read (answer.NoText number) P never = absurd never
 if-read answer.IsMirror P never = absurd never
-if-read answer.DiskFault P never = tt
-if-read (answer.Damaged file at) P never = tt
-if-read answer.NoMemory P never = tt
+if-read other P never = tt
 
 -- The same of an edit.
 pub if-read-edit : (reply : Answer) (P : Type 0) → IfUnreadEdit reply ⊥ → IfUnreadEdit reply P
-if-read-edit (answer.Ok n id) P never = tt
-if-read-edit answer.NoMemory P never = tt
-if-read-edit answer.DiskFault P never = tt
-if-read-edit (answer.Duplicate n) P never = tt
 if-read-edit answer.NoFields P never = absurd never
 if-read-edit (answer.TooLarge len) P never = absurd never
-if-read-edit (answer.Full max) P never = tt
-if-read-edit (answer.Collision n) P never = tt
 if-read-edit (answer.NotLive n) P never = absurd never
 if-read-edit (answer.NoText n) P never = absurd never
 if-read-edit answer.IsMirror P never = absurd never
-if-read-edit (answer.Damaged file at) P never = tt
+if-read-edit other P never = tt
 
 -- A text that wasn't read.
 pub if-none-read : (reply : Answer) (P : Type 0) → IsUnread reply → IfUnread reply P
-if-none-read (answer.Ok number id) P never = tt
 if-none-read (answer.Duplicate number) P never = absurd never
 if-none-read answer.NoFields P never = absurd never
 if-none-read (answer.TooLarge len) P never = absurd never
-if-none-read (answer.Full max) P never = tt
-if-none-read (answer.Collision number) P never = tt
 if-none-read (answer.NotLive number) P never = absurd never
 if-none-read (answer.NoText number) P never = absurd never
 if-none-read answer.IsMirror P never = absurd never
-if-none-read answer.DiskFault P never = tt
-if-none-read (answer.Damaged file at) P never = tt
-if-none-read answer.NoMemory P never = tt
+if-none-read other P never = tt
 
 -- A verdict after the texts were compared.
 pub if-compared : (v : Verdict) (P : Type 0) → RefusesLast v → IfRefusedUnread v P

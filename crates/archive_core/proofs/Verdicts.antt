@@ -33,33 +33,19 @@ use Rattle.archive_core.proofs.Indexes.{are-of, new-to}
 
 -- A refusal of a delivery is one of the answers that may come.
 pub refuses-by : (v : View) (index : Index) (reply : Answer) → IsForDelivery reply → TakesWhatMay v index (Refuse reply)
-refuses-by v index answer.NoMemory is = is
-refuses-by v index (answer.Duplicate number) is = is
-refuses-by v index answer.NoFields is = is
-refuses-by v index (answer.TooLarge len) is = is
-refuses-by v index (answer.Full max) is = is
-refuses-by v index (answer.Collision number) is = is
-refuses-by v index answer.IsMirror is = is
 refuses-by v index (answer.Ok number id) is = absurd is
 refuses-by v index (answer.NotLive number) is = absurd is
 refuses-by v index (answer.NoText number) is = absurd is
 refuses-by v index answer.DiskFault is = tt
 refuses-by v index (answer.Damaged file at) is = tt
+refuses-by v index other is = is
 
 -- A text that wasn't read.
 pub unread-by : (v : View) (index : Index) (reply : Answer) → IsUnread reply → TakesWhatMay v index (Refuse reply)
 unread-by v index answer.NoMemory is = is
 unread-by v index answer.DiskFault is = is
 unread-by v index (answer.Damaged file at) is = is
-unread-by v index (answer.Duplicate number) is = absurd is
-unread-by v index answer.NoFields is = absurd is
-unread-by v index (answer.TooLarge len) is = absurd is
-unread-by v index (answer.Full max) is = absurd is
-unread-by v index (answer.Collision number) is = absurd is
-unread-by v index answer.IsMirror is = absurd is
-unread-by v index (answer.Ok number id) is = absurd is
-unread-by v index (answer.NotLive number) is = absurd is
-unread-by v index (answer.NoText number) is = absurd is
+unread-by v index other is = absurd is
 
 pub taken-by : (v : View) (config : Config) (index : Index) (next : ℕ) (text : List ℕ) (ids : TextIds) (number : ℕ) → config ≡ v.root.config → next ≡ v.root.next → MayBeKept config index next text ids number → TakesWhatMay v index (Take text ids number)
 taken-by v config index next text ids number config_is next_is may =
@@ -88,35 +74,14 @@ may-go v index text ids number indexed may =
 
 -- What is judged is judged where a read may fail, too.
 pub judges-read : (a : Archive) (bytes : List ℕ) (verdict : Verdict) → Judges a bytes verdict → JudgesRead a bytes verdict
-judges-read a bytes (Take text ids number) is = is
-judges-read a bytes (Compare text ids number) is = is
-judges-read a bytes (Refuse answer.NoMemory) is = is
-judges-read a bytes (Refuse (answer.Duplicate number)) is = is
-judges-read a bytes (Refuse answer.NoFields) is = is
-judges-read a bytes (Refuse (answer.TooLarge len)) is = is
-judges-read a bytes (Refuse (answer.Full max)) is = is
-judges-read a bytes (Refuse (answer.Collision number)) is = is
-judges-read a bytes (Refuse answer.IsMirror) is = is
-judges-read a bytes (Refuse (answer.Ok number id)) is = is
-judges-read a bytes (Refuse (answer.NotLive number)) is = is
-judges-read a bytes (Refuse (answer.NoText number)) is = is
 judges-read a bytes (Refuse answer.DiskFault) is = tt
-judges-read a bytes (Refuse (answer.Damaged file at)) is = is
+judges-read a bytes other is = is
 
 -- A text that wasn't read decides nothing.
 pub unread-judges : (a b : Archive) (bytes : List ℕ) (number : ℕ) (reply : Answer) → ReadsMessage a number (Err reply) → JudgesRead b bytes (Refuse reply)
 unread-judges a b bytes number answer.NoMemory is = tt
 unread-judges a b bytes number answer.DiskFault is = tt
-unread-judges a b bytes number (answer.Duplicate n) is = absurd is
-unread-judges a b bytes number answer.NoFields is = absurd is
-unread-judges a b bytes number (answer.TooLarge len) is = absurd is
-unread-judges a b bytes number (answer.Full max) is = absurd is
-unread-judges a b bytes number (answer.Collision n) is = absurd is
-unread-judges a b bytes number answer.IsMirror is = absurd is
-unread-judges a b bytes number (answer.Ok n id) is = absurd is
-unread-judges a b bytes number (answer.NotLive n) is = absurd is
-unread-judges a b bytes number (answer.NoText n) is = absurd is
-unread-judges a b bytes number (answer.Damaged file at) is = absurd is
+unread-judges a b bytes number other is = absurd is
 
 -- The text that was read is that of the blob ids of its message, and an error isn't damage.
 pub reads-message : (v : View) (a : Archive) (number index : ℕ) (text : List ℕ) → Keeps v a → IsMessageAt v.entries number index → GivesTextOf a index [] text (Ok tt) → ReadsMessage a number (Ok text)

@@ -225,16 +225,9 @@ is_damage other = false
 pub left-done : (v : View) (cache left : List ℕ) (a : Archive) (d : Done) (k : Option Content) (reply : Answer) → IsStoreWith v cache a k → is_accepted reply ≡ false → is_damage reply ≡ false → d ≡ refused a reply → DoneBy v cache left a d reply k
 left-done v cache left a d k answer.NoMemory store never fine is = store
 left-done v cache left a d k answer.DiskFault store never fine is = tt
-left-done v cache left a d k (answer.Duplicate n) store never fine is = record { answer_is = ap (λ (x : Done). x.answer) is; store = subst (λ (b : Archive). IsStoreWith v cache b k) (sym (ap (λ (x : Done). x.archive) is)) store }
-left-done v cache left a d k answer.NoFields store never fine is = record { answer_is = ap (λ (x : Done). x.answer) is; store = subst (λ (b : Archive). IsStoreWith v cache b k) (sym (ap (λ (x : Done). x.archive) is)) store }
-left-done v cache left a d k (answer.TooLarge len) store never fine is = record { answer_is = ap (λ (x : Done). x.answer) is; store = subst (λ (b : Archive). IsStoreWith v cache b k) (sym (ap (λ (x : Done). x.archive) is)) store }
-left-done v cache left a d k (answer.Full max) store never fine is = record { answer_is = ap (λ (x : Done). x.answer) is; store = subst (λ (b : Archive). IsStoreWith v cache b k) (sym (ap (λ (x : Done). x.archive) is)) store }
-left-done v cache left a d k (answer.Collision n) store never fine is = record { answer_is = ap (λ (x : Done). x.answer) is; store = subst (λ (b : Archive). IsStoreWith v cache b k) (sym (ap (λ (x : Done). x.archive) is)) store }
-left-done v cache left a d k (answer.NotLive n) store never fine is = record { answer_is = ap (λ (x : Done). x.answer) is; store = subst (λ (b : Archive). IsStoreWith v cache b k) (sym (ap (λ (x : Done). x.archive) is)) store }
-left-done v cache left a d k (answer.NoText n) store never fine is = record { answer_is = ap (λ (x : Done). x.answer) is; store = subst (λ (b : Archive). IsStoreWith v cache b k) (sym (ap (λ (x : Done). x.archive) is)) store }
-left-done v cache left a d k answer.IsMirror store never fine is = record { answer_is = ap (λ (x : Done). x.answer) is; store = subst (λ (b : Archive). IsStoreWith v cache b k) (sym (ap (λ (x : Done). x.archive) is)) store }
 left-done v cache left a d k (answer.Ok n id) store never fine is = absurd (cc)
 left-done v cache left a d k (answer.Damaged file at) store never fine is = absurd (cc)
+left-done v cache left a d k other store never fine is = record { answer_is = ap (λ (x : Done). x.answer) is; store = subst (λ (b : Archive). IsStoreWith v cache b k) (sym (ap (λ (x : Done). x.archive) is)) store }
 
 -- What an index of the archive with all its entries, or without a text, knows of it.
 pub known-left : (v : View) (a : Archive) (config : Config) (index : Index) (count next : ℕ) (gone : Option (List ℕ)) → Keeps v a → config ≡ v.root.config → next ≡ v.root.next → count ≡ length v.entries → IsIndex (left_without a gone).entries index → IsKnownBy config index count next (left_without a gone)

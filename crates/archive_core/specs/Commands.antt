@@ -53,80 +53,33 @@ DoneBy v cache left a wanted answer.NoMemory content = IsStoreWith v cache a con
 DoneBy v cache left a wanted answer.DiskFault content = Unit {0}
 DoneBy v cache left a wanted (answer.Ok number id) content =
     IsDone v left wanted (answer.Ok number id) content
-DoneBy v cache left a wanted (answer.Duplicate number) content =
-    IsDone v cache wanted (answer.Duplicate number) content
-DoneBy v cache left a wanted answer.NoFields content = IsDone v cache wanted answer.NoFields content
-DoneBy v cache left a wanted (answer.TooLarge len) content =
-    IsDone v cache wanted (answer.TooLarge len) content
-DoneBy v cache left a wanted (answer.Full max) content = IsDone v cache wanted (answer.Full max) content
-DoneBy v cache left a wanted (answer.Collision number) content =
-    IsDone v cache wanted (answer.Collision number) content
-DoneBy v cache left a wanted answer.IsMirror content = IsDone v cache wanted answer.IsMirror content
-DoneBy v cache left a wanted (answer.NotLive number) content =
-    IsDone v cache wanted (answer.NotLive number) content
-DoneBy v cache left a wanted (answer.NoText number) content =
-    IsDone v cache wanted (answer.NoText number) content
 DoneBy v cache left a wanted (answer.Damaged file offset) content = ⊥
+DoneBy v cache left a wanted other content = IsDone v cache wanted other content
 
 -- What holds after the answer `Ok`.
 abbrev pub OnDone : Answer → Type 0 → Type 0
 OnDone (answer.Ok number id) P = P
-OnDone (answer.Duplicate number) P = Unit {0}
-OnDone answer.NoFields P = Unit {0}
-OnDone (answer.TooLarge len) P = Unit {0}
-OnDone (answer.Full max) P = Unit {0}
-OnDone (answer.Collision number) P = Unit {0}
-OnDone (answer.NotLive number) P = Unit {0}
-OnDone (answer.NoText number) P = Unit {0}
-OnDone answer.IsMirror P = Unit {0}
-OnDone answer.DiskFault P = Unit {0}
-OnDone (answer.Damaged file offset) P = Unit {0}
-OnDone answer.NoMemory P = Unit {0}
+OnDone other P = Unit {0}
 
 -- What holds after any answer but `Ok`.
 abbrev pub OnRefusal : Answer → Type 0 → Type 0
 OnRefusal (answer.Ok number id) P = Unit {0}
-OnRefusal (answer.Duplicate number) P = P
-OnRefusal answer.NoFields P = P
-OnRefusal (answer.TooLarge len) P = P
-OnRefusal (answer.Full max) P = P
-OnRefusal (answer.Collision number) P = P
-OnRefusal (answer.NotLive number) P = P
-OnRefusal (answer.NoText number) P = P
-OnRefusal answer.IsMirror P = P
-OnRefusal answer.DiskFault P = P
-OnRefusal (answer.Damaged file offset) P = P
-OnRefusal answer.NoMemory P = P
+OnRefusal other P = P
 
 -- What holds after any answer but `DiskFault`.
 abbrev pub UnlessFault : Answer → Type 0 → Type 0
 UnlessFault answer.DiskFault P = Unit {0}
-UnlessFault (answer.Ok number id) P = P
-UnlessFault (answer.Duplicate number) P = P
-UnlessFault answer.NoFields P = P
-UnlessFault (answer.TooLarge len) P = P
-UnlessFault (answer.Full max) P = P
-UnlessFault (answer.Collision number) P = P
-UnlessFault (answer.NotLive number) P = P
-UnlessFault (answer.NoText number) P = P
-UnlessFault answer.IsMirror P = P
-UnlessFault (answer.Damaged file offset) P = P
-UnlessFault answer.NoMemory P = P
+UnlessFault other P = P
 
 -- What holds of a refusal before which no text is read.
 abbrev pub IfUnread : Answer → Type 0 → Type 0
 IfUnread (answer.Ok number id) P = Unit {0}
-IfUnread (answer.Duplicate number) P = P
-IfUnread answer.NoFields P = P
-IfUnread (answer.TooLarge len) P = P
 IfUnread (answer.Full max) P = Unit {0}
 IfUnread (answer.Collision number) P = Unit {0}
-IfUnread (answer.NotLive number) P = P
-IfUnread (answer.NoText number) P = P
-IfUnread answer.IsMirror P = P
 IfUnread answer.DiskFault P = Unit {0}
 IfUnread (answer.Damaged file offset) P = Unit {0}
 IfUnread answer.NoMemory P = Unit {0}
+IfUnread other P = P
 
 -- The same of a verdict.
 abbrev pub IfRefusedUnread : Verdict → Type 0 → Type 0
@@ -136,63 +89,35 @@ IfRefusedUnread (Refuse reply) P = IfUnread reply P
 
 -- The answers to a delivery.
 abbrev pub AnswersDelivery : Answer → Type 0
-AnswersDelivery (answer.Ok number id) = Unit {0}
-AnswersDelivery (answer.Duplicate number) = Unit {0}
-AnswersDelivery answer.NoFields = Unit {0}
-AnswersDelivery (answer.TooLarge len) = Unit {0}
-AnswersDelivery (answer.Full max) = Unit {0}
-AnswersDelivery (answer.Collision number) = Unit {0}
-AnswersDelivery answer.IsMirror = Unit {0}
-AnswersDelivery answer.DiskFault = Unit {0}
-AnswersDelivery answer.NoMemory = Unit {0}
 AnswersDelivery (answer.NotLive number) = ⊥
 AnswersDelivery (answer.NoText number) = ⊥
-AnswersDelivery (answer.Damaged file offset) = Unit {0}
+AnswersDelivery other = Unit {0}
 
 -- The answers to the removal of a number. `Ok` and `NotLive` have this number.
 abbrev pub AnswersRemoval : ℕ → Answer → Type 0
 AnswersRemoval n (answer.Ok number id) = number ≡ n
-AnswersRemoval n (answer.Duplicate number) = ⊥
-AnswersRemoval n answer.NoFields = ⊥
-AnswersRemoval n (answer.TooLarge len) = ⊥
-AnswersRemoval n (answer.Full max) = ⊥
-AnswersRemoval n (answer.Collision number) = ⊥
 AnswersRemoval n answer.IsMirror = Unit {0}
 AnswersRemoval n answer.DiskFault = Unit {0}
 AnswersRemoval n answer.NoMemory = Unit {0}
 AnswersRemoval n (answer.NotLive number) = number ≡ n
-AnswersRemoval n (answer.NoText number) = ⊥
 AnswersRemoval n (answer.Damaged file offset) = Unit {0}
+AnswersRemoval n other = ⊥
 
 -- The answers to the purge of a number. `Ok` and `NoText` have this number.
 abbrev pub AnswersPurge : ℕ → Answer → Type 0
 AnswersPurge n (answer.Ok number id) = number ≡ n
-AnswersPurge n (answer.Duplicate number) = ⊥
-AnswersPurge n answer.NoFields = ⊥
-AnswersPurge n (answer.TooLarge len) = ⊥
-AnswersPurge n (answer.Full max) = ⊥
-AnswersPurge n (answer.Collision number) = ⊥
 AnswersPurge n answer.IsMirror = Unit {0}
 AnswersPurge n answer.DiskFault = Unit {0}
 AnswersPurge n answer.NoMemory = Unit {0}
-AnswersPurge n (answer.NotLive number) = ⊥
 AnswersPurge n (answer.NoText number) = number ≡ n
 AnswersPurge n (answer.Damaged file offset) = Unit {0}
+AnswersPurge n other = ⊥
 
 -- The answers to the edit of a number: those to a delivery, and that this number isn't live.
 abbrev pub AnswersEdit : ℕ → Answer → Type 0
 AnswersEdit n (answer.NotLive number) = number ≡ n
-AnswersEdit n (answer.Ok number id) = AnswersDelivery (answer.Ok number id)
-AnswersEdit n (answer.Duplicate number) = AnswersDelivery (answer.Duplicate number)
-AnswersEdit n answer.NoFields = AnswersDelivery answer.NoFields
-AnswersEdit n (answer.TooLarge len) = AnswersDelivery (answer.TooLarge len)
-AnswersEdit n (answer.Full max) = AnswersDelivery (answer.Full max)
-AnswersEdit n (answer.Collision number) = AnswersDelivery (answer.Collision number)
-AnswersEdit n answer.IsMirror = AnswersDelivery answer.IsMirror
-AnswersEdit n answer.DiskFault = AnswersDelivery answer.DiskFault
-AnswersEdit n answer.NoMemory = AnswersDelivery answer.NoMemory
 AnswersEdit n (answer.NoText number) = ⊥
-AnswersEdit n (answer.Damaged file offset) = AnswersDelivery (answer.Damaged file offset)
+AnswersEdit n other = AnswersDelivery other
 
 -- The answers to a command.
 abbrev pub IsForCommand : Command → Answer → Type 0
@@ -209,10 +134,8 @@ IfUnreadEdit reply P = IfUnread reply P
 
 -- What holds of a refusal of a command before which no text is read.
 abbrev pub IfUnreadFor : Command → Answer → Type 0 → Type 0
-IfUnreadFor (Deliver bytes) reply P = IfUnread reply P
-IfUnreadFor (Remove number) reply P = IfUnread reply P
-IfUnreadFor (Purge number) reply P = IfUnread reply P
 IfUnreadFor (Edit number bytes) reply P = IfUnreadEdit reply P
+IfUnreadFor other reply P = IfUnread reply P
 
 -- How a command changes the files: a delivery and a removal append, and a purge and an edit write anew.
 abbrev pub way_of : Command → Way
@@ -392,17 +315,7 @@ IfRemoval false P = P
 abbrev pub TellsText : Answer → KeptText → Type 0
 TellsText (answer.Ok number id) kept = IsStorageText kept.text × (id ≡ blob_id_of kept.text)
     × (kept.content ≡ content_id_of kept.text)
-TellsText (answer.Duplicate number) kept = Unit {0}
-TellsText answer.NoFields kept = Unit {0}
-TellsText (answer.TooLarge len) kept = Unit {0}
-TellsText (answer.Full max) kept = Unit {0}
-TellsText (answer.Collision number) kept = Unit {0}
-TellsText (answer.NotLive number) kept = Unit {0}
-TellsText (answer.NoText number) kept = Unit {0}
-TellsText answer.IsMirror kept = Unit {0}
-TellsText answer.DiskFault kept = Unit {0}
-TellsText (answer.Damaged file offset) kept = Unit {0}
-TellsText answer.NoMemory kept = Unit {0}
+TellsText other kept = Unit {0}
 
 -- An accepted delivery kept this text, as the last message after the archive before.
 abbrev pub KeepsText : Archive → Done → ℕ → List ℕ → Type 0

@@ -16,17 +16,7 @@ use Rattle.store_finding.specs.Kept.{View}
 -- What holds of the file and the offset of the damage that an answer tells.
 abbrev pub OnDamage : Answer → (FileName → ℕ → Type 0) → Type 0
 OnDamage (answer.Damaged file at) P = P file at
-OnDamage (answer.Ok number id) P = Unit {0}
-OnDamage (answer.Duplicate number) P = Unit {0}
-OnDamage answer.NoFields P = Unit {0}
-OnDamage (answer.TooLarge len) P = Unit {0}
-OnDamage (answer.Full max) P = Unit {0}
-OnDamage (answer.Collision number) P = Unit {0}
-OnDamage (answer.NotLive number) P = Unit {0}
-OnDamage (answer.NoText number) P = Unit {0}
-OnDamage answer.IsMirror P = Unit {0}
-OnDamage answer.DiskFault P = Unit {0}
-OnDamage answer.NoMemory P = Unit {0}
+OnDamage other P = Unit {0}
 
 -- A file and an offset are those of an entry that is kept with another own id than that of a text of its
 -- size and its blob id.

@@ -33,17 +33,8 @@ SizesUnless stale view content = stale ≡ false → WhereTold (HasSizes view) c
 -- Whether an archive has to be reopened after this answer: the disk failed, or a file is damaged.
 abbrev pub needs_opening : Answer → Bool
 needs_opening answer.DiskFault = true
-needs_opening (answer.Ok number id) = false
-needs_opening (answer.Duplicate number) = false
-needs_opening answer.NoFields = false
-needs_opening (answer.TooLarge len) = false
-needs_opening (answer.Full max) = false
-needs_opening (answer.Collision number) = false
-needs_opening (answer.NotLive number) = false
-needs_opening (answer.NoText number) = false
-needs_opening answer.IsMirror = false
 needs_opening (answer.Damaged file at) = true
-needs_opening answer.NoMemory = false
+needs_opening other = false
 
 -- The archive that it holds: the disk is the archive's own, with whatever cache, the views are those of
 -- the archive's live messages, and all that reads give is on the disk.
@@ -119,29 +110,14 @@ ViewsKeepUp (answer.Ok number id) ready views a b = ready ≡ true → views ≡
 ViewsKeepUp answer.NoMemory ready views a b = views ≡ views_of (live a.entries)
 ViewsKeepUp answer.DiskFault ready views a b = Unit {0}
 ViewsKeepUp (answer.Damaged file at) ready views a b = Unit {0}
-ViewsKeepUp (answer.Duplicate number) ready views a b = views ≡ views_of (live b.entries)
-ViewsKeepUp answer.NoFields ready views a b = views ≡ views_of (live b.entries)
-ViewsKeepUp (answer.TooLarge len) ready views a b = views ≡ views_of (live b.entries)
-ViewsKeepUp (answer.Full max) ready views a b = views ≡ views_of (live b.entries)
-ViewsKeepUp (answer.Collision number) ready views a b = views ≡ views_of (live b.entries)
-ViewsKeepUp (answer.NotLive number) ready views a b = views ≡ views_of (live b.entries)
-ViewsKeepUp (answer.NoText number) ready views a b = views ≡ views_of (live b.entries)
-ViewsKeepUp answer.IsMirror ready views a b = views ≡ views_of (live b.entries)
+ViewsKeepUp other ready views a b = views ≡ views_of (live b.entries)
 
 -- What holds after a refusal by the rules, or where memory ran out.
 abbrev pub IfRefused : Answer → Type 0 → Type 0
 IfRefused (answer.Ok number id) P = Unit {0}
 IfRefused answer.DiskFault P = Unit {0}
 IfRefused (answer.Damaged file at) P = Unit {0}
-IfRefused answer.NoMemory P = P
-IfRefused (answer.Duplicate number) P = P
-IfRefused answer.NoFields P = P
-IfRefused (answer.TooLarge len) P = P
-IfRefused (answer.Full max) P = P
-IfRefused (answer.Collision number) P = P
-IfRefused (answer.NotLive number) P = P
-IfRefused (answer.NoText number) P = P
-IfRefused answer.IsMirror P = P
+IfRefused other P = P
 
 -- Only reads of the disk lead from one state to the other.
 pub record ReadsOn {D : Type 0} (content : D → Option Content) (moment : D → ℕ)

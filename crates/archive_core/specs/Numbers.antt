@@ -44,17 +44,13 @@ IsBlobIndex entries blob (Some index) = blob_text entries blob ≡ text_if (slic
 
 -- If bytes with another id were found, the two ids differ.
 abbrev pub TellsOther : {T : Type 0} → Result T TextRefusal → Type 0
-TellsOther (Ok given) = Unit {0}
-TellsOther (Err reading.DiskFault) = Unit {0}
 TellsOther (Err (reading.Damaged named found)) = found ≢ named
-TellsOther (Err reading.NoMemory) = Unit {0}
+TellsOther other = Unit {0}
 
 -- If bytes with another id were found, this id is the one that is named.
 abbrev pub Names : {T : Type 0} → Id20 → Result T TextRefusal → Type 0
-Names id (Ok given) = Unit {0}
-Names id (Err reading.DiskFault) = Unit {0}
 Names id (Err (reading.Damaged named found)) = named ≡ id
-Names id (Err reading.NoMemory) = Unit {0}
+Names id other = Unit {0}
 
 -- The results of reading the text of a kept entry that meets a condition: a text of its size and
 -- blob id; or its blob id and the other one that was found. Where the disk tells its content, what was

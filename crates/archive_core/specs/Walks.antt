@@ -63,17 +63,7 @@ ViewsDone (Edit n bytes) lost number text moment old new =
 abbrev pub ViewsAfter : Command → Option ℕ → Answer → List ℕ → ℕ → Viewed → Viewed → Type 0
 ViewsAfter command lost (answer.Ok number id) text moment old new =
     ViewsDone command lost number text moment old new
-ViewsAfter command lost (answer.Duplicate number) text moment old new = new ≡ old
-ViewsAfter command lost answer.NoFields text moment old new = new ≡ old
-ViewsAfter command lost (answer.TooLarge len) text moment old new = new ≡ old
-ViewsAfter command lost (answer.Full max) text moment old new = new ≡ old
-ViewsAfter command lost (answer.Collision number) text moment old new = new ≡ old
-ViewsAfter command lost (answer.NotLive number) text moment old new = new ≡ old
-ViewsAfter command lost (answer.NoText number) text moment old new = new ≡ old
-ViewsAfter command lost answer.IsMirror text moment old new = new ≡ old
-ViewsAfter command lost answer.DiskFault text moment old new = new ≡ old
-ViewsAfter command lost (answer.Damaged file offset) text moment old new = new ≡ old
-ViewsAfter command lost answer.NoMemory text moment old new = new ≡ old
+ViewsAfter command lost other text moment old new = new ≡ old
 
 -- An archive whose own disk is there is valid.
 pub store-valid : (v : View) (cache : List ℕ) (a : Archive) (k : Option Content)

@@ -2,10 +2,10 @@
 use Rattle.std.proofs.Common.{◌≡◌, ◌<◌, ◌≤◌, ◌+◌, ℕ, zero, suc, Bool, true, false, List, [], ◌++◌, length, drop, refl, sym, ap, subst, ◌∙◌, ◌⊎◌, inl, inr, arith, if◌then◌else◌}
 use Rattle.std.proofs.lemmas.Bool.{false≢true}
 use Rattle.arch_model.specs.Keeping.{ReadsFor}
-use Rattle.arch_model.specs.Shelves.{ReadsOnce}
+use Rattle.arch_model.specs.Shelves.{ReadsOnce, ReadsUpTo}
 use Rattle.arch_model.specs.declared.command.Command.{Command}
 use Rattle.arch_model.specs.declared.command.Command.TheVariants.{Deliver, Remove, Purge, Edit}
-use Rattle.control_door.specs.Counting.{Asks, Reads, Changes, Unbounded, request_asks, closes_session, asks_then, asks_at, asks_from, asks_for, ReadsUpTo, Meets, IsTurnReads, IsRest}
+use Rattle.control_door.specs.Counting.{Asks, Reads, Changes, Unbounded, request_asks, closes_session, asks_then, asks_at, asks_from, asks_for, Meets, IsTurnReads, IsRest}
 use Rattle.control_door.specs.Requests.{Request, Exceeds, Ahead, Asked, Unfinished, ahead, is_asked, is_request}
 use Rattle.control_door.specs.Sessions.{request_for, request_with}
 use Rattle.control_door.specs.declared.front.Aim.{Aim}

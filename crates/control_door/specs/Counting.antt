@@ -1,7 +1,8 @@
 -- How many texts the control door reads at most to answer the bytes of a session.
-use Rattle.std.specs.Prelude.{◌≡◌, ◌≤◌, ◌+◌, ℕ, zero, suc, Bool, true, false, List, ◌++◌, length, drop, if◌then◌else◌}
+use Rattle.std.specs.Prelude.{◌≡◌, ◌+◌, ℕ, zero, suc, Bool, true, false, List, ◌++◌, length, drop, if◌then◌else◌}
 use Rattle.disk_model.specs.Sizes.{epoch_count}
-use Rattle.control_door.specs.Requests.{Request, Delivers, Shows, Removes, Purges, Edits, Threads, Lists, Reindexes, Quits, Mistakes, Exceeds, Ahead, Asked, Unfinished, ahead, is_request}
+use Rattle.arch_model.specs.Shelves.{ReadsUpTo}
+use Rattle.control_door.specs.Requests.{Request, Delivers, Shows, Removes, Purges, Edits, Lists, Reindexes, Quits, Exceeds, Ahead, Asked, Unfinished, ahead, is_request}
 use Rattle.control_door.specs.declared.session.Turn.{Turn}
 use Rattle.control_door.specs.declared.session.Turn.TheVariants.{Opened, Went, Kept, Closed}
 
@@ -22,12 +23,9 @@ request_asks (Shows number) = Reads 1
 request_asks (Removes number) = Changes 1
 request_asks (Purges number) = Unbounded
 request_asks (Edits number message) = Unbounded
-request_asks (Threads number) = Reads 0
 request_asks Lists = Reads epoch_count
 request_asks Reindexes = Unbounded
-request_asks Quits = Reads 0
-request_asks Mistakes = Reads 0
-request_asks Exceeds = Reads 0
+request_asks other = Reads 0
 
 -- The session is closed after this request.
 abbrev pub closes_session : Request → Bool
@@ -60,11 +58,6 @@ asks_from (suc n) bytes = asks_at (asks_from n) (ahead bytes)
 -- byte, so their number is limited by that of the bytes.
 unfoldable pub asks_for : List ℕ → Asks
 asks_for bytes = asks_from (suc (length bytes)) bytes
-
--- At most so many reads.
-pub record ReadsUpTo (most before now : ℕ) : Type 0 where
-  pub later : before ≤ now
-  pub bound : now ≤ before + most
 
 -- A ready keeper read no more than is asked of it, and is ready after it if nothing asks for a change.
 abbrev pub Meets : Asks → Bool → ℕ → ℕ → Type 0

@@ -107,17 +107,10 @@ answered moment s Exceeds rest = closes s bad_word
 -- unchanged, and a text, a tree or a list of epochs is said whole or not at all. Other requests need
 -- no memory.
 abbrev pub refused_memory : ℕ → Standing → Request → List ℕ → Says
-refused_memory moment s (Delivers message) rest = goes_on rest memory_word s
-refused_memory moment s (Shows number) rest = goes_on rest memory_word s
-refused_memory moment s (Removes number) rest = goes_on rest memory_word s
-refused_memory moment s (Purges number) rest = goes_on rest memory_word s
-refused_memory moment s (Edits number message) rest = goes_on rest memory_word s
-refused_memory moment s (Threads number) rest = goes_on rest memory_word s
-refused_memory moment s Lists rest = goes_on rest memory_word s
-refused_memory moment s Reindexes rest = goes_on rest memory_word s
 refused_memory moment s Quits rest = answered moment s Quits rest
 refused_memory moment s Mistakes rest = answered moment s Mistakes rest
 refused_memory moment s Exceeds rest = answered moment s Exceeds rest
+refused_memory moment s other rest = goes_on rest memory_word s
 
 -- The answer to a request at which the disk fails. It is then in doubt whether a command was
 -- carried out. A text or a list of epochs is said whole or not at all, and a reindexing leaves the

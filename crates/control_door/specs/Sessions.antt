@@ -76,17 +76,8 @@ request_of held requested.Excess = Exceeds
 
 -- A message of which a part is held starts within what is held.
 abbrev pub StartsWithin : List ℕ → Requested → Type 0
-StartsWithin held (requested.Message aim message) = Unit {0}
 StartsWithin held (requested.Joined aim start last) = start ≤ length held
-StartsWithin held (requested.Text number) = Unit {0}
-StartsWithin held (requested.Removal number) = Unit {0}
-StartsWithin held (requested.Purge number) = Unit {0}
-StartsWithin held (requested.Thread number) = Unit {0}
-StartsWithin held requested.Epochs = Unit {0}
-StartsWithin held requested.Reindexing = Unit {0}
-StartsWithin held requested.Quit = Unit {0}
-StartsWithin held requested.Mistake = Unit {0}
-StartsWithin held requested.Excess = Unit {0}
+StartsWithin held other = Unit {0}
 
 -- A whole request is at the front, and takes `taken` bytes of the piece.
 pub record IsRequested (held piece : List ℕ) (request : Requested) (taken : ℕ) : Type 0 where

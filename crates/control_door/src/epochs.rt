@@ -1,9 +1,8 @@
 //! The list of the epochs of an archive.
 ghost use Rattle.std.specs.Prelude.{◌≡◌, ◌++◌, [], true, OnOk};
-ghost use Rattle.control_door.specs.Counting.{ReadsUpTo};
 ghost use Rattle.disk_model.specs.Sizes.{epoch_count};
 ghost use Rattle.arch_model.specs.Archives.{Archive, in_epoch};
-ghost use Rattle.arch_model.specs.Shelves.{Stays, ReadCause, ReadsOnce};
+ghost use Rattle.arch_model.specs.Shelves.{Stays, ReadCause, ReadsOnce, ReadsUpTo};
 ghost use Rattle.control_door.specs.Door.{listed, listed_below, epoch_words, epochs_words};
 ghost use Rattle.control_door.specs.Refusals.{AppendsWords, Makes};
 

@@ -5,7 +5,7 @@ use Rattle.std.proofs.lemmas.Bool.Decides.{nat_tests}
 use Rattle.std.proofs.lemmas.List.Sums.{sum_by-cons}
 use Rattle.line_door.specs.Acts.{Outside, Way, Plain, Memory, Disk, Newer, Acts, StopsShort}
 use Rattle.arch_model.specs.Archives.{Entry, Archive, text_of}
-use Rattle.arch_model.specs.Shelves.{ReadsOnce}
+use Rattle.arch_model.specs.Shelves.{ReadsOnce, ReadsUpTo, ReadsAhead}
 use Rattle.arch_model.specs.declared.text_refusal.TextRefusal.{TextRefusal}
 use Rattle.mail_forms.specs.declared.row.Row.{Row}
 use Rattle.http_heads.specs.Addresses.{Named, TheListing, TextOf, ThreadOf, MessageOf, TheFeed, TheMailbox, ThreadFeedOf, ThreadMailboxOf, named_by, segments_of}
@@ -15,14 +15,15 @@ use Rattle.http_heads.specs.Replies.{verdict_of}
 use Rattle.http_heads.specs.declared.reply.Verdict.{Verdict}
 use Rattle.http_heads.specs.declared.reply.Verdict.TheVariants.{Serve, Refuse}
 use Rattle.http_front.specs.Fronts.{Front, Whole, Long, Partial, front, head_limit}
-use Rattle.http_front.specs.Asking.{Reading, Found, Gives, Streams, Missing, BadRange, message_found, text_found, target_found, target_reads, path_reads, path_texts, ReadsUpTo}
-use Rattle.http_front.specs.Counting.{served_texts, body_texts, path_said, verdict_texts, head_texts, reads_nothing, goes_on, verdict_goes_on, asked_at, asked_from, all_asked, texts_for_bytes, bytes_read_nothing, ReadsAhead}
+use Rattle.http_front.specs.Asking.{Found, Gives, Streams, Missing, BadRange, message_found, text_found, target_found, target_reads, path_reads, path_texts}
+use Rattle.http_front.specs.Counting.{served_texts, body_texts, path_said, verdict_texts, head_texts, reads_nothing, goes_on, verdict_goes_on, asked_at, asked_from, all_asked, texts_for_bytes, bytes_read_nothing}
 use Rattle.http_front.specs.Door.{served, said_found, said_verdict, said_head}
 use Rattle.http_front.specs.Sessions.{IsHeldFor, Finds, MakesPage, IsTurnReads, unread}
 use Rattle.http_front.specs.declared.session.Turn.TheVariants.{Went, Closed}
 use Rattle.http_front.specs.declared.found.Held.{Held}
 use Rattle.http_front.specs.declared.found.Held.TheVariants as what
 use Rattle.http_front.proofs.Fronts.{front-shorter}
+use Rattle.http_front.specs.Reading.{asked_in}
 
 -- Reads that were found to be few enough for less.
 pub reads-within : (most more before now : ℕ) → ReadsUpTo most before now → ReadsUpTo (most + more) before now
@@ -151,40 +152,40 @@ leaves-as a most wanted result same left = subst (λ (n : ℕ). IfOk result (λ 
 
 -- The answered heads, one by one.
 
-asked-enough : (reading : Reading) (n m : ℕ) (bytes : List ℕ) → length bytes < n → length bytes < m → asked_from reading n bytes ≡ asked_from reading m bytes
-asked-enough reading zero m bytes some more = absurd (omega (arith, some))
-asked-enough reading (suc n) zero bytes some more = absurd (omega (arith, more))
-asked-enough reading (suc n) (suc m) bytes some more = by (front head_limit bytes) refl (λ rest less. asked-enough reading n m rest (omega (arith, less, some)) (omega (arith, less, more)))
+asked-enough : (n m : ℕ) (bytes : List ℕ) → length bytes < n → length bytes < m → asked_from n bytes ≡ asked_from m bytes
+asked-enough zero m bytes some more = absurd (omega (arith, some))
+asked-enough (suc n) zero bytes some more = absurd (omega (arith, more))
+asked-enough (suc n) (suc m) bytes some more = by (front head_limit bytes) refl (λ rest less. asked-enough n m rest (omega (arith, less, some)) (omega (arith, less, more)))
   where
-    by : (f : Front) → front head_limit bytes ≡ f → ((rest : List ℕ) → length rest < length bytes → asked_from reading n rest ≡ asked_from reading m rest) → asked_at reading (asked_from reading n) f ≡ asked_at reading (asked_from reading m) f
+    by : (f : Front) → front head_limit bytes ≡ f → ((rest : List ℕ) → length rest < length bytes → asked_from n rest ≡ asked_from m rest) → asked_at (asked_from n) f ≡ asked_at (asked_from m) f
     by (Whole head rest) is same =
-        ap (λ (later : List (Option Asked)). reading head ∷ (if goes_on (reading head) then later else [])) (same rest (front-shorter head_limit bytes head rest is))
+        ap (λ (later : List (Option Asked)). asked_in head ∷ (if goes_on (asked_in head) then later else [])) (same rest (front-shorter head_limit bytes head rest is))
     by Long is same = refl
     by Partial is same = refl
 
-asked-head : (reading : Reading) (bytes head rest : List ℕ) → front head_limit bytes ≡ Whole head rest → all_asked reading bytes ≡ reading head ∷ (if goes_on (reading head) then all_asked reading rest else [])
+asked-head : (bytes head rest : List ℕ) → front head_limit bytes ≡ Whole head rest → all_asked bytes ≡ asked_in head ∷ (if goes_on (asked_in head) then all_asked rest else [])
 unfolding all_asked
-asked-head reading bytes head rest is =
+asked-head bytes head rest is =
     let less = front-shorter head_limit bytes head rest is in
-    ap (λ (f : Front). asked_at reading (asked_from reading (length bytes)) f) is
-    ∙ ap (λ (later : List (Option Asked)). reading head ∷ (if goes_on (reading head) then later else [])) (asked-enough reading (length bytes) (suc (length rest)) rest less (omega arith))
+    ap (λ (f : Front). asked_at (asked_from (length bytes)) f) is
+    ∙ ap (λ (later : List (Option Asked)). asked_in head ∷ (if goes_on (asked_in head) then later else [])) (asked-enough (length bytes) (suc (length rest)) rest less (omega arith))
 
 -- The texts for a head at the front, and for the bytes after it if the session continues.
-texts-head : (reading : Reading) (a : Archive) (bytes head rest : List ℕ) → front head_limit bytes ≡ Whole head rest → texts_for_bytes reading a bytes ≡ head_texts a (reading head) + sum_by (head_texts a) (if goes_on (reading head) then all_asked reading rest else [])
-texts-head reading a bytes head rest is =
-    ap (sum_by (head_texts a)) (asked-head reading bytes head rest is)
-    ∙ sum_by-cons (head_texts a) (reading head) (if goes_on (reading head) then all_asked reading rest else [])
+texts-head : (a : Archive) (bytes head rest : List ℕ) → front head_limit bytes ≡ Whole head rest → texts_for_bytes a bytes ≡ head_texts a (asked_in head) + sum_by (head_texts a) (if goes_on (asked_in head) then all_asked rest else [])
+texts-head a bytes head rest is =
+    ap (sum_by (head_texts a)) (asked-head bytes head rest is)
+    ∙ sum_by-cons (head_texts a) (asked_in head) (if goes_on (asked_in head) then all_asked rest else [])
 
 -- One head that took `n` bytes of a piece was answered.
-pub turn-reads : (reading : Reading) (a : Archive) (old piece head : List ℕ) (n : ℕ) (new : List ℕ) (goes : Bool) (before now : ℕ) → front head_limit (old ++ piece) ≡ Whole head (drop n piece) → new ≡ [] → (goes ≡ true → goes_on (reading head) ≡ true) → ReadsUpTo (head_texts a (reading head)) before now
-    → IsTurnReads reading a old piece (if goes then Went n else Closed) new before now
-turn-reads reading a old piece head n new true before now is none stays reads =
-    let cut : texts_for_bytes reading a (old ++ piece) ≡ head_texts a (reading head) + texts_for_bytes reading a (drop n piece) =
-    texts-head reading a (old ++ piece) head (drop n piece) is ∙ ap (λ (t : Bool). head_texts a (reading head) + sum_by (head_texts a) (if t then all_asked reading (drop n piece) else [])) (stays refl) in
-    subst (λ (left : List ℕ). ReadsAhead (texts_for_bytes reading a (old ++ piece)) (texts_for_bytes reading a (left ++ drop n piece)) before now) (sym none)
+pub turn-reads : (a : Archive) (old piece head : List ℕ) (n : ℕ) (new : List ℕ) (goes : Bool) (before now : ℕ) → front head_limit (old ++ piece) ≡ Whole head (drop n piece) → new ≡ [] → (goes ≡ true → goes_on (asked_in head) ≡ true) → ReadsUpTo (head_texts a (asked_in head)) before now
+    → IsTurnReads a old piece (if goes then Went n else Closed) new before now
+turn-reads a old piece head n new true before now is none stays reads =
+    let cut : texts_for_bytes a (old ++ piece) ≡ head_texts a (asked_in head) + texts_for_bytes a (drop n piece) =
+    texts-head a (old ++ piece) head (drop n piece) is ∙ ap (λ (t : Bool). head_texts a (asked_in head) + sum_by (head_texts a) (if t then all_asked (drop n piece) else [])) (stays refl) in
+    subst (λ (left : List ℕ). ReadsAhead (texts_for_bytes a (old ++ piece)) (texts_for_bytes a (left ++ drop n piece)) before now) (sym none)
     (record { later = reads.later; bound = omega (arith, cut, reads.bound) })
-turn-reads reading a old piece head n new false before now is none stays reads =
-    let cut = texts-head reading a (old ++ piece) head (drop n piece) is in
+turn-reads a old piece head n new false before now is none stays reads =
+    let cut = texts-head a (old ++ piece) head (drop n piece) is in
     record { later = reads.later; bound = omega (arith, cut, reads.bound) }
 
 -- A session that continues after a head was not to be closed by the answer.
@@ -271,5 +272,5 @@ all-quiet a (o ∷ os) quiet =
     omega (arith, sum_by-cons (head_texts a) o os, head-quiet a o parts.0, all-quiet a os parts.1)
 
 -- Where no head that is answered asks for a text, the count of reads stays.
-pub bytes-quiet : (reading : Reading) (a : Archive) (bytes : List ℕ) (before now : ℕ) → ReadsUpTo (texts_for_bytes reading a bytes) before now → bytes_read_nothing reading a bytes ≡ true → now ≡ before
-bytes-quiet reading a bytes before now reads quiet = reads-zero (texts_for_bytes reading a bytes) before now (all-quiet a (all_asked reading bytes) quiet) reads
+pub bytes-quiet : (a : Archive) (bytes : List ℕ) (before now : ℕ) → ReadsUpTo (texts_for_bytes a bytes) before now → bytes_read_nothing a bytes ≡ true → now ≡ before
+bytes-quiet a bytes before now reads quiet = reads-zero (texts_for_bytes a bytes) before now (all-quiet a (all_asked bytes) quiet) reads

@@ -12,10 +12,11 @@ use Rattle.http_heads.specs.declared.reply.Status.TheVariants.{Done, BadRequest,
 use Rattle.http_heads.specs.declared.reply.Verdict.{Verdict}
 use Rattle.http_heads.specs.declared.reply.Verdict.TheVariants.{Serve, Refuse}
 use Rattle.http_front.specs.Fronts.{Front, Whole, Long, Partial, front, is_whole, head_limit}
-use Rattle.http_front.specs.Asking.{Reading, Found, Gives, Streams, Missing, BadRange, target_found, target_reads}
+use Rattle.http_front.specs.Asking.{Found, Gives, Streams, Missing, BadRange, target_found, target_reads}
 use Rattle.http_front.specs.Replies.{reply, word, word_of, bad_range}
 use Rattle.http_front.specs.Door.{Says, replies, served, said_found, said_verdict, said_head, unkept, said_at, said, has_request, with_piece}
 use Rattle.http_front.proofs.Fronts.{Goes, Same, Over, Open, front-goes, front-shorter, not_whole}
+use Rattle.http_front.specs.Reading.{asked_in}
 
 goes-whole : (q : List ℕ) (f g : Front) → Goes q f g → is_whole f ≡ true → is_whole g ≡ true
 goes-whole q f g (Same head rest) h = refl
@@ -52,20 +53,20 @@ head-after : (moment : ℕ) (a : Archive) (asked : Option Asked) (rest q : List 
 head-after moment a None rest q way = refl
 head-after moment a (Some asked) rest q way = verdict-after moment a asked rest q (verdict_of (Some asked)) way
 
-goes-said : (reading : Reading) (moment : ℕ) (a : Archive) (bytes q : List ℕ) (way : Way) (f g : Front) → Goes q f g → is_whole f ≡ true → said_at reading moment a (bytes ++ q) g way ≡ said_with (with_piece q) (said_at reading moment a bytes f way)
-goes-said reading moment a bytes q way f g (Same head rest) h = head-after moment a (reading head) rest q way
-goes-said reading moment a bytes q way f g Over h = refl
-goes-said reading moment a bytes q way f g (Open next) h = absurd (cc h)
+goes-said : (moment : ℕ) (a : Archive) (bytes q : List ℕ) (way : Way) (f g : Front) → Goes q f g → is_whole f ≡ true → said_at moment a (bytes ++ q) g way ≡ said_with (with_piece q) (said_at moment a bytes f way)
+goes-said moment a bytes q way f g (Same head rest) h = head-after moment a (asked_in head) rest q way
+goes-said moment a bytes q way f g Over h = refl
+goes-said moment a bytes q way f g (Open next) h = absurd (cc h)
 
 unkept-either : (moment : ℕ) (a : Archive) (bytes more : List ℕ) → ((unkept moment a bytes more).next ≡ None) ⊎ (unkept moment a bytes more ≡ silent a bytes)
 unkept-either moment a bytes [] = inr refl
 unkept-either moment a bytes (byte ∷ more) = inl refl
 
-kept : (reading : Reading) (moment : ℕ) (a : Archive) (bytes : List ℕ) (way : Way) (f : Front) → f ≡ Partial → ((said_at reading moment a bytes f way).next ≡ None) ⊎ (said_at reading moment a bytes f way ≡ silent a bytes)
-kept reading moment a bytes Plain f h = rw h (inr refl)
-kept reading moment a bytes Memory f h = rw h (unkept-either moment a bytes bytes)
-kept reading moment a bytes Disk f h = rw h (inr refl)
-kept reading moment a bytes Newer f h = rw h (inr refl)
+kept : (moment : ℕ) (a : Archive) (bytes : List ℕ) (way : Way) (f : Front) → f ≡ Partial → ((said_at moment a bytes f way).next ≡ None) ⊎ (said_at moment a bytes f way ≡ silent a bytes)
+kept moment a bytes Plain f h = rw h (inr refl)
+kept moment a bytes Memory f h = rw h (unkept-either moment a bytes bytes)
+kept moment a bytes Disk f h = rw h (inr refl)
+kept moment a bytes Newer f h = rw h (inr refl)
 
 -- The session that a reply leaves open has the bytes after the request.
 replies-left : (a : Archive) (rest : List ℕ) (ends streamed : Bool) (words k : List ℕ) → (replies a rest ends streamed words).next ≡ Some k → rest ≡ k
@@ -86,24 +87,24 @@ head-left : (moment : ℕ) (a : Archive) (asked : Option Asked) (rest k : List �
 head-left moment a None rest k e = absurd (cc e)
 head-left moment a (Some asked) rest k e = verdict-left moment a asked rest (verdict_of (Some asked)) k e
 
-shorter-at : (reading : Reading) (moment : ℕ) (a : Archive) (bytes k : List ℕ) (f : Front) → front head_limit bytes ≡ f → is_whole f ≡ true → (said_at reading moment a bytes f Plain).next ≡ Some k → length k < length bytes
-shorter-at reading moment a bytes k (Whole head rest) is h next =
-    let same : rest ≡ k = head-left moment a (reading head) rest k next in
+shorter-at : (moment : ℕ) (a : Archive) (bytes k : List ℕ) (f : Front) → front head_limit bytes ≡ f → is_whole f ≡ true → (said_at moment a bytes f Plain).next ≡ Some k → length k < length bytes
+shorter-at moment a bytes k (Whole head rest) is h next =
+    let same : rest ≡ k = head-left moment a (asked_in head) rest k next in
     let less = front-shorter head_limit bytes head rest is in
     rw same at less
-shorter-at reading moment a bytes k Long is h next = absurd (cc next)
-shorter-at reading moment a bytes k Partial is h next = absurd (cc h)
+shorter-at moment a bytes k Long is h next = absurd (cc next)
+shorter-at moment a bytes k Partial is h next = absurd (cc h)
 
-pub http_cuts : (reading : Reading) (moment : ℕ) → CutDoor (said reading moment) has_request with_piece length
-http_cuts reading moment = record {
+pub http_cuts : (moment : ℕ) → CutDoor (said moment) has_request with_piece length
+http_cuts moment = record {
   request_stays = λ q h asked. goes-whole q (front head_limit h) (front head_limit (h ++ q)) (front-goes head_limit h q) asked;
-  said_stays = λ q a h way asked. goes-said reading moment a h q way (front head_limit h) (front head_limit (h ++ q)) (front-goes head_limit h q) asked;
+  said_stays = λ q a h way asked. goes-said moment a h q way (front head_limit h) (front head_limit (h ++ q)) (front-goes head_limit h q) asked;
   rest_plain = λ a h part. rw (not_whole (front head_limit h) part) refl;
-  rest_kept = λ a h way part. kept reading moment a h way (front head_limit h) (not_whole (front head_limit h) part);
+  rest_kept = λ a h way part. kept moment a h way (front head_limit h) (not_whole (front head_limit h) part);
   more_joined = λ p q h. append_assoc h p q;
-  shorter = λ a h k asked next. shorter-at reading moment a h k (front head_limit h) refl asked next;
+  shorter = λ a h k asked next. shorter-at moment a h k (front head_limit h) refl asked next;
 }
 
 -- The laws of cutting the bytes of a connection.
-pub http_door : (reading : Reading) (moment : ℕ) → DoorLaws (said reading moment) has_request with_piece length
-http_door reading moment = door_laws (said reading moment) has_request with_piece length (http_cuts reading moment)
+pub http_door : (moment : ℕ) → DoorLaws (said moment) has_request with_piece length
+http_door moment = door_laws (said moment) has_request with_piece length (http_cuts moment)

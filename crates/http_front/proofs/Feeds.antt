@@ -4,7 +4,7 @@ use Rattle.std.proofs.lemmas.List.{take_more}
 use Rattle.std.proofs.lemmas.List.Concat.{flat_map-append}
 use Rattle.arch_base.specs.Moments.{last_moment}
 use Rattle.arch_model.specs.Archives.{Entry, Archive, live}
-use Rattle.arch_model.specs.Shelves.{IsUndamaged, ReadsOnce}
+use Rattle.arch_model.specs.Shelves.{IsUndamaged, ReadsOnce, ReadsUpTo}
 use Rattle.arch_model.specs.Standing.{GivesTextIn}
 use Rattle.arch_model.specs.declared.text_refusal.TextRefusal.{TextRefusal}
 use Rattle.arch_model.specs.declared.text_refusal.TextRefusal.TheVariants as refusal
@@ -14,7 +14,7 @@ use Rattle.mail_forms.specs.declared.row.Row.{Row}
 use Rattle.mime_parts.specs.Texts.{body_text_of}
 use Rattle.http_heads.specs.declared.reply.Body.TheVariants.{Feed}
 use Rattle.http_front.specs.Views.{is_number, one_row, shown_row, shown_text, text_at, shown_by, shown_at, shown_all}
-use Rattle.http_front.specs.Asking.{Found, Gives, feed_found, ReadsUpTo}
+use Rattle.http_front.specs.Asking.{Found, Gives, feed_found}
 use Rattle.http_front.specs.Feeding.{Appends, arrival_of, later_of, latest_of}
 use Rattle.http_front.specs.Sessions.{Finds}
 use Rattle.http_front.proofs.Arrivals.{latest-append}

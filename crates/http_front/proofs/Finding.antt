@@ -6,6 +6,7 @@ use Rattle.arch_model.specs.Archives.{Entry, Archive, live}
 use Rattle.arch_model.specs.Listings.{listing}
 use Rattle.arch_model.specs.Searching.{search}
 use Rattle.arch_model.specs.Standing.{GivesTextIn}
+use Rattle.arch_model.specs.Shelves.{ReadsUpTo}
 use Rattle.arch_model.specs.declared.text_refusal.TextRefusal.{TextRefusal}
 use Rattle.arch_model.specs.declared.text_refusal.TextRefusal.TheVariants as refusal
 use Rattle.mail_forms.specs.declared.row.Row.{Row}
@@ -16,7 +17,7 @@ use Rattle.http_heads.specs.Addresses.{Named, named_by, segments_of}
 use Rattle.http_heads.specs.Parameters.{path_of}
 use Rattle.http_heads.specs.declared.reply.Body.TheVariants.{Page}
 use Rattle.http_front.specs.Views.{rows_at}
-use Rattle.http_front.specs.Asking.{Found, Gives, Missing, BadRange, message_found, text_found, feed_found, search_found, listing_found, found_of, named_found, path_found, reads_texts, path_reads, texts_for, path_texts, feed_len, rows_needed, ReadsUpTo}
+use Rattle.http_front.specs.Asking.{Found, Gives, Missing, BadRange, message_found, text_found, feed_found, search_found, listing_found, found_of, named_found, path_found, reads_texts, path_reads, texts_for, path_texts, feed_len, rows_needed}
 use Rattle.http_front.specs.Sessions.{Finds, MakesPage}
 use Rattle.http_front.specs.declared.found.Held.{Held}
 use Rattle.http_front.specs.declared.found.Held.TheVariants as what

@@ -18,19 +18,21 @@ use Rattle.http_heads.specs.declared.reply.Status.{Status}
 use Rattle.http_heads.specs.declared.reply.Status.TheVariants.{Done, BadRequest, NotFound, ServerError, Unavailable}
 use Rattle.http_heads.specs.declared.reply.Verdict.{Verdict}
 use Rattle.http_heads.specs.declared.reply.Verdict.TheVariants.{Serve, Refuse}
-use Rattle.http_front.specs.Asking.{Reading, IsReading, Found, Gives, Streams, Missing, BadRange}
+use Rattle.http_front.specs.Asking.{Found, Gives, Streams, Missing, BadRange}
 use Rattle.http_front.specs.Replies.{reply, word, word_of, bad_range}
 use Rattle.http_front.specs.Door.{served, said_found, said_asked, said_verdict, said_head}
 use Rattle.http_front.specs.Sessions.{SaysThen, SaysWhole, SaysUnread, Finds, said_mailbox}
 use Rattle.http_front.proofs.Acting.{acts-replied}
+use Rattle.http_front.proofs.HeadReading.{reads-heads}
+use Rattle.http_front.specs.Reading.{asked_in}
 
 -- What a head that was read asks.
-pub reads-some : (reading : Reading) → IsReading reading → (bytes : List ℕ) (head : RequestHead) (asked : Asked) → IsHead bytes head → asked ≡ asked_of head → reading bytes ≡ Some asked
-reads-some reading is bytes head asked read same = is.head bytes head read ∙ ap Some (sym same)
+pub reads-some : (bytes : List ℕ) (head : RequestHead) (asked : Asked) → IsHead bytes head → asked ≡ asked_of head → asked_in bytes ≡ Some asked
+reads-some bytes head asked read same = reads-heads.head bytes head read ∙ ap Some (sym same)
 
 -- What is no head.
-pub reads-none : (reading : Reading) → IsReading reading → (bytes : List ℕ) → ((head : RequestHead) → IsHead bytes head → None ≡ Some (asked_of head)) → reading bytes ≡ None
-reads-none reading is bytes other = is.none bytes (λ head read. never (asked_of head) (other head read))
+pub reads-none : (bytes : List ℕ) → ((head : RequestHead) → IsHead bytes head → None ≡ Some (asked_of head)) → asked_in bytes ≡ None
+reads-none bytes other = reads-heads.none bytes (λ head read. never (asked_of head) (other head read))
   where
     never : (asked : Asked) → None ≡ Some asked → ⊥
     never asked e = cc e

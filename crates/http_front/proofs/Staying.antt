@@ -7,8 +7,9 @@ use Rattle.http_heads.specs.Replies.{verdict_of}
 use Rattle.http_heads.specs.declared.reply.Verdict.{Verdict}
 use Rattle.http_heads.specs.declared.reply.Verdict.TheVariants.{Serve, Refuse}
 use Rattle.http_front.specs.Fronts.{Front, Whole, Long, Partial, front, head_limit}
-use Rattle.http_front.specs.Asking.{Reading, Found, Gives, Streams, Missing, BadRange, target_found, target_reads}
+use Rattle.http_front.specs.Asking.{Found, Gives, Streams, Missing, BadRange, target_found, target_reads}
 use Rattle.http_front.specs.Door.{served, said_found, said_verdict, said_head, unkept, said_at, said}
+use Rattle.http_front.specs.Reading.{asked_in}
 
 served-stays : (moment : ℕ) (a : Archive) (sends ends : Bool) (rest : List ℕ) (found : Found) → (served moment a sends ends rest found).after ≡ a
 served-stays moment a sends ends rest (Gives body bytes) = refl
@@ -35,13 +36,13 @@ unkept-stays : (moment : ℕ) (a : Archive) (bytes rest : List ℕ) → (unkept 
 unkept-stays moment a bytes [] = refl
 unkept-stays moment a bytes (byte ∷ more) = refl
 
-front-stays : (reading : Reading) (moment : ℕ) (a : Archive) (bytes : List ℕ) (f : Front) (way : Way) → (said_at reading moment a bytes f way).after ≡ a
-front-stays reading moment a bytes (Whole head rest) way = head-stays moment a (reading head) rest way
-front-stays reading moment a bytes Long way = refl
-front-stays reading moment a bytes Partial Plain = refl
-front-stays reading moment a bytes Partial Memory = unkept-stays moment a bytes bytes
-front-stays reading moment a bytes Partial Disk = refl
-front-stays reading moment a bytes Partial Newer = refl
+front-stays : (moment : ℕ) (a : Archive) (bytes : List ℕ) (f : Front) (way : Way) → (said_at moment a bytes f way).after ≡ a
+front-stays moment a bytes (Whole head rest) way = head-stays moment a (asked_in head) rest way
+front-stays moment a bytes Long way = refl
+front-stays moment a bytes Partial Plain = refl
+front-stays moment a bytes Partial Memory = unkept-stays moment a bytes bytes
+front-stays moment a bytes Partial Disk = refl
+front-stays moment a bytes Partial Newer = refl
 
-pub archive-stays : (reading : Reading) (moment : ℕ) (a : Archive) (bytes : List ℕ) (way : Way) → (said reading moment a bytes way).after ≡ a
-archive-stays reading moment a bytes way = front-stays reading moment a bytes (front head_limit bytes) way
+pub archive-stays : (moment : ℕ) (a : Archive) (bytes : List ℕ) (way : Way) → (said moment a bytes way).after ≡ a
+archive-stays moment a bytes way = front-stays moment a bytes (front head_limit bytes) way

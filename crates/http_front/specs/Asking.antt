@@ -1,5 +1,5 @@
 -- What an archive has under the target of a request.
-use Rattle.std.specs.Prelude.{◌≡◌, ◌≤◌, ◌+◌, ℕ, Bool, true, false, List, take, drop, reverse, codes, Option, Some, None}
+use Rattle.std.specs.Prelude.{◌≡◌, ◌+◌, ℕ, Bool, true, false, List, take, drop, reverse, codes, Option, Some, None}
 use Rattle.arch_model.specs.Archives.{Archive, live}
 use Rattle.arch_model.specs.Listings.{listing}
 use Rattle.arch_model.specs.Searching.{search}
@@ -125,13 +125,8 @@ target_found a target = path_found a (query_of target)
 -- Texts are read for what is named: for the page of a message, its text, feeds and mailbox files.
 abbrev pub reads_texts : Named → Bool
 reads_texts TheListing = false
-reads_texts (MessageOf id) = true
-reads_texts (TextOf id) = true
 reads_texts (ThreadOf id) = false
-reads_texts TheFeed = true
-reads_texts (ThreadFeedOf id) = true
-reads_texts TheMailbox = true
-reads_texts (ThreadMailboxOf id) = true
+reads_texts other = true
 
 -- Texts are read for what a path names, if it names anything.
 abbrev pub path_reads : Option Named → Bool
@@ -145,14 +140,11 @@ target_reads a target = path_reads (named_by a.config.name (segments_of (path_of
 -- How many texts are read at most to find what is named: one for each mail of a feed, and none for a
 -- listing and for the page of a thread. Those of a mailbox file are read while it is said.
 abbrev pub texts_for : Named → ℕ
-texts_for TheListing = 0
 texts_for (MessageOf id) = 1
 texts_for (TextOf id) = 1
-texts_for (ThreadOf id) = 0
 texts_for TheFeed = feed_len
 texts_for (ThreadFeedOf id) = feed_len
-texts_for TheMailbox = 0
-texts_for (ThreadMailboxOf id) = 0
+texts_for other = 0
 
 -- How many texts are read at most to find what a path names, if it names anything.
 abbrev pub path_texts : Option Named → ℕ
@@ -162,8 +154,3 @@ path_texts (Some named) = texts_for named
 -- How many texts are read at most to find what stands under a target.
 abbrev pub target_texts : Archive → List ℕ → ℕ
 target_texts a target = path_texts (named_by a.config.name (segments_of (path_of target)))
-
--- A call reads at most so many times.
-pub record ReadsUpTo (most before now : ℕ) : Type 0 where
-  pub later : before ≤ now
-  pub bound : now ≤ before + most

@@ -1,17 +1,18 @@
 -- How many texts the door of pages reads at most to answer the bytes of a session.
-use Rattle.std.specs.Prelude.{◌≤◌, ◌+◌, ℕ, zero, suc, Bool, true, false, not, List, [], ◌∷◌, length, Option, Some, None, if◌then◌else◌}
+use Rattle.std.specs.Prelude.{◌+◌, ℕ, zero, suc, Bool, true, false, not, List, [], ◌∷◌, length, Option, Some, None, if◌then◌else◌}
 use Rattle.std.specs.List.{list_all, sum_by}
 use Rattle.arch_model.specs.Archives.{Entry, Archive, live}
-use Rattle.http_heads.specs.Addresses.{Named, TheListing, TextOf, ThreadOf, MessageOf, TheFeed, TheMailbox, ThreadFeedOf, ThreadMailboxOf, named_by, segments_of}
+use Rattle.http_heads.specs.Addresses.{Named, TheMailbox, ThreadMailboxOf, named_by, segments_of}
 use Rattle.http_heads.specs.Heads.{Asked}
 use Rattle.http_heads.specs.Parameters.{path_of}
 use Rattle.http_heads.specs.Replies.{verdict_of}
 use Rattle.http_heads.specs.declared.reply.Verdict.{Verdict}
 use Rattle.http_heads.specs.declared.reply.Verdict.TheVariants.{Serve, Refuse}
 use Rattle.http_front.specs.Fronts.{Front, Whole, Long, Partial, front, head_limit}
-use Rattle.http_front.specs.Asking.{Reading, target_reads, target_texts}
+use Rattle.http_front.specs.Asking.{target_reads, target_texts}
 use Rattle.http_front.specs.Threads.{thread_rows, oldest_first}
 use Rattle.http_front.specs.Views.{number_named}
+use Rattle.http_front.specs.Reading.{asked_in}
 
 -- How many mails the thread of a number has, if a live mail has the id.
 abbrev pub thread_len : List Entry → Option ℕ → ℕ
@@ -20,14 +21,9 @@ thread_len entries (Some n) = length (oldest_first (thread_rows entries n))
 
 -- How many texts are read at most while what is named is said: one for each mail of a mailbox file.
 abbrev pub texts_said : Archive → Named → ℕ
-texts_said a TheListing = 0
-texts_said a (MessageOf id) = 0
-texts_said a (TextOf id) = 0
-texts_said a (ThreadOf id) = 0
-texts_said a TheFeed = 0
-texts_said a (ThreadFeedOf id) = 0
 texts_said a TheMailbox = length (live a.entries)
 texts_said a (ThreadMailboxOf id) = thread_len a.entries (number_named a.entries id)
+texts_said a other = 0
 
 -- How many texts are read at most while what a path names is said, if it names anything.
 abbrev pub path_said : Archive → Option Named → ℕ
@@ -73,32 +69,25 @@ goes_on None = false
 goes_on (Some asked) = verdict_goes_on asked (verdict_of (Some asked))
 
 -- What the head at the front asks, and what more heads after it ask.
-abbrev pub asked_at : Reading → (List ℕ → List (Option Asked)) → Front → List (Option Asked)
-asked_at reading more (Whole head rest) =
-    reading head ∷ (if goes_on (reading head) then more rest else [])
-asked_at reading more Long = []
-asked_at reading more Partial = []
+abbrev pub asked_at : (List ℕ → List (Option Asked)) → Front → List (Option Asked)
+asked_at more (Whole head rest) = asked_in head ∷ (if goes_on (asked_in head) then more rest else [])
+asked_at more Long = []
+asked_at more Partial = []
 
 -- What up to `n` heads at the front ask.
-abbrev pub asked_from : Reading → ℕ → List ℕ → List (Option Asked)
-asked_from reading zero bytes = []
-asked_from reading (suc n) bytes =
-    asked_at reading (asked_from reading n) (front head_limit bytes)
+abbrev pub asked_from : ℕ → List ℕ → List (Option Asked)
+asked_from zero bytes = []
+asked_from (suc n) bytes = asked_at (asked_from n) (front head_limit bytes)
 
 -- What all whole heads at the front ask, in order, up to the first after which the session is closed.
 -- Each has a byte, so their number is limited by that of the bytes.
-unfoldable pub all_asked : Reading → List ℕ → List (Option Asked)
-all_asked reading bytes = asked_from reading (suc (length bytes)) bytes
+unfoldable pub all_asked : List ℕ → List (Option Asked)
+all_asked bytes = asked_from (suc (length bytes)) bytes
 
 -- How many texts are read at most to answer these bytes.
-abbrev pub texts_for_bytes : Reading → Archive → List ℕ → ℕ
-texts_for_bytes reading a bytes = sum_by (head_texts a) (all_asked reading bytes)
+abbrev pub texts_for_bytes : Archive → List ℕ → ℕ
+texts_for_bytes a bytes = sum_by (head_texts a) (all_asked bytes)
 
 -- No text is read to answer these bytes.
-abbrev pub bytes_read_nothing : Reading → Archive → List ℕ → Bool
-bytes_read_nothing reading a bytes = list_all (reads_nothing a) (all_asked reading bytes)
-
--- The reads of a call, and as many more as are still to follow, are at most so many.
-pub record ReadsAhead (most ahead before now : ℕ) : Type 0 where
-  pub later : before ≤ now
-  pub bound : now + ahead ≤ before + most
+abbrev pub bytes_read_nothing : Archive → List ℕ → Bool
+bytes_read_nothing a bytes = list_all (reads_nothing a) (all_asked bytes)

@@ -11,8 +11,9 @@ use Rattle.http_heads.specs.declared.reply.Status.TheVariants.{Done, BadRequest,
 use Rattle.http_heads.specs.declared.reply.Verdict.{Verdict}
 use Rattle.http_heads.specs.declared.reply.Verdict.TheVariants.{Serve, Refuse}
 use Rattle.http_front.specs.Fronts.{Front, Whole, Long, Partial, front, is_whole, head_limit}
-use Rattle.http_front.specs.Asking.{Reading, Found, Gives, Streams, Missing, BadRange, target_found, target_reads}
+use Rattle.http_front.specs.Asking.{Found, Gives, Streams, Missing, BadRange, target_found, target_reads}
 use Rattle.http_front.specs.Replies.{reply, word, word_of, bad_range}
+use Rattle.http_front.specs.Reading.{asked_in}
 
 -- What an act of a session says, and the bytes and the archive after it.
 abbrev pub Says : Type 0
@@ -72,15 +73,14 @@ said_keeping moment a bytes way =
     in_ways (silent a bytes) (unkept moment a bytes bytes) (silent a bytes) way
 
 -- What is said to what is at the front. A head that is too long closes the connection.
-abbrev pub said_at : Reading → ℕ → Archive → List ℕ → Front → Way → Says
-said_at reading moment a bytes (Whole head rest) way =
-    said_head moment a (reading head) rest way
-said_at reading moment a bytes Long way = closes a (word HeadTooLarge moment true true)
-said_at reading moment a bytes Partial way = said_keeping moment a bytes way
+abbrev pub said_at : ℕ → Archive → List ℕ → Front → Way → Says
+said_at moment a bytes (Whole head rest) way = said_head moment a (asked_in head) rest way
+said_at moment a bytes Long way = closes a (word HeadTooLarge moment true true)
+said_at moment a bytes Partial way = said_keeping moment a bytes way
 
 -- What the door says to a session at a moment.
-abbrev pub said : Reading → ℕ → Archive → List ℕ → Way → Says
-said reading moment a bytes way = said_at reading moment a bytes (front head_limit bytes) way
+abbrev pub said : ℕ → Archive → List ℕ → Way → Says
+said moment a bytes way = said_at moment a bytes (front head_limit bytes) way
 
 -- The session starts with a whole head, or with one that is too long.
 abbrev pub has_request : List ℕ → Bool

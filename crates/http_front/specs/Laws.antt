@@ -2,7 +2,6 @@
 use Rattle.std.specs.Prelude.{◌≡◌, ◌<◌, ◌≤◌, ◌+◌, ◌↔◌, ℕ, List, ◌++◌, length, codes}
 use Rattle.line_door.specs.Cuts.{DoorLaws}
 use Rattle.http_front.specs.Fronts.{Whole, Long, Partial, front}
-use Rattle.http_front.specs.Asking.{Reading}
 use Rattle.http_front.specs.Door.{said, has_request, with_piece}
 
 -- The bytes start with CR LF CR LF at an offset.
@@ -32,5 +31,5 @@ pub record FrontLaw : Type 0 where
 -- However the bytes are cut, the door says and leaves the same. The acts of one piece and then of
 -- another are acts of both, even if allocations, the disk or sends fail.
 pub record HttpLaws : Type 0 where
-  pub door : (reading : Reading) (moment : ℕ) → DoorLaws (said reading moment) has_request with_piece length
+  pub door : (moment : ℕ) → DoorLaws (said moment) has_request with_piece length
   pub front : FrontLaw

@@ -66,9 +66,6 @@ minor_of version = if bytes_eq version (codes "HTTP/1.0") then 0 else 1
 -- The head of these empty lines, this end and these words of its first line, and the lines after it.
 -- A first line has three words.
 abbrev pub head_by : List LineEnd → LineEnd → List (List ℕ) → List (List ℕ) → Option RequestHead
-head_by blank end [] lines = None
-head_by blank end (method ∷ []) lines = None
-head_by blank end (method ∷ target ∷ []) lines = None
 head_by blank end (method ∷ target ∷ version ∷ []) lines = Some (record {
   blank = blank;
   method = method;
@@ -78,7 +75,7 @@ head_by blank end (method ∷ target ∷ version ∷ []) lines = Some (record {
   fields = fields_in lines;
   last = last_in lines;
 })
-head_by blank end (method ∷ target ∷ version ∷ word ∷ words) lines = None
+head_by blank end other lines = None
 
 -- The head of these empty lines and the lines after them, of which the first one's words are parted by
 -- single spaces.

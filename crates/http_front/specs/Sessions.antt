@@ -5,6 +5,7 @@ use Rattle.line_door.specs.Making as door
 use Rattle.line_door.specs.Making.{in_ways}
 use Rattle.line_door.specs.Course.{talk, Fed}
 use Rattle.arch_model.specs.Archives.{Entry, Archive, live}
+use Rattle.arch_model.specs.Shelves.{ReadsUpTo, ReadsAhead, ReadsIn}
 use Rattle.arch_base.specs.declared.sequence.NoMemory.{NoMemory}
 use Rattle.arch_model.specs.declared.text_refusal.TextRefusal.{TextRefusal}
 use Rattle.arch_model.specs.declared.text_refusal.TextRefusal.TheVariants as refusal
@@ -16,8 +17,8 @@ use Rattle.http_heads.specs.declared.reply.Body.TheVariants.{Mailbox}
 use Rattle.http_heads.specs.declared.reply.Status.TheVariants.{Done, ServerError, Unavailable}
 use Rattle.http_front.specs.Views.{shown_row, shown_text}
 use Rattle.http_front.specs.Threads.{thread_rows, oldest_first}
-use Rattle.http_front.specs.Asking.{Reading, IsReading, Found, Gives, Streams, Missing, BadRange, message_found, text_found, thread_found, feed_found, feed_len, ReadsUpTo}
-use Rattle.http_front.specs.Counting.{thread_len, head_texts, texts_for_bytes, bytes_read_nothing, ReadsAhead}
+use Rattle.http_front.specs.Asking.{Found, Gives, Streams, Missing, BadRange, message_found, text_found, thread_found, feed_found, feed_len}
+use Rattle.http_front.specs.Counting.{thread_len, head_texts, texts_for_bytes, bytes_read_nothing}
 use Rattle.http_front.specs.Door.{Says as SaysAct, replies, said_found, said, said_head, said_asked, has_request}
 use Rattle.http_front.specs.Mailboxes.{mailbox_at, whole_mailbox}
 use Rattle.http_front.specs.Replies.{reply, word, word_of, damaged_line}
@@ -27,19 +28,19 @@ use Rattle.http_front.specs.declared.found.Held.{Held}
 use Rattle.http_front.specs.declared.found.Held.TheVariants as what
 use Rattle.http_front.specs.declared.found.Form.{Form}
 use Rattle.http_front.specs.declared.found.Form.TheVariants as form
+use Rattle.http_front.specs.Reading.{asked_in}
 
 -- One act on the bytes at the front: a request that took `n` bytes of the piece and left the session
 -- open, or the keeping of the piece, or the close.
-abbrev pub IsTurn : Reading → ℕ → Archive → List ℕ → List ℕ → Outside → Turn → List ℕ → Outside
-    → Type 0
-IsTurn reading moment a old piece i (Went n) new j =
+abbrev pub IsTurn : ℕ → Archive → List ℕ → List ℕ → Outside → Turn → List ℕ → Outside → Type 0
+IsTurn moment a old piece i (Went n) new j =
     (has_request (old ++ piece) ≡ true)
-    × Acts (said reading moment a (old ++ piece)) i (Some (new ++ drop n piece)) a j
-IsTurn reading moment a old piece i Kept new j =
+    × Acts (said moment a (old ++ piece)) i (Some (new ++ drop n piece)) a j
+IsTurn moment a old piece i Kept new j =
     (has_request (old ++ piece) ≡ false) × (j.disk ≡ i.disk)
-    × Acts (said reading moment a (old ++ piece)) i (Some new) a j
-IsTurn reading moment a old piece i Closed new j =
-    Acts (said reading moment a (old ++ piece)) i None a j
+    × Acts (said moment a (old ++ piece)) i (Some new) a j
+IsTurn moment a old piece i Closed new j =
+    Acts (said moment a (old ++ piece)) i None a j
 
 -- A request takes bytes of the piece.
 abbrev pub Takes : List ℕ → Turn → Type 0
@@ -49,12 +50,12 @@ Takes piece Closed = Unit {0}
 
 -- One act reads no more than leaves enough for the bytes after it. A part of a head that is kept asks
 -- for no text, and nothing follows a close.
-abbrev pub IsTurnReads : Reading → Archive → List ℕ → List ℕ → Turn → List ℕ → ℕ → ℕ → Type 0
-IsTurnReads reading a old piece (Went n) new before now = ReadsAhead
-    (texts_for_bytes reading a (old ++ piece)) (texts_for_bytes reading a (new ++ drop n piece)) before now
-IsTurnReads reading a old piece Kept new before now = now ≡ before
-IsTurnReads reading a old piece Closed new before now =
-    ReadsUpTo (texts_for_bytes reading a (old ++ piece)) before now
+abbrev pub IsTurnReads : Archive → List ℕ → List ℕ → Turn → List ℕ → ℕ → ℕ → Type 0
+IsTurnReads a old piece (Went n) new before now = ReadsAhead
+    (texts_for_bytes a (old ++ piece)) (texts_for_bytes a (new ++ drop n piece)) before now
+IsTurnReads a old piece Kept new before now = now ≡ before
+IsTurnReads a old piece Closed new before now =
+    ReadsUpTo (texts_for_bytes a (old ++ piece)) before now
 
 -- What was found under a target, as the code has it: the body, or the numbers of a mailbox file, for
 -- which texts are read.
@@ -95,27 +96,19 @@ form_found a form.Mailbox n =
 
 -- Texts are read for a form.
 abbrev pub form_reads : Form → Bool
-form_reads form.Message = true
-form_reads form.Text = true
 form_reads form.Thread = false
-form_reads form.Feed = true
-form_reads form.Mailbox = true
+form_reads other = true
 
 -- How many texts are read at most while what is asked for in a form is said, if a live mail has the id.
 abbrev pub form_said : List Entry → Form → Option ℕ → ℕ
-form_said entries form.Message o = 0
-form_said entries form.Text o = 0
-form_said entries form.Thread o = 0
-form_said entries form.Feed o = 0
 form_said entries form.Mailbox o = thread_len entries o
+form_said entries other o = 0
 
 -- How many texts are still to be read for what was found, while it is said.
 abbrev pub unread : Archive → Held → ℕ
-unread a (what.Whole body bytes) = 0
 unread a what.EveryMail = length (live a.entries)
 unread a (what.Mails numbers) = length numbers
-unread a what.Nothing = 0
-unread a what.BadRange = 0
+unread a other = 0
 
 -- How many texts are read at most to find what is asked for in a form.
 abbrev pub form_texts : Form → ℕ
@@ -143,10 +136,6 @@ module _ {S : Type 0} (holds : S → Archive → Type 0) where
   FindsIn found reads shelf result = (a : Archive) → holds shelf a
       → Finds a (found a) (reads a) result
 
-  -- Whichever archive is held, at most so many texts were read.
-  abbrev pub ReadsIn : (Archive → ℕ) → S → ℕ → ℕ → Type 0
-  ReadsIn most shelf before now = (a : Archive) → holds shelf a → ReadsUpTo (most a) before now
-
   -- Whichever archive is held, at most so many texts are still to be read for what was found.
   abbrev pub LeavesIn : (Archive → ℕ) → S → Result Held TextRefusal → Type 0
   LeavesIn most shelf result = (a : Archive) → holds shelf a
@@ -154,29 +143,28 @@ module _ {S : Type 0} (holds : S → Archive → Type 0) where
 
   -- Whichever archive is held, a head was answered, and at most so many texts were read.
   abbrev pub ReadsHead : List ℕ → S → ℕ → ℕ → Type 0
-  ReadsHead head shelf before now = (reading : Reading) → IsReading reading
-      → (a : Archive) → holds shelf a → ReadsUpTo (head_texts a (reading head)) before now
+  ReadsHead head shelf before now =
+      ReadsIn holds (λ (a : Archive). head_texts a (asked_in head)) shelf before now
 
   -- Whichever archive is held, one act reads no more than leaves enough for the bytes after it.
   abbrev pub ReadsTurn : List ℕ → List ℕ → S → Turn → List ℕ → ℕ → ℕ → Type 0
-  ReadsTurn old piece shelf turn new before now = (reading : Reading) → IsReading reading
-      → (a : Archive) → holds shelf a → IsTurnReads reading a old piece turn new before now
+  ReadsTurn old piece shelf turn new before now = (a : Archive) → holds shelf a
+      → IsTurnReads a old piece turn new before now
 
   -- Whichever archive is held, no more texts were read than the heads that are answered ask for.
   abbrev pub ReadsBytes : List ℕ → S → ℕ → ℕ → Type 0
-  ReadsBytes bytes shelf before now = (reading : Reading) → IsReading reading
-      → (a : Archive) → holds shelf a → ReadsUpTo (texts_for_bytes reading a bytes) before now
+  ReadsBytes bytes shelf before now =
+      ReadsIn holds (λ (a : Archive). texts_for_bytes a bytes) shelf before now
 
   -- Whichever archive is held, no text was read if none of the heads that are answered asks for one.
   abbrev pub ReadsNothing : List ℕ → S → ℕ → ℕ → Type 0
-  ReadsNothing bytes shelf before now = (reading : Reading) → IsReading reading
-      → (a : Archive) → holds shelf a → bytes_read_nothing reading a bytes ≡ true → now ≡ before
+  ReadsNothing bytes shelf before now = (a : Archive) → holds shelf a
+      → bytes_read_nothing a bytes ≡ true → now ≡ before
 
   -- Whichever archive is held and whatever follows, a head is answered.
   abbrev pub AnswersHead : ℕ → List ℕ → S → Outside → Bool → Outside → Type 0
-  AnswersHead moment head shelf i goes_on j = (reading : Reading) → IsReading reading
-      → (a : Archive) (rest : List ℕ) → holds shelf a
-      → Acts (said_head moment a (reading head) rest) i (held_if goes_on rest) a j
+  AnswersHead moment head shelf i goes_on j = (a : Archive) (rest : List ℕ) → holds shelf a
+      → Acts (said_head moment a (asked_in head) rest) i (held_if goes_on rest) a j
 
   -- Whichever archive is held and whatever follows, a request is served.
   abbrev pub Serves : ℕ → Asked → Bool → S → Outside → Bool → Outside → Type 0
@@ -197,14 +185,13 @@ module _ {S : Type 0} (holds : S → Archive → Type 0) where
 
   -- Whichever archive is held, one act is done.
   abbrev pub Turns : ℕ → List ℕ → List ℕ → S → Outside → Turn → List ℕ → Outside → Type 0
-  Turns moment old piece shelf i turn new j = (reading : Reading) → IsReading reading
-      → (a : Archive) → holds shelf a → IsTurn reading moment a old piece i turn new j
+  Turns moment old piece shelf i turn new j = (a : Archive) → holds shelf a
+      → IsTurn moment a old piece i turn new j
 
   -- Whichever archive is held, these bytes of a session are answered by a course.
   abbrev pub Feeds : ℕ → List ℕ → S → Outside → Bool → List ℕ → Outside → Type 0
-  Feeds moment bytes shelf i goes_on left j = (reading : Reading) → IsReading reading
-      → (a : Archive) → holds shelf a → Fed (said reading moment) has_request
-      (talk (Some bytes) a i) (talk (held_if goes_on left) a j)
+  Feeds moment bytes shelf i goes_on left j = (a : Archive) → holds shelf a
+      → Fed (said moment) has_request (talk (Some bytes) a i) (talk (held_if goes_on left) a j)
 
 -- The words were taken, and the session continues unless the reply closes it; or they were lost, and
 -- it is closed.

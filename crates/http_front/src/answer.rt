@@ -3,10 +3,10 @@ ghost use Rattle.std.specs.Prelude.{◌≡◌, ◌&&◌, not, true};
 ghost use Rattle.line_door.specs.Acts.{outside};
 ghost use Rattle.arch_base.specs.Moments.{IsMoment};
 ghost use Rattle.arch_model.specs.Next.{continues};
-ghost use Rattle.arch_model.specs.Shelves.{Stays};
+ghost use Rattle.arch_model.specs.Shelves.{Stays, ReadsIn};
 ghost use Rattle.http_heads.specs.Heads.{shown};
 ghost use Rattle.http_front.specs.Counting.{served_texts};
-ghost use Rattle.http_front.specs.Sessions.{AnswersHead, ReadsHead, ReadsIn, Serves, SaysWhole};
+ghost use Rattle.http_front.specs.Sessions.{AnswersHead, ReadsHead, Serves, SaysWhole};
 
 use crate::found::{Held, find_target};
 use crate::mailbox::{say_every_mail, say_mails};

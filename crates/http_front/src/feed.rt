@@ -2,10 +2,10 @@
 ghost use Rattle.std.specs.Prelude.{◌≡◌, ◌++◌, length, OnOk, IfSome, Some, true, is_some};
 ghost use Rattle.arch_base.specs.Moments.{IsMoment};
 ghost use Rattle.arch_model.specs.Archives.{Archive, live, text_of};
-ghost use Rattle.arch_model.specs.Shelves.{Stays, ReadCause, ReadsOnce};
+ghost use Rattle.arch_model.specs.Shelves.{Stays, ReadCause, ReadsOnce, ReadsUpTo};
 ghost use Rattle.atom_mbox.specs.Feeds.{feed_start, entries_of, updated_of};
 ghost use Rattle.http_front.specs.Views.{shown_row, shown_text, shown_at, shown_all, shown_by};
-ghost use Rattle.http_front.specs.Asking.{feed_found, ReadsUpTo};
+ghost use Rattle.http_front.specs.Asking.{feed_found};
 ghost use Rattle.http_front.specs.Feeding.{Appends, arrival_of, later_of, latest_of};
 ghost use Rattle.http_front.specs.Sessions.{FindsIn};
 

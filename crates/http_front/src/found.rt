@@ -2,12 +2,12 @@
 ghost use Rattle.std.specs.Prelude.{◌≡◌, IfOk, Some, true, take};
 ghost use Rattle.arch_model.specs.Archives.{Archive, live};
 ghost use Rattle.arch_model.specs.Listings.{listing};
-ghost use Rattle.arch_model.specs.Shelves.{Stays, ReadCause};
+ghost use Rattle.arch_model.specs.Shelves.{Stays, ReadCause, ReadsIn};
 ghost use Rattle.http_heads.specs.Addresses.{shown};
 ghost use Rattle.http_front.specs.Views.{number_named};
 ghost use Rattle.http_front.specs.Asking.{named_found, target_found, feed_found, found_of, feed_len, reads_texts, target_reads, texts_for, target_texts};
 ghost use Rattle.http_front.specs.Counting.{texts_said, target_said};
-ghost use Rattle.http_front.specs.Sessions.{FindsIn, ReadsIn, LeavesIn, form_found, form_reads, form_texts, form_said};
+ghost use Rattle.http_front.specs.Sessions.{FindsIn, LeavesIn, form_found, form_reads, form_texts, form_said};
 
 use crate::feed::feed_at;
 use crate::listing::listing_at;

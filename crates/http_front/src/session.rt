@@ -53,7 +53,6 @@ impl Model for HttpSession {
 
 impl HttpSession {
     ghost use Rattle.http_front.specs.Scans.{IsHeld};
-    ghost use Rattle.http_front.specs.Asking.{Reading};
     ghost use Rattle.http_front.specs.Sessions.{IsTurn, Takes, AnswersHead, Turns, Feeds, ReadsHead, ReadsTurn, ReadsBytes, ReadsNothing};
 
     /// Returns a session without bytes. Nothing is said before the first request. Allocates nothing.
@@ -188,8 +187,8 @@ impl HttpSession {
     fn hold<O: Sink>(&mut self, piece: &[u8], seen: Seen, moment: u64, out: &mut O) -> Turn
         requires held { IsHeld head_limit (self.old ++ piece.now) seen }
         requires moment { IsMoment moment }
-        ensures turn { (reading : Reading) (a : Archive) (disk : ℕ)
-            → IsTurn reading moment a self.old piece.now
+        ensures turn { (a : Archive) (disk : ℕ)
+            → IsTurn moment a self.old piece.now
             (outside (O.taken out.old) disk (O.faults out.old)) result self.new
             (outside (O.taken out.new) disk (O.faults out.new)) }
         ensures ends { (result ≡ Turn.Kept) ⊎ (result ≡ Turn.Closed) }

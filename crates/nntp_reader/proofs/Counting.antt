@@ -4,13 +4,13 @@ use Rattle.std.specs.List.{sum_by}
 use Rattle.std.proofs.lemmas.Bool.{lt-ltb}
 use Rattle.std.proofs.lemmas.List.Sums.{sum_by-cons}
 use Rattle.arch_model.specs.Archives.{Archive}
-use Rattle.arch_model.specs.Shelves.{ReadsOnce}
+use Rattle.arch_model.specs.Shelves.{ReadsOnce, ReadsUpTo, ReadsAhead}
 use Rattle.line_door.specs.Clipped.{longest_line}
 use Rattle.line_door.specs.Lines.{content, first_line, put_before}
 use Rattle.line_door.specs.Skipping.{Taken, Skipped, skipping_front}
 use Rattle.line_door.proofs.Passages.{passed-taken, passed-skipped}
 use Rattle.nntp_reader.specs.Commands.{command_of}
-use Rattle.nntp_reader.specs.Counting.{command_texts, line_texts, ended_lines, texts_for_bytes, ReadsUpTo, ReadsAhead, IsTurnReads}
+use Rattle.nntp_reader.specs.Counting.{command_texts, line_texts, ended_lines, texts_for_bytes, IsTurnReads}
 use Rattle.nntp_reader.specs.Dates.{year_at}
 use Rattle.nntp_reader.specs.Door.{reader}
 use Rattle.nntp_reader.specs.Numbers.{live_in, first_of}

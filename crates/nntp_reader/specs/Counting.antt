@@ -1,9 +1,10 @@
 -- How many texts the door of readers reads at most to answer the bytes of a session.
-use Rattle.std.specs.Prelude.{◌≡◌, ◌==◌, ◌≤◌, ◌+◌, ℕ, nat_lt, List, [], ◌∷◌, ◌++◌, length, drop, if◌then◌else◌}
+use Rattle.std.specs.Prelude.{◌≡◌, ◌==◌, ◌+◌, ℕ, nat_lt, List, [], ◌∷◌, ◌++◌, length, drop, if◌then◌else◌}
 use Rattle.std.specs.List.{sum_by}
 use Rattle.line_door.specs.Clipped.{longest_line}
 use Rattle.line_door.specs.Lines.{content}
 use Rattle.arch_model.specs.Archives.{Archive, live}
+use Rattle.arch_model.specs.Shelves.{ReadsUpTo, ReadsAhead, ReadsIn}
 use Rattle.nntp_reader.specs.Commands.{Articles, Single, Within, Header, Field, Command, Reads, Headers, command_of}
 use Rattle.nntp_reader.specs.Commands as commands
 use Rattle.nntp_reader.specs.Dates.{year_at}
@@ -51,16 +52,6 @@ ended_lines (b ∷ bs) =
 abbrev pub texts_for_bytes : ℕ → Archive → List ℕ → ℕ
 texts_for_bytes moment a bytes = sum_by (line_texts moment a) (ended_lines bytes)
 
--- At most so many texts were read.
-pub record ReadsUpTo (most before now : ℕ) : Type 0 where
-  pub later : before ≤ now
-  pub bound : now ≤ before + most
-
--- The reads of a call, and as many more as are still to follow, are at most so many.
-pub record ReadsAhead (most ahead before now : ℕ) : Type 0 where
-  pub later : before ≤ now
-  pub bound : now + ahead ≤ before + most
-
 -- One act reads no more than leaves enough for the bytes after it.
 abbrev pub IsTurnReads : ℕ → Archive → Reader → List ℕ → Turn → Reader → ℕ → ℕ → Type 0
 IsTurnReads moment a old piece (Went n) new before now =
@@ -72,11 +63,7 @@ IsTurnReads moment a old piece Closed new before now =
 
 -- A shelf: the archives that it holds.
 module _ {S : Type 0} (holds : S → Archive → Type 0) where
-  -- Whichever archive is held, at most so many texts were read.
-  abbrev pub ReadsIn : (Archive → ℕ) → S → ℕ → ℕ → Type 0
-  ReadsIn most shelf before now = (a : Archive) → holds shelf a → ReadsUpTo (most a) before now
-
   -- Whichever archive is held, no more texts were read than the lines that these bytes end ask for.
   abbrev pub ReadsLines : ℕ → List ℕ → S → ℕ → ℕ → Type 0
   ReadsLines moment bytes shelf before now =
-      ReadsIn (λ (a : Archive). texts_for_bytes moment a bytes) shelf before now
+      ReadsIn holds (λ (a : Archive). texts_for_bytes moment a bytes) shelf before now

@@ -87,22 +87,6 @@ is_field (Field name) = true
 
 -- The command reads texts, for which memory may run out and the disk may fail.
 abbrev pub reads_texts : Command → Bool
-reads_texts Capabilities = false
-reads_texts ModeReader = false
-reads_texts Date = false
-reads_texts Help = false
-reads_texts Quit = false
-reads_texts Post = false
-reads_texts Next = false
-reads_texts Last = false
-reads_texts (Group name) = false
-reads_texts (ListGroup name range) = false
 reads_texts (Reads what article) = true
-reads_texts (Stat article) = false
-reads_texts (Over articles) = false
 reads_texts (Headers header articles) = is_field header
-reads_texts (Lists what wildmat) = false
-reads_texts (NewGroups since) = false
-reads_texts (NewNews wildmat since) = false
-reads_texts Mistaken = false
-reads_texts Unknown = false
+reads_texts other = false

@@ -4,10 +4,10 @@ ghost use Rattle.arch_base.specs.Moments.{last_moment};
 ghost use Rattle.line_door.specs.Acts.{outside, Acts, held_if};
 ghost use Rattle.arch_model.specs.Archives.{Archive};
 ghost use Rattle.arch_model.specs.Next.{continues};
-ghost use Rattle.arch_model.specs.Shelves.{Stays};
+ghost use Rattle.arch_model.specs.Shelves.{Stays, ReadsIn};
 ghost use Rattle.nntp_reader.specs.Door.{reader, said_to};
 ghost use Rattle.nntp_reader.specs.Commands as commands;
-ghost use Rattle.nntp_reader.specs.Counting.{ReadsIn, command_texts, header_texts};
+ghost use Rattle.nntp_reader.specs.Counting.{command_texts, header_texts};
 ghost use Rattle.nntp_reader.specs.Sessions.{articles_of, header_of, meant};
 
 use crate::articles::{say_last, say_next, say_part, say_stat};

@@ -3,12 +3,12 @@ ghost use Rattle.std.specs.Prelude.{◌≡◌, ◌++◌, ℕ, List, length, true
 ghost use Rattle.line_door.specs.Acts.{outside, Acts, held_if};
 ghost use Rattle.arch_model.specs.Archives.{Archive, live, text_of};
 ghost use Rattle.arch_model.specs.Next.{continues};
-ghost use Rattle.arch_model.specs.Shelves.{Stays, ReadCause, ReadsOnce};
+ghost use Rattle.arch_model.specs.Shelves.{Stays, ReadCause, ReadsOnce, ReadsIn};
 ghost use Rattle.edge_io.specs.Phrases.{Says};
 ghost use Rattle.wire_replies.specs.Blocks.{block_end};
 ghost use Rattle.wire_replies.specs.Waits.{Waits};
 ghost use Rattle.nntp_reader.specs.Commands as commands;
-ghost use Rattle.nntp_reader.specs.Counting.{ReadsIn, field_texts};
+ghost use Rattle.nntp_reader.specs.Counting.{field_texts};
 ghost use Rattle.nntp_reader.specs.Door.{reader, said_to, range_said};
 ghost use Rattle.nntp_reader.specs.Facts.{header_line};
 ghost use Rattle.nntp_reader.specs.Headers.{header_start, field_line};

@@ -8,9 +8,9 @@ ghost use Rattle.line_door.specs.Lines.{content};
 ghost use Rattle.line_door.specs.Skipping.{skipping_front, Unended};
 ghost use Rattle.arch_model.specs.Archives.{Archive};
 ghost use Rattle.arch_model.specs.Next.{continues};
-ghost use Rattle.arch_model.specs.Shelves.{Stays};
+ghost use Rattle.arch_model.specs.Shelves.{Stays, ReadsIn};
 ghost use Rattle.nntp_reader.specs.Commands.{command_of};
-ghost use Rattle.nntp_reader.specs.Counting.{ReadsIn, ReadsLines, IsTurnReads, command_texts};
+ghost use Rattle.nntp_reader.specs.Counting.{ReadsLines, IsTurnReads, command_texts};
 ghost use Rattle.nntp_reader.specs.Dates.{year_at};
 ghost use Rattle.nntp_reader.specs.Door.{reader, new_reader, greeting, said, said_to, has_request, with_piece};
 

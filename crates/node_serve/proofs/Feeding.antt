@@ -17,7 +17,6 @@ use Rattle.control_door.specs.Sessions as sessions
 use Rattle.nntp_reader.specs.Door as news
 use Rattle.nntp_reader.specs.Door.{Reader}
 use Rattle.http_front.specs.Door as pages
-use Rattle.http_front.specs.Reading.{asked_in}
 use Rattle.node_serve.specs.Doors.{Came, AtControl, AtNews, AtHttp, with_piece, rest_if, said, is_asked}
 use Rattle.node_serve.specs.Nodes.{FedFrom, ReadsAt, ReadsCame}
 use Rattle.node_serve.specs.declared.session.Session.{Session}
@@ -83,7 +82,7 @@ module _ {K : Type 0} (holds rests : K → Archive → Type 0) (ready : K → Bo
 
   -- The piece of a session at the door of pages.
   pub http-fed : ((k : K) (a : Archive) → holds k a → rests k a) → ((k : K) (a : Archive) (may : List (Option Archive)) → holds k a → Contains may (Some a) → leaves k k may) → (start : List ℕ) (s : Standing) (old : K) (i : Outside) (goes_on : Bool) (left : List ℕ) (new : K) (j : Outside)
-      → ((a : Archive) → holds old a → Fed (pages.said asked_in moment) pages.has_request (talk (Some start) a i) (talk (held_if goes_on left) a j)) → OnlyRead holds rests ready leaves old new → ready old ≡ true → Fits holds rests ready leaves old s
+      → ((a : Archive) → holds old a → Fed (pages.said moment) pages.has_request (talk (Some start) a i) (talk (held_if goes_on left) a j)) → OnlyRead holds rests ready leaves old new → ready old ≡ true → Fits holds rests ready leaves old s
       → FedFrom holds rests ready leaves moment (AtHttp start) s old i goes_on (session.Http left) new j
   http-fed holds_rests holds_left start s old i goes_on left new j fed read at_hand fits =
       let settled = settled-is holds rests ready leaves old s fits at_hand in
@@ -93,7 +92,7 @@ module _ {K : Type 0} (holds rests : K → Archive → Type 0) (ready : K → Bo
         fits = moves.fits;
         held = held_over AtHttp (held_if goes_on left);
         rest_is = http-rest goes_on left;
-        course = reading-course holds rests ready leaves AtHttp (pages.said asked_in moment) pages.has_request (said moment) is_asked (λ a h way. refl) (λ h. refl) old new (talk (Some start) s.archive i) (talk (held_if goes_on left) s.archive j) read (fed s.archive settled.1);
+        course = reading-course holds rests ready leaves AtHttp (pages.said moment) pages.has_request (said moment) is_asked (λ a h way. refl) (λ h. refl) old new (talk (Some start) s.archive i) (talk (held_if goes_on left) s.archive j) read (fed s.archive settled.1);
       })
 
   -- A reopening, and then the piece.

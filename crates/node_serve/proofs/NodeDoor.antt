@@ -18,7 +18,6 @@ use Rattle.nntp_reader.specs.Door as news
 use Rattle.nntp_reader.specs.Door.{Reader}
 use Rattle.nntp_reader.proofs.Doors.{reader_cuts}
 use Rattle.http_front.specs.Door as pages
-use Rattle.http_front.specs.Reading.{asked_in}
 use Rattle.http_front.proofs.Doors.{http_cuts}
 use Rattle.node_serve.specs.Doors.{Held, Came, AtControl, AtNews, AtHttp, with_piece, unopened_words, said, is_asked}
 use Rattle.node_serve.specs.Plain.{size_of}
@@ -65,7 +64,7 @@ stays : (moment : ℕ) (q : List ℕ) (h : Held) → is_asked h ≡ true → is_
 stays moment q (Came start piece) asked = refl
 stays moment q (AtControl w) asked = (control_cuts moment).request_stays q w asked
 stays moment q (AtNews reader) asked = (reader_cuts moment).request_stays q reader asked
-stays moment q (AtHttp bytes) asked = (http_cuts asked_in moment).request_stays q bytes asked
+stays moment q (AtHttp bytes) asked = (http_cuts moment).request_stays q bytes asked
 
 says-more : (moment : ℕ) (q : List ℕ) (s : Standing) (h : Held) (way : Way) → is_asked h ≡ true → said moment s (more_bytes q h) way ≡ said_with (more_bytes q) (said moment s h way)
 says-more moment q s (Came start piece) way asked = opening-more (unopened_words moment start) s (with_piece start piece) (with_piece start (piece ++ q)) q way (pieces-joined start piece q)
@@ -76,14 +75,14 @@ says-more moment q s (AtNews reader) way asked =
     ap (λ (x : Said Reader Archive). said_over (λ (a : Archive). standing a s.doubt) AtNews x) ((reader_cuts moment).said_stays q s.archive reader way asked)
     ∙ over-more (λ (a : Archive). standing a s.doubt) AtNews (news.with_piece q) q (news.said moment s.archive reader way) (λ h. refl)
 says-more moment q s (AtHttp bytes) way asked =
-    ap (λ (x : Said (List ℕ) Archive). said_over (λ (a : Archive). standing a s.doubt) AtHttp x) ((http_cuts asked_in moment).said_stays q s.archive bytes way asked)
-    ∙ over-more (λ (a : Archive). standing a s.doubt) AtHttp (pages.with_piece q) q (pages.said asked_in moment s.archive bytes way) (λ h. refl)
+    ap (λ (x : Said (List ℕ) Archive). said_over (λ (a : Archive). standing a s.doubt) AtHttp x) ((http_cuts moment).said_stays q s.archive bytes way asked)
+    ∙ over-more (λ (a : Archive). standing a s.doubt) AtHttp (pages.with_piece q) q (pages.said moment s.archive bytes way) (λ h. refl)
 
 rests : (moment : ℕ) (s : Standing) (h : Held) → is_asked h ≡ false → said moment s h Plain ≡ silent s h
 rests moment s (Came start piece) none = absurd (false≢true (sym none))
 rests moment s (AtControl w) none = ap (λ (x : Said Waiting Standing). said_over (λ (t : Standing). t) AtControl x) ((control_cuts moment).rest_plain s w none)
 rests moment s (AtNews reader) none = ap (λ (x : Said Reader Archive). said_over (λ (a : Archive). standing a s.doubt) AtNews x) ((reader_cuts moment).rest_plain s.archive reader none)
-rests moment s (AtHttp bytes) none = ap (λ (x : Said (List ℕ) Archive). said_over (λ (a : Archive). standing a s.doubt) AtHttp x) ((http_cuts asked_in moment).rest_plain s.archive bytes none)
+rests moment s (AtHttp bytes) none = ap (λ (x : Said (List ℕ) Archive). said_over (λ (a : Archive). standing a s.doubt) AtHttp x) ((http_cuts moment).rest_plain s.archive bytes none)
 
 keeps : (moment : ℕ) (s : Standing) (h : Held) (way : Way) → is_asked h ≡ false → ((said moment s h way).next ≡ None) ⊎ (said moment s h way ≡ silent s h)
 keeps moment s (Came start piece) way none = absurd (false≢true (sym none))
@@ -95,7 +94,7 @@ keeps moment s (AtNews reader) way none = elim ((reader_cuts moment).rest_kept s
   | inl shut ↦ inl (ap (held_over AtNews) shut)
   | inr kept ↦ inr (ap (λ (x : Said Reader Archive). said_over (λ (a : Archive). standing a s.doubt) AtNews x) kept)
 ]
-keeps moment s (AtHttp bytes) way none = elim ((http_cuts asked_in moment).rest_kept s.archive bytes way none) [
+keeps moment s (AtHttp bytes) way none = elim ((http_cuts moment).rest_kept s.archive bytes way none) [
   | inl shut ↦ inl (ap (held_over AtHttp) shut)
   | inr kept ↦ inr (ap (λ (x : Said (List ℕ) Archive). said_over (λ (a : Archive). standing a s.doubt) AtHttp x) kept)
 ]
@@ -104,7 +103,7 @@ joins : (moment : ℕ) (p q : List ℕ) (h : Held) → more_bytes q (more_bytes 
 joins moment p q (Came start piece) = ap (Came start) (append_assoc piece p q)
 joins moment p q (AtControl w) = ap AtControl ((control_cuts moment).more_joined p q w)
 joins moment p q (AtNews reader) = ap AtNews ((reader_cuts moment).more_joined p q reader)
-joins moment p q (AtHttp bytes) = ap AtHttp ((http_cuts asked_in moment).more_joined p q bytes)
+joins moment p q (AtHttp bytes) = ap AtHttp ((http_cuts moment).more_joined p q bytes)
 
 opened-smaller : (start : Session) (piece : List ℕ) → size_of (with_piece start piece) < size_of (Came start piece)
 opened-smaller (session.Control bytes) piece = omega arith
@@ -122,8 +121,8 @@ smaller moment s (AtNews reader) k asked next =
     let some = over-some (λ (a : Archive). standing a s.doubt) AtNews (news.said moment s.archive reader Plain).next k next in
     subst (λ (x : Held). size_of x < size_of (AtNews reader)) some.2 ((reader_cuts moment).shorter s.archive reader some.0 asked some.1)
 smaller moment s (AtHttp bytes) k asked next =
-    let some = over-some (λ (a : Archive). standing a s.doubt) AtHttp (pages.said asked_in moment s.archive bytes Plain).next k next in
-    subst (λ (x : Held). size_of x < size_of (AtHttp bytes)) some.2 ((http_cuts asked_in moment).shorter s.archive bytes some.0 asked some.1)
+    let some = over-some (λ (a : Archive). standing a s.doubt) AtHttp (pages.said moment s.archive bytes Plain).next k next in
+    subst (λ (x : Held). size_of x < size_of (AtHttp bytes)) some.2 ((http_cuts moment).shorter s.archive bytes some.0 asked some.1)
 
 pub node_cuts : (moment : ℕ) → CutDoor (said moment) is_asked more_bytes size_of
 node_cuts moment = record {

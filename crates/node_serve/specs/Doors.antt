@@ -16,7 +16,6 @@ use Rattle.nntp_reader.specs.Door as news
 use Rattle.nntp_reader.specs.Door.{Reader, new_reader}
 use Rattle.nntp_reader.specs.Notices.{welcome_line, memory_line, busy_line, unopened_line}
 use Rattle.http_front.specs.Door as pages
-use Rattle.http_front.specs.Reading.{asked_in}
 use Rattle.http_front.specs.Replies.{word, unopened_word}
 use Rattle.http_heads.specs.declared.reply.Status.TheVariants.{TooManyRequests, Unavailable}
 use Rattle.node_serve.specs.declared.session.Session.{Session}
@@ -66,7 +65,7 @@ said moment s (AtControl w) way =
 said moment s (AtNews reader) way =
     said_over (λ (a : Archive). standing a s.doubt) AtNews (news.said moment s.archive reader way)
 said moment s (AtHttp bytes) way = said_over (λ (a : Archive). standing a s.doubt) AtHttp
-    (pages.said asked_in moment s.archive bytes way)
+    (pages.said moment s.archive bytes way)
 
 -- Something is to be done before a rest is kept: the archive is to be reopened, or a whole request is
 -- at the front.

@@ -10,11 +10,8 @@ use Rattle.node_serve.specs.declared.serving.ServeEnd.TheVariants.{Stopped, Spen
 
 -- This is a stop.
 abbrev pub is_stop : What → Bool
-is_stop (what.Opened c door) = false
-is_stop (what.Bytes c len) = false
-is_stop (what.Ended c) = false
-is_stop what.Quiet = false
 is_stop what.Stop = true
+is_stop other = false
 
 -- No event is a stop.
 abbrev pub NoStop : List Arrival → Type 0
@@ -50,9 +47,7 @@ EndsBy Stopped true es turns left faults faults' =
     NoStop es × NoneLeft left × (length es < turns) × (faults' ≡ faults)
 EndsBy (Spent n) false es turns left faults faults' =
     (n ≡ turns) × (length es ≡ turns) × NoStop es × (faults' ≡ faults)
-EndsBy (Spent n) true es turns left faults faults' = ⊥
 EndsBy HostFault false es turns left faults faults' =
     NoStop es × Rose faults faults' × (length es < turns)
-EndsBy HostFault true es turns left faults faults' = ⊥
 EndsBy NoMemory false es turns left faults faults' = (es ≡ []) × (faults' ≡ faults)
-EndsBy NoMemory true es turns left faults faults' = ⊥
+EndsBy other true es turns left faults faults' = ⊥

@@ -133,12 +133,9 @@ CameAnyway (Some start) c arrival old i new j =
 -- What an event changes, by what it says happened. This asks nothing of the keeper: it is so where no
 -- archive is held, too, as after a file was found damaged.
 abbrev pub AnywayBy : {K : Type 0} → What → Arrival → Serving K → Outer → Serving K → Outer → Type 0
-AnywayBy (what.Opened c door) arrival old i new j = TurnsStill arrival old i new j
 AnywayBy (what.Bytes c len) arrival old i new j =
     CameAnyway ((places_in old).session c) c arrival old i new j
-AnywayBy (what.Ended c) arrival old i new j = TurnsStill arrival old i new j
-AnywayBy what.Quiet arrival old i new j = TurnsStill arrival old i new j
-AnywayBy what.Stop arrival old i new j = TurnsStill arrival old i new j
+AnywayBy other arrival old i new j = TurnsStill arrival old i new j
 
 -- The same of an event.
 abbrev pub TurnsAnyway : {K : Type 0} → Arrival → Serving K → Outer → Serving K → Outer → Type 0
@@ -213,12 +210,9 @@ module _ {K : Type 0} (holds : K → Archive → Type 0) (ready : K → Bool) (r
 
   -- The same of what happened. Only a piece reads.
   abbrev pub ReadsBy : ℕ → What → List ℕ → Serving K → Serving K → Type 0
-  ReadsBy moment (what.Opened c door) piece old new = reads new.keep ≡ reads old.keep
   ReadsBy moment (what.Bytes c len) piece old new =
       ReadsCame moment ((places_in old).session c) piece old.keep new.keep
-  ReadsBy moment (what.Ended c) piece old new = reads new.keep ≡ reads old.keep
-  ReadsBy moment what.Quiet piece old new = reads new.keep ≡ reads old.keep
-  ReadsBy moment what.Stop piece old new = reads new.keep ≡ reads old.keep
+  ReadsBy moment other piece old new = reads new.keep ≡ reads old.keep
 
   -- The same of an event, from one stage to the next.
   abbrev pub GoesReading : Arrival → Stage K → Stage K → Type 0

@@ -1,7 +1,6 @@
 use Rattle.std.proofs.Common.{◌≡◌}
 use Rattle.arch_model.specs.Archives.{Archive}
-use Rattle.arch_model.specs.Shelves.{Stays}
-use Rattle.control_door.specs.Counting.{ReadsUpTo}
+use Rattle.arch_model.specs.Shelves.{Stays, ReadsUpTo}
 use Rattle.control_door.specs.Door.{listed_below}
 use Rattle.control_door.proofs.epochs.push_epochs.Given as goal
 

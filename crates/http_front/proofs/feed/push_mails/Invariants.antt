@@ -1,8 +1,7 @@
 use Rattle.std.proofs.Common.{◌≡◌, ◌++◌, take}
 use Rattle.arch_model.specs.Archives.{Archive}
-use Rattle.arch_model.specs.Shelves.{Stays}
+use Rattle.arch_model.specs.Shelves.{Stays, ReadsUpTo}
 use Rattle.atom_mbox.specs.Feeds.{entries_of}
-use Rattle.http_front.specs.Asking.{ReadsUpTo}
 use Rattle.http_front.specs.Views.{shown_all}
 use Rattle.http_front.proofs.feed.push_mails.Given as goal
 

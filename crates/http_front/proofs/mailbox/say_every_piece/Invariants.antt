@@ -1,8 +1,7 @@
 use Rattle.std.proofs.Common.{◌≤◌, ◌++◌, ◌-◌, length}
 use Rattle.line_door.specs.Acts.{outside}
 use Rattle.arch_model.specs.Archives.{Archive, live}
-use Rattle.arch_model.specs.Shelves.{Stays}
-use Rattle.http_front.specs.Counting.{ReadsAhead}
+use Rattle.arch_model.specs.Shelves.{Stays, ReadsAhead}
 use Rattle.http_front.specs.Mailboxes.{whole_mailbox}
 use Rattle.http_front.proofs.Counting.{entries_from}
 use Rattle.http_front.proofs.Pieces.{pieces_left}

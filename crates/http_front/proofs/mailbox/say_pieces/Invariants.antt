@@ -1,8 +1,7 @@
 use Rattle.std.proofs.Common.{◌++◌, drop}
 use Rattle.line_door.specs.Acts.{outside}
 use Rattle.arch_model.specs.Archives.{Archive}
-use Rattle.arch_model.specs.Shelves.{Stays}
-use Rattle.http_front.specs.Asking.{ReadsUpTo}
+use Rattle.arch_model.specs.Shelves.{Stays, ReadsUpTo}
 use Rattle.http_front.specs.Mailboxes.{mailbox_at}
 use Rattle.http_front.proofs.Streaming.{SoFar}
 use Rattle.http_front.proofs.mailbox.say_pieces.Given as goal

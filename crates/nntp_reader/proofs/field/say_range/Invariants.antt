@@ -1,8 +1,7 @@
 use Rattle.std.proofs.Common.{◌≡◌, ◌≤◌, ℕ, length, true, IfSome, is_some}
 use Rattle.line_door.specs.Acts.{outside}
 use Rattle.arch_model.specs.Archives.{Archive, live, text_of}
-use Rattle.arch_model.specs.Shelves.{Stays}
-use Rattle.nntp_reader.specs.Counting.{ReadsAhead}
+use Rattle.arch_model.specs.Shelves.{Stays, ReadsAhead}
 use Rattle.nntp_reader.specs.Numbers.{live_in, first_of}
 use Rattle.nntp_reader.proofs.Streams.{Begun}
 use Rattle.nntp_reader.proofs.Walking.{numbers_left}

@@ -1,6 +1,4 @@
 use Rattle.std.proofs.Common.{◌++◌}
-use Rattle.http_front.specs.Reading.{asked_in}
-use Rattle.http_front.proofs.HeadReading.{reads-heads}
 use Rattle.node_serve.proofs.Feeding.{control-fed, news-fed, http-fed}
 use Rattle.node_serve.proofs.session.feed.Goals as goal
 
@@ -14,7 +12,7 @@ returns-in-News-clause-fed g c = λ s fits. rw c.in-News.is (
 
 pub returns-in-Http-clause-fed : goal.returns-in-Http-clause-fed
 returns-in-Http-clause-fed g c = λ s fits. rw c.in-Http.is (
-    http-fed g.K.Shelf.holds g.K.Keep.rests g.K.Shelf.ready g.K.Keep.leaves c.args.moment g.met.K.Keep.holds_rests g.met.K.Keep.holds_left (c.in-Http.pages ++ c.args.piece.now) s c.args.keep.now _ _ _ c.feed-in-Http.new.shelf _ (c.feed-in-Http.ensures.fed asked_in reads-heads) (g.met.K.Keep.alike_kept _ _ c.feed-in-Http.ensures.shelf.same) c.requires.ready fits)
+    http-fed g.K.Shelf.holds g.K.Keep.rests g.K.Shelf.ready g.K.Keep.leaves c.args.moment g.met.K.Keep.holds_rests g.met.K.Keep.holds_left (c.in-Http.pages ++ c.args.piece.now) s c.args.keep.now _ _ _ c.feed-in-Http.new.shelf _ c.feed-in-Http.ensures.fed (g.met.K.Keep.alike_kept _ _ c.feed-in-Http.ensures.shelf.same) c.requires.ready fits)
 
 pub returns-in-Control-clause-reads : goal.returns-in-Control-clause-reads
 returns-in-Control-clause-reads g c = rw c.in-Control.is c.feed.ensures.reads

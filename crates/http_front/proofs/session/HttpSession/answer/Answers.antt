@@ -9,11 +9,11 @@ pub invariant_of-self-2 : goal.invariant_of-self-2
 invariant_of-self-2 g c = rw c.clear.ensures (record { part = front-nil head_limit (omega arith); mark = refl })
 
 pub returns-then-len-eq0-clause-reads : goal.returns-then-len-eq0-clause-reads
-returns-then-len-eq0-clause-reads g c = λ reading is a held.
+returns-then-len-eq0-clause-reads g c = λ a held.
     let none : c.args.self.now ≡ [] = nil_from_length c.args.self.now (grind (arith, nat_tests, ap length c.self.view_is)) in
-    rw none (c.answer_head.ensures.reads reading is a held)
+    rw none (c.answer_head.ensures.reads a held)
 
 pub returns-clause-reads : goal.returns-clause-reads
-returns-clause-reads g c = λ reading is a held.
+returns-clause-reads g c = λ a held.
     let bytes = c.as_slice.ensures ∙ c.join.ensures ∙ ap (λ (h : List ℕ). h ++ c.args.last.now) c.self.view_is in
-    rw bytes at (c.answer_head-next.ensures.reads reading is a held)
+    rw bytes at (c.answer_head-next.ensures.reads a held)

@@ -8,48 +8,48 @@ use Rattle.http_front.proofs.session.HttpSession.feed.Goals as goal
 
 pub loop-taken-init : goal.loop-taken-init
 loop-taken-init g c = record {
-  going = λ reading is a held. Going-same (said reading c.args.moment) has_request _;
-  reads = λ reading is a held. ahead-none _ _ _ (omega arith);
+  going = λ a held. Going-same (said c.args.moment) has_request _;
+  reads = λ a held. ahead-none _ _ _ (omega arith);
   shelf = stays-same g.S.Shelf.holds g.S.Shelf.ready g.S.Shelf.alike g.S.Shelf.faults g.met.S.Shelf.alike_same c.args.shelf.now c.requires.ready;
   sink = g.met.O.Sink.alike_same _;
 }
 
 pub loop-taken-preserved : goal.loop-taken-preserved
 loop-taken-preserved g c = rw c.split_at.ensures.back (record {
-  going = λ reading is a held.
-      let before = c.loop-taken.invariant.going reading is a held in
-      let turn = c.in-Went.ensures.turn reading is a (c.loop-taken.invariant.shelf.kept a held) in
-      Going-more (said reading c.args.moment) has_request _ (talk (Some (c.loop-taken.self ++ c.loop-taken.rest.now)) a _) _ (c.loop-taken.self ++ c.loop-taken.rest.now) before turn.0 (record { held = refl; acts = turn.1 });
-  reads = λ reading is a held.
-      ahead-more _ _ _ _ _ _ (c.loop-taken.invariant.reads reading is a held) (c.in-Went.ensures.reads reading is a (c.loop-taken.invariant.shelf.kept a held));
+  going = λ a held.
+      let before = c.loop-taken.invariant.going a held in
+      let turn = c.in-Went.ensures.turn a (c.loop-taken.invariant.shelf.kept a held) in
+      Going-more (said c.args.moment) has_request _ (talk (Some (c.loop-taken.self ++ c.loop-taken.rest.now)) a _) _ (c.loop-taken.self ++ c.loop-taken.rest.now) before turn.0 (record { held = refl; acts = turn.1 });
+  reads = λ a held.
+      ahead-more _ _ _ _ _ _ (c.loop-taken.invariant.reads a held) (c.in-Went.ensures.reads a (c.loop-taken.invariant.shelf.kept a held));
   shelf = stays-joined g.S.Shelf.holds g.S.Shelf.ready g.S.Shelf.alike g.S.Shelf.faults g.met.S.Shelf.alike_joined _ _ _ c.loop-taken.invariant.shelf c.act.ensures.shelf;
   sink = g.met.O.Sink.alike_joined _ _ _ c.loop-taken.invariant.sink c.act.ensures.sink;
 })
 
 pub returns-in-Kept-clause-fed : goal.returns-in-Kept-clause-fed
-returns-in-Kept-clause-fed g c = λ reading is a held.
-    let before = c.loop-taken.invariant.going reading is a held in
-    let turn = c.in-Kept.ensures.turn reading is a (c.loop-taken.invariant.shelf.kept a held) in
-    Fed-last (said reading c.args.moment) has_request _ (talk (Some (c.loop-taken.self ++ c.loop-taken.rest.now)) a _) _ before (Last-done (said reading c.args.moment) has_request (c.loop-taken.self ++ c.loop-taken.rest.now) a _ _ a _ turn.2 (inr (turn.0, turn.1)))
+returns-in-Kept-clause-fed g c = λ a held.
+    let before = c.loop-taken.invariant.going a held in
+    let turn = c.in-Kept.ensures.turn a (c.loop-taken.invariant.shelf.kept a held) in
+    Fed-last (said c.args.moment) has_request _ (talk (Some (c.loop-taken.self ++ c.loop-taken.rest.now)) a _) _ before (Last-done (said c.args.moment) has_request (c.loop-taken.self ++ c.loop-taken.rest.now) a _ _ a _ turn.2 (inr (turn.0, turn.1)))
 
 pub returns-in-Closed-clause-fed : goal.returns-in-Closed-clause-fed
-returns-in-Closed-clause-fed g c = λ reading is a held.
-    let before = c.loop-taken.invariant.going reading is a held in
-    let turn = c.in-Closed.ensures.turn reading is a (c.loop-taken.invariant.shelf.kept a held) in
-    Fed-last (said reading c.args.moment) has_request _ (talk (Some (c.loop-taken.self ++ c.loop-taken.rest.now)) a _) _ before (Last-done (said reading c.args.moment) has_request (c.loop-taken.self ++ c.loop-taken.rest.now) a _ None a _ turn (inl refl))
+returns-in-Closed-clause-fed g c = λ a held.
+    let before = c.loop-taken.invariant.going a held in
+    let turn = c.in-Closed.ensures.turn a (c.loop-taken.invariant.shelf.kept a held) in
+    Fed-last (said c.args.moment) has_request _ (talk (Some (c.loop-taken.self ++ c.loop-taken.rest.now)) a _) _ before (Last-done (said c.args.moment) has_request (c.loop-taken.self ++ c.loop-taken.rest.now) a _ None a _ turn (inl refl))
 
 pub returns-in-Kept-clause-reads : goal.returns-in-Kept-clause-reads
-returns-in-Kept-clause-reads g c = λ reading is a held.
-    ahead-kept _ _ _ _ _ (c.loop-taken.invariant.reads reading is a held) (c.in-Kept.ensures.reads reading is a (c.loop-taken.invariant.shelf.kept a held))
+returns-in-Kept-clause-reads g c = λ a held.
+    ahead-kept _ _ _ _ _ (c.loop-taken.invariant.reads a held) (c.in-Kept.ensures.reads a (c.loop-taken.invariant.shelf.kept a held))
 
 pub returns-in-Kept-clause-unread : goal.returns-in-Kept-clause-unread
-returns-in-Kept-clause-unread g c = λ reading is a held quiet.
-    bytes-quiet reading a (c.args.self.now ++ c.args.piece.now) _ _ (ahead-kept _ _ _ _ _ (c.loop-taken.invariant.reads reading is a held) (c.in-Kept.ensures.reads reading is a (c.loop-taken.invariant.shelf.kept a held))) quiet
+returns-in-Kept-clause-unread g c = λ a held quiet.
+    bytes-quiet a (c.args.self.now ++ c.args.piece.now) _ _ (ahead-kept _ _ _ _ _ (c.loop-taken.invariant.reads a held) (c.in-Kept.ensures.reads a (c.loop-taken.invariant.shelf.kept a held))) quiet
 
 pub returns-in-Closed-clause-reads : goal.returns-in-Closed-clause-reads
-returns-in-Closed-clause-reads g c = λ reading is a held.
-    ahead-last _ _ _ _ _ (c.loop-taken.invariant.reads reading is a held) (c.in-Closed.ensures.reads reading is a (c.loop-taken.invariant.shelf.kept a held))
+returns-in-Closed-clause-reads g c = λ a held.
+    ahead-last _ _ _ _ _ (c.loop-taken.invariant.reads a held) (c.in-Closed.ensures.reads a (c.loop-taken.invariant.shelf.kept a held))
 
 pub returns-in-Closed-clause-unread : goal.returns-in-Closed-clause-unread
-returns-in-Closed-clause-unread g c = λ reading is a held quiet.
-    bytes-quiet reading a (c.args.self.now ++ c.args.piece.now) _ _ (ahead-last _ _ _ _ _ (c.loop-taken.invariant.reads reading is a held) (c.in-Closed.ensures.reads reading is a (c.loop-taken.invariant.shelf.kept a held))) quiet
+returns-in-Closed-clause-unread g c = λ a held quiet.
+    bytes-quiet a (c.args.self.now ++ c.args.piece.now) _ _ (ahead-last _ _ _ _ _ (c.loop-taken.invariant.reads a held) (c.in-Closed.ensures.reads a (c.loop-taken.invariant.shelf.kept a held))) quiet

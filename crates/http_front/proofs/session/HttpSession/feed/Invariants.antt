@@ -2,22 +2,21 @@ use Rattle.std.proofs.Common.{◌++◌, length, Some}
 use Rattle.line_door.specs.Acts.{outside}
 use Rattle.line_door.specs.Course.{talk, Going}
 use Rattle.arch_model.specs.Archives.{Archive}
-use Rattle.arch_model.specs.Shelves.{Stays}
-use Rattle.http_front.specs.Asking.{Reading, IsReading}
-use Rattle.http_front.specs.Counting.{texts_for_bytes, ReadsAhead}
+use Rattle.arch_model.specs.Shelves.{Stays, ReadsAhead}
+use Rattle.http_front.specs.Counting.{texts_for_bytes}
 use Rattle.http_front.specs.Door.{said, has_request}
 use Rattle.http_front.proofs.session.HttpSession.feed.Given as goal
 
 abbrev pub invariant-loop-taken : goal.invariant-loop-taken
 invariant-loop-taken g l = record {
   going :
-      (reading : Reading) → IsReading reading → (a : Archive) → g.S.Shelf.holds l.fn.shelf a →
-      Going (said reading l.moment) has_request
+      (a : Archive) → g.S.Shelf.holds l.fn.shelf a →
+      Going (said l.moment) has_request
       (talk (Some (l.fn.self ++ l.fn.piece)) a (outside (g.O.Sink.taken l.fn.out) (g.S.Shelf.faults l.fn.shelf) (g.O.Sink.faults l.fn.out)))
       (talk (Some (l.self ++ l.rest)) a (outside (g.O.Sink.taken l.out) (g.S.Shelf.faults l.shelf) (g.O.Sink.faults l.out)));
   reads :
-      (reading : Reading) → IsReading reading → (a : Archive) → g.S.Shelf.holds l.fn.shelf a →
-      ReadsAhead (texts_for_bytes reading a (l.fn.self ++ l.fn.piece)) (texts_for_bytes reading a (l.self ++ l.rest)) (g.S.Shelf.reads l.fn.shelf) (g.S.Shelf.reads l.shelf);
+      (a : Archive) → g.S.Shelf.holds l.fn.shelf a →
+      ReadsAhead (texts_for_bytes a (l.fn.self ++ l.fn.piece)) (texts_for_bytes a (l.self ++ l.rest)) (g.S.Shelf.reads l.fn.shelf) (g.S.Shelf.reads l.shelf);
   shelf : Stays g.S.Shelf.holds g.S.Shelf.ready g.S.Shelf.alike g.S.Shelf.faults l.fn.shelf l.shelf;
   sink : g.O.Sink.alike l.fn.out l.out;
 }

@@ -12,15 +12,15 @@ keep-requires g c =
     rw c.self.view_is (omega (arith, short, length-append c.args.self.now c.args.piece.now))
 
 pub returns-then-is_empty-clause-turn : goal.returns-then-is_empty-clause-turn
-returns-then-is_empty-clause-turn g c = λ reading a disk.
+returns-then-is_empty-clause-turn g c = λ a disk.
     let none : c.args.piece.now ≡ [] = nil_from_length c.args.piece.now (grind (arith, nat_tests)) in
-    rw c.self.view_is (keeps-nothing reading c.args.moment a c.args.self.now c.args.piece.now _ none c.requires.held.part)
+    rw c.self.view_is (keeps-nothing c.args.moment a c.args.self.now c.args.piece.now _ none c.requires.held.part)
 
 pub returns-in-Ok-clause-turn : goal.returns-in-Ok-clause-turn
-returns-in-Ok-clause-turn g c = λ reading a disk.
+returns-in-Ok-clause-turn g c = λ a disk.
     let same : c.keep.new.self ≡ c.args.self.now ++ c.args.piece.now = c.in-Ok.ensures.ok ∙ ap (λ (h : List ℕ). h ++ c.args.piece.now) c.self.view_is in
-    rw same (keeps reading c.args.moment a (c.args.self.now ++ c.args.piece.now) _ c.requires.held.part)
+    rw same (keeps c.args.moment a (c.args.self.now ++ c.args.piece.now) _ c.requires.held.part)
 
 pub returns-in-Err-clause-turn : goal.returns-in-Err-clause-turn
-returns-in-Err-clause-turn g c = λ reading a disk.
-    closes-keeping reading c.args.moment a c.args.self.now c.args.piece.now _ _ _ (grind (arith, nat_tests)) c.requires.held.part refl c.say_status.ensures.said
+returns-in-Err-clause-turn g c = λ a disk.
+    closes-keeping c.args.moment a c.args.self.now c.args.piece.now _ _ _ (grind (arith, nat_tests)) c.requires.held.part refl c.say_status.ensures.said

@@ -2,8 +2,8 @@ use Rattle.std.proofs.Common.{◌++◌, length, Some}
 use Rattle.line_door.specs.Acts.{outside}
 use Rattle.line_door.specs.Course.{talk, Going}
 use Rattle.arch_model.specs.Archives.{Archive}
-use Rattle.arch_model.specs.Shelves.{Stays}
-use Rattle.nntp_reader.specs.Counting.{texts_for_bytes, ReadsAhead}
+use Rattle.arch_model.specs.Shelves.{Stays, ReadsAhead}
+use Rattle.nntp_reader.specs.Counting.{texts_for_bytes}
 use Rattle.nntp_reader.specs.Door.{said, has_request, with_piece}
 use Rattle.nntp_reader.proofs.session.NntpSession.feed.Given as goal
 
