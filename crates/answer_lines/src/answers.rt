@@ -1,4 +1,5 @@
 //! Writes the answers to commands.
+//! Pure.
 ghost use Rattle.std.specs.Prelude.{◌++◌, ◌∷◌, codes, decimal};
 ghost use Rattle.hex.specs.Hex.{encode_lower};
 ghost use Rattle.edge_io.specs.Phrases.{Says};

@@ -1,4 +1,5 @@
 //! Writes the lines of damaged files.
+//! Pure.
 ghost use Rattle.std.specs.Prelude.{◌++◌, ◌∷◌, codes, decimal};
 ghost use Rattle.edge_io.specs.Phrases.{Says};
 ghost use Rattle.arch_model.specs.Delivery.{file_words};

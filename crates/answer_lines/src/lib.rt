@@ -1,5 +1,5 @@
-//! The lines of answers: what a door or the program writes for the answer to a command, for a
-//! refusal, and for a damaged file.
+//! The lines that a door or the program writes: answers to commands, refusals, damaged files.
+//! Pure.
 //!
 //! Each line ends with a line feed. A call answers `SinkFault` if a prefix of its line was taken.
 //! The sink's count of faults then rose.

@@ -1,4 +1,5 @@
 //! Writes the ends of lines: numbers and ids.
+//! Pure.
 ghost use Rattle.std.specs.Prelude.{◌++◌, ◌∷◌, [], decimal};
 ghost use Rattle.hex.specs.Hex.{encode_lower};
 ghost use Rattle.edge_io.specs.Phrases.{Says};

@@ -1,4 +1,5 @@
 //! Writes refusals.
+//! Pure.
 ghost use Rattle.std.specs.Prelude.{◌++◌, ◌∷◌, codes};
 ghost use Rattle.hex.specs.Hex.{encode_lower};
 ghost use Rattle.edge_io.specs.Phrases.{Says};

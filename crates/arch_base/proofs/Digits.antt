@@ -6,7 +6,7 @@ use Rattle.std.specs.Str.{all_ascii_digits}
 use Rattle.std.proofs.lemmas.Fmt.{decimal-digits_value, digits_decimal, digits_value-decimal, decimal_nonempty, first_decimal, decimal_digit}
 use Rattle.std.proofs.lemmas.Str.Parse.{IsNumeralModel, numerals_by_fold, tells_all_ascii_digits}
 use Rattle.std.proofs.lemmas.Bool.Decides.{nat_tests}
-use Rattle.arch_base.specs.Decimals.{read_on, IsValue, IsPadded, decimal_of}
+use Rattle.arch_base.specs.Decimals.{read_on, IsDecimalValue, IsPadded, decimal_of}
 
 -- `read_on` agrees with std's model of numerals.
 pub digits_model : IsNumeralModel (λ ds. all_ascii_digits ds ≡ true) (read_on 0)
@@ -16,14 +16,14 @@ digits_model = numerals_by_fold _ tells_all_ascii_digits read_on (record {
 })
 
 -- Digits without a leading zero are the decimal of their value.
-pub printed-value : (text : List ℕ) (found : Option ℕ) → 0 < length text → (get_or text 0 0 ≡ 48 → length text ≡ 1) → IsValue text found → IfSome found (λ value. text ≡ printed value)
+pub printed-value : (text : List ℕ) (found : Option ℕ) → 0 < length text → (get_or text 0 0 ≡ 48 → length text ≡ 1) → IsDecimalValue text found → IfSome found (λ value. text ≡ printed value)
 printed-value text None some lead h = tt
 printed-value text (Some value) some lead h =
     let small : read_on 0 text < 2 ^ 64 = omega (arith, h.1, h.2) in
     sym (decimal-digits_value digits_model text h.0 some lead small) ∙ ap printed (sym h.1)
 
 -- A text for which no value is found is not a decimal.
-pub printed-none : (text : List ℕ) (found : Option ℕ) → IsValue text found → IfNone found ((value : ℕ) → value < 2 ^ 64 → text ≢ printed value)
+pub printed-none : (text : List ℕ) (found : Option ℕ) → IsDecimalValue text found → IfNone found ((value : ℕ) → value < 2 ^ 64 → text ≢ printed value)
 printed-none text None h = λ value small is.
     let wide : 2 ^ 64 ≤ read_on 0 text = h (subst (λ ds. all_ascii_digits ds ≡ true) (sym is) (digits_decimal digits_model value small)) in
     let same : read_on 0 text ≡ value = ap (read_on 0) is ∙ digits_value-decimal digits_model value small in
@@ -86,7 +86,7 @@ read_value true false value (Some v) small wide h = absurd (omega (arith, h.1, h
 read_value false f value (Some v) small wide h = absurd (cc h.0)
 
 -- The value of digits that are not padded is the number that the text spells.
-pub decimal_of-value : (text : List ℕ) (found : Option ℕ) → IsPadded text false → IsValue text found → found ≡ decimal_of text
+pub decimal_of-value : (text : List ℕ) (found : Option ℕ) → IsPadded text false → IsDecimalValue text found → found ≡ decimal_of text
 decimal_of-value text found sound h =
     let a : nat_lt 0 (length text) ≡ true = grind (arith, nat_tests, sound.0) in
     let b : is_sound text ≡ true = grind (arith, nat_tests, sound.1) in

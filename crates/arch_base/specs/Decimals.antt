@@ -18,8 +18,8 @@ abbrev pub decimal_of : List ℕ → Option ℕ
 decimal_of text = if is_decimal text then Some (read_on 0 text) else None
 
 -- The value of a text of digits. None only if a byte is not a digit, or the value is 2^64 or more.
-abbrev pub IsValue : List ℕ → Option ℕ → Type 0
-IsValue text found =
+abbrev pub IsDecimalValue : List ℕ → Option ℕ → Type 0
+IsDecimalValue text found =
     MatchOption found (all_ascii_digits text ≡ true → 2 ^ 64 ≤ read_on 0 text)
     (λ value. (all_ascii_digits text ≡ true) × (value ≡ read_on 0 text) × (value < 2 ^ 64))
 

@@ -12,7 +12,7 @@ is_name_byte c = is_letter_or_digit c || c == 45 || c == 95 || c == 46
 
 -- A name has 1 to 64 bytes that a name may have. The first is a letter or a digit, and the last is
 -- not a dot.
-pub record IsName (text : List ℕ) : Type 0 where
+pub record IsArchiveName (text : List ℕ) : Type 0 where
   pub nonempty : 1 ≤ length text
   pub short : length text ≤ 64
   pub bytes : AllPass is_name_byte text

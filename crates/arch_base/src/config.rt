@@ -1,4 +1,5 @@
 //! The settings of an archive.
+//! Pure.
 ghost use Rattle.std.specs.Prelude.{◌≡◌};
 
 use crate::name::Name;

@@ -1,7 +1,8 @@
 //! Writes and reads unsigned decimals.
+//! Allocates.
 ghost use Rattle.std.specs.Prelude.{◌≡◌, ◌≢◌, ◌<◌, ◌≤◌, ◌^◌, ◌+◌, ◌-◌, ◌*◌, ℕ, IfOk, IfSome, IfNone, MatchOption};
 ghost use Rattle.std.specs.Fmt.{decimal as printed};
-ghost use Rattle.arch_base.specs.Decimals.{IsPadded, IsValue, decimal_of};
+ghost use Rattle.arch_base.specs.Decimals.{IsPadded, IsDecimalValue, decimal_of};
 
 use crate::sequence::{Bytes, NoMemory};
 use std::alloc::Global;
@@ -42,7 +43,7 @@ fn is_padded(text: &[u8]) -> bool
 ///
 /// `None` if a byte is not a digit, or if the value does not fit in a `u64`.
 fn value_of(text: &[u8]) -> Option<u64>
-    ensures { IsValue text.now result }
+    ensures { IsDecimalValue text.now result }
 {
     let mut value: u64 = 0;
     for byte in text {

@@ -1,7 +1,8 @@
 //! Ids of git objects, and their 40 hexadecimal digits.
+//! Pure.
 ghost use Rattle.std.specs.Prelude.{◌≡◌, ◌≢◌, IfSome, IfNone};
 ghost use Rattle.hex.specs.Hex.{encode_lower};
-ghost use Rattle.arch_base.specs.Ids.{IsId};
+ghost use Rattle.arch_base.specs.Ids.{IsObjectId};
 
 use hex::{decode_to_slice, encode_to_slice};
 
@@ -27,7 +28,7 @@ pub fn hex_of(id: &ObjectId) -> [u8; 40]
 /// Returns the id that 40 lower-case hexadecimal digits spell, or `None` for any other text.
 pub fn id_of_hex(text: &[u8]) -> Option<ObjectId>
     ensures found { IfSome result (λ id. text.now ≡ encode_lower id.0) }
-    ensures none { IfNone result ((id : Id20) → IsId id → text.now ≢ encode_lower id.0) }
+    ensures none { IfNone result ((id : Id20) → IsObjectId id → text.now ≢ encode_lower id.0) }
 {
     let mut bytes = [0u8; 20];
     if decode_to_slice(text, &mut bytes).is_err() {

@@ -1,5 +1,5 @@
-//! The base types of the archive: lists, archive names, decimals, object ids, archive settings and
-//! moments.
+//! The base types of the archive: lists, names, decimals, object ids, settings and moments.
+//! Allocates.
 #![tactic(auto)]
 
 mod config;

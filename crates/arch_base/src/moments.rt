@@ -1,4 +1,5 @@
 //! The moments that an archive knows.
+//! Pure.
 ghost use Rattle.std.specs.Prelude.{◌≡◌};
 ghost use Rattle.arch_base.specs.Moments.{last_moment};
 

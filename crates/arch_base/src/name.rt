@@ -1,6 +1,7 @@
 //! Names of archives.
+//! Pure.
 ghost use Rattle.std.specs.Prelude.{◌≡◌, ◌↔◌, IfSome, IfNone, IsTrue};
-ghost use Rattle.arch_base.specs.Names.{IsName, is_letter_or_digit as letter_or_digit, is_name_byte as name_byte};
+ghost use Rattle.arch_base.specs.Names.{IsArchiveName, is_letter_or_digit as letter_or_digit, is_name_byte as name_byte};
 
 use std::marker::Model;
 
@@ -16,20 +17,20 @@ pub struct Name {
 
 impl Model for Name {
     ghost use Rattle.std.specs.Prelude.{List, ℕ, take, ◌≤◌};
-    ghost use Rattle.arch_base.specs.Names.{IsName};
+    ghost use Rattle.arch_base.specs.Names.{IsArchiveName};
 
     ghost Value = { List ℕ };
 
     ghost view = { λ n. take n.len n.bytes };
 
-    ghost invariant = { λ n. (n.len ≤ 64) × IsName (take n.len n.bytes) };
+    ghost invariant = { λ n. (n.len ≤ 64) × IsArchiveName (take n.len n.bytes) };
 }
 
 impl Name {
     /// Returns a text as a name, or `None` if it is not a valid name.
     pub fn read(text: &[u8]) -> Option<Name>
-        ensures found { IfSome result (λ name. (name ≡ text.now) × IsName text.now) }
-        ensures none { IfNone result (IsName text.now → ⊥) }
+        ensures found { IfSome result (λ name. (name ≡ text.now) × IsArchiveName text.now) }
+        ensures none { IfNone result (IsArchiveName text.now → ⊥) }
     {
         if !is_name(text) {
             return None;
@@ -55,7 +56,7 @@ impl Name {
     /// Returns the bytes of the name.
     pub fn as_slice(&self) -> &[u8]
         ensures value { result.now ≡ self.now }
-        ensures valid { IsName self.now }
+        ensures valid { IsArchiveName self.now }
     {
         &self.bytes[..self.len as usize]
     }
@@ -77,7 +78,7 @@ fn is_letter_or_digit(byte: u8) -> bool
 
 /// Returns whether a text is a valid name.
 fn is_name(text: &[u8]) -> bool
-    ensures { IsTrue result ↔ IsName text.now }
+    ensures { IsTrue result ↔ IsArchiveName text.now }
 {
     match text {
         [first, .., last] => {

@@ -1,4 +1,5 @@
 //! A growable list over `Vec`. Contracts see it as the list of its items.
+//! Allocates.
 ghost use Rattle.std.specs.Prelude.{◌≡◌, ◌++◌, [], ◌∷◌, List, take, IfOk, if◌then◌else◌, is_ok};
 
 use std::alloc::{AllocError, AllocFailed, Global};

@@ -3,7 +3,7 @@ use Rattle.std.specs.Prelude.{◌≡◌, ◌+◌, ◌^◌, ◌<◌, ◌≤◌, �
 use Rattle.std.specs.Str.{bytes_eq}
 use Rattle.std.proofs.Common.{◌∙◌, sym, ap, subst, arith}
 use Rattle.std.proofs.lemmas.Bool.Decides.{nat_tests}
-use Rattle.arch_base.specs.Names.{IsName}
+use Rattle.arch_base.specs.Names.{IsArchiveName}
 use Rattle.arch_base.specs.declared.config.Config.{Config}
 use Rattle.arch_base.specs.declared.ids.Id20.{Id20}
 use Rattle.hex.specs.Hex.{encode_lower}
@@ -15,7 +15,7 @@ use Rattle.arch_model.specs.Archives.{Entry, Archive, owner, live}
 use Rattle.arch_model.specs.Candidates.{id_with, made_id, with_made, met, decided, choice_from, choice_of}
 use Rattle.arch_judge.specs.Judging.{IsKnownBy, IsNewText, IsStored, TakesNewText}
 use Rattle.arch_model.specs.Laws.{TakenAreStorage}
-use Rattle.arch_judge.specs.Indexes.{IsIndex, met_in, met_own, owner_in, owner_of}
+use Rattle.arch_judge.specs.Indexes.{IsArchiveIndex, met_in, met_own, owner_in, owner_of}
 use Rattle.arch_model.specs.declared.choice.Choice.{Choice}
 use Rattle.arch_model.specs.declared.choice.Choice.TheVariants.{Take, Repeat}
 use Rattle.arch_model.specs.declared.choice.Meeting.{Meeting}
@@ -108,7 +108,7 @@ new_by index text own own_is none id is =
     subst (λ (q : List ℕ). owner_in index.owners q ≡ None) same none
 
 -- A text with a free made id at the front is new.
-pub made_new : TakenAreStorage → (index : Index) (name text id : List ℕ) (i : ℕ) (choice : Choice) → IsName name → IsStored text → i < 2 ^ 64 → asked index name text i ≡ Free → id ≡ made_id name text i
+pub made_new : TakenAreStorage → (index : Index) (name text id : List ℕ) (i : ℕ) (choice : Choice) → IsArchiveName name → IsStored text → i < 2 ^ 64 → asked index name text i ≡ Free → id ≡ made_id name text i
     → choice ≡ Take (id_line id ++ text) → TakesNewText index choice
 made_new law index name text id i choice is_name from small free id_is choice_is =
     subst (TakesNewText index) (sym (choice_is ∙ ap (λ (q : List ℕ). Take (id_line q ++ text)) id_is))
@@ -128,7 +128,7 @@ own_new law index text content from free = by (own_id text) refl free where
   }
 
 -- How the own id of a text meets an index decides in each archive of that index, before its made ids.
-pub own_decides : (a : Archive) (index : Index) (text content : List ℕ) (m : Meeting) → IsIndex a.entries index → content ≡ content_id_of text → m ≡ met_own index.owners (own_id text) content → choice_of a text ≡ decided m text (all_made a text)
+pub own_decides : (a : Archive) (index : Index) (text content : List ℕ) (m : Meeting) → IsArchiveIndex a.entries index → content ≡ content_id_of text → m ≡ met_own index.owners (own_id text) content → choice_of a text ≡ decided m text (all_made a text)
 own_decides a index text content m indexed content_is = by (own_id text) where
   chooses : Meeting → Choice
   chooses met_so = decided met_so text (all_made a text)

@@ -9,10 +9,10 @@ use Rattle.git_objects.specs.Objects.{blob_id_of}
 use Rattle.git_objects.specs.declared.entry_kind.EntryKind.{EntryKind}
 use Rattle.git_objects.specs.declared.entry_kind.EntryKind.TheVariants.{Message, Deletion}
 use Rattle.arch_model.specs.Archives.{Entry, deletion, is_message, is_ended, is_id, live, text_of, owner, blob_number}
-use Rattle.arch_model.specs.Validity.{IsFrom, number_after, Rise, IdsDiffer}
+use Rattle.arch_model.specs.Validity.{NumberIsFrom, number_after, Rise, IdsDiffer}
 use Rattle.arch_model.proofs.LiveEntries.{without, live-deletion, found-has, live-has, all-text}
 use Rattle.arch_model.proofs.Shelving.{has-blob}
-use Rattle.arch_judge.specs.Indexes.{IsIndex, Loses, owner_of}
+use Rattle.arch_judge.specs.Indexes.{IsArchiveIndex, IndexLoses, owner_of}
 use Rattle.arch_judge.specs.declared.index.Index.{Index}
 use Rattle.arch_judge.specs.declared.index.Owner.{Owner}
 use Rattle.arch_judge.proofs.Indexes.{blob_number-push}
@@ -27,7 +27,7 @@ pub ascend-low : (low number : ℕ) (es : List Entry) → low ≤ number → Asc
 ascend-low low number [] less ascend = tt
 ascend-low low number (e ∷ es) less ascend = (let above : number ≤ e.number = ascend.0 in omega (arith, less, above), ascend.1)
 
-ascend_step : (k : EntryKind) (ended : Bool) (number : ℕ) (e : Entry) (xs : List Entry) → IsFrom k number e.number → Ascend (number_after k number e.number) xs → Ascend number (if is_message k && not ended then e ∷ xs else xs)
+ascend_step : (k : EntryKind) (ended : Bool) (number : ℕ) (e : Entry) (xs : List Entry) → NumberIsFrom k number e.number → Ascend (number_after k number e.number) xs → Ascend number (if is_message k && not ended then e ∷ xs else xs)
 ascend_step Message true number e xs low rest = ascend-low number (e.number + 1) xs (omega (arith, low)) rest
 ascend_step Message false number e xs low rest = (low, rest)
 ascend_step Deletion ended number e xs low rest = rest
@@ -115,9 +115,9 @@ lose_step true found = refl
 lose_step false found = refl
 
 -- An index that lost the own id of a live message is the index after the deletion of that message.
-pub IsIndex-ends : (es : List Entry) (n epoch : ℕ) (text : List ℕ) (moment number first : ℕ) (old new : Index) (own : List ℕ) → IsIndex es old → Rise number first es → IdsDiffer (live es) → text_of (live es) n ≡ Some text → own_id text ≡ Some own → Loses old new own
-    → IsIndex (es ++ deletion n epoch text moment ∷ []) new
-IsIndex-ends es n epoch text moment number first old new own is rise differ shown own_is lost = record {
+pub IsArchiveIndex-ends : (es : List Entry) (n epoch : ℕ) (text : List ℕ) (moment number first : ℕ) (old new : Index) (own : List ℕ) → IsArchiveIndex es old → Rise number first es → IdsDiffer (live es) → text_of (live es) n ≡ Some text → own_id text ≡ Some own → IndexLoses old new own
+    → IsArchiveIndex (es ++ deletion n epoch text moment ∷ []) new
+IsArchiveIndex-ends es n epoch text moment number first old new own is rise differ shown own_is lost = record {
   owners = λ q.
       lost.owners q
       ∙ ap (λ (f : Option Owner). if bytes_eq q own then None else f) (is.owners q)

@@ -6,7 +6,7 @@ use Rattle.arch_base.specs.declared.ids.Id20.{Id20}
 use Rattle.mail_reader.specs.Ids.{own_id}
 use Rattle.git_objects.specs.Objects.{blob_id_of}
 use Rattle.arch_model.specs.Archives.{Entry, live, owner, is_id, blob_number}
-use Rattle.arch_judge.specs.Indexes.{IsIndex, Puts, HasSame, first_found, owner_of, owner_in}
+use Rattle.arch_judge.specs.Indexes.{IsArchiveIndex, IndexPuts, HasSame, first_found, owner_of, owner_in}
 use Rattle.arch_judge.specs.declared.index.Index.{Index}
 use Rattle.arch_judge.specs.declared.index.Owner.{Owner}
 
@@ -30,9 +30,9 @@ put_step f false false x None y is same none = refl
 put_step f false false x (Some z) y is same none = refl
 
 -- An index with one more message is the index of one more live entry.
-pub IsIndex-push : (es : List Entry) (e : Entry) (old new : Index) (id : List ℕ) (blob : Id20) (message : Owner) → live (es ++ e ∷ []) ≡ live es ++ e ∷ [] → IsIndex es old → Puts old new id blob message → owner_of e ≡ message → own_id e.text ≡ Some id → owner (live es) id ≡ None
-    → blob ≡ blob_id_of e.text → IsIndex (es ++ e ∷ []) new
-IsIndex-push es e old new id blob message grows is puts known own free blob_is = record {
+pub IsArchiveIndex-push : (es : List Entry) (e : Entry) (old new : Index) (id : List ℕ) (blob : Id20) (message : Owner) → live (es ++ e ∷ []) ≡ live es ++ e ∷ [] → IsArchiveIndex es old → IndexPuts old new id blob message → owner_of e ≡ message → own_id e.text ≡ Some id → owner (live es) id ≡ None
+    → blob ≡ blob_id_of e.text → IsArchiveIndex (es ++ e ∷ []) new
+IsArchiveIndex-push es e old new id blob message grows is puts known own free blob_is = record {
   owners = λ q.
       puts.owners q
       ∙ ap (λ (f : Option Owner). if bytes_eq q id then Some message else f) (is.owners q)
@@ -48,11 +48,11 @@ IsIndex-push es e old new id blob message grows is puts known own free blob_is =
 }
 
 -- An index with the same content is an index of the same entries.
-pub IsIndex-same : (es : List Entry) (old new : Index) → IsIndex es old → HasSame old new → IsIndex es new
-IsIndex-same es old new is same = record { owners = λ q. same.owners q ∙ is.owners q; blobs = λ q. same.blobs q ∙ is.blobs q }
+pub IsArchiveIndex-same : (es : List Entry) (old new : Index) → IsArchiveIndex es old → HasSame old new → IsArchiveIndex es new
+IsArchiveIndex-same es old new is same = record { owners = λ q. same.owners q ∙ is.owners q; blobs = λ q. same.blobs q ∙ is.blobs q }
 
 -- If an index has no message with an id, no live entry has that own id.
-pub unowned : (es : List Entry) (index : Index) (id : List ℕ) → IsIndex es index → owner_in index.owners id ≡ None → owner (live es) id ≡ None
+pub unowned : (es : List Entry) (index : Index) (id : List ℕ) → IsArchiveIndex es index → owner_in index.owners id ≡ None → owner (live es) id ≡ None
 unowned es index id is none = empty (owner (live es) id) (sym (is.owners id) ∙ none) where
   empty : (o : Option Entry) → option_map owner_of o ≡ None → o ≡ None
   empty None h = refl

@@ -27,7 +27,7 @@ number_in blobs blob = get_by (λ (k : List ℕ). slice_cmp nat_cmp blob k) blob
 
 -- The index has the live entries by their own ids, and by each blob id the number of the first entry
 -- that has it, live or not.
-pub record IsIndex (entries : List Entry) (index : Index) : Type 0 where
+pub record IsArchiveIndex (entries : List Entry) (index : Index) : Type 0 where
   pub owners : (id : List ℕ)
       → owner_in index.owners id ≡ option_map owner_of (owner (live entries) id)
   pub blobs : (blob : List ℕ) → number_in index.blobs blob ≡ blob_number entries blob
@@ -38,14 +38,14 @@ first_found None other = other
 first_found (Some x) other = Some x
 
 -- One id was put into the index, and its blob id, if it wasn't there already.
-pub record Puts (old new : Index) (id : List ℕ) (blob : Id20) (message : Owner) : Type 0 where
+pub record IndexPuts (old new : Index) (id : List ℕ) (blob : Id20) (message : Owner) : Type 0 where
   pub owners : (q : List ℕ)
       → owner_in new.owners q ≡ (if bytes_eq q id then Some message else owner_in old.owners q)
   pub blobs : (q : List ℕ) → number_in new.blobs q ≡ first_found (number_in old.blobs q)
       (if bytes_eq q blob.0 then Some message.number else None)
 
 -- An id was removed from the index. Blob ids stay.
-pub record Loses (old new : Index) (id : List ℕ) : Type 0 where
+pub record IndexLoses (old new : Index) (id : List ℕ) : Type 0 where
   pub owners : (q : List ℕ)
       → owner_in new.owners q ≡ (if bytes_eq q id then None else owner_in old.owners q)
   pub blobs : (q : List ℕ) → number_in new.blobs q ≡ number_in old.blobs q
@@ -64,7 +64,7 @@ pub record HasSame (old new : Index) : Type 0 where
 
 -- The index has the content from before a message with a new id and a new number was put into it.
 abbrev pub TakesBack : Index → Index → List ℕ → Id20 → ℕ → Type 0
-TakesBack put new id blob number = (old : Index) (message : Owner) → Puts old put id blob message
+TakesBack put new id blob number = (old : Index) (message : Owner) → IndexPuts old put id blob message
     → message.number ≡ number → owner_in old.owners id ≡ None
     → number_in old.blobs blob.0 ≢ Some number → HasSame old new
 

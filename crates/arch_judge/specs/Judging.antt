@@ -13,7 +13,7 @@ use Rattle.arch_model.specs.Delivery.{delivered, delivered_kept, refused, new_ep
 use Rattle.arch_model.specs.Keeping.{form_known}
 use Rattle.arch_model.specs.Shelves.{blob_text}
 use Rattle.arch_model.specs.Validity.{BlobsAgree}
-use Rattle.arch_judge.specs.Indexes.{IsIndex, owner_in, number_in}
+use Rattle.arch_judge.specs.Indexes.{IsArchiveIndex, owner_in, number_in}
 use Rattle.arch_model.specs.declared.answer.Answer.{Answer}
 use Rattle.arch_model.specs.declared.answer.Answer.TheVariants as answer
 use Rattle.arch_model.specs.declared.choice.Choice.{Choice}
@@ -28,7 +28,7 @@ pub record IsKnownBy (config : Config) (index : Index) (count next : ℕ) (a : A
   pub config_is : a.config ≡ config
   pub next_is : a.next ≡ next
   pub few : length (live a.entries) ≤ count
-  pub indexed : IsIndex a.entries index
+  pub indexed : IsArchiveIndex a.entries index
 
 -- A refusal is that of the definition, at each moment. `NoMemory` may come at any time, and an
 -- answer that isn't for a delivery never comes.

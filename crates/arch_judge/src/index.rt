@@ -1,7 +1,8 @@
 //! An index of an archive's live messages by their own ids, and of its entries by their blob ids.
+//! Allocates.
 ghost use Rattle.std.specs.Prelude.{◌≡◌, ◌≢◌, [], OnOk, OnErr, Some, None};
 ghost use Rattle.mail_reader.specs.Ids.{own_id as own_id_in};
-ghost use Rattle.arch_judge.specs.Indexes.{Puts, Loses, LosesIfOf, TakesBack, HasSame, met_owner, met_in, met_own, owner_in, number_in};
+ghost use Rattle.arch_judge.specs.Indexes.{IndexPuts, IndexLoses, LosesIfOf, TakesBack, HasSame, met_owner, met_in, met_own, owner_in, number_in};
 
 use arch_base::{NoMemory, ObjectId};
 use arch_model::Meeting;
@@ -91,7 +92,7 @@ impl Index {
     ///
     /// `NoMemory` leaves the index unchanged.
     pub fn insert(&mut self, id: Vec<u8>, blob: ObjectId, owner: Owner) -> Result<(), NoMemory>
-        ensures ok { OnOk result (Puts self.old self.new id.items blob owner) }
+        ensures ok { OnOk result (IndexPuts self.old self.new id.items blob owner) }
         ensures err { OnErr result (HasSame self.old self.new) }
     {
         match self.number(&blob) {
@@ -103,7 +104,7 @@ impl Index {
     /// Inserts a message whose blob id an older entry has.
     fn insert_id(&mut self, id: Vec<u8>, blob: ObjectId, owner: Owner) -> Result<(), NoMemory>
         requires seen { number_in self.old.blobs blob.0 ≢ None }
-        ensures ok { OnOk result (Puts self.old self.new id.items blob owner) }
+        ensures ok { OnOk result (IndexPuts self.old self.new id.items blob owner) }
         ensures err { OnErr result (HasSame self.old self.new) }
     {
         self.owners.insert(id, owner)?;
@@ -113,7 +114,7 @@ impl Index {
     /// Inserts a message with a new blob id.
     fn insert_both(&mut self, id: Vec<u8>, blob: ObjectId, owner: Owner) -> Result<(), NoMemory>
         requires unseen { number_in self.old.blobs blob.0 ≡ None }
-        ensures ok { OnOk result (Puts self.old self.new id.items blob owner) }
+        ensures ok { OnOk result (IndexPuts self.old self.new id.items blob owner) }
         ensures err { OnErr result (HasSame self.old self.new) }
     {
         self.blobs.insert(blob.0, owner.number)?;
@@ -147,7 +148,7 @@ impl Index {
 
     /// Removes the message with an id. Its blob id stays.
     pub fn remove(&mut self, id: &[u8])
-        ensures lost { Loses self.old self.new id.now }
+        ensures lost { IndexLoses self.old self.new id.now }
     {
         let _ = self.owners.remove(id);
     }

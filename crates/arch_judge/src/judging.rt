@@ -1,4 +1,5 @@
 //! Decides what a delivery does, before anything is kept. Each kind of archive uses it.
+//! Allocates.
 ghost use Rattle.std.specs.Prelude.{◌≡◌, List, ℕ, Ok, Some, IfOk, IfSome, false, length};
 ghost use Rattle.mail_reader.specs.Content.{content_id_of};
 ghost use Rattle.mail_reader.specs.Stored.{stored as stored_of};

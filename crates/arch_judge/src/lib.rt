@@ -1,4 +1,5 @@
-//! What a delivery does to an archive, decided from an index of its messages before anything is kept.
+//! What a delivery does to an archive, decided by an index of its messages before it is kept.
+//! Allocates.
 #![tactic(auto)]
 
 mod index;

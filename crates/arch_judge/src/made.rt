@@ -1,4 +1,5 @@
 //! Made ids, and texts with a made id at the front.
+//! Allocates.
 ghost use Rattle.std.specs.Prelude.{◌≡◌, ◌++◌, IfOk};
 ghost use Rattle.mail_reader.specs.Laws.{id_line};
 ghost use Rattle.arch_model.specs.Candidates.{id_with};

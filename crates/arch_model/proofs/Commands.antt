@@ -13,7 +13,7 @@ use Rattle.arch_model.specs.Delivery.{Done, last_epoch, new_epoch, collision, de
 use Rattle.arch_model.specs.Epochs.{epoch_bytes}
 use Rattle.arch_model.specs.Following.{Follows}
 use Rattle.arch_model.specs.Laws.{TakenAreStorage, KeepsValid, CommandFollows}
-use Rattle.arch_model.specs.Validity.{IsEntry, IsFrom, number_after, Rise, IsArchive}
+use Rattle.arch_model.specs.Validity.{IsEntry, NumberIsFrom, number_after, Rise, IsArchive}
 use Rattle.git_objects.specs.declared.entry_kind.EntryKind.{EntryKind}
 use Rattle.git_objects.specs.declared.entry_kind.EntryKind.TheVariants.{Message, Deletion}
 use Rattle.mail_reader.specs.StorageTexts.{IsStorageText}
@@ -28,7 +28,7 @@ use Rattle.arch_model.proofs.LiveEntries.{live-all, found-has, live-has, all-tex
 use Rattle.arch_model.proofs.Owners.{bytes_eq-refl, front_free}
 use Rattle.arch_model.proofs.TakenTexts.{taken}
 
-count_step : (k : EntryKind) (ended : Bool) (low high : ℕ) (e : Entry) (es : List Entry) → low ≤ high → IsFrom k low e.number → e.number < high → (number_after k low e.number ≤ high → number_after k low e.number + length (live es) ≤ high) → low + length (if is_message k && not ended then e ∷ live es else live es) ≤ high
+count_step : (k : EntryKind) (ended : Bool) (low high : ℕ) (e : Entry) (es : List Entry) → low ≤ high → NumberIsFrom k low e.number → e.number < high → (number_after k low e.number ≤ high → number_after k low e.number + length (live es) ≤ high) → low + length (if is_message k && not ended then e ∷ live es else live es) ≤ high
 count_step Deletion ended low high e es least first less rest = rest least
 count_step Message true low high e es least first less rest = let more = rest (omega (arith, less)) in omega (arith, first, more)
 count_step Message false low high e es least first less rest = let more = rest (omega (arith, less)) in omega (arith, first, more)

@@ -12,7 +12,7 @@ use Rattle.arch_model.specs.Candidates.{choice_of}
 use Rattle.arch_model.specs.Delivery.{Done, refused, collision, delivered, delivered_kept, delivered_choice, delivered_form, removed, removed_text, new_epoch}
 use Rattle.arch_model.specs.declared.choice.Choice.{Choice}
 use Rattle.arch_model.specs.declared.choice.Choice.TheVariants.{Take, Repeat}
-use Rattle.arch_model.specs.Laws.{IsNumbered, KeepsNumbers, ShowsDelivered, TakesFromView}
+use Rattle.arch_model.specs.Laws.{NumbersInRange, KeepsNumbers, ShowsDelivered, TakesFromView}
 use Rattle.arch_model.specs.declared.answer.Answer.{Answer}
 use Rattle.arch_model.specs.declared.answer.Answer.TheVariants as named
 use Rattle.arch_model.proofs.LiveEntries.{without, live-message, live-deletion, text-without-other, text-without-own}
@@ -104,7 +104,7 @@ keeps_by a bytes moment n text d (Accepted form kept is takes alone room) h =
 pub keeps-numbers : KeepsNumbers
 keeps-numbers a bytes moment n text h = keeps_by a bytes moment n text (delivered a bytes moment) (comes a bytes moment) h
 
-pub numbered_by : (a : Archive) (bytes : List ℕ) (moment : ℕ) (d : Done) → Comes a bytes moment d → 1 ≤ a.next → IsNumbered a → (1 ≤ d.archive.next) × IsNumbered d.archive
+pub numbered_by : (a : Archive) (bytes : List ℕ) (moment : ℕ) (d : Done) → Comes a bytes moment d → 1 ≤ a.next → NumbersInRange a → (1 ≤ d.archive.next) × NumbersInRange d.archive
 numbered_by a bytes moment d (Refused answer other) some h = (some, h)
 numbered_by a bytes moment d (Accepted form kept is takes alone room) some h = (
   omega arith,
@@ -119,7 +119,7 @@ shown_before a number n text true test is =
     absurd (cc)
 shown_before a number n text false test is = sym (text-without-other (live a.entries) number n (λ same. (let yes : (n == number) ≡ true = grind (arith, nat_tests, same) in let wrong : true ≡ false = sym yes ∙ test in cc))) ∙ is
 
-pub ended_numbers : (a : Archive) (number moment : ℕ) (d : Done) → Ends a number moment d → 1 ≤ a.next → IsNumbered a → (1 ≤ d.archive.next) × IsNumbered d.archive
+pub ended_numbers : (a : Archive) (number moment : ℕ) (d : Done) → Ends a number moment d → 1 ≤ a.next → NumbersInRange a → (1 ≤ d.archive.next) × NumbersInRange d.archive
 ended_numbers a number moment d (Still answer other) some h = (some, h)
 ended_numbers a number moment d (Ended text is) some h = (some, λ n shown found. h n shown (shown_before a number n shown (n == number) refl (subst (λ (l : List Entry). text_of l n ≡ Some shown) (live-deletion a.entries number (new_epoch a) text moment) found)))
 
@@ -133,7 +133,7 @@ view_by a number moment d (Ended text is) =
 pub takes-from-view : TakesFromView
 takes-from-view a number moment = view_by a number moment (removed a number moment) (ends a number moment)
 
-shows_by : (a : Archive) (bytes : List ℕ) (moment number : ℕ) (id : Id20) (d : Done) → Comes a bytes moment d → IsNumbered a → d.answer ≡ named.Ok number id
+shows_by : (a : Archive) (bytes : List ℕ) (moment number : ℕ) (id : Id20) (d : Done) → Comes a bytes moment d → NumbersInRange a → d.answer ≡ named.Ok number id
     → (text : List ℕ) × (kept : List ℕ) × (stored bytes ≡ Ok text) × (choice_of a text ≡ Take kept) × (text_of (live d.archive.entries) number ≡ Some kept)
 shows_by a bytes moment number id d (Refused answer other) h e = absurd (other number id e)
 shows_by a bytes moment number id d (Accepted form kept is takes alone room) h e =

@@ -4,8 +4,8 @@ use Rattle.std.specs.List.{Contains}
 use Rattle.std.proofs.lemmas.Bool.{false≢true}
 use Rattle.arch_model.specs.Archives.{Archive}
 use Rattle.arch_model.specs.Delivery.{Done}
-use Rattle.arch_model.specs.Standing.{Standing, standing, unsure_of, unsure, with_doubt, one_of, IsFound}
-use Rattle.arch_model.specs.Keeping.{HasDoubt, Has, HasAll, Passes, Fits, Moves, OnlyRead, Settles, Reopens, Ending, Accepts, Refuses, Starves, Fails, Breaks, StaysShut, ComesBy, Comes, StaysReady, CauseBy, AnswerCause, OpeningWhy, opening_answer}
+use Rattle.arch_model.specs.Standing.{LastKnown, standing, unsure_of, unsure, with_doubt, one_of, IsFound}
+use Rattle.arch_model.specs.Keeping.{HasDoubt, Has, HasAll, CrashesLeaveOnly, MatchesKnown, KeeperMoves, OnlyRead, Settles, Reopens, Ending, Accepts, Refuses, Starves, Fails, Breaks, ReopeningRefused, CommandGivesBy, CommandGives, StaysReady, CauseBy, AnswerCause, OpeningWhy, opening_answer}
 use Rattle.arch_model.specs.Untold.{HoldsNone, LeavesUntold}
 use Rattle.arch_model.specs.declared.answer.Answer.{Answer}
 use Rattle.arch_model.specs.declared.opening.OpenRefusal.{OpenRefusal}
@@ -14,44 +14,44 @@ use Rattle.arch_model.specs.declared.opening.OpenRefusal.TheVariants as opening
 -- The archives of standings among some.
 
 -- What was found was among those before.
-pub has-found : (may : List (Option Archive)) (s : Standing) (b : Archive) → Has may s → IsFound s b → Contains may (Some b)
+pub has-found : (may : List (Option Archive)) (s : LastKnown) (b : Archive) → Has may s → IsFound s b → Contains may (Some b)
 has-found may s b has (inl older) = subst (λ (x : Archive). Contains may (Some x)) (sym older) has.archive
-has-found may s b has (inr doubt) = subst (λ (d : Option Archive). HasDoubt may d) doubt has.doubt
+has-found may s b has (inr in_doubt) = subst (λ (d : Option Archive). HasDoubt may d) in_doubt has.in_doubt
 
 -- What reopening leaves was among those before.
-pub has-settled : (may : List (Option Archive)) (s t : Standing) → Has may s → Settles s t → Has may t
-has-settled may s t has settles = record { archive = has-found may s t.archive has settles.found; doubt = subst (λ (d : Option Archive). HasDoubt may d) (sym settles.sure) tt }
+pub has-settled : (may : List (Option Archive)) (s t : LastKnown) → Has may s → Settles s t → Has may t
+has-settled may s t has settles = record { archive = has-found may s t.archive has settles.found; in_doubt = subst (λ (d : Option Archive). HasDoubt may d) (sym settles.sure) tt }
 
 has-both : (a : Archive) (d : Option Archive) → Has (with_doubt a d) (standing a d)
-has-both a None = record { archive = (0, omega arith, refl); doubt = tt }
-has-both a (Some b) = record { archive = (0, omega arith, refl); doubt = (1, omega arith, refl) }
+has-both a None = record { archive = (0, omega arith, refl); in_doubt = tt }
+has-both a (Some b) = record { archive = (0, omega arith, refl); in_doubt = (1, omega arith, refl) }
 
 -- A standing's own archives have it.
-pub has-own : (s : Standing) → Has (one_of s) s
-has-own s = has-both s.archive s.doubt
+pub has-own : (s : LastKnown) → Has (one_of s) s
+has-own s = has-both s.archive s.in_doubt
 
 -- Those of a standing whose doubt is dropped.
 pub has-sure : (may : List (Option Archive)) (a : Archive) (d : Option Archive) → Has may (standing a d) → Has may (standing a None)
-has-sure may a d has = record { archive = has.archive; doubt = tt }
+has-sure may a d has = record { archive = has.archive; in_doubt = tt }
 
 -- Those of a standing of which it isn't said that nothing is in doubt.
 has-unsure : (may : List (Option Archive)) (a : Archive) (d : Option Archive) → Has may (unsure_of a d) → Has may (standing a d)
-has-unsure may a None has = record { archive = has.archive; doubt = tt }
-has-unsure may a (Some b) has = record { archive = has.archive; doubt = has.doubt }
+has-unsure may a None has = record { archive = has.archive; in_doubt = tt }
+has-unsure may a (Some b) has = record { archive = has.archive; in_doubt = has.in_doubt }
 
-pub has-unsure-of : (may : List (Option Archive)) (s : Standing) → Has may (unsure s) → Has may s
-has-unsure-of may s has = let was = has-unsure may s.archive s.doubt has in record { archive = was.archive; doubt = was.doubt }
+pub has-unsure-of : (may : List (Option Archive)) (s : LastKnown) → Has may (unsure s) → Has may s
+has-unsure-of may s has = let was = has-unsure may s.archive s.in_doubt has in record { archive = was.archive; in_doubt = was.in_doubt }
 
 -- Something is in doubt there.
-unsure-some : (a : Archive) (d : Option Archive) → (unsure_of a d).doubt ≡ None → ⊥
+unsure-some : (a : Archive) (d : Option Archive) → (unsure_of a d).in_doubt ≡ None → ⊥
 unsure-some a None none = absurd (cc)
 unsure-some a (Some b) none = absurd (cc)
 
-pub unsure-doubts : (s : Standing) → (unsure s).doubt ≡ None → ⊥
-unsure-doubts s none = unsure-some s.archive s.doubt none
+pub unsure-doubts : (s : LastKnown) → (unsure s).in_doubt ≡ None → ⊥
+unsure-doubts s none = unsure-some s.archive s.in_doubt none
 
 -- The archives of two lists of standings.
-pub all-split : (may : List (Option Archive)) (ss ts : List Standing) → HasAll may (ss ++ ts) → HasAll may ss × HasAll may ts
+pub all-split : (may : List (Option Archive)) (ss ts : List LastKnown) → HasAll may (ss ++ ts) → HasAll may ss × HasAll may ts
 all-split may [] ts has = (tt, has)
 all-split may (s ∷ ss) ts has = let rest = all-split may ss ts has.1 in ((has.0, rest.0), rest.1)
 
@@ -61,10 +61,10 @@ found-one b x (inl older) = older
 found-one b x (inr no_doubt) = absurd (cc)
 
 -- What a reopening leaves where nothing was in doubt.
-pub settled-sure : (a : Archive) (t : Standing) → Settles (standing a None) t → t ≡ standing a None
-settled-sure a t settles = ap (λ (x : Archive). standing x t.doubt) (found-one a t.archive settles.found) ∙ ap (λ (doubt : Option Archive). standing a doubt) settles.sure
+pub settled-sure : (a : Archive) (t : LastKnown) → Settles (standing a None) t → t ≡ standing a None
+settled-sure a t settles = ap (λ (x : Archive). standing x t.in_doubt) (found-one a t.archive settles.found) ∙ ap (λ (in_doubt : Option Archive). standing a in_doubt) settles.sure
 
-pub reopens-sure : (a : Archive) (t : Standing) (result : Result ℕ OpenRefusal) → Reopens (standing a None) result t → (result ≢ Err opening.DiskFault → t ≡ standing a None) × (result ≡ Err opening.DiskFault → t ≡ standing a (Some a))
+pub reopens-sure : (a : Archive) (t : LastKnown) (result : Result ℕ OpenRefusal) → Reopens (standing a None) result t → (result ≢ Err opening.DiskFault → t ≡ standing a None) × (result ≡ Err opening.DiskFault → t ≡ standing a (Some a))
 reopens-sure a t (Ok x) settles = (λ other. settled-sure a t settles, λ is. absurd (cc is))
 reopens-sure a t (Err opening.DiskFault) same = (λ other. absurd (other refl), λ is. same)
 reopens-sure a t (Err opening.NoMemory) same = (λ other. same, λ is. absurd (cc is))
@@ -72,39 +72,39 @@ reopens-sure a t (Err opening.NoArchive) never = absurd never
 reopens-sure a t (Err (opening.Damaged file at)) never = absurd never
 
 -- Found through a reopening.
-found-through : (s t : Standing) (x : Archive) → Settles s t → IsFound (standing t.archive None) x → IsFound s x
+found-through : (s t : LastKnown) (x : Archive) → Settles s t → IsFound (standing t.archive None) x → IsFound s x
 found-through s t x settles found = subst (λ (y : Archive). IsFound s y) (sym (found-one t.archive x found)) settles.found
 
 -- What crashes leave.
 module _ {K : Type 0} (leaves : K → K → List (Option Archive) → Type 0) where
   -- One run and another.
-  pub passes-both : (old mid new : K) (ss ts : List Standing) → Passes leaves old mid ss → Passes leaves mid new ts → Passes leaves old new (ss ++ ts)
+  pub passes-both : (old mid new : K) (ss ts : List LastKnown) → CrashesLeaveOnly leaves old mid ss → CrashesLeaveOnly leaves mid new ts → CrashesLeaveOnly leaves old new (ss ++ ts)
   passes-both old mid new ss ts first second = λ start may has left.
       let parts = all-split may ss ts has in
       second start may parts.1 (first start may parts.0 left)
 
   -- Runs of acts in order: the standing that one leaves is the one that the next starts with.
-  pub passes-chain : (old mid new : K) (ss : List Standing) (t : Standing) (us : List Standing) → Passes leaves old mid (ss ++ t ∷ []) → Passes leaves mid new (t ∷ us) → Passes leaves old new (ss ++ t ∷ us)
+  pub passes-chain : (old mid new : K) (ss : List LastKnown) (t : LastKnown) (us : List LastKnown) → CrashesLeaveOnly leaves old mid (ss ++ t ∷ []) → CrashesLeaveOnly leaves mid new (t ∷ us) → CrashesLeaveOnly leaves old new (ss ++ t ∷ us)
   passes-chain old mid new ss t us first second = λ start may has left.
       let parts = all-split may ss (t ∷ us) has in
       second start may parts.1 (first start may (all-join may ss (t ∷ []) parts.0 (parts.1.0, tt)) left)
     where
-      all-join : (may : List (Option Archive)) (xs ys : List Standing) → HasAll may xs → HasAll may ys → HasAll may (xs ++ ys)
+      all-join : (may : List (Option Archive)) (xs ys : List LastKnown) → HasAll may xs → HasAll may ys → HasAll may (xs ++ ys)
       all-join may [] ys hx hy = hy
       all-join may (x ∷ xs) ys hx hy = (hx.0, all-join may xs ys hx.1 hy)
 
-module _ {K : Type 0} (holds rests : K → Archive → Type 0) (ready : K → Bool) (leaves : K → K → List (Option Archive) → Type 0) where
+module _ {K : Type 0} (holds files_are : K → Archive → Type 0) (ready : K → Bool) (leaves : K → K → List (Option Archive) → Type 0) where
   -- A ready keeper fits the archive that it holds, and nothing is in doubt.
-  pub settled-is : (k : K) (s : Standing) → Fits holds rests ready leaves k s → ready k ≡ true → (s ≡ standing s.archive None) × holds k s.archive
-  settled-is k s fits at_hand = let both = fits.settled at_hand in (ap (λ (doubt : Option Archive). standing s.archive doubt) both.1, both.0)
+  pub settled-is : (k : K) (s : LastKnown) → MatchesKnown holds files_are ready leaves k s → ready k ≡ true → (s ≡ standing s.archive None) × holds k s.archive
+  settled-is k s fits at_hand = let both = fits.settled at_hand in (ap (λ (in_doubt : Option Archive). standing s.archive in_doubt) both.1, both.0)
 
   -- Nothing was done.
-  pub moves-same : (k : K) (s : Standing) → Fits holds rests ready leaves k s → Moves holds rests ready leaves k s k s
+  pub moves-same : (k : K) (s : LastKnown) → MatchesKnown holds files_are ready leaves k s → KeeperMoves holds files_are ready leaves k s k s
   moves-same k s fits = record { fits = fits; passes = λ start may has left. left }
 
   -- What isn't ready fits whatever a crash may have left, if its files are right where nothing is in doubt.
-  pub moves-stale : ((start k : K) (may : List (Option Archive)) → leaves start k may → leaves k k may) → (old : K) (s : Standing) (new : K) (t : Standing) → Fits holds rests ready leaves old s → ready new ≡ false → (t.doubt ≡ None → rests new t.archive) → ((may : List (Option Archive)) → Has may t → Has may s)
-      → Passes leaves old new (s ∷ t ∷ []) → Moves holds rests ready leaves old s new t
+  pub moves-stale : ((start k : K) (may : List (Option Archive)) → leaves start k may → leaves k k may) → (old : K) (s : LastKnown) (new : K) (t : LastKnown) → MatchesKnown holds files_are ready leaves old s → ready new ≡ false → (t.in_doubt ≡ None → files_are new t.archive) → ((may : List (Option Archive)) → Has may t → Has may s)
+      → CrashesLeaveOnly leaves old new (s ∷ t ∷ []) → KeeperMoves holds files_are ready leaves old s new t
   moves-stale leaves_now old s new t fits stale rested within passes = record {
     fits = record {
       settled = λ at_hand. absurd (false≢true (sym stale ∙ at_hand));
@@ -115,7 +115,7 @@ module _ {K : Type 0} (holds rests : K → Archive → Type 0) (ready : K → Bo
   }
 
   -- A reopening, and then a call on what it found.
-  pub moves-on : (old mid new : K) (s t u : Standing) → Moves holds rests ready leaves old s mid t → Settles s t → Moves holds rests ready leaves mid t new u → Moves holds rests ready leaves old s new u
+  pub moves-on : (old mid new : K) (s t u : LastKnown) → KeeperMoves holds files_are ready leaves old s mid t → Settles s t → KeeperMoves holds files_are ready leaves mid t new u → KeeperMoves holds files_are ready leaves old s new u
   moves-on old mid new s t u first settles second = record {
     fits = second.fits;
     passes = λ start may has left.
@@ -123,20 +123,20 @@ module _ {K : Type 0} (holds rests : K → Archive → Type 0) (ready : K → Bo
         second.passes start may (middle, (has.1.0, tt)) (first.passes start may (has.0, (middle, tt)) left);
   }
 
-  module _ (holds_rests : (k : K) (a : Archive) → holds k a → rests k a) (holds_left : (k : K) (a : Archive) (may : List (Option Archive)) → holds k a → Contains may (Some a) → leaves k k may) where
+  module _ (holds_files_are : (k : K) (a : Archive) → holds k a → files_are k a) (holds_left : (k : K) (a : Archive) (may : List (Option Archive)) → holds k a → Contains may (Some a) → leaves k k may) where
     -- A keeper that holds an archive fits it.
-    pub fits-held : (k : K) (a : Archive) → holds k a → Fits holds rests ready leaves k (standing a None)
-    fits-held k a held = record { settled = λ at_hand. (held, refl); exact = λ none. holds_rests k a held; left = λ may has. holds_left k a may held has.archive }
+    pub fits-held : (k : K) (a : Archive) → holds k a → MatchesKnown holds files_are ready leaves k (standing a None)
+    fits-held k a held = record { settled = λ at_hand. (held, refl); exact = λ none. holds_files_are k a held; left = λ may has. holds_left k a may held has.archive }
 
-    pub moves-held : (old : K) (s : Standing) (new : K) (a : Archive) → holds new a → Passes leaves old new (s ∷ standing a None ∷ []) → Moves holds rests ready leaves old s new (standing a None)
+    pub moves-held : (old : K) (s : LastKnown) (new : K) (a : Archive) → holds new a → CrashesLeaveOnly leaves old new (s ∷ standing a None ∷ []) → KeeperMoves holds files_are ready leaves old s new (standing a None)
     moves-held old s new a held passes = record { fits = fits-held new a held; passes = passes }
 
     -- A keeper of which only reading changed something fits the same archive.
-    pub moves-read : (old new : K) (a : Archive) → holds old a → OnlyRead holds rests ready leaves old new → Moves holds rests ready leaves old (standing a None) new (standing a None)
+    pub moves-read : (old new : K) (a : Archive) → holds old a → OnlyRead holds files_are ready leaves old new → KeeperMoves holds files_are ready leaves old (standing a None) new (standing a None)
     moves-read old new a held read = moves-held old (standing a None) new a (read.held a held) (λ start may has left. read.passes start may tt left)
 
 -- A command on what a reopening found.
-pub comes-by : (was_ready : Bool) (s t : Standing) (wanted : Archive → Done) (reply : Answer) (u : Standing) (e : Ending) → Settles s t → ComesBy true (standing t.archive None) wanted reply u e → ComesBy was_ready s wanted reply u e
+pub comes-by : (was_ready : Bool) (s t : LastKnown) (wanted : Archive → Done) (reply : Answer) (u : LastKnown) (e : Ending) → Settles s t → CommandGivesBy true (standing t.archive None) wanted reply u e → CommandGivesBy was_ready s wanted reply u e
 comes-by was_ready s t wanted reply u Accepts settles obeys = record { found = obeys.found; is_found = found-through s t obeys.found settles obeys.is_found; answer_is = obeys.answer_is; stands = obeys.stands }
 comes-by was_ready s t wanted reply u Refuses settles obeys = record { found = obeys.found; is_found = found-through s t obeys.found settles obeys.is_found; answer_is = obeys.answer_is; stands = obeys.stands }
 comes-by was_ready s t wanted reply u Starves settles (inl unopened) = absurd (false≢true (sym unopened.stale))
@@ -146,7 +146,7 @@ comes-by was_ready s t wanted reply u Fails settles (inr doubts) = inr (record {
 comes-by was_ready s t wanted reply u Breaks settles never = never
 
 -- The answer to a command whose archive wasn't reopened.
-pub unopened-comes : (s t : Standing) (wanted : Archive → Done) (why : OpenRefusal) → StaysShut s why t → Comes false s wanted (opening_answer why) t
+pub unopened-comes : (s t : LastKnown) (wanted : Archive → Done) (why : OpenRefusal) → ReopeningRefused s why t → CommandGives false s wanted (opening_answer why) t
 unopened-comes s t wanted opening.DiskFault same = inl (record { stale = refl; same = same })
 unopened-comes s t wanted opening.NoMemory same = inl (record { stale = refl; same = same })
 unopened-comes s t wanted opening.NoArchive never = absurd never
@@ -173,5 +173,5 @@ cause-earlier before mid now Fails same rose = omega (arith, same, rose)
 cause-earlier before mid now Breaks same kept = kept ∙ same
 
 -- A keeper that tells nothing fits no standing.
-pub untold-fits : {K : Type 0} (ready : K → Bool) (k : K) (s : Standing) → Fits HoldsNone HoldsNone ready LeavesUntold k s → ⊥
+pub untold-fits : {K : Type 0} (ready : K → Bool) (k : K) (s : LastKnown) → MatchesKnown HoldsNone HoldsNone ready LeavesUntold k s → ⊥
 untold-fits ready k s fits = fits.left (one_of s) (has-own s)

@@ -6,7 +6,7 @@ use Rattle.mail_reader.specs.Ids.{own_id}
 use Rattle.git_objects.specs.declared.entry_kind.EntryKind.{EntryKind}
 use Rattle.git_objects.specs.declared.entry_kind.EntryKind.TheVariants.{Message, Deletion}
 use Rattle.arch_model.specs.Archives.{Entry, message, deletion, is_message, is_ended, live, messages, text_of}
-use Rattle.arch_model.specs.Validity.{IsFrom, number_after, Rise, AtEachPlace, IdsDiffer, LiveDiffer}
+use Rattle.arch_model.specs.Validity.{NumberIsFrom, number_after, Rise, AtEachPlace, IdsDiffer, LiveDiffer}
 
 -- One more message ends nothing.
 ended-message : (es : List Entry) (n epoch : ℕ) (text : List ℕ) (moment k : ℕ) → is_ended (es ++ message n epoch text moment ∷ []) k ≡ is_ended es k
@@ -183,7 +183,7 @@ one_live : (t : Bool) (number : ℕ) (e : Entry) (es : List Entry) (n : ℕ) (te
 one_live true number e es n text test low rest is = (let same : e.number ≡ n = grind (arith, nat_tests, test) in omega (arith, same, low), is)
 one_live false number e es n text test low rest is = let one = rest is in (let above : e.number + 1 ≤ n = one.above in omega (arith, above, low), one.is)
 
-one_step : (k : EntryKind) (ended : Bool) (number : ℕ) (e : Entry) (es : List Entry) (n : ℕ) (text : List ℕ) → IsFrom k number e.number → (text_of (live es) n ≡ Some text → IsOne es (number_after k number e.number) n text)
+one_step : (k : EntryKind) (ended : Bool) (number : ℕ) (e : Entry) (es : List Entry) (n : ℕ) (text : List ℕ) → NumberIsFrom k number e.number → (text_of (live es) n ≡ Some text → IsOne es (number_after k number e.number) n text)
     → text_of (if is_message k && not ended then e ∷ live es else live es) n ≡ Some text → (number ≤ n) × (text_of (if is_message k then e ∷ messages es else messages es) n ≡ Some text)
 one_step Deletion ended number e es n text low rest is = let one = rest is in (one.above, one.is)
 one_step Message true number e es n text low rest is = let one = rest is in (let above : e.number + 1 ≤ n = one.above in omega (arith, above, low), one_hit (e.number == n) e es n text refl one)

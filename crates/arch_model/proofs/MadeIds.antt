@@ -8,11 +8,11 @@ use Rattle.std.proofs.lemmas.List.Elements.{All-nil, All-cons, All-append}
 use Rattle.std.proofs.lemmas.Fmt.{decimal_injective, decimal_by_steps, length-decimal-le}
 use Rattle.sha1.specs.Sha1.{sha1}
 use Rattle.hex.specs.Hex.{encode_lower, encode_with, lower_digits}
-use Rattle.arch_base.specs.Names.{IsName, is_name_byte}
+use Rattle.arch_base.specs.Names.{IsArchiveName, is_name_byte}
 use Rattle.mail_reader.specs.Ids.{is_id_byte, own_id}
-use Rattle.mail_reader.specs.Laws.{IsId}
+use Rattle.mail_reader.specs.Laws.{IsMessageId}
 use Rattle.mail_reader.proofs.IdLines.{id_in_front, passed_id_byte}
-use Rattle.git_objects.proofs.ObjectIds.{IsId-id_of}
+use Rattle.git_objects.proofs.ObjectIds.{IsObjectId-id_of}
 use Rattle.arch_model.specs.Candidates.{made_inside, id_with, made_id, with_made}
 
 abbrev pub IdBytes : List ℕ → Type 0
@@ -37,7 +37,7 @@ digits_length (b ∷ xs) = omega (arith, digits_length xs)
 name_byte : (c : ℕ) → is_name_byte c ≡ true → is_id_byte c ≡ true
 name_byte c h = grind (arith, nat_tests, h)
 
-name_passes : (name : List ℕ) → IsName name → IdBytes name
+name_passes : (name : List ℕ) → IsArchiveName name → IdBytes name
 name_passes name is = λ k d within. name_byte (get_or name k d) (is.bytes k d within)
 
 low_digit : (n : ℕ) → n < 10 → is_id_byte (48 + n) ≡ true
@@ -58,9 +58,9 @@ inside_length digits k name = omega (arith, length-append digits ((46 ∷ decima
 
 -- A made id without its brackets is short: a SHA-1 has 40 digits, a count at most 20 and a name at
 -- most 64 bytes.
-inside-short : (name text : List ℕ) (k : ℕ) → IsName name → k < 2 ^ 64 → length (made_inside (encode_lower (sha1 text)) k name) ≤ 134
+inside-short : (name text : List ℕ) (k : ℕ) → IsArchiveName name → k < 2 ^ 64 → length (made_inside (encode_lower (sha1 text)) k name) ≤ 134
 inside-short name text k is small =
-    let id = IsId-id_of text in
+    let id = IsObjectId-id_of text in
     let digits : List ℕ = encode_lower (sha1 text) in
     let some : length digits ≡ 2 * length (sha1 text) = digits_length (sha1 text) in
     let twenty : length (sha1 text) ≡ 20 = id.len in
@@ -69,17 +69,17 @@ inside-short name text k is small =
     omega (arith, inside_length digits k name, some, twenty, short, name_short)
 
 -- A made id is short.
-pub made-length : (name text : List ℕ) (k : ℕ) → IsName name → k < 2 ^ 64 → length (made_id name text k) ≤ 136
+pub made-length : (name text : List ℕ) (k : ℕ) → IsArchiveName name → k < 2 ^ 64 → length (made_id name text k) ≤ 136
 unfolding id_with
 made-length name text k is small = omega (arith, inside-short name text k is small, length-append (made_inside (encode_lower (sha1 text)) k name) (62 ∷ []))
 
 -- A made id is an id.
-pub made-IsId : (name text : List ℕ) (k : ℕ) → IsName name → k < 2 ^ 64 → IsId (made_id name text k)
+pub made-IsMessageId : (name text : List ℕ) (k : ℕ) → IsArchiveName name → k < 2 ^ 64 → IsMessageId (made_id name text k)
 unfolding id_with
-made-IsId name text k is small =
+made-IsMessageId name text k is small =
     let P = λ (x : ℕ). is_id_byte x ≡ true in
     let digits : List ℕ = encode_lower (sha1 text) in
-    let id = IsId-id_of text in
+    let id = IsObjectId-id_of text in
     let some : length digits ≡ 2 * length (sha1 text) = digits_length (sha1 text) in
     let twenty : length (sha1 text) ≡ 20 = id.len in
     let whole : length (made_inside digits k name) ≡ length digits + length (decimal k) + length name + 10 = inside_length digits k name in
@@ -96,8 +96,8 @@ made-IsId name text k is small =
     }
 
 -- The own id of a text with a made id at the front is that id.
-pub made-own : (name text : List ℕ) (k : ℕ) → IsName name → k < 2 ^ 64 → own_id (with_made name text k) ≡ Some (made_id name text k)
-made-own name text k is small = id_in_front text (made_id name text k) (made-IsId name text k is small)
+pub made-own : (name text : List ℕ) (k : ℕ) → IsArchiveName name → k < 2 ^ 64 → own_id (with_made name text k) ≡ Some (made_id name text k)
+made-own name text k is small = id_in_front text (made_id name text k) (made-IsMessageId name text k is small)
 
 counts_once : (digits rest : List ℕ) (j k : ℕ) → j < 2 ^ 64 → k < 2 ^ 64 → digits ++ ((46 ∷ decimal j) ++ rest) ≡ digits ++ ((46 ∷ decimal k) ++ rest) → j ≡ k
 counts_once digits rest j k a b e =

@@ -10,7 +10,7 @@ use Rattle.git_objects.specs.declared.entry_kind.EntryKind.{EntryKind}
 use Rattle.git_objects.specs.declared.entry_kind.EntryKind.TheVariants.{Message, Deletion}
 use Rattle.mail_reader.specs.Ids.{own_id}
 use Rattle.arch_model.specs.Archives.{Entry, Archive, message, deletion, is_message, is_ended, live, messages, text_of, without_text, without_entries}
-use Rattle.arch_model.specs.Validity.{IsEntry, IsFrom, number_after, Rise, AtEachPlace, EndsLive, IdsDiffer, LiveDiffer, BlobsAgree, IsArchive}
+use Rattle.arch_model.specs.Validity.{IsEntry, NumberIsFrom, number_after, Rise, AtEachPlace, EndsLive, IdsDiffer, LiveDiffer, BlobsAgree, IsArchive}
 use Rattle.arch_model.proofs.LiveEntries.{live-message, live-deletion, without, found-has, all-text}
 
 -- The numbers of entries rise from this one on.
@@ -22,7 +22,7 @@ climbs_lower : (low less : ℕ) (es : List Entry) → less ≤ low → Climbs lo
 climbs_lower low less [] down climbs = tt
 climbs_lower low less (e ∷ es) down climbs = (let at : low ≤ e.number = climbs.0 in omega (arith, down, at), climbs.1)
 
-messages_step : (k : EntryKind) (low : ℕ) (e : Entry) (es : List Entry) → IsFrom k low e.number → Climbs (number_after k low e.number) es → Climbs low (if is_message k then e ∷ es else es)
+messages_step : (k : EntryKind) (low : ℕ) (e : Entry) (es : List Entry) → NumberIsFrom k low e.number → Climbs (number_after k low e.number) es → Climbs low (if is_message k then e ∷ es else es)
 messages_step Message low e es from rest = (from, rest)
 messages_step Deletion low e es from rest = rest
 
@@ -31,7 +31,7 @@ pub messages_climb : (low epoch : ℕ) (es : List Entry) → Rise low epoch es �
 messages_climb low epoch [] rise = tt
 messages_climb low epoch (e ∷ es) rise = messages_step e.kind low e (messages es) rise.0 (messages_climb (number_after e.kind low e.number) e.epoch es rise.2)
 
-live_step : (k : EntryKind) (ended : Bool) (low : ℕ) (e : Entry) (es : List Entry) → IsFrom k low e.number → Climbs (number_after k low e.number) es → Climbs low (if is_message k && not ended then e ∷ es else es)
+live_step : (k : EntryKind) (ended : Bool) (low : ℕ) (e : Entry) (es : List Entry) → NumberIsFrom k low e.number → Climbs (number_after k low e.number) es → Climbs low (if is_message k && not ended then e ∷ es else es)
 live_step Message false low e es from rest = (from, rest)
 live_step Message true low e es from rest = climbs_lower (e.number + 1) low es (omega (arith, from)) rest
 live_step Deletion ended low e es from rest = rest
@@ -80,7 +80,7 @@ module _ (keep : List ℕ → Bool) where
   kept_blobs [] agree = tt
   kept_blobs (e ∷ es) agree = blobs_step (keep e.text) e (kept es) (kept_all (λ (f : Entry). blob_id_of f.text ≡ blob_id_of e.text → f.text ≡ e.text) es agree.0) (kept_blobs es agree.1)
 
-  from_lower : (k : EntryKind) (low less n : ℕ) → less ≤ low → IsFrom k low n → IsFrom k less n
+  from_lower : (k : EntryKind) (low less n : ℕ) → less ≤ low → NumberIsFrom k low n → NumberIsFrom k less n
   from_lower Message low less n down from = omega (arith, down, from)
   from_lower Deletion low less n down from = tt
 
@@ -88,11 +88,11 @@ module _ (keep : List ℕ → Bool) where
   after_lower Message low less n down = omega arith
   after_lower Deletion low less n down = down
 
-  after_later : (k : EntryKind) (low less n : ℕ) → less ≤ low → IsFrom k low n → less ≤ number_after k low n
+  after_later : (k : EntryKind) (low less n : ℕ) → less ≤ low → NumberIsFrom k low n → less ≤ number_after k low n
   after_later Message low less n down from = omega (arith, down, from)
   after_later Deletion low less n down from = down
 
-  rise_step : (t : Bool) (less at : ℕ) (e : Entry) (es : List Entry) → IsFrom e.kind less e.number → at ≤ e.epoch → (t ≡ true → Rise (number_after e.kind less e.number) e.epoch es) → (t ≡ false → Rise less at es) → Rise less at (if t then e ∷ es else es)
+  rise_step : (t : Bool) (less at : ℕ) (e : Entry) (es : List Entry) → NumberIsFrom e.kind less e.number → at ≤ e.epoch → (t ≡ true → Rise (number_after e.kind less e.number) e.epoch es) → (t ≡ false → Rise less at es) → Rise less at (if t then e ∷ es else es)
   rise_step true less at e es from later rest skip = (from, later, rest refl)
   rise_step false less at e es from later rest skip = skip refl
 

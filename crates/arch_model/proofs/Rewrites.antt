@@ -5,7 +5,7 @@ use Rattle.arch_base.specs.declared.ids.Id20.{Id20}
 use Rattle.git_objects.specs.Objects.{blob_id_of}
 use Rattle.arch_model.specs.Archives.{Entry, Archive, live, messages, text_of, without_entries}
 use Rattle.arch_model.specs.Delivery.{Done, refused, delivered, removed, purged_text, purged, is_accepted, unless_refused, is_form, edited_text, edited}
-use Rattle.arch_model.specs.Laws.{IsNumbered, StaysNumbered, EditsWhole}
+use Rattle.arch_model.specs.Laws.{NumbersInRange, StaysNumbered, EditsWhole}
 use Rattle.arch_model.specs.Validity.{IsArchive}
 use Rattle.arch_model.specs.declared.answer.Answer.{Answer}
 use Rattle.arch_model.specs.declared.answer.Answer.TheVariants as named
@@ -60,14 +60,14 @@ pub edits : (a : Archive) (number : ℕ) (bytes : List ℕ) (moment : ℕ) → E
 edits a number bytes moment = edits_mirror a number bytes moment a.config.mirror
 
 -- Live numbers of a valid archive are from 1 to the one before the next.
-pub valid_numbered : (a : Archive) → IsArchive a → IsNumbered a
+pub valid_numbered : (a : Archive) → IsArchive a → NumbersInRange a
 valid_numbered a valid n text is = (climbs_above 1 (live a.entries) n text (live_climbs 1 0 a.entries valid.order) is, number_below (live a.entries) a.next n text (live-all (λ (e : Entry). e.number < a.next) a.entries valid.below) is)
 
-purged_numbers : (a : Archive) (number : ℕ) (d : Done) → Purges a number d → IsArchive a → (1 ≤ d.archive.next) × IsNumbered d.archive
+purged_numbers : (a : Archive) (number : ℕ) (d : Done) → Purges a number d → IsArchive a → (1 ≤ d.archive.next) × NumbersInRange d.archive
 purged_numbers a number d (Spared answer other) valid = (valid.next_least, valid_numbered a valid)
 purged_numbers a number d (Dropped text is) valid = (valid.next_least, valid_numbered (without_entries a text) (valid_without a text valid))
 
-edited_numbers : (a : Archive) (number : ℕ) (bytes : List ℕ) (moment : ℕ) (d : Done) → Edits a number bytes moment d → IsArchive a → (1 ≤ d.archive.next) × IsNumbered d.archive
+edited_numbers : (a : Archive) (number : ℕ) (bytes : List ℕ) (moment : ℕ) (d : Done) → Edits a number bytes moment d → IsArchive a → (1 ≤ d.archive.next) × NumbersInRange d.archive
 edited_numbers a number bytes moment d (Unedited answer other) valid = (valid.next_least, valid_numbered a valid)
 edited_numbers a number bytes moment d (Redelivered text is accepted) valid =
     let rest : Archive = without_entries a text in

@@ -5,13 +5,13 @@ use Rattle.std.proofs.lemmas.Bool.Decides.{nat_tests}
 use Rattle.std.proofs.lemmas.List.{append-nil}
 use Rattle.git_objects.specs.Objects.{blob_id_of}
 use Rattle.arch_model.specs.Archives.{Entry, Archive, is_message, live, messages, text_of, blob_number}
-use Rattle.arch_model.specs.Validity.{IsFrom, number_after, Rise, AtEachPlace, EndsLive}
+use Rattle.arch_model.specs.Validity.{NumberIsFrom, number_after, Rise, AtEachPlace, EndsLive}
 use Rattle.git_objects.specs.declared.entry_kind.EntryKind.{EntryKind}
 use Rattle.git_objects.specs.declared.entry_kind.EntryKind.TheVariants.{Message, Deletion}
 use Rattle.std.proofs.lemmas.Slice.Eq.{bytes_eq-Decides}
 use Rattle.arch_model.proofs.LiveEntries.{HasText, found-has, live-has}
 use Rattle.arch_model.specs.Standing.{GivesTextIn, GivesEpochIn}
-use Rattle.arch_model.specs.Shelves.{line_after, lines_after, blob_text, GivesBlobIn, AppendsTo, IsUndamaged, ReadingWhy, Stays}
+use Rattle.arch_model.specs.Shelves.{line_after, lines_after, blob_text, GivesBlobIn, AppendsTo, IsUndamaged, ReadingWhy, ShelfStays}
 use Rattle.arch_model.specs.declared.line.EntryLine.{EntryLine}
 use Rattle.arch_model.specs.declared.text_refusal.TextRefusal.{TextRefusal}
 use Rattle.arch_model.specs.declared.text_refusal.TextRefusal.TheVariants as refusal
@@ -39,8 +39,8 @@ pub appends-none : (old new : List ℕ) → new ≡ old → AppendsTo old new
 appends-none old new same = ([], same ∙ sym (append-nil old))
 
 -- One call that only reads, and another.
-pub stays-joined : {S : Type 0} (holds : S → Archive → Type 0) (ready : S → Bool) (alike : S → S → Type 0) (faults : S → ℕ) → ((s t u : S) → alike s t → alike t u → alike s u) → (s t u : S) → Stays holds ready alike faults s t → Stays holds ready alike faults t u
-    → Stays holds ready alike faults s u
+pub stays-joined : {S : Type 0} (holds : S → Archive → Type 0) (ready : S → Bool) (alike : S → S → Type 0) (faults : S → ℕ) → ((s t u : S) → alike s t → alike t u → alike s u) → (s t u : S) → ShelfStays holds ready alike faults s t → ShelfStays holds ready alike faults t u
+    → ShelfStays holds ready alike faults s u
 stays-joined holds ready alike faults joined s t u first second = record {
   same = joined s t u first.same second.same;
   kept = λ a held. second.kept a (first.kept a held);
@@ -49,7 +49,7 @@ stays-joined holds ready alike faults joined s t u first second = record {
 }
 
 -- No call.
-pub stays-same : {S : Type 0} (holds : S → Archive → Type 0) (ready : S → Bool) (alike : S → S → Type 0) (faults : S → ℕ) → ((s : S) → alike s s) → (s : S) → ready s ≡ true → Stays holds ready alike faults s s
+pub stays-same : {S : Type 0} (holds : S → Archive → Type 0) (ready : S → Bool) (alike : S → S → Type 0) (faults : S → ℕ) → ((s : S) → alike s s) → (s : S) → ready s ≡ true → ShelfStays holds ready alike faults s s
 stays-same holds ready alike faults same s at_hand = record { same = same s; kept = λ a held. held; at_hand = at_hand; later = omega arith }
 
 -- A cause in the last of several calls is one in all of them, if the calls before it met no fault.
@@ -72,7 +72,7 @@ length-lines_after before (e ∷ es) = let rest = length-lines_after (before ++ 
 -- Numbers rise from one message to the next, from this one on.
 abbrev pub RisesFrom : ℕ → List Entry → Type 0
 RisesFrom number [] = Unit {0}
-RisesFrom number (e ∷ es) = IsFrom e.kind number e.number × RisesFrom (number_after e.kind number e.number) es
+RisesFrom number (e ∷ es) = NumberIsFrom e.kind number e.number × RisesFrom (number_after e.kind number e.number) es
 
 -- They do in a valid archive.
 pub rises-from : (number epoch : ℕ) (es : List Entry) → Rise number epoch es → RisesFrom number es
@@ -118,11 +118,11 @@ hit_step Message true e es n kind test same = ap (λ (t : Bool). if t then Some 
 hit_step Message false e es n kind test same = absurd (let yes : (e.number == n) ≡ true = grind (arith, nat_tests, same) in let wrong : true ≡ false = sym yes ∙ test in cc)
 hit_step Deletion t e es n kind test same = absurd (cc)
 
-low_step : (k : EntryKind) (number own n : ℕ) → k ≡ Message → IsFrom k number own → own ≡ n → number ≤ n
+low_step : (k : EntryKind) (number own n : ℕ) → k ≡ Message → NumberIsFrom k number own → own ≡ n → number ≤ n
 low_step Message number own n kind low same = omega (arith, low, same)
 low_step Deletion number own n kind low same = absurd (cc)
 
-past_step : (k : EntryKind) (number : ℕ) (e : Entry) (es : List Entry) (n : ℕ) (text : List ℕ) → IsFrom k number e.number → number_after k number e.number ≤ n → text_of (messages es) n ≡ Some text
+past_step : (k : EntryKind) (number : ℕ) (e : Entry) (es : List Entry) (n : ℕ) (text : List ℕ) → NumberIsFrom k number e.number → number_after k number e.number ≤ n → text_of (messages es) n ≡ Some text
     → (number ≤ n) × (text_of (if is_message k then e ∷ messages es else messages es) n ≡ Some text)
 past_step Message number e es n text low above is =
     let other : (e.number == n) ≡ false = grind (arith, nat_tests, above) in

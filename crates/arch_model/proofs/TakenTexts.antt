@@ -2,7 +2,7 @@
 use Rattle.std.specs.Prelude.{◌≡◌, ◌+◌, ◌^◌, ◌<◌, ◌≤◌, ℕ, zero, suc, Bool, true, false, nat_lt, List, [], ◌∷◌, ◌++◌, length, codes, Option, Some, None, IsSome, Ok, Err, refl, if◌then◌else◌}
 use Rattle.std.proofs.Common.{sym, ap, subst, arith, length-append}
 use Rattle.std.proofs.lemmas.Bool.Decides.{nat_tests}
-use Rattle.arch_base.specs.Names.{IsName}
+use Rattle.arch_base.specs.Names.{IsArchiveName}
 use Rattle.mail_reader.specs.Content.{content_id_of}
 use Rattle.mail_reader.specs.Ids.{own_id}
 use Rattle.mail_reader.specs.Laws.{StoredOnce, FormsAreShort, FieldInFront, IdLineIsKept, id_line}
@@ -17,7 +17,7 @@ use Rattle.arch_model.specs.declared.choice.Meeting.TheVariants.{Free, Same, Oth
 use Rattle.arch_model.specs.declared.choice.Choice.TheVariants.{Take}
 use Rattle.arch_model.proofs.Candidates.{met-free, below_or_at}
 use Rattle.arch_model.proofs.FirstChoice.{made_meets, last_one}
-use Rattle.arch_model.proofs.MadeIds.{made-IsId, made-own, made-length}
+use Rattle.arch_model.proofs.MadeIds.{made-IsMessageId, made-own, made-length}
 
 -- What is stored is the form of bytes that aren't too many.
 form_is : (len : ℕ) (form : Option (List ℕ)) (text : List ℕ) → limited len form ≡ Ok text → (form ≡ Some text) × (len ≤ max_len)
@@ -35,7 +35,7 @@ as_it_is once short bytes text is some =
     record { short = omega (arith, few, form.1); form = once bytes text form.0; id = some }
 
 -- It is a storage text with a made id at the front, too.
-with_id : FormsAreShort → FieldInFront → IdLineIsKept → (name bytes text : List ℕ) → stored bytes ≡ Ok text → IsName name → (k : ℕ) → k < 2 ^ 64 → IsStorageText (with_made name text k)
+with_id : FormsAreShort → FieldInFront → IdLineIsKept → (name bytes text : List ℕ) → stored bytes ≡ Ok text → IsArchiveName name → (k : ℕ) → k < 2 ^ 64 → IsStorageText (with_made name text k)
 with_id short in_front kept_line name bytes text is is_name k small =
     let form = form_is (length bytes) (storage_form bytes) text is in
     let few = short bytes text form.0 in
@@ -44,7 +44,7 @@ with_id short in_front kept_line name bytes text is is_name k small =
     let line : length (id_line id) ≡ 12 + (length id + 1) = omega (arith, length-append (codes "Message-ID: ") (id ++ 10 ∷ []), length-append id (10 ∷ [])) in
     record {
       short = omega (arith, few, form.1, size, line, length-append (id_line id) text);
-      form = in_front bytes text (id_line id) form.0 (kept_line id (made-IsId name text k is_name small));
+      form = in_front bytes text (id_line id) form.0 (kept_line id (made-IsMessageId name text k is_name small));
       id = subst (λ (o : Option (List ℕ)). IsSome o) (sym (made-own name text k is_name small)) refl;
     }
 
@@ -56,7 +56,7 @@ pub record IsTaken (entries : List Entry) (kept : List ℕ) : Type 0 where
   pub free : IsFree entries kept
   pub storage : IsStorageText kept
 
-module _ (law : TakenAreStorage) (entries : List Entry) (name bytes text : List ℕ) (small : length entries < 2 ^ 63) (is_name : IsName name) (stored_is : stored bytes ≡ Ok text) where
+module _ (law : TakenAreStorage) (entries : List Entry) (name bytes text : List ℕ) (small : length entries < 2 ^ 63) (is_name : IsArchiveName name) (stored_is : stored bytes ≡ Ok text) where
   with_free : (i : ℕ) (kept : List ℕ) → i ≤ length entries → made_meets entries name text small i ≡ Free → Take (with_made name text i) ≡ Take kept → IsTaken entries kept
   with_free i kept within free e =
       let same : with_made name text i ≡ kept = cc in

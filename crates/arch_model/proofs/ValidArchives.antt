@@ -9,7 +9,7 @@ use Rattle.git_objects.specs.Objects.{blob_id_of}
 use Rattle.mail_reader.specs.Ids.{own_id}
 use Rattle.arch_model.specs.Archives.{Entry, Archive, message, deletion, live, text_of, with_entry, with_deletion}
 use Rattle.arch_model.specs.Delivery.{greater, last_epoch, new_epoch}
-use Rattle.arch_model.specs.Validity.{IsEntry, IsFrom, number_after, Rise, EndsLive, IdsDiffer, LiveDiffer, BlobsAgree, IsArchive}
+use Rattle.arch_model.specs.Validity.{IsEntry, NumberIsFrom, number_after, Rise, EndsLive, IdsDiffer, LiveDiffer, BlobsAgree, IsArchive}
 use Rattle.arch_model.proofs.LiveEntries.{live-message, live-deletion, place-push, ids-now, ids-without, HasText, found-has, live-has, all-text}
 
 -- What holds for each of a list and for one more.
@@ -37,12 +37,12 @@ not_before a = all_weaker (λ (e : Entry). e.epoch ≤ last_epoch a.entries) (λ
   later epoch low = grind arith
 
 -- A number from one on is from the one after an entry on, if it is after that entry's number.
-from_step : (k new : EntryKind) (number own n : ℕ) → IsFrom new number n → IsFrom new (own + 1) n → IsFrom new (number_after k number own) n
+from_step : (k new : EntryKind) (number own n : ℕ) → NumberIsFrom new number n → NumberIsFrom new (own + 1) n → NumberIsFrom new (number_after k number own) n
 from_step Message new number own n low above = above
 from_step Deletion new number own n low above = low
 
 -- Numbers still rise, and epochs still don't fall.
-pub rise_more : (number epoch : ℕ) (es : List Entry) (new : Entry) → Rise number epoch es → IsFrom new.kind number new.number → epoch ≤ new.epoch → AllByRecursion (λ (e : Entry). IsFrom new.kind (e.number + 1) new.number) es → AllByRecursion (λ (e : Entry). e.epoch ≤ new.epoch) es → Rise number epoch (es ++ new ∷ [])
+pub rise_more : (number epoch : ℕ) (es : List Entry) (new : Entry) → Rise number epoch es → NumberIsFrom new.kind number new.number → epoch ≤ new.epoch → AllByRecursion (λ (e : Entry). NumberIsFrom new.kind (e.number + 1) new.number) es → AllByRecursion (λ (e : Entry). e.epoch ≤ new.epoch) es → Rise number epoch (es ++ new ∷ [])
 rise_more number epoch [] new rise low in_time below older = (low, in_time, tt)
 rise_more number epoch (e ∷ es) new rise low in_time below older =
     (rise.0, rise.1, rise_more (number_after e.kind number e.number) e.epoch es new rise.2 (from_step e.kind new.kind number e.number new.number low below.0) older.0 below.1 older.1)
@@ -91,7 +91,7 @@ archive_grows a epoch text moment valid room entry older id same =
       blobs = blobs_more a.entries new valid.blobs same;
     }
 
-none_asked : (n : ℕ) (es : List Entry) → AllByRecursion (λ (e : Entry). IsFrom Deletion (e.number + 1) n) es
+none_asked : (n : ℕ) (es : List Entry) → AllByRecursion (λ (e : Entry). NumberIsFrom Deletion (e.number + 1) n) es
 none_asked n [] = tt
 none_asked n (e ∷ es) = (tt, none_asked n es)
 

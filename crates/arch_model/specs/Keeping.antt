@@ -11,7 +11,7 @@ use Rattle.arch_model.specs.Archives.{Entry, Archive, blob_number}
 use Rattle.arch_model.specs.Candidates.{choice_of}
 use Rattle.arch_model.specs.Delivery.{Done}
 use Rattle.arch_model.specs.Shelves.{ReadsOnce}
-use Rattle.arch_model.specs.Standing.{Standing, standing, unsure, IsFound}
+use Rattle.arch_model.specs.Standing.{LastKnown, standing, unsure, IsFound}
 use Rattle.arch_model.specs.declared.choice.Choice.{Choice}
 use Rattle.arch_model.specs.declared.choice.Choice.TheVariants.{Take, Repeat}
 use Rattle.arch_model.specs.declared.command.Command.{Command}
@@ -27,67 +27,67 @@ HasDoubt may None = Unit {0}
 HasDoubt may (Some b) = Contains may (Some b)
 
 -- The archive of a standing is among these, and so is the one in doubt, if there is one.
-pub record Has (may : List (Option Archive)) (s : Standing) : Type 0 where
+pub record Has (may : List (Option Archive)) (s : LastKnown) : Type 0 where
   pub archive : Contains may (Some s.archive)
-  pub doubt : HasDoubt may s.doubt
+  pub in_doubt : HasDoubt may s.in_doubt
 
 -- The archives of all these standings are among these.
-abbrev pub HasAll : List (Option Archive) → List Standing → Type 0
+abbrev pub HasAll : List (Option Archive) → List LastKnown → Type 0
 HasAll may [] = Unit {0}
 HasAll may (s ∷ ss) = Has may s × HasAll may ss
 
 -- A crash on the way from one state of a keeper to another leaves an archive of one of these
 -- standings, or one in doubt there. Said of a run that began at any state before: its list of what a
 -- crash may have left stays right, if it has the archives of these standings.
-abbrev pub Passes : {K : Type 0} → (K → K → List (Option Archive) → Type 0) → K → K → List Standing
+abbrev pub CrashesLeaveOnly : {K : Type 0} → (K → K → List (Option Archive) → Type 0) → K → K → List LastKnown
     → Type 0
-Passes {K} leaves old new standings = (start : K) (may : List (Option Archive))
+CrashesLeaveOnly {K} leaves old new standings = (start : K) (may : List (Option Archive))
     → HasAll may standings → leaves start old may → leaves start new may
 
 -- A keeper: the archives that it holds, those of which its files are exactly, whether it is ready, and
 -- what each crash since a state may have left.
-module _ {K : Type 0} (holds : K → Archive → Type 0) (rests : K → Archive → Type 0)
+module _ {K : Type 0} (holds : K → Archive → Type 0) (files_are : K → Archive → Type 0)
     (ready : K → Bool) (leaves : K → K → List (Option Archive) → Type 0) where
-  -- The keeper fits a standing: if it is ready, it holds the archive and nothing is in doubt; ready or
+  -- The keeper matches a standing: if it is ready, it holds the archive and nothing is in doubt; ready or
   -- not, if nothing is in doubt, its files are exactly the archive's; and a crash now leaves the archive
   -- or the one in doubt.
-  pub record Fits (k : K) (s : Standing) : Type 0 where
-    pub settled : ready k ≡ true → holds k s.archive × (s.doubt ≡ None)
-    pub exact : s.doubt ≡ None → rests k s.archive
+  pub record MatchesKnown (k : K) (s : LastKnown) : Type 0 where
+    pub settled : ready k ≡ true → holds k s.archive × (s.in_doubt ≡ None)
+    pub exact : s.in_doubt ≡ None → files_are k s.archive
     pub left : (may : List (Option Archive)) → Has may s → leaves k k may
 
-  -- The keeper fitted one standing and now fits another, and a crash meanwhile leaves an archive of
+  -- The keeper matched one standing and now matches another, and a crash meanwhile leaves an archive of
   -- one of the two.
-  pub record Moves (old : K) (s : Standing) (new : K) (t : Standing) : Type 0 where
-    pub fits : Fits new t
-    pub passes : Passes leaves old new (s ∷ t ∷ [])
+  pub record KeeperMoves (old : K) (s : LastKnown) (new : K) (t : LastKnown) : Type 0 where
+    pub fits : MatchesKnown new t
+    pub passes : CrashesLeaveOnly leaves old new (s ∷ t ∷ [])
 
   -- Nothing changed but what reading changes: the archive, the files and the readiness stay, and a
   -- crash leaves nothing else.
   pub record OnlyRead (old new : K) : Type 0 where
     pub held : (a : Archive) → holds old a → holds new a
-    pub rested : (a : Archive) → rests old a → rests new a
+    pub rested : (a : Archive) → files_are old a → files_are new a
     pub same : ready new ≡ ready old
-    pub passes : Passes leaves old new []
+    pub passes : CrashesLeaveOnly leaves old new []
 
 -- Reopening found the archive, or the one in doubt, and nothing is in doubt after it.
-pub record Settles (s t : Standing) : Type 0 where
+pub record Settles (s t : LastKnown) : Type 0 where
   pub found : IsFound s t.archive
-  pub sure : t.doubt ≡ None
+  pub sure : t.in_doubt ≡ None
 
 -- A refusal to reopen leaves all as it was, but that a fault of the disk may leave files beside the
 -- archive's, so that something is in doubt then. Where an archive is there, that there is none or that a
 -- file is damaged is never the reason.
-abbrev pub StaysShut : Standing → OpenRefusal → Standing → Type 0
-StaysShut s opening.DiskFault t = t ≡ unsure s
-StaysShut s opening.NoMemory t = t ≡ s
-StaysShut s opening.NoArchive t = ⊥
-StaysShut s (opening.Damaged file at) t = ⊥
+abbrev pub ReopeningRefused : LastKnown → OpenRefusal → LastKnown → Type 0
+ReopeningRefused s opening.DiskFault t = t ≡ unsure s
+ReopeningRefused s opening.NoMemory t = t ≡ s
+ReopeningRefused s opening.NoArchive t = ⊥
+ReopeningRefused s (opening.Damaged file at) t = ⊥
 
 -- The results of reopening.
-abbrev pub Reopens : {T : Type 0} → Standing → Result T OpenRefusal → Standing → Type 0
+abbrev pub Reopens : {T : Type 0} → LastKnown → Result T OpenRefusal → LastKnown → Type 0
 Reopens s (Ok x) t = Settles s t
-Reopens s (Err why) t = StaysShut s why t
+Reopens s (Err why) t = ReopeningRefused s why t
 
 -- How an answer to a command ends it: it was carried out or refused by the rules, memory ran out, the
 -- disk failed, or a file is damaged.
@@ -107,7 +107,7 @@ ending answer.NoMemory = Starves
 ending other = Refuses
 
 -- A command was answered by the rules, on the archive that was found.
-pub record Obeys (s : Standing) (wanted : Archive → Done) (reply : Answer) (t : Standing)
+pub record Obeys (s : LastKnown) (wanted : Archive → Done) (reply : Answer) (t : LastKnown)
     : Type 0 where
   pub found : Archive
   pub is_found : IsFound s found
@@ -116,28 +116,28 @@ pub record Obeys (s : Standing) (wanted : Archive → Done) (reply : Answer) (t 
 
 -- After a fault of the disk it is in doubt whether the command was carried out on the archive that
 -- was found.
-pub record Doubts (s : Standing) (wanted : Archive → Done) (t : Standing) : Type 0 where
+pub record Doubts (s : LastKnown) (wanted : Archive → Done) (t : LastKnown) : Type 0 where
   pub found : Archive
   pub is_found : IsFound s found
   pub stands : t ≡ standing found (Some (wanted found).archive)
 
 -- The keeper had to be reopened, which was refused, and it stands so.
-pub record StaysStale (was_ready : Bool) (s t : Standing) : Type 0 where
+pub record StaysStale (was_ready : Bool) (s t : LastKnown) : Type 0 where
   pub stale : was_ready ≡ false
   pub same : t ≡ s
 
 -- What a command does by the way that it ends. A keeper that isn't ready is reopened first, which may
 -- be refused. Where an archive is there, no file is damaged.
-abbrev pub ComesBy : Bool → Standing → (Archive → Done) → Answer → Standing → Ending → Type 0
-ComesBy was_ready s wanted reply t Accepts = Obeys s wanted reply t
-ComesBy was_ready s wanted reply t Refuses = Obeys s wanted reply t
-ComesBy was_ready s wanted reply t Starves = StaysStale was_ready s t ⊎ Settles s t
-ComesBy was_ready s wanted reply t Fails = StaysStale was_ready (unsure s) t ⊎ Doubts s wanted t
-ComesBy was_ready s wanted reply t Breaks = ⊥
+abbrev pub CommandGivesBy : Bool → LastKnown → (Archive → Done) → Answer → LastKnown → Ending → Type 0
+CommandGivesBy was_ready s wanted reply t Accepts = Obeys s wanted reply t
+CommandGivesBy was_ready s wanted reply t Refuses = Obeys s wanted reply t
+CommandGivesBy was_ready s wanted reply t Starves = StaysStale was_ready s t ⊎ Settles s t
+CommandGivesBy was_ready s wanted reply t Fails = StaysStale was_ready (unsure s) t ⊎ Doubts s wanted t
+CommandGivesBy was_ready s wanted reply t Breaks = ⊥
 
 -- What a command does: the answer, and the standing after it.
-abbrev pub Comes : Bool → Standing → (Archive → Done) → Answer → Standing → Type 0
-Comes was_ready s wanted reply t = ComesBy was_ready s wanted reply t (ending reply)
+abbrev pub CommandGives : Bool → LastKnown → (Archive → Done) → Answer → LastKnown → Type 0
+CommandGives was_ready s wanted reply t = CommandGivesBy was_ready s wanted reply t (ending reply)
 
 -- A refusal by the rules leaves the keeper ready, and so does `NoMemory` if it was ready. After a
 -- fault, or damage, it has to be reopened. After a command that was carried out it may have to be.
@@ -174,7 +174,7 @@ OpeningCause before now (Err why) = OpeningWhy before now why
 
 -- The name of the root's file.
 abbrev pub root_file : FileName
-root_file = record { kind = Root; number = 0; gen_ = 0 }
+root_file = record { kind = Root; number = 0; generation = 0 }
 
 -- The answer to a command whose archive could not be reopened. If there is none, its root is damaged.
 abbrev pub opening_answer : OpenRefusal → Answer

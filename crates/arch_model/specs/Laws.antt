@@ -1,7 +1,7 @@
 -- The laws of commands.
 use Rattle.std.specs.Prelude.{◌≡◌, ◌≢◌, ◌<◌, ◌≤◌, ◌^◌, ℕ, false, zero, suc, List, Option, Some, None, IsSome, Result, Ok, Err, length}
 use Rattle.arch_base.specs.declared.ids.Id20.{Id20}
-use Rattle.arch_base.specs.Names.{IsName}
+use Rattle.arch_base.specs.Names.{IsArchiveName}
 use Rattle.mail_reader.specs.StorageTexts.{IsStorageText}
 use Rattle.mail_reader.specs.Stored.{stored}
 use Rattle.mail_reader.specs.Ids.{own_id}
@@ -11,7 +11,7 @@ use Rattle.arch_model.specs.Candidates.{made_id, with_made, met, choice_of}
 use Rattle.arch_model.specs.Delivery.{delivered, removed, is_accepted, edited, applied}
 use Rattle.arch_model.specs.Following.{Follows}
 use Rattle.arch_model.specs.Validity.{IsArchive}
-use Rattle.arch_model.specs.Standing.{Standing, standing}
+use Rattle.arch_model.specs.Standing.{LastKnown, standing}
 use Rattle.arch_model.specs.Keeping.{Reopens}
 use Rattle.arch_base.specs.Moments.{last_moment}
 use Rattle.arch_model.specs.declared.answer.Answer.TheVariants as answer
@@ -24,8 +24,8 @@ use Rattle.arch_model.specs.declared.opening.OpenRefusal.{OpenRefusal}
 use Rattle.arch_model.specs.declared.opening.OpenRefusal.TheVariants as opening
 
 -- Each live number is at least 1 and below the next one.
-abbrev pub IsNumbered : Archive → Type 0
-IsNumbered a = (n : ℕ) (text : List ℕ) → text_of (live a.entries) n ≡ Some text
+abbrev pub NumbersInRange : Archive → Type 0
+NumbersInRange a = (n : ℕ) (text : List ℕ) → text_of (live a.entries) n ≡ Some text
     → (1 ≤ n) × (n < a.next)
 
 -- A delivery leaves each number with its text.
@@ -47,7 +47,7 @@ TakesFromView = (a : Archive) (number moment : ℕ)
 -- After a command on a valid archive each live number is at least 1 and below the next one.
 abbrev pub StaysNumbered : Type 0
 StaysNumbered = (a : Archive) (command : Command) (moment : ℕ) → IsArchive a
-    → (1 ≤ (applied a command moment).archive.next) × IsNumbered (applied a command moment).archive
+    → (1 ≤ (applied a command moment).archive.next) × NumbersInRange (applied a command moment).archive
 
 -- An edit that is accepted is the delivery on the archive without the text of its number. Any other
 -- edit leaves the archive unchanged.
@@ -65,7 +65,7 @@ abbrev pub TakenAreStorage : Type 0
 TakenAreStorage =
     (name bytes text : List ℕ) → stored bytes ≡ Ok text
     → (IsSome (own_id text) → IsStorageText text)
-    × (IsName name → (k : ℕ) → k < 2 ^ 64 → IsStorageText (with_made name text k))
+    × (IsArchiveName name → (k : ℕ) → k < 2 ^ 64 → IsStorageText (with_made name text k))
 
 -- A command up to the last moment leaves a valid archive valid.
 abbrev pub KeepsValid : Type 0
@@ -83,7 +83,7 @@ CommandFollows = (a : Archive) (command : Command) (moment : ℕ)
 -- front or not.
 abbrev pub ShowsDelivered : Type 0
 ShowsDelivered =
-    (a : Archive) (bytes : List ℕ) (moment number : ℕ) (id : Id20) → IsNumbered a
+    (a : Archive) (bytes : List ℕ) (moment number : ℕ) (id : Id20) → NumbersInRange a
     → (delivered a bytes moment).answer ≡ answer.Ok number id →
     (text : List ℕ) × (kept : List ℕ) × (stored bytes ≡ Ok text) × (choice_of a text ≡ Take kept)
     × (text_of (live (delivered a bytes moment).archive.entries) number ≡ Some kept)
@@ -129,7 +129,7 @@ FirstDecides =
 -- for, whether it answers with the number of live messages or refuses; but after a fault of the disk the
 -- archive itself is in doubt.
 abbrev pub ReindexStays : Type 0
-ReindexStays = (a : Archive) (t : Standing) (result : Result ℕ OpenRefusal)
+ReindexStays = (a : Archive) (t : LastKnown) (result : Result ℕ OpenRefusal)
     → Reopens (standing a None) result t
     → (result ≢ Err opening.DiskFault → t ≡ standing a None)
     × (result ≡ Err opening.DiskFault → t ≡ standing a (Some a))

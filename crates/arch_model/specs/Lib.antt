@@ -13,6 +13,6 @@ pub mod Shelves
 pub mod Standing
 pub mod Threading
 pub mod Searching
-pub mod Untold
 pub mod Validity
 pub mod Walking
+pub mod Untold

@@ -69,7 +69,7 @@ AppendsTo old new = (more : List ℕ) × (new ≡ old ++ more)
 
 -- A call that only reads: the states are alike, the archive stays, the shelf is ready, and the count
 -- of faults didn't fall.
-pub record Stays {S : Type 0} (holds : S → Archive → Type 0) (ready : S → Bool)
+pub record ShelfStays {S : Type 0} (holds : S → Archive → Type 0) (ready : S → Bool)
     (alike : S → S → Type 0) (faults : S → ℕ) (old new : S) : Type 0 where
   pub same : alike old new
   pub kept : (a : Archive) → holds old a → holds new a

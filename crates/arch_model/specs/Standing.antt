@@ -7,15 +7,16 @@ use Rattle.arch_model.specs.declared.answer.Answer.TheVariants as answer
 use Rattle.arch_model.specs.declared.text_refusal.TextRefusal.{TextRefusal}
 use Rattle.arch_model.specs.declared.text_refusal.TextRefusal.TheVariants as text_refusal
 
--- The archive that is answered from, and the one that a command in doubt would have left. After a
--- fault of the disk it is in doubt whether the command was carried out.
-pub record Standing : Type 0 where
+-- What is last known of a keeper's archive, its standing: the archive that is answered from, and the
+-- one that a command in doubt would have left. After a fault of the disk it is in doubt whether the
+-- command was carried out.
+pub record LastKnown : Type 0 where
   pub archive : Archive
-  pub doubt : Option Archive
+  pub in_doubt : Option Archive
 
 -- The standing of an archive, and of one in doubt, if there is one.
-abbrev pub standing : Archive → Option Archive → Standing
-standing archive doubt = record { archive = archive; doubt = doubt }
+abbrev pub standing : Archive → Option Archive → LastKnown
+standing archive in_doubt = record { archive = archive; in_doubt = in_doubt }
 
 -- The archive, and the one in doubt, if there is one.
 abbrev pub with_doubt : Archive → Option Archive → List (Option Archive)
@@ -23,18 +24,18 @@ with_doubt a None = Some a ∷ []
 with_doubt a (Some b) = Some a ∷ Some b ∷ []
 
 -- The archives that a crash may leave, and that reopening may find.
-abbrev pub one_of : Standing → List (Option Archive)
-one_of s = with_doubt s.archive s.doubt
+abbrev pub one_of : LastKnown → List (Option Archive)
+one_of s = with_doubt s.archive s.in_doubt
 
 -- The same archives, where it isn't said that nothing is in doubt: if nothing was, the archive itself is.
 -- An opening at which the disk fails leaves this, since it may stop between two writes.
-abbrev pub unsure_of : Archive → Option Archive → Standing
+abbrev pub unsure_of : Archive → Option Archive → LastKnown
 unsure_of a None = standing a (Some a)
 unsure_of a (Some b) = standing a (Some b)
 
 -- The same of a standing.
-abbrev pub unsure : Standing → Standing
-unsure s = unsure_of s.archive s.doubt
+abbrev pub unsure : LastKnown → LastKnown
+unsure s = unsure_of s.archive s.in_doubt
 
 -- The least number among live entries that is at least `n`, or none.
 abbrev pub IsLeastLive : List Entry → ℕ → Option ℕ → Type 0
@@ -74,5 +75,5 @@ IsUntouched (answer.Damaged file at) old new = Unit {0}
 IsUntouched other old new = new ≡ old
 
 -- Reopening found the archive, or the one in doubt.
-abbrev pub IsFound : Standing → Archive → Type 0
-IsFound s b = (b ≡ s.archive) ⊎ (s.doubt ≡ Some b)
+abbrev pub IsFound : LastKnown → Archive → Type 0
+IsFound s b = (b ≡ s.archive) ⊎ (s.in_doubt ≡ Some b)

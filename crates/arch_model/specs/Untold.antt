@@ -1,4 +1,5 @@
--- A keeper that tells nothing: it holds no archive, and what a crash leaves of it isn't told.
+-- Private: a keeper that tells nothing: it holds no archive, and what a crash leaves of it isn't
+-- told.
 use Rattle.std.specs.Prelude.{◌≡◌, Bool, List, Option}
 use Rattle.arch_model.specs.Archives.{Archive}
 use Rattle.arch_model.specs.Keeping.{OnlyRead}

@@ -3,7 +3,7 @@ use Rattle.std.specs.Prelude.{◌≡◌, ◌≢◌, ◌+◌, ◌<◌, ◌≤◌,
 use Rattle.std.specs.List.{AllByRecursion}
 use Rattle.arch_base.specs.Configs.{IsConfig}
 use Rattle.arch_base.specs.Moments.{last_moment}
-use Rattle.arch_base.specs.Names.{IsName}
+use Rattle.arch_base.specs.Names.{IsArchiveName}
 use Rattle.mail_reader.specs.StorageTexts.{IsStorageText}
 use Rattle.mail_reader.specs.Ids.{own_id}
 use Rattle.git_objects.specs.Objects.{blob_id_of}
@@ -20,9 +20,9 @@ pub record IsEntry (e : Entry) : Type 0 where
 
 -- If the entry is a message, its number is at least this one. Of a deletion, which has the number of
 -- a message before it, nothing is asked.
-abbrev pub IsFrom : EntryKind → ℕ → ℕ → Type 0
-IsFrom Message number own = number ≤ own
-IsFrom Deletion number own = Unit {0}
+abbrev pub NumberIsFrom : EntryKind → ℕ → ℕ → Type 0
+NumberIsFrom Message number own = number ≤ own
+NumberIsFrom Deletion number own = Unit {0}
 
 -- The least number of a message after an entry with a number.
 abbrev pub number_after : EntryKind → ℕ → ℕ → ℕ
@@ -33,7 +33,7 @@ number_after Deletion number own = number
 -- (public-inbox-v2-format, "GIT EPOCHS").
 abbrev pub Rise : ℕ → ℕ → List Entry → Type 0
 Rise number epoch [] = Unit {0}
-Rise number epoch (e ∷ es) = IsFrom e.kind number e.number × (epoch ≤ e.epoch)
+Rise number epoch (e ∷ es) = NumberIsFrom e.kind number e.number × (epoch ≤ e.epoch)
     × Rise (number_after e.kind number e.number) e.epoch es
 
 -- Each entry, with those before it, has a property.
@@ -65,7 +65,7 @@ LiveDiffer before e = IdsDiffer (live (before ++ e ∷ []))
 -- messages are at least 1 and below the next one, each deletion ends a live message, the own ids of
 -- live messages differ at each place, and each blob id has one text.
 pub record IsArchive (a : Archive) : Type 0 where
-  pub name : IsName a.config.name
+  pub name : IsArchiveName a.config.name
   pub config : IsConfig a.config
   pub next_least : 1 ≤ a.next
   pub next_most : a.next ≤ 2147483648

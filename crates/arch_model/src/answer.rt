@@ -1,4 +1,5 @@
 //! The answers to commands.
+//! Pure.
 use arch_base::ObjectId;
 use disk_model::FileName;
 

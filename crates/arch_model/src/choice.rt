@@ -1,4 +1,5 @@
 //! What the candidate ids of a message decide.
+//! Pure.
 use arch_base::Bytes;
 
 /// How a candidate id meets the messages that are there.

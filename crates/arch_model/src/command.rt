@@ -1,4 +1,5 @@
 //! The commands of an archive.
+//! Pure.
 
 /// A command on an archive.
 #[derive(Clone, Copy, Debug, Drop)]

@@ -1,12 +1,13 @@
 //! The trait of keepers: shelves that also carry out commands, and can be reopened.
+//! Writes the disk; syncs.
 ghost use Rattle.std.specs.Prelude.{◌≡◌, ◌≤◌, Bool, true, false, not, List, [], ◌∷◌, Option, Some, is_ok, IfOk, length};
 ghost use Rattle.std.specs.List.{Contains};
 ghost use Rattle.arch_base.specs.Moments.{last_moment};
 ghost use Rattle.arch_model.specs.Archives.{Archive, in_epoch, live};
 ghost use Rattle.arch_model.specs.Delivery.{applied};
-ghost use Rattle.arch_model.specs.Keeping.{Passes, Fits, Moves, OnlyRead, Reopens, Comes, StaysReady, AnswerCause, OpeningCause, ReadsFor, text_known};
-ghost use Rattle.arch_model.specs.Shelves.{AppendsTo, Stays, ReadCause, ReadsOnce};
-ghost use Rattle.arch_model.specs.Standing.{Standing, GivesEpochIn, KeepsUnlessFound};
+ghost use Rattle.arch_model.specs.Keeping.{CrashesLeaveOnly, MatchesKnown, KeeperMoves, OnlyRead, Reopens, CommandGives, StaysReady, AnswerCause, OpeningCause, ReadsFor, text_known};
+ghost use Rattle.arch_model.specs.Shelves.{AppendsTo, ShelfStays, ReadCause, ReadsOnce};
+ghost use Rattle.arch_model.specs.Standing.{LastKnown, GivesEpochIn, KeepsUnlessFound};
 
 use crate::answer::Answer;
 use crate::command::Command;
@@ -29,7 +30,7 @@ use arch_base::Bytes;
 pub trait Keep: Shelf {
     /// The keeper's files are exactly those of this archive, with no other file, and all that reads of
     /// them give is on the disk.
-    ghost rests: { Self → Archive → Type 0 };
+    ghost files_are: { Self → Archive → Type 0 };
 
     /// Each crash since the first state has left one of these archives. None stands for no archive.
     ghost leaves: { Self → Self → List (Option Archive) → Type 0 };
@@ -46,11 +47,11 @@ pub trait Keep: Shelf {
     fn fresh(&mut self) -> Result<(), OpenRefusal>
         ensures nothing { Self.ready self.old ≡ true
             → (is_ok result ≡ true) × (self.new ≡ self.old) }
-        ensures found { (s : Standing) → Fits Self.holds rests Self.ready leaves self.old s
-            → (t : Standing) × Moves Self.holds rests Self.ready leaves self.old s self.new t
+        ensures found { (s : LastKnown) → MatchesKnown Self.holds files_are Self.ready leaves self.old s
+            → (t : LastKnown) × KeeperMoves Self.holds files_are Self.ready leaves self.old s self.new t
             × Reopens s result t }
-        ensures any_moment { (s : Standing) → Fits Self.holds rests Self.ready leaves self.old s
-            → Passes leaves self.old self.new [] }
+        ensures crash { (s : LastKnown) → MatchesKnown Self.holds files_are Self.ready leaves self.old s
+            → CrashesLeaveOnly leaves self.old self.new [] }
         ensures ready { Self.ready self.new ≡ is_ok result }
         ensures later { Self.faults self.old ≤ Self.faults self.new }
         ensures cause { OpeningCause (Self.faults self.old) (Self.faults self.new) result };
@@ -64,11 +65,11 @@ pub trait Keep: Shelf {
     /// refusal the keeper is stale. `DiskFault` if the disk failed, and the count of faults rose; any
     /// other result leaves the count. `NoMemory` if an allocation fails.
     fn reindex(&mut self) -> Result<u32, OpenRefusal>
-        ensures found { (s : Standing) → Fits Self.holds rests Self.ready leaves self.old s
-            → (t : Standing) × Moves Self.holds rests Self.ready leaves self.old s self.new t
+        ensures found { (s : LastKnown) → MatchesKnown Self.holds files_are Self.ready leaves self.old s
+            → (t : LastKnown) × KeeperMoves Self.holds files_are Self.ready leaves self.old s self.new t
             × Reopens s result t × IfOk result (λ count. count ≡ length (live t.archive.entries)) }
-        ensures any_moment { (s : Standing) → Fits Self.holds rests Self.ready leaves self.old s
-            → Passes leaves self.old self.new [] }
+        ensures crash { (s : LastKnown) → MatchesKnown Self.holds files_are Self.ready leaves self.old s
+            → CrashesLeaveOnly leaves self.old self.new [] }
         ensures ready { Self.ready self.new ≡ is_ok result }
         ensures later { Self.faults self.old ≤ Self.faults self.new }
         ensures cause { OpeningCause (Self.faults self.old) (Self.faults self.new) result };
@@ -85,9 +86,9 @@ pub trait Keep: Shelf {
     /// with a blob id that no entry has.
     fn command(&mut self, command: &Command<'_>, moment: u64) -> Answer
         requires moment { moment ≤ last_moment }
-        ensures done { (s : Standing) → Fits Self.holds rests Self.ready leaves self.old s
-            → (t : Standing) × Moves Self.holds rests Self.ready leaves self.old s self.new t
-            × Comes (Self.ready self.old) s (λ (a : Archive). applied a command.now moment) result t }
+        ensures done { (s : LastKnown) → MatchesKnown Self.holds files_are Self.ready leaves self.old s
+            → (t : LastKnown) × KeeperMoves Self.holds files_are Self.ready leaves self.old s self.new t
+            × CommandGives (Self.ready self.old) s (λ (a : Archive). applied a command.now moment) result t }
         ensures ready { StaysReady (Self.ready self.old) result (Self.ready self.new) }
         ensures later { Self.faults self.old ≤ Self.faults self.new }
         ensures cause { AnswerCause (Self.faults self.old) (Self.faults self.new) result }
@@ -108,12 +109,12 @@ pub trait Keep: Shelf {
             → GivesEpochIn (in_epoch a.entries epoch) into.old into.new result }
         ensures kept { KeepsUnlessFound into.old into.new result }
         ensures appends { AppendsTo into.old into.new }
-        ensures shelf { Stays Self.holds Self.ready Self.alike Self.faults self.old self.new }
+        ensures shelf { ShelfStays Self.holds Self.ready Self.alike Self.faults self.old self.new }
         ensures cause { ReadCause (Self.faults self.old) (Self.faults self.new) result }
         ensures reads { ReadsOnce (Self.reads self.old) (Self.reads self.new) };
 
     /// The files of a keeper that holds an archive are exactly that archive's.
-    ghost holds_rests: { (k : Self) (a : Archive) → Self.holds k a → rests k a };
+    ghost holds_files_are: { (k : Self) (a : Archive) → Self.holds k a → files_are k a };
 
     /// A crash leaves the archive that a keeper holds.
     ghost holds_left: { (k : Self) (a : Archive) (may : List (Option Archive)) → Self.holds k a
@@ -125,5 +126,5 @@ pub trait Keep: Shelf {
 
     /// What only reads leaves the archive, the files, the readiness and what a crash may leave.
     ghost alike_kept: { (k m : Self) → Self.alike k m
-        → OnlyRead Self.holds rests Self.ready leaves k m };
+        → OnlyRead Self.holds files_are Self.ready leaves k m };
 }

@@ -1,5 +1,7 @@
-//! The laws of commands, for every archive, message and moment, of archives that follow one another,
-//! and of epochs that grow.
+//! The laws of commands, of archives that follow one another, and of epochs that grow.
+//! Pure.
+//!
+//! They hold for every archive, message and moment.
 ghost use Rattle.arch_model.specs.Epochs.{EpochGrows};
 ghost use Rattle.arch_model.specs.Following.{FollowsItself, FollowsThrough, FollowsWithEntry, FollowsWithDeletion, FollowsWithoutText, NumbersStay, ShownStay};
 ghost use Rattle.arch_model.specs.Laws.{CommandFollows, EditsWhole, FirstDecides, KeepsNumbers, KeepsValid, ReindexStays, StaysNumbered, ShowsDelivered, TakenAreStorage, TakesFromView};

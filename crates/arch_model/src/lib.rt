@@ -1,5 +1,5 @@
-//! The archive as definitions state it, its commands and their answers, and what a shelf and a
-//! keeper of one do.
+//! The archive as definitions state it, its commands and answers, and its shelves and keepers.
+//! Writes the disk; syncs.
 #![tactic(auto)]
 
 mod answer;

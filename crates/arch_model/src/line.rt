@@ -1,4 +1,5 @@
 //! An entry of an archive without its text.
+//! Pure.
 use arch_base::ObjectId;
 use git_objects::EntryKind;
 

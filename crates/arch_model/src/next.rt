@@ -1,4 +1,5 @@
 //! Whether a session continues.
+//! Pure.
 ghost use Rattle.std.specs.Prelude.{◌≡◌, is_ok};
 ghost use Rattle.arch_model.specs.Next.{continues};
 

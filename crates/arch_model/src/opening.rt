@@ -1,4 +1,5 @@
 //! Why an archive on a disk could not be opened.
+//! Pure.
 use crate::answer::Answer;
 use arch_base::NoMemory;
 use disk_model::{DiskFault, FileKind, FileName};
@@ -40,7 +41,7 @@ impl OpenRefusal {
                 file: FileName {
                     kind: FileKind::Root,
                     number: 0,
-                    gen_: 0,
+                    generation: 0,
                 },
                 at: 0,
             },

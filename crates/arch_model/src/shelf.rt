@@ -1,8 +1,9 @@
 //! The trait of shelves: values that give the texts of one archive.
+//! Reads the disk.
 ghost use Rattle.std.specs.Prelude.{◌≡◌, ℕ, Bool, true, IfOk, OnErr, is_some, option_copied, take, drop};
 ghost use Rattle.arch_model.specs.Archives.{Archive, live, text_of};
 ghost use Rattle.arch_model.specs.Listings.{row_in, number_of_id, listing};
-ghost use Rattle.arch_model.specs.Shelves.{IsGreatestLive, live_between, line_at, GivesBlobIn, AppendsTo, Stays, ReadCause, ReadsOnce};
+ghost use Rattle.arch_model.specs.Shelves.{IsGreatestLive, live_between, line_at, GivesBlobIn, AppendsTo, ShelfStays, ReadCause, ReadsOnce};
 ghost use Rattle.arch_model.specs.Standing.{IsLeastLive, GivesTextIn, KeepsUnlessFound};
 ghost use Rattle.arch_model.specs.Threading.{thread_in};
 ghost use Rattle.arch_model.specs.Searching.{search};
@@ -126,7 +127,7 @@ pub trait Shelf {
             → GivesTextIn (live a.entries) n into.old into.new result }
         ensures refused { OnErr result (into.new ≡ into.old) }
         ensures appends { AppendsTo into.old into.new }
-        ensures shelf { Stays holds ready alike faults self.old self.new }
+        ensures shelf { ShelfStays holds ready alike faults self.old self.new }
         ensures cause { ReadCause (faults self.old) (faults self.new) result }
         ensures reads { ReadsOnce (reads self.old) (reads self.new) };
 
@@ -141,7 +142,7 @@ pub trait Shelf {
             → GivesBlobIn a.entries id.now.0 into.old into.new result }
         ensures kept { KeepsUnlessFound into.old into.new result }
         ensures appends { AppendsTo into.old into.new }
-        ensures shelf { Stays holds ready alike faults self.old self.new }
+        ensures shelf { ShelfStays holds ready alike faults self.old self.new }
         ensures cause { ReadCause (faults self.old) (faults self.new) result }
         ensures reads { ReadsOnce (reads self.old) (reads self.new) };
 

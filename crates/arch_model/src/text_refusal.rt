@@ -1,4 +1,5 @@
 //! Why the text of an entry could not be read.
+//! Pure.
 use arch_base::{NoMemory, ObjectId};
 use disk_model::DiskFault;
 use thiserror::Error;

@@ -1,4 +1,5 @@
-//! The trait of what is walked through: the entries of an archive and their texts, one after another.
+//! The trait of what is walked through: the entries of an archive and their texts, one by one.
+//! Reads the disk.
 ghost use Rattle.std.specs.Prelude.{◌≡◌, ◌<◌, ℕ, List, Some, length, slice_get, IfErr};
 ghost use Rattle.arch_model.specs.Archives.{Archive};
 ghost use Rattle.arch_model.specs.Shelves.{line_at, ReadCause, ReadsOnce, IsUndamaged};

@@ -2,11 +2,11 @@
 use Rattle.std.specs.Prelude.{◌≡◌, ◌-◌, ◌+◌, ◌<◌, ◌≤◌, ℕ, List, length, Option, Some, None, Ok}
 use Rattle.std.proofs.Common.{◌∙◌, sym, ap, subst, inl, inr, arith}
 use Rattle.std.proofs.lemmas.Bool.{cases_eq}
-use Rattle.disk_model.specs.Disk.{File, Files, Content, Image, Told, WhereTold, ReadsFit, bytes_of, overlay}
+use Rattle.disk_model.specs.Disk.{File, Files, Content, Image, BothTold, WhereTold, ReadsFit, bytes_of, overlay}
 use Rattle.disk_model.specs.Laws.{overlay-torn}
 use Rattle.disk_model.specs.Moments.{started}
 use Rattle.disk_model.specs.Synced.{IsSettled}
-use Rattle.root_slots.specs.Between.{RunsBetween, WentBetween, between, joined_between, looks_between, went_settled}
+use Rattle.root_slots.specs.Between.{RunsBetween, WentBetween, crash_between, joined_between, looks_between, went_settled}
 use Rattle.root_slots.specs.Each.{IfThere, part_stays}
 use Rattle.root_slots.specs.RootName.{root_name}
 use Rattle.root_slots.specs.Sizes.{spelling_least, spelling_length}
@@ -18,10 +18,10 @@ use Rattle.arch_model.specs.declared.command.Command.{Command}
 use Rattle.arch_model.specs.declared.command.Command.TheVariants.{Deliver, Remove, Purge, Edit}
 use Rattle.store_finding.specs.Files.{as_read}
 use Rattle.store_finding.specs.Finding.{IsCurrentRoot}
-use Rattle.epoch_store.specs.Opens.{Opens}
-use Rattle.epoch_store.specs.Promises.{Way, GoesOnBy}
+use Rattle.epoch_store.specs.Opens.{OpensFiles}
+use Rattle.epoch_store.specs.Promises.{WriteKind, GoesOnBy}
 use Rattle.epoch_store.specs.Settling.{IsSettledBy, KeepsSlots}
-use Rattle.store_finding.specs.Kept.{View}
+use Rattle.store_finding.specs.Kept.{StoreState}
 use Rattle.epoch_store.proofs.Readying.{committed_over}
 use Rattle.archive_core.specs.Commands.{IsForCommand, OnDone, OnRefusal, OnlyLooks, UnlessFault}
 use Rattle.archive_core.specs.Engines.{unchanged-is}
@@ -38,7 +38,7 @@ starved-answer (Purge number) = tt
 starved-answer (Edit number bytes) = tt
 
 -- The files were opened.
-pub opened-some : (v : View) (k : Option Content) → WhereTold (λ (c : Content). Opens (as_read c) (Ok v)) k → WhereTold (λ (c : Content). (u : View) × Opens (as_read c) (Ok u)) k
+pub opened-some : (v : StoreState) (k : Option Content) → WhereTold (λ (c : Content). OpensFiles (as_read c) (Ok v)) k → WhereTold (λ (c : Content). (u : StoreState) × OpensFiles (as_read c) (Ok u)) k
 opened-some v None answer = tt
 opened-some v (Some k) answer = (v, answer)
 
@@ -48,30 +48,30 @@ whole-root slot body None current = absurd current
 whole-root slot body (Some bytes) current = current.size
 
 -- Its bytes between the gates and the bodies stay if a body is written.
-between-filled : (at : ℕ) (bytes file : List ℕ) → 1024 ≤ at → at + length bytes ≤ length file → between (overlay at bytes file) ≡ between file
-unfolding between
-between-filled at bytes file high inside = part_stays at (length bytes) file (overlay at bytes file) 2 1022 (overlay-torn at bytes file inside) (inl (omega (arith, high)))
+crash_between-filled : (at : ℕ) (bytes file : List ℕ) → 1024 ≤ at → at + length bytes ≤ length file → crash_between (overlay at bytes file) ≡ crash_between file
+unfolding crash_between
+crash_between-filled at bytes file high inside = part_stays at (length bytes) file (overlay at bytes file) 2 1022 (overlay-torn at bytes file inside) (inl (omega (arith, high)))
 
-between-kept : (slot : ℕ) (body a b : List ℕ) → slot < 2 → length body ≡ 1536 → length a ≡ 4096 → KeepsSlots slot body a b → between b ≡ between a
-between-kept slot body a b low whole size kept = elim (cases_eq (gate a (1 - slot)) 1) [
-  | inl is ↦ ap between (kept.opened is)
+crash_between-kept : (slot : ℕ) (body a b : List ℕ) → slot < 2 → length body ≡ 1536 → length a ≡ 4096 → KeepsSlots slot body a b → crash_between b ≡ crash_between a
+crash_between-kept slot body a b low whole size kept = elim (cases_eq (gate a (1 - slot)) 1) [
+  | inl is ↦ ap crash_between (kept.opened is)
   | inr isnt ↦
-      ap between (kept.filled isnt)
-      ∙ between-filled (body_offset (1 - slot)) body a (omega arith) (omega (arith, size, whole, low))
+      ap crash_between (kept.filled isnt)
+      ∙ crash_between-filled (body_offset (1 - slot)) body a (omega arith) (omega (arith, size, whole, low))
 ]
 
 -- The bytes there after files were opened, of which the disk was settled.
-pub opened-went : (v : View) (old mid : Option Content) → ReadsFit old → WhereTold (λ (k : Content). Opens (as_read k) (Ok v)) old → Told (IsSettledBy v.root v.slot) old mid → WhereTold IsSettled mid → Told WentBetween old mid
+pub opened-went : (v : StoreState) (old mid : Option Content) → ReadsFit old → WhereTold (λ (k : Content). OpensFiles (as_read k) (Ok v)) old → BothTold (IsSettledBy v.root v.slot) old mid → WhereTold IsSettled mid → BothTold WentBetween old mid
 opened-went v None None fit opened kept settled = tt
 opened-went v None (Some m) fit opened kept settled = absurd kept
 opened-went v (Some k) None fit opened kept settled = absurd kept
 opened-went v (Some k) (Some m) fit opened kept settled =
     let is : IsCurrentRoot v.root v.slot (as_read k) = opened.root in
     let size = whole-root v.slot (spelling v.root) (k root_name).seen is.current in
-    went_settled k m fit settled (between-kept v.slot (spelling v.root) (bytes_of (k root_name).seen) (bytes_of (m root_name).seen) is.in_range (spelling_length v.root is.fits.name is.fits.count) size kept.slots)
+    went_settled k m fit settled (crash_between-kept v.slot (spelling v.root) (bytes_of (k root_name).seen) (bytes_of (m root_name).seen) is.in_range (spelling_length v.root is.fits.name is.fits.count) size kept.slots)
 
 -- A root that was committed after that is the one change of the root file.
-rooted-over : (v : View) (slot : ℕ) (next : List ℕ) (old mid new : Option Content) → slot ≡ 1 - v.slot → 1536 ≤ length next → WhereTold (λ (k : Content). Opens (as_read k) (Ok v)) old → Told (IsSettledBy v.root v.slot) old mid → Told (HasNewRoot slot next) mid new → Told (HasNewRoot slot next) old new
+rooted-over : (v : StoreState) (slot : ℕ) (next : List ℕ) (old mid new : Option Content) → slot ≡ 1 - v.slot → 1536 ≤ length next → WhereTold (λ (k : Content). OpensFiles (as_read k) (Ok v)) old → BothTold (IsSettledBy v.root v.slot) old mid → BothTold (HasNewRoot slot next) mid new → BothTold (HasNewRoot slot next) old new
 rooted-over v slot next None None None other long opened kept rooted = tt
 rooted-over v slot next None None (Some n) other long opened kept rooted = absurd rooted
 rooted-over v slot next None (Some m) new other long opened kept rooted = absurd kept
@@ -84,18 +84,18 @@ rooted-over v slot next (Some k) (Some m) (Some n) other long opened kept rooted
     rooted ∙ ap Some (subst (λ (s : ℕ). with_root s next (bytes_of (m root_name).seen) ≡ with_root s next (bytes_of (k root_name).seen)) (sym other) same)
 
 -- A command that was done commits one root.
-pub commits-done : (way : Way) (keeps : View → View → Type 0) (found made : View) (old new : Option Content) (reply : Answer) → OnDone reply (keeps found made) → OnDone reply (GoesOnBy way found.root made.root) → OnDone reply (made.slot ≡ 1 - found.slot) → OnDone reply (Told (HasNewRoot made.slot (spelling made.root)) old new) → OnDone reply (WhereTold IsSettled new)
+pub commits-done : (way : WriteKind) (keeps : StoreState → StoreState → Type 0) (found made : StoreState) (old new : Option Content) (reply : Answer) → OnDone reply (keeps found made) → OnDone reply (GoesOnBy way found.root made.root) → OnDone reply (made.slot ≡ 1 - found.slot) → OnDone reply (BothTold (HasNewRoot made.slot (spelling made.root)) old new) → OnDone reply (WhereTold IsSettled new)
     → OnDone reply (CommitsOne way keeps found old new)
 commits-done way keeps found made old new (answer.Ok number id) kept goes_on slot rooted settled = record { made = made; kept = kept; goes_on = goes_on; slot = slot; rooted = rooted; settled = settled }
 commits-done way keeps found made old new other kept goes_on slot rooted settled = tt
 
 -- The same after files were opened.
-pub opened-commits : (way : Way) (keeps : View → View → Type 0) (v : View) (old mid new : Option Content) (reply : Answer) → WhereTold (λ (k : Content). Opens (as_read k) (Ok v)) old → Told (IsSettledBy v.root v.slot) old mid → OnDone reply (CommitsOne way keeps v mid new) → OnDone reply (CommitsOpened way keeps old new)
+pub opened-commits : (way : WriteKind) (keeps : StoreState → StoreState → Type 0) (v : StoreState) (old mid new : Option Content) (reply : Answer) → WhereTold (λ (k : Content). OpensFiles (as_read k) (Ok v)) old → BothTold (IsSettledBy v.root v.slot) old mid → OnDone reply (CommitsOne way keeps v mid new) → OnDone reply (CommitsOpened way keeps old new)
 opened-commits way keeps v old mid new reply opened kept done = done-then reply (CommitsOne way keeps v mid new) (CommitsOpened way keeps old new)
     (λ one. (v, opened, record { made = one.made; kept = one.kept; goes_on = one.goes_on; slot = one.slot; rooted = rooted-over v one.made.slot (spelling one.made.root) old mid new one.slot (spelling_least one.made.root) opened kept one.rooted; settled = one.settled })) done
 
 -- It keeps fewer files, if that is what is asked.
-pub commits-as : (way : Way) (keeps fewer : View → View → Type 0) (o : Outcome) (old new : Option Content) → ((found made : View) → keeps found made → fewer found made) → CommitsIfDone way keeps o old new → CommitsIfDone way fewer o old new
+pub commits-as : (way : WriteKind) (keeps fewer : StoreState → StoreState → Type 0) (o : Outcome) (old new : Option Content) → ((found made : StoreState) → keeps found made → fewer found made) → CommitsIfDone way keeps o old new → CommitsIfDone way fewer o old new
 commits-as way keeps fewer (Made name) old new less commits = tt
 commits-as way keeps fewer Exists old new less commits = tt
 commits-as way keeps fewer (Reindexed live) old new less commits = tt
@@ -111,10 +111,10 @@ opened-refused content moment left_since old mid new reply settled refused = ref
 
 module _ {D : Type 0} (content : D → Option Content) (moment : D → ℕ) (left_since : D → ℕ → Files → Type 0) where
   -- At each moment of a command on files that were opened the bytes between gates and bodies stay.
-  pub opened-between : (v : View) (old mid new : D) → ReadsFit (content old) → WhereTold (λ (k : Content). Opens (as_read k) (Ok v)) (content old) → Told (IsSettledBy v.root v.slot) (content old) (content mid) → WhereTold IsSettled (content mid) → RunsBetween content moment left_since old mid → RunsBetween content moment left_since mid new
+  pub opened-crash_between : (v : StoreState) (old mid new : D) → ReadsFit (content old) → WhereTold (λ (k : Content). OpensFiles (as_read k) (Ok v)) (content old) → BothTold (IsSettledBy v.root v.slot) (content old) (content mid) → WhereTold IsSettled (content mid) → RunsBetween content moment left_since old mid → RunsBetween content moment left_since mid new
       → RunsBetween content moment left_since old new
-  opened-between v old mid new fit opened kept settled first second = joined_between content moment left_since old mid new first (opened-went v (content old) (content mid) fit opened kept settled) second
+  opened-crash_between v old mid new fit opened kept settled first second = joined_between content moment left_since old mid new first (opened-went v (content old) (content mid) fit opened kept settled) second
 
   -- Nothing was done.
-  pub still-between : ((disk : D) (image : Files) → left_since disk (moment disk) image → Image (content disk) image) → (disk : D) → RunsBetween content moment left_since disk disk
-  still-between only_now disk = looks_between content moment left_since disk disk (started moment left_since disk (Image (content disk)) (λ image now. only_now disk image now))
+  pub still-crash_between : ((disk : D) (image : Files) → left_since disk (moment disk) image → Image (content disk) image) → (disk : D) → RunsBetween content moment left_since disk disk
+  still-crash_between only_now disk = looks_between content moment left_since disk disk (started moment left_since disk (Image (content disk)) (λ image now. only_now disk image now))

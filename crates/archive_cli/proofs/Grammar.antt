@@ -11,8 +11,8 @@ use Rattle.std.proofs.lemmas.List.Elements.{All-nil, All-cons, All-push, All-hea
 use Rattle.arch_base.specs.Configs.{IsConfig}
 use Rattle.edge_io.specs.Parsing.{Spells}
 use Rattle.arch_base.specs.declared.config.Config.{Config}
-use Rattle.archive_cli.specs.Words.{IsMade, IsInit, IsReplay, IsNumbered, IsLone, IsServe, IsServeOption, Gives, serve_word, IsLoad, IsJob, AsksFor, IsSetting, IsUpTo, EachOnce, setting_word, limit_of, slice_of, max_of, mirror_of, limits, slices, maxes, mirrors, spelled, limit_in, slice_in, max_in, mirror_in}
-use Rattle.archive_cli.specs.Options.{IsServing, Holds, HoldsMore, HoldsTwo, marks}
+use Rattle.archive_cli.specs.Words.{AreMakingWords, IsInit, IsReplay, AreNumberWords, IsLone, IsServe, IsServeOption, GivesServing, serve_word, IsLoad, IsJob, AsksFor, IsSetting, IsOneUpTo, EachOnce, setting_word, limit_of, slice_of, max_of, mirror_of, limits, slices, maxes, mirrors, spelled, limit_in, slice_in, max_in, mirror_in}
+use Rattle.archive_cli.specs.Options.{IsServing, HoldsSettings, HoldsMore, HoldsTwo, marks}
 use Rattle.archive_cli.specs.declared.words.Job.{Job}
 use Rattle.archive_cli.specs.declared.words.Job.TheVariants.{Help, Version, Replay, Load, Init, Deliver, Remove, Purge, Edit, Reindex, Check, Serve}
 use Rattle.archive_cli.specs.declared.words.ServeOption.{ServeOption}
@@ -100,7 +100,7 @@ pub record Reading (words rest : List (List ℕ)) (held : Settings) : Type 0 whe
   pub settings : List Setting
   pub split : words ≡ map setting_word settings ++ rest
   pub ranges : All IsSetting settings
-  pub holds : Holds settings held
+  pub holds : HoldsSettings settings held
 
 module _ (words : List (List ℕ)) (word : List ℕ) (rest : List (List ℕ)) (held : Settings) (r : Reading words (word ∷ rest) held) where
   -- One more option.
@@ -158,7 +158,7 @@ none_marked (Max n ∷ gs) e = none_marked gs e
 none_marked (Mirror ∷ gs) e = absurd (cc e)
 
 -- The settings of a mirror.
-mirror-made : (words : List (List ℕ)) (settings : List Setting) (config : Config) (b : Bool) → IsMade words settings config → config.mirror ≡ b → mirror_in settings ≡ b
+mirror-made : (words : List (List ℕ)) (settings : List Setting) (config : Config) (b : Bool) → AreMakingWords words settings config → config.mirror ≡ b → mirror_in settings ≡ b
 mirror-made words settings config b m e = sym (ap (λ (k : Config). k.mirror) m.config_is) ∙ e
 
 -- Settings without a mark make no mirror.
@@ -166,7 +166,7 @@ unmarked : (settings : List Setting) → mirrors settings ≡ [] → mirror_in s
 unmarked settings none e = let plain : mirror_in settings ≡ false = ap (λ (ms : List Bool). get_or ms 0 false) none in absurd (cc (plain, e))
 
 -- The same words give the same settings.
-same_made : (words : List (List ℕ)) (settings others : List Setting) (config other : Config) → IsMade words settings config → IsMade words others other → settings ≡ others
+same_made : (words : List (List ℕ)) (settings others : List Setting) (config other : Config) → AreMakingWords words settings config → AreMakingWords words others other → settings ≡ others
 same_made words settings others config other m n =
     let spelling : map setting_word settings ≡ map setting_word others = cc (m.is, n.is) in
     same_settings settings others m.ranges n.ranges spelling
@@ -237,12 +237,12 @@ no-load Removal e = apart 114 108 (codes "emove") (codes "oad") (omega arith) e
 no-load Purging e = apart 112 108 (codes "urge") (codes "oad") (omega arith) e
 no-load Editing e = apart 101 108 (codes "dit") (codes "oad") (omega arith) e
 
-as-kind : (k l : Numbered) (words : List (List ℕ)) (number : ℕ) → word_of l ≡ word_of k → IsNumbered (word_of l) words number → (n : ℕ) × (job_of l number ≡ job_of k n) × IsNumbered (word_of k) words n
-as-kind k l words number e found = subst (λ (x : Numbered). (n : ℕ) × (job_of l number ≡ job_of x n) × IsNumbered (word_of x) words n) (same-kind l k e) (number, refl, found)
+as-kind : (k l : Numbered) (words : List (List ℕ)) (number : ℕ) → word_of l ≡ word_of k → AreNumberWords (word_of l) words number → (n : ℕ) × (job_of l number ≡ job_of k n) × AreNumberWords (word_of k) words n
+as-kind k l words number e found = subst (λ (x : Numbered). (n : ℕ) × (job_of l number ≡ job_of x n) × AreNumberWords (word_of x) words n) (same-kind l k e) (number, refl, found)
 
 -- Words that start with one of them and one more word, and that ask for a job, ask for that command.
 module _ (k : Numbered) (word : List ℕ) (more : List (List ℕ)) where
-  numbered_only : (job : Job) → AsksFor (word_of k ∷ word ∷ more) job → (number : ℕ) × (job ≡ job_of k number) × IsNumbered (word_of k) (word_of k ∷ word ∷ more) number
+  numbered_only : (job : Job) → AsksFor (word_of k ∷ word ∷ more) job → (number : ℕ) × (job ≡ job_of k number) × AreNumberWords (word_of k) (word_of k ∷ word ∷ more) number
   numbered_only Help e = absurd (not-alone (word_of k) (codes "--help") word more e)
   numbered_only Version e = absurd (not-alone (word_of k) (codes "--version") word more e)
   numbered_only Deliver e = absurd (not-alone (word_of k) (codes "deliver") word more e)
@@ -257,7 +257,7 @@ module _ (k : Numbered) (word : List ℕ) (more : List (List ℕ)) where
   numbered_only (Serve turns port) s = absurd (no-serve k (head-word (word_of k) (codes "serve") (word ∷ more) (map serve_word s.options) s.is))
 
   -- A number alone after it.
-  pub numbered_read : (number : ℕ) → IsLone (word ∷ more) (Some number) → IsNumbered (word_of k) (word_of k ∷ word ∷ more) number
+  pub numbered_read : (number : ℕ) → IsLone (word ∷ more) (Some number) → AreNumberWords (word_of k) (word_of k ∷ word ∷ more) number
   numbered_read number lone = record { is = ap (λ (words : List (List ℕ)). word_of k ∷ words) lone.0; range = lone.1 }
 
   -- Anything else asks for no job.
@@ -270,7 +270,7 @@ module _ (k : Numbered) (word : List ℕ) (more : List (List ℕ)) where
 pub lone-more : (word : List ℕ) (more : List (List ℕ)) → more ≢ [] → IsLone (word ∷ more) None
 lone-more word more some number range is = some (tail-words word (decimal number) more [] is)
 
-pub lone-read : (word : List ℕ) (more : List (List ℕ)) (found : Option ℕ) → more ≡ [] → Spells (IsUpTo 2147483647) decimal word found → IsLone (word ∷ more) found
+pub lone-read : (word : List ℕ) (more : List (List ℕ)) (found : Option ℕ) → more ≡ [] → Spells (IsOneUpTo 2147483647) decimal word found → IsLone (word ∷ more) found
 lone-read word more None none unread = λ number range is. unread number range (head-word word (decimal number) more [] is)
 lone-read word more (Some number) none read = (cc (none, read.1), read.0)
 
@@ -300,11 +300,11 @@ load_named word after found is asked = named word (codes "load") after found is 
 
 module _ (word name : List ℕ) (options : List (List ℕ)) where
   -- A word, and then the words that make an archive.
-  after_word : (command : List ℕ) (after : List (List ℕ)) (settings : List Setting) (config : Config) → word ∷ name ∷ options ≡ command ∷ after → IsMade after settings config → IsMade (name ∷ options) settings config
-  after_word command after settings config is m = subst (λ ws. IsMade ws settings config) (cc is) m
+  after_word : (command : List ℕ) (after : List (List ℕ)) (settings : List Setting) (config : Config) → word ∷ name ∷ options ≡ command ∷ after → AreMakingWords after settings config → AreMakingWords (name ∷ options) settings config
+  after_word command after settings config is m = subst (λ ws. AreMakingWords ws settings config) (cc is) m
 
   -- Words that make no archive, and whose first isn't that of another job, ask for no job.
-  pub not_made : word ≢ codes "remove" → word ≢ codes "purge" → word ≢ codes "edit" → word ≢ codes "load" → word ≢ codes "serve" → ((settings : List Setting) (config : Config) → IsMade (name ∷ options) settings config → ⊥) → (job : Job) → AsksFor (word ∷ name ∷ options) job → ⊥
+  pub not_made : word ≢ codes "remove" → word ≢ codes "purge" → word ≢ codes "edit" → word ≢ codes "load" → word ≢ codes "serve" → ((settings : List Setting) (config : Config) → AreMakingWords (name ∷ options) settings config → ⊥) → (job : Job) → AsksFor (word ∷ name ∷ options) job → ⊥
   not_made o x y z v h Help e = cc e
   not_made o x y z v h Version e = cc e
   not_made o x y z v h Deliver e = cc e
@@ -333,7 +333,7 @@ module _ (word name : List ℕ) (options : List (List ℕ)) where
   other_word o x y z p q v (Load count seed) l = z (cc l.is)
   other_word o x y z p q v (Serve turns port) s = v (cc s.is)
 
-  module _ (config : Config) (is : word ≡ codes "replay") (made : (settings : List Setting) × IsMade (name ∷ options) settings config) where
+  module _ (config : Config) (is : word ≡ codes "replay") (made : (settings : List Setting) × AreMakingWords (name ∷ options) settings config) where
     -- `replay` and an archive that is no mirror.
     pub replayed : config.mirror ≡ false → IsReplay (word ∷ name ∷ options) config
     replayed e = record {
@@ -358,44 +358,44 @@ module _ (word name : List ℕ) (options : List (List ℕ)) where
     not_replayed e (Init other) i = apart 105 114 (codes "nit") (codes "eplay") (omega arith) (cc (i.is, is))
     not_replayed e (Serve turns port) s = apart 115 114 (codes "erve") (codes "eplay") (omega arith) (cc (s.is, is))
     not_replayed e (Replay other) r =
-        let found : IsMade (name ∷ options) r.settings other = after_word (codes "replay") r.after r.settings other r.is r.made in
+        let found : AreMakingWords (name ∷ options) r.settings other = after_word (codes "replay") r.after r.settings other r.is r.made in
         let same : made.0 ≡ r.settings = same_made (name ∷ options) made.0 r.settings config other made.1 found in
         unmarked made.0 (ap mirrors same ∙ r.no_mirror) (mirror-made (name ∷ options) made.0 config true made.1 (not-false config.mirror e))
 
-first-cons : (most default : ℕ) (ns ms : List ℕ) → IsUpTo most (get_or ns 0 default) → IsUpTo most (get_or ms 0 default) → IsUpTo most (get_or (ns ++ ms) 0 default)
+first-cons : (most default : ℕ) (ns ms : List ℕ) → IsOneUpTo most (get_or ns 0 default) → IsOneUpTo most (get_or ms 0 default) → IsOneUpTo most (get_or (ns ++ ms) 0 default)
 first-cons most default [] ms p q = q
 first-cons most default (n ∷ ns) ms p q = p
 
 -- The first number of a kind among settings in their ranges, or a default, is in a range.
-first-in : (kind : Setting → List ℕ) (most default : ℕ) → ((g : Setting) → IsSetting g → IsUpTo most (get_or (kind g) 0 default)) → IsUpTo most default
-    → (settings : List Setting) → All IsSetting settings → IsUpTo most (get_or (flat_map kind settings) 0 default)
+first-in : (kind : Setting → List ℕ) (most default : ℕ) → ((g : Setting) → IsSetting g → IsOneUpTo most (get_or (kind g) 0 default)) → IsOneUpTo most default
+    → (settings : List Setting) → All IsSetting settings → IsOneUpTo most (get_or (flat_map kind settings) 0 default)
 first-in kind most default one d [] a = d
 first-in kind most default one d (g ∷ gs) a = first-cons most default (kind g) (flat_map kind gs) (one g (All-head IsSetting g gs a)) (first-in kind most default one d gs (All-tail IsSetting g gs a))
 
-limit-first : (g : Setting) → IsSetting g → IsUpTo 1099511627776 (get_or (limit_of g) 0 1073741824)
+limit-first : (g : Setting) → IsSetting g → IsOneUpTo 1099511627776 (get_or (limit_of g) 0 1073741824)
 limit-first (Limit n) h = h
 limit-first (Slice n) h = (omega arith, omega arith)
 limit-first (Max n) h = (omega arith, omega arith)
 limit-first Mirror h = (omega arith, omega arith)
 
-slice-first : (g : Setting) → IsSetting g → IsUpTo 1000000 (get_or (slice_of g) 0 50000)
+slice-first : (g : Setting) → IsSetting g → IsOneUpTo 1000000 (get_or (slice_of g) 0 50000)
 slice-first (Limit n) h = (omega arith, omega arith)
 slice-first (Slice n) h = h
 slice-first (Max n) h = (omega arith, omega arith)
 slice-first Mirror h = (omega arith, omega arith)
 
-max-first : (g : Setting) → IsSetting g → IsUpTo 2147483647 (get_or (max_of g) 0 2147483647)
+max-first : (g : Setting) → IsSetting g → IsOneUpTo 2147483647 (get_or (max_of g) 0 2147483647)
 max-first (Limit n) h = (omega arith, omega arith)
 max-first (Slice n) h = (omega arith, omega arith)
 max-first (Max n) h = h
 max-first Mirror h = (omega arith, omega arith)
 
 -- The settings of a made archive are in their ranges.
-made-config : (words : List (List ℕ)) (settings : List Setting) (config : Config) → IsMade words settings config → IsConfig config
+made-config : (words : List (List ℕ)) (settings : List Setting) (config : Config) → AreMakingWords words settings config → IsConfig config
 made-config words settings config m =
-    let limit : IsUpTo 1099511627776 (limit_in settings) = first-in limit_of 1099511627776 1073741824 limit-first (omega arith, omega arith) settings m.ranges in
-    let slice : IsUpTo 1000000 (slice_in settings) = first-in slice_of 1000000 50000 slice-first (omega arith, omega arith) settings m.ranges in
-    let max : IsUpTo 2147483647 (max_in settings) = first-in max_of 2147483647 2147483647 max-first (omega arith, omega arith) settings m.ranges in
+    let limit : IsOneUpTo 1099511627776 (limit_in settings) = first-in limit_of 1099511627776 1073741824 limit-first (omega arith, omega arith) settings m.ranges in
+    let slice : IsOneUpTo 1000000 (slice_in settings) = first-in slice_of 1000000 50000 slice-first (omega arith, omega arith) settings m.ranges in
+    let max : IsOneUpTo 2147483647 (max_in settings) = first-in max_of 2147483647 2147483647 max-first (omega arith, omega arith) settings m.ranges in
     subst IsConfig (sym m.config_is) (record {
       limit_low = limit.0;
       limit_high = limit.1;
@@ -434,7 +434,7 @@ same-options (g ∷ gs) (h ∷ hs) a b e =
     grown-option h g gs hs (sym (same-option g h (All-head IsServeOption g gs a) (All-head IsServeOption h hs b) spelling)) (same-options gs hs (All-tail IsServeOption g gs a) (All-tail IsServeOption h hs b) after)
 
 -- Options give one count of events and one port.
-gives-one : (options : List ServeOption) (t p u q : ℕ) → Gives options t p → Gives options u q → (t ≡ u) × (p ≡ q)
+gives-one : (options : List ServeOption) (t p u q : ℕ) → GivesServing options t p → GivesServing options u q → (t ≡ u) × (p ≡ q)
 gives-one [] t p u q a b = (a.0 ∙ sym b.0, a.1 ∙ sym b.1)
 gives-one (serving.Turns n ∷ []) t p u q a b = (a.0 ∙ sym b.0, a.1 ∙ sym b.1)
 gives-one (serving.Port n ∷ []) t p u q a b = (a.0 ∙ sym b.0, a.1 ∙ sym b.1)
@@ -452,7 +452,7 @@ pub same-serve : (words : List (List ℕ)) (t p u q : ℕ) → IsServe words t p
 same-serve words t p u q a b =
     let spelling : map serve_word a.options ≡ map serve_word b.options = cc (a.is, b.is) in
     let same = same-options a.options b.options a.ranges b.ranges spelling in
-    gives-one b.options t p u q (subst (λ (xs : List ServeOption). Gives xs t p) same a.gives) b.gives
+    gives-one b.options t p u q (subst (λ (xs : List ServeOption). GivesServing xs t p) same a.gives) b.gives
 
 -- Words that start with `serve` and ask for a job ask for a serving.
 serve_only : (after : List (List ℕ)) (job : Job) → AsksFor (codes "serve" ∷ after) job → (turns : ℕ) × (port : ℕ) × (job ≡ Serve turns port) × IsServe (codes "serve" ∷ after) turns port
@@ -487,7 +487,7 @@ serve-read words options (Some job) ranges is given =
 serve-read words options None ranges is given = λ job asked.
     let s = serve_only words job asked in
     let same = same-options s.3.options options s.3.ranges ranges (sym (option-words words s.0 s.1 s.3) ∙ is) in
-    given s.0 s.1 (subst (λ (xs : List ServeOption). Gives xs s.0 s.1) same s.3.gives)
+    given s.0 s.1 (subst (λ (xs : List ServeOption). GivesServing xs s.0 s.1) same s.3.gives)
 
 -- A first word that spells no option asks for no job.
 first-option : (word : List ℕ) (words : List (List ℕ)) (options : List ServeOption) → All IsServeOption options → word ∷ words ≡ map serve_word options → (x : ServeOption) × IsServeOption x × (word ≡ serve_word x)
@@ -512,7 +512,7 @@ serve-unread-second first word words none job asked =
     none one.0 one.1 one.2
 
 -- Nor do more than two options.
-long-gives : (options : List ServeOption) (turns port : ℕ) → 2 < length options → Gives options turns port → ⊥
+long-gives : (options : List ServeOption) (turns port : ℕ) → 2 < length options → GivesServing options turns port → ⊥
 long-gives [] turns port long gives = omega arith
 long-gives (a ∷ []) turns port long gives = omega arith
 long-gives (a ∷ b ∷ []) turns port long gives = omega arith

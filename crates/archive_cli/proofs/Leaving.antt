@@ -7,7 +7,7 @@ use Rattle.disk_model.specs.Moments.{started}
 use Rattle.edge_io.specs.Coming.{Moments}
 use Rattle.arch_model.specs.Archives.{Archive}
 use Rattle.arch_model.specs.Delivery.{Done}
-use Rattle.epoch_store.specs.Promises.{Way}
+use Rattle.epoch_store.specs.Promises.{WriteKind}
 use Rattle.archive_cli.specs.DiskCommands.{RunsOrStays, LeavesEither}
 use Rattle.archive_cli.specs.Program.{InitLeaves, CommandLeaves, MessageLeaves, IsInput, message_of}
 use Rattle.archive_cli.proofs.Printed.{some-moment, some-input}
@@ -18,7 +18,7 @@ init-first config coming old image left = let some = some-moment coming in (some
 
 module _ {D : Type 0} (content : D → Option Content) (moment : D → ℕ) (left_since : D → ℕ → Files → Type 0) where
   -- It is the front of the input.
-  pub message-runs : (coming : Option Moments) (left : Option (List ℕ)) (way : Way) (wanted : List ℕ → ℕ → Archive → Done) (old new : D) (bytes : List ℕ) → (input : List ℕ) × IsInput left input × (bytes ≡ message_of input) → CommandLeaves content moment left_since old new coming way (wanted bytes)
+  pub message-runs : (coming : Option Moments) (left : Option (List ℕ)) (way : WriteKind) (wanted : List ℕ → ℕ → Archive → Done) (old new : D) (bytes : List ℕ) → (input : List ℕ) × IsInput left input × (bytes ≡ message_of input) → CommandLeaves content moment left_since old new coming way (wanted bytes)
       → MessageLeaves content moment left_since old new left coming way wanted
   message-runs coming left way wanted old new bytes front run = (front.0, front.1, subst (λ (b : List ℕ). CommandLeaves content moment left_since old new coming way (wanted b)) front.2 run)
 
@@ -27,8 +27,8 @@ module _ {D : Type 0} (content : D → Option Content) (moment : D → ℕ) (lef
     runs-first : (leaves : List ℕ → Archive → Files → Type 0) (disk : D) → RunsOrStays content moment left_since disk disk leaves
     runs-first leaves disk = inl (started moment left_since disk (Image (content disk)) (λ image now. only_now disk image now))
 
-    pub command-first : (coming : Option Moments) (way : Way) (wanted : ℕ → Archive → Done) (disk : D) → CommandLeaves content moment left_since disk disk coming way wanted
+    pub command-first : (coming : Option Moments) (way : WriteKind) (wanted : ℕ → Archive → Done) (disk : D) → CommandLeaves content moment left_since disk disk coming way wanted
     command-first coming way wanted disk = let some = some-moment coming in (some.0, some.1, runs-first (LeavesEither way (wanted some.0)) disk)
 
-    pub message-first : (coming : Option Moments) (left : Option (List ℕ)) (way : Way) (wanted : List ℕ → ℕ → Archive → Done) (disk : D) → MessageLeaves content moment left_since disk disk left coming way wanted
+    pub message-first : (coming : Option Moments) (left : Option (List ℕ)) (way : WriteKind) (wanted : List ℕ → ℕ → Archive → Done) (disk : D) → MessageLeaves content moment left_since disk disk left coming way wanted
     message-first coming left way wanted disk = let some = some-input left in (some.0, some.1, command-first coming way (wanted (message_of some.0)) disk)

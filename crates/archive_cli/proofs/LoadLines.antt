@@ -1,7 +1,7 @@
 -- The archive that a load starts with, and what it is due to print.
 use Rattle.std.proofs.Common.{◌≡◌, ℕ, List, refl, ◌∙◌, inl, inr, arith, codes}
 use Rattle.std.proofs.lemmas.List.Sums.{AllPass-from_list_all}
-use Rattle.arch_base.specs.Names.{IsName, is_name_byte}
+use Rattle.arch_base.specs.Names.{IsArchiveName, is_name_byte}
 use Rattle.arch_base.specs.Configs.{IsConfig}
 use Rattle.arch_model.specs.Archives.{empty_archive}
 use Rattle.arch_model.specs.Validity.{IsArchive}
@@ -11,7 +11,7 @@ use Rattle.archive_cli.specs.Printing.{Exactly, IsLoadDue}
 use Rattle.archive_cli.specs.declared.status.Status.{Status}
 use Rattle.archive_cli.specs.declared.status.Status.TheVariants as exit
 
-load-named : IsName (codes "load")
+load-named : IsArchiveName (codes "load")
 load-named = record { nonempty = omega arith; short = omega arith; bytes = AllPass-from_list_all is_name_byte (codes "load") refl; first = refl; last = refl }
 
 -- Its settings are in their ranges.

@@ -12,8 +12,8 @@ use Rattle.root_slots.specs.Slots.{HasFirstRoot, IsShutFile}
 use Rattle.root_slots.specs.Spelling.{spelling}
 use Rattle.arch_model.specs.Archives.{Archive, empty_archive, live as live_entries}
 use Rattle.arch_model.specs.Delivery.{Done}
-use Rattle.arch_model.specs.Keeping.{Settles, Comes, Obeys, Doubts}
-use Rattle.arch_model.specs.Standing.{Standing, standing, one_of, with_doubt, IsFound}
+use Rattle.arch_model.specs.Keeping.{Settles, CommandGives, Obeys, Doubts}
+use Rattle.arch_model.specs.Standing.{LastKnown, standing, one_of, with_doubt, IsFound}
 use Rattle.arch_model.specs.declared.answer.Answer.{Answer}
 use Rattle.arch_model.specs.declared.answer.Answer.TheVariants as answer
 use Rattle.arch_model.specs.declared.opening.OpenRefusal.{OpenRefusal}
@@ -23,36 +23,36 @@ use Rattle.epoch_store.specs.declared.refusal.InitRefusal.{InitRefusal}
 use Rattle.epoch_store.specs.declared.refusal.InitRefusal.TheVariants as making
 use Rattle.epoch_store.specs.First.{MakingAnswers, RefusesToMake, first_root_of}
 use Rattle.store_finding.specs.Files.{as_read}
-use Rattle.epoch_store.specs.Opens.{Opens, OpensNone, ReadsWith, IsWant, SyncsFirst, SyncsAtMost, OnSynced}
-use Rattle.epoch_store.specs.Promises.{Way, Appends, Renews, cache_by}
+use Rattle.epoch_store.specs.Opens.{OpensFiles, OpensNone, ReadsWith, IsWant, SyncsFirst, SyncsAtMost, OnSynced}
+use Rattle.epoch_store.specs.Promises.{WriteKind, Appends, Renews, cache_by}
 use Rattle.store_finding.specs.Recovery.{RecoversWith}
-use Rattle.store_finding.specs.Kept.{View, IsStoreWith, IsDiskOf}
+use Rattle.store_finding.specs.Kept.{StoreState, IsStoreWith, IsDiskOf}
 use Rattle.archive_core.specs.Commands.{DoneBy, IsDone}
 use Rattle.archive_core.specs.Engines.{RecoversOrBare, AllRecoverOrBare}
 use Rattle.archive_core.specs.Openings.{LeavesKindly}
 use Rattle.archive_core.proofs.Stored.{stored-length}
 use Rattle.archive_core.proofs.Engines.{all_or_bare, either_of, left_is, recovers_either, stands_for, with_cache}
-use Rattle.archive_cli.specs.DiskCommands.{Makes, unmade, IsFault, IsOpenedAs, IsReadAs, TakesTo, ReindexesTo, ChecksTo, StandsAs, StaysUnopened, TakesOn, RunsOrStays, LeavesEither}
+use Rattle.archive_cli.specs.DiskCommands.{MakesDisk, unmade, IsFault, IsOpenedAs, IsReadAs, TakesTo, ReindexesTo, ChecksTo, StandsAs, StaysUnopened, CommandTakes, RunsOrStays, LeavesEither}
 use Rattle.archive_cli.specs.declared.outcome.Outcome.{Outcome}
 use Rattle.archive_cli.specs.declared.outcome.Outcome.TheVariants.{Made, Reindexed, Checked, Answered, Unopened}
 
 -- An archive was made.
-pub made-makes : (config : Config) (name : List ℕ) (v : View) (old new : Option Content) → name ≡ config.name → WhereTold (λ (k : Content). IsShutFile (k root_name).seen) old → WhereTold (IsDiskOf v (empty_archive config)) new
-    → WhereTold (HasFirstRoot (spelling (first_root_of config))) new → WhereTold IsSettled new → Makes config (Made name) old new
+pub made-makes : (config : Config) (name : List ℕ) (v : StoreState) (old new : Option Content) → name ≡ config.name → WhereTold (λ (k : Content). IsShutFile (k root_name).seen) old → WhereTold (IsDiskOf v (empty_archive config)) new
+    → WhereTold (HasFirstRoot (spelling (first_root_of config))) new → WhereTold IsSettled new → MakesDisk config (Made name) old new
 made-makes config name v old None is shut done rooted settled = (is, shut, tt)
 made-makes config name v old (Some k) is shut done rooted settled = (is, shut, record { own = (v, done); rooted = rooted; settled = settled })
 
 -- None was.
-pub unmade-makes : (config : Config) (why : InitRefusal) (o : Outcome) (old new : Option Content) → o ≡ unmade why → WhereTold (MakingAnswers {T = View} (Err why)) old → RefusesToMake {T = View} (Err why) old new → Makes config o old new
-unmade-makes config why o old new is answer refused = subst (λ (p : Outcome). Makes config p old new) (sym is) (of_why why answer refused)
+pub unmade-makes : (config : Config) (why : InitRefusal) (o : Outcome) (old new : Option Content) → o ≡ unmade why → WhereTold (MakingAnswers {T = StoreState} (Err why)) old → RefusesToMake {T = StoreState} (Err why) old new → MakesDisk config o old new
+unmade-makes config why o old new is answer refused = subst (λ (p : Outcome). MakesDisk config p old new) (sym is) (of_why why answer refused)
   where
-    of_why : (w : InitRefusal) → WhereTold (MakingAnswers {T = View} (Err w)) old → RefusesToMake {T = View} (Err w) old new → Makes config (unmade w) old new
+    of_why : (w : InitRefusal) → WhereTold (MakingAnswers {T = StoreState} (Err w)) old → RefusesToMake {T = StoreState} (Err w) old new → MakesDisk config (unmade w) old new
     of_why making.Exists exists kept = (exists, kept)
     of_why making.DiskFault exists kept = tt
     of_why making.NoMemory exists kept = kept
 
 -- Making an archive was refused.
-abbrev not_made : InitRefusal → Result View InitRefusal
+abbrev not_made : InitRefusal → Result StoreState InitRefusal
 not_made why = Err why
 
 pub unmade-cause : (before now : ℕ) (why : InitRefusal) (o : Outcome) → o ≡ unmade why → RoseIf (not_made why ≡ not_made making.DiskFault) before now → RoseIf (IsFault o) before now
@@ -95,7 +95,7 @@ checked-cause before now entries live next same = record { later = omega (arith,
     none (inr other) = absurd (cc other)
 
 -- It wasn't opened.
-abbrev not_opened : OpenRefusal → Result View OpenRefusal
+abbrev not_opened : OpenRefusal → Result StoreState OpenRefusal
 not_opened why = Err why
 
 pub refused-cause : (before now : ℕ) (why : OpenRefusal) → RoseIf (not_opened why ≡ not_opened refusal.DiskFault) before now → RoseIf (IsFault (Unopened why)) before now
@@ -129,7 +129,7 @@ answered-cause before mid now reply same rose = record {
     of_answer (inr other) = absurd (cc other)
 
 -- What a refusal to open leaves of an archive that a command was for.
-pub unopened-takes : (way : Way) (cache : List ℕ) (a : Archive) (wanted : Done) (why : OpenRefusal) (old new : Option Content) → ReadsWith cache a old → IsWant why → LeavesKindly why old new → TakesTo way cache a wanted (Unopened why) new
+pub unopened-takes : (way : WriteKind) (cache : List ℕ) (a : Archive) (wanted : Done) (why : OpenRefusal) (old new : Option Content) → ReadsWith cache a old → IsWant why → LeavesKindly why old new → TakesTo way cache a wanted (Unopened why) new
 unopened-takes way cache a wanted refusal.NoArchive old new reads want kind = absurd want
 unopened-takes way cache a wanted (refusal.Damaged file at) old new reads want kind = absurd want
 unopened-takes way cache a wanted refusal.DiskFault old new reads want kind = tt
@@ -150,22 +150,22 @@ unopened-checks cache a refusal.DiskFault old new reads want kind = tt
 unopened-checks cache a refusal.NoMemory old new reads want kind = kind.0 a cache reads
 
 -- The count of a store's live messages is that of its archive.
-pub opened-reindexes : (v : View) (cache : List ℕ) (a : Archive) (content : Option Content) (live : ℕ) → IsStoreWith v cache a content → live ≡ length (live_entries a.entries) → ReindexesTo cache a (Reindexed live) content
+pub opened-reindexes : (v : StoreState) (cache : List ℕ) (a : Archive) (content : Option Content) (live : ℕ) → IsStoreWith v cache a content → live ≡ length (live_entries a.entries) → ReindexesTo cache a (Reindexed live) content
 opened-reindexes v cache a content live store lives = (lives, (v, store))
 
 -- The counts of a store are those of its archive.
-pub opened-checks : (v : View) (cache : List ℕ) (a : Archive) (content : Option Content) (entries live next : ℕ) → IsStoreWith v cache a content → entries ≡ length v.entries → live ≡ length (live_entries a.entries) → next ≡ v.root.next → ChecksTo cache a (Checked entries live next) content
+pub opened-checks : (v : StoreState) (cache : List ℕ) (a : Archive) (content : Option Content) (entries live next : ℕ) → IsStoreWith v cache a content → entries ≡ length v.entries → live ≡ length (live_entries a.entries) → next ≡ v.root.next → ChecksTo cache a (Checked entries live next) content
 opened-checks v cache a None entries live next store count lives following = absurd store
 opened-checks v cache a (Some k) entries live next store count lives following =
     (count ∙ (ap (λ (es : List StoredEntry). length es) store.keeps.kept ∙ stored-length [] a.entries), lives, following ∙ store.keeps.names.next, (v, store))
 
 -- They are those of what was opened.
-pub opened-as : (v : View) (content : Option Content) (entries live next : ℕ) → WhereTold (λ (k : Content). Opens (as_read k) (Ok v)) content → entries ≡ length v.entries → next ≡ v.root.next → WhereTold (λ (k : Content). IsOpenedAs (as_read k) (Checked entries live next)) content
+pub opened-as : (v : StoreState) (content : Option Content) (entries live next : ℕ) → WhereTold (λ (k : Content). OpensFiles (as_read k) (Ok v)) content → entries ≡ length v.entries → next ≡ v.root.next → WhereTold (λ (k : Content). IsOpenedAs (as_read k) (Checked entries live next)) content
 opened-as v None entries live next answer count following = tt
 opened-as v (Some k) entries live next answer count following = (v, answer, count, following)
 
 -- A command leaves the cache that there was, or none.
-kept-by : (way : Way) (cache : List ℕ) → (cache_by way cache ≡ cache) ⊎ (cache_by way cache ≡ [])
+kept-by : (way : WriteKind) (cache : List ℕ) → (cache_by way cache ≡ cache) ⊎ (cache_by way cache ≡ [])
 kept-by Appends cache = inl refl
 kept-by Renews cache = inr refl
 
@@ -176,8 +176,8 @@ among x None b (inr is) = absurd (cc is)
 among x (Some y) b (inl is) = (0, omega arith, sym (ap Some is))
 among x (Some y) b (inr is) = (1, omega arith, is)
 
-is-among : (s : Standing) (b : Archive) → IsFound s b → Contains (one_of s) (Some b)
-is-among s b is = among s.archive s.doubt b is
+is-among : (s : LastKnown) (b : Archive) → IsFound s b → Contains (one_of s) (Some b)
+is-among s b is = among s.archive s.in_doubt b is
 
 -- What each image stands for.
 each-of : (may : List (Option Archive)) (cache : List ℕ) (k : Option Content) → AllRecoverOrBare cache may k → (image : Files) → Image k image → RecoversOrBare cache may image
@@ -185,7 +185,7 @@ each-of may cache None all image left = absurd all
 each-of may cache (Some k) all image left = all image left
 
 -- The archive as which a disk reads that stands so, and its cache.
-found-own : (s : Standing) (cache : List ℕ) (k : Option Content) → ReadsFit k → StandsAs cache s k → (b : Archive) × (own : List ℕ) × IsFound s b × ReadsWith own b k × ((own ≡ cache) ⊎ (own ≡ []))
+found-own : (s : LastKnown) (cache : List ℕ) (k : Option Content) → ReadsFit k → StandsAs cache s k → (b : Archive) × (own : List ℕ) × IsFound s b × ReadsWith own b k × ((own ≡ cache) ⊎ (own ≡ []))
 found-own s cache None fit all = absurd all
 found-own s cache (Some k) fit all = by (all (as_read k) (λ name. fit k refl name)) where
   by : RecoversOrBare cache (one_of s) (as_read k) → (b : Archive) × (own : List ℕ) × IsFound s b × RecoversWith own (as_read k) b × ((own ≡ cache) ⊎ (own ≡ []))
@@ -193,7 +193,7 @@ found-own s cache (Some k) fit all = by (all (as_read k) (λ name. fit k refl na
   by (inr bare) = let found = recovers_either s [] (as_read k) bare in (found.0, [], found.1, found.2, inr refl)
 
 -- What was opened can be.
-opened-none : (v : View) (k : Option Content) → WhereTold (λ (c : Content). Opens (as_read c) (Ok v)) k → OpensNone k → ⊥
+opened-none : (v : StoreState) (k : Option Content) → WhereTold (λ (c : Content). OpensFiles (as_read c) (Ok v)) k → OpensNone k → ⊥
 opened-none v None answer none = none
 opened-none v (Some k) answer none = none v answer
 
@@ -209,11 +209,11 @@ module _ {D : Type 0} (content : D → Option Content) (moment : D → ℕ) (lef
   one-stands a own cache is disk each = all_or_bare (standing a None) cache (content disk) (λ image left. with_cache own cache (Some a ∷ []) a image is (0, omega arith, refl) (each image left))
 
   -- What was found before anything was done.
-  pub found-at : (s : Standing) (cache : List ℕ) (disk : D) → StandsAs cache s (content disk) → (b : Archive) × (own : List ℕ) × IsFound s b × ReadsWith own b (content disk) × ((own ≡ cache) ⊎ (own ≡ []))
+  pub found-at : (s : LastKnown) (cache : List ℕ) (disk : D) → StandsAs cache s (content disk) → (b : Archive) × (own : List ℕ) × IsFound s b × ReadsWith own b (content disk) × ((own ≡ cache) ⊎ (own ≡ []))
   found-at s cache disk all = found-own s cache (content disk) (reads_fit disk) all
 
   -- It is the one of an archive that was synced.
-  synced-stands : (s : Standing) (cache : List ℕ) (old new : D) → StandsAs cache s (content old) → SyncsFirst content moment left_since old new → (t : Standing) × StandsAs cache t (content new) × (Settles s t × IsReadAs t.archive (content old))
+  synced-stands : (s : LastKnown) (cache : List ℕ) (old new : D) → StandsAs cache s (content old) → SyncsFirst content moment left_since old new → (t : LastKnown) × StandsAs cache t (content new) × (Settles s t × IsReadAs t.archive (content old))
   synced-stands s cache old new all first =
       let (b, own, is, reads, kept) = found-at s cache old all in (
         standing b None,
@@ -222,22 +222,22 @@ module _ {D : Type 0} (content : D → Option Content) (moment : D → ℕ) (lef
       )
 
   -- An opening that failed leaves what it might have left before.
-  failed-stands : (s : Standing) (cache : List ℕ) (old new : D) → StandsAs cache s (content old) → SyncsAtMost content moment left_since old new → StandsAs cache s (content new)
+  failed-stands : (s : LastKnown) (cache : List ℕ) (old new : D) → StandsAs cache s (content old) → SyncsAtMost content moment left_since old new → StandsAs cache s (content new)
   failed-stands s cache old new all (inl only) = all_or_bare s cache (content new) (λ image left. each-of (one_of s) cache (content old) all image (now-left old new (Image (content old)) only image left))
   failed-stands s cache old new all (inr first) =
       let (b, own, is, reads, kept) = found-at s cache old all in
       all_or_bare s cache (content new) (λ image left. with_cache own cache (one_of s) b image kept (is-among s b is) (now-left first.synced new (λ (i : Files). RecoversWith own i b) (first.after b own reads) image left))
 
   -- An archive wasn't opened.
-  pub unopened-stands : (s : Standing) (cache : List ℕ) (old new : D) (why : OpenRefusal) → StandsAs cache s (content old) → SyncsAtMost content moment left_since old new → ((a : Archive) (cache : List ℕ) → ReadsWith cache a (content old) → IsWant why)
-      → OnSynced {T = View} (Err why) (SyncsFirst content moment left_since old new) → (t : Standing) × StandsAs cache t (content new) × StaysUnopened s (content old) why t
+  pub unopened-stands : (s : LastKnown) (cache : List ℕ) (old new : D) (why : OpenRefusal) → StandsAs cache s (content old) → SyncsAtMost content moment left_since old new → ((a : Archive) (cache : List ℕ) → ReadsWith cache a (content old) → IsWant why)
+      → OnSynced {T = StoreState} (Err why) (SyncsFirst content moment left_since old new) → (t : LastKnown) × StandsAs cache t (content new) × StaysUnopened s (content old) why t
   unopened-stands s cache old new refusal.NoArchive all before want first = absurd (let found = found-at s cache old all in want found.0 found.1 found.3)
   unopened-stands s cache old new (refusal.Damaged file at) all before want first = absurd (let found = found-at s cache old all in want found.0 found.1 found.3)
   unopened-stands s cache old new refusal.DiskFault all before want first = (s, failed-stands s cache old new all before, refl)
   unopened-stands s cache old new refusal.NoMemory all before want first = synced-stands s cache old new all first
 
   -- A command didn't run, since the archive wasn't opened.
-  pub unopened-runs : (old new : D) (way : Way) (wanted : Archive → Done) → SyncsAtMost content moment left_since old new → RunsOrStays content moment left_since old new (LeavesEither way wanted)
+  pub unopened-runs : (old new : D) (way : WriteKind) (wanted : Archive → Done) → SyncsAtMost content moment left_since old new → RunsOrStays content moment left_since old new (LeavesEither way wanted)
   unopened-runs old new way wanted (inl only) = inl only
   unopened-runs old new way wanted (inr first) = inr (record {
     synced = first.synced;
@@ -248,14 +248,14 @@ module _ {D : Type 0} (content : D → Option Content) (moment : D → ℕ) (lef
   })
 
   -- An archive was opened.
-  module _ (old opened : D) (v : View) (done : (a : Archive) (cache : List ℕ) → ReadsWith cache a (content old) → IsStoreWith v cache a (content opened)) (first : SyncsFirst content moment left_since old opened) where
+  module _ (old opened : D) (v : StoreState) (done : (a : Archive) (cache : List ℕ) → ReadsWith cache a (content old) → IsStoreWith v cache a (content opened)) (first : SyncsFirst content moment left_since old opened) where
     -- It is the one that was found.
-    pub opened-stands : (s : Standing) (cache : List ℕ) → StandsAs cache s (content old) → (t : Standing) × StandsAs cache t (content opened) × (Settles s t × IsReadAs t.archive (content old))
+    pub opened-stands : (s : LastKnown) (cache : List ℕ) → StandsAs cache s (content old) → (t : LastKnown) × StandsAs cache t (content opened) × (Settles s t × IsReadAs t.archive (content old))
     opened-stands s cache all = synced-stands s cache old opened all first
 
     -- A command was taken.
-    module _ (new : D) (way : Way) (wanted : Archive → Done) (left : (a : Archive) (cache : List ℕ) → IsStoreWith v cache a (content opened) → LeavesOnly moment left_since opened new (LeavesEither way wanted cache a)) where
-      pub taken-runs : WhereTold (λ (k : Content). Opens (as_read k) (Ok v)) (content old) → RunsOrStays content moment left_since old new (LeavesEither way wanted)
+    module _ (new : D) (way : WriteKind) (wanted : Archive → Done) (left : (a : Archive) (cache : List ℕ) → IsStoreWith v cache a (content opened) → LeavesOnly moment left_since opened new (LeavesEither way wanted cache a)) where
+      pub taken-runs : WhereTold (λ (k : Content). OpensFiles (as_read k) (Ok v)) (content old) → RunsOrStays content moment left_since old new (LeavesEither way wanted)
       taken-runs answer = inr (record {
         synced = first.synced;
         only = first.only;
@@ -264,17 +264,17 @@ module _ {D : Type 0} (content : D → Option Content) (moment : D → ℕ) (lef
         none = λ none. absurd (opened-none v (content old) answer none);
       })
 
-      module _ (s : Standing) (b : Archive) (own cache : List ℕ) (found : IsFound s b) (reads : ReadsWith own b (content old)) (kept : (own ≡ cache) ⊎ (own ≡ [])) where
+      module _ (s : LastKnown) (b : Archive) (own cache : List ℕ) (found : IsFound s b) (reads : ReadsWith own b (content old)) (kept : (own ≡ cache) ⊎ (own ≡ [])) where
         -- The disk of a store's archive, whose cache is that of the one that was found, or none.
-        own-stands : (u : View) (a : Archive) (now : List ℕ) → (now ≡ own) ⊎ (now ≡ []) → IsStoreWith u now a (content new) → StandsAs cache (standing a None) (content new)
+        own-stands : (u : StoreState) (a : Archive) (now : List ℕ) → (now ≡ own) ⊎ (now ≡ []) → IsStoreWith u now a (content new) → StandsAs cache (standing a None) (content new)
         own-stands u a now is store = one-stands a now cache (left_is own now cache kept is) new (λ image left. stands_for u now a (content new) image store left)
 
-        stands-done : (r : Answer) (u : View) (now : List ℕ) → (now ≡ own) ⊎ (now ≡ []) → IsDone u now (wanted b) r (content new) → ((t : Standing) → Obeys (standing b None) wanted r t → Comes true (standing b None) wanted r t) → (t : Standing) × StandsAs cache t (content new) × TakesOn s (content old) wanted (Answered r) t
+        stands-done : (r : Answer) (u : StoreState) (now : List ℕ) → (now ≡ own) ⊎ (now ≡ []) → IsDone u now (wanted b) r (content new) → ((t : LastKnown) → Obeys (standing b None) wanted r t → CommandGives true (standing b None) wanted r t) → (t : LastKnown) × StandsAs cache t (content new) × CommandTakes s (content old) wanted (Answered r) t
         stands-done r u now is done comes =
             let obeys : Obeys (standing b None) wanted r (standing (wanted b).archive None) = record { found = b; is_found = inl refl; answer_is = done.answer_is; stands = refl } in
             (standing (wanted b).archive None, own-stands u (wanted b).archive now is done.store, record { found = b; is_found = found; reads = (own, reads); comes = comes (standing (wanted b).archive None) obeys })
 
-        stands-by : (r : Answer) (u : View) → DoneBy u own (cache_by way own) b (wanted b) r (content new) → (t : Standing) × StandsAs cache t (content new) × TakesOn s (content old) wanted (Answered r) t
+        stands-by : (r : Answer) (u : StoreState) → DoneBy u own (cache_by way own) b (wanted b) r (content new) → (t : LastKnown) × StandsAs cache t (content new) × CommandTakes s (content old) wanted (Answered r) t
         stands-by answer.NoMemory u store = (standing b None, own-stands u b own (inl refl) store, record { found = b; is_found = found; reads = (own, reads); comes = inr (record { found = inl refl; sure = refl }) })
         stands-by answer.DiskFault u nothing =
             let doubts : Doubts (standing b None) wanted (standing b (Some (wanted b).archive)) = record { found = b; is_found = inl refl; stands = refl } in (
@@ -293,8 +293,8 @@ module _ {D : Type 0} (content : D → Option Content) (moment : D → ℕ) (lef
         stands-by (answer.NoText number) u is = stands-done (answer.NoText number) u own (inl refl) is (λ t obeys. obeys)
         stands-by (answer.Damaged file at) u never = absurd never
 
-      pub taken-stands : (reply : Answer) → ((a : Archive) (cache : List ℕ) → IsStoreWith v cache a (content opened) → (u : View) × DoneBy u cache (cache_by way cache) a (wanted a) reply (content new))
-          → (s : Standing) (cache : List ℕ) → StandsAs cache s (content old) → (t : Standing) × StandsAs cache t (content new) × TakesOn s (content old) wanted (Answered reply) t
+      pub taken-stands : (reply : Answer) → ((a : Archive) (cache : List ℕ) → IsStoreWith v cache a (content opened) → (u : StoreState) × DoneBy u cache (cache_by way cache) a (wanted a) reply (content new))
+          → (s : LastKnown) (cache : List ℕ) → StandsAs cache s (content old) → (t : LastKnown) × StandsAs cache t (content new) × CommandTakes s (content old) wanted (Answered reply) t
       taken-stands reply answers s cache all =
           let (b, own, is, reads, kept) = found-at s cache old all in
           let store = answers b own (done b own reads) in

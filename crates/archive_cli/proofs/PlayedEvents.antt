@@ -11,18 +11,18 @@ use Rattle.edge_io.specs.Frames.{Outputs, FirstFrames, frames_of}
 use Rattle.edge_io.specs.Hosts.{before_left}
 use Rattle.edge_io.specs.MemHosts.{unclosed}
 use Rattle.edge_io.specs.Scripts.{Arrival, IsScript, spelled_all}
-use Rattle.node_serve.specs.Ends.{EndsBy, NoStop, is_stop, before_all}
-use Rattle.node_serve.specs.Nodes.{Places, outputs_asked, world_of}
+use Rattle.node_serve.specs.Ends.{ServingEnds, NoStop, is_stop, before_all}
+use Rattle.node_serve.specs.Nodes.{OpenSessions, outputs_asked, world_of}
 use Rattle.node_serve.specs.Laws.{PlainLaws}
 use Rattle.node_serve.specs.Plain.{PlainServed, plain_turns, last_world}
 use Rattle.node_serve.proofs.PlainTurns.{none-counted}
 use Rattle.node_serve.specs.Turns.{Turn, Served}
-use Rattle.node_serve.specs.World.{Outer, World}
+use Rattle.node_serve.specs.World.{HostState, NodeState}
 use Rattle.node_serve.specs.declared.serving.ServeEnd.{ServeEnd}
 use Rattle.node_serve.specs.declared.serving.ServeEnd.TheVariants as end
 use Rattle.archive_cli.specs.Laws.{PlainIsTranscript}
 use Rattle.archive_cli.specs.Program.{PlaysPart, input_limit}
-use Rattle.archive_cli.specs.Turns.{kept_after, to_stop, has_none, IsFresh, Plays, outputs_played, Transcript, TranscriptFront, fresh_world}
+use Rattle.archive_cli.specs.Turns.{kept_after, to_stop, has_none, IsFreshWorld, Plays, outputs_played, Transcript, TranscriptFront, fresh_world}
 
 -- Events before some that are left, where those are told.
 pub before-told : (es left : List Arrival) → before_all es (Some left) ≡ Some (es ++ left)
@@ -51,7 +51,7 @@ stop-taken (e ∷ es) last left none stops =
     (ap (λ (b : Bool). e ∷ kept_after b (to_stop ((es ++ last ∷ []) ++ left))) none.0 ∙ ap (λ (xs : List Arrival). e ∷ xs) rest.0, ap (λ (b : Bool). not b && has_none ((es ++ last ∷ []) ++ left)) none.0 ∙ rest.1)
 
 -- A script that was played until a stop or its end: which events were taken.
-pub taken-to : (script es left : List Arrival) (none : Bool) (turns faults faults' : ℕ) → Some script ≡ before_all es (Some left) → EndsBy end.Stopped none es turns (Some left) faults faults' → (to_stop script ≡ es) × (has_none script ≡ none)
+pub taken-to : (script es left : List Arrival) (none : Bool) (turns faults faults' : ℕ) → Some script ≡ before_all es (Some left) → ServingEnds end.Stopped none es turns (Some left) faults faults' → (to_stop script ≡ es) × (has_none script ≡ none)
 taken-to script es left false turns faults faults' is stops =
     let all : script ≡ es ++ left = some-is script (es ++ left) (is ∙ before-told es left) in
     let taken = stop-taken stops.0.before stops.0.last left stops.0.none stops.0.stops in
@@ -74,12 +74,12 @@ few-taken script es left is =
     omega (arith, all, length-append es left)
 
 -- Where no event was taken, the host was not asked.
-pub none-asked : (first after : World) (turns : List Turn) → Served [] first turns after → outputs_asked false first turns after ≡ []
+pub none-asked : (first after : NodeState) (turns : List Turn) → Served [] first turns after → outputs_asked false first turns after ≡ []
 none-asked first after [] served = refl
 none-asked first after (t ∷ ts) served = absurd served
 
 -- The world of a new node over an archive that stands, at a new host.
-pub fresh-of : (a : Archive) (p : Places) (o : Outer) → ((c : ℕ) → p.session c ≡ None) → p.count ≡ 0 → ((c : ℕ) → o.taken c ≡ Some []) → ((c : ℕ) → o.closings c ≡ unclosed c) → o.disk ≡ 0 → o.lost ≡ 0 → IsFresh a (world_of (standing a None) p o)
+pub fresh-of : (a : Archive) (p : OpenSessions) (o : HostState) → ((c : ℕ) → p.session c ≡ None) → p.count ≡ 0 → ((c : ℕ) → o.taken c ≡ Some []) → ((c : ℕ) → o.closings c ≡ unclosed c) → o.disk ≡ 0 → o.lost ≡ 0 → IsFreshWorld a (world_of (standing a None) p o)
 fresh-of a p o none count untaken open_all disk lost = record {
   start = record { stands = refl; none = none; count = count };
   taken = λ c low. untaken c;
@@ -89,7 +89,7 @@ fresh-of a p o none count untaken open_all disk lost = record {
 }
 
 -- The events of a script that were served from a fresh world until a stop or the script's end.
-module _ (config : Config) (script es left : List Arrival) (none : Bool) (turns faults faults' : ℕ) (first after : World) (taken : List Turn) (is : Some script ≡ before_all es (Some left)) (fresh : IsFresh (empty_archive config) first) (served : Served es first taken after) (ends : EndsBy end.Stopped none es turns (Some left) faults faults') where
+module _ (config : Config) (script es left : List Arrival) (none : Bool) (turns faults faults' : ℕ) (first after : NodeState) (taken : List Turn) (is : Some script ≡ before_all es (Some left)) (fresh : IsFreshWorld (empty_archive config) first) (served : Served es first taken after) (ends : ServingEnds end.Stopped none es turns (Some left) faults faults') where
   abbrev pub plays-of : Plays config script
   plays-of = record { first = first; fresh = fresh; turns = taken; after = after; served = subst (λ (xs : List Arrival). Served xs first taken after) (sym (taken-to script es left none turns faults faults' is ends).0) served }
 
@@ -110,8 +110,8 @@ no-frames frames part = part.frames_are ∙ ap frames_of (take-nil part.count)
 
 -- However serving a script ended, at a host that doesn't fail, nothing is printed, or the front of its
 -- transcript.
-pub part-of : (how : ServeEnd) (config : Config) (text : List ℕ) (script es left : List Arrival) (none : Bool) (turns : ℕ) (first after : World) (taken : List Turn) (frames : List ℕ)
-    → length text ≤ input_limit → IsScript script text → input_limit < turns → Some script ≡ before_all es (Some left) → IsFresh (empty_archive config) first → Served es first taken after → EndsBy how none es turns (Some left) 0 0 → FirstFrames (outputs_asked none first taken after) frames → (frames ≡ []) ⊎ PlaysPart config text frames
+pub part-of : (how : ServeEnd) (config : Config) (text : List ℕ) (script es left : List Arrival) (none : Bool) (turns : ℕ) (first after : NodeState) (taken : List Turn) (frames : List ℕ)
+    → length text ≤ input_limit → IsScript script text → input_limit < turns → Some script ≡ before_all es (Some left) → IsFreshWorld (empty_archive config) first → Served es first taken after → ServingEnds how none es turns (Some left) 0 0 → FirstFrames (outputs_asked none first taken after) frames → (frames ≡ []) ⊎ PlaysPart config text frames
 part-of end.Stopped config text script es left none turns first after taken frames short is_script many is fresh served ends part =
     inr (record { short = short; arrivals = script; script = is_script; front = front-of config script es left none turns 0 0 first after taken is fresh served ends frames part })
 part-of (end.Spent n) config text script es left false turns first after taken frames short is_script many is fresh served ends part =
@@ -129,9 +129,9 @@ part-of end.NoMemory config text script es left true turns first after taken fra
 -- The events by the rules, from the start of a script, are its transcript.
 pub plain-played : PlainLaws → PlainIsTranscript
 plain-played laws config arrivals =
-    let w : World = fresh_world (empty_archive config) in
+    let w : NodeState = fresh_world (empty_archive config) in
     let es : List Arrival = to_stop arrivals in
-    let v : World = last_world w (plain_turns es w) in
+    let v : NodeState = last_world w (plain_turns es w) in
     let made : PlainServed es w (plain_turns es w) v = laws.made es w (none-counted w (λ (c : ℕ). refl)) in
     let unfailed : (v.out.disk ≡ 0) × (v.out.lost ≡ 0) = laws.unfailed es w (plain_turns es w) v made in
     record {

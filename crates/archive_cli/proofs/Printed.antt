@@ -12,8 +12,8 @@ use Rattle.arch_model.specs.Archives.{Archive}
 use Rattle.arch_model.specs.Delivery.{Done}
 use Rattle.arch_model.specs.declared.answer.Answer.{Answer}
 use Rattle.archive_cli.specs.DiskCommands.{IsReply}
-use Rattle.epoch_store.specs.Promises.{Way}
-use Rattle.store_finding.specs.Kept.{View}
+use Rattle.epoch_store.specs.Promises.{WriteKind}
+use Rattle.store_finding.specs.Kept.{StoreState}
 use Rattle.archive_cli.proofs.Committing.{commits-as}
 use Rattle.archive_cli.specs.Words.{IsJob, AsksFor}
 use Rattle.archive_cli.specs.Turns.{Transcript}
@@ -21,12 +21,12 @@ use Rattle.archive_cli.specs.Serving.{ServeRun, Shut, run_line, run_status}
 use Rattle.arch_model.specs.declared.opening.OpenRefusal.TheVariants as opening
 use Rattle.arch_base.specs.Counts.{Rose}
 use Rattle.disk_model.specs.Disk.{Content}
-use Rattle.edge_io.specs.Coming.{Moments, IsFirst, after_first}
+use Rattle.edge_io.specs.Coming.{Moments, IsFirstMoment, after_first}
 use Rattle.archive_cli.specs.Outcomes.{outcome_line, status_of}
 use Rattle.archive_cli.specs.declared.outcome.Outcome.{Outcome}
 use Rattle.archive_cli.specs.declared.outcome.Outcome.TheVariants.{Made, Exists, Reindexed, Checked, Answered, Unopened}
-use Rattle.archive_cli.specs.Program.{Edges, all_edges, NoneFailed, JobActs, JobEnds, InitActs, CommandActs, MessageActs, putting, putting_answers, putting_files, putting_way, AsksForMessage, AsksForCommand, ReindexActs, CheckActs, PlaysPart, IsInput, IsDue, unasked, Ends, Ran, input_limit, message_of, TookAtMost}
-use Rattle.archive_cli.specs.Printing.{Printed, Exactly, IsLoadDue, IsReplayDue, Replayed, IsPieceRead, JobDone, InputDone, IsUnread}
+use Rattle.archive_cli.specs.Program.{RunState, all_edges, NoneFailed, JobActs, JobEnds, InitActs, CommandActs, MessageActs, putting, putting_answers, putting_files, putting_way, AsksForMessage, AsksForCommand, ReindexActs, CheckActs, PlaysPart, IsInput, IsDue, unasked, RunEnds, Ran, input_limit, message_of, TookAtMost}
+use Rattle.archive_cli.specs.Printing.{Printed, Exactly, IsLoadDue, IsReplayDue, Replayed, IsPieceRead, JobDone, InputDone, IsInputUnread}
 use Rattle.archive_cli.specs.declared.status.Status.{Status}
 use Rattle.archive_cli.specs.declared.status.Status.TheVariants as exit
 use Rattle.archive_cli.specs.declared.reading.InputRefusal.{InputRefusal}
@@ -84,45 +84,45 @@ pub before-before : (left now later : Option (List ℕ)) (bytes more : List ℕ)
 before-before left now None bytes more is next = is ∙ ap (before bytes) next
 before-before left now (Some rest) bytes more is next = is ∙ ap (before bytes) next ∙ ap Some (sym (append_assoc bytes more rest))
 
-ran_by : (words : List (List ℕ)) (input : List ℕ) (status : Status) (i j : Edges) (due_status : Status) (printed : List ℕ) (sent : Result Unit SinkFault) → IsInput i.left input → IsDue words input i j due_status printed → Says printed i.taken i.lost j.taken j.lost sent → status ≡ (if is_ok sent then due_status else exit.Edges) → Ran words status i j
+ran_by : (words : List (List ℕ)) (input : List ℕ) (status : Status) (i j : RunState) (due_status : Status) (printed : List ℕ) (sent : Result Unit SinkFault) → IsInput i.left input → IsDue words input i j due_status printed → Says printed i.taken i.lost j.taken j.lost sent → status ≡ (if is_ok sent then due_status else exit.Edges) → Ran words status i j
 ran_by words input status i j due_status printed (Ok done) told due said is =
     inl (record { input = input; told = told; printed = printed; due = subst (λ s. IsDue words input i j s printed) (sym is) due; taken_is = said.1; lost_kept = said.0 })
 ran_by words input status i j due_status printed (Err fault) told due said is =
     inr (inr (inr (record { status_is = is; rose = said.1; input = input; told = told; due_status = due_status; printed = printed; due = due; count = said.2.0; taken_is = said.2.1 })))
 
 -- What was printed of what is due is a run.
-pub ran-printed : (words : List (List ℕ)) (input : List ℕ) (status : Status) (i j : Edges) (due : Status → List ℕ → Type 0) → IsInput i.left input → ((s : Status) (printed : List ℕ) → due s printed → IsDue words input i j s printed) → Printed due status i.taken i.lost j.taken j.lost → Ran words status i j
+pub ran-printed : (words : List (List ℕ)) (input : List ℕ) (status : Status) (i j : RunState) (due : Status → List ℕ → Type 0) → IsInput i.left input → ((s : Status) (printed : List ℕ) → due s printed → IsDue words input i j s printed) → Printed due status i.taken i.lost j.taken j.lost → Ran words status i j
 ran-printed words input status i j due told f p = ran_by words input status i j p.due_status p.words p.sent told (f p.due_status p.words p.is_due) p.said p.status_is
 
 -- Words that print exactly these bytes, whatever the input.
-pub ran-exactly : (words : List (List ℕ)) (job : Option Job) (text : List ℕ) (code status : Status) (i j : Edges) → IsJob words job → ((input : List ℕ) → Ends job input i j code text) → Printed (Exactly text code) status i.taken i.lost j.taken j.lost → Ran words status i j
+pub ran-exactly : (words : List (List ℕ)) (job : Option Job) (text : List ℕ) (code status : Status) (i j : RunState) → IsJob words job → ((input : List ℕ) → RunEnds job input i j code text) → Printed (Exactly text code) status i.taken i.lost j.taken j.lost → Ran words status i j
 ran-exactly words job text code status i j asked ends p =
     let given = some-input i.left in
-    ran-printed words given.0 status i j (Exactly text code) given.1 (λ s printed e. inl (record { job = job; asked = asked; ends = subst (λ w. Ends job given.0 i j s w) (sym e.words_is) (subst (λ c. Ends job given.0 i j c text) (sym e.status_is) (ends given.0)) })) p
+    ran-printed words given.0 status i j (Exactly text code) given.1 (λ s printed e. inl (record { job = job; asked = asked; ends = subst (λ w. RunEnds job given.0 i j s w) (sym e.words_is) (subst (λ c. RunEnds job given.0 i j c text) (sym e.status_is) (ends given.0)) })) p
 
-due_job : (words : List (List ℕ)) (config : Config) (input : List ℕ) (i j : Edges) (s : Status) (printed : List ℕ) → AsksFor words (Replay config) → NoneFailed i j → IsReplayDue config input s printed → IsDue words input i j s printed
+due_job : (words : List (List ℕ)) (config : Config) (input : List ℕ) (i j : RunState) (s : Status) (printed : List ℕ) → AsksFor words (Replay config) → NoneFailed i j → IsReplayDue config input s printed → IsDue words input i j s printed
 due_job words config input i j s printed asked spared (inl replays) = inl (record { job = Some (Replay config); asked = asked; ends = (replays, spared) })
 due_job words config input i j s printed asked spared (inr short) = inr (inl (record { config = config; asked = asked; stops = short; spared = spared }))
 
 -- A script that was run is a run.
-pub ran-replayed : (words : List (List ℕ)) (config : Config) (status : Status) (i j : Edges) → AsksFor words (Replay config) → Replayed config status i j → j.content ≡ i.content → j.missed ≡ i.missed → j.coming ≡ i.coming → j.broken ≡ i.broken → Ran words status i j
+pub ran-replayed : (words : List (List ℕ)) (config : Config) (status : Status) (i j : RunState) → AsksFor words (Replay config) → Replayed config status i j → j.content ≡ i.content → j.missed ≡ i.missed → j.coming ≡ i.coming → j.broken ≡ i.broken → Ran words status i j
 ran-replayed words config status i j asked (inl r) kept clock coming disk =
     ran-printed words r.0 status i j (IsReplayDue config r.0) r.1 (λ s printed due. due_job words config r.0 i j s printed asked (record { input = r.2; clock = clock; disk = disk; coming = coming }) due) r.3
 ran-replayed words config status i j asked (inr r) kept clock coming disk = inr (inl (record { asked = inl (config, asked); rose = r.1; clock_kept = clock; silent = record { status_is = r.0; taken_is = r.2; lost_kept = r.3; coming_kept = coming; kept = kept; disk_kept = disk } }))
 
 -- What is due of a load.
-due_load : (words : List (List ℕ)) (count seed : ℕ) (input : List ℕ) (i j : Edges) (s : Status) (printed : List ℕ) → AsksFor words (Load count seed) → j.content ≡ i.content → NoneFailed i j → IsLoadDue count seed s printed → IsDue words input i j s printed
+due_load : (words : List (List ℕ)) (count seed : ℕ) (input : List ℕ) (i j : RunState) (s : Status) (printed : List ℕ) → AsksFor words (Load count seed) → j.content ≡ i.content → NoneFailed i j → IsLoadDue count seed s printed → IsDue words input i j s printed
 due_load words count seed input i j s printed asked kept spared (inl line) = inl (record { job = Some (Load count seed); asked = asked; ends = (line.status_is, line.words_is, spared) })
 due_load words count seed input i j s printed asked kept spared (inr short) = inr (inr (inl (record { count = count; seed = seed; asked = asked; status_is = short.status_is; printed_is = short.words_is; kept = kept; spared = spared })))
 
 -- A load is a run.
-pub ran-loaded : (words : List (List ℕ)) (count seed : ℕ) (status : Status) (i j : Edges) → AsksFor words (Load count seed) → j.content ≡ i.content → j.unread ≡ i.unread → j.missed ≡ i.missed → j.coming ≡ i.coming → j.broken ≡ i.broken → Printed (IsLoadDue count seed) status i.taken i.lost j.taken j.lost → Ran words status i j
+pub ran-loaded : (words : List (List ℕ)) (count seed : ℕ) (status : Status) (i j : RunState) → AsksFor words (Load count seed) → j.content ≡ i.content → j.unread ≡ i.unread → j.missed ≡ i.missed → j.coming ≡ i.coming → j.broken ≡ i.broken → Printed (IsLoadDue count seed) status i.taken i.lost j.taken j.lost → Ran words status i j
 ran-loaded words count seed status i j asked kept input clock coming disk p =
     let given = some-input i.left in
     ran-printed words given.0 status i j (IsLoadDue count seed) given.1 (λ s printed due. due_load words count seed given.0 i j s printed asked kept (record { input = input; clock = clock; disk = disk; coming = coming }) due) p
 
 -- An archive that was to be made is a run.
-pub ran-made : (words : List (List ℕ)) (config : Config) (status : Status) (i j : Edges) → AsksFor words (Init config) → JobDone (InitActs config) status i j → Ran words status i j
+pub ran-made : (words : List (List ℕ)) (config : Config) (status : Status) (i j : RunState) → AsksFor words (Init config) → JobDone (InitActs config) status i j → Ran words status i j
 ran-made words config status i j asked (inl p) =
     let given = some-input i.left in
     ran-printed words given.0 status i j (JobEnds (InitActs config) after_first i j) given.1 (λ s printed due. inl (record { job = Some (Init config); asked = asked; ends = due })) p
@@ -137,22 +137,22 @@ asks-put : (words : List (List ℕ)) (place : Option ℕ) → AsksFor words (put
 asks-put words None asked = inl asked
 asks-put words (Some number) asked = inr (number, asked)
 
-ends-put : (place : Option ℕ) (input : List ℕ) (i j : Edges) (s : Status) (printed : List ℕ) → JobEnds (MessageActs place (message_of input)) after_first i j s printed → Ends (Some (putting_job place)) input i j s printed
+ends-put : (place : Option ℕ) (input : List ℕ) (i j : RunState) (s : Status) (printed : List ℕ) → JobEnds (MessageActs place (message_of input)) after_first i j s printed → RunEnds (Some (putting_job place)) input i j s printed
 ends-put None input i j s printed ends = ends
 ends-put (Some number) input i j s printed ends = ends
 
 -- A message that was to be put there is a run.
-pub ran-put : (words : List (List ℕ)) (place : Option ℕ) (status : Status) (i j : Edges) → AsksFor words (putting_job place) → InputDone place status i j → Ran words status i j
+pub ran-put : (words : List (List ℕ)) (place : Option ℕ) (status : Status) (i j : RunState) → AsksFor words (putting_job place) → InputDone place status i j → Ran words status i j
 ran-put words place status i j asked (inl (input, told, inl p)) =
     ran-printed words input status i j (JobEnds (MessageActs place (message_of input)) after_first i j) told (λ s printed due. inl (record { job = Some (putting_job place); asked = asked; ends = ends-put place input i j s printed due })) p
 ran-put words place status i j asked (inl (input, told, inr missed)) = inr (inr (inl (record { asked = inr (inl (asks-put words place asked)); rose = missed.1; input_kept = missed.2; silent = missed.0 })))
 ran-put words place status i j asked (inr (inl p)) =
     let given = some-input i.left in
-    ran-printed words given.0 status i j (IsUnread i j) given.1 (λ s printed unread. inr (inr (inr (record { asked = asks-put words place asked; status_is = unread.status_is; printed_is = unread.printed_is; kept = unread.kept; spared = unread.spared })))) p
+    ran-printed words given.0 status i j (IsInputUnread i j) given.1 (λ s printed unread. inr (inr (inr (record { asked = asks-put words place asked; status_is = unread.status_is; printed_is = unread.printed_is; kept = unread.kept; spared = unread.spared })))) p
 ran-put words place status i j asked (inr (inr failed)) = inr (inl (record { asked = inr (asks-put words place asked); rose = failed.1; clock_kept = failed.2; silent = failed.0 }))
 
 -- A command without a message is a run.
-pub ran-command : (words : List (List ℕ)) (job : Job) (way : Way) (keeps : View → View → Type 0) (may : Answer → Type 0) (wanted : ℕ → Archive → Done) (status : Status) (i j : Edges) → AsksFor words job → AsksForCommand words → ((input : List ℕ) (s : Status) (printed : List ℕ) → JobEnds (CommandActs way keeps may wanted) after_first i j s printed → Ends (Some job) input i j s printed)
+pub ran-command : (words : List (List ℕ)) (job : Job) (way : WriteKind) (keeps : StoreState → StoreState → Type 0) (may : Answer → Type 0) (wanted : ℕ → Archive → Done) (status : Status) (i j : RunState) → AsksFor words job → AsksForCommand words → ((input : List ℕ) (s : Status) (printed : List ℕ) → JobEnds (CommandActs way keeps may wanted) after_first i j s printed → RunEnds (Some job) input i j s printed)
     → JobDone (CommandActs way keeps may wanted) status i j → Ran words status i j
 ran-command words job way keeps may wanted status i j asked command ends (inl p) =
     let given = some-input i.left in
@@ -160,21 +160,21 @@ ran-command words job way keeps may wanted status i j asked command ends (inl p)
 ran-command words job way keeps may wanted status i j asked command ends (inr missed) = inr (inr (inl (record { asked = inr command; rose = missed.1; input_kept = missed.2; silent = missed.0 })))
 
 -- A reindexing is a run.
-pub ran-reindexed : (words : List (List ℕ)) (status : Status) (i j : Edges) (o : Outcome) → AsksFor words Reindex → JobActs ReindexActs unasked i j o → Printed (Exactly (whole_line (outcome_line o)) (status_of o)) status i.taken i.lost j.taken j.lost → Ran words status i j
+pub ran-reindexed : (words : List (List ℕ)) (status : Status) (i j : RunState) (o : Outcome) → AsksFor words Reindex → JobActs ReindexActs unasked i j o → Printed (Exactly (whole_line (outcome_line o)) (status_of o)) status i.taken i.lost j.taken j.lost → Ran words status i j
 ran-reindexed words status i j o asked acts p =
     let given = some-input i.left in
     ran-printed words given.0 status i j (Exactly (whole_line (outcome_line o)) (status_of o)) given.1
     (λ s printed e. inl (record { job = Some Reindex; asked = asked; ends = record { outcome = o; acts = acts; status_is = e.status_is; printed_is = e.words_is } })) p
 
 -- A check is a run.
-pub ran-checked : (words : List (List ℕ)) (status : Status) (i j : Edges) (o : Outcome) → AsksFor words Check → JobActs CheckActs unasked i j o → Printed (Exactly (whole_line (outcome_line o)) (status_of o)) status i.taken i.lost j.taken j.lost → Ran words status i j
+pub ran-checked : (words : List (List ℕ)) (status : Status) (i j : RunState) (o : Outcome) → AsksFor words Check → JobActs CheckActs unasked i j o → Printed (Exactly (whole_line (outcome_line o)) (status_of o)) status i.taken i.lost j.taken j.lost → Ran words status i j
 ran-checked words status i j o asked acts p =
     let given = some-input i.left in
     ran-printed words given.0 status i j (Exactly (whole_line (outcome_line o)) (status_of o)) given.1
     (λ s printed e. inl (record { job = Some Check; asked = asked; ends = record { outcome = o; acts = acts; status_is = e.status_is; printed_is = e.words_is } })) p
 
 -- Serving is a run.
-pub ran-served : (words : List (List ℕ)) (turns port : ℕ) (run : ServeRun) (status : Status) (i j : Edges) → AsksFor words (Serve turns port) → (run ≡ Shut opening.DiskFault → Rose i.broken j.broken) → j.unread ≡ i.unread → j.missed ≡ i.missed → j.coming ≡ i.coming
+pub ran-served : (words : List (List ℕ)) (turns port : ℕ) (run : ServeRun) (status : Status) (i j : RunState) → AsksFor words (Serve turns port) → (run ≡ Shut opening.DiskFault → Rose i.broken j.broken) → j.unread ≡ i.unread → j.missed ≡ i.missed → j.coming ≡ i.coming
     → Printed (Exactly (run_line run) (run_status run)) status i.taken i.lost j.taken j.lost → Ran words status i j
 ran-served words turns port run status i j asked fault input clock coming p =
     let given = some-input i.left in
@@ -182,13 +182,13 @@ ran-served words turns port run status i j asked fault input clock coming p =
     (λ s printed e. inl (record { job = Some (Serve turns port); asked = asked; ends = record { run = run; status_is = e.status_is; printed_is = e.words_is; fault = fault; input_kept = input; clock_kept = clock; coming_kept = coming } })) p
 
 -- What was printed of an outcome is due by it.
-pub outcome-due : (did : ℕ → Option Content → Option Content → Outcome → Type 0) (status : Status) (i j : Edges) (o : Outcome) → JobActs did after_first i j o → Printed (Exactly (whole_line (outcome_line o)) (status_of o)) status i.taken i.lost j.taken j.lost → Printed (JobEnds did after_first i j) status i.taken i.lost j.taken j.lost
+pub outcome-due : (did : ℕ → Option Content → Option Content → Outcome → Type 0) (status : Status) (i j : RunState) (o : Outcome) → JobActs did after_first i j o → Printed (Exactly (whole_line (outcome_line o)) (status_of o)) status i.taken i.lost j.taken j.lost → Printed (JobEnds did after_first i j) status i.taken i.lost j.taken j.lost
 outcome-due did status i j o acts p =
     printed-as i.taken i.lost j.taken j.lost (Exactly (whole_line (outcome_line o)) (status_of o)) (JobEnds did after_first i j) status p
     (λ s words e. record { outcome = o; acts = acts; status_is = e.status_is; printed_is = e.words_is })
 
 -- What a job did is also something else.
-pub job-as : (did other : ℕ → Option Content → Option Content → Outcome → Type 0) (status : Status) (i j : Edges) → ((moment : ℕ) (old new : Option Content) (o : Outcome) → did moment old new o → other moment old new o) → JobDone did status i j → JobDone other status i j
+pub job-as : (did other : ℕ → Option Content → Option Content → Outcome → Type 0) (status : Status) (i j : RunState) → ((moment : ℕ) (old new : Option Content) (o : Outcome) → did moment old new o → other moment old new o) → JobDone did status i j → JobDone other status i j
 job-as did other status i j also (inl p) =
     inl (printed-as i.taken i.lost j.taken j.lost (JobEnds did after_first i j) (JobEnds other after_first i j) status p (λ s words due. record {
       outcome = due.outcome;
@@ -199,10 +199,10 @@ job-as did other status i j also (inl p) =
 job-as did other status i j also (inr missed) = inr missed
 
 -- The command that puts the message on an input into the archive did what the job does.
-pub message-as : (place : Option ℕ) (bytes input : List ℕ) (way : Way) (keeps : View → View → Type 0) (may : Answer → Type 0) (wanted : ℕ → Archive → Done) → way ≡ putting_way place → ((found made : View) → keeps found made → putting_files place found made) → ((reply : Answer) → may reply → putting_answers place reply) → wanted ≡ putting place bytes → bytes ≡ message_of input
+pub message-as : (place : Option ℕ) (bytes input : List ℕ) (way : WriteKind) (keeps : StoreState → StoreState → Type 0) (may : Answer → Type 0) (wanted : ℕ → Archive → Done) → way ≡ putting_way place → ((found made : StoreState) → keeps found made → putting_files place found made) → ((reply : Answer) → may reply → putting_answers place reply) → wanted ≡ putting place bytes → bytes ≡ message_of input
     → (moment : ℕ) (old new : Option Content) (o : Outcome) → CommandActs way keeps may wanted moment old new o → MessageActs place (message_of input) moment old new o
 message-as place bytes input way keeps may wanted way_is files answers is front moment old new o acts =
-    answered (subst (λ (y : Way). CommandActs y keeps may (putting place (message_of input)) moment old new o) way_is
+    answered (subst (λ (y : WriteKind). CommandActs y keeps may (putting place (message_of input)) moment old new o) way_is
     (subst (λ (b : List ℕ). CommandActs way keeps may (putting place b) moment old new o) front (subst (λ (w : ℕ → Archive → Done). CommandActs way keeps may w moment old new o) is acts)))
   where
     reply : (p : Outcome) → IsReply may p → IsReply (putting_answers place) p
@@ -231,12 +231,12 @@ job-moved did status left left' unread unread' taken taken' lost lost' coming co
     inr (record { status_is = m.0.status_is; taken_is = m.0.taken_is; lost_kept = m.0.lost_kept; coming_kept = m.0.coming_kept; kept = m.0.kept; disk_kept = m.0.disk_kept }, m.1, same)
 
 -- The line for out of memory is due if a message wasn't read.
-pub unread-due : (status : Status) (i j : Edges) (out : Option (List ℕ)) (lost : ℕ) (out' : Option (List ℕ)) (lost' : ℕ) → j.content ≡ i.content → NoneFailed i j → Printed (Exactly (whole_line (codes "12 no memory")) exit.Memory) status out lost out' lost' → Printed (IsUnread i j) status out lost out' lost'
+pub unread-due : (status : Status) (i j : RunState) (out : Option (List ℕ)) (lost : ℕ) (out' : Option (List ℕ)) (lost' : ℕ) → j.content ≡ i.content → NoneFailed i j → Printed (Exactly (whole_line (codes "12 no memory")) exit.Memory) status out lost out' lost' → Printed (IsInputUnread i j) status out lost out' lost'
 unread-due status i j out lost out' lost' kept spared p =
-    printed-as out lost out' lost' (Exactly (whole_line (codes "12 no memory")) exit.Memory) (IsUnread i j) status p (λ s words e. record { status_is = e.status_is; printed_is = e.words_is; kept = kept; spared = spared })
+    printed-as out lost out' lost' (Exactly (whole_line (codes "12 no memory")) exit.Memory) (IsInputUnread i j) status p (λ s words e. record { status_is = e.status_is; printed_is = e.words_is; kept = kept; spared = spared })
 
 -- Some moment is the first to come.
-pub some-moment : (coming : Option Moments) → (moment : ℕ) × IsFirst moment coming
+pub some-moment : (coming : Option Moments) → (moment : ℕ) × IsFirstMoment moment coming
 some-moment None = (0, tt)
 some-moment (Some moments) = (moments.next, refl)
 

@@ -5,14 +5,14 @@ use Rattle.std.proofs.lemmas.Bool.{false≢true}
 use Rattle.std.specs.Borrow.{Bor}
 use Rattle.arch_base.specs.declared.config.Config.{Config}
 use Rattle.disk_model.specs.Disk.{Files, Content, Image, WhereTold}
-use Rattle.edge_io.specs.Coming.{IsFirst, after_first}
+use Rattle.edge_io.specs.Coming.{IsFirstMoment, after_first}
 use Rattle.arch_model.specs.Archives.{Archive, empty_archive, live, text_of}
 use Rattle.arch_model.specs.Delivery.{Done}
-use Rattle.arch_model.specs.Keeping.{Settles, Comes, Obeys, Doubts}
+use Rattle.arch_model.specs.Keeping.{Settles, CommandGives, Obeys, Doubts}
 use Rattle.arch_model.specs.Following.{Follows, FollowsItself}
 use Rattle.arch_model.specs.Laws.{CommandFollows, KeepsNumbers, TakesFromView}
 use Rattle.arch_model.specs.declared.command.Command.TheVariants as command
-use Rattle.arch_model.specs.Standing.{Standing, standing, one_of, IsFound}
+use Rattle.arch_model.specs.Standing.{LastKnown, standing, one_of, IsFound}
 use Rattle.arch_model.specs.declared.answer.Answer.{Answer}
 use Rattle.arch_model.specs.declared.answer.Answer.TheVariants as answer
 use Rattle.arch_model.specs.declared.opening.OpenRefusal.{OpenRefusal}
@@ -20,7 +20,7 @@ use Rattle.arch_model.specs.declared.opening.OpenRefusal.TheVariants as refusal
 use Rattle.arch_model.proofs.Keepers.{found-one}
 use Rattle.epoch_store.specs.Opens.{RecoversOf}
 use Rattle.epoch_store.specs.Promises.{Appends, Renews}
-use Rattle.store_finding.specs.Kept.{View, IsDiskOf}
+use Rattle.store_finding.specs.Kept.{StoreState, IsDiskOf}
 use Rattle.archive_core.specs.Engines.{store-recovers}
 use Rattle.archive_core.proofs.Engines.{recovers_either}
 use Rattle.archive_cli.specs.declared.outcome.Outcome.{Outcome}
@@ -30,10 +30,10 @@ use Rattle.archive_cli.specs.declared.status.Status.TheVariants as exit
 use Rattle.archive_cli.specs.declared.words.Job.{Job}
 use Rattle.archive_cli.specs.declared.words.Job.TheVariants.{Help, Version, Replay, Load, Init, Deliver, Remove, Purge, Edit, Reindex, Check, Serve}
 use Rattle.archive_core.specs.Commands.{AnswersPurge, AnswersRemoval}
-use Rattle.archive_cli.specs.DiskCommands.{IsMade, Makes, StandsAs, StaysUnopened, TakesOn, ReindexesOn, ChecksOn, delivering, removing, purging, editing}
+use Rattle.archive_cli.specs.DiskCommands.{IsMadeDisk, MakesDisk, StandsAs, StaysUnopened, CommandTakes, ReindexesOn, ChecksOn, delivering, removing, purging, editing}
 use Rattle.archive_cli.specs.Laws.{WithMessage, WithRemoval, WithPurge, WithEdit, Goes, RunsInARow}
 use Rattle.archive_cli.specs.Outcomes.{status_of}
-use Rattle.archive_cli.specs.Program.{Edges, JobEnds, InitActs, CommandActs, MessageActs, ReindexActs, CheckActs, IsDue, Ends, Ran, IsInput, IsOnArchive, AsksForInit, AsksOfArchive, message_of, made_at, unasked, any_files, purge_files}
+use Rattle.archive_cli.specs.Program.{RunState, JobEnds, InitActs, CommandActs, MessageActs, ReindexActs, CheckActs, IsDue, RunEnds, Ran, IsInput, IsOnArchive, AsksForInit, AsksOfArchive, message_of, made_at, unasked, any_files, purge_files}
 use Rattle.archive_cli.specs.Statuses.{code_of}
 use Rattle.archive_cli.specs.Words.{AsksFor, IsJob, serve_word}
 
@@ -96,28 +96,28 @@ only-makes words (Load count seed) asked also = absurd (other-words 105 108 (cod
 only-makes words (Serve turns port) asked also = absurd (other-words 105 115 (codes "nit") (codes "erve") asked.1.after (map serve_word also.options) (omega arith) (sym asked.1.is ∙ also.is))
 
 -- The archive is the same, or what the command of the words makes of it.
-abbrev FromBy : List (List ℕ) → Edges → Archive → Archive → Type 0
+abbrev FromBy : List (List ℕ) → RunState → Archive → Archive → Type 0
 FromBy words i old new = (new ≡ old) ⊎ (WithMessage words i old new ⊎ (WithRemoval words i old new ⊎ (WithPurge words old new ⊎ WithEdit words i old new)))
 
 -- Each archive of one standing goes on from one of another.
-abbrev Steps : List (List ℕ) → Edges → Standing → Standing → Type 0
+abbrev Steps : List (List ℕ) → RunState → LastKnown → LastKnown → Type 0
 Steps words i s t = (b : Archive) → IsFound t b → (a : Archive) × IsFound s a × FromBy words i a b
 
-module _ (words : List (List ℕ)) (i : Edges) where
-  steps-same : (s t : Standing) → t ≡ s → Steps words i s t
-  steps-same s t same b found = (b, subst (λ (x : Standing). IsFound x b) same found, inl refl)
+module _ (words : List (List ℕ)) (i : RunState) where
+  steps-same : (s t : LastKnown) → t ≡ s → Steps words i s t
+  steps-same s t same b found = (b, subst (λ (x : LastKnown). IsFound x b) same found, inl refl)
 
-  steps-settled : (s t : Standing) → Settles s t → Steps words i s t
+  steps-settled : (s t : LastKnown) → Settles s t → Steps words i s t
   steps-settled s t settles b (inl is) = (t.archive, settles.found, inl is)
-  steps-settled s t settles b (inr doubt) = absurd (let no : None ≡ Some b = sym settles.sure ∙ doubt in cc)
+  steps-settled s t settles b (inr in_doubt) = absurd (let no : None ≡ Some b = sym settles.sure ∙ in_doubt in cc)
 
-  steps-unopened : (s t : Standing) (old : Option Content) (why : OpenRefusal) → StaysUnopened s old why t → Steps words i s t
+  steps-unopened : (s t : LastKnown) (old : Option Content) (why : OpenRefusal) → StaysUnopened s old why t → Steps words i s t
   steps-unopened s t old refusal.DiskFault same = steps-same s t same
   steps-unopened s t old refusal.NoMemory settles = steps-settled s t settles.0
   steps-unopened s t old refusal.NoArchive never = absurd never
   steps-unopened s t old (refusal.Damaged file offset) never = absurd never
 
-  steps-reindexed : (s t : Standing) (old : Option Content) (o : Outcome) → ReindexesOn s old o t → Steps words i s t
+  steps-reindexed : (s t : LastKnown) (old : Option Content) (o : Outcome) → ReindexesOn s old o t → Steps words i s t
   steps-reindexed s t old (Reindexed live) settles = steps-settled s t settles.0
   steps-reindexed s t old (Unopened why) stays = steps-unopened s t old why stays
   steps-reindexed s t old (Made name) never = absurd never
@@ -125,7 +125,7 @@ module _ (words : List (List ℕ)) (i : Edges) where
   steps-reindexed s t old (Checked entries live next) never = absurd never
   steps-reindexed s t old (Answered reply) never = absurd never
 
-  steps-checked : (s t : Standing) (old : Option Content) (o : Outcome) → ChecksOn s old o t → Steps words i s t
+  steps-checked : (s t : LastKnown) (old : Option Content) (o : Outcome) → ChecksOn s old o t → Steps words i s t
   steps-checked s t old (Checked entries live next) settles = steps-settled s t settles.0
   steps-checked s t old (Unopened why) stays = steps-unopened s t old why stays
   steps-checked s t old (Made name) never = absurd never
@@ -134,28 +134,28 @@ module _ (words : List (List ℕ)) (i : Edges) where
   steps-checked s t old (Answered reply) never = absurd never
 
   module _ (wanted : Archive → Done) (goes : (a b : Archive) → b ≡ (wanted a).archive → FromBy words i a b) where
-    module _ (s : Standing) (a : Archive) (found : IsFound s a) (t : Standing) where
+    module _ (s : LastKnown) (a : Archive) (found : IsFound s a) (t : LastKnown) where
       steps-obeyed : (reply : Answer) → Obeys (standing a None) wanted reply t → Steps words i s t
       steps-obeyed reply obeys b (inl is) =
           let same : obeys.found ≡ a = found-one a obeys.found obeys.is_found in
-          (a, found, goes a b (is ∙ ap (λ (x : Standing). x.archive) obeys.stands ∙ ap (λ (x : Archive). (wanted x).archive) same))
-      steps-obeyed reply obeys b (inr doubt) = absurd (let no : None ≡ Some b = sym (ap (λ (x : Standing). x.doubt) obeys.stands) ∙ doubt in cc)
+          (a, found, goes a b (is ∙ ap (λ (x : LastKnown). x.archive) obeys.stands ∙ ap (λ (x : Archive). (wanted x).archive) same))
+      steps-obeyed reply obeys b (inr in_doubt) = absurd (let no : None ≡ Some b = sym (ap (λ (x : LastKnown). x.in_doubt) obeys.stands) ∙ in_doubt in cc)
 
       steps-doubted : Doubts (standing a None) wanted t → Steps words i s t
       steps-doubted doubts b (inl is) =
           let same : doubts.found ≡ a = found-one a doubts.found doubts.is_found in
-          (a, found, inl (is ∙ ap (λ (x : Standing). x.archive) doubts.stands ∙ same))
-      steps-doubted doubts b (inr doubt) =
+          (a, found, inl (is ∙ ap (λ (x : LastKnown). x.archive) doubts.stands ∙ same))
+      steps-doubted doubts b (inr in_doubt) =
           let same : doubts.found ≡ a = found-one a doubts.found doubts.is_found in
-          let one : Some b ≡ Some (wanted doubts.found).archive = sym doubt ∙ ap (λ (x : Standing). x.doubt) doubts.stands in
+          let one : Some b ≡ Some (wanted doubts.found).archive = sym in_doubt ∙ ap (λ (x : LastKnown). x.in_doubt) doubts.stands in
           let is : b ≡ (wanted doubts.found).archive = cc in
           (a, found, goes a b (is ∙ ap (λ (x : Archive). (wanted x).archive) same))
 
       steps-starved : Settles (standing a None) t → Steps words i s t
       steps-starved settles b (inl is) = (a, found, inl (is ∙ found-one a t.archive settles.found))
-      steps-starved settles b (inr doubt) = absurd (let no : None ≡ Some b = sym settles.sure ∙ doubt in cc)
+      steps-starved settles b (inr in_doubt) = absurd (let no : None ≡ Some b = sym settles.sure ∙ in_doubt in cc)
 
-      steps-answered : (reply : Answer) → Comes true (standing a None) wanted reply t → Steps words i s t
+      steps-answered : (reply : Answer) → CommandGives true (standing a None) wanted reply t → Steps words i s t
       steps-answered answer.NoMemory (inl unopened) = absurd (false≢true (sym unopened.stale))
       steps-answered answer.NoMemory (inr settles) = steps-starved settles
       steps-answered answer.DiskFault (inl unopened) = absurd (false≢true (sym unopened.stale))
@@ -171,7 +171,7 @@ module _ (words : List (List ℕ)) (i : Edges) where
       steps-answered answer.IsMirror obeys = steps-obeyed answer.IsMirror obeys
       steps-answered (answer.Damaged file offset) never = absurd never
 
-    steps-done : (s t : Standing) (old : Option Content) (o : Outcome) → TakesOn s old wanted o t → Steps words i s t
+    steps-done : (s t : LastKnown) (old : Option Content) (o : Outcome) → CommandTakes s old wanted o t → Steps words i s t
     steps-done s t old (Answered reply) done = steps-answered s done.found done.is_found t reply done.comes
     steps-done s t old (Unopened why) stays = steps-unopened s t old why stays
     steps-done s t old (Made name) never = absurd never
@@ -180,10 +180,10 @@ module _ (words : List (List ℕ)) (i : Edges) where
     steps-done s t old (Checked entries live next) never = absurd never
 
   -- A command leads from what the disk stood for to what it stands for then.
-  abbrev Leads : Standing → Edges → Type 0
-  Leads s j = (t : Standing) × StandsAs [] t j.content × Steps words i s t
+  abbrev Leads : LastKnown → RunState → Type 0
+  Leads s j = (t : LastKnown) × StandsAs [] t j.content × Steps words i s t
 
-  module _ (j : Edges) (s : Standing) (all : StandsAs [] s i.content) where
+  module _ (j : RunState) (s : LastKnown) (all : StandsAs [] s i.content) where
     leads-kept : j.content ≡ i.content → Leads s j
     leads-kept same = (s, subst (λ (k : Option Content). StandsAs [] s k) (sym same) all, steps-same s s refl)
 
@@ -218,7 +218,7 @@ module _ (words : List (List ℕ)) (i : Edges) where
     leads-checked status printed ends = let t = ends.acts.acts.stands s [] all in (t.0, t.1, steps-checked s t.0 i.content ends.outcome t.2)
 
     module _ (asked : AsksOfArchive words) where
-      leads-does : (input : List ℕ) → IsInput i.left input → (status : Status) (printed : List ℕ) (job : Option Job) → IsJob words job → Ends job input i j status printed → Leads s j
+      leads-does : (input : List ℕ) → IsInput i.left input → (status : Status) (printed : List ℕ) (job : Option Job) → IsJob words job → RunEnds job input i j status printed → Leads s j
       leads-does input told status printed None asks ends = absurd (asks asked.0 asked.2)
       leads-does input told status printed (Some Deliver) asks ends = leads-delivered asks input told status printed ends
       leads-does input told status printed (Some (Remove number)) asks ends = leads-removed number asks status printed ends
@@ -246,18 +246,18 @@ module _ (words : List (List ℕ)) (i : Edges) where
       leads status (inr (inr (inr failed))) = leads-due failed.input failed.told failed.due_status failed.printed failed.due
 
 -- An archive was made.
-pub record IsMadeOn (words : List (List ℕ)) (i : Edges) (k : Content) : Type 0 where
+pub record IsMadeOn (words : List (List ℕ)) (i : RunState) (k : Content) : Type 0 where
   pub config : Config
   pub asked : AsksFor words (Init config)
   pub born : ℕ
-  pub is_born : IsFirst born i.coming
-  pub view : View
+  pub is_born : IsFirstMoment born i.coming
+  pub view : StoreState
   pub disk : IsDiskOf view (empty_archive (made_at config born)) k
 
-module _ (words : List (List ℕ)) (asked : AsksForInit words) (i j : Edges) (k : Content) (told : j.content ≡ Some k) where
-  made-by : (config : Config) → AsksFor words (Init config) → (born : ℕ) → IsFirst born i.coming → (o : Outcome) → Makes (made_at config born) o i.content j.content → status_of o ≡ exit.Done → IsMadeOn words i k
+module _ (words : List (List ℕ)) (asked : AsksForInit words) (i j : RunState) (k : Content) (told : j.content ≡ Some k) where
+  made-by : (config : Config) → AsksFor words (Init config) → (born : ℕ) → IsFirstMoment born i.coming → (o : Outcome) → MakesDisk (made_at config born) o i.content j.content → status_of o ≡ exit.Done → IsMadeOn words i k
   made-by config asks born first (Made name) makes done =
-      let disk = subst (λ (c : Option Content). WhereTold (λ (m : Content). IsMade (made_at config born) m) c) told makes.2 in
+      let disk = subst (λ (c : Option Content). WhereTold (λ (m : Content). IsMadeDisk (made_at config born) m) c) told makes.2 in
       record { config = config; asked = asks; born = born; is_born = first; view = disk.own.0; disk = disk.own.1 }
   made-by config asks born first Exists makes done = absurd (cc done)
   made-by config asks born first (Reindexed live) makes done = absurd makes
@@ -276,11 +276,11 @@ module _ (words : List (List ℕ)) (asked : AsksForInit words) (i j : Edges) (k 
   made-by config asks born first (Answered answer.IsMirror) makes done = absurd makes
   made-by config asks born first (Answered (answer.Damaged file offset)) makes done = absurd makes
 
-  made-job : (input : List ℕ) (status : Status) (printed : List ℕ) (job : Option Job) → IsJob words job → Ends job input i j status printed → status ≡ exit.Done → IsMadeOn words i k
+  made-job : (input : List ℕ) (status : Status) (printed : List ℕ) (job : Option Job) → IsJob words job → RunEnds job input i j status printed → status ≡ exit.Done → IsMadeOn words i k
   made-job input status printed None asks ends done = absurd (asks (Init asked.0) asked.1)
   made-job input status printed (Some job) asks ends done =
       let same = only-makes words job asked asks in
-      let made : JobEnds (InitActs same.0) after_first i j status printed = subst (λ (x : Job). Ends (Some x) input i j status printed) same.1 ends in
+      let made : JobEnds (InitActs same.0) after_first i j status printed = subst (λ (x : Job). RunEnds (Some x) input i j status printed) same.1 ends in
       made-by same.0 (subst (λ (x : Job). AsksFor words x) same.1 asks) made.acts.moment made.acts.first made.outcome made.acts.acts (sym made.status_is ∙ done)
 
   made-due : (input : List ℕ) (status : Status) (printed : List ℕ) → IsDue words input i j status printed → status ≡ exit.Done → IsMadeOn words i k
@@ -316,7 +316,7 @@ module _ (keeps : KeepsNumbers) (takes : TakesFromView) (itself : FollowsItself)
   follows-as : (a b c : Archive) → b ≡ c → Follows a c → Follows a b
   follows-as a b c same follows = subst (λ (x : Archive). Follows a x) (sym same) follows
 
-  goes-by : (words : List (List ℕ)) (i : Edges) (a b : Archive) → FromBy words i a b → Goes words i a b
+  goes-by : (words : List (List ℕ)) (i : RunState) (a b : Archive) → FromBy words i a b → Goes words i a b
   goes-by words i a b (inl same) = record { from = inl same; texts = λ n text spared unpurged unedited is. subst (λ (x : Archive). text_of (live x.entries) n ≡ Some text) (sym same) is; numbers = follows-as a b a same (itself a) }
   goes-by words i a b (inr (inl more)) = record {
     from = inr (inl more);
@@ -357,6 +357,6 @@ module _ (keeps : KeepsNumbers) (takes : TakesFromView) (itself : FollowsItself)
         stands = last.2;
       }
     where
-      at_last : (s : Standing) (c : Option Content) → StandsAs [] s c → (image : Files) → Image c image → RecoversOf (one_of s) image
+      at_last : (s : LastKnown) (c : Option Content) → StandsAs [] s c → (image : Files) → Image c image → RecoversOf (one_of s) image
       at_last s None all image left = absurd all
       at_last s (Some c) all image left = elim (all image left) [ inl one ↦ one | inr bare ↦ bare ]

@@ -4,7 +4,7 @@ use Rattle.std.specs.List.{Contains}
 use Rattle.std.proofs.lemmas.List.Elements.{Contains-append_left, Contains-append_right}
 use Rattle.std.proofs.lemmas.Bool.{false≢true}
 use Rattle.arch_base.specs.Counts.{Rose, RoseIf}
-use Rattle.disk_model.specs.Disk.{Content, Files, Image, ReadsFit, Told, WhereTold}
+use Rattle.disk_model.specs.Disk.{Content, Files, Image, ReadsFit, BothTold, WhereTold}
 use Rattle.disk_model.specs.declared.name.FileName.{FileName}
 use Rattle.disk_model.specs.Synced.{IsSettled, settled_image}
 use Rattle.root_slots.specs.Between.{RunsBetween, WentBetween, between_image, between_then}
@@ -12,20 +12,20 @@ use Rattle.edge_io.specs.Frames.{Outputs}
 use Rattle.edge_io.specs.Scripts.{Arrival}
 use Rattle.arch_model.specs.Archives.{Archive, live}
 use Rattle.arch_model.specs.Following.{FollowsItself}
-use Rattle.arch_model.specs.Keeping.{HasDoubt, HasAll, Passes, Fits}
+use Rattle.arch_model.specs.Keeping.{HasDoubt, HasAll, CrashesLeaveOnly, MatchesKnown}
 use Rattle.arch_model.specs.Laws.{CommandFollows}
 use Rattle.view_set.specs.Viewed.{views_of}
-use Rattle.arch_model.specs.Standing.{Standing, standing, one_of}
+use Rattle.arch_model.specs.Standing.{LastKnown, standing, one_of}
 use Rattle.arch_model.specs.declared.opening.OpenRefusal.{OpenRefusal}
 use Rattle.arch_model.specs.declared.opening.OpenRefusal.TheVariants as opening
 use Rattle.arch_model.proofs.Keepers.{has-own, fits-held, all-split}
-use Rattle.archive_core.specs.Engines.{Owning, Holds, Rests, LeftWith, Leaves, AllRecoverOrBare, is_ready}
+use Rattle.archive_core.specs.Engines.{Owning, HoldsArchive, FilesAre, LeftWithCache, Leaves, AllRecoverOrBare, is_ready}
 use Rattle.archive_core.proofs.Engines.{all_or_bare, cache_is, read_in, reopening-from}
 use Rattle.store_finding.specs.Files.{as_read}
 use Rattle.epoch_store.specs.Opens.{ReadsWith, RecoversOfWith, AllRecoverWith, IsOnlySynced, SyncsFirst}
 use Rattle.store_finding.specs.Recovery.{RecoversWith}
 use Rattle.epoch_store.specs.Laws.{CachesOne, RecoversSomeOne}
-use Rattle.store_finding.specs.Kept.{View, IsStoreWith}
+use Rattle.store_finding.specs.Kept.{StoreState, IsStoreWith}
 use Rattle.keep_course.specs.Courses.{archives_of}
 use Rattle.keep_course.proofs.Courses.{all-own}
 use Rattle.edge_io.specs.declared.events.What.{What}
@@ -34,9 +34,9 @@ use Rattle.node_serve.specs.Nodes.{Serving, Stage, stage, serving, StepsTo, Runs
 use Rattle.node_serve.specs.declared.session.Session.{Session}
 use Rattle.node_serve.specs.Plain.{last_world}
 use Rattle.node_serve.specs.Turns.{Turn, Served, passed_in}
-use Rattle.node_serve.specs.World.{Outer, World}
+use Rattle.node_serve.specs.World.{HostState, NodeState}
 use Rattle.node_serve.proofs.Running.{turned-has}
-use Rattle.archive_cli.specs.Serving.{ServeRun, Shut, Ended, Hosted, ServesDisk, ServedOn, StoodFor}
+use Rattle.archive_cli.specs.Serving.{ServeRun, Shut, Ended, HostGiven, ServesDisk, ServedOn, StoodFor}
 use Rattle.archive_cli.proofs.ServedNumbers.{served-follows}
 
 -- Files that stand for one of some archives stand for one of more.
@@ -49,23 +49,23 @@ has-later : (more may : List (Option Archive)) (d : Option Archive) → HasDoubt
 has-later more may None has = tt
 has-later more may (Some b) has = Contains-append_right more may (Some b) has
 
-all-later : (more may : List (Option Archive)) (ss : List Standing) → HasAll may ss → HasAll (more ++ may) ss
+all-later : (more may : List (Option Archive)) (ss : List LastKnown) → HasAll may ss → HasAll (more ++ may) ss
 all-later more may [] has = tt
-all-later more may (s ∷ ss) has = (record { archive = Contains-append_right more may (Some s.archive) has.0.archive; doubt = has-later more may s.doubt has.0.doubt }, all-later more may ss has.1)
+all-later more may (s ∷ ss) has = (record { archive = Contains-append_right more may (Some s.archive) has.0.archive; in_doubt = has-later more may s.in_doubt has.0.in_doubt }, all-later more may ss has.1)
 
 -- Why an archive wasn't opened.
 why-is : (a b : OpenRefusal) → Shut a ≡ Shut b → a ≡ b
 why-is a b is = cc is
 
 -- An opening that was refused.
-abbrev shut_by : OpenRefusal → Result View OpenRefusal
+abbrev shut_by : OpenRefusal → Result StoreState OpenRefusal
 shut_by why = Err why
 
 pub shut-cause : (before now : ℕ) (why : OpenRefusal) → RoseIf (shut_by why ≡ shut_by opening.DiskFault) before now → RoseIf (why ≡ opening.DiskFault) before now
 shut-cause before now why rose = record { later = rose.later; failed = λ is. rose.failed (ap shut_by is); kept = λ free. rose.kept (λ same. free (cc same)) }
 
 -- The disk's count of faults rose, if that is why.
-pub shut-faults : {D : Type 0} (content : D → Option Content) (moment : D → ℕ) (left_since : D → ℕ → Files → Type 0) (turns : ℕ) (run : ServeRun) (old new : D) (i j : Hosted) (recorded recorded' : List Outputs → Type 0) → ServesDisk content moment left_since turns run old new i j recorded recorded' → run ≡ Shut opening.DiskFault → Rose i.out.disk j.out.disk
+pub shut-faults : {D : Type 0} (content : D → Option Content) (moment : D → ℕ) (left_since : D → ℕ → Files → Type 0) (turns : ℕ) (run : ServeRun) (old new : D) (i j : HostGiven) (recorded recorded' : List Outputs → Type 0) → ServesDisk content moment left_since turns run old new i j recorded recorded' → run ≡ Shut opening.DiskFault → Rose i.out.disk j.out.disk
 shut-faults content moment left_since turns (Shut why) old new i j recorded recorded' shut is = shut.cause.failed (why-is why opening.DiskFault is)
 shut-faults content moment left_since turns (Ended how) old new i j recorded recorded' served is = absurd (cc is)
 
@@ -115,9 +115,9 @@ anyway-disk (e ∷ es) p [] q never = absurd never
 anyway-disk (e ∷ es) p (m ∷ ms) q run = (goes-disk e p m run.0, anyway-disk es m ms q run.1)
 
 -- Turns by steps.
-module _ {K : Type 0} (holds rests : K → Archive → Type 0) (ready : K → Bool) (leaves : K → K → List (Option Archive) → Type 0) where
+module _ {K : Type 0} (holds files_are : K → Archive → Type 0) (ready : K → Bool) (leaves : K → K → List (Option Archive) → Type 0) where
   -- A crash in them leaves an archive of one of their standings.
-  pub steps-pass : (es : List Arrival) (w : World) (ms : List (Stage K)) (ts : List Turn) (v : World) (k m : K) → Served es w ts v → StepsTo holds rests ready leaves k w.standing ms ts m → Passes leaves k m (w.standing ∷ passed_in ts)
+  pub steps-pass : (es : List Arrival) (w : NodeState) (ms : List (Stage K)) (ts : List Turn) (v : NodeState) (k m : K) → Served es w ts v → StepsTo holds files_are ready leaves k w.standing ms ts m → CrashesLeaveOnly leaves k m (w.standing ∷ passed_in ts)
   steps-pass [] w [] [] v k m run steps = λ start may has since. subst (λ (x : K). leaves start x may) (sym steps) since
   steps-pass [] w (x ∷ ms) [] v k m run never = absurd never
   steps-pass [] w ms (t ∷ ts) v k m never steps = absurd never
@@ -132,17 +132,17 @@ module _ {K : Type 0} (holds rests : K → Archive → Type 0) (ready : K → Bo
 synced-same : (k m : Content) → IsOnlySynced k m → as_read m ≡ as_read k
 synced-same k m synced = λ i. λ (name : FileName). synced.seen name i
 
-synced-reads : (cache : List ℕ) (a : Archive) (old new : Option Content) → Told IsOnlySynced old new → ReadsWith cache a old → ReadsWith cache a new
+synced-reads : (cache : List ℕ) (a : Archive) (old new : Option Content) → BothTold IsOnlySynced old new → ReadsWith cache a old → ReadsWith cache a new
 synced-reads cache a None new synced reads = absurd reads
 synced-reads cache a (Some k) None synced reads = absurd synced
 synced-reads cache a (Some k) (Some m) synced reads = subst (λ (files : Files). RecoversWith cache files a) (sym (synced-same k m synced)) reads
 
-synced-read : (told cache : List ℕ) (a : Archive) (old new : Option Content) → Told IsOnlySynced old new → ReadsWith told a old → ReadsWith cache a new → ReadsWith cache a old
+synced-read : (told cache : List ℕ) (a : Archive) (old new : Option Content) → BothTold IsOnlySynced old new → ReadsWith told a old → ReadsWith cache a new → ReadsWith cache a old
 synced-read told cache a None new synced was reads = absurd was
 synced-read told cache a (Some k) None synced was reads = absurd synced
 synced-read told cache a (Some k) (Some m) synced was reads = subst (λ (files : Files). RecoversWith cache files a) (synced-same k m synced) reads
 
-synced-stands : (cache : List ℕ) (a : Archive) (old new : Option Content) (image : Files) → Told IsOnlySynced old new → ReadsWith cache a old → Image new image → RecoversWith cache image a
+synced-stands : (cache : List ℕ) (a : Archive) (old new : Option Content) (image : Files) → BothTold IsOnlySynced old new → ReadsWith cache a old → Image new image → RecoversWith cache image a
 synced-stands cache a None new image synced reads now = absurd reads
 synced-stands cache a (Some k) None image synced reads now = absurd synced
 synced-stands cache a (Some k) (Some m) image synced reads now =
@@ -157,9 +157,9 @@ all-images cache may (Some k) all image now = all image now
 module _ {D : Type 0} (content : D → Option Content) (moment : D → ℕ) (left_since : D → ℕ → Files → Type 0)
     (counts_now : (disk : D) (t : ℕ) (image : Files) → t ≤ moment disk → Image (content disk) image → left_since disk t image)
     (only_now : (disk : D) (image : Files) → left_since disk (moment disk) image → Image (content disk) image) (reads_fit : (disk : D) → ReadsFit (content disk))
-    (holds_left : (k : Owning D) (a : Archive) (may : List (Option Archive)) → Holds content k a → Contains may (Some a) → Leaves content moment left_since k k may) where
+    (holds_left : (k : Owning D) (a : Archive) (may : List (Option Archive)) → HoldsArchive content k a → Contains may (Some a) → Leaves content moment left_since k k may) where
   -- How the disk of an engine stands that fits a standing.
-  fits-stand : (k : Owning D) (s : Standing) → Fits (Holds content) (Rests content) is_ready (Leaves content moment left_since) k s → (cache : List ℕ) × AllRecoverOrBare cache (one_of s) (content k.disk)
+  fits-stand : (k : Owning D) (s : LastKnown) → MatchesKnown (HoldsArchive content) (FilesAre content) is_ready (Leaves content moment left_since) k s → (cache : List ℕ) × AllRecoverOrBare cache (one_of s) (content k.disk)
   fits-stand k s fits =
       let now = fits.left (one_of s) (has-own s) in
       (now.1.0, all_or_bare s now.1.0 (content k.disk) (λ image is. now.1.1 image (counts_now k.disk (moment k.disk) image (omega arith) is)))
@@ -173,15 +173,15 @@ module _ {D : Type 0} (content : D → Option Content) (moment : D → ℕ) (lef
 
   -- Before some turns it stood for the archive of that moment, and a crash since then leaves that one
   -- or a later one.
-  stood-first : (es : List Arrival) (w : World) (ms : List (Stage (Owning D))) (ts : List Turn) (v : World) (k m : Owning D) → Served es w ts v → Fits (Holds content) (Rests content) is_ready (Leaves content moment left_since) k w.standing → StepsTo (Holds content) (Rests content) is_ready (Leaves content moment left_since) k w.standing ms ts m
+  stood-first : (es : List Arrival) (w : NodeState) (ms : List (Stage (Owning D))) (ts : List Turn) (v : NodeState) (k m : Owning D) → Served es w ts v → MatchesKnown (HoldsArchive content) (FilesAre content) is_ready (Leaves content moment left_since) k w.standing → StepsTo (HoldsArchive content) (FilesAre content) is_ready (Leaves content moment left_since) k w.standing ms ts m
       → StoodFor content moment left_since w.standing ts m.disk
   stood-first es w ms ts v k m run fits steps =
       let may = archives_of (w.standing ∷ passed_in ts) in
       let own = all-own (w.standing ∷ passed_in ts) in
-      let left = steps-pass (Holds content) (Rests content) is_ready (Leaves content moment left_since) es w ms ts v k m run steps (here k) may own (from-here k may (fits.left may own.0)) in
-      record { at = k.disk; stood = fits-stand k w.standing fits; rested = fits.exact; crash = (left.1.0, record { later = left.0; each = left.2 left.1.0 left.1.1 }); between = left.3 refl }
+      let left = steps-pass (HoldsArchive content) (FilesAre content) is_ready (Leaves content moment left_since) es w ms ts v k m run steps (here k) may own (from-here k may (fits.left may own.0)) in
+      record { at = k.disk; stood = fits-stand k w.standing fits; rested = fits.exact; crash = (left.1.0, record { later = left.0; each = left.2 left.1.0 left.1.1 }); crash_between = left.3 refl }
 
-  stood-at : (es : List Arrival) (w : World) (ms : List (Stage (Owning D))) (ts : List Turn) (v : World) (k m : Owning D) → Served es w ts v → Fits (Holds content) (Rests content) is_ready (Leaves content moment left_since) k w.standing → StepsTo (Holds content) (Rests content) is_ready (Leaves content moment left_since) k w.standing ms ts m
+  stood-at : (es : List Arrival) (w : NodeState) (ms : List (Stage (Owning D))) (ts : List Turn) (v : NodeState) (k m : Owning D) → Served es w ts v → MatchesKnown (HoldsArchive content) (FilesAre content) is_ready (Leaves content moment left_since) k w.standing → StepsTo (HoldsArchive content) (FilesAre content) is_ready (Leaves content moment left_since) k w.standing ms ts m
       → (earlier later : List Turn) → ts ≡ earlier ++ later → StoodFor content moment left_since (last_world w earlier).standing later m.disk
   stood-at es w ms ts v k m run fits steps [] later is = subst (λ (us : List Turn). StoodFor content moment left_since w.standing us m.disk) is (stood-first es w ms ts v k m run fits steps)
   stood-at [] w ms [] v k m run fits steps (t ∷ earlier) later is = absurd (cc is)
@@ -193,15 +193,15 @@ module _ {D : Type 0} (content : D → Option Content) (moment : D → ℕ) (lef
       subst (λ (x : Turn). StoodFor content moment left_since (last_world x.after earlier).standing later m.disk) same (stood-at es u.after ms us v x.node.keep m run.1 steps.0 steps.2 earlier later (cc is))
 
   -- An archive was opened, and events were served by a node.
-  pub served-on : RecoversSomeOne → CachesOne → FollowsItself → CommandFollows → (a : Archive) (cache : List ℕ) (old : D) (e : Owning D) (node new : Serving (Owning D)) (arrivals : List Arrival) (stages : List (Stage (Owning D))) (o p : Outer) → node.keep ≡ e → IsStoreWith e.view cache a (content e.disk) → e.views ≡ views_of (live a.entries) → WhereTold IsSettled (content e.disk)
+  pub served-on : RecoversSomeOne → CachesOne → FollowsItself → CommandFollows → (a : Archive) (cache : List ℕ) (old : D) (e : Owning D) (node new : Serving (Owning D)) (arrivals : List Arrival) (stages : List (Stage (Owning D))) (o p : HostState) → node.keep ≡ e → IsStoreWith e.view cache a (content e.disk) → e.views ≡ views_of (live a.entries) → WhereTold IsSettled (content e.disk)
       → SyncsFirst content moment left_since old e.disk
-      → RunsBetween content moment left_since old e.disk → Told WentBetween (content old) (content e.disk)
-      → ((t : Standing) → Fits (Holds content) (Rests content) is_ready (Leaves content moment left_since) node.keep t → RunsTo (Holds content) (Rests content) is_ready (Leaves content moment left_since) arrivals t node o stages new p) → ReadsWith cache a (content old)
+      → RunsBetween content moment left_since old e.disk → BothTold WentBetween (content old) (content e.disk)
+      → ((t : LastKnown) → MatchesKnown (HoldsArchive content) (FilesAre content) is_ready (Leaves content moment left_since) node.keep t → RunsTo (HoldsArchive content) (FilesAre content) is_ready (Leaves content moment left_since) arrivals t node o stages new p) → ReadsWith cache a (content old)
       → ServedOn content moment left_since a old e.disk new.keep.disk arrivals (disk-stage (stage node o)) (disk-stages stages) (disk-stage (stage new p))
-  served-on one caches itself commands a cache old e node new arrivals stages o p keep store rows still sync beside went runs reads =
-      let held : Holds content e a = (cache, store, rows, still) in
-      let start : Fits (Holds content) (Rests content) is_ready (Leaves content moment left_since) node.keep (standing a None) =
-      subst (λ (k : Owning D). Fits (Holds content) (Rests content) is_ready (Leaves content moment left_since) k (standing a None)) (sym keep) (fits-held (Holds content) (Rests content) is_ready (Leaves content moment left_since) (λ k b own. (k.view, own.0, own.1, own.3)) holds_left e a held) in
+  served-on one caches itself commands a cache old e node new arrivals stages o p keep store rows still sync crash_beside went runs reads =
+      let held : HoldsArchive content e a = (cache, store, rows, still) in
+      let start : MatchesKnown (HoldsArchive content) (FilesAre content) is_ready (Leaves content moment left_since) node.keep (standing a None) =
+      subst (λ (k : Owning D). MatchesKnown (HoldsArchive content) (FilesAre content) is_ready (Leaves content moment left_since) k (standing a None)) (sym keep) (fits-held (HoldsArchive content) (FilesAre content) is_ready (Leaves content moment left_since) (λ k b own. (k.view, own.0, own.1, own.3)) holds_left e a held) in
       let run = runs (standing a None) start in
       let first = world_of (standing a None) (places_in node) o in
       let last = world_of run.after (places_in new) p in
@@ -209,7 +209,7 @@ module _ {D : Type 0} (content : D → Option Content) (moment : D → ℕ) (lef
       let narrow = archives_of (standing a None ∷ more) in
       let halted : Owning D = record e { disk = sync.synced; stale = true } in
       let one-from = sync.after a cache reads in
-      let from : (c : List ℕ) → ReadsWith c a (content old) → LeftWith left_since sync.synced (moment sync.synced) c narrow =
+      let from : (c : List ℕ) → ReadsWith c a (content old) → LeftWithCache left_since sync.synced (moment sync.synced) c narrow =
       λ c is image now. inl (Some a, (0, omega arith, refl), synced-stands c a (content old) (content sync.synced) image sync.only is (only_now sync.synced image now)) in
       let after : Leaves content moment left_since halted e narrow = (
         one-from.later,
@@ -229,7 +229,7 @@ module _ {D : Type 0} (content : D → Option Content) (moment : D → ℕ) (lef
         served = run.served;
         at = at-disk stages run.turns run.at;
         stands = fits-stand new.keep run.after run.fits;
-        rests = λ none_in c is.
+        files_are = λ none_in c is.
             let exact = run.fits.exact none_in in
             let own = cache_is caches exact.0 exact.1 run.after.archive (content new.keep.disk) (reads_fit new.keep.disk) exact.2 c narrow (λ image now. kept.2 c (from c is) image (counts_now new.keep.disk (moment sync.synced) image kept.0 now)) in
             (exact.0, exact.1, own, exact.2, exact.3);
@@ -240,13 +240,13 @@ module _ {D : Type 0} (content : D → Option Content) (moment : D → ℕ) (lef
         crash = λ may known has-found all.
             let wide = may ++ archives_of more in
             let begun : Owning D = record e { disk = old; stale = false } in
-            let at-old : LeftWith left_since old (moment old) known wide = λ image now. inl (all-images known wide (content old) (widened known may (archives_of more) (content old) all) image (only_now old image now)) in
+            let at-old : LeftWithCache left_since old (moment old) known wide = λ image now. inl (all-images known wide (content old) (widened known may (archives_of more) (content old) all) image (only_now old image now)) in
             let still-old : Leaves content moment left_since begun begun wide = (omega arith, (known, at-old), λ c covers. covers, λ ready image now. between_image (content old) image (only_now old image now)) in
-            let since : Leaves content moment left_since begun e wide = reopening-from content moment left_since counts_now only_now reads_fit one begun e (inr sync, beside) a cache reads begun wide still-old in
-            let has : HasAll wide (standing a None ∷ more) = (record { archive = Contains-append_left may (archives_of more) (Some a) has-found; doubt = tt }, all-later may (archives_of more) more (all-own more)) in
+            let since : Leaves content moment left_since begun e wide = reopening-from content moment left_since counts_now only_now reads_fit one begun e (inr sync, crash_beside) a cache reads begun wide still-old in
+            let has : HasAll wide (standing a None ∷ more) = (record { archive = Contains-append_left may (archives_of more) (Some a) has-found; in_doubt = tt }, all-later may (archives_of more) more (all-own more)) in
             let left = run.passes begun wide has (subst (λ (k : Owning D). Leaves content moment left_since begun k wide) (sym keep) since) in
             (record { later = left.0; each = left.2 known at-old }, left.3 refl);
-        between = record { later = since-opened.0; each = λ image left. between_then (content old) (content e.disk) image went (since-opened.3 refl image left) };
+        crash_between = record { later = since-opened.0; each = λ image left. between_then (content old) (content e.disk) image went (since-opened.3 refl image left) };
         stood = λ earlier later is. stood-at arrivals first stages run.turns last node.keep new.keep run.served start run.steps earlier later is;
         numbers = served-follows itself commands arrivals first run.turns last run.served (λ b is. absurd (cc is));
       }

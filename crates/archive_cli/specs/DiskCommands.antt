@@ -2,15 +2,15 @@
 -- `deliver`, `remove`, `purge` and `edit` are such commands.
 use Rattle.std.specs.Prelude.{◌≡◌, ◌⊎◌, ℕ, true, List, length, Option, None, Ok, Err}
 use Rattle.arch_base.specs.declared.config.Config.{Config}
-use Rattle.disk_model.specs.Disk.{Files, Content, Image, Told, WhereTold, LeavesOnly}
+use Rattle.disk_model.specs.Disk.{Files, Content, Image, BothTold, WhereTold, LeavesOnly}
 use Rattle.disk_model.specs.Synced.{IsSettled}
 use Rattle.root_slots.specs.RootName.{root_name}
 use Rattle.root_slots.specs.Slots.{HasFirstRoot, IsShutFile}
 use Rattle.root_slots.specs.Spelling.{spelling}
 use Rattle.arch_model.specs.Archives.{Archive, empty_archive, live as live_entries}
 use Rattle.arch_model.specs.Delivery.{Done, delivered, removed, purged, edited, applied}
-use Rattle.arch_model.specs.Keeping.{Settles, Comes}
-use Rattle.arch_model.specs.Standing.{Standing, standing, one_of, IsFound}
+use Rattle.arch_model.specs.Keeping.{Settles, CommandGives}
+use Rattle.arch_model.specs.Standing.{LastKnown, standing, one_of, IsFound}
 use Rattle.arch_model.specs.declared.command.Command.{Command}
 use Rattle.arch_model.specs.declared.answer.Answer.{Answer}
 use Rattle.arch_model.specs.declared.answer.Answer.TheVariants as answer
@@ -19,9 +19,9 @@ use Rattle.arch_model.specs.declared.opening.OpenRefusal.TheVariants as refusal
 use Rattle.epoch_store.specs.declared.refusal.InitRefusal.{InitRefusal}
 use Rattle.epoch_store.specs.declared.refusal.InitRefusal.TheVariants as making
 use Rattle.epoch_store.specs.First.{first_root_of}
-use Rattle.epoch_store.specs.Promises.{Way, cache_by}
-use Rattle.epoch_store.specs.Opens.{IsOnlySynced, Opens, ReadsWith, SyncsThen}
-use Rattle.store_finding.specs.Kept.{View, IsStoreWith, IsDiskOf}
+use Rattle.epoch_store.specs.Promises.{WriteKind, cache_by}
+use Rattle.epoch_store.specs.Opens.{IsOnlySynced, OpensFiles, ReadsWith, SyncsThen}
+use Rattle.store_finding.specs.Kept.{StoreState, IsStoreWith, IsDiskOf}
 use Rattle.epoch_store.specs.Commands.{RecoversOneOf}
 use Rattle.archive_core.specs.Commands.{DoneBy}
 use Rattle.archive_core.specs.Engines.{AllRecoverOrBare}
@@ -30,27 +30,27 @@ use Rattle.archive_cli.specs.declared.outcome.Outcome.TheVariants.{Made, Exists,
 
 -- A disk that is told is the own one of an archive with a cache of these bytes: each crash leaves files
 -- that stand for the archive, and the files are exactly those of the archive.
-abbrev pub IsOwn : List ℕ → Archive → Option Content → Type 0
-IsOwn cache a content = (v : View) × IsStoreWith v cache a content
+abbrev pub IsOwnDisk : List ℕ → Archive → Option Content → Type 0
+IsOwnDisk cache a content = (v : StoreState) × IsStoreWith v cache a content
 
 -- A disk is the own one of an archive of these settings without entries. The root file has its first
 -- root, in the first slot, and is otherwise zeros. All that reads give is on the disk.
-pub record IsMade (config : Config) (k : Content) : Type 0 where
-  pub own : (v : View) × IsDiskOf v (empty_archive config) k
+pub record IsMadeDisk (config : Config) (k : Content) : Type 0 where
+  pub own : (v : StoreState) × IsDiskOf v (empty_archive config) k
   pub rooted : HasFirstRoot (spelling (first_root_of config)) k
   pub settled : IsSettled k
 
 -- How `init` ends. An archive is made if no slot is open, and the disk is its own. Otherwise there
 -- is one already, or memory ran out, and the disk is synced and nothing more; or the disk failed.
-abbrev pub Makes : Config → Outcome → Option Content → Option Content → Type 0
-Makes config (Made name) old new = (name ≡ config.name)
+abbrev pub MakesDisk : Config → Outcome → Option Content → Option Content → Type 0
+MakesDisk config (Made name) old new = (name ≡ config.name)
     × WhereTold (λ k. IsShutFile (k root_name).seen) old
-    × WhereTold (IsMade config) new
-Makes config Exists old new = WhereTold (λ k. IsShutFile (k root_name).seen → ⊥) old
-    × Told IsOnlySynced old new
-Makes config (Answered answer.DiskFault) old new = Unit {0}
-Makes config (Answered answer.NoMemory) old new = Told IsOnlySynced old new
-Makes config other old new = ⊥
+    × WhereTold (IsMadeDisk config) new
+MakesDisk config Exists old new = WhereTold (λ k. IsShutFile (k root_name).seen → ⊥) old
+    × BothTold IsOnlySynced old new
+MakesDisk config (Answered answer.DiskFault) old new = Unit {0}
+MakesDisk config (Answered answer.NoMemory) old new = BothTold IsOnlySynced old new
+MakesDisk config other old new = ⊥
 
 -- How `init` ends if no archive is made.
 abbrev pub unmade : InitRefusal → Outcome
@@ -82,8 +82,8 @@ editing number bytes moment a = edited a number bytes moment
 -- The answer is the definition's, and the disk is then its archive's own, with the cache that this kind
 -- of command leaves; out of memory the archive is unchanged, after a fault of the disk it has to be
 -- reopened, and no answer is about a damaged file.
-abbrev pub TakesTo : Way → List ℕ → Archive → Done → Outcome → Option Content → Type 0
-TakesTo way cache a wanted (Answered reply) new = (v : View)
+abbrev pub TakesTo : WriteKind → List ℕ → Archive → Done → Outcome → Option Content → Type 0
+TakesTo way cache a wanted (Answered reply) new = (v : StoreState)
     × DoneBy v cache (cache_by way cache) a wanted reply new
 TakesTo way cache a wanted (Unopened refusal.DiskFault) new = Unit {0}
 TakesTo way cache a wanted (Unopened refusal.NoMemory) new = ReadsWith cache a new
@@ -92,7 +92,7 @@ TakesTo way cache a wanted other new = ⊥
 -- How `reindex` ends on the disk of an archive with a cache of these bytes.
 abbrev pub ReindexesTo : List ℕ → Archive → Outcome → Option Content → Type 0
 ReindexesTo cache a (Reindexed live) new = (live ≡ length (live_entries a.entries))
-    × IsOwn cache a new
+    × IsOwnDisk cache a new
 ReindexesTo cache a (Unopened refusal.DiskFault) new = Unit {0}
 ReindexesTo cache a (Unopened refusal.NoMemory) new = ReadsWith cache a new
 ReindexesTo cache a other new = ⊥
@@ -100,7 +100,7 @@ ReindexesTo cache a other new = ⊥
 -- How `check` ends on the disk of an archive with a cache of these bytes.
 abbrev pub ChecksTo : List ℕ → Archive → Outcome → Option Content → Type 0
 ChecksTo cache a (Checked entries live next) new = (entries ≡ length a.entries)
-    × (live ≡ length (live_entries a.entries)) × (next ≡ a.next) × IsOwn cache a new
+    × (live ≡ length (live_entries a.entries)) × (next ≡ a.next) × IsOwnDisk cache a new
 ChecksTo cache a (Unopened refusal.DiskFault) new = Unit {0}
 ChecksTo cache a (Unopened refusal.NoMemory) new = ReadsWith cache a new
 ChecksTo cache a other new = ⊥
@@ -108,11 +108,11 @@ ChecksTo cache a other new = ⊥
 -- How a run on opened files ends, whether or not they stand for an archive: with the refusal to
 -- open them, or with what was done with what was found.
 abbrev pub IsOpenedAs : Files → Outcome → Type 0
-IsOpenedAs files (Unopened why) = Opens files (Err why)
-IsOpenedAs files (Reindexed live) = (v : View) × Opens files (Ok v)
-IsOpenedAs files (Checked entries live next) = (v : View) × Opens files (Ok v)
+IsOpenedAs files (Unopened why) = OpensFiles files (Err why)
+IsOpenedAs files (Reindexed live) = (v : StoreState) × OpensFiles files (Ok v)
+IsOpenedAs files (Checked entries live next) = (v : StoreState) × OpensFiles files (Ok v)
     × (entries ≡ length v.entries) × (next ≡ v.root.next)
-IsOpenedAs files (Answered reply) = (v : View) × Opens files (Ok v)
+IsOpenedAs files (Answered reply) = (v : StoreState) × OpensFiles files (Ok v)
 IsOpenedAs files (Made name) = ⊥
 IsOpenedAs files Exists = ⊥
 
@@ -136,7 +136,7 @@ IsCheck other = ⊥
 
 -- Each crash of the disk leaves files that stand for the archive of a standing, or for the one in
 -- doubt there, with a cache of these bytes or with none. A purge and an edit drop the cache.
-abbrev pub StandsAs : List ℕ → Standing → Option Content → Type 0
+abbrev pub StandsAs : List ℕ → LastKnown → Option Content → Type 0
 StandsAs cache s content = AllRecoverOrBare cache (one_of s) content
 
 -- A disk that tells its content reads as files that stand for an archive, with whatever cache.
@@ -145,41 +145,41 @@ IsReadAs a content = (cache : List ℕ) × ReadsWith cache a content
 
 -- How a refused opening leaves a disk that stood so. After the disk failed it stands as before; after
 -- memory ran out it is the archive as which it read.
-abbrev pub StaysUnopened : Standing → Option Content → OpenRefusal → Standing → Type 0
+abbrev pub StaysUnopened : LastKnown → Option Content → OpenRefusal → LastKnown → Type 0
 StaysUnopened s old refusal.DiskFault t = t ≡ s
 StaysUnopened s old refusal.NoMemory t = Settles s t × IsReadAs t.archive old
 StaysUnopened s old refusal.NoArchive t = ⊥
 StaysUnopened s old (refusal.Damaged file at) t = ⊥
 
 -- A command was answered on the archive that was found, which is the one as which the disk read.
-pub record TakenOn (s : Standing) (old : Option Content) (wanted : Archive → Done)
-    (reply : Answer) (t : Standing) : Type 0 where
+pub record TakenOn (s : LastKnown) (old : Option Content) (wanted : Archive → Done)
+    (reply : Answer) (t : LastKnown) : Type 0 where
   pub found : Archive
   pub is_found : IsFound s found
   pub reads : IsReadAs found old
-  pub comes : Comes true (standing found None) wanted reply t
+  pub comes : CommandGives true (standing found None) wanted reply t
 
 -- How a command leaves a disk that stood so.
-abbrev pub TakesOn : Standing → Option Content → (Archive → Done) → Outcome → Standing → Type 0
-TakesOn s old wanted (Answered reply) t = TakenOn s old wanted reply t
-TakesOn s old wanted (Unopened why) t = StaysUnopened s old why t
-TakesOn s old wanted other t = ⊥
+abbrev pub CommandTakes : LastKnown → Option Content → (Archive → Done) → Outcome → LastKnown → Type 0
+CommandTakes s old wanted (Answered reply) t = TakenOn s old wanted reply t
+CommandTakes s old wanted (Unopened why) t = StaysUnopened s old why t
+CommandTakes s old wanted other t = ⊥
 
 -- How `reindex` leaves a disk that stood so.
-abbrev pub ReindexesOn : Standing → Option Content → Outcome → Standing → Type 0
+abbrev pub ReindexesOn : LastKnown → Option Content → Outcome → LastKnown → Type 0
 ReindexesOn s old (Reindexed live) t = Settles s t × IsReadAs t.archive old
 ReindexesOn s old (Unopened why) t = StaysUnopened s old why t
 ReindexesOn s old other t = ⊥
 
 -- How `check` leaves a disk that stood so.
-abbrev pub ChecksOn : Standing → Option Content → Outcome → Standing → Type 0
+abbrev pub ChecksOn : LastKnown → Option Content → Outcome → LastKnown → Type 0
 ChecksOn s old (Checked entries live next) t = Settles s t × IsReadAs t.archive old
 ChecksOn s old (Unopened why) t = StaysUnopened s old why t
 ChecksOn s old other t = ⊥
 
 -- The files stand for the archive that was found, with its cache, or for what a command makes of it,
 -- with the cache that this kind of command leaves.
-abbrev pub LeavesEither : Way → (Archive → Done) → List ℕ → Archive → Files → Type 0
+abbrev pub LeavesEither : WriteKind → (Archive → Done) → List ℕ → Archive → Files → Type 0
 LeavesEither way wanted cache found image =
     RecoversOneOf cache found (cache_by way cache) (wanted found).archive image
 

@@ -2,7 +2,7 @@
 use Rattle.std.specs.Prelude.{◌≡◌, ◌⊎◌, ℕ, List, Some}
 use Rattle.arch_base.specs.declared.config.Config.{Config}
 use Rattle.disk_model.specs.Disk.{Files, Content, Image}
-use Rattle.edge_io.specs.Coming.{IsFirst}
+use Rattle.edge_io.specs.Coming.{IsFirstMoment}
 use Rattle.edge_io.specs.Scripts.{Arrival}
 use Rattle.arch_model.specs.Archives.{Archive, empty_archive, live, text_of}
 use Rattle.arch_model.specs.Delivery.{delivered, removed, purged, edited}
@@ -10,7 +10,7 @@ use Rattle.arch_model.specs.Following.{Follows}
 use Rattle.store_finding.specs.Recovery.{Recovers}
 use Rattle.archive_cli.specs.declared.words.Job.TheVariants.{Init, Deliver, Remove, Purge, Edit}
 use Rattle.archive_cli.specs.Words.{AsksFor}
-use Rattle.archive_cli.specs.Program.{Edges, RanTo, IsInput, AsksForInit, AsksOfArchive, AsksForEdit, AsksForPurge, message_of, made_at}
+use Rattle.archive_cli.specs.Program.{RunState, RanTo, IsInput, AsksForInit, AsksOfArchive, AsksForEdit, AsksForPurge, message_of, made_at}
 use Rattle.archive_cli.specs.Turns.{Transcript, plain_transcript}
 
 -- What the plain function prints of a script is a transcript of it: the one in which no allocation
@@ -21,21 +21,21 @@ PlainIsTranscript = (config : Config) (arrivals : List Arrival)
 
 -- The words ask for a delivery, and the archive is one with the message on the input of these edges,
 -- at their first moment to come.
-pub record WithMessage (words : List (List ℕ)) (i : Edges) (old new : Archive) : Type 0 where
+pub record WithMessage (words : List (List ℕ)) (i : RunState) (old new : Archive) : Type 0 where
   pub asked : AsksFor words Deliver
   pub input : List ℕ
   pub told : IsInput i.left input
   pub at : ℕ
-  pub first : IsFirst at i.coming
+  pub first : IsFirstMoment at i.coming
   pub is : new ≡ (delivered old (message_of input) at).archive
 
 -- The words ask for a removal, and the archive is one in which it was done at the first moment to
 -- come of these edges.
-pub record WithRemoval (words : List (List ℕ)) (i : Edges) (old new : Archive) : Type 0 where
+pub record WithRemoval (words : List (List ℕ)) (i : RunState) (old new : Archive) : Type 0 where
   pub number : ℕ
   pub asked : AsksFor words (Remove number)
   pub at : ℕ
-  pub first : IsFirst at i.coming
+  pub first : IsFirstMoment at i.coming
   pub is : new ≡ (removed old number at).archive
 
 -- The words ask for a purge, and the archive is one in which it was done.
@@ -46,19 +46,19 @@ pub record WithPurge (words : List (List ℕ)) (old new : Archive) : Type 0 wher
 
 -- The words ask for an edit, and the archive is one in which it was done with the message on the input
 -- of these edges, at their first moment to come.
-pub record WithEdit (words : List (List ℕ)) (i : Edges) (old new : Archive) : Type 0 where
+pub record WithEdit (words : List (List ℕ)) (i : RunState) (old new : Archive) : Type 0 where
   pub number : ℕ
   pub asked : AsksFor words (Edit number)
   pub input : List ℕ
   pub told : IsInput i.left input
   pub at : ℕ
-  pub first : IsFirst at i.coming
+  pub first : IsFirstMoment at i.coming
   pub is : new ≡ (edited old number (message_of input) at).archive
 
 -- The archive is the same, as after a reindexing or a check, or what the command of the words makes of
 -- it. Each live number keeps its text, unless the words ask to remove that number, or for a purge or
 -- an edit. No number names a second message.
-pub record Goes (words : List (List ℕ)) (i : Edges) (old new : Archive) : Type 0 where
+pub record Goes (words : List (List ℕ)) (i : RunState) (old new : Archive) : Type 0 where
   pub from : (new ≡ old) ⊎ (WithMessage words i old new ⊎ (WithRemoval words i old new
       ⊎ (WithPurge words old new ⊎ WithEdit words i old new)))
   pub texts : (n : ℕ) (text : List ℕ) → (AsksFor words (Remove n) → ⊥)
@@ -68,12 +68,12 @@ pub record Goes (words : List (List ℕ)) (i : Edges) (old new : Archive) : Type
 
 -- Files stand for an archive that two jobs in order make of one without messages, which was made with
 -- the first words.
-pub record IsLeft (first second third : List (List ℕ)) (i k m : Edges) (image : Files)
+pub record IsLeft (first second third : List (List ℕ)) (i k m : RunState) (image : Files)
     : Type 0 where
   pub config : Config
   pub asked : AsksFor first (Init config)
   pub born : ℕ
-  pub is_born : IsFirst born i.coming
+  pub is_born : IsFirstMoment born i.coming
   pub one : Archive
   pub to_one : Goes second k (empty_archive (made_at config born)) one
   pub two : Archive
@@ -86,7 +86,7 @@ pub record IsLeft (first second third : List (List ℕ)) (i k m : Edges) (image 
 -- archive, or the one without messages, and each crash after it leaves that one or what the second
 -- one makes of it.
 abbrev pub RunsInARow : Type 0
-RunsInARow = (first second third : List (List ℕ)) (a b : ℕ) (i j k l m n : Edges) (made : Content)
+RunsInARow = (first second third : List (List ℕ)) (a b : ℕ) (i j k l m n : RunState) (made : Content)
     → AsksForInit first → RanTo first 0 i j → j.content ≡ Some made
     → k.content ≡ Some made → AsksOfArchive second → RanTo second a k l
     → m.content ≡ l.content → AsksOfArchive third → RanTo third b m n

@@ -1,5 +1,4 @@
 pub mod Words
-pub mod Options
 pub mod Loading
 pub mod Turns
 pub mod Serving
@@ -10,3 +9,4 @@ pub mod Statuses
 pub mod Outcomes
 pub mod DiskCommands
 pub mod OpenedFiles
+pub mod Options

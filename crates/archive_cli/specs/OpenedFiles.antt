@@ -1,13 +1,13 @@
 -- What a run leaves of files that it opened, or couldn't open, whatever they held.
 use Rattle.std.specs.Prelude.{◌≡◌, ◌-◌, Option, Ok}
-use Rattle.disk_model.specs.Disk.{Content, Told, WhereTold}
+use Rattle.disk_model.specs.Disk.{Content, BothTold, WhereTold}
 use Rattle.disk_model.specs.Synced.{IsSettled}
 use Rattle.root_slots.specs.Slots.{HasNewRoot}
 use Rattle.root_slots.specs.Spelling.{spelling}
 use Rattle.store_finding.specs.Files.{as_read}
-use Rattle.epoch_store.specs.Opens.{Opens}
-use Rattle.epoch_store.specs.Promises.{Way, GoesOnBy}
-use Rattle.store_finding.specs.Kept.{View}
+use Rattle.epoch_store.specs.Opens.{OpensFiles}
+use Rattle.epoch_store.specs.Promises.{WriteKind, GoesOnBy}
+use Rattle.store_finding.specs.Kept.{StoreState}
 use Rattle.archive_core.specs.Commands.{OnDone, OnRefusal, UnlessFault}
 use Rattle.archive_core.specs.Openings.{LeavesKindly, SettlesOpened}
 use Rattle.archive_cli.specs.declared.outcome.Outcome.{Outcome}
@@ -22,18 +22,20 @@ OnlySettled old new = SettlesOpened old new
 -- One root was committed after the one that was found: the root file has it in the other slot, whose
 -- gate is open, and is otherwise as it was. It goes on from the root that was found, with these of its
 -- files, and all that reads give is on the disk.
-pub record CommitsOne (way : Way) (keeps : View → View → Type 0) (found : View)
+pub record CommitsOne (way : WriteKind) (keeps : StoreState → StoreState → Type 0) (found : StoreState)
     (old new : Option Content) : Type 0 where
-  pub made : View
+  pub made : StoreState
   pub kept : keeps found made
   pub goes_on : GoesOnBy way found.root made.root
   pub slot : made.slot ≡ 1 - found.slot
-  pub rooted : Told (HasNewRoot made.slot (spelling made.root)) old new
+  pub rooted : BothTold (HasNewRoot made.slot (spelling made.root)) old new
   pub settled : WhereTold IsSettled new
 
 -- The same of the root of the files, which were opened.
-abbrev pub CommitsOpened : Way → (View → View → Type 0) → Option Content → Option Content → Type 0
-CommitsOpened way keeps old new = (found : View) × WhereTold (λ k. Opens (as_read k) (Ok found)) old
+abbrev pub CommitsOpened : WriteKind → (StoreState → StoreState → Type 0) → Option Content
+    → Option Content → Type 0
+CommitsOpened way keeps old new = (found : StoreState)
+    × WhereTold (λ k. OpensFiles (as_read k) (Ok found)) old
     × CommitsOne way keeps found old new
 
 -- What a run leaves that commits no root. What can't be opened is left alone: without an archive, and
@@ -49,7 +51,8 @@ LeavesFiles (Made name) old new = Unit {0}
 LeavesFiles Exists old new = Unit {0}
 
 -- A command that was done commits one root.
-abbrev pub CommitsIfDone : Way → (View → View → Type 0) → Outcome → Option Content → Option Content
+abbrev pub CommitsIfDone : WriteKind → (StoreState → StoreState → Type 0) → Outcome → Option Content
+    → Option Content
     → Type 0
 CommitsIfDone way keeps (Answered reply) old new = OnDone reply (CommitsOpened way keeps old new)
 CommitsIfDone way keeps other old new = Unit {0}

@@ -1,8 +1,8 @@
--- The results of the code that reads options.
+-- Private: the results of the code that reads options.
 use Rattle.std.specs.Prelude.{◌≡◌, ◌<◌, ◌⊎◌, ℕ, Bool, true, false, List, [], ◌∷◌, ◌++◌, map, length, All, Option, Some, None}
 use Rattle.std.specs.Option.{option_to_list, unwrap_or}
 use Rattle.arch_base.specs.declared.config.Config.{Config}
-use Rattle.archive_cli.specs.Words.{setting_word, Gives, IsSetting, IsMade, EachOnce, limit_of, slice_of, max_of, mirror_of, limits, slices, maxes, mirrors}
+use Rattle.archive_cli.specs.Words.{setting_word, GivesServing, IsSetting, AreMakingWords, EachOnce, limit_of, slice_of, max_of, mirror_of, limits, slices, maxes, mirrors}
 use Rattle.archive_cli.specs.declared.words.Job.{Job}
 use Rattle.archive_cli.specs.declared.words.Job.TheVariants.{Serve}
 use Rattle.archive_cli.specs.declared.words.ServeOption.{ServeOption}
@@ -15,7 +15,7 @@ marks true = true ∷ []
 marks false = []
 
 -- The held values are those that the settings give, kind by kind.
-pub record Holds (settings : List Setting) (held : Settings) : Type 0 where
+pub record HoldsSettings (settings : List Setting) (held : Settings) : Type 0 where
   pub limit_is : limits settings ≡ option_to_list held.limit
   pub slice_is : slices settings ≡ option_to_list held.slice
   pub max_is : maxes settings ≡ option_to_list held.max
@@ -46,7 +46,7 @@ pub record Collects (words : List (List ℕ)) (held : Settings) : Type 0 where
   pub settings : List Setting
   pub is : words ≡ map setting_word settings
   pub ranges : All IsSetting settings
-  pub holds : Holds settings held
+  pub holds : HoldsSettings settings held
 
 -- The settings that words spell, or none if they spell none, or two of one kind.
 abbrev pub IsCollected : List (List ℕ) → Option Settings → Type 0
@@ -68,12 +68,12 @@ config_by name held = record {
 -- The settings of the archive that words give, or none if they aren't a name with settings after
 -- it.
 abbrev pub IsConfigured : List (List ℕ) → Option Config → Type 0
-IsConfigured words (Some config) = (settings : List Setting) × IsMade words settings config
+IsConfigured words (Some config) = (settings : List Setting) × AreMakingWords words settings config
 IsConfigured words None = (settings : List Setting) (config : Config)
-    → IsMade words settings config → ⊥
+    → AreMakingWords words settings config → ⊥
 
 -- The serving that options give, or none if two are of one kind.
 abbrev pub IsServing : List ServeOption → Option Job → Type 0
 IsServing options (Some job) = (turns : ℕ) × (port : ℕ) × (job ≡ Serve turns port)
-    × Gives options turns port
-IsServing options None = (turns port : ℕ) → Gives options turns port → ⊥
+    × GivesServing options turns port
+IsServing options None = (turns port : ℕ) → GivesServing options turns port → ⊥

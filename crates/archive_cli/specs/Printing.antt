@@ -10,7 +10,7 @@ use Rattle.disk_model.specs.Disk.{Content}
 use Rattle.answer_lines.specs.Lines.{whole_line}
 use Rattle.archive_cli.specs.declared.outcome.Outcome.{Outcome}
 use Rattle.archive_cli.specs.Loading.{loaded_line}
-use Rattle.archive_cli.specs.Program.{Edges, NoneFailed, JobEnds, MessageActs, IsSilent, IsInput, input_limit, message_of, PlaysPart, Replays, PlaysShort}
+use Rattle.archive_cli.specs.Program.{RunState, NoneFailed, JobEnds, MessageActs, IsSilent, IsInput, input_limit, message_of, PlaysPart, Replays, PlaysShort}
 use Rattle.edge_io.specs.Left.{before, IsUsedUp}
 use Rattle.archive_cli.specs.Serving.{ServeRun, run_line, run_status}
 use Rattle.archive_cli.specs.Statuses.{code_of}
@@ -85,35 +85,35 @@ IsFrontRead most left faults (Err NoMemory) faults' = faults' ≡ faults
 
 -- The whole input was read, or it is too long, or the source failed. Memory may run out at any
 -- time. The count of faults stays unless the source failed.
-abbrev pub IsRead : Option (List ℕ) → ℕ → Result (List ℕ) InputRefusal → ℕ → Type 0
-IsRead left faults (Ok bytes) faults' = IsInput left bytes × (length bytes ≤ input_limit)
+abbrev pub IsInputRead : Option (List ℕ) → ℕ → Result (List ℕ) InputRefusal → ℕ → Type 0
+IsInputRead left faults (Ok bytes) faults' = IsInput left bytes × (length bytes ≤ input_limit)
     × (faults' ≡ faults)
-IsRead left faults (Err TooLong) faults' = (input : List ℕ) × IsInput left input
+IsInputRead left faults (Err TooLong) faults' = (input : List ℕ) × IsInput left input
     × (input_limit < length input) × (faults' ≡ faults)
-IsRead left faults (Err Fault) faults' = Rose faults faults'
-IsRead left faults (Err NoMemory) faults' = faults' ≡ faults
+IsInputRead left faults (Err Fault) faults' = Rose faults faults'
+IsInputRead left faults (Err NoMemory) faults' = faults' ≡ faults
 
 -- A script on the input was run, and the input didn't fail: what was due is printed. Or the input
 -- failed and nothing is printed.
-abbrev pub Replayed : Config → Status → Edges → Edges → Type 0
+abbrev pub Replayed : Config → Status → RunState → RunState → Type 0
 Replayed config status i j =
     ((input : List ℕ) × IsInput i.left input × (j.unread ≡ i.unread)
     × Printed (IsReplayDue config input) status i.taken i.lost j.taken j.lost)
     ⊎ ((status ≡ exit.Edges) × Rose i.unread j.unread × (j.taken ≡ i.taken) × (j.lost ≡ i.lost))
 
 -- The clock failed: nothing was printed, and the disk is unchanged. The input didn't fail.
-abbrev pub MissesMoment : Status → Edges → Edges → Type 0
+abbrev pub MissesMoment : Status → RunState → RunState → Type 0
 MissesMoment status i j = IsSilent status i j × Rose i.missed j.missed × (j.unread ≡ i.unread)
 
 -- A job over the disk at the clock's moment: what was due by what it did is printed, or the clock
 -- failed.
-abbrev pub JobDone : (ℕ → Option Content → Option Content → Outcome → Type 0) → Status → Edges
-    → Edges → Type 0
+abbrev pub JobDone : (ℕ → Option Content → Option Content → Outcome → Type 0) → Status → RunState
+    → RunState → Type 0
 JobDone did status i j = Printed (JobEnds did after_first i j) status i.taken i.lost j.taken j.lost
     ⊎ MissesMoment status i j
 
 -- The message was not read, because memory ran out. No device failed, and the clock wasn't asked.
-pub record IsUnread (i j : Edges) (status : Status) (printed : List ℕ) : Type 0 where
+pub record IsInputUnread (i j : RunState) (status : Status) (printed : List ℕ) : Type 0 where
   pub status_is : status ≡ exit.Memory
   pub printed_is : printed ≡ whole_line (codes "12 no memory")
   pub kept : j.content ≡ i.content
@@ -121,11 +121,11 @@ pub record IsUnread (i j : Edges) (status : Status) (printed : List ℕ) : Type 
 
 -- The message on the input was to be delivered, or to take the place of a number: what was due is
 -- printed, or the message was not read, or the input failed. The last two leave the clock.
-abbrev pub InputDone : Option ℕ → Status → Edges → Edges → Type 0
+abbrev pub InputDone : Option ℕ → Status → RunState → RunState → Type 0
 InputDone place status i j =
     ((input : List ℕ) × IsInput i.left input
     × JobDone (MessageActs place (message_of input)) status i j)
-    ⊎ (Printed (IsUnread i j) status i.taken i.lost j.taken j.lost
+    ⊎ (Printed (IsInputUnread i j) status i.taken i.lost j.taken j.lost
     ⊎ (IsSilent status i j × Rose i.unread j.unread × (j.missed ≡ i.missed)))
 
 -- What is due of a run of `serve` was printed, or the output failed; and this is the number of the

@@ -3,25 +3,25 @@ use Rattle.std.specs.Prelude.{◌≡◌, ◌<◌, ◌≤◌, ◌⊎◌, ◌+◌,
 use Rattle.arch_base.specs.Counts.{Rose}
 use Rattle.arch_base.specs.declared.config.Config.{Config}
 use Rattle.disk_model.specs.Disk.{Files, Content, WhereTold, LeavesOnly}
-use Rattle.edge_io.specs.Coming.{Moments, IsFirst, after_first}
+use Rattle.edge_io.specs.Coming.{Moments, IsFirstMoment, after_first}
 use Rattle.edge_io.specs.Taken.{plus}
 use Rattle.edge_io.specs.Left.{before}
 use Rattle.edge_io.specs.Scripts.{Arrival, IsScript, IsBad}
 use Rattle.arch_model.specs.Archives.{Archive, empty_archive}
 use Rattle.arch_model.specs.Delivery.{Done}
-use Rattle.arch_model.specs.Standing.{Standing}
+use Rattle.arch_model.specs.Standing.{LastKnown}
 use Rattle.arch_model.specs.declared.answer.Answer.{Answer}
 use Rattle.arch_model.specs.declared.opening.OpenRefusal.TheVariants as opening
 use Rattle.store_finding.specs.Files.{as_read}
 use Rattle.epoch_store.specs.First.{MakingLeaves}
 use Rattle.epoch_store.specs.Opens.{ReadsWith, SyncsAtMost}
-use Rattle.epoch_store.specs.Promises.{Way, Appends, Renews}
-use Rattle.store_finding.specs.Kept.{View}
+use Rattle.epoch_store.specs.Promises.{WriteKind, Appends, Renews}
+use Rattle.store_finding.specs.Kept.{StoreState}
 use Rattle.epoch_store.specs.Commands.{EditsFiles, KeepsFiles}
 use Rattle.store_finding.specs.declared.entries.StoredEntry.{StoredEntry}
-use Rattle.archive_core.specs.Commands.{AnswersDelivery, AnswersEdit, AnswersPurge, AnswersRemoval, IsEntryOf}
+use Rattle.archive_core.specs.Commands.{AnswersDelivery, AnswersEdit, AnswersPurge, AnswersRemoval, IsEntryOfNumber}
 use Rattle.answer_lines.specs.Lines.{whole_line}
-use Rattle.archive_cli.specs.DiskCommands.{Makes, TakesTo, ReindexesTo, ChecksTo, IsOpenedAs, IsFault, IsReply, IsReindex, IsCheck, StandsAs, TakesOn, ReindexesOn, ChecksOn, RunsOrStays, LeavesEither, delivering, removing, purging, editing}
+use Rattle.archive_cli.specs.DiskCommands.{MakesDisk, TakesTo, ReindexesTo, ChecksTo, IsOpenedAs, IsFault, IsReply, IsReindex, IsCheck, StandsAs, CommandTakes, ReindexesOn, ChecksOn, RunsOrStays, LeavesEither, delivering, removing, purging, editing}
 use Rattle.archive_cli.specs.OpenedFiles.{CommitsIfDone, LeavesFiles}
 use Rattle.archive_cli.specs.Loading.{loaded_line}
 use Rattle.archive_cli.specs.Outcomes.{outcome_line, status_of}
@@ -74,7 +74,7 @@ Replays config input status printed = IsTooLong input status printed
 
 -- The remaining input, what the output took, the moments to come, the content of the disk, and the
 -- count of faults of each.
-pub record Edges : Type 0 where
+pub record RunState : Type 0 where
   pub left : Option (List ℕ)
   pub unread : ℕ
   pub taken : Option (List ℕ)
@@ -85,7 +85,7 @@ pub record Edges : Type 0 where
   pub broken : ℕ
 
 -- The edges of a job without a disk.
-abbrev pub edges : Option (List ℕ) → ℕ → Option (List ℕ) → ℕ → Edges
+abbrev pub edges : Option (List ℕ) → ℕ → Option (List ℕ) → ℕ → RunState
 edges left unread taken lost = record {
   left = left;
   unread = unread;
@@ -99,7 +99,7 @@ edges left unread taken lost = record {
 
 -- The edges of a run.
 abbrev pub all_edges : Option (List ℕ) → ℕ → Option (List ℕ) → ℕ → Option Moments → ℕ
-    → Option Content → ℕ → Edges
+    → Option Content → ℕ → RunState
 all_edges left unread taken lost coming missed content broken =
     record {
       left = left;
@@ -114,7 +114,7 @@ all_edges left unread taken lost coming missed content broken =
 
 -- The input, the clock and the disk didn't fail: their counts of faults are as before. The clock
 -- wasn't asked.
-pub record NoneFailed (i j : Edges) : Type 0 where
+pub record NoneFailed (i j : RunState) : Type 0 where
   pub input : j.unread ≡ i.unread
   pub clock : j.missed ≡ i.missed
   pub disk : j.broken ≡ i.broken
@@ -138,20 +138,20 @@ message_of input = take message_limit input
 
 -- How `init` ended at a moment.
 abbrev pub InitActs : Config → ℕ → Option Content → Option Content → Outcome → Type 0
-InitActs config moment old new o = Makes (made_at config moment) o old new
+InitActs config moment old new o = MakesDisk (made_at config moment) o old new
 
 -- How a command ended that changes files in such a way, keeps these, has one of these answers, also
 -- where the disk tells nothing, and at a moment is to make this of an archive. Whatever the disk stood
 -- for, it stands for what is answered. Whatever its files held, one root is committed if the command
 -- was done, and otherwise, but for a fault of the disk, none.
-pub record CommandActs (way : Way) (keeps : View → View → Type 0) (may : Answer → Type 0)
+pub record CommandActs (way : WriteKind) (keeps : StoreState → StoreState → Type 0) (may : Answer → Type 0)
     (wanted : ℕ → Archive → Done) (moment : ℕ) (old new : Option Content) (o : Outcome)
     : Type 0 where
   pub kind : IsReply may o
   pub done : (a : Archive) (cache : List ℕ) → ReadsWith cache a old
       → TakesTo way cache a (wanted moment a) o new
-  pub stands : (s : Standing) (cache : List ℕ) → StandsAs cache s old → (t : Standing)
-      × StandsAs cache t new × TakesOn s old (wanted moment) o t
+  pub stands : (s : LastKnown) (cache : List ℕ) → StandsAs cache s old → (t : LastKnown)
+      × StandsAs cache t new × CommandTakes s old (wanted moment) o t
   pub answer : WhereTold (λ k. IsOpenedAs (as_read k) o) old
   pub files : LeavesFiles o old new
   pub commits : CommitsIfDone way keeps o old new
@@ -162,27 +162,27 @@ putting None bytes = delivering bytes
 putting (Some number) bytes = editing number bytes
 
 -- How that changes files.
-abbrev pub putting_way : Option ℕ → Way
+abbrev pub putting_way : Option ℕ → WriteKind
 putting_way None = Appends
 putting_way (Some number) = Renews
 
 -- Which files a purge of a number keeps: those of the epochs without an entry with the text that it
 -- drops.
-abbrev pub purge_files : ℕ → View → View → Type 0
-purge_files number found made = (s : StoredEntry) × IsEntryOf found number s
+abbrev pub purge_files : ℕ → StoreState → StoreState → Type 0
+purge_files number found made = (s : StoredEntry) × IsEntryOfNumber found number s
     × KeepsFiles found made s.seen.blob
 
 -- Which files an edit of a number keeps: the same, but that of the new entry may grow.
-abbrev pub edit_files : ℕ → View → View → Type 0
-edit_files number found made = (s : StoredEntry) × IsEntryOf found number s
+abbrev pub edit_files : ℕ → StoreState → StoreState → Type 0
+edit_files number found made = (s : StoredEntry) × IsEntryOfNumber found number s
     × EditsFiles found made s.seen.blob
 
 -- Which files a command keeps that only appends, is said by how the root goes on.
-abbrev pub any_files : View → View → Type 0
+abbrev pub any_files : StoreState → StoreState → Type 0
 any_files found made = Unit {0}
 
 -- Which files that keeps.
-abbrev pub putting_files : Option ℕ → View → View → Type 0
+abbrev pub putting_files : Option ℕ → StoreState → StoreState → Type 0
 putting_files None = any_files
 putting_files (Some number) = edit_files number
 
@@ -202,7 +202,7 @@ MessageActs place bytes =
 pub record ReindexActs (moment : ℕ) (old new : Option Content) (o : Outcome) : Type 0 where
   pub kind : IsReindex o
   pub done : (a : Archive) (cache : List ℕ) → ReadsWith cache a old → ReindexesTo cache a o new
-  pub stands : (s : Standing) (cache : List ℕ) → StandsAs cache s old → (t : Standing)
+  pub stands : (s : LastKnown) (cache : List ℕ) → StandsAs cache s old → (t : LastKnown)
       × StandsAs cache t new × ReindexesOn s old o t
   pub answer : WhereTold (λ k. IsOpenedAs (as_read k) o) old
   pub files : LeavesFiles o old new
@@ -212,7 +212,7 @@ pub record ReindexActs (moment : ℕ) (old new : Option Content) (o : Outcome) :
 pub record CheckActs (moment : ℕ) (old new : Option Content) (o : Outcome) : Type 0 where
   pub kind : IsCheck o
   pub done : (a : Archive) (cache : List ℕ) → ReadsWith cache a old → ChecksTo cache a o new
-  pub stands : (s : Standing) (cache : List ℕ) → StandsAs cache s old → (t : Standing)
+  pub stands : (s : LastKnown) (cache : List ℕ) → StandsAs cache s old → (t : LastKnown)
       × StandsAs cache t new × ChecksOn s old o t
   pub answer : WhereTold (λ k. IsOpenedAs (as_read k) o) old
   pub files : LeavesFiles o old new
@@ -227,9 +227,9 @@ unasked coming = coming
 -- count of faults rose if the outcome tells that the disk failed, and otherwise stays. So no fault is
 -- told as out of memory.
 pub record JobActs (did : ℕ → Option Content → Option Content → Outcome → Type 0)
-    (goes_on : Option Moments → Option Moments) (i j : Edges) (o : Outcome) : Type 0 where
+    (goes_on : Option Moments → Option Moments) (i j : RunState) (o : Outcome) : Type 0 where
   pub moment : ℕ
-  pub first : IsFirst moment i.coming
+  pub first : IsFirstMoment moment i.coming
   pub coming : j.coming ≡ goes_on i.coming
   pub acts : did moment i.content j.content o
   pub fault : IsFault o → Rose i.broken j.broken
@@ -239,7 +239,7 @@ pub record JobActs (did : ℕ → Option Content → Option Content → Outcome 
 
 -- What a job over the archive on a disk ends with, by what it did there.
 pub record JobEnds (did : ℕ → Option Content → Option Content → Outcome → Type 0)
-    (goes_on : Option Moments → Option Moments) (i j : Edges) (status : Status) (printed : List ℕ)
+    (goes_on : Option Moments → Option Moments) (i j : RunState) (status : Status) (printed : List ℕ)
     : Type 0 where
   pub outcome : Outcome
   pub acts : JobActs did goes_on i j outcome
@@ -249,7 +249,7 @@ pub record JobEnds (did : ℕ → Option Content → Option Content → Outcome 
 -- What `serve` ends with: its status and what is printed are those of how it ended. The clock and the
 -- input aren't asked, and the disk's count of faults rose if the archive wasn't opened because it
 -- failed.
-pub record ServeEnds (i j : Edges) (status : Status) (printed : List ℕ) : Type 0 where
+pub record ServeEnds (i j : RunState) (status : Status) (printed : List ℕ) : Type 0 where
   pub run : ServeRun
   pub status_is : status ≡ run_status run
   pub printed_is : printed ≡ run_line run
@@ -259,39 +259,39 @@ pub record ServeEnds (i j : Edges) (status : Status) (printed : List ℕ) : Type
   pub coming_kept : j.coming ≡ i.coming
 
 -- What a job on an input ends with. The texts of help and version are the program's own.
-abbrev pub Ends : Option Job → List ℕ → Edges → Edges → Status → List ℕ → Type 0
-Ends None input i j status printed = (status ≡ exit.NotRead)
+abbrev pub RunEnds : Option Job → List ℕ → RunState → RunState → Status → List ℕ → Type 0
+RunEnds None input i j status printed = (status ≡ exit.NotRead)
     × (printed ≡ whole_line (codes "words not read")) × NoneFailed i j
-Ends (Some Help) input i j status printed = (status ≡ exit.Done) × (printed ≡ HELP.now)
+RunEnds (Some Help) input i j status printed = (status ≡ exit.Done) × (printed ≡ HELP.now)
     × NoneFailed i j
-Ends (Some Version) input i j status printed = (status ≡ exit.Done) × (printed ≡ VERSION.now)
+RunEnds (Some Version) input i j status printed = (status ≡ exit.Done) × (printed ≡ VERSION.now)
     × NoneFailed i j
-Ends (Some (Replay config)) input i j status printed = Replays config input status printed
+RunEnds (Some (Replay config)) input i j status printed = Replays config input status printed
     × NoneFailed i j
-Ends (Some (Load count seed)) input i j status printed = (status ≡ exit.Done)
+RunEnds (Some (Load count seed)) input i j status printed = (status ≡ exit.Done)
     × (printed ≡ whole_line (loaded_line count seed)) × NoneFailed i j
-Ends (Some (Init config)) input i j status printed =
+RunEnds (Some (Init config)) input i j status printed =
     JobEnds (InitActs config) after_first i j status printed
-Ends (Some Deliver) input i j status printed =
+RunEnds (Some Deliver) input i j status printed =
     JobEnds (MessageActs None (message_of input)) after_first i j status printed
-Ends (Some (Remove number)) input i j status printed =
+RunEnds (Some (Remove number)) input i j status printed =
     JobEnds (CommandActs Appends any_files (AnswersRemoval number) (removing number)) after_first i j
     status printed
-Ends (Some (Purge number)) input i j status printed =
+RunEnds (Some (Purge number)) input i j status printed =
     JobEnds (CommandActs Renews (purge_files number) (AnswersPurge number) (purging number))
     after_first i j status printed
-Ends (Some (Edit number)) input i j status printed =
+RunEnds (Some (Edit number)) input i j status printed =
     JobEnds (MessageActs (Some number) (message_of input)) after_first i j status printed
-Ends (Some Reindex) input i j status printed = JobEnds ReindexActs unasked i j status printed
-Ends (Some Check) input i j status printed = JobEnds CheckActs unasked i j status printed
-Ends (Some (Serve turns port)) input i j status printed = ServeEnds i j status printed
+RunEnds (Some Reindex) input i j status printed = JobEnds ReindexActs unasked i j status printed
+RunEnds (Some Check) input i j status printed = JobEnds CheckActs unasked i j status printed
+RunEnds (Some (Serve turns port)) input i j status printed = ServeEnds i j status printed
 
 -- What a run of words on an input ends with, by the rules.
-pub record Does (words : List (List ℕ)) (input : List ℕ) (i j : Edges) (status : Status)
+pub record Does (words : List (List ℕ)) (input : List ℕ) (i j : RunState) (status : Status)
     (printed : List ℕ) : Type 0 where
   pub job : Option Job
   pub asked : IsJob words job
-  pub ends : Ends job input i j status printed
+  pub ends : RunEnds job input i j status printed
 
 -- The input is a script, whose events up to the first stop were played while memory ran out. The
 -- frames are those of so many of its first events.
@@ -311,7 +311,7 @@ pub record PlaysShort (config : Config) (input : List ℕ) (status : Status) (pr
   pub printed_is : printed ≡ frames ++ whole_line (codes "12 no memory")
 
 -- The words ask for a replay, which ran out of memory. No device failed.
-pub record ReplayRunsOut (words : List (List ℕ)) (input : List ℕ) (i j : Edges) (status : Status)
+pub record ReplayRunsOut (words : List (List ℕ)) (input : List ℕ) (i j : RunState) (status : Status)
     (printed : List ℕ) : Type 0 where
   pub config : Config
   pub asked : AsksFor words (Replay config)
@@ -328,7 +328,7 @@ AsksForMessage words = AsksFor words Deliver ⊎ AsksForEdit words
 
 -- The words ask for a delivery or an edit, whose message isn't read, since memory ran out. The disk is
 -- unchanged, and no device failed.
-pub record DeliverRunsOut (words : List (List ℕ)) (i j : Edges) (status : Status) (printed : List ℕ)
+pub record DeliverRunsOut (words : List (List ℕ)) (i j : RunState) (status : Status) (printed : List ℕ)
     : Type 0 where
   pub asked : AsksForMessage words
   pub status_is : status ≡ exit.Memory
@@ -338,7 +338,7 @@ pub record DeliverRunsOut (words : List (List ℕ)) (i j : Edges) (status : Stat
 
 -- The words ask for a load, which ran out of memory, also that of its disk. The real disk is unchanged,
 -- and no device failed.
-pub record LoadRunsOut (words : List (List ℕ)) (i j : Edges) (status : Status) (printed : List ℕ)
+pub record LoadRunsOut (words : List (List ℕ)) (i j : RunState) (status : Status) (printed : List ℕ)
     : Type 0 where
   pub count : ℕ
   pub seed : ℕ
@@ -349,12 +349,12 @@ pub record LoadRunsOut (words : List (List ℕ)) (i j : Edges) (status : Status)
   pub spared : NoneFailed i j
 
 -- A replay, a load, a delivery or an edit ran out of memory.
-abbrev pub RunsOut : List (List ℕ) → List ℕ → Edges → Edges → Status → List ℕ → Type 0
+abbrev pub RunsOut : List (List ℕ) → List ℕ → RunState → RunState → Status → List ℕ → Type 0
 RunsOut words input i j status printed = ReplayRunsOut words input i j status printed
     ⊎ (LoadRunsOut words i j status printed ⊎ DeliverRunsOut words i j status printed)
 
 -- What a run is to print, and its status if all of that is taken.
-abbrev pub IsDue : List (List ℕ) → List ℕ → Edges → Edges → Status → List ℕ → Type 0
+abbrev pub IsDue : List (List ℕ) → List ℕ → RunState → RunState → Status → List ℕ → Type 0
 IsDue words input i j status printed = Does words input i j status printed
     ⊎ RunsOut words input i j status printed
 
@@ -363,7 +363,7 @@ abbrev pub IsInput : Option (List ℕ) → List ℕ → Type 0
 IsInput left input = MatchOption left (Unit {0}) (λ bytes. bytes ≡ input)
 
 -- All was printed, and no write failed.
-pub record IsPrinted (words : List (List ℕ)) (status : Status) (i j : Edges) : Type 0 where
+pub record IsPrinted (words : List (List ℕ)) (status : Status) (i j : RunState) : Type 0 where
   pub input : List ℕ
   pub told : IsInput i.left input
   pub printed : List ℕ
@@ -410,7 +410,7 @@ abbrev pub AsksForMoment : List (List ℕ) → Type 0
 AsksForMoment words = AsksForInit words ⊎ AsksForCommand words
 
 -- Nothing was printed, no moment was taken, and the disk is unchanged. The input or the clock failed.
-pub record IsSilent (status : Status) (i j : Edges) : Type 0 where
+pub record IsSilent (status : Status) (i j : RunState) : Type 0 where
   pub status_is : status ≡ exit.Edges
   pub taken_is : j.taken ≡ i.taken
   pub lost_kept : j.lost ≡ i.lost
@@ -419,21 +419,21 @@ pub record IsSilent (status : Status) (i j : Edges) : Type 0 where
   pub disk_kept : j.broken ≡ i.broken
 
 -- The input failed: its count of faults rose, that of the clock stays, and nothing was done.
-pub record InputFailed (words : List (List ℕ)) (status : Status) (i j : Edges) : Type 0 where
+pub record InputFailed (words : List (List ℕ)) (status : Status) (i j : RunState) : Type 0 where
   pub asked : AsksForInput words
   pub rose : Rose i.unread j.unread
   pub clock_kept : j.missed ≡ i.missed
   pub silent : IsSilent status i j
 
 -- The clock failed: its count of faults rose, that of the input stays, and nothing was done.
-pub record ClockFailed (words : List (List ℕ)) (status : Status) (i j : Edges) : Type 0 where
+pub record ClockFailed (words : List (List ℕ)) (status : Status) (i j : RunState) : Type 0 where
   pub asked : AsksForMoment words
   pub rose : Rose i.missed j.missed
   pub input_kept : j.unread ≡ i.unread
   pub silent : IsSilent status i j
 
 -- The output failed: its count of faults rose, and a prefix of what was due was printed.
-pub record OutputFailed (words : List (List ℕ)) (status : Status) (i j : Edges) : Type 0 where
+pub record OutputFailed (words : List (List ℕ)) (status : Status) (i j : RunState) : Type 0 where
   pub status_is : status ≡ exit.Edges
   pub rose : Rose i.lost j.lost
   pub input : List ℕ
@@ -445,12 +445,12 @@ pub record OutputFailed (words : List (List ℕ)) (status : Status) (i j : Edges
   pub taken_is : j.taken ≡ plus i.taken (take count printed)
 
 -- How a run of words ends, by the edges before and after it.
-abbrev pub Ran : List (List ℕ) → Status → Edges → Edges → Type 0
+abbrev pub Ran : List (List ℕ) → Status → RunState → RunState → Type 0
 Ran words status i j = IsPrinted words status i j ⊎ (InputFailed words status i j
     ⊎ (ClockFailed words status i j ⊎ OutputFailed words status i j))
 
 -- A run of words ends so, and this is the number of its status.
-abbrev pub RanTo : List (List ℕ) → ℕ → Edges → Edges → Type 0
+abbrev pub RanTo : List (List ℕ) → ℕ → RunState → RunState → Type 0
 RanTo words code i j = (status : Status) × (code ≡ code_of status) × Ran words status i j
 
 -- At most `most` bytes were removed from the front of what remained, if that is told.
@@ -470,19 +470,19 @@ TakesInput words left unread left' unread' =
 
 -- What a crash leaves while an archive is made at the first moment to come.
 abbrev pub InitLeaves : Config → Option Moments → Option Content → Files → Type 0
-InitLeaves config coming old image = (moment : ℕ) × IsFirst moment coming
+InitLeaves config coming old image = (moment : ℕ) × IsFirstMoment moment coming
     × MakingLeaves (empty_archive (made_at config moment)) old image
 
 -- The edges of a disk at a run of a job, which is carried out at the first moment to come.
 module _ {D : Type 0} (content : D → Option Content) (moment : D → ℕ)
     (left_since : D → ℕ → Files → Type 0) where
   -- What a crash leaves while a command is carried out that is to make this of an archive.
-  abbrev pub CommandLeaves : D → D → Option Moments → Way → (ℕ → Archive → Done) → Type 0
-  CommandLeaves old new coming way wanted = (at : ℕ) × IsFirst at coming
+  abbrev pub CommandLeaves : D → D → Option Moments → WriteKind → (ℕ → Archive → Done) → Type 0
+  CommandLeaves old new coming way wanted = (at : ℕ) × IsFirstMoment at coming
       × RunsOrStays content moment left_since old new (LeavesEither way (wanted at))
 
   -- The same for a command that takes the message on the input.
-  abbrev pub MessageLeaves : D → D → Option (List ℕ) → Option Moments → Way
+  abbrev pub MessageLeaves : D → D → Option (List ℕ) → Option Moments → WriteKind
       → (List ℕ → ℕ → Archive → Done) → Type 0
   MessageLeaves old new left coming way wanted = (sent : List ℕ) × IsInput left sent
       × CommandLeaves old new coming way (wanted (message_of sent))

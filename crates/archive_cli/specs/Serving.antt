@@ -2,7 +2,7 @@
 use Rattle.std.specs.Prelude.{◌≡◌, ◌≤◌, ℕ, List, [], ◌∷◌, ◌++◌, Bool, Option, Some, None, Err}
 use Rattle.std.specs.List.{Contains}
 use Rattle.arch_base.specs.Counts.{RoseIf}
-use Rattle.disk_model.specs.Disk.{Content, Files, Image, LeavesOnly, Told, WhereTold}
+use Rattle.disk_model.specs.Disk.{Content, Files, Image, LeavesOnly, BothTold, WhereTold}
 use Rattle.edge_io.specs.Frames.{Outputs}
 use Rattle.edge_io.specs.Hosts as hosts
 use Rattle.edge_io.specs.Scripts.{Arrival}
@@ -10,19 +10,19 @@ use Rattle.keep_course.specs.Courses.{archives_of}
 use Rattle.root_slots.specs.Between.{BetweenStays, RunsBetween}
 use Rattle.arch_model.specs.Archives.{Archive}
 use Rattle.arch_model.specs.Following.{Follows}
-use Rattle.arch_model.specs.Standing.{Standing, standing, one_of}
+use Rattle.arch_model.specs.Standing.{LastKnown, standing, one_of}
 use Rattle.arch_model.specs.declared.opening.OpenRefusal.{OpenRefusal}
 use Rattle.arch_model.specs.declared.opening.OpenRefusal.TheVariants as opening
 use Rattle.store_finding.specs.Files.{as_read}
-use Rattle.epoch_store.specs.Opens.{Opens, IsOnlySynced, ReadsWith, AllRecoverWith, SyncsFirst, SyncsAtMost}
-use Rattle.archive_core.specs.Engines.{RecoversOrBare, AllRecoverOrBare, BetweenSince, RestsOn, RestsWith}
+use Rattle.epoch_store.specs.Opens.{OpensFiles, IsOnlySynced, ReadsWith, AllRecoverWith, SyncsFirst, SyncsAtMost}
+use Rattle.archive_core.specs.Engines.{RecoversOrBare, AllRecoverOrBare, BetweenSince, FilesAreOn, FilesAreWith}
 use Rattle.archive_core.specs.Openings.{LeavesKindly}
 use Rattle.answer_lines.specs.Lines.{whole_line, memory_word}
-use Rattle.node_serve.specs.Ends.{EndsBy, given_after, before_all}
+use Rattle.node_serve.specs.Ends.{ServingEnds, given_after, before_all}
 use Rattle.node_serve.specs.Nodes.{Stage, Along, GoesAnyway, AreAt, outputs_noted, places_in, world_at}
 use Rattle.node_serve.specs.Plain.{last_world}
 use Rattle.node_serve.specs.Turns.{Turn, Served, passed_in}
-use Rattle.node_serve.specs.World.{Outer}
+use Rattle.node_serve.specs.World.{HostState}
 use Rattle.node_serve.specs.declared.serving.ServeEnd.{ServeEnd}
 use Rattle.node_serve.specs.declared.serving.ServeEnd.TheVariants as end
 use Rattle.archive_cli.specs.DiskCommands.{StandsAs, StaysUnopened}
@@ -60,25 +60,25 @@ run_line (Ended how) = end_line how
 
 -- The host of a run: the events that it gave and has left, its count of faults, and the outside of
 -- its connections with the disk's count of faults.
-pub record Hosted : Type 0 where
-  pub given : hosts.Told
-  pub left : hosts.Told
+pub record HostGiven : Type 0 where
+  pub given : hosts.ToldEvents
+  pub left : hosts.ToldEvents
   pub faults : ℕ
-  pub out : Outer
+  pub out : HostState
 
 -- The host of these four parts.
-abbrev pub hosted : hosts.Told → hosts.Told → ℕ → Outer → Hosted
+abbrev pub hosted : hosts.ToldEvents → hosts.ToldEvents → ℕ → HostState → HostGiven
 hosted given left faults out = record { given = given; left = left; faults = faults; out = out }
 
 -- A run took these events from its host, which gave no others.
-pub record TookFrom (arrivals : List Arrival) (i j : Hosted) : Type 0 where
+pub record TookFrom (arrivals : List Arrival) (i j : HostGiven) : Type 0 where
   pub given_is : j.given ≡ given_after i.given arrivals
   pub left_is : i.left ≡ before_all arrivals j.left
   pub later : i.faults ≤ j.faults
 
 -- All of the host of a run stayed: it wasn't asked, and nothing was sent. Of the disk's count of
 -- faults nothing is said.
-pub record HostKept (i j : Hosted) : Type 0 where
+pub record HostKept (i j : HostGiven) : Type 0 where
   pub given_kept : j.given ≡ i.given
   pub left_kept : j.left ≡ i.left
   pub faults_kept : j.faults ≡ i.faults
@@ -89,17 +89,17 @@ pub record HostKept (i j : Hosted) : Type 0 where
 
 -- The archive of a standing follows an archive, and the one in doubt there follows the standing's:
 -- no number of the one names a second message in the other.
-pub record FollowsIn (a : Archive) (s : Standing) : Type 0 where
+pub record FollowsIn (a : Archive) (s : LastKnown) : Type 0 where
   pub archive : Follows a s.archive
-  pub doubt : (b : Archive) → s.doubt ≡ Some b → Follows s.archive b
+  pub in_doubt : (b : Archive) → s.in_doubt ≡ Some b → Follows s.archive b
 
 -- Each of these standings follows the archive of the one before it.
-abbrev pub FollowOn : Archive → List Standing → Type 0
+abbrev pub FollowOn : Archive → List LastKnown → Type 0
 FollowOn a [] = Unit {0}
 FollowOn a (s ∷ ss) = FollowsIn a s × FollowOn s.archive ss
 
 -- Before the first event no connection has a session, and this is outside of the node.
-pub record IsFirst {K : Type 0} (first : Stage K) (out : Outer) : Type 0 where
+pub record IsFirstStage {K : Type 0} (first : Stage K) (out : HostState) : Type 0 where
   pub unopened : (c : ℕ) → (places_in first.node).session c ≡ None
   pub count : (places_in first.node).count ≡ 0
   pub out_is : first.out ≡ out
@@ -124,12 +124,12 @@ module _ {D : Type 0} (content : D → Option Content) (moment : D → ℕ)
   -- exactly the archive's files. A crash since then leaves one of the two, or an archive of a standing
   -- after one of the acts of later turns, or one that was in doubt there. The bytes between the gates and
   -- the bodies of the root file stayed.
-  pub record StoodFor (s : Standing) (later : List Turn) (new : D) : Type 0 where
+  pub record StoodFor (s : LastKnown) (later : List Turn) (new : D) : Type 0 where
     pub at : D
     pub stood : (cache : List ℕ) × AllRecoverOrBare cache (one_of s) (content at)
-    pub rested : s.doubt ≡ None → RestsOn s.archive (content at)
+    pub rested : s.in_doubt ≡ None → FilesAreOn s.archive (content at)
     pub crash : (cache : List ℕ) × CrashLeaves at new cache (archives_of (s ∷ passed_in later))
-    pub between : BetweenSince content moment left_since at new
+    pub crash_between : BetweenSince content moment left_since at new
 
   -- This archive was found, and the events were taken to their end, one after another through these
   -- stages, each with its replies over the archive of that moment.
@@ -146,14 +146,14 @@ module _ {D : Type 0} (content : D → Option Content) (moment : D → ℕ)
   pub record ServedOn (found : Archive) (old opened new : D) (arrivals : List Arrival)
       (first : Stage D) (stages : List (Stage D)) (last : Stage D) : Type 0 where
     pub turns : List Turn
-    pub left : Standing
+    pub left : LastKnown
     pub served : Served arrivals (world_at (standing found None) first) turns (world_at left last)
     pub at : AreAt stages turns
     pub stands : (cache : List ℕ) × AllRecoverOrBare cache (one_of left) (content new)
-    pub rests : left.doubt ≡ None → (cache : List ℕ) → ReadsWith cache found (content old)
-        → RestsWith cache left.archive (content new)
+    pub files_are : left.in_doubt ≡ None → (cache : List ℕ) → ReadsWith cache found (content old)
+        → FilesAreWith cache left.archive (content new)
     pub synced : D
-    pub only : Told IsOnlySynced (content old) (content synced)
+    pub only : BothTold IsOnlySynced (content old) (content synced)
     pub before : LeavesOnly moment left_since old synced (Image (content old))
     pub after : (cache : List ℕ) → ReadsWith cache found (content old)
         → CrashLeaves synced new cache (archives_of (standing found None ∷ passed_in turns))
@@ -161,21 +161,21 @@ module _ {D : Type 0} (content : D → Option Content) (moment : D → ℕ)
         → AllRecoverWith cache may (content old)
         → CrashLeaves old new cache (may ++ archives_of (passed_in turns))
         × BetweenSince content moment left_since old new
-    pub between : StaysBetween old opened new
+    pub crash_between : StaysBetween old opened new
     pub stood : (earlier later : List Turn) → turns ≡ earlier ++ later
         → StoodFor (last_world (world_at (standing found None) first) earlier).standing later new
     pub numbers : FollowOn found (passed_in turns)
 
   -- The archive wasn't opened. The refusal is that of the files as they read, the disk is left as it
   -- stood, and the host wasn't asked. The disk's count of faults rose exactly if it failed.
-  pub record ShutOut (why : OpenRefusal) (old new : D) (i j : Hosted)
+  pub record ShutOut (why : OpenRefusal) (old new : D) (i j : HostGiven)
       (recorded recorded' : List Outputs → Type 0) : Type 0 where
     pub kept : HostKept i j
-    pub answer : WhereTold (λ k. Opens (as_read k) (Err why)) (content old)
+    pub answer : WhereTold (λ k. OpensFiles (as_read k) (Err why)) (content old)
     pub unopened : LeavesKindly why (content old) (content new)
     pub crash : SyncsAtMost content moment left_since old new
-    pub between : RunsBetween content moment left_since old new
-    pub stands : (s : Standing) (cache : List ℕ) → StandsAs cache s (content old) → (t : Standing)
+    pub crash_between : RunsBetween content moment left_since old new
+    pub stands : (s : LastKnown) (cache : List ℕ) → StandsAs cache s (content old) → (t : LastKnown)
         × StandsAs cache t (content new) × StaysUnopened s (content old) why t
     pub cause : RoseIf (why ≡ opening.DiskFault) i.out.disk j.out.disk
     pub records : (past : List Outputs) → recorded past → recorded' past
@@ -188,18 +188,18 @@ module _ {D : Type 0} (content : D → Option Content) (moment : D → ℕ)
   --
   -- The host, whose records these are, was asked before each event, when all before it had been
   -- answered, and at the end if it then answered that none is left.
-  pub record ServedBy (how : ServeEnd) (turns : ℕ) (old new : D) (i j : Hosted)
+  pub record ServedBy (how : ServeEnd) (turns : ℕ) (old new : D) (i j : HostGiven)
       (recorded recorded' : List Outputs → Type 0) : Type 0 where
     pub arrivals : List Arrival
     pub took : TookFrom arrivals i j
     pub none : Bool
-    pub ends : EndsBy how none arrivals turns j.left i.faults j.faults
+    pub ends : ServingEnds how none arrivals turns j.left i.faults j.faults
     pub opened : D
     pub settles : OnlySettled (content old) (content opened)
     pub crash : SyncsFirst content moment left_since old opened
-    pub between : RunsBetween content moment left_since old opened
+    pub crash_between : RunsBetween content moment left_since old opened
     pub first : Stage D
-    pub begins : IsFirst first i.out
+    pub begins : IsFirstStage first i.out
     pub stages : List (Stage D)
     pub last : Stage D
     pub last_disk : last.node.keep ≡ new
@@ -211,7 +211,7 @@ module _ {D : Type 0} (content : D → Option Content) (moment : D → ℕ)
         → ServedOn found old opened new arrivals first stages last
 
   -- What a run of `serve` did, by how it ended.
-  abbrev pub ServesDisk : ℕ → ServeRun → D → D → Hosted → Hosted → (List Outputs → Type 0)
+  abbrev pub ServesDisk : ℕ → ServeRun → D → D → HostGiven → HostGiven → (List Outputs → Type 0)
       → (List Outputs → Type 0) → Type 0
   ServesDisk turns (Shut why) old new i j recorded recorded' =
       ShutOut why old new i j recorded recorded'

@@ -9,7 +9,7 @@ use Rattle.node_serve.specs.Ends.{is_stop}
 use Rattle.node_serve.specs.Nodes.{outputs_asked}
 use Rattle.node_serve.specs.Plain.{plain_turns, last_world}
 use Rattle.node_serve.specs.Turns.{Turn, Served}
-use Rattle.node_serve.specs.World.{World, outer}
+use Rattle.node_serve.specs.World.{NodeState, outer}
 
 -- The events after one that is a stop or none: no more are kept after a stop.
 abbrev pub kept_after : Bool → List Arrival → List Arrival
@@ -27,14 +27,14 @@ has_none [] = true
 has_none (e ∷ es) = not (is_stop e.0.what) && has_none es
 
 -- A world in which nothing was said yet: an archive stands there, and no connection has a session.
-pub record IsStart (a : Archive) (w : World) : Type 0 where
+pub record IsStart (a : Archive) (w : NodeState) : Type 0 where
   pub stands : w.standing ≡ standing a None
   pub none : (c : ℕ) → w.session c ≡ None
   pub count : w.count ≡ 0
 
 -- The same, and no connection that a script may have took anything or was closed, and neither the
 -- disk nor a send failed.
-pub record IsFresh (a : Archive) (w : World) : Type 0 where
+pub record IsFreshWorld (a : Archive) (w : NodeState) : Type 0 where
   pub start : IsStart a w
   pub taken : (c : ℕ) → c < 65536 → w.out.taken c ≡ Some []
   pub closings : (c : ℕ) → c < 65536 → w.out.closings c ≡ Some 0
@@ -44,10 +44,10 @@ pub record IsFresh (a : Archive) (w : World) : Type 0 where
 -- The events of a script over an empty archive with these settings, each taken to its end in order
 -- up to the first stop.
 pub record Plays (config : Config) (arrivals : List Arrival) : Type 0 where
-  pub first : World
-  pub fresh : IsFresh (empty_archive config) first
+  pub first : NodeState
+  pub fresh : IsFreshWorld (empty_archive config) first
   pub turns : List Turn
-  pub after : World
+  pub after : NodeState
   pub served : Served (to_stop arrivals) first turns after
 
 -- What the connections had taken before each of these events, and at the end if none was a stop.
@@ -72,7 +72,7 @@ pub record TranscriptFront (config : Config) (arrivals : List Arrival) (printed 
 -- The same by a function, in which neither an allocation nor a send nor the disk fails.
 
 -- A fresh world over this archive.
-abbrev pub fresh_world : Archive → World
+abbrev pub fresh_world : Archive → NodeState
 fresh_world a = record {
   standing = standing a None;
   session = λ c. None;
@@ -82,7 +82,7 @@ fresh_world a = record {
 
 -- The frames of these events from a world, each taken to its end by the rules, where it was asked for
 -- one more after them or not.
-abbrev pub plain_frames : Bool → List Arrival → World → List ℕ
+abbrev pub plain_frames : Bool → List Arrival → NodeState → List ℕ
 plain_frames none arrivals w =
     frames_of (outputs_asked none w (plain_turns arrivals w) (last_world w (plain_turns arrivals w)))
 

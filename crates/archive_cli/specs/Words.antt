@@ -2,7 +2,7 @@
 use Rattle.std.specs.Prelude.{◌≡◌, ◌<◌, ◌≤◌, ℕ, List, [], ◌∷◌, ◌++◌, map, length, get_or, All, codes, decimal, Option, Some, None, Bool, true, false}
 use Rattle.std.specs.List.{flat_map}
 use Rattle.std.specs.Borrow.{Bor}
-use Rattle.arch_base.specs.Names.{IsName}
+use Rattle.arch_base.specs.Names.{IsArchiveName}
 use Rattle.arch_base.specs.declared.config.Config.{Config}
 use Rattle.archive_cli.specs.declared.words.Job.{Job}
 use Rattle.archive_cli.specs.declared.words.Job.TheVariants.{Help, Version, Replay, Load, Init, Deliver, Remove, Purge, Edit, Reindex, Check, Serve}
@@ -23,14 +23,14 @@ setting_word (Max n) = codes "max=" ++ decimal n
 setting_word Mirror = codes "mirror"
 
 -- A number from 1 to `most`.
-abbrev pub IsUpTo : ℕ → ℕ → Type 0
-IsUpTo most n = (1 ≤ n) × (n ≤ most)
+abbrev pub IsOneUpTo : ℕ → ℕ → Type 0
+IsOneUpTo most n = (1 ≤ n) × (n ≤ most)
 
 -- The range of a setting, if it has a number.
 abbrev pub IsSetting : Setting → Type 0
-IsSetting (Limit n) = IsUpTo 1099511627776 n
-IsSetting (Slice n) = IsUpTo 1000000 n
-IsSetting (Max n) = IsUpTo 2147483647 n
+IsSetting (Limit n) = IsOneUpTo 1099511627776 n
+IsSetting (Slice n) = IsOneUpTo 1000000 n
+IsSetting (Max n) = IsOneUpTo 2147483647 n
 IsSetting Mirror = Unit {0}
 
 -- The limit that a setting gives, if it is of that kind.
@@ -105,10 +105,10 @@ config_of name settings = record {
 }
 
 -- The name of an archive, and then words of settings, in any order, each kind at most once.
-pub record IsMade (words : List (List ℕ)) (settings : List Setting) (config : Config) : Type 0 where
+pub record AreMakingWords (words : List (List ℕ)) (settings : List Setting) (config : Config) : Type 0 where
   pub name : List ℕ
   pub is : words ≡ name ∷ map setting_word settings
-  pub valid : IsName name
+  pub valid : IsArchiveName name
   pub ranges : All IsSetting settings
   pub once : EachOnce settings
   pub config_is : config ≡ config_of name settings
@@ -118,25 +118,25 @@ pub record IsInit (words : List (List ℕ)) (config : Config) : Type 0 where
   pub settings : List Setting
   pub after : List (List ℕ)
   pub is : words ≡ codes "init" ∷ after
-  pub made : IsMade after settings config
+  pub made : AreMakingWords after settings config
 
 -- The word `replay`, and then a name with settings, none of which is `mirror`.
 pub record IsReplay (words : List (List ℕ)) (config : Config) : Type 0 where
   pub settings : List Setting
   pub after : List (List ℕ)
   pub is : words ≡ codes "replay" ∷ after
-  pub made : IsMade after settings config
+  pub made : AreMakingWords after settings config
   pub no_mirror : mirrors settings ≡ []
 
 -- The word of a command, and then a number of a message, from 1 to 2,147,483,647, in decimal.
-pub record IsNumbered (command : List ℕ) (words : List (List ℕ)) (number : ℕ) : Type 0 where
+pub record AreNumberWords (command : List ℕ) (words : List (List ℕ)) (number : ℕ) : Type 0 where
   pub is : words ≡ command ∷ decimal number ∷ []
-  pub range : IsUpTo 2147483647 number
+  pub range : IsOneUpTo 2147483647 number
 
 -- Words are one that spells a number of a message, or they are not.
 abbrev pub IsLone : List (List ℕ) → Option ℕ → Type 0
-IsLone words (Some number) = (words ≡ decimal number ∷ []) × IsUpTo 2147483647 number
-IsLone words None = (number : ℕ) → IsUpTo 2147483647 number → words ≡ decimal number ∷ [] → ⊥
+IsLone words (Some number) = (words ≡ decimal number ∷ []) × IsOneUpTo 2147483647 number
+IsLone words None = (number : ℕ) → IsOneUpTo 2147483647 number → words ≡ decimal number ∷ [] → ⊥
 
 -- The word of an option of `serve`: its kind, `=`, and its number in decimal.
 abbrev pub serve_word : ServeOption → List ℕ
@@ -153,30 +153,30 @@ first_port = 7100
 
 -- The range of an option of `serve`.
 abbrev pub IsServeOption : ServeOption → Type 0
-IsServeOption (serving.Turns n) = IsUpTo most_turns n
-IsServeOption (serving.Port n) = IsUpTo 65500 n
+IsServeOption (serving.Turns n) = IsOneUpTo most_turns n
+IsServeOption (serving.Port n) = IsOneUpTo 65500 n
 
 -- The options of `serve`, each at most once and in any order, give this count of events and this
 -- port.
-abbrev pub Gives : List ServeOption → ℕ → ℕ → Type 0
-Gives [] turns port = (turns ≡ most_turns) × (port ≡ first_port)
-Gives (serving.Turns n ∷ []) turns port = (turns ≡ n) × (port ≡ first_port)
-Gives (serving.Port m ∷ []) turns port = (turns ≡ most_turns) × (port ≡ m)
-Gives (serving.Turns n ∷ serving.Port m ∷ []) turns port = (turns ≡ n) × (port ≡ m)
-Gives (serving.Port m ∷ serving.Turns n ∷ []) turns port = (turns ≡ n) × (port ≡ m)
-Gives other turns port = ⊥
+abbrev pub GivesServing : List ServeOption → ℕ → ℕ → Type 0
+GivesServing [] turns port = (turns ≡ most_turns) × (port ≡ first_port)
+GivesServing (serving.Turns n ∷ []) turns port = (turns ≡ n) × (port ≡ first_port)
+GivesServing (serving.Port m ∷ []) turns port = (turns ≡ most_turns) × (port ≡ m)
+GivesServing (serving.Turns n ∷ serving.Port m ∷ []) turns port = (turns ≡ n) × (port ≡ m)
+GivesServing (serving.Port m ∷ serving.Turns n ∷ []) turns port = (turns ≡ n) × (port ≡ m)
+GivesServing other turns port = ⊥
 
 -- The word `serve`, and then options.
 pub record IsServe (words : List (List ℕ)) (turns port : ℕ) : Type 0 where
   pub options : List ServeOption
   pub is : words ≡ codes "serve" ∷ map serve_word options
   pub ranges : All IsServeOption options
-  pub gives : Gives options turns port
+  pub gives : GivesServing options turns port
 
 -- The word `load`, and then a count from 1 to 20,000 and a seed below 2^64, in decimal.
 pub record IsLoad (words : List (List ℕ)) (count seed : ℕ) : Type 0 where
   pub is : words ≡ codes "load" ∷ decimal count ∷ decimal seed ∷ []
-  pub range : IsUpTo 20000 count
+  pub range : IsOneUpTo 20000 count
   pub seed_range : seed < 18446744073709551616
 
 -- The words ask for this job.
@@ -187,9 +187,9 @@ AsksFor words (Replay config) = IsReplay words config
 AsksFor words (Load count seed) = IsLoad words count seed
 AsksFor words (Init config) = IsInit words config
 AsksFor words Deliver = words ≡ codes "deliver" ∷ []
-AsksFor words (Remove number) = IsNumbered (codes "remove") words number
-AsksFor words (Purge number) = IsNumbered (codes "purge") words number
-AsksFor words (Edit number) = IsNumbered (codes "edit") words number
+AsksFor words (Remove number) = AreNumberWords (codes "remove") words number
+AsksFor words (Purge number) = AreNumberWords (codes "purge") words number
+AsksFor words (Edit number) = AreNumberWords (codes "edit") words number
 AsksFor words Reindex = words ≡ codes "reindex" ∷ []
 AsksFor words Check = words ≡ codes "check" ∷ []
 AsksFor words (Serve turns port) = IsServe words turns port

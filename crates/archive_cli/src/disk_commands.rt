@@ -1,4 +1,5 @@
 //! The work of `init`, `reindex`, `check` and a command on the archive on a disk.
+//! Writes the disk; syncs.
 //!
 //! Each takes the disk, and hands it back.
 ghost use Rattle.std.specs.Prelude.{◌≡◌, ◌≤◌, ℕ, List};
@@ -7,16 +8,16 @@ ghost use Rattle.arch_base.specs.Counts.{RoseIf};
 ghost use Rattle.arch_base.specs.Moments.{last_moment};
 ghost use Rattle.disk_model.specs.Disk.{WhereTold, LeavesOnly};
 ghost use Rattle.arch_model.specs.Archives.{Archive, empty_archive};
-ghost use Rattle.arch_model.specs.Standing.{Standing};
+ghost use Rattle.arch_model.specs.Standing.{LastKnown};
 ghost use Rattle.arch_model.specs.declared.answer.Answer.{Answer};
 ghost use Rattle.store_finding.specs.Files.{as_read};
 ghost use Rattle.epoch_store.specs.First.{MakingLeaves};
 ghost use Rattle.epoch_store.specs.Opens.{ReadsWith, SyncsAtMost};
-ghost use Rattle.store_finding.specs.Kept.{View, IsStoreWith};
-ghost use Rattle.epoch_store.specs.Commands.{HasSizes};
+ghost use Rattle.store_finding.specs.Kept.{StoreState, IsStoreWith};
+ghost use Rattle.epoch_store.specs.Commands.{StoreHasSizes};
 ghost use Rattle.root_slots.specs.Between.{RunsBetween};
 ghost use Rattle.archive_core.specs.Commands.{DoneBy, FilesFor, IsForCommand, OnDone, OnRefusal, OnlyLooks, UnlessFault, cache_left, way_of};
-ghost use Rattle.archive_cli.specs.DiskCommands.{Makes, unmade, TakesTo, ReindexesTo, ChecksTo, IsOpenedAs, IsReply, IsReindex, IsCheck, StandsAs, TakesOn, ReindexesOn, ChecksOn, RunsOrStays, LeavesEither, IsFault, taking};
+ghost use Rattle.archive_cli.specs.DiskCommands.{MakesDisk, unmade, TakesTo, ReindexesTo, ChecksTo, IsOpenedAs, IsReply, IsReindex, IsCheck, StandsAs, CommandTakes, ReindexesOn, ChecksOn, RunsOrStays, LeavesEither, IsFault, taking};
 ghost use Rattle.archive_cli.specs.OpenedFiles.{CommitsIfDone, CommitsOne, LeavesFiles};
 
 use crate::outcome::Outcome;
@@ -30,9 +31,9 @@ use std::alloc::Global;
 /// Makes an archive with these settings on a disk that has none.
 pub(crate) fn make<D: Disk>(alloc: Global, disk: D, config: &Config) -> (Outcome, D)
     requires config { IsConfig config.now }
-    ensures any_moment { LeavesOnly D.moment D.left_since disk result.1
+    ensures crash { LeavesOnly D.moment D.left_since disk result.1
         (MakingLeaves (empty_archive config.now) (D.content disk)) }
-    ensures made { Makes config.now result.0 (D.content disk) (D.content result.1) }
+    ensures made { MakesDisk config.now result.0 (D.content disk) (D.content result.1) }
     ensures cause { RoseIf (IsFault result.0) (D.faults disk) (D.faults result.1) }
 {
     match Engine::make(alloc, disk, config) {
@@ -60,12 +61,12 @@ pub(crate) fn take<D: Disk>(
     moment: u64,
 ) -> (Outcome, D)
     requires moment { moment ≤ last_moment }
-    ensures any_moment { RunsOrStays D.content D.moment D.left_since disk result.1
+    ensures crash { RunsOrStays D.content D.moment D.left_since disk result.1
         (LeavesEither (way_of command.now) (taking command.now moment)) }
-    ensures between { RunsBetween D.content D.moment D.left_since disk result.1 }
-    ensures stands { (s : Standing) (cache : List ℕ) → StandsAs cache s (D.content disk)
-        → (t : Standing) × StandsAs cache t (D.content result.1)
-        × TakesOn s (D.content disk) (taking command.now moment) result.0 t }
+    ensures crash_between { RunsBetween D.content D.moment D.left_since disk result.1 }
+    ensures stands { (s : LastKnown) (cache : List ℕ) → StandsAs cache s (D.content disk)
+        → (t : LastKnown) × StandsAs cache t (D.content result.1)
+        × CommandTakes s (D.content disk) (taking command.now moment) result.0 t }
     ensures done { (a : Archive) (cache : List ℕ) → ReadsWith cache a (D.content disk)
         → TakesTo (way_of command.now) cache a (taking command.now moment a) result.0
         (D.content result.1) }
@@ -96,20 +97,20 @@ fn answered<D: Disk>(
     moment: u64,
 ) -> Answer
     requires moment { moment ≤ last_moment }
-    requires sizes { WhereTold (HasSizes archive) (D.content disk.old) }
-    ensures any_moment { (a : Archive) (cache : List ℕ)
+    requires sizes { WhereTold (StoreHasSizes archive) (D.content disk.old) }
+    ensures crash { (a : Archive) (cache : List ℕ)
         → IsStoreWith archive cache a (D.content disk.old)
         → LeavesOnly D.moment D.left_since disk.old disk.new
         (LeavesEither (way_of command.now) (taking command.now moment) cache a) }
     ensures done { (a : Archive) (cache : List ℕ)
-        → IsStoreWith archive cache a (D.content disk.old) → (v : View)
+        → IsStoreWith archive cache a (D.content disk.old) → (v : StoreState)
         × DoneBy v cache (cache_left command.now cache) a (taking command.now moment a) result
         (D.content disk.new) }
     ensures commits { OnDone result (CommitsOne (way_of command.now) (FilesFor command.now) archive
         (D.content disk.old) (D.content disk.new)) }
     ensures untouched { OnRefusal result (UnlessFault result
         (OnlyLooks D.content D.moment D.left_since disk.old disk.new)) }
-    ensures between { RunsBetween D.content D.moment D.left_since disk.old disk.new }
+    ensures crash_between { RunsBetween D.content D.moment D.left_since disk.old disk.new }
     ensures for_command { IsForCommand command.now result }
     ensures cause { RoseIf (result ≡ Answer.DiskFault) (D.faults disk.old) (D.faults disk.new) }
 {
@@ -126,10 +127,10 @@ fn answered<D: Disk>(
 /// Opening the archive rebuilds all of these from the number map and the epochs, and nothing of them
 /// outlives a run, so it is opened and counted.
 pub(crate) fn reindex<D: Disk>(alloc: Global, disk: D) -> (Outcome, D)
-    ensures any_moment { SyncsAtMost D.content D.moment D.left_since disk result.1 }
-    ensures between { RunsBetween D.content D.moment D.left_since disk result.1 }
-    ensures stands { (s : Standing) (cache : List ℕ) → StandsAs cache s (D.content disk)
-        → (t : Standing) × StandsAs cache t (D.content result.1)
+    ensures crash { SyncsAtMost D.content D.moment D.left_since disk result.1 }
+    ensures crash_between { RunsBetween D.content D.moment D.left_since disk result.1 }
+    ensures stands { (s : LastKnown) (cache : List ℕ) → StandsAs cache s (D.content disk)
+        → (t : LastKnown) × StandsAs cache t (D.content result.1)
         × ReindexesOn s (D.content disk) result.0 t }
     ensures done { (a : Archive) (cache : List ℕ) → ReadsWith cache a (D.content disk)
         → ReindexesTo cache a result.0 (D.content result.1) }
@@ -149,10 +150,10 @@ pub(crate) fn reindex<D: Disk>(alloc: Global, disk: D) -> (Outcome, D)
 
 /// Reads the whole archive on a disk, and counts its entries and live messages.
 pub(crate) fn check<D: Disk>(alloc: Global, disk: D) -> (Outcome, D)
-    ensures any_moment { SyncsAtMost D.content D.moment D.left_since disk result.1 }
-    ensures between { RunsBetween D.content D.moment D.left_since disk result.1 }
-    ensures stands { (s : Standing) (cache : List ℕ) → StandsAs cache s (D.content disk)
-        → (t : Standing) × StandsAs cache t (D.content result.1)
+    ensures crash { SyncsAtMost D.content D.moment D.left_since disk result.1 }
+    ensures crash_between { RunsBetween D.content D.moment D.left_since disk result.1 }
+    ensures stands { (s : LastKnown) (cache : List ℕ) → StandsAs cache s (D.content disk)
+        → (t : LastKnown) × StandsAs cache t (D.content result.1)
         × ChecksOn s (D.content disk) result.0 t }
     ensures done { (a : Archive) (cache : List ℕ) → ReadsWith cache a (D.content disk)
         → ChecksTo cache a result.0 (D.content result.1) }

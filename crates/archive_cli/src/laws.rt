@@ -1,4 +1,5 @@
 //! The laws of scripts, for all events, and of runs in order, for all words, inputs and faults.
+//! Pure.
 ghost use Rattle.archive_cli.specs.Laws.{PlainIsTranscript, RunsInARow};
 
 use arch_model::{law_of_commands, law_of_numbers, numbers_keep_their_texts};

@@ -1,5 +1,7 @@
-//! All that the program `piv2` does, over any disk, host, input, output and clock: the words of the command
-//! line say what.
+//! All that the program `piv2` does, over any disk, host, input, output and clock.
+//! Writes the disk; syncs.
+//!
+//! The words of the command line say what.
 #![tactic(auto)]
 
 mod disk_commands;

@@ -1,4 +1,5 @@
 //! Fills an archive in memory, and prints what it has then.
+//! Writes the disk; syncs.
 ghost use Rattle.std.specs.Prelude.{◌≡◌, ◌≤◌, IfOk};
 ghost use Rattle.answer_lines.specs.Lines.{whole_line};
 ghost use Rattle.arch_model.specs.Archives.{Archive};

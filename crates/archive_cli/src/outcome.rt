@@ -1,4 +1,5 @@
 //! How a command over the archive on a disk ends, and what is printed of it.
+//! Pure.
 ghost use Rattle.std.specs.Prelude.{◌≡◌, ◌++◌, codes, decimal};
 ghost use Rattle.edge_io.specs.Phrases.{Says};
 ghost use Rattle.answer_lines.specs.Lines.{whole_line};

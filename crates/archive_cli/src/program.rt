@@ -1,4 +1,5 @@
 //! All that the program does, over the disk, host, input, output and clock that it is given.
+//! Writes the disk; syncs.
 ghost use Rattle.std.specs.Prelude.{◌≡◌, ◌≤◌, ◌+◌, ◌++◌, ℕ, List, All, None, length, codes, decimal};
 ghost use Rattle.disk_model.specs.Disk.{LeavesOnly};
 ghost use Rattle.root_slots.specs.Between.{RunsBetween};
@@ -8,7 +9,7 @@ ghost use Rattle.archive_cli.specs.declared.words.Job.TheVariants.{Serve};
 ghost use Rattle.arch_base.specs.declared.config.Config.{Config};
 ghost use Rattle.arch_model.specs.declared.answer.Answer.{Answer};
 ghost use Rattle.archive_core.specs.Commands.{FilesFor, IsForCommand, way_of};
-ghost use Rattle.store_finding.specs.Kept.{View};
+ghost use Rattle.store_finding.specs.Kept.{StoreState};
 ghost use Rattle.archive_cli.specs.DiskCommands.{taking};
 ghost use Rattle.archive_cli.specs.Outcomes.{outcome_line, status_of};
 ghost use Rattle.archive_cli.specs.Program.{RanTo, AsksForInit, AsksForMoment, TakesInput, TookAtMost, CommandActs, InitActs, InitLeaves, CommandLeaves, MessageLeaves, WordsLeave, putting, putting_answers, putting_files, putting_way, all_edges, edges, input_limit, message_limit, made_at};
@@ -57,11 +58,11 @@ pub fn run<D: Disk, H: Host, S: Source, O: Sink, C: Clock>(
         (S.left input.new) (S.faults input.new) }
     ensures sink { O.alike out.old out.new }
     // What the job of the words does to the disk, and what a crash leaves at each moment of it.
-    ensures any_moment { WordsLeave D.content D.moment D.left_since (spelled words.now) disk result.1
+    ensures crash { WordsLeave D.content D.moment D.left_since (spelled words.now) disk result.1
         (S.left input.old) (C.coming clock.old) }
     // Unless an archive is made, the bytes of the root file between its gates and its bodies are at
     // each moment as before. While one is served, the next clause says so.
-    ensures between { (AsksForInit (spelled words.now) → ⊥)
+    ensures crash_between { (AsksForInit (spelled words.now) → ⊥)
         → ((turns port : ℕ) → AsksFor (spelled words.now) (Serve turns port) → ⊥)
         → RunsBetween D.content D.moment D.left_since disk result.1 }
     // What serving did: the events that it took, the replies to each over the archive of that moment,
@@ -143,7 +144,7 @@ fn init<D: Disk, O: Sink, C: Clock>(
         (C.faults clock.old) (D.content disk) (D.faults disk))
         (all_edges None 0 (O.taken out.new) (O.faults out.new) (C.coming clock.new)
         (C.faults clock.new) (D.content result.1) (D.faults result.1)) }
-    ensures any_moment { LeavesOnly D.moment D.left_since disk result.1
+    ensures crash { LeavesOnly D.moment D.left_since disk result.1
         (InitLeaves config (C.coming clock.old) (D.content disk)) }
     ensures disk_later { D.faults disk ≤ D.faults result.1 }
     ensures clock_later { C.faults clock.old ≤ C.faults clock.new }
@@ -185,9 +186,9 @@ fn put_input<D: Disk, S: Source, O: Sink, C: Clock>(
         (C.coming clock.new) (C.faults clock.new) (D.content result.1) (D.faults result.1)) }
     ensures later { S.faults input.old ≤ S.faults input.new }
     ensures few { TookAtMost message_limit (S.left input.old) (S.left input.new) }
-    ensures any_moment { MessageLeaves D.content D.moment D.left_since disk result.1
+    ensures crash { MessageLeaves D.content D.moment D.left_since disk result.1
         (S.left input.old) (C.coming clock.old) (putting_way place) (putting place) }
-    ensures between { RunsBetween D.content D.moment D.left_since disk result.1 }
+    ensures crash_between { RunsBetween D.content D.moment D.left_since disk result.1 }
     ensures disk_later { D.faults disk ≤ D.faults result.1 }
     ensures clock_later { C.faults clock.old ≤ C.faults clock.new }
     ensures sink { O.alike out.old out.new }
@@ -212,7 +213,7 @@ fn put_input<D: Disk, S: Source, O: Sink, C: Clock>(
 fn command_of(place: Option<u32>, message: &[u8]) -> Command<'_>
     ensures wanted { taking result ≡ putting place message.now }
     ensures way { way_of result ≡ putting_way place }
-    ensures files { (found made : View) → FilesFor result found made
+    ensures files { (found made : StoreState) → FilesFor result found made
         → putting_files place found made }
     ensures answers { (reply : Answer) → IsForCommand result reply → putting_answers place reply }
 {
@@ -236,9 +237,9 @@ fn carry_out<D: Disk, O: Sink, C: Clock>(
         (C.faults clock.old) (D.content disk) (D.faults disk))
         (all_edges None 0 (O.taken out.new) (O.faults out.new) (C.coming clock.new)
         (C.faults clock.new) (D.content result.1) (D.faults result.1)) }
-    ensures any_moment { CommandLeaves D.content D.moment D.left_since disk result.1
+    ensures crash { CommandLeaves D.content D.moment D.left_since disk result.1
         (C.coming clock.old) (way_of command.now) (taking command.now) }
-    ensures between { RunsBetween D.content D.moment D.left_since disk result.1 }
+    ensures crash_between { RunsBetween D.content D.moment D.left_since disk result.1 }
     ensures disk_later { D.faults disk ≤ D.faults result.1 }
     ensures clock_later { C.faults clock.old ≤ C.faults clock.new }
     ensures sink { O.alike out.old out.new }

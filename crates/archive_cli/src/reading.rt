@@ -1,7 +1,8 @@
 //! Reads the input up to its end, or up to a limit.
+//! Allocates.
 ghost use Rattle.std.specs.Prelude.{◌≡◌, ◌≤◌, ◌<◌, ◌+◌, IfOk, length};
 ghost use Rattle.archive_cli.specs.Program.{TookAtMost, input_limit, message_limit};
-ghost use Rattle.archive_cli.specs.Printing.{IsRead, IsFrontRead, IsPieceRead};
+ghost use Rattle.archive_cli.specs.Printing.{IsInputRead, IsFrontRead, IsPieceRead};
 
 use arch_base::{Bytes, NoMemory};
 use edge_io::{Source, SourceFault};
@@ -37,7 +38,7 @@ const BUFFER_LEN: usize = 65_536;
 ///
 /// Takes at most 268,435,457 bytes: an input with that many is too long.
 pub(crate) fn read_input<S: Source>(alloc: Global, input: &mut S) -> Result<Bytes, InputRefusal>
-    ensures read { IsRead (S.left input.old) (S.faults input.old) result (S.faults input.new) }
+    ensures read { IsInputRead (S.left input.old) (S.faults input.old) result (S.faults input.new) }
     ensures later { S.faults input.old ≤ S.faults input.new }
     ensures few { TookAtMost (input_limit + 1) (S.left input.old) (S.left input.new) }
 {

@@ -1,4 +1,5 @@
 //! Serves the archive on a disk.
+//! Writes the disk; syncs.
 ghost use Rattle.std.specs.Prelude.{◌≡◌, ◌≤◌};
 ghost use Rattle.archive_cli.specs.Printing.{Printed, Exactly};
 ghost use Rattle.archive_cli.specs.Serving.{ServeRun, ServesDisk, end_line, end_status, hosted, run_line, run_status};

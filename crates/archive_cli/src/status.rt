@@ -1,4 +1,5 @@
 //! The statuses that the program ends with.
+//! Pure.
 ghost use Rattle.std.specs.Prelude.{◌≡◌, is_ok, if◌then◌else◌};
 ghost use Rattle.archive_cli.specs.Statuses.{code_of};
 

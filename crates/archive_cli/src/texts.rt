@@ -1,4 +1,5 @@
 //! The texts that the program prints about itself.
+//! Pure.
 
 /// What `--help` prints: each command, what it does, and an example. It fits 80 columns and 23 lines.
 pub const HELP: &str = "\

@@ -1,7 +1,8 @@
 //! The words of a command line.
+//! Pure.
 ghost use Rattle.std.specs.Prelude.{◌≡◌, ◌≢◌, ◌∷◌, [], Some, codes, decimal};
 ghost use Rattle.edge_io.specs.Parsing.{Spells};
-ghost use Rattle.archive_cli.specs.Words.{IsJob, IsLone, IsSetting, IsServeOption, IsUpTo, config_of, setting_word, serve_word, spelled};
+ghost use Rattle.archive_cli.specs.Words.{IsJob, IsLone, IsSetting, IsServeOption, IsOneUpTo, config_of, setting_word, serve_word, spelled};
 ghost use Rattle.archive_cli.specs.Options.{IsCollected, IsConfigured, IsServing, IsWith, config_by};
 
 use arch_base::{Config, Name, read_decimal};
@@ -408,7 +409,7 @@ fn read_setting(word: &str) -> Option<Setting>
 
 /// Returns the number of a message that a text spells, or `None` if it spells none.
 fn read_number(text: &[u8]) -> Option<u32>
-    ensures { Spells (IsUpTo 2147483647) decimal text.now result }
+    ensures { Spells (IsOneUpTo 2147483647) decimal text.now result }
 {
     let number = read_up_to(MAX_NUMBER, text)?;
     Some(number as u32)
@@ -416,7 +417,7 @@ fn read_number(text: &[u8]) -> Option<u32>
 
 /// Returns the number that a text spells, or `None` if it spells none from 1 to `most`.
 fn read_up_to(most: u64, text: &[u8]) -> Option<u64>
-    ensures { Spells (IsUpTo most) decimal text.now result }
+    ensures { Spells (IsOneUpTo most) decimal text.now result }
 {
     let value = read_decimal(text)?;
     if (1..=most).contains(&value) {

@@ -14,7 +14,7 @@ use Rattle.arch_model.specs.declared.text_refusal.TextRefusal.TheVariants.{DiskF
 use Rattle.arch_model.proofs.Shelving.{rises-from, blob_found-text, blob-found, blob-none}
 use Rattle.store_finding.specs.declared.entries.StoredEntry.{StoredEntry}
 use Rattle.epoch_store.specs.Reads.{GivesTextOf, line_if, line_of, text_if}
-use Rattle.store_finding.specs.Kept.{View, Keeps}
+use Rattle.store_finding.specs.Kept.{StoreState, KeepsArchive}
 use Rattle.archive_core.specs.Numbers.{IsMessageAt, HasBlobAt, IsBlobIndex}
 use Rattle.archive_core.proofs.Stored.{kept-at, message-at}
 
@@ -29,13 +29,13 @@ has_it [] blob text is = absurd (cc)
 has_it (e ∷ es) blob text is = has_step (bytes_eq blob (blob_id_of e.text).0) e es blob text refl is (λ more. has_it es blob text more)
 
 -- The entry of the archive that is the message of a number is the one of that number's text.
-pub record MessageOf (v : View) (a : Archive) (n i : ℕ) (s : StoredEntry) : Type 0 where
+pub record MessageOf (v : StoreState) (a : Archive) (n i : ℕ) (s : StoredEntry) : Type 0 where
   pub entry : Entry
   pub there : slice_get a.entries i ≡ Some entry
   pub once : text_of (messages a.entries) n ≡ Some entry.text
   pub blob : s.seen.blob ≡ blob_id_of entry.text
 
-pub message-of : (v : View) (a : Archive) (n i : ℕ) → Keeps v a → (at : IsMessageAt v.entries n i) → MessageOf v a n i at.entry
+pub message-of : (v : StoreState) (a : Archive) (n i : ℕ) → KeepsArchive v a → (at : IsMessageAt v.entries n i) → MessageOf v a n i at.entry
 message-of v a n i keeps at =
     let found = kept-at [] a.entries i at.entry (ap (λ (es : List StoredEntry). slice_get es i) (sym keeps.kept) ∙ at.there) in
     let e : Entry = found.entry in
@@ -49,13 +49,13 @@ message-of v a n i keeps at =
     }
 
 -- The entry of the number of a blob id has its text.
-pub blob-index : (v : View) (a : Archive) (blob : List ℕ) (n i : ℕ) → Keeps v a → Some n ≡ blob_number a.entries blob → IsMessageAt v.entries n i → IsBlobIndex a.entries blob (Some i)
+pub blob-index : (v : StoreState) (a : Archive) (blob : List ℕ) (n i : ℕ) → KeepsArchive v a → Some n ≡ blob_number a.entries blob → IsMessageAt v.entries n i → IsBlobIndex a.entries blob (Some i)
 blob-index v a blob n i keeps is at =
     let own = message-of v a n i keeps at in
     sym (blob_found-text 1 a.entries blob n keeps.valid.ends (rises-from 1 0 a.entries keeps.valid.order) (sym is)) ∙ own.once ∙ sym (ap text_if own.there)
 
 -- And so it has the blob id.
-pub blob-there : (v : View) (a : Archive) (id : Id20) (n i : ℕ) → Keeps v a → Some n ≡ blob_number a.entries id.0 → IsMessageAt v.entries n i → HasBlobAt v.entries id i
+pub blob-there : (v : StoreState) (a : Archive) (id : Id20) (n i : ℕ) → KeepsArchive v a → Some n ≡ blob_number a.entries id.0 → IsMessageAt v.entries n i → HasBlobAt v.entries id i
 blob-there v a id n i keeps is at =
     let own = message-of v a n i keeps at in
     let text : blob_text a.entries id.0 ≡ Some own.entry.text = blob-index v a id.0 n i keeps is at ∙ ap text_if own.there in
@@ -67,7 +67,7 @@ pub blob-nowhere : (a : Archive) (id : Id20) → None ≡ blob_number a.entries 
 blob-nowhere a id is = blob-none a.entries id.0 (sym is)
 
 -- The message of a blob id's number has an index.
-pub never-lost : (v : View) (a : Archive) (id : Id20) (n : ℕ) → Keeps v a → Some n ≡ blob_number a.entries id.0 → is_some (text_of (messages a.entries) n) ≡ false → ⊥
+pub never-lost : (v : StoreState) (a : Archive) (id : Id20) (n : ℕ) → KeepsArchive v a → Some n ≡ blob_number a.entries id.0 → is_some (text_of (messages a.entries) n) ≡ false → ⊥
 never-lost v a id n keeps is lacks =
     let found = blob-found 1 a.entries id.0 n keeps.valid.ends (rises-from 1 0 a.entries keeps.valid.order) (sym is) in
     let wrong : true ≡ false = sym (ap is_some found.1.1) ∙ lacks in

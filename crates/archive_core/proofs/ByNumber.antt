@@ -13,10 +13,10 @@ use Rattle.arch_model.specs.declared.text_refusal.TextRefusal.{TextRefusal}
 use Rattle.arch_model.specs.declared.text_refusal.TextRefusal.TheVariants.{DiskFault, Damaged, NoMemory}
 use Rattle.store_finding.specs.declared.entries.StoredEntry.{StoredEntry}
 use Rattle.epoch_store.specs.Reads.{GivesText, FindsText, GivesTextOf, text_if, IsEpochFound}
-use Rattle.store_finding.specs.Kept.{View, Keeps, stored_after}
+use Rattle.store_finding.specs.Kept.{StoreState, KeepsArchive, stored_after}
 use Rattle.epoch_store.specs.Commands.{live_kept}
 use Rattle.archive_core.specs.Numbers.{has_live, IsMessageAt, IsLiveAt, GivesKept, GivesTextKept, TellsOther}
-use Rattle.archive_core.specs.Placing.{message_places, PlacesFrom, PlacesRise, live_place, IsPlaceOf}
+use Rattle.archive_core.specs.Placing.{message_places, PlacesFrom, PlacesRise, live_place, IsPlaceOfNumber}
 use Rattle.archive_core.specs.declared.placing.MessagePlace.{MessagePlace}
 use Rattle.archive_core.proofs.Places.{places-rise, places-low, places-one, places-tell, live-places, message-place}
 use Rattle.archive_core.proofs.ByBlob.{message-of}
@@ -117,7 +117,7 @@ none-other xs n i p count here other rise k q there same = elim (before_or_not k
     ]
 
 -- What places tell of the archive that a store keeps.
-module _ (v : View) (places : List MessagePlace) (placed : places ≡ message_places 0 v.entries) where
+module _ (v : StoreState) (places : List MessagePlace) (placed : places ≡ message_places 0 v.entries) where
   pub live-known : (n : ℕ) → live_place places n ≡ has_live v.entries n
   live-known n = ap (λ (ps : List MessagePlace). live_place ps n) placed ∙ live-places 0 v.entries n
 
@@ -133,7 +133,7 @@ module _ (v : View) (places : List MessagePlace) (placed : places ≡ message_pl
       let told = places-tell 0 v.entries at p (ap (λ (ps : List MessagePlace). slice_get ps at) (sym placed) ∙ there) in
       record { message = message-found at n p there same; is_live = told.is_live live }
 
-  module _ (a : Archive) (keeps : Keeps v a) where
+  module _ (a : Archive) (keeps : KeepsArchive v a) where
     pub rises : PlacesRise places
     rises = subst PlacesRise (sym (placed ∙ ap (message_places 0) keeps.kept)) (places-low 0 1 (message_places 0 (stored_after [] a.entries)) (omega arith) (places-rise [] a.entries 0 1 0 keeps.valid.order))
 
@@ -146,11 +146,11 @@ module _ (v : View) (places : List MessagePlace) (placed : places ≡ message_pl
     no_text (Some text) lacks = absurd (cc)
 
     -- The number that isn't found, or whose place isn't live, isn't shown.
-    pub unfound : (n : ℕ) → IsPlaceOf places n None → is_some (text_of (live a.entries) n) ≡ false
+    pub unfound : (n : ℕ) → IsPlaceOfNumber places n None → is_some (text_of (live a.entries) n) ≡ false
     unfound n none = sym (live-shown n) ∙ not_true (live_place places n) (λ has. let at = live-at places n has in none rises at.index at.place at.there at.number_is)
 
     -- Nor is it that of a message.
-    pub unsaid : (n : ℕ) → IsPlaceOf places n None → is_some (text_of (messages a.entries) n) ≡ false
+    pub unsaid : (n : ℕ) → IsPlaceOfNumber places n None → is_some (text_of (messages a.entries) n) ≡ false
     unsaid n none = by (text_of (messages a.entries) n) refl where
       by : (o : Option (List ℕ)) → text_of (messages a.entries) n ≡ o → is_some o ≡ false
       by None is = refl
@@ -169,13 +169,13 @@ module _ (v : View) (places : List MessagePlace) (placed : places ≡ message_pl
     shown-live at n p there same live = sym (live-shown n) ∙ subst (λ (m : ℕ). live_place places m ≡ true) same (place-live places at p there live)
 
 -- The index of a message is that of an entry.
-pub inside-message : (v w : View) (n i : ℕ) → w ≡ v → IsMessageAt v.entries n i → i < length w.entries
-inside-message v w n i same at = subst (λ (u : View). i < length u.entries) (sym same) (entry_within v.entries i at.entry at.there) where
+pub inside-message : (v w : StoreState) (n i : ℕ) → w ≡ v → IsMessageAt v.entries n i → i < length w.entries
+inside-message v w n i same at = subst (λ (u : StoreState). i < length u.entries) (sym same) (entry_within v.entries i at.entry at.there) where
   entry_within : (xs : List StoredEntry) (k : ℕ) (x : StoredEntry) → slice_get xs k ≡ Some x → k < length xs
   entry_within xs k x there = slice_get_within xs k x there
 
 -- The text of the entry that is a live message is the text of its number.
-module _ (v : View) (a : Archive) (keeps : Keeps v a) (n i : ℕ) (at : IsLiveAt v.entries n i) where
+module _ (v : StoreState) (a : Archive) (keeps : KeepsArchive v a) (n i : ℕ) (at : IsLiveAt v.entries n i) where
   pub entry-text : (text : List ℕ) → text_if (slice_get a.entries i) ≡ Some text → text_of (live a.entries) n ≡ Some text
   entry-text text read =
       let found = kept-at [] a.entries i at.message.entry (ap (λ (es : List StoredEntry). slice_get es i) (sym keeps.kept) ∙ at.message.there) in
@@ -194,34 +194,34 @@ module _ (v : View) (a : Archive) (keeps : Keeps v a) (n i : ℕ) (at : IsLiveAt
   text-gives old new (Err NoMemory) given = tt
 
 -- The result by what is kept of the number's entry.
-pub text-kept : (v : View) (k : Option Content) (n i : ℕ) (old new : List ℕ) (r : Result Unit TextRefusal) → IsMessageAt v.entries n i → ((s : StoredEntry) → slice_get v.entries i ≡ Some s → GivesText s old new r)
+pub text-kept : (v : StoreState) (k : Option Content) (n i : ℕ) (old new : List ℕ) (r : Result Unit TextRefusal) → IsMessageAt v.entries n i → ((s : StoredEntry) → slice_get v.entries i ≡ Some s → GivesText s old new r)
     → ((s : StoredEntry) → slice_get v.entries i ≡ Some s → WhereTold (FindsText v.root s old new r) k) → GivesTextKept v k n old new r
 text-kept v k n i old new r at given found = record { index = i; entry = at.entry; at = at.there; met = at.number_is; gives = given at.entry at.there; finds = found at.entry at.there }
 
 -- Running out of memory leaves the bytes.
-nothing_found : (v : View) (k : Option Content) (s : StoredEntry) (old new : List ℕ) → WhereTold (FindsText v.root s old new (Err NoMemory)) k
+nothing_found : (v : StoreState) (k : Option Content) (s : StoredEntry) (old new : List ℕ) → WhereTold (FindsText v.root s old new (Err NoMemory)) k
 nothing_found v None s old new = tt
 nothing_found v (Some k) s old new = tt
 
-pub wanting-kept : (v : View) (k : Option Content) (n : ℕ) (old : List ℕ) → has_live v.entries n ≡ true → GivesTextKept v k n old old (Err NoMemory)
+pub wanting-kept : (v : StoreState) (k : Option Content) (n : ℕ) (old : List ℕ) → has_live v.entries n ≡ true → GivesTextKept v k n old old (Err NoMemory)
 wanting-kept v k n old has = let at = live-number v.entries n has in record { index = at.index; entry = at.entry; at = at.there; met = at.number_is; gives = refl; finds = nothing_found v k at.entry old old }
 
 -- If bytes with another id were found, the two ids differ.
-pub tells-other : (meets : StoredEntry → Type 0) (v : View) (k : Option Content) (old new : List ℕ) (r : Result Unit TextRefusal) → GivesKept meets v k old new r → TellsOther r
+pub tells-other : (meets : StoredEntry → Type 0) (v : StoreState) (k : Option Content) (old new : List ℕ) (r : Result Unit TextRefusal) → GivesKept meets v k old new r → TellsOther r
 tells-other meets v k old new (Ok done) kept = tt
 tells-other meets v k old new (Err (Damaged named found)) kept = kept.gives.2
 tells-other meets v k old new (Err DiskFault) kept = tt
 tells-other meets v k old new (Err NoMemory) kept = tt
 
 -- A text was appended, or nothing was.
-pub kept-appends : (meets : StoredEntry → Type 0) (v : View) (k : Option Content) (old new : List ℕ) (r : Result Unit TextRefusal) → GivesKept meets v k old new r → AppendsTo old new
+pub kept-appends : (meets : StoredEntry → Type 0) (v : StoreState) (k : Option Content) (old new : List ℕ) (r : Result Unit TextRefusal) → GivesKept meets v k old new r → AppendsTo old new
 kept-appends meets v k old new (Ok done) given = (given.gives.0, given.gives.2)
 kept-appends meets v k old new (Err DiskFault) given = appends-none old new given.gives
 kept-appends meets v k old new (Err (Damaged named found)) given = appends-none old new given.gives.0
 kept-appends meets v k old new (Err NoMemory) given = appends-none old new given.gives
 
 -- The bytes of an epoch were appended, or nothing was.
-pub epoch_appends : (v : View) (e : ℕ) (old new : List ℕ) (r : Result Bool TextRefusal) → IsEpochFound v.root e old new r → KeepsUnlessFound old new r → AppendsTo old new
+pub epoch_appends : (v : StoreState) (e : ℕ) (old new : List ℕ) (r : Result Bool TextRefusal) → IsEpochFound v.root e old new r → KeepsUnlessFound old new r → AppendsTo old new
 epoch_appends v e old new (Ok true) found kept = (found.0, found.3)
 epoch_appends v e old new (Ok false) found kept = appends-none old new kept
 epoch_appends v e old new (Err refused) found kept = appends-none old new kept

@@ -10,7 +10,7 @@ use Rattle.arch_model.specs.Validity.{IsArchive}
 use Rattle.arch_model.proofs.LiveEntries.{live-all}
 use Rattle.arch_judge.proofs.Endings.{Ascend, live-ascend}
 use Rattle.store_finding.specs.declared.entries.StoredEntry.{StoredEntry}
-use Rattle.store_finding.specs.Kept.{View, Keeps, stored_after}
+use Rattle.store_finding.specs.Kept.{StoreState, KeepsArchive, stored_after}
 use Rattle.epoch_store.specs.Commands.{live_kept, is_ended_in}
 use Rattle.archive_core.specs.Placing.{message_places}
 use Rattle.archive_core.specs.declared.placing.MessagePlace.{MessagePlace}
@@ -76,7 +76,7 @@ kept_length (s ∷ ss) [] kept = absurd kept
 kept_length (s ∷ ss) (e ∷ es) kept = (let rest = kept_length ss es kept.1 in omega (arith, rest))
 
 -- As many live entries are kept as the archive has live messages, so 32 bits count them.
-pub kept-counted : (v : View) (a : Archive) (count : ℕ) → Keeps v a → count ≡ length (live_kept v.entries) → min count 4294967295 ≡ length (live a.entries)
+pub kept-counted : (v : StoreState) (a : Archive) (count : ℕ) → KeepsArchive v a → count ≡ length (live_kept v.entries) → min count 4294967295 ≡ length (live a.entries)
 kept-counted v a count keeps is =
     let same : count ≡ length (live a.entries) = is ∙ ap (λ (ss : List StoredEntry). length (live_kept ss)) keeps.kept ∙ kept_length (live_kept (stored_after [] a.entries)) (live a.entries) (live-kept [] a.entries) in
     let bound : 1 + length (live a.entries) ≤ a.next = few_live a keeps.valid in

@@ -15,13 +15,13 @@ use Rattle.git_objects.specs.declared.entry_kind.EntryKind.{EntryKind}
 use Rattle.git_objects.specs.declared.entry_kind.EntryKind.TheVariants.{Message, Deletion}
 use Rattle.mail_reader.specs.Content.{content_id_of}
 use Rattle.arch_model.specs.Archives.{is_message}
-use Rattle.arch_judge.specs.Indexes.{Puts, Loses}
+use Rattle.arch_judge.specs.Indexes.{IndexPuts, IndexLoses}
 use Rattle.arch_judge.specs.declared.index.Index.{Index}
 use Rattle.store_finding.specs.declared.entries.StoredEntry.{StoredEntry}
-use Rattle.store_finding.specs.Kept.{View}
+use Rattle.store_finding.specs.Kept.{StoreState}
 use Rattle.epoch_store.specs.Commands.{DropsEntries, EditsEntries, is_ended_in}
 use Rattle.store_planning.specs.Dropping.{KeptOf, without_blob}
-use Rattle.store_finding.specs.Indexes.{IndexesStored, TakesBy, Takes, owner_kept}
+use Rattle.store_finding.specs.Indexes.{IndexesStored, TakesBy, IndexTakes, owner_kept}
 use Rattle.archive_core.specs.Kept.{IndexesKept, PutsText}
 use Rattle.archive_core.specs.Placing.{message_places, has_ended, PlacesBy, PlacesFrom, has_blob_at, IsLiveWith}
 use Rattle.archive_core.specs.declared.placing.MessagePlace.{MessagePlace}
@@ -78,15 +78,15 @@ next-goes blob es i s less is same =
     ∙ append_none (without_blob (take i es) blob)
 
 -- What is taken into an index of an entry is what is taken of one that was kept of it.
-takes-kept : (s t : StoredEntry) (old new : Index) → KeptOf s t → Takes old new s → Takes old new t
+takes-kept : (s t : StoredEntry) (old new : Index) → KeptOf s t → IndexTakes old new s → IndexTakes old new t
 takes-kept s t old new kept takes = subst (λ (k : EntryKind). TakesBy k old new t) (sym kept.kind) (by s.seen.kind takes) where
   by : (k : EntryKind) → TakesBy k old new s → TakesBy k old new t
   by Message puts =
-      subst (λ (id : List ℕ). Puts old new id t.seen.blob (owner_kept t)) (sym kept.id)
-      (subst (λ (b : Id20). Puts old new s.seen.id b (owner_kept t)) (sym kept.blob)
-      (subst (λ (n : ℕ). Puts old new s.seen.id s.seen.blob (record { number = n; content = t.seen.content })) (sym kept.number)
-      (subst (λ (c : List ℕ). Puts old new s.seen.id s.seen.blob (record { number = s.number; content = c })) (sym kept.content) puts)))
-  by Deletion loses = subst (λ (id : List ℕ). Loses old new id) (sym kept.id) loses
+      subst (λ (id : List ℕ). IndexPuts old new id t.seen.blob (owner_kept t)) (sym kept.id)
+      (subst (λ (b : Id20). IndexPuts old new s.seen.id b (owner_kept t)) (sym kept.blob)
+      (subst (λ (n : ℕ). IndexPuts old new s.seen.id s.seen.blob (record { number = n; content = t.seen.content })) (sym kept.number)
+      (subst (λ (c : List ℕ). IndexPuts old new s.seen.id s.seen.blob (record { number = s.number; content = c })) (sym kept.content) puts)))
+  by Deletion loses = subst (λ (id : List ℕ). IndexLoses old new id) (sym kept.id) loses
 
 -- Entries that were kept of some and one more are such and one more.
 pub record LastKept (ss : List StoredEntry) (s : StoredEntry) (kept : List StoredEntry) : Type 0 where
@@ -110,12 +110,12 @@ pub kept-none : (index : Index) → index.owners.entries ≡ [] → index.blobs.
 kept-none index no_owners no_blobs [] zip = indexes_none index no_owners no_blobs
 kept-none index no_owners no_blobs (t ∷ ts) zip = absurd zip
 
-kept-more : (ss : List StoredEntry) (s : StoredEntry) (old new : Index) → IndexesKept ss old → Takes old new s → IndexesKept (ss ++ s ∷ []) new
+kept-more : (ss : List StoredEntry) (s : StoredEntry) (old new : Index) → IndexesKept ss old → IndexTakes old new s → IndexesKept (ss ++ s ∷ []) new
 kept-more ss s old new indexed takes kept zip =
     let parts = last-kept ss s kept zip in
     subst (λ (l : List StoredEntry). IndexesStored l new) (sym parts.is) (indexes_more parts.front parts.last old new (indexed parts.front parts.all) (takes-kept s parts.last old new parts.one takes))
 
-pub kept-stays : (blob : List ℕ) (es : List StoredEntry) (i : ℕ) (s : StoredEntry) (old new : Index) → i < length es → s ≡ get_or es i s → bytes_eq blob s.seen.blob.0 ≡ false → IndexesKept (without_blob (take i es) blob) old → Takes old new s → IndexesKept (without_blob (take (i + 1) es) blob) new
+pub kept-stays : (blob : List ℕ) (es : List StoredEntry) (i : ℕ) (s : StoredEntry) (old new : Index) → i < length es → s ≡ get_or es i s → bytes_eq blob s.seen.blob.0 ≡ false → IndexesKept (without_blob (take i es) blob) old → IndexTakes old new s → IndexesKept (without_blob (take (i + 1) es) blob) new
 kept-stays blob es i s old new less is other indexed takes = subst (λ (l : List StoredEntry). IndexesKept l new) (sym (next-stays blob es i s less is other)) (kept-more (without_blob (take i es) blob) s old new indexed takes)
 
 pub kept-goes : (blob : List ℕ) (es : List StoredEntry) (i : ℕ) (s : StoredEntry) (index : Index) → i < length es → s ≡ get_or es i s → bytes_eq blob s.seen.blob.0 ≡ true → IndexesKept (without_blob (take i es) blob) index → IndexesKept (without_blob (take (i + 1) es) blob) index
@@ -280,17 +280,17 @@ pub found-live : (places : List MessagePlace) (entries : List StoredEntry) (blob
 found-live places entries blob index d less lives has = (index, get_or places index d, slice_get-get_or places index d less, refl, lives, has)
 
 -- What is kept after an edit: the index and the places of the entries that stay, and of one more.
-pub indexes-edited : (old new : View) (before after : Index) (gone blob : Id20) (text : List ℕ) → IndexesKept (without_blob old.entries gone.0) before → blob ≡ blob_id_of text → PutsText before after text blob old.root.next → EditsEntries old new gone text → IndexesStored new.entries after
+pub indexes-edited : (old new : StoreState) (before after : Index) (gone blob : Id20) (text : List ℕ) → IndexesKept (without_blob old.entries gone.0) before → blob ≡ blob_id_of text → PutsText before after text blob old.root.next → EditsEntries old new gone text → IndexesStored new.entries after
 indexes-edited old new before after gone blob text indexed blob_is puts edits =
     let s = edits.entry in
-    let put : Puts before after s.seen.id blob (record { number = old.root.next; content = content_id_of text }) = puts s.seen.id edits.id in
-    let at_blob : Puts before after s.seen.id s.seen.blob (record { number = old.root.next; content = content_id_of text }) = subst (λ (i : Id20). Puts before after s.seen.id i (record { number = old.root.next; content = content_id_of text })) (blob_is ∙ sym edits.blob_is) put in
-    let at_number : Puts before after s.seen.id s.seen.blob (record { number = s.number; content = content_id_of text }) = subst (λ (n : ℕ). Puts before after s.seen.id s.seen.blob (record { number = n; content = content_id_of text })) (sym edits.number) at_blob in
-    let message_put : Puts before after s.seen.id s.seen.blob (owner_kept s) = subst (λ (c : List ℕ). Puts before after s.seen.id s.seen.blob (record { number = s.number; content = c })) (sym edits.content) at_number in
+    let put : IndexPuts before after s.seen.id blob (record { number = old.root.next; content = content_id_of text }) = puts s.seen.id edits.id in
+    let at_blob : IndexPuts before after s.seen.id s.seen.blob (record { number = old.root.next; content = content_id_of text }) = subst (λ (i : Id20). IndexPuts before after s.seen.id i (record { number = old.root.next; content = content_id_of text })) (blob_is ∙ sym edits.blob_is) put in
+    let at_number : IndexPuts before after s.seen.id s.seen.blob (record { number = s.number; content = content_id_of text }) = subst (λ (n : ℕ). IndexPuts before after s.seen.id s.seen.blob (record { number = n; content = content_id_of text })) (sym edits.number) at_blob in
+    let message_put : IndexPuts before after s.seen.id s.seen.blob (owner_kept s) = subst (λ (c : List ℕ). IndexPuts before after s.seen.id s.seen.blob (record { number = s.number; content = c })) (sym edits.content) at_number in
     subst (λ (es : List StoredEntry). IndexesStored es after) (sym edits.entries)
     (indexes_more edits.front s before after (indexed edits.front edits.kept) (subst (λ (k : EntryKind). TakesBy k before after s) (sym edits.kind) message_put))
 
-pub places-edited : (old new : View) (gone : Id20) (text : List ℕ) (count : ℕ) → count ≡ length (without_blob old.entries gone.0) → EditsEntries old new gone text → message_places 0 (without_blob old.entries gone.0) ++ place_of old.root.next count true ∷ [] ≡ message_places 0 new.entries
+pub places-edited : (old new : StoreState) (gone : Id20) (text : List ℕ) (count : ℕ) → count ≡ length (without_blob old.entries gone.0) → EditsEntries old new gone text → message_places 0 (without_blob old.entries gone.0) ++ place_of old.root.next count true ∷ [] ≡ message_places 0 new.entries
 places-edited old new gone text count count_is edits =
     let at : count ≡ 0 + length edits.front = (let same : length (without_blob old.entries gone.0) ≡ length edits.front = length_all_zip KeptOf (without_blob old.entries gone.0) edits.front edits.kept in omega (arith, count_is, same)) in
     ap (λ (ps : List MessagePlace). ps ++ place_of old.root.next count true ∷ []) (sym (places-kept 0 (without_blob old.entries gone.0) edits.front edits.kept))
@@ -299,8 +299,8 @@ places-edited old new gone text count count_is edits =
     ∙ sym (ap (message_places 0) edits.entries ∙ places-message 0 edits.front edits.entry edits.kind)
 
 -- What is kept after a purge.
-pub indexes-dropped : (old new : View) (index : Index) (gone : Id20) → IndexesKept (without_blob old.entries gone.0) index → DropsEntries old new gone → IndexesStored new.entries index
+pub indexes-dropped : (old new : StoreState) (index : Index) (gone : Id20) → IndexesKept (without_blob old.entries gone.0) index → DropsEntries old new gone → IndexesStored new.entries index
 indexes-dropped old new index gone indexed drops = indexed new.entries drops.entries
 
-pub places-dropped : (old new : View) (places : List MessagePlace) (gone : Id20) → places ≡ message_places 0 (without_blob old.entries gone.0) → DropsEntries old new gone → places ≡ message_places 0 new.entries
+pub places-dropped : (old new : StoreState) (places : List MessagePlace) (gone : Id20) → places ≡ message_places 0 (without_blob old.entries gone.0) → DropsEntries old new gone → places ≡ message_places 0 new.entries
 places-dropped old new places gone is drops = is ∙ sym (places-kept 0 (without_blob old.entries gone.0) new.entries drops.entries)

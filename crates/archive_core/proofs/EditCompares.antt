@@ -14,7 +14,7 @@ use Rattle.arch_model.specs.declared.text_refusal.TextRefusal.{TextRefusal}
 use Rattle.arch_model.specs.declared.text_refusal.TextRefusal.TheVariants as reading
 use Rattle.store_finding.specs.declared.entries.StoredEntry.{StoredEntry}
 use Rattle.epoch_store.specs.Reads.{GivesTextOf, text_if}
-use Rattle.store_finding.specs.Kept.{View, Keeps}
+use Rattle.store_finding.specs.Kept.{StoreState, KeepsArchive}
 use Rattle.archive_core.specs.Commands.{unread_answer}
 use Rattle.archive_core.specs.Numbers.{IsLiveAt}
 use Rattle.archive_core.specs.Rewriting.{ComparesForm}
@@ -22,15 +22,15 @@ use Rattle.archive_core.proofs.ByBlob.{message-of}
 use Rattle.archive_core.proofs.ByNumber.{entry-text, text-gives}
 
 -- The entry of a live number has the blob id of its text.
-pub live-blob : (v : View) (a : Archive) (n i : ℕ) (text : List ℕ) → Keeps v a → (at : IsLiveAt v.entries n i) → text_of (live a.entries) n ≡ Some text → at.message.entry.seen.blob ≡ blob_id_of text
+pub live-blob : (v : StoreState) (a : Archive) (n i : ℕ) (text : List ℕ) → KeepsArchive v a → (at : IsLiveAt v.entries n i) → text_of (live a.entries) n ≡ Some text → at.message.entry.seen.blob ≡ blob_id_of text
 live-blob v a n i text keeps at shown =
     let own = message-of v a n i keeps at.message in
     let read : text_of (live a.entries) n ≡ Some own.entry.text = entry-text v a keeps n i at own.entry.text (ap text_if own.there) in
     own.blob ∙ ap blob_id_of (same_Some own.entry.text text (sym read ∙ shown))
 
 -- A form with another blob id isn't the text.
-pub compares-other : (v : View) (a : Archive) (n i : ℕ) (seen : List StoredEntry) (e : StoredEntry) (found : Id20) (form bytes text : List ℕ) (wanted : Result (List ℕ) StoredRefusal) (r : Bool)
-    → Keeps v a → IsLiveAt v.entries n i → seen ≡ v.entries → wanted ≡ Ok form → found ≡ blob_id_of bytes → bytes ≡ form → r ≡ not (bytes_eq found.0 (get_or seen i e).seen.blob.0) → r ≡ true → text_of (live a.entries) n ≡ Some text → false ≡ is_form text wanted
+pub compares-other : (v : StoreState) (a : Archive) (n i : ℕ) (seen : List StoredEntry) (e : StoredEntry) (found : Id20) (form bytes text : List ℕ) (wanted : Result (List ℕ) StoredRefusal) (r : Bool)
+    → KeepsArchive v a → IsLiveAt v.entries n i → seen ≡ v.entries → wanted ≡ Ok form → found ≡ blob_id_of bytes → bytes ≡ form → r ≡ not (bytes_eq found.0 (get_or seen i e).seen.blob.0) → r ≡ true → text_of (live a.entries) n ≡ Some text → false ≡ is_form text wanted
 compares-other v a n i seen e found form bytes text wanted r keeps at same form_is found_is bytes_is r_is told shown =
     by (bytes_eq form text) refl ∙ ap (is_form text) (sym form_is)
   where
@@ -47,15 +47,15 @@ compares-other v a n i seen e found form bytes text wanted r keeps at same form_
         let wrong : true ≡ false = sym told ∙ r_is ∙ ap not hit in cc)
 
 -- A text that was read is compared with the form.
-pub compares-read : (v : View) (a : Archive) (n i : ℕ) (form bytes old new read text : List ℕ) (wanted : Result (List ℕ) StoredRefusal) (r : Bool)
-    → Keeps v a → IsLiveAt v.entries n i → wanted ≡ Ok form → bytes ≡ form → read ≡ new → old ≡ [] → GivesTextOf a i old new (Ok tt) → r ≡ bytes_eq bytes read → text_of (live a.entries) n ≡ Some text → r ≡ is_form text wanted
+pub compares-read : (v : StoreState) (a : Archive) (n i : ℕ) (form bytes old new read text : List ℕ) (wanted : Result (List ℕ) StoredRefusal) (r : Bool)
+    → KeepsArchive v a → IsLiveAt v.entries n i → wanted ≡ Ok form → bytes ≡ form → read ≡ new → old ≡ [] → GivesTextOf a i old new (Ok tt) → r ≡ bytes_eq bytes read → text_of (live a.entries) n ≡ Some text → r ≡ is_form text wanted
 compares-read v a n i form bytes old new read text wanted r keeps at form_is bytes_is read_is empty given r_is shown =
     let gives = text-gives v a keeps n i at [] new (Ok tt) (subst (λ (l : List ℕ). GivesTextOf a i l new (Ok tt)) empty given) in
     let same : read ≡ text = read_is ∙ gives.2 ∙ same_Some gives.0 text (sym gives.1 ∙ shown) in
     r_is ∙ ap (λ (l : List ℕ). bytes_eq l read) bytes_is ∙ ap (bytes_eq form) same ∙ ap (is_form text) (sym form_is)
 
 -- A text that wasn't read decides nothing.
-pub compares-unread : (v : View) (a : Archive) (n i : ℕ) (old new : List ℕ) (wanted : Result (List ℕ) StoredRefusal) (why : TextRefusal) (reply : Answer) → reply ≡ unread_answer v i why → GivesTextOf a i old new (Err why) → ComparesForm a n wanted (Err reply)
+pub compares-unread : (v : StoreState) (a : Archive) (n i : ℕ) (old new : List ℕ) (wanted : Result (List ℕ) StoredRefusal) (why : TextRefusal) (reply : Answer) → reply ≡ unread_answer v i why → GivesTextOf a i old new (Err why) → ComparesForm a n wanted (Err reply)
 compares-unread v a n i old new wanted reading.DiskFault reply is given = subst (λ (r : Answer). ComparesForm a n wanted (Err r)) (sym is) tt
 compares-unread v a n i old new wanted reading.NoMemory reply is given = subst (λ (r : Answer). ComparesForm a n wanted (Err r)) (sym is) tt
 compares-unread v a n i old new wanted (reading.Damaged named found) reply is given = absurd given

@@ -3,14 +3,14 @@ use Rattle.std.specs.Prelude.{◌≡◌, ℕ, Bool, true, false, List, [], Optio
 use Rattle.std.proofs.Common.{sym, ap, subst}
 use Rattle.arch_base.specs.Counts.{RoseIf}
 use Rattle.archive_core.specs.declared.texts.KeptText.{KeptText}
-use Rattle.disk_model.specs.Disk.{Content, Told, Unchanged, WhereTold}
+use Rattle.disk_model.specs.Disk.{Content, BothTold, Unchanged, WhereTold}
 use Rattle.mail_reader.specs.Stored.{stored}
 use Rattle.arch_model.specs.Archives.{Archive, live, text_of}
 use Rattle.arch_model.specs.Delivery.{edited, is_form}
 use Rattle.arch_model.specs.declared.answer.Answer.{Answer}
 use Rattle.arch_model.specs.declared.answer.Answer.TheVariants as answer
-use Rattle.store_finding.specs.Kept.{View, IsStoreWith}
-use Rattle.epoch_store.specs.Commands.{HasSizes}
+use Rattle.store_finding.specs.Kept.{StoreState, IsStoreWith}
+use Rattle.epoch_store.specs.Commands.{StoreHasSizes}
 use Rattle.archive_core.specs.Commands.{AnswersEdit, DoneBy, IfUnread, IfUnreadEdit, OnDone, TellsText}
 use Rattle.archive_core.specs.Engines.{unchanged-is}
 use Rattle.archive_core.specs.Rewriting.{ComparesForm, IsUnformed}
@@ -42,8 +42,8 @@ unformed-never (answer.Ok n id) P one = absurd one
 unformed-never other P one = tt
 
 -- The sizes of a disk that was only read.
-pub sizes-read : (v : View) (old new : Option Content) → Told Unchanged old new → WhereTold (HasSizes v) old → WhereTold (HasSizes v) new
-sizes-read v old new same sizes = subst (WhereTold (HasSizes v)) (sym (unchanged-is old new same)) sizes
+pub sizes-read : (v : StoreState) (old new : Option Content) → BothTold Unchanged old new → WhereTold (StoreHasSizes v) old → WhereTold (StoreHasSizes v) new
+sizes-read v old new same sizes = subst (WhereTold (StoreHasSizes v)) (sym (unchanged-is old new same)) sizes
 
 -- The cause of a failure, by what failed.
 pub cause-compared : (reply : Answer) (before now : ℕ) → RoseIf (◌≡◌ {A = Result Bool Answer} (Err reply) (Err answer.DiskFault)) before now → RoseIf (reply ≡ answer.DiskFault) before now
@@ -54,7 +54,7 @@ cause-compared reply before now cause = record {
 }
 
 -- The bytes have no form, or the text wasn't read.
-pub unformed-done : (v : View) (cache : List ℕ) (a : Archive) (n : ℕ) (bytes : List ℕ) (moment : ℕ) (text : List ℕ) (k : Option Content) (reply : Answer) → IsStoreWith v cache a k → a.config.mirror ≡ false → text_of (live a.entries) n ≡ Some text → ComparesForm a n (stored bytes) (Err reply) → DoneBy v cache [] a (edited a n bytes moment) reply k
+pub unformed-done : (v : StoreState) (cache : List ℕ) (a : Archive) (n : ℕ) (bytes : List ℕ) (moment : ℕ) (text : List ℕ) (k : Option Content) (reply : Answer) → IsStoreWith v cache a k → a.config.mirror ≡ false → text_of (live a.entries) n ≡ Some text → ComparesForm a n (stored bytes) (Err reply) → DoneBy v cache [] a (edited a n bytes moment) reply k
 unformed-done v cache a n bytes moment text k answer.NoMemory store writable shown compared = store
 unformed-done v cache a n bytes moment text k answer.DiskFault store writable shown compared = tt
 unformed-done v cache a n bytes moment text k answer.NoFields store writable shown compared = left-done v cache [] a (edited a n bytes moment) k answer.NoFields store refl refl (edited-formless a n bytes moment text writable shown compared)
@@ -62,5 +62,5 @@ unformed-done v cache a n bytes moment text k (answer.TooLarge len) store writab
 unformed-done v cache a n bytes moment text k other store writable shown compared = absurd compared
 
 -- The form is the text.
-pub same-done : (v : View) (cache : List ℕ) (a : Archive) (n : ℕ) (bytes : List ℕ) (moment : ℕ) (text : List ℕ) (k : Option Content) → IsStoreWith v cache a k → a.config.mirror ≡ false → text_of (live a.entries) n ≡ Some text → true ≡ is_form text (stored bytes) → DoneBy v cache [] a (edited a n bytes moment) (answer.Duplicate n) k
+pub same-done : (v : StoreState) (cache : List ℕ) (a : Archive) (n : ℕ) (bytes : List ℕ) (moment : ℕ) (text : List ℕ) (k : Option Content) → IsStoreWith v cache a k → a.config.mirror ≡ false → text_of (live a.entries) n ≡ Some text → true ≡ is_form text (stored bytes) → DoneBy v cache [] a (edited a n bytes moment) (answer.Duplicate n) k
 same-done v cache a n bytes moment text k store writable shown same = left-done v cache [] a (edited a n bytes moment) k (answer.Duplicate n) store refl refl (edited-same a n bytes moment text writable shown (sym same))

@@ -8,7 +8,7 @@ use Rattle.arch_model.specs.Archives.{Archive, live, text_of, with_entry, withou
 use Rattle.arch_model.specs.Delivery.{Done, delivered, new_epoch, unless_refused}
 use Rattle.arch_judge.specs.declared.index.Index.{Index}
 use Rattle.arch_judge.specs.declared.judging.Verdict.TheVariants.{Take}
-use Rattle.store_finding.specs.Kept.{View, IsStoreWith}
+use Rattle.store_finding.specs.Kept.{StoreState, IsStoreWith}
 use Rattle.epoch_store.specs.Commands.{MayPurge}
 use Rattle.store_planning.specs.Dropping.{without_blob}
 use Rattle.archive_core.specs.Commands.{JudgesOn, KeepsText}
@@ -17,7 +17,7 @@ use Rattle.archive_core.proofs.Standing.{store_keeps}
 use Rattle.archive_core.proofs.WithoutText.{index-without, live-message-is, message-agrees, purge-blob, unless-taken}
 
 -- A text that is judged to be taken is what an edit keeps.
-pub taken-kept : {D : Type 0} (content : D → Option Content) (disk : D) (v : View) (index : Index) (blob : Id20) (number : ℕ) (bytes text : List ℕ) (arrived n : ℕ) (ids : TextIds) (a : Archive) (cache gone : List ℕ) → MayPurge v number blob → IndexesKept (without_blob v.entries blob.0) index → JudgesOn content disk v index bytes (Take text ids n)
+pub taken-kept : {D : Type 0} (content : D → Option Content) (disk : D) (v : StoreState) (index : Index) (blob : Id20) (number : ℕ) (bytes text : List ℕ) (arrived n : ℕ) (ids : TextIds) (a : Archive) (cache gone : List ℕ) → MayPurge v number blob → IndexesKept (without_blob v.entries blob.0) index → JudgesOn content disk v index bytes (Take text ids n)
     → IsStoreWith v cache a (content disk) → text_of (live a.entries) number ≡ Some gone → KeepsText (without_entries a gone) (unless_refused a (delivered (without_entries a gone) bytes arrived)) arrived text
 taken-kept content disk v index blob number bytes text arrived n ids a cache gone may indexed judges store shown =
     let keeps = store_keeps v cache a (content disk) store in

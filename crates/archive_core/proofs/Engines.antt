@@ -6,16 +6,16 @@ use Rattle.std.proofs.lemmas.Bool.{false≢true}
 use Rattle.arch_base.specs.Counts.{RoseIf}
 use Rattle.arch_base.specs.declared.ids.Id20.{Id20}
 use Rattle.disk_model.specs.declared.name.FileName.{FileName}
-use Rattle.disk_model.specs.Disk.{Files, Content, Image, Told, WhereTold, Unchanged, ReadsFit, LeavesOnly}
+use Rattle.disk_model.specs.Disk.{Files, Content, Image, BothTold, WhereTold, Unchanged, ReadsFit, LeavesOnly}
 use Rattle.disk_model.specs.Moments.{started, joined, weaker}
 use Rattle.root_slots.specs.Between.{BetweenStays, RunsBetween, between_image}
 use Rattle.disk_model.specs.Synced.{IsSettled}
 use Rattle.arch_model.specs.Archives.{Archive, live}
 use Rattle.view_set.specs.Viewed.{views_of}
 use Rattle.arch_model.specs.Delivery.{Done, applied}
-use Rattle.arch_model.specs.Keeping.{Has, Passes, Fits, Moves, Settles, StaysShut, Comes, Ending, Accepts, Refuses, Starves, Fails, Breaks, ReadyBy, StaysReady, AnswerCause, OpeningWhy, ending, opening_answer, root_file}
-use Rattle.arch_model.specs.Shelves.{Stays, ReadCause, ReadsOnce}
-use Rattle.arch_model.specs.Standing.{Standing, standing, unsure, with_doubt, one_of, IsFound}
+use Rattle.arch_model.specs.Keeping.{Has, CrashesLeaveOnly, MatchesKnown, KeeperMoves, Settles, ReopeningRefused, CommandGives, Ending, Accepts, Refuses, Starves, Fails, Breaks, ReadyBy, StaysReady, AnswerCause, OpeningWhy, ending, opening_answer, root_file}
+use Rattle.arch_model.specs.Shelves.{ShelfStays, ReadCause, ReadsOnce}
+use Rattle.arch_model.specs.Standing.{LastKnown, standing, unsure, with_doubt, one_of, IsFound}
 use Rattle.arch_model.specs.declared.answer.Answer.{Answer}
 use Rattle.arch_model.specs.declared.answer.Answer.TheVariants as answer
 use Rattle.arch_model.specs.declared.command.Command.{Command}
@@ -31,15 +31,15 @@ use Rattle.epoch_store.specs.Leaving.{disk_recovers}
 use Rattle.epoch_store.specs.Opens.{RecoversOfWith, AllRecoverWith, ReadsWith, IsWant, SyncsAtMost}
 use Rattle.epoch_store.specs.Reads.{AnswersQuietly}
 use Rattle.store_finding.specs.Recovery.{RecoversWith, RecoversSomeWith}
-use Rattle.store_finding.specs.Kept.{View, Keeps, IsStoreWith}
+use Rattle.store_finding.specs.Kept.{StoreState, KeepsArchive, IsStoreWith}
 use Rattle.epoch_store.specs.Commands.{RecoversOneOf}
 use Rattle.archive_core.specs.Commands.{AnswersDelivery, AnswersEdit, AnswersPurge, AnswersRemoval, DoneBy, OnDone, OnRefusal, UnlessFault, IfUnread, IfUnreadEdit, IfUnreadFor, IfDelivery, IfRemoval, IsForCommand, IsGone, KeepsTextFor, OnlyLooks, cache_left, is_delivery}
-use Rattle.archive_core.specs.Engines.{Owning, needs_opening, RecoversOrBare, AllRecoverOrBare, BetweenSince, Holds, Rests, LeftWith, ViewsKeepUp, IfRefused, is_ready, Leaves, ReadsOn, reading-same, store-left, holds-rest, now-left, unchanged-is, reading-kept}
+use Rattle.archive_core.specs.Engines.{Owning, needs_opening, RecoversOrBare, AllRecoverOrBare, BetweenSince, HoldsArchive, FilesAre, LeftWithCache, ViewsKeepUp, IfRefused, is_ready, Leaves, OnlyReadsOn, reading-same, store-left, holds-rest, now-left, unchanged-is, reading-kept}
 use Rattle.archive_core.specs.Numbers.{GivesBlobKept, TellsOther}
 use Rattle.archive_core.specs.Openings.{LeavesKindly}
 use Rattle.archive_core.specs.Walks.{ViewsAfter}
 use Rattle.archive_core.proofs.KeepingUp.{done-views}
-use Rattle.archive_core.proofs.RootBytes.{between-over}
+use Rattle.archive_core.proofs.RootBytes.{crash_between-over}
 use Rattle.archive_core.proofs.Openings.{kindly_rests}
 use Rattle.archive_core.proofs.Standing.{store_keeps}
 
@@ -57,32 +57,32 @@ is_either x (Some y) may (suc zero) below is = (y, sym is, inr refl)
 is_either x (Some y) may (suc (suc i)) below is = absurd (omega (arith, below))
 
 -- Files that stand for one of them stand for the archive or for the one in doubt.
-pub recovers_either : (s : Standing) (cache : List ℕ) (image : Files) → RecoversOfWith cache (one_of s) image → (b : Archive) × IsFound s b × RecoversSomeWith cache image (Some b)
+pub recovers_either : (s : LastKnown) (cache : List ℕ) (image : Files) → RecoversOfWith cache (one_of s) image → (b : Archive) × IsFound s b × RecoversSomeWith cache image (Some b)
 recovers_either s cache image recovers =
-    let found = is_either s.archive s.doubt recovers.0 recovers.1.0 recovers.1.1 recovers.1.2 in
+    let found = is_either s.archive s.in_doubt recovers.0 recovers.1.0 recovers.1.1 recovers.1.2 in
     (found.0, found.2, subst (λ (o : Option Archive). RecoversSomeWith cache image o) found.1 recovers.2)
 
 -- If each image stands for one of these archives, the disk tells its content; otherwise any files
 -- could be there, none included.
-pub all_recover : (s : Standing) (cache : List ℕ) (k : Option Content) → ((image : Files) → Image k image → RecoversOfWith cache (one_of s) image) → AllRecoverWith cache (one_of s) k
+pub all_recover : (s : LastKnown) (cache : List ℕ) (k : Option Content) → ((image : Files) → Image k image → RecoversOfWith cache (one_of s) image) → AllRecoverWith cache (one_of s) k
 all_recover s cache None each = let none : Files = λ name. None in absurd ((recovers_either s cache none (each none tt)).2.1.stands.current)
 all_recover s cache (Some k) each = each
 
 -- The same, where an image may have no cache.
-bare_either : (s : Standing) (cache : List ℕ) (image : Files) → RecoversOrBare cache (one_of s) image → (b : Archive) × (c : List ℕ) × IsFound s b × RecoversSomeWith c image (Some b)
+bare_either : (s : LastKnown) (cache : List ℕ) (image : Files) → RecoversOrBare cache (one_of s) image → (b : Archive) × (c : List ℕ) × IsFound s b × RecoversSomeWith c image (Some b)
 bare_either s cache image (inl one) = let found = recovers_either s cache image one in (found.0, cache, found.1, found.2)
 bare_either s cache image (inr bare) = let found = recovers_either s [] image bare in (found.0, [], found.1, found.2)
 
-pub all_or_bare : (s : Standing) (cache : List ℕ) (k : Option Content) → ((image : Files) → Image k image → RecoversOrBare cache (one_of s) image) → AllRecoverOrBare cache (one_of s) k
+pub all_or_bare : (s : LastKnown) (cache : List ℕ) (k : Option Content) → ((image : Files) → Image k image → RecoversOrBare cache (one_of s) image) → AllRecoverOrBare cache (one_of s) k
 all_or_bare s cache None each = let none : Files = λ name. None in absurd ((bare_either s cache none (each none tt)).3.1.stands.current)
 all_or_bare s cache (Some k) each = each
 
 -- So the disk reads as the archive or as the one in doubt.
-pub reads_one : (s : Standing) (cache : List ℕ) (k : Option Content) → ReadsFit k → AllRecoverWith cache (one_of s) k → (b : Archive) × IsFound s b × ReadsWith cache b k
+pub reads_one : (s : LastKnown) (cache : List ℕ) (k : Option Content) → ReadsFit k → AllRecoverWith cache (one_of s) k → (b : Archive) × IsFound s b × ReadsWith cache b k
 reads_one s cache None fit all = absurd all
 reads_one s cache (Some k) fit all = recovers_either s cache (as_read k) (all (as_read k) (λ name. fit k refl name))
 
-reads_bare : (s : Standing) (cache : List ℕ) (k : Option Content) → ReadsFit k → AllRecoverOrBare cache (one_of s) k → (b : Archive) × (c : List ℕ) × IsFound s b × ReadsWith c b k
+reads_bare : (s : LastKnown) (cache : List ℕ) (k : Option Content) → ReadsFit k → AllRecoverOrBare cache (one_of s) k → (b : Archive) × (c : List ℕ) × IsFound s b × ReadsWith c b k
 reads_bare s cache None fit all = absurd all
 reads_bare s cache (Some k) fit all = bare_either s cache (as_read k) (all (as_read k) (λ name. fit k refl name))
 
@@ -121,7 +121,7 @@ never_ready true e = absurd (false≢true (e refl))
 never_ready false e = refl
 
 -- A store's own disk leaves its archive.
-pub stands_for : (v : View) (cache : List ℕ) (a : Archive) (k : Option Content) (image : Files) → IsStoreWith v cache a k → Image k image → RecoversWith cache image a
+pub stands_for : (v : StoreState) (cache : List ℕ) (a : Archive) (k : Option Content) (image : Files) → IsStoreWith v cache a k → Image k image → RecoversWith cache image a
 stands_for v cache a None image store left = absurd store
 stands_for v cache a (Some k) image store left = disk_recovers v cache a k image store left
 
@@ -141,7 +141,7 @@ either_of own left cache may a b image is kept has_a has_b (inl before) = with_c
 either_of own left cache may a b image is kept has_a has_b (inr after) = with_cache left cache may b image (left_is own left cache is kept) has_b after
 
 -- Files of a store's own disk stand for archives with its cache alone.
-pub cache_is : CachesOne → (v : View) (own : List ℕ) (a : Archive) (k : Option Content) → ReadsFit k → IsStoreWith v own a k → (cache : List ℕ) (may : List (Option Archive)) → ((image : Files) → Image k image → RecoversOrBare cache may image) → (own ≡ cache) ⊎ (own ≡ [])
+pub cache_is : CachesOne → (v : StoreState) (own : List ℕ) (a : Archive) (k : Option Content) → ReadsFit k → IsStoreWith v own a k → (cache : List ℕ) (may : List (Option Archive)) → ((image : Files) → Image k image → RecoversOrBare cache may image) → (own ≡ cache) ⊎ (own ≡ [])
 cache_is caches v own a None fit store cache may each = absurd store
 cache_is caches v own a (Some k) fit store cache may each = by (each (as_read k) (λ name. fit k refl name)) where
   stand : RecoversWith own (as_read k) a
@@ -194,14 +194,14 @@ module _ {D : Type 0} (content : D → Option Content) (moment : D → ℕ) (lef
     (only_now : (disk : D) (image : Files) → left_since disk (moment disk) image → Image (content disk) image)
     (reads_fit : (disk : D) → ReadsFit (content disk)) where
   -- It stands so, and it moves so.
-  abbrev pub Stands : Owning D → Standing → Type 0
-  Stands = Fits (Holds content) (Rests content) is_ready (Leaves content moment left_since)
+  abbrev pub Stands : Owning D → LastKnown → Type 0
+  Stands = MatchesKnown (HoldsArchive content) (FilesAre content) is_ready (Leaves content moment left_since)
 
-  abbrev pub Going : Owning D → Standing → Owning D → Standing → Type 0
-  Going = Moves (Holds content) (Rests content) is_ready (Leaves content moment left_since)
+  abbrev pub Going : Owning D → LastKnown → Owning D → LastKnown → Type 0
+  Going = KeeperMoves (HoldsArchive content) (FilesAre content) is_ready (Leaves content moment left_since)
 
   -- The files of one that holds an archive are the archive's.
-  at-rest : (e : Owning D) (a : Archive) → Holds content e a → Rests content e a
+  at-rest : (e : Owning D) (a : Archive) → HoldsArchive content e a → FilesAre content e a
   at-rest = holds-rest content moment left_since counts_now only_now
 
   -- What a crash leaves after a run it leaves now.
@@ -209,13 +209,13 @@ module _ {D : Type 0} (content : D → Option Content) (moment : D → ℕ) (lef
   left_after old new P run image left = run.each image (counts_now new (moment old) image run.later (only_now new image left))
 
   -- Each crash of an archive that stands so leaves one of the archives that are there.
-  fits_all : (e : Owning D) (s : Standing) → Stands e s → (cache : List ℕ) × AllRecoverOrBare cache (one_of s) (content e.disk)
+  fits_all : (e : Owning D) (s : LastKnown) → Stands e s → (cache : List ℕ) × AllRecoverOrBare cache (one_of s) (content e.disk)
   fits_all e s fits =
       let left = fits.left (one_of s) (has-own s) in
       (left.1.0, all_or_bare s left.1.0 (content e.disk) (λ image now. left.1.1 image (counts_now e.disk (moment e.disk) image (omega arith) now)))
 
   -- The archive as which the disk of one reads.
-  found_in : (e : Owning D) (s : Standing) → Stands e s → (b : Archive) × (c : List ℕ) × IsFound s b × ReadsWith c b (content e.disk)
+  found_in : (e : Owning D) (s : LastKnown) → Stands e s → (b : Archive) × (c : List ℕ) × IsFound s b × ReadsWith c b (content e.disk)
   found_in e s fits = let all = fits_all e s fits in reads_bare s all.0 (content e.disk) (reads_fit e.disk) all.1
 
   -- What reopening leaves at each moment.
@@ -223,15 +223,15 @@ module _ {D : Type 0} (content : D → Option Content) (moment : D → ℕ) (lef
   Reopening e disk = SyncsAtMost content moment left_since e.disk disk × RunsBetween content moment left_since e.disk disk
 
   -- The bytes between gates and bodies that a crash of a state might have left, one of an earlier state might have left.
-  between-earlier : (start e : Owning D) → moment start.disk ≤ moment e.disk → BetweenSince content moment left_since start.disk e.disk → (image : Files) → BetweenStays (content e.disk) image → BetweenStays (content start.disk) image
-  between-earlier start e later since = between-over (content start.disk) (content e.disk) (reads_fit e.disk) (λ image now. since image (counts_now e.disk (moment start.disk) image later now))
+  crash_between-earlier : (start e : Owning D) → moment start.disk ≤ moment e.disk → BetweenSince content moment left_since start.disk e.disk → (image : Files) → BetweenStays (content e.disk) image → BetweenStays (content start.disk) image
+  crash_between-earlier start e later since = crash_between-over (content start.disk) (content e.disk) (reads_fit e.disk) (λ image now. since image (counts_now e.disk (moment start.disk) image later now))
 
   -- They stay in a run that keeps them.
-  between-on : (start e : Owning D) (disk : D) → moment start.disk ≤ moment e.disk → BetweenSince content moment left_since start.disk e.disk → RunsBetween content moment left_since e.disk disk → BetweenSince content moment left_since start.disk disk
-  between-on start e disk later since run image left = elim (run.before (moment start.disk) image later left) [
+  crash_between-on : (start e : Owning D) (disk : D) → moment start.disk ≤ moment e.disk → BetweenSince content moment left_since start.disk e.disk → RunsBetween content moment left_since e.disk disk → BetweenSince content moment left_since start.disk disk
+  crash_between-on start e disk later since run image left = elim (run.before (moment start.disk) image later left) [
     | inl past
         ↦ since image past
-    | inr stays ↦ between-earlier start e later since image stays
+    | inr stays ↦ crash_between-earlier start e later since image stays
   ]
 
   -- That is what it might have left before, or the archive as which the disk reads.
@@ -261,18 +261,18 @@ module _ {D : Type 0} (content : D → Option Content) (moment : D → ℕ) (lef
                     | inr stands ↦ there.2 image stands
                   ]
             ],
-        λ ready. between-on start e new.disk left.0 (left.3 ready) run.1,
+        λ ready. crash_between-on start e new.disk left.0 (left.3 ready) run.1,
       )
 
-  pub reopening-passes : RecoversSomeOne → (e new : Owning D) → Reopening e new.disk → (s : Standing) → Stands e s → Passes (Leaves content moment left_since) e new []
+  pub reopening-passes : RecoversSomeOne → (e new : Owning D) → Reopening e new.disk → (s : LastKnown) → Stands e s → CrashesLeaveOnly (Leaves content moment left_since) e new []
   reopening-passes one e new run s fits = λ start may has left. let found = found_in e s fits in reopening-from one e new run found.0 found.1 found.3 start may left
 
   -- A reopening found the archive or the one in doubt.
-  pub opened-at : RecoversSomeOne → (e new : Owning D) → Reopening e new.disk → ((a : Archive) (cache : List ℕ) → ReadsWith cache a (content e.disk) → IsStoreWith new.view cache a (content new.disk) × (new.views ≡ views_of (live a.entries))) → WhereTold IsSettled (content new.disk) → (s : Standing) → Stands e s → (t : Standing) × Going e s new t × Settles s t
+  pub opened-at : RecoversSomeOne → (e new : Owning D) → Reopening e new.disk → ((a : Archive) (cache : List ℕ) → ReadsWith cache a (content e.disk) → IsStoreWith new.view cache a (content new.disk) × (new.views ≡ views_of (live a.entries))) → WhereTold IsSettled (content new.disk) → (s : LastKnown) → Stands e s → (t : LastKnown) × Going e s new t × Settles s t
   opened-at one e new run opened still s fits =
       let found = found_in e s fits in
       let both = opened found.0 found.1 found.3 in
-      let store : Holds content new found.0 = (found.1, both.0, both.1, still) in (
+      let store : HoldsArchive content new found.0 = (found.1, both.0, both.1, still) in (
         standing found.0 None,
         record {
           fits = record { settled = λ ready. (store, refl); exact = λ none. at-rest new found.0 store; left = λ may has. store-left content moment left_since counts_now only_now new found.0 may (store.0, store.1) has.archive };
@@ -283,21 +283,21 @@ module _ {D : Type 0} (content : D → Option Content) (moment : D → ℕ) (lef
 
   -- A reopening was refused, and all stands as before, but that after a fault of the disk the archive is
   -- in doubt.
-  pub unopened-at : RecoversSomeOne → (e new : Owning D) (why : OpenRefusal) → Reopening e new.disk → ((a : Archive) (cache : List ℕ) → ReadsWith cache a (content e.disk) → IsWant why) → LeavesKindly why (content e.disk) (content new.disk) → is_ready new ≡ false → (s : Standing) → Stands e s
-      → (t : Standing) × Going e s new t × StaysShut s why t
+  pub unopened-at : RecoversSomeOne → (e new : Owning D) (why : OpenRefusal) → Reopening e new.disk → ((a : Archive) (cache : List ℕ) → ReadsWith cache a (content e.disk) → IsWant why) → LeavesKindly why (content e.disk) (content new.disk) → is_ready new ≡ false → (s : LastKnown) → Stands e s
+      → (t : LastKnown) × Going e s new t × ReopeningRefused s why t
   unopened-at one e new why run well kindly unready s fits = let found = found_in e s fits in of_why why (well found.0 found.1 found.3) kindly
     where
-      stays : (t : Standing) → (t.doubt ≡ None → Rests content new t.archive) → ((may : List (Option Archive)) → Has may t → Has may s) → Going e s new t
-      stays t rested within = moves-stale (Holds content) (Rests content) is_ready (Leaves content moment left_since) (now-left content moment left_since counts_now only_now) e s new t fits unready rested within (λ start may has left. reopening-passes one e new run s fits start may tt left)
+      stays : (t : LastKnown) → (t.in_doubt ≡ None → FilesAre content new t.archive) → ((may : List (Option Archive)) → Has may t → Has may s) → Going e s new t
+      stays t rested within = moves-stale (HoldsArchive content) (FilesAre content) is_ready (Leaves content moment left_since) (now-left content moment left_since counts_now only_now) e s new t fits unready rested within (λ start may has left. reopening-passes one e new run s fits start may tt left)
 
-      of_why : (w : OpenRefusal) → IsWant w → LeavesKindly w (content e.disk) (content new.disk) → (t : Standing) × Going e s new t × StaysShut s w t
+      of_why : (w : OpenRefusal) → IsWant w → LeavesKindly w (content e.disk) (content new.disk) → (t : LastKnown) × Going e s new t × ReopeningRefused s w t
       of_why refusal.NoArchive want left = absurd want
       of_why (refusal.Damaged file at) want left = absurd want
       of_why refusal.DiskFault want left = (unsure s, stays (unsure s) (λ none. absurd (unsure-doubts s none)) (λ may has. has-unsure-of may s has), refl)
       of_why refusal.NoMemory want left = (s, stays s (λ none. kindly_rests s.archive (content e.disk) (content new.disk) (reads_fit e.disk) left (fits.exact none)) (λ may has. has), refl)
 
   -- Nothing was reopened, since it was ready.
-  pub ready-at : (e : Owning D) (s : Standing) → is_ready e ≡ true → Stands e s → (t : Standing) × Going e s e t × Settles s t
+  pub ready-at : (e : Owning D) (s : LastKnown) → is_ready e ≡ true → Stands e s → (t : LastKnown) × Going e s e t × Settles s t
   ready-at e s ready fits =
       let both = fits.settled ready in (
         standing s.archive None,
@@ -310,9 +310,9 @@ module _ {D : Type 0} (content : D → Option Content) (moment : D → ℕ) (lef
 
   -- A command on the archive that is held.
   module _ (caches : CachesOne) (e new : Owning D) (a : Archive) (cache left_cache : List ℕ) (kept : (left_cache ≡ cache) ⊎ (left_cache ≡ [])) (store : IsStoreWith e.view cache a (content e.disk)) (settled : WhereTold IsSettled (content e.disk)) (wanted : Archive → Done) (run : LeavesOnly moment left_since e.disk new.disk (RecoversOneOf cache a left_cache (wanted a).archive))
-      (beside : RunsBetween content moment left_since e.disk new.disk) where
+      (crash_beside : RunsBetween content moment left_since e.disk new.disk) where
     -- The cache of what a crash before may have left is the same, or there is none.
-    one-cache : (start : Owning D) (may : List (Option Archive)) (c : List ℕ) → Leaves content moment left_since start e may → LeftWith left_since start.disk (moment start.disk) c may → (cache ≡ c) ⊎ (cache ≡ [])
+    one-cache : (start : Owning D) (may : List (Option Archive)) (c : List ℕ) → Leaves content moment left_since start e may → LeftWithCache left_since start.disk (moment start.disk) c may → (cache ≡ c) ⊎ (cache ≡ [])
     one-cache start may c left all = cache_is caches e.view cache a (content e.disk) (reads_fit e.disk) store c may (λ image now. left.2 c all image (counts_now e.disk (moment start.disk) image left.0 now))
 
     -- What a crash in it leaves.
@@ -325,7 +325,7 @@ module _ {D : Type 0} (content : D → Option Content) (moment : D → ℕ) (lef
             ↦ left.2 c all image past
         | inr either ↦ either_of cache left_cache c may a (wanted a).archive image (one-cache start may c left all) kept has_a has_b either
       ],
-      λ ready. between-on start e new.disk left.0 (left.3 ready) beside,
+      λ ready. crash_between-on start e new.disk left.0 (left.3 ready) crash_beside,
     )
 
     -- After nothing but reads all that they give is still on the disk.
@@ -344,14 +344,14 @@ module _ {D : Type 0} (content : D → Option Content) (moment : D → ℕ) (lef
     taken-none looks own rows = record {
       fits = record { settled = λ ready. ((cache, own, rows, still-settled looks), refl); exact = λ none. (new.view, cache, own, still-settled looks); left = λ may has. store-left content moment left_since counts_now only_now new a may (cache, own) has.archive };
       passes = λ start may has left. (
-        omega (arith, left.0, looks.any_moment.later),
+        omega (arith, left.0, looks.crash.later),
         left.1,
-        λ c all image since. elim (looks.any_moment.before (moment start.disk) image left.0 since) [
+        λ c all image since. elim (looks.crash.before (moment start.disk) image left.0 since) [
           | inl past
               ↦ left.2 c all image past
           | inr now ↦ left.2 c all image (counts_now e.disk (moment start.disk) image left.0 now)
         ],
-        λ ready. between-on start e new.disk left.0 (left.3 ready) beside,
+        λ ready. crash_between-on start e new.disk left.0 (left.3 ready) crash_beside,
       );
     }
 
@@ -363,16 +363,16 @@ module _ {D : Type 0} (content : D → Option Content) (moment : D → ℕ) (lef
         exact = λ none. absurd (cc none);
         left = λ may has. (
           omega arith,
-          (cache, λ image left. either_of cache left_cache cache may a (wanted a).archive image (inl refl) kept has.archive has.doubt (left_after e.disk new.disk (RecoversOneOf cache a left_cache (wanted a).archive) run image left)),
+          (cache, λ image left. either_of cache left_cache cache may a (wanted a).archive image (inl refl) kept has.archive has.in_doubt (left_after e.disk new.disk (RecoversOneOf cache a left_cache (wanted a).archive) run image left)),
           λ c all. all,
           λ ready image left. between_image (content new.disk) image (only_now new.disk image left),
         );
       };
-      passes = λ start may has left. taken-passes start may has.1.0.archive has.1.0.doubt left;
+      passes = λ start may has left. taken-passes start may has.1.0.archive has.1.0.in_doubt left;
     }
 
     pub taken-at : (reply : Answer) → (needs_opening reply ≡ true → new.stale ≡ true) → DoneBy new.view cache left_cache a (wanted a) reply (content new.disk) → ViewsKeepUp reply (is_ready new) new.views a (wanted a).archive
-        → OnRefusal reply (UnlessFault reply (OnlyLooks content moment left_since e.disk new.disk)) → OnDone reply (WhereTold IsSettled (content new.disk)) → (t : Standing) × Going e (standing a None) new t × Comes true (standing a None) wanted reply t
+        → OnRefusal reply (UnlessFault reply (OnlyLooks content moment left_since e.disk new.disk)) → OnDone reply (WhereTold IsSettled (content new.disk)) → (t : LastKnown) × Going e (standing a None) new t × CommandGives true (standing a None) wanted reply t
     taken-at answer.NoMemory stale done rows untouched still = (standing a None, taken-none untouched done rows, inr (record { found = inl refl; sure = refl }))
     taken-at answer.DiskFault stale done rows untouched still = (standing a (Some (wanted a).archive), taken-failed (ap not (stale refl)), inr (record { found = a; is_found = inl refl; stands = refl }))
     taken-at (answer.Ok number id) stale done rows untouched still =
@@ -396,8 +396,8 @@ module _ {D : Type 0} (content : D → Option Content) (moment : D → ℕ) (lef
     taken-at (answer.Damaged file at) stale never rows untouched still = absurd never
 
   -- A removal or a purge that was done leaves the archive after it held.
-  removed_by : (e new : Owning D) (a : Archive) (command : Command) (arrived : ℕ) (text : List ℕ) (lost : Option ℕ) (left_cache : List ℕ) (reply : Answer) → (held : Holds content e a) → DoneBy new.view held.0 left_cache a (applied a command arrived) reply (content new.disk)
-      → IfDelivery (is_delivery command) (KeepsTextFor command a (applied a command arrived) arrived text) → OnDone reply (IsGone a command lost) → ViewsAfter command lost reply text arrived e.views new.views → OnDone reply (WhereTold IsSettled (content new.disk)) → OnDone reply (Holds content new (applied a command arrived).archive)
+  removed_by : (e new : Owning D) (a : Archive) (command : Command) (arrived : ℕ) (text : List ℕ) (lost : Option ℕ) (left_cache : List ℕ) (reply : Answer) → (held : HoldsArchive content e a) → DoneBy new.view held.0 left_cache a (applied a command arrived) reply (content new.disk)
+      → IfDelivery (is_delivery command) (KeepsTextFor command a (applied a command arrived) arrived text) → OnDone reply (IsGone a command lost) → ViewsAfter command lost reply text arrived e.views new.views → OnDone reply (WhereTold IsSettled (content new.disk)) → OnDone reply (HoldsArchive content new (applied a command arrived).archive)
   removed_by e new a command arrived text lost left_cache (answer.Ok number id) held done kept taken rows still =
       (left_cache, done.store, done-views a command arrived number id text lost e.views new.views (store_keeps e.view held.0 a (content e.disk) held.1).valid done.answer_is kept taken held.2 rows, still)
   removed_by e new a command arrived text lost left_cache answer.NoMemory held done kept taken rows still = tt
@@ -414,7 +414,7 @@ module _ {D : Type 0} (content : D → Option Content) (moment : D → ℕ) (lef
 
   pub removed-at : (e new : Owning D) (command : Command) (arrived : ℕ) (text : List ℕ) (lost : Option ℕ) (reply : Answer) → ((a : Archive) (cache : List ℕ) → IsStoreWith e.view cache a (content e.disk) → DoneBy new.view cache (cache_left command cache) a (applied a command arrived) reply (content new.disk))
       → ((a : Archive) (cache : List ℕ) → IsStoreWith e.view cache a (content e.disk) → OnDone reply (IsGone a command lost))
-      → IfRemoval (is_delivery command) (ViewsAfter command lost reply text arrived e.views new.views) → OnDone reply (WhereTold IsSettled (content new.disk)) → IfRemoval (is_delivery command) ((a : Archive) → Holds content e a → OnDone reply (Holds content new (applied a command arrived).archive))
+      → IfRemoval (is_delivery command) (ViewsAfter command lost reply text arrived e.views new.views) → OnDone reply (WhereTold IsSettled (content new.disk)) → IfRemoval (is_delivery command) ((a : Archive) → HoldsArchive content e a → OnDone reply (HoldsArchive content new (applied a command arrived).archive))
   removed-at e new (Deliver bytes) arrived text lost reply done taken rows still = tt
   removed-at e new (Remove n) arrived text lost reply done taken rows still = λ a held. removed_by e new a (Remove n) arrived text lost held.0 reply held (done a held.0 held.1) tt (taken a held.0 held.1) rows still
   removed-at e new (Purge n) arrived text lost reply done taken rows still = λ a held. removed_by e new a (Purge n) arrived text lost [] reply held (done a held.0 held.1) tt (taken a held.0 held.1) rows still
@@ -422,14 +422,14 @@ module _ {D : Type 0} (content : D → Option Content) (moment : D → ℕ) (lef
 
   -- A refusal leaves all but the disk as it was, and the disk was only read.
   module _ (e new : Owning D) (ok : Bool) (command : Command) (gone : Option ℕ) (text : List ℕ) (arrived : ℕ) where
-    only-reads : new.view ≡ e.view → new.views ≡ e.views → new.stale ≡ e.stale → OnlyLooks content moment left_since e.disk new.disk → ReadsOn content moment left_since e new
-    only-reads view views stale looks = record { view_is = view; views_are = views; stale_is = stale; files = looks.same; run = looks.any_moment }
+    only-reads : new.view ≡ e.view → new.views ≡ e.views → new.stale ≡ e.stale → OnlyLooks content moment left_since e.disk new.disk → OnlyReadsOn content moment left_since e new
+    only-reads view views stale looks = record { view_is = view; views_are = views; stale_is = stale; files = looks.same; run = looks.crash }
 
     same-owning : new.disk ≡ e.disk → new.view ≡ e.view → new.views ≡ e.views → new.stale ≡ e.stale → new ≡ e
     same-owning disk view views stale = λ i. record { disk = disk i; view = view i; views = views i; stale = stale i }
 
     pub refused-at : (reply : Answer) → e.stale ≡ false → new.stale ≡ (needs_opening reply || not ok) → OnRefusal reply (ok ≡ true) → OnRefusal reply (new.view ≡ e.view) → (ok ≡ true → ViewsAfter command gone reply text arrived e.views new.views)
-        → OnRefusal reply (UnlessFault reply (OnlyLooks content moment left_since e.disk new.disk)) → IfRefused reply (ReadsOn content moment left_since e new)
+        → OnRefusal reply (UnlessFault reply (OnlyLooks content moment left_since e.disk new.disk)) → IfRefused reply (OnlyReadsOn content moment left_since e new)
     refused-at (answer.Ok n id) ready stale followed view rows looks = tt
     refused-at answer.DiskFault ready stale followed view rows looks = tt
     refused-at (answer.Damaged file at) ready stale followed view rows looks = tt
@@ -450,7 +450,7 @@ module _ {D : Type 0} (content : D → Option Content) (moment : D → ℕ) (lef
     unmoved-at reply ready stale followed view rows disk = unread-for command reply (new.disk ≡ e.disk) (new ≡ e) (unmoved reply ready stale followed view rows) disk
 
   -- Memory ran out, and nothing was done on the archive that is held.
-  pub starved-at : (e : Owning D) (a : Archive) (wanted : Archive → Done) → Holds content e a → (t : Standing) × Going e (standing a None) e t × Comes true (standing a None) wanted answer.NoMemory t
+  pub starved-at : (e : Owning D) (a : Archive) (wanted : Archive → Done) → HoldsArchive content e a → (t : LastKnown) × Going e (standing a None) e t × CommandGives true (standing a None) wanted answer.NoMemory t
   starved-at e a wanted store = (
     standing a None,
     record {
@@ -461,22 +461,22 @@ module _ {D : Type 0} (content : D → Option Content) (moment : D → ℕ) (lef
   )
 
   -- A command on what a reopening found.
-  pub commanded-after : (was_ready : Bool) (old mid new : Owning D) (s t : Standing) (wanted : Archive → Done) (reply : Answer) → Going old s mid t → Settles s t → is_ready mid ≡ true
-      → ((a : Archive) → Holds content mid a → (u : Standing) × Going mid (standing a None) new u × Comes true (standing a None) wanted reply u) → (u : Standing) × Going old s new u × Comes was_ready s wanted reply u
+  pub commanded-after : (was_ready : Bool) (old mid new : Owning D) (s t : LastKnown) (wanted : Archive → Done) (reply : Answer) → Going old s mid t → Settles s t → is_ready mid ≡ true
+      → ((a : Archive) → HoldsArchive content mid a → (u : LastKnown) × Going mid (standing a None) new u × CommandGives true (standing a None) wanted reply u) → (u : LastKnown) × Going old s new u × CommandGives was_ready s wanted reply u
   commanded-after was_ready old mid new s t wanted reply opened settles ready taken =
       let both = opened.fits.settled ready in
       let same : t ≡ standing t.archive None = ap (λ (d : Option Archive). standing t.archive d) both.1 in
       let done = taken t.archive both.0 in (
         done.0,
-        moves-on (Holds content) (Rests content) is_ready (Leaves content moment left_since) old mid new s t done.0 opened settles (subst (λ (x : Standing). Going mid x new done.0) (sym same) done.1),
+        moves-on (HoldsArchive content) (FilesAre content) is_ready (Leaves content moment left_since) old mid new s t done.0 opened settles (subst (λ (x : LastKnown). Going mid x new done.0) (sym same) done.1),
         comes-by was_ready s t wanted reply done.0 (ending reply) settles done.2,
       )
 
   -- A call that only reads.
-  pub stays-at : (faults : D → ℕ) (e : Owning D) (disk : D) → is_ready e ≡ true → Told Unchanged (content e.disk) (content disk) → LeavesOnly moment left_since e.disk disk (Image (content e.disk)) → faults e.disk ≤ faults disk
-      → Stays (Holds content) is_ready (ReadsOn content moment left_since) (λ (o : Owning D). faults o.disk) e (record { disk = disk; view = e.view; views = e.views; stale = e.stale })
+  pub stays-at : (faults : D → ℕ) (e : Owning D) (disk : D) → is_ready e ≡ true → BothTold Unchanged (content e.disk) (content disk) → LeavesOnly moment left_since e.disk disk (Image (content e.disk)) → faults e.disk ≤ faults disk
+      → ShelfStays (HoldsArchive content) is_ready (OnlyReadsOn content moment left_since) (λ (o : Owning D). faults o.disk) e (record { disk = disk; view = e.view; views = e.views; stale = e.stale })
   stays-at faults e disk ready files run later =
-      let read : ReadsOn content moment left_since e (record { disk = disk; view = e.view; views = e.views; stale = e.stale }) = record { view_is = refl; views_are = refl; stale_is = refl; files = files; run = run } in
+      let read : OnlyReadsOn content moment left_since e (record { disk = disk; view = e.view; views = e.views; stale = e.stale }) = record { view_is = refl; views_are = refl; stale_is = refl; files = files; run = run } in
       record {
         same = read;
         kept = (reading-kept content moment left_since counts_now only_now e (record { disk = disk; view = e.view; views = e.views; stale = e.stale }) read).held;
@@ -485,7 +485,7 @@ module _ {D : Type 0} (content : D → Option Content) (moment : D → ℕ) (lef
       }
 
   -- A call that does nothing.
-  pub stays-still : (faults : D → ℕ) (e : Owning D) → is_ready e ≡ true → Stays (Holds content) is_ready (ReadsOn content moment left_since) (λ (o : Owning D). faults o.disk) e e
+  pub stays-still : (faults : D → ℕ) (e : Owning D) → is_ready e ≡ true → ShelfStays (HoldsArchive content) is_ready (OnlyReadsOn content moment left_since) (λ (o : Owning D). faults o.disk) e e
   stays-still faults e ready = record { same = reading-same content moment left_since counts_now only_now e; kept = λ a store. store; at_hand = ready; later = omega arith }
 
   -- Nothing is done, and a crash leaves the archive that is held.
@@ -500,14 +500,14 @@ module _ {D : Type 0} (content : D → Option Content) (moment : D → ℕ) (lef
     pub still-stale : inside.stale ≡ true → is_ready old ≡ true → ⊥
     still-stale stale ready = let now : not true ≡ true = sym (ap not stale) ∙ ap (λ (o : Owning D). is_ready o) is ∙ ready in false≢true now
 
-    pub held-inside : (a : Archive) → Holds content old a → Holds content inside a
-    held-inside a = subst (λ (o : Owning D). Holds content o a) (sym is)
+    pub held-inside : (a : Archive) → HoldsArchive content old a → HoldsArchive content inside a
+    held-inside a = subst (λ (o : Owning D). HoldsArchive content o a) (sym is)
 
     -- The views are those of the live messages.
-    pub views-inside : (a : Archive) → Holds content old a → inside.views ≡ views_of (live a.entries)
+    pub views-inside : (a : Archive) → HoldsArchive content old a → inside.views ≡ views_of (live a.entries)
     views-inside a held = let own = held-inside a held in own.2
 
-    pub kept-inside : (a : Archive) → Holds content old a → Keeps inside.view a
+    pub kept-inside : (a : Archive) → HoldsArchive content old a → KeepsArchive inside.view a
     kept-inside a held = let own = held-inside a held in store_keeps inside.view own.0 a (content inside.disk) own.1
 
     pub left-from : (disk : D) (wanted : Archive → Archive) (left : List ℕ → List ℕ) → ((a : Archive) (cache : List ℕ) → IsStoreWith inside.view cache a (content inside.disk) → LeavesOnly moment left_since inside.disk disk (RecoversOneOf cache a (left cache) (wanted a)))
@@ -516,10 +516,10 @@ module _ {D : Type 0} (content : D → Option Content) (moment : D → ℕ) (lef
 
     pub removed-from : (new : Owning D) (command : Command) (arrived : ℕ) (text : List ℕ) (gone : Option ℕ) (reply : Answer) → ((a : Archive) (cache : List ℕ) → IsStoreWith inside.view cache a (content inside.disk) → DoneBy new.view cache (cache_left command cache) a (applied a command arrived) reply (content new.disk))
         → ((a : Archive) (cache : List ℕ) → IsStoreWith inside.view cache a (content inside.disk) → OnDone reply (IsGone a command gone))
-        → IfRemoval (is_delivery command) (ViewsAfter command gone reply text arrived inside.views new.views) → OnDone reply (WhereTold IsSettled (content new.disk)) → IfRemoval (is_delivery command) ((a : Archive) → Holds content old a → OnDone reply (Holds content new (applied a command arrived).archive))
-    removed-from new command arrived text gone reply done taken rows still = subst (λ (o : Owning D). IfRemoval (is_delivery command) ((a : Archive) → Holds content o a → OnDone reply (Holds content new (applied a command arrived).archive))) is (removed-at inside new command arrived text gone reply done taken rows still)
+        → IfRemoval (is_delivery command) (ViewsAfter command gone reply text arrived inside.views new.views) → OnDone reply (WhereTold IsSettled (content new.disk)) → IfRemoval (is_delivery command) ((a : Archive) → HoldsArchive content old a → OnDone reply (HoldsArchive content new (applied a command arrived).archive))
+    removed-from new command arrived text gone reply done taken rows still = subst (λ (o : Owning D). IfRemoval (is_delivery command) ((a : Archive) → HoldsArchive content o a → OnDone reply (HoldsArchive content new (applied a command arrived).archive))) is (removed-at inside new command arrived text gone reply done taken rows still)
 
-    pub done-from : (view : View) (disk : D) (wanted : Archive → Done) (left : List ℕ → List ℕ) (reply : Answer) → ((a : Archive) (cache : List ℕ) → IsStoreWith inside.view cache a (content inside.disk) → DoneBy view cache (left cache) a (wanted a) reply (content disk))
+    pub done-from : (view : StoreState) (disk : D) (wanted : Archive → Done) (left : List ℕ → List ℕ) (reply : Answer) → ((a : Archive) (cache : List ℕ) → IsStoreWith inside.view cache a (content inside.disk) → DoneBy view cache (left cache) a (wanted a) reply (content disk))
         → (a : Archive) (cache : List ℕ) → IsStoreWith old.view cache a (content old.disk) → DoneBy view cache (left cache) a (wanted a) reply (content disk)
     done-from view disk wanted left reply done = subst (λ (o : Owning D). (a : Archive) (cache : List ℕ) → IsStoreWith o.view cache a (content o.disk) → DoneBy view cache (left cache) a (wanted a) reply (content disk)) is done
 
@@ -541,67 +541,67 @@ module _ {D : Type 0} (content : D → Option Content) (moment : D → ℕ) (lef
     pub answer-cause-from : (faults : D → ℕ) (disk : D) (reply : Answer) → RoseIf (reply ≡ answer.DiskFault) (faults inside.disk) (faults disk) → AnswerCause (faults old.disk) (faults disk) reply
     answer-cause-from faults disk reply rose = subst (λ (o : Owning D). AnswerCause (faults o.disk) (faults disk) reply) is (answer-cause (faults inside.disk) (faults disk) reply rose)
 
-    pub opened-from : RecoversSomeOne → (new : Owning D) → Reopening inside new.disk → ((a : Archive) (cache : List ℕ) → ReadsWith cache a (content inside.disk) → IsStoreWith new.view cache a (content new.disk) × (new.views ≡ views_of (live a.entries))) → WhereTold IsSettled (content new.disk) → (s : Standing) → Stands old s → (t : Standing) × Going old s new t × Settles s t
-    opened-from one new run opened still = subst (λ (o : Owning D). (s : Standing) → Stands o s → (t : Standing) × Going o s new t × Settles s t) is (opened-at one inside new run opened still)
+    pub opened-from : RecoversSomeOne → (new : Owning D) → Reopening inside new.disk → ((a : Archive) (cache : List ℕ) → ReadsWith cache a (content inside.disk) → IsStoreWith new.view cache a (content new.disk) × (new.views ≡ views_of (live a.entries))) → WhereTold IsSettled (content new.disk) → (s : LastKnown) → Stands old s → (t : LastKnown) × Going old s new t × Settles s t
+    opened-from one new run opened still = subst (λ (o : Owning D). (s : LastKnown) → Stands o s → (t : LastKnown) × Going o s new t × Settles s t) is (opened-at one inside new run opened still)
 
-    pub unopened-from : RecoversSomeOne → (new : Owning D) (why : OpenRefusal) → Reopening inside new.disk → ((a : Archive) (cache : List ℕ) → ReadsWith cache a (content inside.disk) → IsWant why) → LeavesKindly why (content inside.disk) (content new.disk) → is_ready new ≡ false → (s : Standing) → Stands old s
-        → (t : Standing) × Going old s new t × StaysShut s why t
-    unopened-from one new why run well kindly unready = subst (λ (o : Owning D). (s : Standing) → Stands o s → (t : Standing) × Going o s new t × StaysShut s why t) is (unopened-at one inside new why run well kindly unready)
+    pub unopened-from : RecoversSomeOne → (new : Owning D) (why : OpenRefusal) → Reopening inside new.disk → ((a : Archive) (cache : List ℕ) → ReadsWith cache a (content inside.disk) → IsWant why) → LeavesKindly why (content inside.disk) (content new.disk) → is_ready new ≡ false → (s : LastKnown) → Stands old s
+        → (t : LastKnown) × Going old s new t × ReopeningRefused s why t
+    unopened-from one new why run well kindly unready = subst (λ (o : Owning D). (s : LastKnown) → Stands o s → (t : LastKnown) × Going o s new t × ReopeningRefused s why t) is (unopened-at one inside new why run well kindly unready)
 
-    pub passes-from : RecoversSomeOne → (new : Owning D) → Reopening inside new.disk → (s : Standing) → Stands old s → Passes (Leaves content moment left_since) old new []
-    passes-from one new run = subst (λ (o : Owning D). (s : Standing) → Stands o s → Passes (Leaves content moment left_since) o new []) is (reopening-passes one inside new run)
+    pub passes-from : RecoversSomeOne → (new : Owning D) → Reopening inside new.disk → (s : LastKnown) → Stands old s → CrashesLeaveOnly (Leaves content moment left_since) old new []
+    passes-from one new run = subst (λ (o : Owning D). (s : LastKnown) → Stands o s → CrashesLeaveOnly (Leaves content moment left_since) o new []) is (reopening-passes one inside new run)
 
     -- Out of use, it fits what it did, since a crash leaves of its disk alone.
     abbrev pub shelved : Owning D
     shelved = record { disk = inside.disk; view = inside.view; views = inside.views; stale = true }
 
-    pub shelved-fits : (s : Standing) → Stands old s → Stands shelved s
+    pub shelved-fits : (s : LastKnown) → Stands old s → Stands shelved s
     shelved-fits s fits =
         let own : Stands inside s = subst (λ (o : Owning D). Stands o s) (sym is) fits in
         record { settled = λ ready. absurd (false≢true ready); exact = λ none. own.exact none; left = λ may has. let left = own.left may has in (left.0, left.1, left.2, λ ready image now. between_image (content inside.disk) image (only_now inside.disk image now)) }
 
     -- What happens to it then happens to what it was.
-    pub shelved-passes : (new : Owning D) (ss : List Standing) → Passes (Leaves content moment left_since) shelved new ss → Passes (Leaves content moment left_since) old new ss
+    pub shelved-passes : (new : Owning D) (ss : List LastKnown) → CrashesLeaveOnly (Leaves content moment left_since) shelved new ss → CrashesLeaveOnly (Leaves content moment left_since) old new ss
     shelved-passes new ss passes = λ start may has left. passes start may has (subst (λ (o : Owning D). Leaves content moment left_since start o may) (sym is) left)
 
-    pub shelved-moves : (new : Owning D) (s t : Standing) → Going shelved s new t → Going old s new t
+    pub shelved-moves : (new : Owning D) (s t : LastKnown) → Going shelved s new t → Going old s new t
     shelved-moves new s t moves = record { fits = moves.fits; passes = shelved-passes new (s ∷ t ∷ []) moves.passes }
 
     -- It was read again, and counted.
-    pub reread-from : (new : Owning D) (count : ℕ) → ((s : Standing) → Stands shelved s → (t : Standing) × Going shelved s new t × Settles s t) → is_ready new ≡ true → ((a : Archive) → Holds content new a → count ≡ length (live a.entries)) → (s : Standing) → Stands old s
-        → (t : Standing) × Going old s new t × Settles s t × (count ≡ length (live t.archive.entries))
+    pub reread-from : (new : Owning D) (count : ℕ) → ((s : LastKnown) → Stands shelved s → (t : LastKnown) × Going shelved s new t × Settles s t) → is_ready new ≡ true → ((a : Archive) → HoldsArchive content new a → count ≡ length (live a.entries)) → (s : LastKnown) → Stands old s
+        → (t : LastKnown) × Going old s new t × Settles s t × (count ≡ length (live t.archive.entries))
     reread-from new count found ready counted s fits =
         let got = found s (shelved-fits s fits) in
         (got.0, shelved-moves new s got.0 got.1, got.2, counted got.0.archive (got.1.fits.settled ready).0)
 
     -- Reading it again was refused.
-    pub unread-from : (new : Owning D) (why : OpenRefusal) → ((s : Standing) → Stands shelved s → (t : Standing) × Going shelved s new t × StaysShut s why t) → (s : Standing) → Stands old s
-        → (t : Standing) × Going old s new t × StaysShut s why t × Unit {0}
+    pub unread-from : (new : Owning D) (why : OpenRefusal) → ((s : LastKnown) → Stands shelved s → (t : LastKnown) × Going shelved s new t × ReopeningRefused s why t) → (s : LastKnown) → Stands old s
+        → (t : LastKnown) × Going old s new t × ReopeningRefused s why t × Unit {0}
     unread-from new why found s fits = let got = found s (shelved-fits s fits) in (got.0, shelved-moves new s got.0 got.1, got.2, tt)
 
     -- What a crash leaves of it meanwhile.
-    pub reread-passes : (new : Owning D) → ((s : Standing) → Stands shelved s → Passes (Leaves content moment left_since) shelved new []) → (s : Standing) → Stands old s → Passes (Leaves content moment left_since) old new []
+    pub reread-passes : (new : Owning D) → ((s : LastKnown) → Stands shelved s → CrashesLeaveOnly (Leaves content moment left_since) shelved new []) → (s : LastKnown) → Stands old s → CrashesLeaveOnly (Leaves content moment left_since) old new []
     reread-passes new passes s fits = shelved-passes new [] (passes s (shelved-fits s fits))
 
     pub taken-from : CachesOne → (new : Owning D) (wanted : Archive → Done) (left : List ℕ → List ℕ) (reply : Answer) → ((cache : List ℕ) → (left cache ≡ cache) ⊎ (left cache ≡ [])) → (needs_opening reply ≡ true → new.stale ≡ true) → ((a : Archive) (cache : List ℕ) → IsStoreWith inside.view cache a (content inside.disk) → LeavesOnly moment left_since inside.disk new.disk (RecoversOneOf cache a (left cache) (wanted a).archive))
         → RunsBetween content moment left_since inside.disk new.disk
         → ((a : Archive) (cache : List ℕ) → IsStoreWith inside.view cache a (content inside.disk) → DoneBy new.view cache (left cache) a (wanted a) reply (content new.disk))
         → ((a : Archive) (cache : List ℕ) → IsStoreWith inside.view cache a (content inside.disk) → inside.views ≡ views_of (live a.entries) → ViewsKeepUp reply (is_ready new) new.views a (wanted a).archive)
-        → OnRefusal reply (UnlessFault reply (OnlyLooks content moment left_since inside.disk new.disk)) → OnDone reply (WhereTold IsSettled (content new.disk)) → (a : Archive) → Holds content old a → (t : Standing) × Going old (standing a None) new t × Comes true (standing a None) wanted reply t
-    taken-from caches new wanted left reply kept stale run beside done rows untouched settled =
-        subst (λ (o : Owning D). (a : Archive) → Holds content o a → (t : Standing) × Going o (standing a None) new t × Comes true (standing a None) wanted reply t) is
-        (λ a held. taken-at caches inside new a held.0 (left held.0) (kept held.0) held.1 held.3 wanted (run a held.0 held.1) beside reply stale (done a held.0 held.1) (rows a held.0 held.1 held.2) untouched settled)
+        → OnRefusal reply (UnlessFault reply (OnlyLooks content moment left_since inside.disk new.disk)) → OnDone reply (WhereTold IsSettled (content new.disk)) → (a : Archive) → HoldsArchive content old a → (t : LastKnown) × Going old (standing a None) new t × CommandGives true (standing a None) wanted reply t
+    taken-from caches new wanted left reply kept stale run crash_beside done rows untouched settled =
+        subst (λ (o : Owning D). (a : Archive) → HoldsArchive content o a → (t : LastKnown) × Going o (standing a None) new t × CommandGives true (standing a None) wanted reply t) is
+        (λ a held. taken-at caches inside new a held.0 (left held.0) (kept held.0) held.1 held.3 wanted (run a held.0 held.1) crash_beside reply stale (done a held.0 held.1) (rows a held.0 held.1 held.2) untouched settled)
 
-    pub stays-from : (faults : D → ℕ) (disk : D) → is_ready old ≡ true → Told Unchanged (content inside.disk) (content disk) → LeavesOnly moment left_since inside.disk disk (Image (content inside.disk)) → faults inside.disk ≤ faults disk
-        → Stays (Holds content) is_ready (ReadsOn content moment left_since) (λ (o : Owning D). faults o.disk) old (record { disk = disk; view = inside.view; views = inside.views; stale = inside.stale })
+    pub stays-from : (faults : D → ℕ) (disk : D) → is_ready old ≡ true → BothTold Unchanged (content inside.disk) (content disk) → LeavesOnly moment left_since inside.disk disk (Image (content inside.disk)) → faults inside.disk ≤ faults disk
+        → ShelfStays (HoldsArchive content) is_ready (OnlyReadsOn content moment left_since) (λ (o : Owning D). faults o.disk) old (record { disk = disk; view = inside.view; views = inside.views; stale = inside.stale })
     stays-from faults disk ready files run later =
-        subst (λ (o : Owning D). is_ready o ≡ true → Stays (Holds content) is_ready (ReadsOn content moment left_since) (λ (p : Owning D). faults p.disk) o (record { disk = disk; view = inside.view; views = inside.views; stale = inside.stale })) is
+        subst (λ (o : Owning D). is_ready o ≡ true → ShelfStays (HoldsArchive content) is_ready (OnlyReadsOn content moment left_since) (λ (p : Owning D). faults p.disk) o (record { disk = disk; view = inside.view; views = inside.views; stale = inside.stale })) is
         (λ at_hand. stays-at faults inside disk at_hand files run later) ready
 
     pub refused-from : (new : Owning D) (ok : Bool) (command : Command) (gone : Option ℕ) (text : List ℕ) (arrived : ℕ) (reply : Answer) → old.stale ≡ false → new.stale ≡ (needs_opening reply || not ok) → OnRefusal reply (ok ≡ true) → OnRefusal reply (new.view ≡ inside.view)
-        → (ok ≡ true → ViewsAfter command gone reply text arrived inside.views new.views) → OnRefusal reply (UnlessFault reply (OnlyLooks content moment left_since inside.disk new.disk)) → IfRefused reply (ReadsOn content moment left_since old new)
+        → (ok ≡ true → ViewsAfter command gone reply text arrived inside.views new.views) → OnRefusal reply (UnlessFault reply (OnlyLooks content moment left_since inside.disk new.disk)) → IfRefused reply (OnlyReadsOn content moment left_since old new)
     refused-from new ok command gone text arrived reply ready stale followed view rows looks =
-        subst (λ (o : Owning D). o.stale ≡ false → IfRefused reply (ReadsOn content moment left_since o new)) is (λ at_hand. refused-at inside new ok command gone text arrived reply at_hand stale followed view rows looks) ready
+        subst (λ (o : Owning D). o.stale ≡ false → IfRefused reply (OnlyReadsOn content moment left_since o new)) is (λ at_hand. refused-at inside new ok command gone text arrived reply at_hand stale followed view rows looks) ready
 
     pub unmoved-from : (new : Owning D) (ok : Bool) (command : Command) (gone : Option ℕ) (text : List ℕ) (arrived : ℕ) (reply : Answer) → old.stale ≡ false → new.stale ≡ (needs_opening reply || not ok) → OnRefusal reply (ok ≡ true) → OnRefusal reply (new.view ≡ inside.view)
         → (ok ≡ true → ViewsAfter command gone reply text arrived inside.views new.views) → IfUnreadFor command reply (new.disk ≡ inside.disk) → IfUnreadFor command reply (new ≡ old)
@@ -609,10 +609,10 @@ module _ {D : Type 0} (content : D → Option Content) (moment : D → ℕ) (lef
         subst (λ (o : Owning D). o.stale ≡ false → IfUnreadFor command reply (new ≡ o)) is (λ at_hand. unmoved-at inside new ok command gone text arrived reply at_hand stale followed view rows disk) ready
 
 -- The answer to a command whose archive wasn't reopened, which was stale then.
-pub refused-comes : (was : Bool) (s t : Standing) (wanted : Archive → Done) (why : OpenRefusal) (reply : Answer) → reply ≡ opening_answer why → (was ≡ true → false ≡ true) → StaysShut s why t → Comes was s wanted reply t
+pub refused-comes : (was : Bool) (s t : LastKnown) (wanted : Archive → Done) (why : OpenRefusal) (reply : Answer) → reply ≡ opening_answer why → (was ≡ true → false ≡ true) → ReopeningRefused s why t → CommandGives was s wanted reply t
 refused-comes was s t wanted why reply is stale shut =
-    let from : Comes was s wanted (opening_answer why) t = subst (λ (b : Bool). Comes b s wanted (opening_answer why) t) (sym (never_ready was stale)) (unopened-comes s t wanted why shut) in
-    subst (λ (r : Answer). Comes was s wanted r t) (sym is) from
+    let from : CommandGives was s wanted (opening_answer why) t = subst (λ (b : Bool). CommandGives b s wanted (opening_answer why) t) (sym (never_ready was stale)) (unopened-comes s t wanted why shut) in
+    subst (λ (r : Answer). CommandGives was s wanted r t) (sym is) from
 
 pub refused-ready : (was now : Bool) (why : OpenRefusal) (reply : Answer) → reply ≡ opening_answer why → (was ≡ true → false ≡ true) → now ≡ false → StaysReady was reply now
 refused-ready was now why reply is stale unready =

@@ -27,7 +27,7 @@ use Rattle.arch_model.proofs.ValidArchives.{all_weaker}
 use Rattle.arch_model.proofs.Purging.{live_climbs, live_without, none_gone, text_gone, valid_without}
 use Rattle.arch_model.proofs.Rewrites.{purged_is, edited_is}
 use Rattle.arch_judge.proofs.Endings.{Ascend, live-ascend}
-use Rattle.store_finding.specs.Kept.{View}
+use Rattle.store_finding.specs.Kept.{StoreState}
 use Rattle.view_set.specs.Viewed.{Viewed, with_mail, without_mail, views_of}
 use Rattle.view_set.proofs.MailLists.{mails-added, mails-taken}
 use Rattle.overview_index.proofs.Messages.{HasId, AllBelow, Ascends}
@@ -225,7 +225,7 @@ same-views : (a : Archive) (command : Command) (moment : ℕ) (old new : Viewed)
 same-views a command moment old new old_is same never = same ∙ old_is ∙ ap (λ (b : Archive). views_of (live b.entries)) (sym (applied-keeps a command moment never))
 
 -- The views keep up with a command, however it was answered.
-pub kept-up : (a : Archive) (command : Command) (moment : ℕ) (text : List ℕ) (lost : Option ℕ) (v : View) (cache left : List ℕ) (content : Option Content) (old new : Viewed) (ready ok : Bool) (reply : Answer) → IsArchive a → old ≡ views_of (live a.entries)
+pub kept-up : (a : Archive) (command : Command) (moment : ℕ) (text : List ℕ) (lost : Option ℕ) (v : StoreState) (cache left : List ℕ) (content : Option Content) (old new : Viewed) (ready ok : Bool) (reply : Answer) → IsArchive a → old ≡ views_of (live a.entries)
     → DoneBy v cache left a (applied a command moment) reply content → IfDelivery (is_delivery command) (OnDone reply (KeepsTextFor command a (applied a command moment) moment text)) → OnDone reply (IsGone a command lost) → (ready ≡ true → ok ≡ true) → OnRefusal reply (ok ≡ true)
     → (ok ≡ true → ViewsAfter command lost reply text moment old new) → ViewsKeepUp reply ready new a (applied a command moment).archive
 kept-up a command moment text lost v cache left content old new ready ok (answer.Ok number id) valid old_is done kept taken followed refused rows = λ now. done-views a command moment number id text lost old new valid done.answer_is kept taken old_is (rows (followed now))

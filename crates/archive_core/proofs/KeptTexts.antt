@@ -11,11 +11,11 @@ use Rattle.arch_judge.specs.declared.index.Index.{Index}
 use Rattle.arch_judge.specs.declared.judging.Verdict.TheVariants.{Refuse}
 use Rattle.epoch_file.specs.declared.refusal.StoreRefusal.{StoreRefusal}
 use Rattle.epoch_file.specs.declared.refusal.StoreRefusal.TheVariants as refusal
-use Rattle.store_finding.specs.Kept.{View}
+use Rattle.store_finding.specs.Kept.{StoreState}
 use Rattle.archive_core.specs.Commands.{AnswersDelivery, AnswersEdit, IsForCommand, OnDone, TellsText, is_delivery, refusal_answer}
 use Rattle.archive_core.specs.Kept.{TakesWhatMay}
 
-pub refuse-tells : (v : View) (index : Index) (reply : Answer) (text : KeptText) → TakesWhatMay v index (Refuse reply) → TellsText reply text
+pub refuse-tells : (v : StoreState) (index : Index) (reply : Answer) (text : KeptText) → TakesWhatMay v index (Refuse reply) → TellsText reply text
 refuse-tells v index (answer.Ok number id) text never = absurd never
 refuse-tells v index answer.NoMemory text is = tt
 refuse-tells v index (answer.Duplicate number) text is = tt
@@ -29,7 +29,7 @@ refuse-tells v index answer.IsMirror text is = tt
 refuse-tells v index answer.DiskFault text is = tt
 refuse-tells v index (answer.Damaged file at) text is = tt
 
-pub refuse-done : (v : View) (index : Index) (reply : Answer) (P : Type 0) → TakesWhatMay v index (Refuse reply) → OnDone reply P
+pub refuse-done : (v : StoreState) (index : Index) (reply : Answer) (P : Type 0) → TakesWhatMay v index (Refuse reply) → OnDone reply P
 refuse-done v index (answer.Ok number id) P never = absurd never
 refuse-done v index answer.NoMemory P is = tt
 refuse-done v index (answer.Duplicate number) P is = tt
@@ -43,7 +43,7 @@ refuse-done v index answer.IsMirror P is = tt
 refuse-done v index answer.DiskFault P is = tt
 refuse-done v index (answer.Damaged file at) P is = tt
 
-pub refuse-answers : (v : View) (index : Index) (reply : Answer) → TakesWhatMay v index (Refuse reply) → AnswersDelivery reply
+pub refuse-answers : (v : StoreState) (index : Index) (reply : Answer) → TakesWhatMay v index (Refuse reply) → AnswersDelivery reply
 refuse-answers v index (answer.Ok n id) never = absurd never
 refuse-answers v index answer.NoMemory is = tt
 refuse-answers v index answer.DiskFault is = tt

@@ -2,7 +2,7 @@
 use Rattle.std.specs.Prelude.{◌≡◌, ◌≤◌, ℕ, List, Option, Some, None, Result, Ok, Err, refl}
 use Rattle.std.proofs.Common.{sym, ap, subst, inl, inr}
 use Rattle.arch_base.specs.Counts.{RoseIf}
-use Rattle.disk_model.specs.Disk.{Files, Content, Image, Told, WhereTold, Unchanged, LeavesOnly}
+use Rattle.disk_model.specs.Disk.{Files, Content, Image, BothTold, WhereTold, Unchanged, LeavesOnly}
 use Rattle.disk_model.specs.Moments.{joined}
 use Rattle.disk_model.specs.Synced.{IsSettled}
 use Rattle.root_slots.specs.Between.{BetweenStays}
@@ -14,13 +14,13 @@ use Rattle.arch_model.specs.declared.text_refusal.TextRefusal.{TextRefusal}
 use Rattle.arch_model.specs.declared.text_refusal.TextRefusal.TheVariants as reading
 use Rattle.store_finding.specs.declared.entries.StoredEntry.{StoredEntry}
 use Rattle.store_finding.specs.Files.{as_read}
-use Rattle.epoch_store.specs.Opens.{RecoversOfWith, ReadsWith, Opens, OpensWell, SyncsFirst, SyncsAtMost, OnSynced}
+use Rattle.epoch_store.specs.Opens.{RecoversOfWith, ReadsWith, OpensFiles, OpensWell, SyncsFirst, SyncsAtMost, OnSynced}
 use Rattle.epoch_store.specs.Promises.{OpensArchive}
 use Rattle.epoch_store.specs.Reads.{HasTexts}
 use Rattle.store_finding.specs.Recovery.{RecoversWith}
 use Rattle.epoch_store.specs.Settling.{IsSettledBy}
-use Rattle.store_finding.specs.Kept.{View, IsStoreWith}
-use Rattle.epoch_store.specs.Commands.{HasSizes}
+use Rattle.store_finding.specs.Kept.{StoreState, IsStoreWith}
+use Rattle.epoch_store.specs.Commands.{StoreHasSizes}
 use Rattle.archive_core.specs.Commands.{OnlyLooks}
 use Rattle.archive_core.specs.Engines.{unchanged-is}
 use Rattle.archive_core.specs.Openings.{StillReads, LeavesKindly}
@@ -31,7 +31,7 @@ module _ {D : Type 0} (content : D → Option Content) (moment : D → ℕ) (lef
     (counts_now : (disk : D) (t : ℕ) (image : Files) → t ≤ moment disk → Image (content disk) image → left_since disk t image) where
   -- What a crash leaves of a run, and of reads after it.
   run-read : (old mid new : D) (P : Files → Type 0) → LeavesOnly moment left_since old mid P → OnlyLooks content moment left_since mid new → LeavesOnly moment left_since old new P
-  run-read old mid new P run looks = joined moment left_since old mid new P (Image (content mid)) P run looks.any_moment (λ image has. has) (λ image now. run.each image (counts_now mid (moment old) image run.later now))
+  run-read old mid new P run looks = joined moment left_since old mid new P (Image (content mid)) P run looks.crash (λ image has. has) (λ image now. run.each image (counts_now mid (moment old) image run.later now))
 
   first-read : (old mid new : D) → SyncsFirst content moment left_since old mid → OnlyLooks content moment left_since mid new → SyncsFirst content moment left_since old new
   first-read old mid new first looks = record {
@@ -46,31 +46,31 @@ module _ {D : Type 0} (content : D → Option Content) (moment : D → ℕ) (lef
   before-read old mid new (inl only) looks = inl (run-read old mid new (Image (content old)) only looks)
   before-read old mid new (inr first) looks = inr (first-read old mid new first looks)
 
-  module _ (old mid new : D) (v : View) (opened : OpensArchive content moment left_since faults old mid (Ok v)) (looks : OnlyLooks content moment left_since mid new) where
+  module _ (old mid new : D) (v : StoreState) (opened : OpensArchive content moment left_since faults old mid (Ok v)) (looks : OnlyLooks content moment left_since mid new) where
     same : content new ≡ content mid
     same = unchanged-is (content mid) (content new) looks.same
 
     -- The rows were read.
     pub opened-read : faults new ≡ faults mid → OpensArchive content moment left_since faults old new (Ok v)
     opened-read steady = record {
-      any_moment = λ may cache all. run-read old mid new (RecoversOfWith cache may) (opened.any_moment may cache all) looks;
+      crash = λ may cache all. run-read old mid new (RecoversOfWith cache may) (opened.crash may cache all) looks;
       answer = opened.answer;
       done = λ a cache reads. still_own v cache a (content mid) (content new) looks.same (opened.done a cache reads);
       well = opened.well;
       first = first-read old mid new opened.first looks;
       before = before-read old mid new opened.before looks;
       settled = subst (WhereTold IsSettled) (sym same) opened.settled;
-      kept = subst (λ (k : Option Content). Told (IsSettledBy v.root v.slot) (content old) k) (sym same) opened.kept;
-      sizes = subst (WhereTold (HasSizes v)) (sym same) opened.sizes;
-      cause = subst (λ (n : ℕ). RoseIf (◌≡◌ {A = Result View OpenRefusal} (Ok v) (Err opening.DiskFault)) (faults old) n) (sym steady) opened.cause;
-      between = run-read old mid new (BetweenStays (content old)) opened.between looks;
+      kept = subst (λ (k : Option Content). BothTold (IsSettledBy v.root v.slot) (content old) k) (sym same) opened.kept;
+      sizes = subst (WhereTold (StoreHasSizes v)) (sym same) opened.sizes;
+      cause = subst (λ (n : ℕ). RoseIf (◌≡◌ {A = Result StoreState OpenRefusal} (Ok v) (Err opening.DiskFault)) (faults old) n) (sym steady) opened.cause;
+      crash_between = run-read old mid new (BetweenStays (content old)) opened.crash_between looks;
     }
 
     -- They weren't, and the archive isn't opened.
-    pub unopened-read : (why : OpenRefusal) → ((a : Archive) (cache : List ℕ) → IsStoreWith v cache a (content mid) → OpensWell {T = View} (Err why)) → (IsSound v (content mid) → OpensWell {T = View} (Err why)) → WhereTold (HasTexts v) (content mid)
-        → RoseIf (◌≡◌ {A = Result View OpenRefusal} (Err why) (Err opening.DiskFault)) (faults mid) (faults new) → OpensArchive content moment left_since faults old new (Err why)
+    pub unopened-read : (why : OpenRefusal) → ((a : Archive) (cache : List ℕ) → IsStoreWith v cache a (content mid) → OpensWell {T = StoreState} (Err why)) → (IsSound v (content mid) → OpensWell {T = StoreState} (Err why)) → WhereTold (HasTexts v) (content mid)
+        → RoseIf (◌≡◌ {A = Result StoreState OpenRefusal} (Err why) (Err opening.DiskFault)) (faults mid) (faults new) → OpensArchive content moment left_since faults old new (Err why)
     unopened-read why well sound texts cause = record {
-      any_moment = λ may cache all. run-read old mid new (RecoversOfWith cache may) (opened.any_moment may cache all) looks;
+      crash = λ may cache all. run-read old mid new (RecoversOfWith cache may) (opened.crash may cache all) looks;
       answer = answered (content old) (content mid) why opened.kept texts sound;
       done = λ a cache reads. tt;
       well = λ a cache reads. well a cache (opened.done a cache reads);
@@ -79,23 +79,23 @@ module _ {D : Type 0} (content : D → Option Content) (moment : D → ℕ) (lef
       settled = tt;
       kept = tt;
       sizes = tt;
-      cause = subst (λ (n : ℕ). RoseIf (◌≡◌ {A = Result View OpenRefusal} (Err why) (Err opening.DiskFault)) n (faults new)) (opened.cause.kept (λ never. absurd (cc never))) cause;
-      between = run-read old mid new (BetweenStays (content old)) opened.between looks;
+      cause = subst (λ (n : ℕ). RoseIf (◌≡◌ {A = Result StoreState OpenRefusal} (Err why) (Err opening.DiskFault)) n (faults new)) (opened.cause.kept (λ never. absurd (cc never))) cause;
+      crash_between = run-read old mid new (BetweenStays (content old)) opened.crash_between looks;
     }
       where
-        by_why : (w : OpenRefusal) → OnSynced {T = View} (Err w) (SyncsFirst content moment left_since old new)
+        by_why : (w : OpenRefusal) → OnSynced {T = StoreState} (Err w) (SyncsFirst content moment left_since old new)
         by_why opening.NoArchive = first-read old mid new opened.first looks
         by_why (opening.Damaged file at) = first-read old mid new opened.first looks
         by_why opening.DiskFault = tt
         by_why opening.NoMemory = first-read old mid new opened.first looks
 
-        quiet : (k : Content) (w : OpenRefusal) → OpensWell {T = View} (Err w) → Opens (as_read k) (Err w)
+        quiet : (k : Content) (w : OpenRefusal) → OpensWell {T = StoreState} (Err w) → OpensFiles (as_read k) (Err w)
         quiet k opening.NoArchive want = absurd want
         quiet k (opening.Damaged file at) want = absurd want
         quiet k opening.DiskFault want = tt
         quiet k opening.NoMemory want = tt
 
-        answered : (before now : Option Content) (w : OpenRefusal) → Told (IsSettledBy v.root v.slot) before now → WhereTold (HasTexts v) now → (IsSound v now → OpensWell {T = View} (Err w)) → WhereTold (λ (k : Content). Opens (as_read k) (Err w)) before
+        answered : (before now : Option Content) (w : OpenRefusal) → BothTold (IsSettledBy v.root v.slot) before now → WhereTold (HasTexts v) now → (IsSound v now → OpensWell {T = StoreState} (Err w)) → WhereTold (λ (k : Content). OpensFiles (as_read k) (Err w)) before
         answered None now w told texts_are is_sound = tt
         answered (Some k) None w told texts_are is_sound = absurd told
         answered (Some k) (Some m) w told texts_are is_sound = quiet k w (is_sound texts_are)
@@ -108,14 +108,14 @@ pub caused : {D : Type 0} (faults : D → ℕ) (P : Type 0) (old new last : D) �
 caused faults P old new last same cause = subst (λ d. RoseIf P (faults old) (faults d)) (sym same) cause
 
 -- Why an archive wasn't opened whose text wasn't read.
-pub unread-well : (v : View) (found : Option StoredEntry) (why : TextRefusal) (r : OpenRefusal) → r ≡ unread_opening v found why → IsUndamaged why → OpensWell {T = View} (Err r)
-unread-well v found why r is undamaged = subst (λ (w : OpenRefusal). OpensWell {T = View} (Err w)) (sym is) (by found why undamaged) where
-  by : (f : Option StoredEntry) (w : TextRefusal) → IsUndamaged w → OpensWell {T = View} (Err (unread_opening v f w))
+pub unread-well : (v : StoreState) (found : Option StoredEntry) (why : TextRefusal) (r : OpenRefusal) → r ≡ unread_opening v found why → IsUndamaged why → OpensWell {T = StoreState} (Err r)
+unread-well v found why r is undamaged = subst (λ (w : OpenRefusal). OpensWell {T = StoreState} (Err w)) (sym is) (by found why undamaged) where
+  by : (f : Option StoredEntry) (w : TextRefusal) → IsUndamaged w → OpensWell {T = StoreState} (Err (unread_opening v f w))
   by f reading.DiskFault fine = tt
   by f reading.NoMemory fine = tt
   by f (reading.Damaged named other) never = absurd never
 
-pub unread-cause : {T : Type 0} (v : View) (found : Option StoredEntry) (before now : ℕ) (why : TextRefusal) (r : OpenRefusal) → r ≡ unread_opening v found why → before ≤ now → ReadingWhy before now why → RoseIf (◌≡◌ {A = Result T OpenRefusal} (Err r) (Err opening.DiskFault)) before now
+pub unread-cause : {T : Type 0} (v : StoreState) (found : Option StoredEntry) (before now : ℕ) (why : TextRefusal) (r : OpenRefusal) → r ≡ unread_opening v found why → before ≤ now → ReadingWhy before now why → RoseIf (◌≡◌ {A = Result T OpenRefusal} (Err r) (Err opening.DiskFault)) before now
 unread-cause {T} v found before now why r is later cause = subst (λ (w : OpenRefusal). RoseIf (◌≡◌ {A = Result T OpenRefusal} (Err w) (Err opening.DiskFault)) before now) (sym is) (by found why cause) where
   by : (f : Option StoredEntry) (w : TextRefusal) → ReadingWhy before now w → RoseIf (◌≡◌ {A = Result T OpenRefusal} (Err (unread_opening v f w)) (Err opening.DiskFault)) before now
   by f reading.DiskFault rose = record { later = later; failed = λ fault. rose; kept = λ never. absurd (never refl) }
@@ -137,10 +137,10 @@ cause-of {T} {U} w before now cause = record {
   back fault = (let same : w ≡ opening.DiskFault = cc in ap (λ (x : OpenRefusal). Err x) same)
 
 -- What a refusal by a read leaves.
-pub kindly-read : (v : View) (before now after : Option Content) (w : OpenRefusal) → WhereTold (λ (k : Content). Opens (as_read k) (Ok v)) before → Told (IsSettledBy v.root v.slot) before now → WhereTold (HasTexts v) now → (IsSound v now → OpensWell {T = View} (Err w)) → Told Unchanged now after → StillReads before after
+pub kindly-read : (v : StoreState) (before now after : Option Content) (w : OpenRefusal) → WhereTold (λ (k : Content). OpensFiles (as_read k) (Ok v)) before → BothTold (IsSettledBy v.root v.slot) before now → WhereTold (HasTexts v) now → (IsSound v now → OpensWell {T = StoreState} (Err w)) → BothTold Unchanged now after → StillReads before after
     → ((a : Archive) (cache : List ℕ) → ReadsWith cache a before → IsStoreWith v cache a after) → WhereTold IsSettled now → LeavesKindly w before after
 kindly-read v before now after opening.DiskFault opens told texts sound unchanged still own settled = tt
-kindly-read v before now after opening.NoMemory opens told texts sound unchanged still own settled = (still, inr (v, opens, subst (λ (k : Option Content). Told (IsSettledBy v.root v.slot) before k) (sym (unchanged-is now after unchanged)) told, own, subst (WhereTold IsSettled) (sym (unchanged-is now after unchanged)) settled))
+kindly-read v before now after opening.NoMemory opens told texts sound unchanged still own settled = (still, inr (v, opens, subst (λ (k : Option Content). BothTold (IsSettledBy v.root v.slot) before k) (sym (unchanged-is now after unchanged)) told, own, subst (WhereTold IsSettled) (sym (unchanged-is now after unchanged)) settled))
 kindly-read v None None None opening.NoArchive opens told texts sound unchanged still own settled = tt
 kindly-read v None None (Some n) opening.NoArchive opens told texts sound unchanged still own settled = absurd unchanged
 kindly-read v None (Some m) after opening.NoArchive opens told texts sound unchanged still own settled = absurd told

@@ -9,7 +9,7 @@ use Rattle.std.proofs.lemmas.Option.{same_Some}
 use Rattle.git_objects.specs.declared.entry_kind.EntryKind.{EntryKind}
 use Rattle.git_objects.specs.declared.entry_kind.EntryKind.TheVariants.{Message, Deletion}
 use Rattle.arch_model.specs.Archives.{Entry, is_message, messages, text_of}
-use Rattle.arch_model.specs.Validity.{IsFrom, number_after, Rise}
+use Rattle.arch_model.specs.Validity.{NumberIsFrom, number_after, Rise}
 use Rattle.store_finding.specs.declared.entries.StoredEntry.{StoredEntry}
 use Rattle.epoch_store.specs.Commands.{is_ended_in, live_kept}
 use Rattle.store_finding.specs.Kept.{stored_after}
@@ -39,7 +39,7 @@ live-places index [] n = refl
 live-places index (e ∷ es) n = live_step (is_message e.seen.kind) (is_ended_in es e.number) n e.number index e (message_places (index + 1) es) (live_kept es) refl (live-places (index + 1) es n)
 
 -- Numbers rise in the places of entries whose numbers rise.
-rise_step : (k : EntryKind) (number own index : ℕ) (live : Bool) (ps : List MessagePlace) → IsFrom k number own → PlacesFrom (number_after k number own) ps → PlacesFrom number (if is_message k then place_of own index live ∷ ps else ps)
+rise_step : (k : EntryKind) (number own index : ℕ) (live : Bool) (ps : List MessagePlace) → NumberIsFrom k number own → PlacesFrom (number_after k number own) ps → PlacesFrom number (if is_message k then place_of own index live ∷ ps else ps)
 rise_step Message number own index live ps low rest = (low, rest)
 rise_step Deletion number own index live ps low rest = rest
 

@@ -11,7 +11,7 @@ use Rattle.arch_model.specs.Archives.{Archive, live, text_of, with_entry, withou
 use Rattle.arch_model.specs.Delivery.{Done, collision, delivered, new_epoch, unless_refused}
 use Rattle.arch_model.specs.declared.answer.Answer.{Answer}
 use Rattle.arch_model.specs.declared.answer.Answer.TheVariants as answer
-use Rattle.arch_judge.specs.Indexes.{IsIndex}
+use Rattle.arch_judge.specs.Indexes.{IsArchiveIndex}
 use Rattle.arch_judge.specs.declared.index.Index.{Index}
 use Rattle.arch_judge.specs.declared.judging.Verdict.TheVariants.{Take, Refuse}
 use Rattle.epoch_file.specs.declared.refusal.StoreRefusal.{StoreRefusal}
@@ -20,8 +20,8 @@ use Rattle.epoch_store.specs.Promises.{ChangesStore, Renews, Replaces}
 use Rattle.root_slots.specs.Between.{looks_between}
 use Rattle.root_slots.specs.Spelling.{spelling}
 use Rattle.epoch_store.proofs.Readying.{read_between}
-use Rattle.store_finding.specs.Kept.{View, IsStoreWith, Keeps}
-use Rattle.epoch_store.specs.Commands.{HasSizes, MayPurge, RecoversOneOf}
+use Rattle.store_finding.specs.Kept.{StoreState, IsStoreWith, KeepsArchive}
+use Rattle.epoch_store.specs.Commands.{StoreHasSizes, MayPurge, RecoversOneOf}
 use Rattle.store_planning.specs.Dropping.{without_blob}
 use Rattle.archive_core.specs.Commands.{AnswersDelivery, DoneBy, IfUnreadEdit, JudgesOn, OnDone, OnlyLooks, refusal_answer}
 use Rattle.archive_core.specs.DamageTold.{TellsEntry}
@@ -74,7 +74,7 @@ late-cause (answer.NoText n) before now rose = record { later = rose.later; fail
 late-cause answer.IsMirror before now rose = record { later = rose.later; failed = λ fault. absurd (cc fault); kept = λ never. rose.kept (λ fault. absurd (cc fault)) }
 late-cause (answer.Damaged file at) before now rose = record { later = rose.later; failed = λ fault. absurd (cc fault); kept = λ never. rose.kept (λ fault. absurd (cc fault)) }
 
-late-done : (v : View) (cache left : List ℕ) (a : Archive) (d : Done) (k : Option Content) (reply : Answer) → IsStoreWith v cache a k → DoneBy v cache left a d reply k → DoneBy v cache left a d (late_answer reply) k
+late-done : (v : StoreState) (cache left : List ℕ) (a : Archive) (d : Done) (k : Option Content) (reply : Answer) → IsStoreWith v cache a k → DoneBy v cache left a d reply k → DoneBy v cache left a d (late_answer reply) k
 late-done v cache left a d k (answer.Ok n id) store done = store
 late-done v cache left a d k answer.NoMemory store done = done
 late-done v cache left a d k answer.DiskFault store done = done
@@ -89,7 +89,7 @@ late-done v cache left a d k answer.IsMirror store done = store
 late-done v cache left a d k (answer.Damaged file at) store done = done
 
 -- The index of the entries that stay is that of the archive without the text.
-edit-index : (v : View) (a : Archive) (n : ℕ) (blob : Id20) (index : Index) (gone : List ℕ) → Keeps v a → MayPurge v n blob → IndexesKept (without_blob v.entries blob.0) index → text_of (live a.entries) n ≡ Some gone → IsIndex (without_entries a gone).entries index
+edit-index : (v : StoreState) (a : Archive) (n : ℕ) (blob : Id20) (index : Index) (gone : List ℕ) → KeepsArchive v a → MayPurge v n blob → IndexesKept (without_blob v.entries blob.0) index → text_of (live a.entries) n ≡ Some gone → IsArchiveIndex (without_entries a gone).entries index
 edit-index v a n blob index gone keeps may indexed shown =
     let is = live-message-is a n gone keeps.valid shown in
     index-without v a index blob gone keeps (message-agrees a n gone keeps.valid is) (purge-blob v a n blob gone keeps may is) indexed
@@ -97,10 +97,10 @@ edit-index v a n blob index gone keeps may indexed shown =
 module _ {D : Type 0} (content : D → Option Content) (moment : D → ℕ) (left_since : D → ℕ → Files → Type 0) (faults : D → ℕ)
     (only_now : (disk : D) (image : Files) → left_since disk (moment disk) image → Image (content disk) image) where
   -- A delivery in place of a text was refused, after the disk was only read.
-  pub edits-refused : StoreRecovers → (old mid : D) (v : View) (index : Index) (blob : Id20) (number : ℕ) (bytes : List ℕ) (arrived : ℕ) (reply : Answer) → MayPurge v number blob → IndexesKept (without_blob v.entries blob.0) index → WhereTold (HasSizes v) (content old)
+  pub edits-refused : StoreRecovers → (old mid : D) (v : StoreState) (index : Index) (blob : Id20) (number : ℕ) (bytes : List ℕ) (arrived : ℕ) (reply : Answer) → MayPurge v number blob → IndexesKept (without_blob v.entries blob.0) index → WhereTold (StoreHasSizes v) (content old)
       → JudgesOn content old v index bytes (Refuse reply) → OnlyLooks content moment left_since old mid → RoseIf (reply ≡ answer.DiskFault) (faults old) (faults mid) → TellsEntry v (content old) reply → EditsAs content moment left_since faults old mid v v number bytes arrived (late_answer reply)
   edits-refused law old mid v index blob number bytes arrived reply may indexed sizes judges looks cause damage = record {
-    any_moment = λ a cache gone store room shown. only-read moment left_since law v cache [] a (unless_refused a (delivered (without_entries a gone) bytes arrived)).archive (content old) old mid store looks.any_moment;
+    crash = λ a cache gone store room shown. only-read moment left_since law v cache [] a (unless_refused a (delivered (without_entries a gone) bytes arrived)).archive (content old) old mid store looks.crash;
     done = λ a cache gone store room shown. (
         let own = still_own v cache a (content old) (content mid) looks.same store in
         let judged = judges a cache (Some gone) store (edit-index v a number blob index gone (store_keeps v cache a (content old) store) may indexed shown) in
@@ -111,18 +111,18 @@ module _ {D : Type 0} (content : D → Option Content) (moment : D → ℕ) (lef
     same = when-refused (late_answer reply) (v ≡ v) refl;
     untouched = when-refused (late_answer reply) _ (unless-failed (late_answer reply) _ looks);
     late = late-read reply;
-    sizes = unless-failed (late_answer reply) _ (subst (WhereTold (HasSizes v)) (sym (unchanged-is (content old) (content mid) looks.same)) sizes);
+    sizes = unless-failed (late_answer reply) _ (subst (WhereTold (StoreHasSizes v)) (sym (unchanged-is (content old) (content mid) looks.same)) sizes);
     cause = late-cause reply (faults old) (faults mid) cause;
     for_command = late-delivery reply;
     rooted = late-never reply _;
-    between = looks_between content moment left_since old mid looks.any_moment;
+    crash_between = looks_between content moment left_since old mid looks.crash;
     damage = late-damage v (content old) reply damage;
   }
 
   -- Memory ran out before the verdict.
-  pub edits-none : StoreRecovers → (disk : D) (v : View) (number : ℕ) (bytes : List ℕ) (arrived : ℕ) → WhereTold (HasSizes v) (content disk) → EditsAs content moment left_since faults disk disk v v number bytes arrived answer.NoMemory
+  pub edits-none : StoreRecovers → (disk : D) (v : StoreState) (number : ℕ) (bytes : List ℕ) (arrived : ℕ) → WhereTold (StoreHasSizes v) (content disk) → EditsAs content moment left_since faults disk disk v v number bytes arrived answer.NoMemory
   edits-none law disk v number bytes arrived sizes = record {
-    any_moment = λ a cache gone store room shown. not-started moment left_since law v cache [] a (unless_refused a (delivered (without_entries a gone) bytes arrived)).archive (content disk) disk store (only_now disk);
+    crash = λ a cache gone store room shown. not-started moment left_since law v cache [] a (unless_refused a (delivered (without_entries a gone) bytes arrived)).archive (content disk) disk store (only_now disk);
     done = λ a cache gone store room shown. store;
     settled = tt;
     goes_on = tt;
@@ -134,12 +134,12 @@ module _ {D : Type 0} (content : D → Option Content) (moment : D → ℕ) (lef
     cause = record { later = omega arith; failed = λ fault. absurd (cc fault); kept = λ never. refl };
     for_command = tt;
     rooted = tt;
-    between = (let looks = looks-same content moment left_since only_now disk in looks_between content moment left_since disk disk looks.any_moment);
+    crash_between = (let looks = looks-same content moment left_since only_now disk in looks_between content moment left_since disk disk looks.crash);
     damage = tt;
   }
 
   -- The verdict was to keep a text.
-  module _ (law : StoreRecovers) (old mid new : D) (v after : View) (index : Index) (blob : Id20) (number : ℕ) (bytes text : List ℕ) (arrived n : ℕ) (ids : TextIds) (may : MayPurge v number blob) (indexed : IndexesKept (without_blob v.entries blob.0) index)
+  module _ (law : StoreRecovers) (old mid new : D) (v after : StoreState) (index : Index) (blob : Id20) (number : ℕ) (bytes text : List ℕ) (arrived n : ℕ) (ids : TextIds) (may : MayPurge v number blob) (indexed : IndexesKept (without_blob v.entries blob.0) index)
       (judges : JudgesOn content old v index bytes (Take text ids n)) (looks : OnlyLooks content moment left_since old mid) (steady : faults mid ≡ faults old) where
     -- The archive after it, and that no other text has its blob id.
     taken_is : (a : Archive) (cache gone : List ℕ) → IsStoreWith v cache a (content old) → text_of (live a.entries) number ≡ Some gone
@@ -154,13 +154,13 @@ module _ {D : Type 0} (content : D → Option Content) (moment : D → ℕ) (lef
     run_after r keeps a cache gone store room shown =
         let is = taken_is a cache gone store shown in
         let own = still_own v cache a (content old) (content mid) looks.same store in
-        read-first moment left_since law v cache [] a (unless_refused a (delivered (without_entries a gone) bytes arrived)).archive (content old) old mid new store looks.any_moment
-        (subst (λ (b : Archive). LeavesOnly moment left_since mid new (RecoversOneOf cache a [] b)) (sym (ap (λ (d : Done). d.archive) is.0)) (keeps.any_moment a (with_entry (without_entries a gone) (new_epoch (without_entries a gone)) text arrived) cache own room (record { number = number; gone = gone; shown = shown; blob_is = is.1; alone = is.2; is = refl })))
+        read-first moment left_since law v cache [] a (unless_refused a (delivered (without_entries a gone) bytes arrived)).archive (content old) old mid new store looks.crash
+        (subst (λ (b : Archive). LeavesOnly moment left_since mid new (RecoversOneOf cache a [] b)) (sym (ap (λ (d : Done). d.archive) is.0)) (keeps.crash a (with_entry (without_entries a gone) (new_epoch (without_entries a gone)) text arrived) cache own room (record { number = number; gone = gone; shown = shown; blob_is = is.1; alone = is.2; is = refl })))
 
     -- The store refused it.
-    pub edits-failed : {reads : D → ℕ} (why : StoreRefusal) (reply : Answer) → reply ≡ refusal_answer why → WhereTold (HasSizes v) (content old) → ChangesStore content moment left_since faults reads mid new v after Renews (Replaces blob text arrived) (Err why) → EditsAs content moment left_since faults old new v after number bytes arrived reply
+    pub edits-failed : {reads : D → ℕ} (why : StoreRefusal) (reply : Answer) → reply ≡ refusal_answer why → WhereTold (StoreHasSizes v) (content old) → ChangesStore content moment left_since faults reads mid new v after Renews (Replaces blob text arrived) (Err why) → EditsAs content moment left_since faults old new v after number bytes arrived reply
     edits-failed why reply reply_is sizes keeps = let looked = store-looks content moment left_since only_now Renews why looks keeps in subst (λ (r : Answer). EditsAs content moment left_since faults old new v after number bytes arrived r) (sym reply_is) (record {
-      any_moment = run_after (Err why) keeps;
+      crash = run_after (Err why) keeps;
       done = λ a cache gone store room shown. (
           let own = still_own v cache a (content old) (content mid) looks.same store in
           failed-done content moment left_since old new v after cache [] a (unless_refused a (delivered (without_entries a gone) bytes arrived)) why keeps.same looked (keeps.undamaged a cache own) store);
@@ -174,14 +174,14 @@ module _ {D : Type 0} (content : D → Option Content) (moment : D → ℕ) (lef
       cause = subst (λ (m : ℕ). RoseIf (refusal_answer why ≡ answer.DiskFault) m (faults new)) steady (error-cause why (faults mid) (faults new) keeps.cause);
       for_command = error-then why AnswersDelivery tt tt (λ file at. tt);
       rooted = error-done why (refusal_answer why) _ refl;
-      between = read_between content moment left_since old mid new looks.same looks.any_moment keeps.between;
+      crash_between = read_between content moment left_since old mid new looks.same looks.crash keeps.crash_between;
       damage = store-damage v (content old) (content mid) why (refusal_answer why) refl looks.same keeps.damage;
     })
 
     -- It was kept.
     pub edits-done : {reads : D → ℕ} → ChangesStore content moment left_since faults reads mid new v after Renews (Replaces blob text arrived) (Ok tt) → EditsAs content moment left_since faults old new v after number bytes arrived (answer.Ok n ids.blob)
     edits-done keeps = record {
-      any_moment = run_after (Ok tt) keeps;
+      crash = run_after (Ok tt) keeps;
       done = λ a cache gone store room shown. (
           let is = taken_is a cache gone store shown in
           let own = still_own v cache a (content old) (content mid) looks.same store in
@@ -199,6 +199,6 @@ module _ {D : Type 0} (content : D → Option Content) (moment : D → ℕ) (lef
       cause = subst (λ (m : ℕ). RoseIf (answer.Ok n ids.blob ≡ answer.DiskFault) m (faults new)) steady (record { later = keeps.cause.later; failed = λ fault. absurd (cc fault); kept = λ never. keeps.cause.kept (λ fault. absurd (cc fault)) });
       for_command = tt;
       rooted = rooted-read after.slot (spelling after.root) (content old) (content mid) (content new) looks.same keeps.rooted;
-      between = read_between content moment left_since old mid new looks.same looks.any_moment keeps.between;
+      crash_between = read_between content moment left_since old mid new looks.same looks.crash keeps.crash_between;
       damage = tt;
     }

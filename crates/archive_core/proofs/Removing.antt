@@ -16,7 +16,7 @@ use Rattle.arch_model.specs.Delivery.{removed, removed_text, refused, new_epoch}
 use Rattle.arch_model.specs.declared.answer.Answer.TheVariants as answer
 use Rattle.store_finding.specs.declared.entries.StoredEntry.{StoredEntry}
 use Rattle.epoch_store.specs.Reads.{text_if}
-use Rattle.store_finding.specs.Kept.{View, Keeps}
+use Rattle.store_finding.specs.Kept.{StoreState, KeepsArchive}
 use Rattle.epoch_store.specs.Commands.{AddsEntry, EndsEntry, is_ended_in}
 use Rattle.archive_core.specs.Commands.{IsNamed}
 use Rattle.archive_core.specs.Numbers.{IsLiveAt}
@@ -50,7 +50,7 @@ id_of None some = absurd (let wrong : false ≡ true = some in cc)
 id_of (Some id) some = refl
 
 -- The entry of a live message has the own id of the text that is shown.
-pub named-at : (v : View) (a : Archive) (n i : ℕ) (text : List ℕ) → Keeps v a → IsLiveAt v.entries n i → text_of (live a.entries) n ≡ Some text → IsNamed v.entries i text
+pub named-at : (v : StoreState) (a : Archive) (n i : ℕ) (text : List ℕ) → KeepsArchive v a → IsLiveAt v.entries n i → text_of (live a.entries) n ≡ Some text → IsNamed v.entries i text
 named-at v a n i text keeps at shown =
     let found = kept-at [] a.entries i at.message.entry (ap (λ (es : List StoredEntry). slice_get es i) (sym keeps.kept) ∙ at.message.there) in
     let e : Entry = found.entry in
@@ -60,12 +60,12 @@ named-at v a n i text keeps at shown =
     (at.message.entry, at.message.there, ap own_id same ∙ own ∙ ap (λ (s : StoredEntry). Some s.seen.id) (sym found.kept.1))
 
 -- What a removal does.
-shown_by : (v : View) (a : Archive) (number moment : ℕ) (found : Option (List ℕ)) → Keeps v a → v.root.config.mirror ≡ false → text_of (live a.entries) number ≡ found → removed a number moment ≡ removed_text a number moment found
+shown_by : (v : StoreState) (a : Archive) (number moment : ℕ) (found : Option (List ℕ)) → KeepsArchive v a → v.root.config.mirror ≡ false → text_of (live a.entries) number ≡ found → removed a number moment ≡ removed_text a number moment found
 shown_by v a number moment found keeps is shown =
     ap (λ (t : Bool). if t then refused a answer.IsMirror else removed_text a number moment (text_of (live a.entries) number)) (ap (λ c. c.mirror) (sym keeps.names.config) ∙ is)
     ∙ ap (removed_text a number moment) shown
 
-pub removed-is : (v : View) (a : Archive) (number moment : ℕ) (text : List ℕ) → Keeps v a → v.root.config.mirror ≡ false → text_of (live a.entries) number ≡ Some text
+pub removed-is : (v : StoreState) (a : Archive) (number moment : ℕ) (text : List ℕ) → KeepsArchive v a → v.root.config.mirror ≡ false → text_of (live a.entries) number ≡ Some text
     → removed a number moment ≡ record { archive = with_deletion a number (new_epoch a) text moment; answer = answer.Ok number (blob_id_of text) }
 removed-is v a number moment text keeps is shown = shown_by v a number moment (Some text) keeps is shown
 
@@ -145,12 +145,12 @@ written-back xs ys n is = ap (λ (k : ℕ). take k (xs ++ ys)) is ∙ whole xs w
   whole (x ∷ l) = ap (λ (r : List MessagePlace). x ∷ r) (whole l)
 
 -- The places after a removal, and after a delivery.
-pub places-ended : (old new : View) (number : ℕ) (text : List ℕ) → EndsEntry old new number text → ends_place number (message_places 0 old.entries) ≡ message_places 0 new.entries
+pub places-ended : (old new : StoreState) (number : ℕ) (text : List ℕ) → EndsEntry old new number text → ends_place number (message_places 0 old.entries) ≡ message_places 0 new.entries
 places-ended old new number text ends =
     ap (λ (n : ℕ). ends_place n (message_places 0 old.entries)) (sym ends.number_is)
     ∙ sym (ap (message_places 0) ends.entries ∙ places-deletion 0 old.entries ends.entry ends.kind)
 
-pub places-added : (old new : View) (text : List ℕ) (count : ℕ) → count ≡ length old.entries → AddsEntry old new text → message_places 0 old.entries ++ place_of old.root.next count true ∷ [] ≡ message_places 0 new.entries
+pub places-added : (old new : StoreState) (text : List ℕ) (count : ℕ) → count ≡ length old.entries → AddsEntry old new text → message_places 0 old.entries ++ place_of old.root.next count true ∷ [] ≡ message_places 0 new.entries
 places-added old new text count count_is adds =
     let at : count ≡ 0 + length old.entries = omega (arith, count_is) in
     ap (λ (n : ℕ). message_places 0 old.entries ++ place_of n count true ∷ []) (sym adds.number)

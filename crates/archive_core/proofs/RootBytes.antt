@@ -3,20 +3,20 @@ use Rattle.std.specs.Prelude.{◌≡◌, Bool, true, false, Option, Some, None, 
 use Rattle.std.specs.BTreeMap.{is_at}
 use Rattle.std.proofs.Common.{◌∙◌, sym, ap, subst}
 use Rattle.disk_model.specs.declared.name.FileName.{FileName}
-use Rattle.disk_model.specs.Disk.{File, Files, Content, Image, Fits, ReadsFit, bytes_of}
+use Rattle.disk_model.specs.Disk.{File, Files, Content, Image, MaySurvive, ReadsFit, bytes_of}
 use Rattle.disk_model.specs.Images.{at_itself, same_name}
 use Rattle.disk_model.specs.Name.{name_cmp}
-use Rattle.root_slots.specs.Between.{BetweenStays, IsBetween, between}
+use Rattle.root_slots.specs.Between.{BetweenStays, IsBetween, crash_between}
 use Rattle.root_slots.specs.RootName.{root_name}
 
 -- If each crash of a disk leaves the bytes that one of an earlier disk might have left, files with
 -- those of a crash of the second disk have those of one of the first.
-pub between-over : (k m : Option Content) → ReadsFit m → ((image : Files) → Image m image → BetweenStays k image) → (image : Files) → BetweenStays m image → BetweenStays k image
-between-over None m fit each image stays = tt
-between-over (Some k) None fit each image stays = each image tt
-between-over (Some k) (Some m) fit each image stays =
+pub crash_between-over : (k m : Option Content) → ReadsFit m → ((image : Files) → Image m image → BetweenStays k image) → (image : Files) → BetweenStays m image → BetweenStays k image
+crash_between-over None m fit each image stays = tt
+crash_between-over (Some k) None fit each image stays = each image tt
+crash_between-over (Some k) (Some m) fit each image stays =
     let first : IsBetween k (there root_name) = each there may in
-    record { from = first.from; fits = first.fits; same = stays.same ∙ (sym (ap (λ (file : File). between (bytes_of file)) here) ∙ first.same) }
+    record { from = first.from; fits = first.fits; same = stays.same ∙ (sym (ap (λ (file : File). crash_between (bytes_of file)) here) ∙ first.same) }
   where
     -- The files as they read, but for that root file.
     there : Files
@@ -25,9 +25,9 @@ between-over (Some k) (Some m) fit each image stays =
     here : there root_name ≡ stays.from
     here = ap (λ (b : Bool). if b then stays.from else (m root_name).seen) (at_itself root_name)
 
-    may : (name : FileName) → Fits (m name).sure (there name)
+    may : (name : FileName) → MaySurvive (m name).sure (there name)
     may name = chosen (is_at (name_cmp root_name) name) refl
       where
-        chosen : (b : Bool) → is_at (name_cmp root_name) name ≡ b → Fits (m name).sure (if b then stays.from else (m name).seen)
-        chosen true is = subst (λ (n : FileName). Fits (m n).sure stays.from) (sym (same_name root_name name is)) stays.fits
+        chosen : (b : Bool) → is_at (name_cmp root_name) name ≡ b → MaySurvive (m name).sure (if b then stays.from else (m name).seen)
+        chosen true is = subst (λ (n : FileName). MaySurvive (m n).sure stays.from) (sym (same_name root_name name is)) stays.fits
         chosen false is = fit m refl name

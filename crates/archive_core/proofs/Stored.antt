@@ -6,7 +6,7 @@ use Rattle.std.proofs.lemmas.Option.{same_Some}
 use Rattle.git_objects.specs.declared.entry_kind.EntryKind.{EntryKind}
 use Rattle.git_objects.specs.declared.entry_kind.EntryKind.TheVariants.{Message, Deletion}
 use Rattle.arch_model.specs.Archives.{Entry, is_message, is_ended, live, messages, text_of}
-use Rattle.arch_model.specs.Validity.{IsFrom, number_after, Rise}
+use Rattle.arch_model.specs.Validity.{NumberIsFrom, number_after, Rise}
 use Rattle.arch_model.proofs.LiveEntries.{live-one}
 use Rattle.store_finding.specs.declared.entries.StoredEntry.{StoredEntry}
 use Rattle.epoch_store.specs.Commands.{is_ended_in, live_kept}
@@ -79,11 +79,11 @@ message_here : (k : EntryKind) (e : Entry) (es : List Entry) → is_message k �
 message_here Message e es one = let itself : (e.number == e.number) ≡ true = grind (arith, nat_tests) in ap (λ (t : Bool). if t then Some e.text else text_of (messages es) e.number) itself
 message_here Deletion e es one = absurd (cc)
 
-message_low : (k : EntryKind) (number own : ℕ) → is_message k ≡ true → IsFrom k number own → number ≤ own
+message_low : (k : EntryKind) (number own : ℕ) → is_message k ≡ true → NumberIsFrom k number own → number ≤ own
 message_low Message number own one low = low
 message_low Deletion number own one low = absurd (cc)
 
-message_past : (k : EntryKind) (number n : ℕ) (e : Entry) (es : List Entry) (text : List ℕ) → IsFrom k number e.number → number_after k number e.number ≤ n → text_of (messages es) n ≡ Some text
+message_past : (k : EntryKind) (number n : ℕ) (e : Entry) (es : List Entry) (text : List ℕ) → NumberIsFrom k number e.number → number_after k number e.number ≤ n → text_of (messages es) n ≡ Some text
     → (number ≤ n) × (text_of (if is_message k then e ∷ messages es else messages es) n ≡ Some text)
 message_past Message number n e es text low above is =
     let other : (e.number == n) ≡ false = grind (arith, nat_tests, above) in

@@ -2,7 +2,7 @@
 use Rattle.std.specs.Prelude.{◌≡◌, ◌+◌, ◌<◌, ◌^◌, ℕ, Bool, true, false, List, Option, Some, None, Result, Ok, Err, is_some, refl, if◌then◌else◌}
 use Rattle.std.proofs.Common.{◌∙◌, sym, ap, subst, arith}
 use Rattle.arch_base.specs.Counts.{RoseIf}
-use Rattle.disk_model.specs.Disk.{Files, Content, Image, Told, Unchanged, WhereTold, LeavesOnly}
+use Rattle.disk_model.specs.Disk.{Files, Content, Image, BothTold, Unchanged, WhereTold, LeavesOnly}
 use Rattle.root_slots.specs.Between.{looks_between}
 use Rattle.root_slots.specs.Slots.{HasNewRoot}
 use Rattle.root_slots.specs.Spelling.{spelling}
@@ -18,10 +18,10 @@ use Rattle.epoch_file.specs.declared.refusal.StoreRefusal.{StoreRefusal}
 use Rattle.epoch_file.specs.declared.refusal.StoreRefusal.TheVariants as refusal
 use Rattle.epoch_store.specs.Laws.{StoreRecovers}
 use Rattle.arch_base.specs.declared.ids.Id20.{Id20}
-use Rattle.epoch_store.specs.Promises.{Appends, ChangesStore, Renews, StaysBy, Way}
-use Rattle.store_finding.specs.Kept.{View, IsStoreWith, Keeps}
-use Rattle.epoch_store.specs.Commands.{HasSizes, RecoversOneOf, UnlessFailed}
-use Rattle.store_planning.specs.Dropping.{IsUndamaged}
+use Rattle.epoch_store.specs.Promises.{Appends, ChangesStore, Renews, StaysBy, WriteKind}
+use Rattle.store_finding.specs.Kept.{StoreState, IsStoreWith, KeepsArchive}
+use Rattle.epoch_store.specs.Commands.{StoreHasSizes, RecoversOneOf, UnlessFailed}
+use Rattle.store_planning.specs.Dropping.{IsUndamagedStore}
 use Rattle.epoch_store.proofs.Readying.{read_between}
 use Rattle.archive_core.specs.Commands.{DoneBy, FilesFor, IfUnreadFor, IsForCommand, OnDone, OnlyLooks, TakesCommand, UnlessFault, cache_left, refusal_answer, way_of}
 use Rattle.archive_core.specs.DamageTold.{TellsDamage}
@@ -34,7 +34,7 @@ use Rattle.archive_core.proofs.TellingDamage.{none-damaged, store-damage}
 use Rattle.archive_core.proofs.WithoutText.{is_damage, left-done}
 
 -- A mirror refuses each command.
-pub mirror-refuses : (v : View) (a : Archive) (m : Command) (moment : ℕ) → Keeps v a → v.root.config.mirror ≡ true → applied a m moment ≡ refused a answer.IsMirror
+pub mirror-refuses : (v : StoreState) (a : Archive) (m : Command) (moment : ℕ) → KeepsArchive v a → v.root.config.mirror ≡ true → applied a m moment ≡ refused a answer.IsMirror
 mirror-refuses v a m moment keeps is = by m (ap (λ c. c.mirror) (sym keeps.names.config) ∙ is) where
   by : (m : Command) → a.config.mirror ≡ true → applied a m moment ≡ refused a answer.IsMirror
   by (Deliver bytes) mirror = ap (λ (t : Bool). if t then refused a answer.IsMirror else delivered_form a moment (stored bytes.now)) mirror
@@ -70,8 +70,8 @@ error-cause refusal.NoMemory before now cause = record { later = cause.later; fa
 error-cause (refusal.Damaged file at) before now cause = record { later = cause.later; failed = λ fault. absurd (cc fault); kept = λ never. cause.kept (λ fault. absurd (cc fault)) }
 
 -- The root file after a commit, if it reads as before until then.
-pub rooted-read : (free : ℕ) (body : List ℕ) (k m o : Option Content) → Told Unchanged k m → Told (HasNewRoot free body) m o → Told (HasNewRoot free body) k o
-rooted-read free body k m o same rooted = subst (λ (c : Option Content). Told (HasNewRoot free body) c o) (unchanged-is k m same) rooted
+pub rooted-read : (free : ℕ) (body : List ℕ) (k m o : Option Content) → BothTold Unchanged k m → BothTold (HasNewRoot free body) m o → BothTold (HasNewRoot free body) k o
+rooted-read free body k m o same rooted = subst (λ (c : Option Content). BothTold (HasNewRoot free body) c o) (unchanged-is k m same) rooted
 
 -- What never is the cause leaves the count.
 pub steady-cause : (P : Type 0) (before now : ℕ) → (P → ⊥) → now ≡ before → RoseIf P before now
@@ -79,12 +79,12 @@ steady-cause P before now never is = record { later = omega arith; failed = λ f
 
 module _ {D : Type 0} (content : D → Option Content) (moment : D → ℕ) (left_since : D → ℕ → Files → Type 0) where
   -- The store did nothing more, or only read, unless the disk failed.
-  pub store-looks : ((disk : D) (image : Files) → left_since disk (moment disk) image → Image (content disk) image) → {faults reads : D → ℕ} {old mid new : D} {v after : View} {Makes : Archive → Archive → Type 0} (way : Way) (why : StoreRefusal) → OnlyLooks content moment left_since old mid → ChangesStore content moment left_since faults reads mid new v after way Makes (Err why)
+  pub store-looks : ((disk : D) (image : Files) → left_since disk (moment disk) image → Image (content disk) image) → {faults reads : D → ℕ} {old mid new : D} {v after : StoreState} {Makes : Archive → Archive → Type 0} (way : WriteKind) (why : StoreRefusal) → OnlyLooks content moment left_since old mid → ChangesStore content moment left_since faults reads mid new v after way Makes (Err why)
       → UnlessFailed {T = Unit {0}} (Err why) (OnlyLooks content moment left_since old new)
   store-looks only_now {faults} {old = old} {mid} {new} way why looks changes = by why changes.untouched where
-    more : (way : Way) → StaysBy way content moment left_since faults mid new → OnlyLooks content moment left_since old new
+    more : (way : WriteKind) → StaysBy way content moment left_since faults mid new → OnlyLooks content moment left_since old new
     more Appends still = subst (λ (d : D). OnlyLooks content moment left_since old d) (sym still) looks
-    more Renews reads = looks-joined content moment left_since only_now old mid new looks (record { same = reads.same; any_moment = reads.any_moment })
+    more Renews reads = looks-joined content moment left_since only_now old mid new looks (record { same = reads.same; crash = reads.crash })
 
     by : (why : StoreRefusal) → UnlessFailed {T = Unit {0}} (Err why) (StaysBy way content moment left_since faults mid new) → UnlessFailed {T = Unit {0}} (Err why) (OnlyLooks content moment left_since old new)
     by refusal.DiskFault still = tt
@@ -92,30 +92,30 @@ module _ {D : Type 0} (content : D → Option Content) (moment : D → ℕ) (lef
     by (refusal.Damaged file at) still = more way still
 
   -- It found no damage.
-  pub store-sound : {faults reads : D → ℕ} {mid new : D} {v after : View} {Makes : Archive → Archive → Type 0} (way : Way) (why : StoreRefusal) → ChangesStore content moment left_since faults reads mid new v after way Makes (Err why) → (cache : List ℕ) (a : Archive) → IsStoreWith v cache a (content mid) → IsUndamaged why
+  pub store-sound : {faults reads : D → ℕ} {mid new : D} {v after : StoreState} {Makes : Archive → Archive → Type 0} (way : WriteKind) (why : StoreRefusal) → ChangesStore content moment left_since faults reads mid new v after way Makes (Err why) → (cache : List ℕ) (a : Archive) → IsStoreWith v cache a (content mid) → IsUndamagedStore why
   store-sound Appends why changes cache a own = changes.undamaged
   store-sound Renews why changes cache a own = changes.undamaged a cache own
 
   -- The archive after an error of the store.
-  pub failed-done : (old new : D) (v after : View) (cache left : List ℕ) (a : Archive) (d : Done) (why : StoreRefusal) → after ≡ v → UnlessFailed {T = Unit {0}} (Err why) (OnlyLooks content moment left_since old new) → IsUndamaged why
+  pub failed-done : (old new : D) (v after : StoreState) (cache left : List ℕ) (a : Archive) (d : Done) (why : StoreRefusal) → after ≡ v → UnlessFailed {T = Unit {0}} (Err why) (OnlyLooks content moment left_since old new) → IsUndamagedStore why
       → IsStoreWith v cache a (content old) → DoneBy after cache left a d (refusal_answer why) (content new)
   failed-done old new v after cache left a d refusal.DiskFault same looks fine store = tt
-  failed-done old new v after cache left a d refusal.NoMemory same looks fine store = subst (λ (u : View). IsStoreWith u cache a (content new)) (sym same) (still_own v cache a (content old) (content new) looks.same store)
+  failed-done old new v after cache left a d refusal.NoMemory same looks fine store = subst (λ (u : StoreState). IsStoreWith u cache a (content new)) (sym same) (still_own v cache a (content old) (content new) looks.same store)
   failed-done old new v after cache left a d (refusal.Damaged file at) same looks fine store = absurd fine
 
   -- The files have their sizes.
-  pub still-sized : (old new : D) (v after : View) → after ≡ v → WhereTold (HasSizes v) (content old) → OnlyLooks content moment left_since old new → WhereTold (HasSizes after) (content new)
-  still-sized old new v after same sizes looks = subst (λ (u : View). WhereTold (HasSizes u) (content new)) (sym same) (subst (WhereTold (HasSizes v)) (sym (unchanged-is (content old) (content new) looks.same)) sizes)
+  pub still-sized : (old new : D) (v after : StoreState) → after ≡ v → WhereTold (StoreHasSizes v) (content old) → OnlyLooks content moment left_since old new → WhereTold (StoreHasSizes after) (content new)
+  still-sized old new v after same sizes looks = subst (λ (u : StoreState). WhereTold (StoreHasSizes u) (content new)) (sym same) (subst (WhereTold (StoreHasSizes v)) (sym (unchanged-is (content old) (content new) looks.same)) sizes)
 
 module _ {D : Type 0} (content : D → Option Content) (moment : D → ℕ) (left_since : D → ℕ → Files → Type 0) (faults reads : D → ℕ)
     (only_now : (disk : D) (image : Files) → left_since disk (moment disk) image → Image (content disk) image) (law : StoreRecovers) (m : Command) (wanted : Archive → Done) where
   -- It was refused, after the disk was only read.
-  pub refused-taken : (old new : D) (v : View) (reply : Answer) → OnDone reply ⊥ → WhereTold (HasSizes v) (content old) → OnlyLooks content moment left_since old new
+  pub refused-taken : (old new : D) (v : StoreState) (reply : Answer) → OnDone reply ⊥ → WhereTold (StoreHasSizes v) (content old) → OnlyLooks content moment left_since old new
       → ((a : Archive) (cache : List ℕ) → IsStoreWith v cache a (content old) → IsStoreWith v cache a (content new) → DoneBy v cache (cache_left m cache) a (wanted a) reply (content new))
       → IfUnreadFor m reply (new ≡ old) → RoseIf (reply ≡ answer.DiskFault) (faults old) (faults new) → IsForCommand m reply → ReadsFor m (reads old) (reads new)
       → TellsDamage v (content old) reply → TakesCommand content moment left_since faults reads old new v v m wanted reply
   refused-taken old new v reply never sizes looks done unmoved cause for_command count damage = record {
-    any_moment = λ a cache store room. only-read moment left_since law v cache (cache_left m cache) a (wanted a).archive (content old) old new store looks.any_moment;
+    crash = λ a cache store room. only-read moment left_since law v cache (cache_left m cache) a (wanted a).archive (content old) old new store looks.crash;
     done = λ a cache store room. done a cache store (still_own v cache a (content old) (content new) looks.same store);
     settled = done-then reply ⊥ _ (λ wrong. absurd wrong) never;
     goes_on = done-then reply ⊥ _ (λ wrong. absurd wrong) never;
@@ -129,12 +129,12 @@ module _ {D : Type 0} (content : D → Option Content) (moment : D → ℕ) (lef
     for_command = for_command;
     count = count;
     rooted = done-then reply ⊥ _ (λ wrong. absurd wrong) never;
-    between = looks_between content moment left_since old new looks.any_moment;
+    crash_between = looks_between content moment left_since old new looks.crash;
     damage = damage;
   }
 
   -- It was refused before anything was read.
-  pub quiet-taken : (disk : D) (v : View) (reply : Answer) → OnDone reply ⊥ → is_accepted reply ≡ false → is_damage reply ≡ false → (reply ≡ answer.DiskFault → ⊥) → WhereTold (HasSizes v) (content disk) → ((a : Archive) → Keeps v a → wanted a ≡ refused a reply)
+  pub quiet-taken : (disk : D) (v : StoreState) (reply : Answer) → OnDone reply ⊥ → is_accepted reply ≡ false → is_damage reply ≡ false → (reply ≡ answer.DiskFault → ⊥) → WhereTold (StoreHasSizes v) (content disk) → ((a : Archive) → KeepsArchive v a → wanted a ≡ refused a reply)
       → IfUnreadFor m reply (disk ≡ disk) → IsForCommand m reply → TakesCommand content moment left_since faults reads disk disk v v m wanted reply
   quiet-taken disk v reply never declined fine sound sizes is unmoved for_command =
       refused-taken disk disk v reply never sizes (looks-same content moment left_since only_now disk)
@@ -142,21 +142,21 @@ module _ {D : Type 0} (content : D → Option Content) (moment : D → ℕ) (lef
       unmoved (record { later = omega arith; failed = λ fault. absurd (sound fault); kept = λ never. refl }) for_command (reads_none m (reads disk)) (none-damaged reply _ fine)
 
   -- The store was asked, after the disk was only read.
-  module _ (old mid new : D) (v after : View) (Makes : Archive → Archive → Type 0) (looks : OnlyLooks content moment left_since old mid) (steady : faults mid ≡ faults old)
+  module _ (old mid new : D) (v after : StoreState) (Makes : Archive → Archive → Type 0) (looks : OnlyLooks content moment left_since old mid) (steady : faults mid ≡ faults old)
       (makes : (a : Archive) (cache : List ℕ) → IsStoreWith v cache a (content old) → Makes a (wanted a).archive) (count : ReadsFor m (reads old) (reads new)) where
     still : (a : Archive) (cache : List ℕ) → IsStoreWith v cache a (content old) → IsStoreWith v cache a (content mid)
     still a cache store = still_own v cache a (content old) (content mid) looks.same store
 
     run : (r : Result (Unit {0}) StoreRefusal) → ChangesStore content moment left_since faults reads mid new v after (way_of m) Makes r → (a : Archive) (cache : List ℕ) → IsStoreWith v cache a (content old) → v.root.sequence + 1 < 2 ^ 64 → LeavesOnly moment left_since old new (RecoversOneOf cache a (cache_left m cache) (wanted a).archive)
-    run r changes a cache store room = read-first moment left_since law v cache (cache_left m cache) a (wanted a).archive (content old) old mid new store looks.any_moment (changes.any_moment a (wanted a).archive cache (still a cache store) room (makes a cache store))
+    run r changes a cache store room = read-first moment left_since law v cache (cache_left m cache) a (wanted a).archive (content old) old mid new store looks.crash (changes.crash a (wanted a).archive cache (still a cache store) room (makes a cache store))
 
     -- It failed.
-    pub failed-taken : (why : StoreRefusal) (reply : Answer) → reply ≡ refusal_answer why → WhereTold (HasSizes v) (content old) → ChangesStore content moment left_since faults reads mid new v after (way_of m) Makes (Err why) → IfUnreadFor m (refusal_answer why) (new ≡ old) → IsForCommand m (refusal_answer why)
+    pub failed-taken : (why : StoreRefusal) (reply : Answer) → reply ≡ refusal_answer why → WhereTold (StoreHasSizes v) (content old) → ChangesStore content moment left_since faults reads mid new v after (way_of m) Makes (Err why) → IfUnreadFor m (refusal_answer why) (new ≡ old) → IsForCommand m (refusal_answer why)
         → TakesCommand content moment left_since faults reads old new v after m wanted reply
     failed-taken why reply reply_is sizes changes unmoved for_command =
         let looked = store-looks content moment left_since only_now (way_of m) why looks changes in
         subst (λ (r : Answer). TakesCommand content moment left_since faults reads old new v after m wanted r) (sym reply_is) (record {
-          any_moment = run (Err why) changes;
+          crash = run (Err why) changes;
           done = λ a cache store room. failed-done content moment left_since old new v after cache (cache_left m cache) a (wanted a) why changes.same looked (store-sound content moment left_since (way_of m) why changes cache a (still a cache store)) store;
           settled = error-done why (refusal_answer why) _ refl;
           goes_on = error-done why (refusal_answer why) _ refl;
@@ -170,7 +170,7 @@ module _ {D : Type 0} (content : D → Option Content) (moment : D → ℕ) (lef
           for_command = for_command;
           count = count;
           rooted = error-done why (refusal_answer why) _ refl;
-          between = read_between content moment left_since old mid new looks.same looks.any_moment changes.between;
+          crash_between = read_between content moment left_since old mid new looks.same looks.crash changes.crash_between;
           damage = store-damage v (content old) (content mid) why (refusal_answer why) refl looks.same changes.damage;
         })
 
@@ -178,7 +178,7 @@ module _ {D : Type 0} (content : D → Option Content) (moment : D → ℕ) (lef
     pub done-taken : (number : ℕ) (id : Id20) → ChangesStore content moment left_since faults reads mid new v after (way_of m) Makes (Ok tt) → ((a : Archive) (cache : List ℕ) → IsStoreWith v cache a (content old) → (wanted a).answer ≡ answer.Ok number id) → FilesFor m v after → IfUnreadFor m (answer.Ok number id) (new ≡ old) → IsForCommand m (answer.Ok number id)
         → TakesCommand content moment left_since faults reads old new v after m wanted (answer.Ok number id)
     done-taken number id changes answers files unmoved for_command = record {
-      any_moment = run (Ok tt) changes;
+      crash = run (Ok tt) changes;
       done = λ a cache store room. record { answer_is = answers a cache store; store = changes.done a (wanted a).archive cache (still a cache store) room (makes a cache store) };
       settled = changes.settled;
       goes_on = changes.goes_on;
@@ -192,6 +192,6 @@ module _ {D : Type 0} (content : D → Option Content) (moment : D → ℕ) (lef
       for_command = for_command;
       count = count;
       rooted = rooted-read after.slot (spelling after.root) (content old) (content mid) (content new) looks.same changes.rooted;
-      between = read_between content moment left_since old mid new looks.same looks.any_moment changes.between;
+      crash_between = read_between content moment left_since old mid new looks.same looks.crash changes.crash_between;
       damage = tt;
     }

@@ -2,7 +2,7 @@
 use Rattle.std.specs.Prelude.{◌≡◌, ℕ, false, List, slice_get, Option, Some, None, Err, refl}
 use Rattle.std.proofs.Common.{◌∙◌, sym, ap, subst, inl, inr}
 use Rattle.disk_model.specs.declared.name.FileName.{FileName}
-use Rattle.disk_model.specs.Disk.{Content, Told, Unchanged, WhereTold}
+use Rattle.disk_model.specs.Disk.{Content, BothTold, Unchanged, WhereTold}
 use Rattle.git_objects.specs.Objects.{blob_id_of}
 use Rattle.arch_model.specs.declared.answer.Answer.{Answer}
 use Rattle.arch_model.specs.declared.answer.Answer.TheVariants as answer
@@ -17,9 +17,9 @@ use Rattle.store_finding.specs.declared.entries.StoredEntry.{StoredEntry}
 use Rattle.store_planning.specs.DamagedTexts.{DamageBy, IsDamageIn, IsDamagedEntry}
 use Rattle.epoch_store.specs.Reads.{FindsText, GivesText}
 use Rattle.store_finding.specs.Reading.{HasText}
-use Rattle.store_finding.specs.Kept.{View}
+use Rattle.store_finding.specs.Kept.{StoreState}
 use Rattle.archive_core.specs.Commands.{IsNamed, IsTextAt, damaged_place, refusal_answer, unread_answer}
-use Rattle.archive_core.specs.DamageTold.{OnDamage, RefusesEntry, TellsDamage, TellsEntry}
+use Rattle.archive_core.specs.DamageTold.{OnDamage, RefusesVerdict, TellsDamage, TellsEntry}
 use Rattle.archive_core.specs.Engines.{unchanged-is}
 use Rattle.archive_core.specs.Rewriting.{late_answer}
 use Rattle.archive_core.proofs.WithoutText.{is_damage}
@@ -34,15 +34,15 @@ pub none-damaged : (reply : Answer) (P : FileName → ℕ → Type 0) → is_dam
 none-damaged (answer.Damaged file at) P none = absurd (cc)
 none-damaged other P none = tt
 
-pub entry-damage : (v : View) (k : Option Content) (reply : Answer) → TellsEntry v k reply → TellsDamage v k reply
+pub entry-damage : (v : StoreState) (k : Option Content) (reply : Answer) → TellsEntry v k reply → TellsDamage v k reply
 entry-damage v k reply is = damage-then reply (λ (f : FileName) (at : ℕ). IsDamagedEntry v f at k) _ (λ f at entry. inl (inl entry)) is
 
 -- The same after the disk was only read.
-pub damage-back : (v : View) (k m : Option Content) (reply : Answer) → Told Unchanged k m → TellsDamage v m reply → TellsDamage v k reply
+pub damage-back : (v : StoreState) (k m : Option Content) (reply : Answer) → BothTold Unchanged k m → TellsDamage v m reply → TellsDamage v k reply
 damage-back v k m reply same is = subst (λ (o : Option Content). TellsDamage v o reply) (unchanged-is k m same) is
 
 -- A text that wasn't read.
-place-damage : (v : View) (index : ℕ) (old new : List ℕ) (why : TextRefusal) (k : Option Content) → ((s : StoredEntry) → slice_get v.entries index ≡ Some s → GivesText s old new (Err why)) → ((s : StoredEntry) → slice_get v.entries index ≡ Some s → WhereTold (FindsText v.root s old new (Err why)) k) → TellsEntry v k (unread_answer v index why)
+place-damage : (v : StoreState) (index : ℕ) (old new : List ℕ) (why : TextRefusal) (k : Option Content) → ((s : StoredEntry) → slice_get v.entries index ≡ Some s → GivesText s old new (Err why)) → ((s : StoredEntry) → slice_get v.entries index ≡ Some s → WhereTold (FindsText v.root s old new (Err why)) k) → TellsEntry v k (unread_answer v index why)
 place-damage v index old new reading.DiskFault k gives finds = tt
 place-damage v index old new reading.NoMemory k gives finds = tt
 place-damage v index old new (reading.Damaged named other) k gives finds = at_place (slice_get v.entries index) refl where
@@ -56,29 +56,29 @@ place-damage v index old new (reading.Damaged named other) k gives finds = at_pl
   at_place None here = tt
   at_place (Some s) here = record { index = index; entry = s; there = here; file_is = refl; at_is = refl; lacks = lacks s here k (finds s here) }
 
-pub unread-damage : (w v : View) (index : ℕ) (old new : List ℕ) (why : TextRefusal) (reply : Answer) (k : Option Content) → w ≡ v → reply ≡ unread_answer v index why → ((s : StoredEntry) → slice_get w.entries index ≡ Some s → GivesText s old new (Err why)) → ((s : StoredEntry) → slice_get w.entries index ≡ Some s → WhereTold (FindsText w.root s old new (Err why)) k)
+pub unread-damage : (w v : StoreState) (index : ℕ) (old new : List ℕ) (why : TextRefusal) (reply : Answer) (k : Option Content) → w ≡ v → reply ≡ unread_answer v index why → ((s : StoredEntry) → slice_get w.entries index ≡ Some s → GivesText s old new (Err why)) → ((s : StoredEntry) → slice_get w.entries index ≡ Some s → WhereTold (FindsText w.root s old new (Err why)) k)
     → TellsEntry v k reply
 unread-damage w v index old new why reply k same reply_is gives finds =
-    subst (TellsEntry v k) (sym reply_is) (subst (λ (u : View). TellsEntry u k (unread_answer u index why)) same (place-damage w index old new why k gives finds))
+    subst (TellsEntry v k) (sym reply_is) (subst (λ (u : StoreState). TellsEntry u k (unread_answer u index why)) same (place-damage w index old new why k gives finds))
 
 -- A text with another own id.
-pub misnamed-damage : (v : View) (index : ℕ) (text : List ℕ) (reply : Answer) (k : Option Content) → IsTextAt v.entries index text → (IsNamed v.entries index text → ⊥) → reply ≡ damaged_place v (slice_get v.entries index) → TellsDamage v k reply
+pub misnamed-damage : (v : StoreState) (index : ℕ) (text : List ℕ) (reply : Answer) (k : Option Content) → IsTextAt v.entries index text → (IsNamed v.entries index text → ⊥) → reply ≡ damaged_place v (slice_get v.entries index) → TellsDamage v k reply
 misnamed-damage v index text reply k is_text unnamed reply_is = subst (TellsDamage v k) (sym reply_is) (at_place (slice_get v.entries index) refl) where
   at_place : (o : Option StoredEntry) → slice_get v.entries index ≡ o → TellsDamage v k (damaged_place v o)
   at_place None here = tt
   at_place (Some s) here = inr (record { index = index; entry = s; there = here; file_is = refl; at_is = refl; text = text; is_text = is_text s here; other = λ own. unnamed (s, here, own) })
 
 -- An error of the store.
-store_damage : (v : View) (k : Option Content) (why : StoreRefusal) → DamageBy why (λ (f : FileName) (at : ℕ). IsDamageIn v f at k) → TellsDamage v k (refusal_answer why)
+store_damage : (v : StoreState) (k : Option Content) (why : StoreRefusal) → DamageBy why (λ (f : FileName) (at : ℕ). IsDamageIn v f at k) → TellsDamage v k (refusal_answer why)
 store_damage v k refusal.DiskFault is = tt
 store_damage v k refusal.NoMemory is = tt
 store_damage v k (refusal.Damaged file at) is = inl is
 
-pub store-damage : (v : View) (k m : Option Content) (why : StoreRefusal) (reply : Answer) → reply ≡ refusal_answer why → Told Unchanged k m → DamageBy why (λ (f : FileName) (at : ℕ). IsDamageIn v f at m) → TellsDamage v k reply
+pub store-damage : (v : StoreState) (k m : Option Content) (why : StoreRefusal) (reply : Answer) → reply ≡ refusal_answer why → BothTold Unchanged k m → DamageBy why (λ (f : FileName) (at : ℕ). IsDamageIn v f at m) → TellsDamage v k reply
 store-damage v k m why reply reply_is same is = subst (TellsDamage v k) (sym reply_is) (damage-back v k m (refusal_answer why) same (store_damage v m why is))
 
 -- A verdict before a text was read, or after it was compared.
-for_delivery : (v : View) (k : Option Content) (reply : Answer) → IsForDelivery reply → TellsEntry v k reply
+for_delivery : (v : StoreState) (k : Option Content) (reply : Answer) → IsForDelivery reply → TellsEntry v k reply
 for_delivery v k (answer.Ok number id) is = tt
 for_delivery v k (answer.Duplicate number) is = tt
 for_delivery v k answer.NoFields is = tt
@@ -92,10 +92,10 @@ for_delivery v k answer.DiskFault is = tt
 for_delivery v k answer.NoMemory is = tt
 for_delivery v k (answer.Damaged file at) never = absurd never
 
-pub judged-damage : (v : View) (k : Option Content) (reply : Answer) → IsForDelivery reply → RefusesEntry v k (Refuse reply)
+pub judged-damage : (v : StoreState) (k : Option Content) (reply : Answer) → IsForDelivery reply → RefusesVerdict v k (Refuse reply)
 judged-damage v k reply is = for_delivery v k reply is
 
-last_damage : (v : View) (k : Option Content) (reply : Answer) → RefusesLast (Refuse reply) → TellsEntry v k reply
+last_damage : (v : StoreState) (k : Option Content) (reply : Answer) → RefusesLast (Refuse reply) → TellsEntry v k reply
 last_damage v k (answer.Ok number id) is = tt
 last_damage v k (answer.Duplicate number) is = tt
 last_damage v k answer.NoFields is = tt
@@ -109,12 +109,12 @@ last_damage v k answer.DiskFault is = tt
 last_damage v k answer.NoMemory is = tt
 last_damage v k (answer.Damaged file at) never = absurd never
 
-pub compared-damage : (v : View) (k : Option Content) (verdict : Verdict) → RefusesLast verdict → RefusesEntry v k verdict
+pub compared-damage : (v : StoreState) (k : Option Content) (verdict : Verdict) → RefusesLast verdict → RefusesVerdict v k verdict
 compared-damage v k (Take text ids number) is = tt
 compared-damage v k (Compare text ids number) is = tt
 compared-damage v k (Refuse reply) is = last_damage v k reply is
 
 -- A refusal that comes late.
-pub late-damage : (v : View) (k : Option Content) (reply : Answer) → TellsEntry v k reply → TellsDamage v k (late_answer reply)
+pub late-damage : (v : StoreState) (k : Option Content) (reply : Answer) → TellsEntry v k reply → TellsDamage v k (late_answer reply)
 late-damage v k (answer.Damaged file at) is = inl (inl is)
 late-damage v k other is = tt

@@ -12,9 +12,9 @@ use Rattle.arch_judge.specs.declared.judging.Verdict.{Verdict}
 use Rattle.arch_judge.specs.declared.judging.Verdict.TheVariants.{Take, Compare, Refuse}
 use Rattle.epoch_file.specs.declared.refusal.StoreRefusal.{StoreRefusal}
 use Rattle.epoch_file.specs.declared.refusal.StoreRefusal.TheVariants as refusal
-use Rattle.store_finding.specs.Kept.{View}
+use Rattle.store_finding.specs.Kept.{StoreState}
 use Rattle.store_finding.specs.declared.entries.StoredEntry.{StoredEntry}
-use Rattle.archive_core.specs.Commands.{IfUnread, IfUnreadEdit, IfRefusedUnread, IsUnread, damaged_place, refusal_answer, unread_answer}
+use Rattle.archive_core.specs.Commands.{IfUnread, IfUnreadEdit, IfRefusedUnread, IsTextUnread, damaged_place, refusal_answer, unread_answer}
 
 -- What holds at any rate.
 pub if-unread : (reply : Answer) (P : Type 0) → P → IfUnread reply P
@@ -46,7 +46,7 @@ if-read-edit answer.IsMirror P never = absurd never
 if-read-edit other P never = tt
 
 -- A text that wasn't read.
-pub if-none-read : (reply : Answer) (P : Type 0) → IsUnread reply → IfUnread reply P
+pub if-none-read : (reply : Answer) (P : Type 0) → IsTextUnread reply → IfUnread reply P
 if-none-read (answer.Duplicate number) P never = absurd never
 if-none-read answer.NoFields P never = absurd never
 if-none-read (answer.TooLarge len) P never = absurd never
@@ -82,15 +82,15 @@ pub if-error : (why : StoreRefusal) (reply : Answer) (P : Type 0) → reply ≡ 
 if-error why reply P is = subst (λ (r : Answer). IfUnread r P) (sym is) (if_error why P)
 
 -- An entry that is damaged.
-if_damaged : (v : View) (found : Option StoredEntry) (P : Type 0) → IfUnread (damaged_place v found) P
+if_damaged : (v : StoreState) (found : Option StoredEntry) (P : Type 0) → IfUnread (damaged_place v found) P
 if_damaged v None P = tt
 if_damaged v (Some e) P = tt
 
-pub if-damaged : (v : View) (found : Option StoredEntry) (reply : Answer) (P : Type 0) → reply ≡ damaged_place v found → IfUnread reply P
+pub if-damaged : (v : StoreState) (found : Option StoredEntry) (reply : Answer) (P : Type 0) → reply ≡ damaged_place v found → IfUnread reply P
 if-damaged v found reply P is = subst (λ (r : Answer). IfUnread r P) (sym is) (if_damaged v found P)
 
 -- What holds of each answer where a text wasn't read.
-pub unread-then : (v : View) (index : ℕ) (why : TextRefusal) (reply : Answer) → reply ≡ unread_answer v index why → (P : Answer → Type 0) → P answer.DiskFault → P answer.NoMemory → ((file : FileName) (at : ℕ) → P (answer.Damaged file at)) → P reply
+pub unread-then : (v : StoreState) (index : ℕ) (why : TextRefusal) (reply : Answer) → reply ≡ unread_answer v index why → (P : Answer → Type 0) → P answer.DiskFault → P answer.NoMemory → ((file : FileName) (at : ℕ) → P (answer.Damaged file at)) → P reply
 unread-then v index why reply is P fault short damage = subst P (sym is) (by why) where
   at_place : (found : Option StoredEntry) → P (damaged_place v found)
   at_place None = short
@@ -102,7 +102,7 @@ unread-then v index why reply is P fault short damage = subst P (sym is) (by why
   by (reading.Damaged named found) = at_place (slice_get v.entries index)
 
 -- The cause of such an answer.
-pub unread-cause : (v : View) (index : ℕ) (why : TextRefusal) (reply : Answer) (before now : ℕ) → reply ≡ unread_answer v index why → RoseIf (◌≡◌ {A = Result (Unit {0}) TextRefusal} (Err why) (Err reading.DiskFault)) before now → RoseIf (reply ≡ answer.DiskFault) before now
+pub unread-cause : (v : StoreState) (index : ℕ) (why : TextRefusal) (reply : Answer) (before now : ℕ) → reply ≡ unread_answer v index why → RoseIf (◌≡◌ {A = Result (Unit {0}) TextRefusal} (Err why) (Err reading.DiskFault)) before now → RoseIf (reply ≡ answer.DiskFault) before now
 unread-cause v index why reply before now is cause = subst (λ (r : Answer). RoseIf (r ≡ answer.DiskFault) before now) (sym is) (by why cause) where
   steady : (r : Answer) → (r ≡ answer.DiskFault → ⊥) → before ≤ now → now ≡ before → RoseIf (r ≡ answer.DiskFault) before now
   steady r never later same = record { later = later; failed = λ fault. absurd (never fault); kept = λ _. same }

@@ -16,15 +16,15 @@ use Rattle.arch_model.specs.declared.text_refusal.TextRefusal.{TextRefusal}
 use Rattle.arch_model.specs.declared.text_refusal.TextRefusal.TheVariants as reading
 use Rattle.arch_judge.specs.Judging.{Judges, Compares, unless_same, MayCome, MayBeKept, TakesThis, TakesSame, IsForDelivery}
 use Rattle.arch_model.specs.Validity.{BlobsAgree}
-use Rattle.arch_judge.specs.Indexes.{IsIndex, number_in}
+use Rattle.arch_judge.specs.Indexes.{IsArchiveIndex, number_in}
 use Rattle.arch_judge.specs.declared.index.Index.{Index}
 use Rattle.arch_judge.specs.declared.judging.Verdict.{Verdict}
 use Rattle.arch_judge.specs.declared.judging.Verdict.TheVariants.{Take, Compare, Refuse}
 use Rattle.arch_model.specs.declared.answer.Answer.{Answer}
 use Rattle.arch_model.specs.declared.answer.Answer.TheVariants as answer
 use Rattle.epoch_store.specs.Reads.{GivesTextOf}
-use Rattle.store_finding.specs.Kept.{View, Keeps}
-use Rattle.archive_core.specs.Commands.{ReadsMessage, JudgesRead, IsAlone, IsUnread, unread_answer}
+use Rattle.store_finding.specs.Kept.{StoreState, KeepsArchive}
+use Rattle.archive_core.specs.Commands.{ReadsMessage, JudgesRead, IsAlone, IsTextUnread, unread_answer}
 use Rattle.archive_core.specs.Numbers.{IsMessageAt}
 use Rattle.store_finding.specs.Indexes.{IndexesStored}
 use Rattle.archive_core.specs.Kept.{IsNewTo, MayGoIn, TakesWhatMay}
@@ -32,7 +32,7 @@ use Rattle.archive_core.proofs.ByBlob.{blob-index}
 use Rattle.archive_core.proofs.Indexes.{are-of, new-to}
 
 -- A refusal of a delivery is one of the answers that may come.
-pub refuses-by : (v : View) (index : Index) (reply : Answer) → IsForDelivery reply → TakesWhatMay v index (Refuse reply)
+pub refuses-by : (v : StoreState) (index : Index) (reply : Answer) → IsForDelivery reply → TakesWhatMay v index (Refuse reply)
 refuses-by v index (answer.Ok number id) is = absurd is
 refuses-by v index (answer.NotLive number) is = absurd is
 refuses-by v index (answer.NoText number) is = absurd is
@@ -41,24 +41,24 @@ refuses-by v index (answer.Damaged file at) is = tt
 refuses-by v index other is = is
 
 -- A text that wasn't read.
-pub unread-by : (v : View) (index : Index) (reply : Answer) → IsUnread reply → TakesWhatMay v index (Refuse reply)
+pub unread-by : (v : StoreState) (index : Index) (reply : Answer) → IsTextUnread reply → TakesWhatMay v index (Refuse reply)
 unread-by v index answer.NoMemory is = is
 unread-by v index answer.DiskFault is = is
 unread-by v index (answer.Damaged file at) is = is
 unread-by v index other is = absurd is
 
-pub taken-by : (v : View) (config : Config) (index : Index) (next : ℕ) (text : List ℕ) (ids : TextIds) (number : ℕ) → config ≡ v.root.config → next ≡ v.root.next → MayBeKept config index next text ids number → TakesWhatMay v index (Take text ids number)
+pub taken-by : (v : StoreState) (config : Config) (index : Index) (next : ℕ) (text : List ℕ) (ids : TextIds) (number : ℕ) → config ≡ v.root.config → next ≡ v.root.next → MayBeKept config index next text ids number → TakesWhatMay v index (Take text ids number)
 taken-by v config index next text ids number config_is next_is may =
     subst (λ (c : Config). MayBeKept c index v.root.next text ids number) config_is (subst (λ (n : ℕ). MayBeKept config index n text ids number) next_is may)
 
-pub compared-by : (v : View) (config : Config) (index : Index) (next : ℕ) (text : List ℕ) (ids : TextIds) (verdict : Verdict) → config ≡ v.root.config → next ≡ v.root.next → MayCome config index text ids → TakesThis config next text ids verdict → TakesWhatMay v index verdict
+pub compared-by : (v : StoreState) (config : Config) (index : Index) (next : ℕ) (text : List ℕ) (ids : TextIds) (verdict : Verdict) → config ≡ v.root.config → next ≡ v.root.next → MayCome config index text ids → TakesThis config next text ids verdict → TakesWhatMay v index verdict
 compared-by v config index next text ids (Take took named number) config_is next_is may this =
     subst (λ (t : List ℕ). TakesWhatMay v index (Take t named number)) (sym this.0) (subst (λ (i : TextIds). TakesWhatMay v index (Take text i number)) (sym this.1) (taken-by v config index next text ids number config_is next_is (this.2 index may)))
 compared-by v config index next text ids (Compare other named number) config_is next_is may this = absurd this
 compared-by v config index next text ids (Refuse reply) config_is next_is may this = refuses-by v index reply this
 
 -- A text that may be kept would be accepted.
-pub may-go : (v : View) (index : Index) (text : List ℕ) (ids : TextIds) (number : ℕ) → IndexesStored v.entries index → MayBeKept v.root.config index v.root.next text ids number → MayGoIn v text ids
+pub may-go : (v : StoreState) (index : Index) (text : List ℕ) (ids : TextIds) (number : ℕ) → IndexesStored v.entries index → MayBeKept v.root.config index v.root.next text ids number → MayGoIn v text ids
 may-go v index text ids number indexed may =
     let fresh : IsNewTo v.entries text = new-to v.entries index text indexed may.comes.storage.id may.comes.new_id in
     record {
@@ -84,10 +84,10 @@ unread-judges a b bytes number answer.DiskFault is = tt
 unread-judges a b bytes number other is = absurd is
 
 -- The text that was read is that of the blob ids of its message, and an error isn't damage.
-pub reads-message : (v : View) (a : Archive) (number index : ℕ) (text : List ℕ) → Keeps v a → IsMessageAt v.entries number index → GivesTextOf a index [] text (Ok tt) → ReadsMessage a number (Ok text)
+pub reads-message : (v : StoreState) (a : Archive) (number index : ℕ) (text : List ℕ) → KeepsArchive v a → IsMessageAt v.entries number index → GivesTextOf a index [] text (Ok tt) → ReadsMessage a number (Ok text)
 reads-message v a number index text keeps at given blob first = blob-index v a blob number index keeps (sym first) at ∙ given.1 ∙ ap Some (sym given.2)
 
-pub refuses-message : (v : View) (a : Archive) (number index : ℕ) (old new : List ℕ) (why : TextRefusal) (reply : Answer) → reply ≡ unread_answer v index why → GivesTextOf a index old new (Err why) → ReadsMessage a number (Err reply)
+pub refuses-message : (v : StoreState) (a : Archive) (number index : ℕ) (old new : List ℕ) (why : TextRefusal) (reply : Answer) → reply ≡ unread_answer v index why → GivesTextOf a index old new (Err why) → ReadsMessage a number (Err reply)
 refuses-message v a number index old new reading.DiskFault reply is given = subst (λ (r : Answer). ReadsMessage a number (Err r)) (sym is) tt
 refuses-message v a number index old new reading.NoMemory reply is given = subst (λ (r : Answer). ReadsMessage a number (Err r)) (sym is) tt
 refuses-message v a number index old new (reading.Damaged named found) reply is given = absurd given
@@ -98,12 +98,12 @@ compares a bytes text kept blob number agree decides reads moment = decides.deci
 
 -- No other text has the blob id of one that is taken: no entry has it, or the first that has it has the
 -- same text.
-pub alone-new : (a : Archive) (index : Index) (text : List ℕ) (ids : TextIds) → IsIndex a.entries index → ids ≡ text_ids_of text → number_in index.blobs ids.blob.0 ≡ None → collision a.entries text ≡ None
+pub alone-new : (a : Archive) (index : Index) (text : List ℕ) (ids : TextIds) → IsArchiveIndex a.entries index → ids ≡ text_ids_of text → number_in index.blobs ids.blob.0 ≡ None → collision a.entries text ≡ None
 alone-new a index text ids indexed ids_are none =
     collision-alone a.entries text
     (subst (λ (i : TextIds). blob_number a.entries i.blob.0 ≡ None) ids_are (sym (indexed.blobs ids.blob.0) ∙ none))
 
-pub alone-same : (a : Archive) (config : Config) (index : Index) (next : ℕ) (text kept : List ℕ) (ids : TextIds) (number : ℕ) (verdict : Verdict) → BlobsAgree a.entries → IsIndex a.entries index → ids ≡ text_ids_of text → number_in index.blobs ids.blob.0 ≡ Some number → ReadsMessage a number (Ok kept)
+pub alone-same : (a : Archive) (config : Config) (index : Index) (next : ℕ) (text kept : List ℕ) (ids : TextIds) (number : ℕ) (verdict : Verdict) → BlobsAgree a.entries → IsArchiveIndex a.entries index → ids ≡ text_ids_of text → number_in index.blobs ids.blob.0 ≡ Some number → ReadsMessage a number (Ok kept)
     → TakesThis config next text ids verdict → TakesSame text kept verdict → IsAlone a verdict
 alone-same a config index next text kept ids number (Take taken named n) agree indexed ids_are known reads this same =
     let first : blob_number a.entries ids.blob.0 ≡ Some number = sym (indexed.blobs ids.blob.0) ∙ known in

@@ -11,7 +11,7 @@ use Rattle.arch_model.specs.declared.line.EntryLine.{EntryLine}
 use Rattle.arch_model.specs.declared.text_refusal.TextRefusal.{TextRefusal}
 use Rattle.arch_model.specs.declared.text_refusal.TextRefusal.TheVariants as reading
 use Rattle.epoch_store.specs.Reads.{line_of, line_if, GivesText, FindsText, GivesTextOf, HasTexts, text_if}
-use Rattle.store_finding.specs.Kept.{View}
+use Rattle.store_finding.specs.Kept.{StoreState}
 use Rattle.store_finding.specs.declared.entries.StoredEntry.{StoredEntry}
 use Rattle.archive_core.specs.Numbers.{TellsOther}
 use Rattle.archive_core.specs.Walks.{lines_kept, IsSound}
@@ -49,7 +49,7 @@ gives-at a i old new (Err reading.NoMemory) given = tt
 gives-at a i old new (Err (reading.Damaged named found)) given = given
 
 -- A text that is in its place isn't damaged.
-pub sound-undamaged : (v : View) (k : Content) (i : ℕ) (s : StoredEntry) (old new : List ℕ) (why : TextRefusal) → HasTexts v k → slice_get v.entries i ≡ Some s → GivesText s old new (Err why) → FindsText v.root s old new (Err why) k → IsUndamaged why
+pub sound-undamaged : (v : StoreState) (k : Content) (i : ℕ) (s : StoredEntry) (old new : List ℕ) (why : TextRefusal) → HasTexts v k → slice_get v.entries i ≡ Some s → GivesText s old new (Err why) → FindsText v.root s old new (Err why) k → IsUndamaged why
 sound-undamaged v k i s old new reading.DiskFault texts there given finds = tt
 sound-undamaged v k i s old new reading.NoMemory texts there given finds = tt
 sound-undamaged v k i s old new (reading.Damaged named found) texts there given finds =
@@ -57,7 +57,7 @@ sound-undamaged v k i s old new (reading.Damaged named found) texts there given 
     let same : found ≡ named = finds.2 ∙ ap blob_id_of (finds.1 here.long) ∙ here.blob ∙ sym given.1 in
     given.2 same
 
-pub sound-if : (v : View) (k : Option Content) (i : ℕ) (s : StoredEntry) (old new : List ℕ) (r : Result Unit TextRefusal) → IsSound v k → slice_get v.entries i ≡ Some s → GivesText s old new r → WhereTold (FindsText v.root s old new r) k → IfErr r IsUndamaged
+pub sound-if : (v : StoreState) (k : Option Content) (i : ℕ) (s : StoredEntry) (old new : List ℕ) (r : Result Unit TextRefusal) → IsSound v k → slice_get v.entries i ≡ Some s → GivesText s old new r → WhereTold (FindsText v.root s old new r) k → IfErr r IsUndamaged
 sound-if v None i s old new r sound there given finds = absurd sound
 sound-if v (Some k) i s old new (Ok x) sound there given finds = tt
 sound-if v (Some k) i s old new (Err why) sound there given finds = sound-undamaged v k i s old new why sound there given finds

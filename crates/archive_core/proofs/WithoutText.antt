@@ -25,7 +25,7 @@ use Rattle.arch_model.specs.declared.answer.Answer.{Answer}
 use Rattle.arch_model.specs.declared.answer.Answer.TheVariants as answer
 use Rattle.arch_model.proofs.LiveEntries.{HasText, found-has, all-text, live-one}
 use Rattle.arch_model.proofs.Purging.{valid_without}
-use Rattle.arch_judge.specs.Indexes.{IsIndex}
+use Rattle.arch_judge.specs.Indexes.{IsArchiveIndex}
 use Rattle.arch_judge.specs.Judging.{IsKnownBy, MayBeKept}
 use Rattle.arch_judge.specs.declared.index.Index.{Index}
 use Rattle.arch_judge.specs.declared.judging.Verdict.TheVariants.{Refuse}
@@ -33,7 +33,7 @@ use Rattle.arch_judge.proofs.Endings.{live-few}
 use Rattle.arch_judge.proofs.Indexes.{unowned}
 use Rattle.store_finding.specs.declared.entries.StoredEntry.{StoredEntry}
 use Rattle.epoch_store.specs.Reads.{text_if}
-use Rattle.store_finding.specs.Kept.{View, Keeps, IsStoreWith, stored_at, stored_after}
+use Rattle.store_finding.specs.Kept.{StoreState, KeepsArchive, IsStoreWith, stored_at, stored_after}
 use Rattle.store_planning.specs.Dropping.{KeptOf, without_blob}
 use Rattle.epoch_store.specs.Commands.{MayPurge}
 use Rattle.archive_core.specs.Commands.{DoneBy, IsLiveOf, JudgesRead, ReadsMessage, left_without}
@@ -122,7 +122,7 @@ stored-without before rest (e ∷ es) text agree = by (bytes_eq text e.text) ref
       (record { number = refl; epoch = refl; kind = refl; size = refl; blob = refl; moment = refl; id = refl; content = refl }, stays))
 
 -- The index of what is kept without a blob id is that of the archive without the text.
-pub index-without : (v : View) (a : Archive) (index : Index) (blob : Id20) (text : List ℕ) → Keeps v a → AgreesWith text a.entries → blob_id_of text ≡ blob → IndexesKept (without_blob v.entries blob.0) index → IsIndex (without_entries a text).entries index
+pub index-without : (v : StoreState) (a : Archive) (index : Index) (blob : Id20) (text : List ℕ) → KeepsArchive v a → AgreesWith text a.entries → blob_id_of text ≡ blob → IndexesKept (without_blob v.entries blob.0) index → IsArchiveIndex (without_entries a text).entries index
 index-without v a index blob text keeps agree blob_is indexed =
     indexed (stored_after [] (without_text a.entries text))
     (subst (λ (i : Id20). AllZip KeptOf (without_blob v.entries i.0) (stored_after [] (without_text a.entries text))) blob_is
@@ -130,7 +130,7 @@ index-without v a index blob text keeps agree blob_is indexed =
     (without_text a.entries text) (record { ordered = in-order (without_entries a text) (valid_without a text keeps.valid); is = refl })
 
 -- The blob id of a message that may be purged is that of its text.
-pub purge-blob : (v : View) (a : Archive) (n : ℕ) (blob : Id20) (text : List ℕ) → Keeps v a → MayPurge v n blob → text_of (messages a.entries) n ≡ Some text → blob_id_of text ≡ blob
+pub purge-blob : (v : StoreState) (a : Archive) (n : ℕ) (blob : Id20) (text : List ℕ) → KeepsArchive v a → MayPurge v n blob → text_of (messages a.entries) n ≡ Some text → blob_id_of text ≡ blob
 purge-blob v a n blob text keeps may is =
     let at : IsMessageAt v.entries n may.is_there.0 = record {
       entry = may.entry;
@@ -145,7 +145,7 @@ purge-blob v a n blob text keeps may is =
     get_is es i e less is = is
 
 -- The live number whose entry has the blob id of a text is the one with the text.
-pub lost-live : (v : View) (a : Archive) (places : List MessagePlace) (lost : Option ℕ) (blob : Id20) (text : List ℕ) → Keeps v a → places ≡ message_places 0 v.entries → AgreesWith text a.entries → blob_id_of text ≡ blob → IsLiveWith places v.entries blob lost → IsLiveOf (live a.entries) text lost
+pub lost-live : (v : StoreState) (a : Archive) (places : List MessagePlace) (lost : Option ℕ) (blob : Id20) (text : List ℕ) → KeepsArchive v a → places ≡ message_places 0 v.entries → AgreesWith text a.entries → blob_id_of text ≡ blob → IsLiveWith places v.entries blob lost → IsLiveOf (live a.entries) text lost
 lost-live v a places (Some n) blob text keeps placed agree blob_is found =
     let at : IsLiveAt v.entries n found.1.entry = live-found v places placed found.0 n found.1 found.2 found.3 found.4 in
     let own = message-of v a n found.1.entry keeps at.message in
@@ -222,7 +222,7 @@ is_damage (answer.Damaged file at) = true
 is_damage other = false
 
 -- A refusal leaves the archive.
-pub left-done : (v : View) (cache left : List ℕ) (a : Archive) (d : Done) (k : Option Content) (reply : Answer) → IsStoreWith v cache a k → is_accepted reply ≡ false → is_damage reply ≡ false → d ≡ refused a reply → DoneBy v cache left a d reply k
+pub left-done : (v : StoreState) (cache left : List ℕ) (a : Archive) (d : Done) (k : Option Content) (reply : Answer) → IsStoreWith v cache a k → is_accepted reply ≡ false → is_damage reply ≡ false → d ≡ refused a reply → DoneBy v cache left a d reply k
 left-done v cache left a d k answer.NoMemory store never fine is = store
 left-done v cache left a d k answer.DiskFault store never fine is = tt
 left-done v cache left a d k (answer.Ok n id) store never fine is = absurd (cc)
@@ -230,7 +230,7 @@ left-done v cache left a d k (answer.Damaged file at) store never fine is = absu
 left-done v cache left a d k other store never fine is = record { answer_is = ap (λ (x : Done). x.answer) is; store = subst (λ (b : Archive). IsStoreWith v cache b k) (sym (ap (λ (x : Done). x.archive) is)) store }
 
 -- What an index of the archive with all its entries, or without a text, knows of it.
-pub known-left : (v : View) (a : Archive) (config : Config) (index : Index) (count next : ℕ) (gone : Option (List ℕ)) → Keeps v a → config ≡ v.root.config → next ≡ v.root.next → count ≡ length v.entries → IsIndex (left_without a gone).entries index → IsKnownBy config index count next (left_without a gone)
+pub known-left : (v : StoreState) (a : Archive) (config : Config) (index : Index) (count next : ℕ) (gone : Option (List ℕ)) → KeepsArchive v a → config ≡ v.root.config → next ≡ v.root.next → count ≡ length v.entries → IsArchiveIndex (left_without a gone).entries index → IsKnownBy config index count next (left_without a gone)
 known-left v a config index count next None keeps config_is next_is count_is indexed = record {
   config_is = sym (config_is ∙ keeps.names.config);
   next_is = sym (next_is ∙ keeps.names.next);
@@ -320,7 +320,7 @@ id_of : (o : Option (List ℕ)) → IsSome o → o ≡ Some (unwrap_or o [])
 id_of None some = absurd (let wrong : false ≡ true = some in cc)
 id_of (Some id) some = refl
 
-pub may-replace : (v : View) (index : Index) (old : Id20) (ids : TextIds) (n number : ℕ) (text : List ℕ) → MayPurge v n old → IndexesKept (without_blob v.entries old.0) index → MayBeKept v.root.config index v.root.next text ids number → MayReplace v old text ids
+pub may-replace : (v : StoreState) (index : Index) (old : Id20) (ids : TextIds) (n number : ℕ) (text : List ℕ) → MayPurge v n old → IndexesKept (without_blob v.entries old.0) index → MayBeKept v.root.config index v.root.next text ids number → MayReplace v old text ids
 may-replace v index old ids n number text purge indexed kept = record {
   number = n;
   edit = record {
@@ -330,14 +330,14 @@ may-replace v index old ids n number text purge indexed kept = record {
     id = λ a m gone keeps is blob_is. (
         let id = unwrap_or (own_id text) [] in
         let own = id_of (own_id text) kept.comes.storage.id in
-        let is_index : IsIndex (without_entries a gone).entries index = index-without v a index old gone keeps (message-agrees a m gone keeps.valid is) blob_is indexed in
+        let is_index : IsArchiveIndex (without_entries a gone).entries index = index-without v a index old gone keeps (message-agrees a m gone keeps.valid is) blob_is indexed in
         (id, own, unowned (without_text a.entries gone) index id is_index (kept.comes.new_id id own)));
   };
   ids_are = kept.comes.ids_are;
 }
 
 -- What is done where the delivery on the archive without a text is refused, or isn't.
-pub refused-edit : (v : View) (cache left : List ℕ) (a b : Archive) (bytes : List ℕ) (moment : ℕ) (k : Option Content) (reply : Answer) → IsStoreWith v cache a k → JudgesRead b bytes (Refuse reply) → DoneBy v cache left a (unless_refused a (delivered b bytes moment)) reply k
+pub refused-edit : (v : StoreState) (cache left : List ℕ) (a b : Archive) (bytes : List ℕ) (moment : ℕ) (k : Option Content) (reply : Answer) → IsStoreWith v cache a k → JudgesRead b bytes (Refuse reply) → DoneBy v cache left a (unless_refused a (delivered b bytes moment)) reply k
 refused-edit v cache left a b bytes moment k answer.NoMemory store judged = store
 refused-edit v cache left a b bytes moment k answer.DiskFault store judged = tt
 refused-edit v cache left a b bytes moment k (answer.Duplicate n) store judged = left-done v cache left a (unless_refused a (delivered b bytes moment)) k (answer.Duplicate n) store refl refl (unless-refused a b (delivered b bytes moment) (answer.Duplicate n) refl (judged moment))
@@ -352,17 +352,17 @@ refused-edit v cache left a b bytes moment k (answer.NoText n) store judged = ab
 refused-edit v cache left a b bytes moment k (answer.Damaged file at) store judged = absurd judged
 
 -- The archive of a store that takes commands takes them.
-pub writable-of : (v : View) (a : Archive) → Keeps v a → v.root.config.mirror ≡ false → a.config.mirror ≡ false
+pub writable-of : (v : StoreState) (a : Archive) → KeepsArchive v a → v.root.config.mirror ≡ false → a.config.mirror ≡ false
 writable-of v a keeps writable = ap (λ (c : Config). c.mirror) (sym keeps.names.config) ∙ writable
 
 -- The text of the message at an index, by its number and its blob id.
-pub purge-at : (v : View) (a : Archive) (n i : ℕ) (s : StoredEntry) → Keeps v a → IsMessageAt v.entries n i → slice_get v.entries i ≡ Some s → (text : List ℕ) × (text_of (messages a.entries) n ≡ Some text) × (blob_id_of text ≡ s.seen.blob)
+pub purge-at : (v : StoreState) (a : Archive) (n i : ℕ) (s : StoredEntry) → KeepsArchive v a → IsMessageAt v.entries n i → slice_get v.entries i ≡ Some s → (text : List ℕ) × (text_of (messages a.entries) n ≡ Some text) × (blob_id_of text ≡ s.seen.blob)
 purge-at v a n i s keeps at there =
     let own = message-of v a n i keeps at in
     let same : at.entry ≡ s = (let both : Some at.entry ≡ Some s = sym at.there ∙ there in cc) in
     (own.entry.text, own.once, sym own.blob ∙ ap (λ (e : StoredEntry). e.seen.blob) same)
 
-pub may-purge : (v : View) (n i : ℕ) (s : StoredEntry) → v.root.config.mirror ≡ false → IsMessageAt v.entries n i → slice_get v.entries i ≡ Some s → MayPurge v n s.seen.blob
+pub may-purge : (v : StoreState) (n i : ℕ) (s : StoredEntry) → v.root.config.mirror ≡ false → IsMessageAt v.entries n i → slice_get v.entries i ≡ Some s → MayPurge v n s.seen.blob
 may-purge v n i s writable at there =
     let less : i < length v.entries = slice_get_within v.entries i s there in
     let same : at.entry ≡ s = (let both : Some at.entry ≡ Some s = sym at.there ∙ there in cc) in
@@ -380,7 +380,7 @@ may-purge v n i s writable at there =
     message_kind Deletion is = absurd (cc)
 
 -- What is read at the index of a message may be purged.
-pub may-read : (v : View) (seen : List StoredEntry) (n i : ℕ) (d : StoredEntry) → seen ≡ v.entries → IsMessageAt v.entries n i → v.root.config.mirror ≡ false → MayPurge v n (get_or seen i d).seen.blob
+pub may-read : (v : StoreState) (seen : List StoredEntry) (n i : ℕ) (d : StoredEntry) → seen ≡ v.entries → IsMessageAt v.entries n i → v.root.config.mirror ≡ false → MayPurge v n (get_or seen i d).seen.blob
 may-read v seen n i d is at writable = may-purge v n i (get_or seen i d) writable at
     (slice_get-get_or v.entries i d (slice_get_within v.entries i at.entry at.there) ∙ ap (λ (es : List StoredEntry). Some (get_or es i d)) (sym is))
 
@@ -392,7 +392,7 @@ shown-text es n is = by (text_of es n) refl where
   by (Some text) some = (text, some)
 
 -- What the purge of a message makes.
-pub purge-makes : (v : View) (a : Archive) (n : ℕ) (blob : Id20) → Keeps v a → MayPurge v n blob → is_some (text_of (messages a.entries) n) ≡ true → Drops blob a (purged a n).archive × ((purged a n).answer ≡ answer.Ok n blob)
+pub purge-makes : (v : StoreState) (a : Archive) (n : ℕ) (blob : Id20) → KeepsArchive v a → MayPurge v n blob → is_some (text_of (messages a.entries) n) ≡ true → Drops blob a (purged a n).archive × ((purged a n).answer ≡ answer.Ok n blob)
 purge-makes v a n blob keeps may some =
     let text = shown-text (messages a.entries) n some in
     let named = purge-blob v a n blob text.0 keeps may text.1 in
@@ -402,7 +402,7 @@ purge-makes v a n blob keeps may some =
     )
 
 -- What an edit makes whose message isn't the same.
-pub edit-makes : (v : View) (a : Archive) (n : ℕ) (bytes : List ℕ) (moment : ℕ) → Keeps v a → v.root.config.mirror ≡ false → is_some (text_of (live a.entries) n) ≡ true → ((text : List ℕ) → text_of (live a.entries) n ≡ Some text → is_form text (stored bytes) ≡ false)
+pub edit-makes : (v : StoreState) (a : Archive) (n : ℕ) (bytes : List ℕ) (moment : ℕ) → KeepsArchive v a → v.root.config.mirror ≡ false → is_some (text_of (live a.entries) n) ≡ true → ((text : List ℕ) → text_of (live a.entries) n ≡ Some text → is_form text (stored bytes) ≡ false)
     → (text : List ℕ) × (text_of (live a.entries) n ≡ Some text) × (edited a n bytes moment ≡ unless_refused a (delivered (without_entries a text) bytes moment))
 edit-makes v a n bytes moment keeps writable some other =
     let text = shown-text (live a.entries) n some in

@@ -2,7 +2,7 @@
 use Rattle.std.specs.Prelude.{◌≡◌, ◌+◌, ◌-◌, ◌<◌, ◌^◌, ℕ, Bool, true, false, List, slice_get, Option, Some, None, Result, Ok, Err}
 use Rattle.std.specs.List.{Contains}
 use Rattle.arch_base.specs.Counts.{RoseIf}
-use Rattle.disk_model.specs.Disk.{Files, Content, WhereTold, LeavesOnly, Told, Unchanged, Image}
+use Rattle.disk_model.specs.Disk.{Files, Content, WhereTold, LeavesOnly, BothTold, Unchanged, Image}
 use Rattle.mail_reader.specs.Content.{content_id_of}
 use Rattle.mail_reader.specs.Ids.{own_id}
 use Rattle.mail_reader.specs.StorageTexts.{IsStorageText}
@@ -10,7 +10,7 @@ use Rattle.git_objects.specs.Objects.{blob_id_of}
 use Rattle.git_objects.specs.declared.entry_kind.EntryKind.TheVariants.{Message}
 use Rattle.arch_model.specs.declared.text_refusal.TextRefusal.{TextRefusal}
 use Rattle.arch_model.specs.declared.text_refusal.TextRefusal.TheVariants as unread
-use Rattle.arch_judge.specs.Indexes.{IsIndex}
+use Rattle.arch_judge.specs.Indexes.{IsArchiveIndex}
 use Rattle.arch_judge.specs.Judging.{Judges}
 use Rattle.arch_judge.specs.declared.index.Index.{Index}
 use Rattle.arch_judge.specs.declared.judging.Verdict.{Verdict}
@@ -31,16 +31,16 @@ use Rattle.arch_model.specs.declared.answer.Answer.{Answer}
 use Rattle.arch_model.specs.declared.answer.Answer.TheVariants as answer
 use Rattle.epoch_file.specs.declared.refusal.StoreRefusal.{StoreRefusal}
 use Rattle.epoch_file.specs.declared.refusal.StoreRefusal.TheVariants as refusal
-use Rattle.epoch_store.specs.Promises.{Appends, GoesOnBy, Renews, Way, cache_by}
-use Rattle.store_finding.specs.Kept.{View, IsStoreWith}
-use Rattle.epoch_store.specs.Commands.{HasSizes, RecoversOneOf, KeepsFiles, EditsFiles}
+use Rattle.epoch_store.specs.Promises.{Appends, GoesOnBy, Renews, WriteKind, cache_by}
+use Rattle.store_finding.specs.Kept.{StoreState, IsStoreWith}
+use Rattle.epoch_store.specs.Commands.{StoreHasSizes, RecoversOneOf, KeepsFiles, EditsFiles}
 use Rattle.epoch_store.specs.Reads.{IsTextOf}
 use Rattle.archive_core.specs.DamageTold.{TellsDamage}
 use Rattle.archive_core.specs.declared.texts.KeptText.{KeptText}
 
 -- The definition's answer was given, and the disk is the own one of a store that keeps the
 -- definition's archive, with a cache of these bytes.
-pub record IsDone (v : View) (cache : List ℕ) (wanted : Done) (reply : Answer)
+pub record IsDone (v : StoreState) (cache : List ℕ) (wanted : Done) (reply : Answer)
     (content : Option Content) : Type 0 where
   pub answer_is : wanted.answer ≡ reply
   pub store : IsStoreWith v cache wanted.archive content
@@ -48,7 +48,7 @@ pub record IsDone (v : View) (cache : List ℕ) (wanted : Done) (reply : Answer)
 -- The answer of a call and the archive after it are the wanted ones of this archive. After
 -- `NoMemory` all is as before. After `DiskFault` the archive has to be reopened. No file is ever
 -- damaged. A command that is carried out leaves a cache of these other bytes.
-abbrev pub DoneBy : View → List ℕ → List ℕ → Archive → Done → Answer → Option Content → Type 0
+abbrev pub DoneBy : StoreState → List ℕ → List ℕ → Archive → Done → Answer → Option Content → Type 0
 DoneBy v cache left a wanted answer.NoMemory content = IsStoreWith v cache a content
 DoneBy v cache left a wanted answer.DiskFault content = Unit {0}
 DoneBy v cache left a wanted (answer.Ok number id) content =
@@ -138,7 +138,7 @@ IfUnreadFor (Edit number bytes) reply P = IfUnreadEdit reply P
 IfUnreadFor other reply P = IfUnread reply P
 
 -- How a command changes the files: a delivery and a removal append, and a purge and an edit write anew.
-abbrev pub way_of : Command → Way
+abbrev pub way_of : Command → WriteKind
 way_of (Deliver bytes) = Appends
 way_of (Remove number) = Appends
 way_of (Purge number) = Renews
@@ -149,16 +149,16 @@ abbrev pub cache_left : Command → List ℕ → List ℕ
 cache_left command cache = cache_by (way_of command) cache
 
 -- An entry is that of the message with a number.
-abbrev pub IsEntryOf : View → ℕ → StoredEntry → Type 0
-IsEntryOf v number s = Contains v.entries s × (s.seen.kind ≡ Message) × (s.number ≡ number)
+abbrev pub IsEntryOfNumber : StoreState → ℕ → StoredEntry → Type 0
+IsEntryOfNumber v number s = Contains v.entries s × (s.seen.kind ≡ Message) × (s.number ≡ number)
 
 -- Which files a purge and an edit keep, by the blob id of the text that they drop.
-abbrev pub FilesFor : Command → View → View → Type 0
+abbrev pub FilesFor : Command → StoreState → StoreState → Type 0
 FilesFor (Deliver bytes) old new = Unit {0}
 FilesFor (Remove number) old new = Unit {0}
-FilesFor (Purge number) old new = (s : StoredEntry) × IsEntryOf old number s
+FilesFor (Purge number) old new = (s : StoredEntry) × IsEntryOfNumber old number s
     × KeepsFiles old new s.seen.blob
-FilesFor (Edit number bytes) old new = (s : StoredEntry) × IsEntryOf old number s
+FilesFor (Edit number bytes) old new = (s : StoredEntry) × IsEntryOfNumber old number s
     × EditsFiles old new s.seen.blob
 
 -- A live number has a text, or none has it.
@@ -183,12 +183,12 @@ refusal_answer (refusal.Damaged file offset) = answer.Damaged file offset
 
 -- The answer that names the file and the offset of an entry that is damaged. Without an entry it is that
 -- memory ran out.
-abbrev pub damaged_place : View → Option StoredEntry → Answer
+abbrev pub damaged_place : StoreState → Option StoredEntry → Answer
 damaged_place v None = answer.NoMemory
 damaged_place v (Some e) = answer.Damaged (epoch_file_of v.root e.epoch) e.seen.at
 
 -- The answer where the text of the entry at an index wasn't read.
-abbrev pub unread_answer : View → ℕ → TextRefusal → Answer
+abbrev pub unread_answer : StoreState → ℕ → TextRefusal → Answer
 unread_answer v index unread.DiskFault = answer.DiskFault
 unread_answer v index (unread.Damaged named found) = damaged_place v (slice_get v.entries index)
 unread_answer v index unread.NoMemory = answer.NoMemory
@@ -213,11 +213,11 @@ ReadsMessage a number (Err answer.NoMemory) = Unit {0}
 ReadsMessage a number (Err other) = ⊥
 
 -- A text that wasn't read: the disk failed, memory ran out, or the entry is damaged.
-abbrev pub IsUnread : Answer → Type 0
-IsUnread answer.DiskFault = Unit {0}
-IsUnread answer.NoMemory = Unit {0}
-IsUnread (answer.Damaged file at) = Unit {0}
-IsUnread other = ⊥
+abbrev pub IsTextUnread : Answer → Type 0
+IsTextUnread answer.DiskFault = Unit {0}
+IsTextUnread answer.NoMemory = Unit {0}
+IsTextUnread (answer.Damaged file at) = Unit {0}
+IsTextUnread other = ⊥
 
 -- The verdict is that a read failed.
 abbrev pub IsFaultRead : Verdict → Type 0
@@ -243,18 +243,18 @@ left_without a (Some text) = without_entries a text
 
 -- The verdict on a delivery on the archive of an index, which has all entries or lacks those of a text,
 -- is what the definition says of it, unless a read failed.
-abbrev pub JudgesOn : {D : Type 0} → (D → Option Content) → D → View → Index → List ℕ → Verdict
+abbrev pub JudgesOn : {D : Type 0} → (D → Option Content) → D → StoreState → Index → List ℕ → Verdict
     → Type 0
 JudgesOn content disk v index bytes verdict = (a : Archive) (cache : List ℕ) (gone : Option (List ℕ))
-    → IsStoreWith v cache a (content disk) → IsIndex (left_without a gone).entries index
+    → IsStoreWith v cache a (content disk) → IsArchiveIndex (left_without a gone).entries index
     → JudgesRead (left_without a gone) bytes verdict × IsAlone (left_without a gone) verdict
 
 -- The disk was read, and nothing else: its content is the same, and a crash leaves what it might have
 -- left before.
 pub record OnlyLooks {D : Type 0} (content : D → Option Content) (moment : D → ℕ)
     (left_since : D → ℕ → Files → Type 0) (old new : D) : Type 0 where
-  pub same : Told Unchanged (content old) (content new)
-  pub any_moment : LeavesOnly moment left_since old new (Image (content old))
+  pub same : BothTold Unchanged (content old) (content new)
+  pub crash : LeavesOnly moment left_since old new (Image (content old))
 
 -- What a command promises, by its answer and the archive after it, of each archive before it. While
 -- the root's sequence can be raised, at each moment a crash leaves the archive before the command or
@@ -266,9 +266,9 @@ pub record OnlyLooks {D : Type 0} (content : D → Option Content) (moment : D �
 -- command may. Damage is told with the place of an entry that was kept, or with a file that is too short.
 pub record TakesCommand {D : Type 0} (content : D → Option Content) (moment : D → ℕ)
     (left_since : D → ℕ → Files → Type 0) (faults reads : D → ℕ) (old new : D)
-    (before after : View) (command : Command) (wanted : Archive → Done) (reply : Answer)
+    (before after : StoreState) (command : Command) (wanted : Archive → Done) (reply : Answer)
     : Type 0 where
-  pub any_moment : (a : Archive) (cache : List ℕ) → IsStoreWith before cache a (content old)
+  pub crash : (a : Archive) (cache : List ℕ) → IsStoreWith before cache a (content old)
       → before.root.sequence + 1 < 2 ^ 64
       → LeavesOnly moment left_since old new
       (RecoversOneOf cache a (cache_left command cache) (wanted a).archive)
@@ -282,15 +282,15 @@ pub record TakesCommand {D : Type 0} (content : D → Option Content) (moment : 
   pub same : OnRefusal reply (after ≡ before)
   pub untouched : OnRefusal reply (UnlessFault reply (OnlyLooks content moment left_since old new))
   pub unmoved : IfUnreadFor command reply (new ≡ old)
-  pub sizes : UnlessFault reply (WhereTold (HasSizes after) (content new))
+  pub sizes : UnlessFault reply (WhereTold (StoreHasSizes after) (content new))
   pub cause : RoseIf (reply ≡ answer.DiskFault) (faults old) (faults new)
   pub for_command : IsForCommand command reply
   pub count : ReadsFor command (reads old) (reads new)
   -- The root file has the new root in its slot, whose gate is open, and is otherwise as it was.
   pub rooted : OnDone reply
-      (Told (HasNewRoot after.slot (spelling after.root)) (content old) (content new))
+      (BothTold (HasNewRoot after.slot (spelling after.root)) (content old) (content new))
   -- At each moment its bytes between the gates and the bodies are as before.
-  pub between : RunsBetween content moment left_since old new
+  pub crash_between : RunsBetween content moment left_since old new
   pub damage : TellsDamage before (content old) reply
 
 -- The command delivers a message: it is a delivery or an edit.

@@ -4,7 +4,7 @@ use Rattle.std.specs.List.{Contains}
 use Rattle.std.proofs.Common.{◌∙◌, sym, ap, subst, inl, inr}
 use native.Mathlib.Omega.{arith}
 use Rattle.disk_model.specs.declared.name.FileName.{FileName}
-use Rattle.disk_model.specs.Disk.{Files, Content, Image, Told, WhereTold, Unchanged, LeavesOnly}
+use Rattle.disk_model.specs.Disk.{Files, Content, Image, BothTold, WhereTold, Unchanged, LeavesOnly}
 use Rattle.disk_model.specs.Moments.{started, joined}
 use Rattle.root_slots.specs.Between.{BetweenStays, between_image}
 use Rattle.disk_model.specs.Synced.{IsSettled}
@@ -13,8 +13,8 @@ use Rattle.arch_model.specs.Keeping.{OnlyRead}
 use Rattle.arch_model.specs.declared.answer.Answer.{Answer}
 use Rattle.arch_model.specs.declared.answer.Answer.TheVariants as answer
 use Rattle.epoch_store.specs.Opens.{RecoversOfWith}
-use Rattle.store_finding.specs.Kept.{View, IsStoreWith}
-use Rattle.epoch_store.specs.Commands.{HasSizes}
+use Rattle.store_finding.specs.Kept.{StoreState, IsStoreWith}
+use Rattle.epoch_store.specs.Commands.{StoreHasSizes}
 use Rattle.epoch_store.specs.Leaving.{disk_recovers}
 use Rattle.view_set.specs.Viewed.{Viewed, views_of}
 
@@ -22,13 +22,13 @@ use Rattle.view_set.specs.Viewed.{Viewed, views_of}
 -- it has to be reopened.
 pub record Owning (D : Type 0) : Type 0 where
   pub disk : D
-  pub view : View
+  pub view : StoreState
   pub views : Viewed
   pub stale : Bool
 
 -- While it needn't be reopened, the files that the archive names have their sizes.
-abbrev pub SizesUnless : Bool → View → Option Content → Type 0
-SizesUnless stale view content = stale ≡ false → WhereTold (HasSizes view) content
+abbrev pub SizesUnless : Bool → StoreState → Option Content → Type 0
+SizesUnless stale view content = stale ≡ false → WhereTold (StoreHasSizes view) content
 
 -- Whether an archive has to be reopened after this answer: the disk failed, or a file is damaged.
 abbrev pub needs_opening : Answer → Bool
@@ -38,24 +38,24 @@ needs_opening other = false
 
 -- The archive that it holds: the disk is the archive's own, with whatever cache, the views are those of
 -- the archive's live messages, and all that reads give is on the disk.
-abbrev pub Holds : {D : Type 0} → (D → Option Content) → Owning D → Archive → Type 0
-Holds content e a = (cache : List ℕ) × IsStoreWith e.view cache a (content e.disk)
+abbrev pub HoldsArchive : {D : Type 0} → (D → Option Content) → Owning D → Archive → Type 0
+HoldsArchive content e a = (cache : List ℕ) × IsStoreWith e.view cache a (content e.disk)
     × (e.views ≡ views_of (live a.entries)) × WhereTold IsSettled (content e.disk)
 
 -- A disk has exactly the files of an archive, with whatever cache, by the current root, and all that
 -- reads give is on the disk.
-abbrev pub RestsOn : Archive → Option Content → Type 0
-RestsOn a content = (v : View) × (cache : List ℕ) × IsStoreWith v cache a content
+abbrev pub FilesAreOn : Archive → Option Content → Type 0
+FilesAreOn a content = (v : StoreState) × (cache : List ℕ) × IsStoreWith v cache a content
     × WhereTold IsSettled content
 
 -- The same, and the cache has these bytes, or there is none.
-abbrev pub RestsWith : List ℕ → Archive → Option Content → Type 0
-RestsWith cache a content = (v : View) × (own : List ℕ) × ((own ≡ cache) ⊎ (own ≡ []))
+abbrev pub FilesAreWith : List ℕ → Archive → Option Content → Type 0
+FilesAreWith cache a content = (v : StoreState) × (own : List ℕ) × ((own ≡ cache) ⊎ (own ≡ []))
     × IsStoreWith v own a content × WhereTold IsSettled content
 
 -- Its disk has exactly the files of an archive. What is kept in memory doesn't count.
-abbrev pub Rests : {D : Type 0} → (D → Option Content) → Owning D → Archive → Type 0
-Rests content e a = RestsOn a (content e.disk)
+abbrev pub FilesAre : {D : Type 0} → (D → Option Content) → Owning D → Archive → Type 0
+FilesAre content e a = FilesAreOn a (content e.disk)
 
 -- The disk is the archive's own, with whatever cache.
 abbrev pub Owns : {D : Type 0} → (D → Option Content) → Owning D → Archive → Type 0
@@ -85,9 +85,9 @@ BetweenSince content moment left_since old new =
 
 -- Each crash of a disk since a moment has left files that stand for one of these archives, with a cache
 -- of these bytes or with none.
-abbrev pub LeftWith : {D : Type 0} → (D → ℕ → Files → Type 0) → D → ℕ → List ℕ
+abbrev pub LeftWithCache : {D : Type 0} → (D → ℕ → Files → Type 0) → D → ℕ → List ℕ
     → List (Option Archive) → Type 0
-LeftWith left_since disk since cache may =
+LeftWithCache left_since disk since cache may =
     (image : Files) → left_since disk since image → RecoversOrBare cache may image
 
 -- The second state comes no earlier. Each crash at the first one left files that stand for one of these
@@ -97,9 +97,9 @@ LeftWith left_since disk since cache may =
 abbrev pub Leaves : {D : Type 0} → (D → Option Content) → (D → ℕ) → (D → ℕ → Files → Type 0)
     → Owning D → Owning D → List (Option Archive) → Type 0
 Leaves content moment left_since start e may = (moment start.disk ≤ moment e.disk)
-    × ((cache : List ℕ) × LeftWith left_since start.disk (moment start.disk) cache may)
-    × ((cache : List ℕ) → LeftWith left_since start.disk (moment start.disk) cache may
-    → LeftWith left_since e.disk (moment start.disk) cache may)
+    × ((cache : List ℕ) × LeftWithCache left_since start.disk (moment start.disk) cache may)
+    × ((cache : List ℕ) → LeftWithCache left_since start.disk (moment start.disk) cache may
+    → LeftWithCache left_since e.disk (moment start.disk) cache may)
     × (start.stale ≡ false → BetweenSince content moment left_since start.disk e.disk)
 
 -- The views keep up with a command that was answered so: they are those of the archive after it, unless
@@ -120,30 +120,30 @@ IfRefused (answer.Damaged file at) P = Unit {0}
 IfRefused other P = P
 
 -- Only reads of the disk lead from one state to the other.
-pub record ReadsOn {D : Type 0} (content : D → Option Content) (moment : D → ℕ)
+pub record OnlyReadsOn {D : Type 0} (content : D → Option Content) (moment : D → ℕ)
     (left_since : D → ℕ → Files → Type 0) (old new : Owning D) : Type 0 where
   pub view_is : new.view ≡ old.view
   pub views_are : new.views ≡ old.views
   pub stale_is : new.stale ≡ old.stale
-  pub files : Told Unchanged (content old.disk) (content new.disk)
+  pub files : BothTold Unchanged (content old.disk) (content new.disk)
   pub run : LeavesOnly moment left_since old.disk new.disk (Image (content old.disk))
 
 -- Laws of such a keeper.
 
 -- A disk that changed no file holds the same.
-pub unchanged-is : (old new : Option Content) → Told Unchanged old new → new ≡ old
+pub unchanged-is : (old new : Option Content) → BothTold Unchanged old new → new ≡ old
 unchanged-is None None told = refl
 unchanged-is None (Some m) told = absurd told
 unchanged-is (Some k) None told = absurd told
 unchanged-is (Some k) (Some m) told = λ i. Some (λ (name : FileName). told name i)
 
 -- What a disk tells is unchanged from what it tells.
-pub told-same : (k : Option Content) → Told Unchanged k k
+pub told-same : (k : Option Content) → BothTold Unchanged k k
 told-same None = tt
 told-same (Some k) = λ name. refl
 
 -- Files of a store's own disk stand for the archive.
-pub store-recovers : (v : View) (cache : List ℕ) (a : Archive) (k : Option Content)
+pub store-recovers : (v : StoreState) (cache : List ℕ) (a : Archive) (k : Option Content)
     (may : List (Option Archive)) (image : Files) → IsStoreWith v cache a k → Contains may (Some a)
     → Image k image → RecoversOfWith cache may image
 store-recovers v cache a None may image store has left = absurd store
@@ -157,7 +157,7 @@ module _ {D : Type 0} (content : D → Option Content) (moment : D → ℕ)
     (only_now : (disk : D) (image : Files) → left_since disk (moment disk) image
     → Image (content disk) image) where
   -- No read at all leads from a state to itself.
-  pub reading-same : (e : Owning D) → ReadsOn content moment left_since e e
+  pub reading-same : (e : Owning D) → OnlyReadsOn content moment left_since e e
   reading-same e = record {
     view_is = refl;
     views_are = refl;
@@ -168,8 +168,8 @@ module _ {D : Type 0} (content : D → Option Content) (moment : D → ℕ)
   }
 
   -- Reads after reads are reads.
-  pub reading-joined : (d e f : Owning D) → ReadsOn content moment left_since d e
-      → ReadsOn content moment left_since e f → ReadsOn content moment left_since d f
+  pub reading-joined : (d e f : Owning D) → OnlyReadsOn content moment left_since d e
+      → OnlyReadsOn content moment left_since e f → OnlyReadsOn content moment left_since d f
   reading-joined d e f first second =
       let one = unchanged-is (content d.disk) (content e.disk) first.files in
       let two = unchanged-is (content e.disk) (content f.disk) second.files in
@@ -177,7 +177,7 @@ module _ {D : Type 0} (content : D → Option Content) (moment : D → ℕ)
         view_is = second.view_is ∙ first.view_is;
         views_are = second.views_are ∙ first.views_are;
         stale_is = second.stale_is ∙ first.stale_is;
-        files = subst (λ (k : Option Content). Told Unchanged (content d.disk) k) (sym (two ∙ one))
+        files = subst (λ (k : Option Content). BothTold Unchanged (content d.disk) k) (sym (two ∙ one))
             (told-same (content d.disk));
         run = joined moment left_since d.disk e.disk f.disk (Image (content d.disk))
             (Image (content e.disk)) (Image (content d.disk)) first.run second.run
@@ -200,7 +200,7 @@ module _ {D : Type 0} (content : D → Option Content) (moment : D → ℕ)
   )
 
   -- The files of one that holds an archive are the archive's.
-  pub holds-rest : (e : Owning D) (a : Archive) → Holds content e a → Rests content e a
+  pub holds-rest : (e : Owning D) (a : Archive) → HoldsArchive content e a → FilesAre content e a
   holds-rest e a store = (e.view, store.0, store.1, store.3)
 
   -- What each crash since a state may have left, a crash now may leave.
@@ -218,19 +218,19 @@ module _ {D : Type 0} (content : D → Option Content) (moment : D → ℕ)
   )
 
   -- Reads leave the archive that is held, the files, the readiness and what a crash may leave.
-  pub reading-kept : (d e : Owning D) → ReadsOn content moment left_since d e
-      → OnlyRead (Holds content) (Rests content) is_ready (Leaves content moment left_since) d e
+  pub reading-kept : (d e : Owning D) → OnlyReadsOn content moment left_since d e
+      → OnlyRead (HoldsArchive content) (FilesAre content) is_ready (Leaves content moment left_since) d e
   reading-kept d e read =
       let same = unchanged-is (content d.disk) (content e.disk) read.files in
       record {
         held = λ a store. (
           store.0,
-          subst (λ (v : View). IsStoreWith v store.0 a (content e.disk)) (sym read.view_is)
+          subst (λ (v : StoreState). IsStoreWith v store.0 a (content e.disk)) (sym read.view_is)
               (subst (λ (k : Option Content). IsStoreWith d.view store.0 a k) (sym same) store.1),
           read.views_are ∙ store.2,
           subst (λ (k : Option Content). WhereTold IsSettled k) (sym same) store.3,
         );
-        rested = λ a own. subst (λ (k : Option Content). RestsOn a k) (sym same) own;
+        rested = λ a own. subst (λ (k : Option Content). FilesAreOn a k) (sym same) own;
         same = ap not read.stale_is;
         passes = λ start may has left. (
           omega (arith, left.0, read.run.later),

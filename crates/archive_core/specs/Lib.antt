@@ -1,10 +1,10 @@
 pub mod DamageTold
 pub mod Commands
-pub mod Kept
 pub mod Openings
 pub mod Numbers
 pub mod Engines
 pub mod HandedBack
 pub mod Placing
 pub mod Walks
+pub mod Kept
 pub mod Rewriting

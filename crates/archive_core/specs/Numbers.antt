@@ -8,7 +8,7 @@ use Rattle.disk_model.specs.Disk.{Content, WhereTold}
 use Rattle.arch_model.specs.Archives.{Entry, is_message}
 use Rattle.arch_model.specs.Shelves.{blob_text}
 use Rattle.epoch_store.specs.Reads.{GivesText, FindsText, text_if}
-use Rattle.store_finding.specs.Kept.{View}
+use Rattle.store_finding.specs.Kept.{StoreState}
 use Rattle.epoch_store.specs.Commands.{live_kept}
 use Rattle.store_finding.specs.declared.entries.StoredEntry.{StoredEntry}
 
@@ -48,14 +48,14 @@ TellsOther (Err (reading.Damaged named found)) = found ≢ named
 TellsOther other = Unit {0}
 
 -- If bytes with another id were found, this id is the one that is named.
-abbrev pub Names : {T : Type 0} → Id20 → Result T TextRefusal → Type 0
-Names id (Err (reading.Damaged named found)) = named ≡ id
-Names id other = Unit {0}
+abbrev pub NamesId : {T : Type 0} → Id20 → Result T TextRefusal → Type 0
+NamesId id (Err (reading.Damaged named found)) = named ≡ id
+NamesId id other = Unit {0}
 
 -- The results of reading the text of a kept entry that meets a condition: a text of its size and
 -- blob id; or its blob id and the other one that was found. Where the disk tells its content, what was
 -- found is what stands at the entry's place.
-pub record GivesKept (meets : StoredEntry → Type 0) (v : View) (content : Option Content)
+pub record GivesKept (meets : StoredEntry → Type 0) (v : StoreState) (content : Option Content)
     (old new : List ℕ) (result : Result Unit TextRefusal) : Type 0 where
   pub index : ℕ
   pub entry : StoredEntry
@@ -65,13 +65,13 @@ pub record GivesKept (meets : StoredEntry → Type 0) (v : View) (content : Opti
   pub finds : WhereTold (FindsText v.root entry old new result) content
 
 -- The same for the entry of a number.
-abbrev pub GivesTextKept : View → Option Content → ℕ → List ℕ → List ℕ → Result Unit TextRefusal
+abbrev pub GivesTextKept : StoreState → Option Content → ℕ → List ℕ → List ℕ → Result Unit TextRefusal
     → Type 0
 GivesTextKept v content n old new result =
     GivesKept (λ (e : StoredEntry). e.number ≡ n) v content old new result
 
 -- The same for an entry with a blob id, if there is one.
-abbrev pub GivesBlobKept : View → Option Content → Id20 → List ℕ → List ℕ → Result Bool TextRefusal
+abbrev pub GivesBlobKept : StoreState → Option Content → Id20 → List ℕ → List ℕ → Result Bool TextRefusal
     → Type 0
 GivesBlobKept v content id old new (Ok true) =
     GivesKept (λ (e : StoredEntry). e.seen.blob ≡ id) v content old new (Ok tt)

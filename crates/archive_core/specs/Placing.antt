@@ -63,8 +63,8 @@ abbrev pub PlacesRise : List MessagePlace → Type 0
 PlacesRise places = PlacesFrom 0 places
 
 -- A place with this number may follow places whose numbers rise.
-abbrev pub MayFollow : List MessagePlace → ℕ → Type 0
-MayFollow places number = (entry : ℕ) → PlacesRise places
+abbrev pub PlaceMayFollow : List MessagePlace → ℕ → Type 0
+PlaceMayFollow places number = (entry : ℕ) → PlacesRise places
     → PlacesRise (places ++ record { number = number; entry = entry; live = true } ∷ [])
 
 -- A live place has this number.
@@ -72,10 +72,10 @@ abbrev pub live_place : List MessagePlace → ℕ → Bool
 live_place places n = list_any (λ (p : MessagePlace). p.live && p.number == n) places
 
 -- The index of a place of a number. Where numbers rise, none is found only if no place has it.
-abbrev pub IsPlaceOf : List MessagePlace → ℕ → Option ℕ → Type 0
-IsPlaceOf places number (Some index) =
+abbrev pub IsPlaceOfNumber : List MessagePlace → ℕ → Option ℕ → Type 0
+IsPlaceOfNumber places number (Some index) =
     (p : MessagePlace) × (slice_get places index ≡ Some p) × (p.number ≡ number)
-IsPlaceOf places number None = PlacesRise places
+IsPlaceOfNumber places number None = PlacesRise places
     → (index : ℕ) (p : MessagePlace) → slice_get places index ≡ Some p → p.number ≢ number
 
 -- An entry, if there is one, has a blob id.

@@ -1,8 +1,8 @@
--- Purges and edits of an archive on a disk.
+-- Private: purges and edits of an archive on a disk.
 use Rattle.std.specs.Prelude.{◌≡◌, ◌+◌, ◌-◌, ◌<◌, ◌^◌, ℕ, Bool, List, [], Option, Some, Result, Ok, Err}
 use Rattle.arch_base.specs.Counts.{RoseIf}
 use Rattle.arch_base.specs.declared.ids.Id20.{Id20}
-use Rattle.disk_model.specs.Disk.{Files, Content, Told, WhereTold, LeavesOnly}
+use Rattle.disk_model.specs.Disk.{Files, Content, BothTold, WhereTold, LeavesOnly}
 use Rattle.disk_model.specs.Synced.{IsSettled}
 use Rattle.root_slots.specs.Between.{RunsBetween}
 use Rattle.root_slots.specs.Slots.{HasNewRoot}
@@ -16,8 +16,8 @@ use Rattle.arch_model.specs.Delivery.{delivered, is_form, unless_refused}
 use Rattle.arch_model.specs.declared.answer.Answer.{Answer}
 use Rattle.arch_model.specs.declared.answer.Answer.TheVariants as answer
 use Rattle.epoch_file.specs.declared.refusal.StoreRefusal.{StoreRefusal}
-use Rattle.store_finding.specs.Kept.{View, IsStoreWith}
-use Rattle.epoch_store.specs.Commands.{HasSizes, MayEdit, RecoversOneOf, GoesOnAnew}
+use Rattle.store_finding.specs.Kept.{StoreState, IsStoreWith}
+use Rattle.epoch_store.specs.Commands.{StoreHasSizes, MayEdit, RecoversOneOf, GoesOnAnew}
 use Rattle.archive_core.specs.DamageTold.{TellsDamage}
 use Rattle.archive_core.specs.Commands.{AnswersDelivery, DoneBy, IfUnreadEdit, OnDone, OnRefusal, OnlyLooks, UnlessFault}
 
@@ -51,7 +51,7 @@ late_answer (answer.Damaged file at) = answer.Damaged file at
 late_answer other = answer.NoMemory
 
 -- A message may be kept in place of a text: an edit would be accepted, and these are its ids.
-pub record MayReplace (v : View) (old : Id20) (text : List ℕ) (ids : TextIds) : Type 0 where
+pub record MayReplace (v : StoreState) (old : Id20) (text : List ℕ) (ids : TextIds) : Type 0 where
   pub number : ℕ
   pub edit : MayEdit v number old text
   pub ids_are : ids ≡ text_ids_of text
@@ -64,9 +64,9 @@ bare (Err why) = Err why
 -- What a delivery in place of a text promises: the answer is that of the delivery on the archive
 -- without it, and a refusal leaves all as it was. Its answers come after the form was found.
 pub record EditsAs {D : Type 0} (content : D → Option Content) (moment : D → ℕ)
-    (left_since : D → ℕ → Files → Type 0) (faults : D → ℕ) (old new : D) (before after : View)
+    (left_since : D → ℕ → Files → Type 0) (faults : D → ℕ) (old new : D) (before after : StoreState)
     (number : ℕ) (bytes : List ℕ) (arrived : ℕ) (reply : Answer) : Type 0 where
-  pub any_moment : (a : Archive) (cache gone : List ℕ) → IsStoreWith before cache a (content old)
+  pub crash : (a : Archive) (cache gone : List ℕ) → IsStoreWith before cache a (content old)
       → before.root.sequence + 1 < 2 ^ 64 → text_of (live a.entries) number ≡ Some gone
       → LeavesOnly moment left_since old new (RecoversOneOf cache a []
       (unless_refused a (delivered (without_entries a gone) bytes arrived)).archive)
@@ -80,10 +80,10 @@ pub record EditsAs {D : Type 0} (content : D → Option Content) (moment : D →
   pub same : OnRefusal reply (after ≡ before)
   pub untouched : OnRefusal reply (UnlessFault reply (OnlyLooks content moment left_since old new))
   pub late : IfUnreadEdit reply ⊥
-  pub sizes : UnlessFault reply (WhereTold (HasSizes after) (content new))
+  pub sizes : UnlessFault reply (WhereTold (StoreHasSizes after) (content new))
   pub cause : RoseIf (reply ≡ answer.DiskFault) (faults old) (faults new)
   pub for_command : AnswersDelivery reply
   pub rooted : OnDone reply
-      (Told (HasNewRoot after.slot (spelling after.root)) (content old) (content new))
-  pub between : RunsBetween content moment left_since old new
+      (BothTold (HasNewRoot after.slot (spelling after.root)) (content old) (content new))
+  pub crash_between : RunsBetween content moment left_since old new
   pub damage : TellsDamage before (content old) reply

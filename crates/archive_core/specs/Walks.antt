@@ -2,7 +2,7 @@
 -- command.
 use Rattle.std.specs.Prelude.{◌≡◌, ℕ, List, [], ◌∷◌, Option, Some, None}
 use Rattle.std.proofs.Common.{◌∙◌, sym, subst}
-use Rattle.disk_model.specs.Disk.{Files, Content, Image, Told, Unchanged}
+use Rattle.disk_model.specs.Disk.{Files, Content, Image, BothTold, Unchanged}
 use Rattle.disk_model.specs.Moments.{started, joined}
 use Rattle.mime_parts.specs.Words.{mail_words}
 use Rattle.arch_model.specs.Archives.{Archive}
@@ -19,7 +19,7 @@ use Rattle.arch_model.specs.declared.text_refusal.TextRefusal.{TextRefusal}
 use Rattle.arch_model.specs.declared.text_refusal.TextRefusal.TheVariants as reading
 use Rattle.store_finding.specs.Files.{epoch_file_of}
 use Rattle.epoch_store.specs.Reads.{line_of, HasTexts}
-use Rattle.store_finding.specs.Kept.{View, IsStoreWith}
+use Rattle.store_finding.specs.Kept.{StoreState, IsStoreWith}
 use Rattle.store_finding.specs.declared.entries.StoredEntry.{StoredEntry}
 use Rattle.view_set.specs.Viewed.{Viewed, with_mail, without_mail}
 use Rattle.archive_core.specs.Commands.{OnlyLooks}
@@ -31,12 +31,12 @@ lines_kept [] = []
 lines_kept (s ∷ ss) = line_of s ∷ lines_kept ss
 
 -- A disk tells its content, and each entry's text is in its place there.
-abbrev pub IsSound : View → Option Content → Type 0
+abbrev pub IsSound : StoreState → Option Content → Type 0
 IsSound v None = ⊥
 IsSound v (Some k) = HasTexts v k
 
 -- Why an archive wasn't opened whose entry, if it is there, has a text that wasn't read.
-abbrev pub unread_opening : View → Option StoredEntry → TextRefusal → OpenRefusal
+abbrev pub unread_opening : StoreState → Option StoredEntry → TextRefusal → OpenRefusal
 unread_opening v found reading.DiskFault = opening.DiskFault
 unread_opening v found reading.NoMemory = opening.NoMemory
 unread_opening v None (reading.Damaged named other) = opening.NoMemory
@@ -66,7 +66,7 @@ ViewsAfter command lost (answer.Ok number id) text moment old new =
 ViewsAfter command lost other text moment old new = new ≡ old
 
 -- An archive whose own disk is there is valid.
-pub store-valid : (v : View) (cache : List ℕ) (a : Archive) (k : Option Content)
+pub store-valid : (v : StoreState) (cache : List ℕ) (a : Archive) (k : Option Content)
     → IsStoreWith v cache a k → IsArchive a
 store-valid v cache a None store = absurd store
 store-valid v cache a (Some k) store = store.keeps.valid
@@ -80,7 +80,7 @@ module _ {D : Type 0} (content : D → Option Content) (moment : D → ℕ)
   pub looks-same : (d : D) → OnlyLooks content moment left_since d d
   looks-same d = record {
     same = told-same (content d);
-    any_moment = started moment left_since d (Image (content d)) (λ image left. only_now d image left);
+    crash = started moment left_since d (Image (content d)) (λ image left. only_now d image left);
   }
 
   -- A look after a look is one.
@@ -90,9 +90,9 @@ module _ {D : Type 0} (content : D → Option Content) (moment : D → ℕ)
       let one = unchanged-is (content d) (content e) first.same in
       let two = unchanged-is (content e) (content f) second.same in
       record {
-        same = subst (λ (k : Option Content). Told Unchanged (content d) k) (sym (two ∙ one))
+        same = subst (λ (k : Option Content). BothTold Unchanged (content d) k) (sym (two ∙ one))
             (told-same (content d));
-        any_moment = joined moment left_since d e f (Image (content d)) (Image (content e))
-            (Image (content d)) first.any_moment second.any_moment (λ image left. left)
+        crash = joined moment left_since d e f (Image (content d)) (Image (content e))
+            (Image (content d)) first.crash second.crash (λ image left. left)
             (λ image left. subst (λ (k : Option Content). Image k image) one left);
       }

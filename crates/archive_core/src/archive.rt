@@ -1,9 +1,10 @@
 //! An archive on a disk that is handed in. Each of its commands has the result of the definition.
+//! Writes the disk; syncs.
 ghost use Rattle.std.specs.Prelude.{true, false, Some, None, ◌≡◌, ◌≤◌, ◌<◌, ◌+◌, ◌-◌, ◌^◌, ℕ, length, slice_get, Err, IfOk, IfErr, List, Option};
 ghost use Rattle.arch_base.specs.Configs.{IsConfig};
 ghost use Rattle.arch_base.specs.Counts.{RoseIf};
-ghost use Rattle.arch_judge.specs.Indexes.{IsIndex};
-ghost use Rattle.disk_model.specs.Disk.{Told, WhereTold, LeavesOnly};
+ghost use Rattle.arch_judge.specs.Indexes.{IsArchiveIndex};
+ghost use Rattle.disk_model.specs.Disk.{BothTold, WhereTold, LeavesOnly};
 ghost use Rattle.disk_model.specs.Synced.{IsSettled};
 ghost use Rattle.root_slots.specs.Between.{RunsBetween};
 ghost use Rattle.root_slots.specs.Slots.{HasNewRoot};
@@ -19,12 +20,12 @@ ghost use Rattle.arch_model.specs.declared.answer.Answer.{Answer};
 ghost use Rattle.arch_model.specs.declared.command.Command.TheVariants as command;
 ghost use Rattle.arch_base.specs.Moments.{last_moment};
 ghost use Rattle.archive_core.specs.Openings.{RefusesKindly};
-ghost use Rattle.epoch_store.specs.Promises.{Adds, Appends, ChangesStore, MakesArchive, OpensArchive};
+ghost use Rattle.epoch_store.specs.Promises.{AddsMessage, Appends, ChangesStore, MakesArchive, OpensArchive};
 ghost use Rattle.epoch_store.specs.Reads.{HasTexts};
 ghost use Rattle.store_finding.specs.Kept.{IsStoreWith};
-ghost use Rattle.epoch_store.specs.Commands.{HasSizes, RecoversEitherWith, GoesOn};
-ghost use Rattle.archive_core.specs.DamageTold.{RefusesEntry, TellsDamage, TellsEntry};
-ghost use Rattle.archive_core.specs.Commands.{DoneBy, OnDone, OnRefusal, UnlessFault, OnlyLooks, AnswersRemoval, IfUnread, IfRefusedUnread, IsFaultRead, JudgesOn, left_without, TakesCommand, refusal_answer, unread_answer, damaged_place, IsNamed, IsTextAt, ReadsMessage, IsUnread, is_delivery, IfDelivery, TellsText, KeepsText, KeepsTextFor, IsGone};
+ghost use Rattle.epoch_store.specs.Commands.{StoreHasSizes, RecoversEitherWith, RootGoesOn};
+ghost use Rattle.archive_core.specs.DamageTold.{RefusesVerdict, TellsDamage, TellsEntry};
+ghost use Rattle.archive_core.specs.Commands.{DoneBy, OnDone, OnRefusal, UnlessFault, OnlyLooks, AnswersRemoval, IfUnread, IfRefusedUnread, IsFaultRead, JudgesOn, left_without, TakesCommand, refusal_answer, unread_answer, damaged_place, IsNamed, IsTextAt, ReadsMessage, IsTextUnread, is_delivery, IfDelivery, TellsText, KeepsText, KeepsTextFor, IsGone};
 
 use crate::placing::{MessagePlace, are_rising, end_place, may_follow, places_of};
 use crate::texts::{KeptText, end_text, put_text, take_text};
@@ -51,12 +52,12 @@ pub struct DiskArchive {
 }
 
 impl Model for DiskArchive {
-    ghost use Rattle.store_finding.specs.Kept.{View};
+    ghost use Rattle.store_finding.specs.Kept.{StoreState};
     ghost use Rattle.std.specs.Prelude.{◌≡◌};
     ghost use Rattle.store_finding.specs.Indexes.{IndexesStored};
     ghost use Rattle.archive_core.specs.Placing.{message_places, PlacesRise};
 
-    ghost Value = { View };
+    ghost Value = { StoreState };
 
     ghost view = { λ s. s.store };
 
@@ -123,7 +124,7 @@ impl DiskArchive {
     /// As `command_keeping` does, but it isn't told which text was kept, nor which number is gone.
     pub fn command<D: Disk>(&mut self, disk: &mut D, command: &Command<'_>, moment: u64) -> Answer
         requires moment { moment ≤ last_moment }
-        requires sizes { WhereTold (HasSizes self.old) (D.content disk.old) }
+        requires sizes { WhereTold (StoreHasSizes self.old) (D.content disk.old) }
         ensures taken { TakesCommand D.content D.moment D.left_since D.faults D.reads disk.old
             disk.new self.old self.new command.now (λ a. applied a command.now moment) result }
         // A delivery whose blob id no entry has reads nothing.
@@ -168,7 +169,7 @@ impl DiskArchive {
     ) -> Answer
         requires none { gone.old ≡ None }
         requires moment { moment ≤ last_moment }
-        requires sizes { WhereTold (HasSizes self.old) (D.content disk.old) }
+        requires sizes { WhereTold (StoreHasSizes self.old) (D.content disk.old) }
         ensures taken { TakesCommand D.content D.moment D.left_since D.faults D.reads disk.old
             disk.new self.old self.new command.now (λ a. applied a command.now moment) result }
         // A delivery whose blob id no entry has reads nothing.
@@ -201,7 +202,7 @@ impl DiskArchive {
         kept: &mut KeptText,
     ) -> Answer
         requires moment { moment ≤ last_moment }
-        requires sizes { WhereTold (HasSizes self.old) (D.content disk.old) }
+        requires sizes { WhereTold (StoreHasSizes self.old) (D.content disk.old) }
         ensures taken { TakesCommand D.content D.moment D.left_since D.faults D.reads disk.old
             disk.new self.old self.new (command.Deliver bytes.entry)
             (λ a. delivered a bytes.now moment) result }
@@ -245,11 +246,11 @@ impl DiskArchive {
         ensures looks { OnlyLooks D.content D.moment D.left_since disk.old disk.new }
         ensures unmoved { IfRefusedUnread result (disk.new ≡ disk.old) }
         ensures cause { RoseIf (IsFaultRead result) (D.faults disk.old) (D.faults disk.new) }
-        ensures damage { RefusesEntry self.now (D.content disk.old) result }
+        ensures damage { RefusesVerdict self.now (D.content disk.old) result }
         ensures count { ReadsOnce (D.reads disk.old) (D.reads disk.new) }
         ensures unread { (a : Archive) (cache : List ℕ) (gone : Option (List ℕ))
             → IsStoreWith self.now cache a (D.content disk.old)
-            → IsIndex (left_without a gone).entries index.now
+            → IsArchiveIndex (left_without a gone).entries index.now
             → form_known (left_without a gone) (stored bytes.now) ≡ false
             → D.reads disk.new ≡ D.reads disk.old }
     {
@@ -270,7 +271,7 @@ impl DiskArchive {
     pub(crate) fn message_text<D: Disk>(&self, disk: &mut D, number: u32) -> Result<Bytes, Answer>
         ensures text { (a : Archive) (cache : List ℕ)
             → IsStoreWith self.now cache a (D.content disk.old) → ReadsMessage a number result }
-        ensures unread { IfErr result IsUnread }
+        ensures unread { IfErr result IsTextUnread }
         ensures damage { IfErr result (TellsEntry self.now (D.content disk.old)) }
         ensures looks { OnlyLooks D.content D.moment D.left_since disk.old disk.new }
         ensures cause { RoseIf (result ≡ Err Answer.DiskFault) (D.faults disk.old) (D.faults disk.new) }
@@ -323,7 +324,7 @@ impl DiskArchive {
     /// Removes a message, or refuses. Reads at most once.
     fn remove<D: Disk>(&mut self, disk: &mut D, number: u32, moment: u64) -> Answer
         requires moment { moment ≤ last_moment }
-        requires sizes { WhereTold (HasSizes self.old) (D.content disk.old) }
+        requires sizes { WhereTold (StoreHasSizes self.old) (D.content disk.old) }
         ensures taken { TakesCommand D.content D.moment D.left_since D.faults D.reads disk.old
             disk.new self.old self.new (command.Remove number) (λ a. removed a number moment) result }
     {
@@ -357,8 +358,8 @@ impl DiskArchive {
         requires writable { self.old.root.config.mirror ≡ false }
         requires live { IsLiveAt self.old.entries number index }
         requires text { IsTextAt self.old.entries index text.now }
-        requires sizes { WhereTold (HasSizes self.old) (D.content disk.old) }
-        ensures any_moment { (a : Archive) (cache : List ℕ)
+        requires sizes { WhereTold (StoreHasSizes self.old) (D.content disk.old) }
+        ensures crash { (a : Archive) (cache : List ℕ)
             → IsStoreWith self.old cache a (D.content disk.old)
             → self.old.root.sequence + 1 < 2 ^ 64
             → text_of (live a.entries) number ≡ Some text.now
@@ -370,20 +371,20 @@ impl DiskArchive {
             → text_of (live a.entries) number ≡ Some text.now
             → DoneBy self.new cache cache a (removed a number moment) result (D.content disk.new) }
         ensures settled { OnDone result (WhereTold IsSettled (D.content disk.new)) }
-        ensures goes_on { OnDone result (GoesOn self.old.root self.new.root) }
+        ensures goes_on { OnDone result (RootGoesOn self.old.root self.new.root) }
         ensures slot { OnDone result (self.new.slot ≡ 1 - self.old.slot) }
         ensures same { OnRefusal result (self.new ≡ self.old) }
         ensures untouched { OnRefusal result (UnlessFault result (disk.new ≡ disk.old)) }
         // Its answers come after the text was read.
         ensures read { IfUnread result ⊥ }
-        ensures sizes { UnlessFault result (WhereTold (HasSizes self.new) (D.content disk.new)) }
+        ensures sizes { UnlessFault result (WhereTold (StoreHasSizes self.new) (D.content disk.new)) }
         ensures cause { RoseIf (result ≡ Answer.DiskFault) (D.faults disk.old) (D.faults disk.new) }
         ensures for_command { AnswersRemoval number result }
         ensures damage { TellsDamage self.old (D.content disk.old) result }
         ensures count { D.reads disk.new ≡ D.reads disk.old }
-        ensures rooted { OnDone result (Told (HasNewRoot self.new.slot (spelling self.new.root))
+        ensures rooted { OnDone result (BothTold (HasNewRoot self.new.slot (spelling self.new.root))
             (D.content disk.old) (D.content disk.new)) }
-        ensures between { RunsBetween D.content D.moment D.left_since disk.old disk.new }
+        ensures crash_between { RunsBetween D.content D.moment D.left_since disk.old disk.new }
     {
         if !self.is_named(index, text) {
             return self.damaged(index);
@@ -418,9 +419,9 @@ impl DiskArchive {
     ) -> Result<(), StoreRefusal>
         requires may { MayGoIn self.old text.now ids.now }
         requires moment { moment ≤ last_moment }
-        requires sizes { WhereTold (HasSizes self.old) (D.content disk.old) }
+        requires sizes { WhereTold (StoreHasSizes self.old) (D.content disk.old) }
         ensures changes { ChangesStore D.content D.moment D.left_since D.faults D.reads disk.old disk.new
-            self.old self.new Appends (Adds text.now moment) result }
+            self.old self.new Appends (AddsMessage text.now moment) result }
     {
         let number = self.store.next_number();
         let entry = self.store.stored().len();

@@ -1,10 +1,11 @@
 //! An archive on a disk that is opened to be counted.
+//! Writes the disk; syncs.
 ghost use Rattle.std.specs.Prelude.{◌≡◌, count_by, length};
 ghost use Rattle.arch_model.specs.Archives.{Archive, live};
 ghost use Rattle.archive_core.specs.Openings.{RefusesKindly};
 ghost use Rattle.archive_core.specs.declared.placing.MessagePlace.{MessagePlace};
 ghost use Rattle.epoch_store.specs.Promises.{OpensArchive};
-ghost use Rattle.store_finding.specs.Kept.{Keeps};
+ghost use Rattle.store_finding.specs.Kept.{KeepsArchive};
 
 use crate::placing::{MessagePlace, places_of};
 use arch_model::OpenRefusal;
@@ -24,11 +25,11 @@ pub struct CountedArchive {
 }
 
 impl Model for CountedArchive {
-    ghost use Rattle.store_finding.specs.Kept.{View};
+    ghost use Rattle.store_finding.specs.Kept.{StoreState};
     ghost use Rattle.epoch_store.specs.Commands.{live_kept};
     ghost use Rattle.std.specs.Prelude.{◌≡◌, length};
 
-    ghost Value = { View };
+    ghost Value = { StoreState };
 
     ghost view = { λ c. c.store };
 
@@ -65,7 +66,7 @@ impl CountedArchive {
 
     /// Returns the number of live messages.
     pub fn message_count(&self) -> u32
-        ensures { (a : Archive) → Keeps self.now a → result ≡ length (live a.entries) }
+        ensures { (a : Archive) → KeepsArchive self.now a → result ≡ length (live a.entries) }
     {
         // There are no more messages than numbers.
         self.live.min(u64::from(u32::MAX)) as u32

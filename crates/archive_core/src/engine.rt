@@ -1,22 +1,23 @@
 //! An archive that owns its disk.
+//! Writes the disk; syncs.
 ghost use Rattle.std.specs.Prelude.{◌≡◌, ◌≤◌, true, false, IfOk, IfErr, OnErr, Err, List, None, not, ◌||◌, is_ok, is_some, length, ℕ};
 ghost use Rattle.arch_base.specs.Configs.{IsConfig};
 ghost use Rattle.arch_base.specs.Moments.{last_moment};
 ghost use Rattle.disk_model.specs.Disk.{LeavesOnly};
 ghost use Rattle.arch_model.specs.Archives.{Archive, live, text_of};
 ghost use Rattle.arch_model.specs.Delivery.{applied};
-ghost use Rattle.arch_model.specs.Keeping.{Fits, Moves, Comes, StaysReady, AnswerCause, ReadsFor, text_known};
-ghost use Rattle.arch_model.specs.Shelves.{GivesBlobIn, AppendsTo, Stays, ReadCause, ReadsOnce};
-ghost use Rattle.arch_model.specs.Standing.{Standing, standing, GivesTextIn, KeepsUnlessFound};
+ghost use Rattle.arch_model.specs.Keeping.{MatchesKnown, KeeperMoves, CommandGives, StaysReady, AnswerCause, ReadsFor, text_known};
+ghost use Rattle.arch_model.specs.Shelves.{GivesBlobIn, AppendsTo, ShelfStays, ReadCause, ReadsOnce};
+ghost use Rattle.arch_model.specs.Standing.{LastKnown, standing, GivesTextIn, KeepsUnlessFound};
 ghost use Rattle.epoch_store.specs.Opens.{ReadsWith};
 ghost use Rattle.epoch_store.specs.Promises.{MakesArchive, OpensArchive};
 ghost use Rattle.store_finding.specs.Kept.{IsStoreWith};
 ghost use Rattle.epoch_store.specs.Commands.{RecoversOneOf};
 ghost use Rattle.archive_core.specs.Commands.{DoneBy, OnDone, IfUnreadFor, IfRemoval, cache_left, IsForCommand, is_delivery};
 ghost use Rattle.archive_core.specs.DamageTold.{TellsDamage};
-ghost use Rattle.archive_core.specs.Engines.{Holds, Rests, IfRefused, Leaves, ReadsOn, is_ready, needs_opening as needs_opening_after, reading-same, reading-joined, store-left, holds-rest, now-left, reading-kept};
+ghost use Rattle.archive_core.specs.Engines.{HoldsArchive, FilesAre, IfRefused, Leaves, OnlyReadsOn, is_ready, needs_opening as needs_opening_after, reading-same, reading-joined, store-left, holds-rest, now-left, reading-kept};
 ghost use Rattle.archive_core.specs.HandedBack.{disk_made, made_or_why, disk_opened, opened_or_why};
-ghost use Rattle.archive_core.specs.Numbers.{GivesTextKept, GivesBlobKept, Names};
+ghost use Rattle.archive_core.specs.Numbers.{GivesTextKept, GivesBlobKept, NamesId};
 ghost use Rattle.archive_core.specs.Openings.{RefusesKindly};
 ghost use Rattle.view_set.specs.Viewed.{no_mails, views_of};
 
@@ -147,7 +148,7 @@ impl<D: Disk> Engine<D> {
 
     /// Returns the number of live messages.
     pub fn message_count(&self) -> u32
-        ensures { (a : Archive) → Holds D.content self.now a → result ≡ length (live a.entries) }
+        ensures { (a : Archive) → HoldsArchive D.content self.now a → result ≡ length (live a.entries) }
     {
         // There are no more messages than numbers.
         self.views.live_count(0, u32::MAX).min(u64::from(u32::MAX)) as u32
@@ -159,7 +160,7 @@ impl<D: Disk> Engine<D> {
         requires ready { self.old.stale ≡ false }
         requires moment { moment ≤ last_moment }
         // A crash in it leaves the archive before the command, or the one after it.
-        ensures any_moment { (a : Archive) (cache : List ℕ)
+        ensures crash { (a : Archive) (cache : List ℕ)
             → IsStoreWith self.old.view cache a (D.content self.old.disk)
             → LeavesOnly D.moment D.left_since self.old.disk self.new.disk
             (RecoversOneOf cache a (cache_left command.now cache) (applied a command.now moment).archive) }
@@ -169,19 +170,19 @@ impl<D: Disk> Engine<D> {
             (applied a command.now moment) result
             (D.content self.new.disk) }
         // As a keeper's.
-        ensures stands { (a : Archive) → Holds D.content self.old a → (t : Standing)
-            × Moves (Holds D.content) (Rests D.content) is_ready
+        ensures stands { (a : Archive) → HoldsArchive D.content self.old a → (t : LastKnown)
+            × KeeperMoves (HoldsArchive D.content) (FilesAre D.content) is_ready
             (Leaves D.content D.moment D.left_since) self.old (standing a None) self.new t
-            × Comes true (standing a None) (λ (b : Archive). applied b command.now moment) result t }
+            × CommandGives true (standing a None) (λ (b : Archive). applied b command.now moment) result t }
         ensures ready { StaysReady true result (is_ready self.new) }
         // After a removal or a purge that was done the archive after it is held, rows included, even if the
         // engine has to be reopened for its threads.
         ensures removed { IfRemoval (is_delivery command.now)
-            ((a : Archive) → Holds D.content self.old a
-            → OnDone result (Holds D.content self.new (applied a command.now moment).archive)) }
+            ((a : Archive) → HoldsArchive D.content self.old a
+            → OnDone result (HoldsArchive D.content self.new (applied a command.now moment).archive)) }
         // A refusal by the rules, and `NoMemory`, change nothing but what reading changes, and a
         // refusal before which no text is read changes nothing at all.
-        ensures untouched { IfRefused result (ReadsOn D.content D.moment D.left_since self.old
+        ensures untouched { IfRefused result (OnlyReadsOn D.content D.moment D.left_since self.old
             self.new) }
         ensures unmoved { IfUnreadFor command.now result (self.new ≡ self.old) }
         ensures for_command { IsForCommand command.now result }
@@ -221,7 +222,7 @@ impl<D: Disk> Engine<D> {
 }
 
 impl<D: Disk> Shelf for Engine<D> {
-    ghost holds = { Holds D.content };
+    ghost holds = { HoldsArchive D.content };
 
     ghost ready = { is_ready };
 
@@ -229,7 +230,7 @@ impl<D: Disk> Shelf for Engine<D> {
 
     ghost faults = { λ e. D.faults e.disk };
 
-    ghost alike = { ReadsOn D.content D.moment D.left_since };
+    ghost alike = { OnlyReadsOn D.content D.moment D.left_since };
 
     fn config(&self) -> &Config {
         self.archive.config()
@@ -281,13 +282,14 @@ impl<D: Disk> Shelf for Engine<D> {
 
     fn text(&mut self, n: u32, into: &mut Bytes) -> Result<(), TextRefusal>
         requires ready { is_ready self.old ≡ true }
-        requires live { (a : Archive) → Holds D.content self.old a
+        requires live { (a : Archive) → HoldsArchive D.content self.old a
             → is_some (text_of (live a.entries) n) ≡ true }
-        ensures text { (a : Archive) → Holds D.content self.old a
+        ensures text { (a : Archive) → HoldsArchive D.content self.old a
             → GivesTextIn (live a.entries) n into.old into.new result }
         ensures refused { OnErr result (into.new ≡ into.old) }
         ensures appends { AppendsTo into.old into.new }
-        ensures shelf { Stays (Holds D.content) is_ready (ReadsOn D.content D.moment D.left_since)
+        ensures shelf { ShelfStays (HoldsArchive D.content) is_ready
+            (OnlyReadsOn D.content D.moment D.left_since)
             (λ e. D.faults e.disk) self.old self.new }
         ensures cause { ReadCause (D.faults self.old.disk) (D.faults self.new.disk) result }
         ensures reads { ReadsOnce (D.reads self.old.disk) (D.reads self.new.disk) }
@@ -305,16 +307,17 @@ impl<D: Disk> Shelf for Engine<D> {
 
     fn blob(&mut self, id: &ObjectId, into: &mut Bytes) -> Result<bool, TextRefusal>
         requires ready { is_ready self.old ≡ true }
-        ensures blob { (a : Archive) → Holds D.content self.old a
+        ensures blob { (a : Archive) → HoldsArchive D.content self.old a
             → GivesBlobIn a.entries id.now.0 into.old into.new result }
         ensures kept { KeepsUnlessFound into.old into.new result }
         ensures appends { AppendsTo into.old into.new }
-        ensures shelf { Stays (Holds D.content) is_ready (ReadsOn D.content D.moment D.left_since)
+        ensures shelf { ShelfStays (HoldsArchive D.content) is_ready
+            (OnlyReadsOn D.content D.moment D.left_since)
             (λ e. D.faults e.disk) self.old self.new }
         ensures cause { ReadCause (D.faults self.old.disk) (D.faults self.new.disk) result }
         ensures reads { ReadsOnce (D.reads self.old.disk) (D.reads self.new.disk) }
         // Beyond any shelf: a damaged text is told by this id, and by that of the bytes there.
-        ensures named { Names id.now result }
+        ensures named { NamesId id.now result }
         ensures ids { GivesBlobKept self.old.view (D.content self.old.disk) id.now into.old into.new
             result }
     {
@@ -328,7 +331,7 @@ impl<D: Disk> Shelf for Engine<D> {
 }
 
 impl<D: Disk> Keep for Engine<D> {
-    ghost rests = { Rests D.content };
+    ghost files_are = { FilesAre D.content };
 
     ghost leaves = { Leaves D.content D.moment D.left_since };
 
@@ -369,25 +372,25 @@ impl<D: Disk> Keep for Engine<D> {
     /// run out for the threads alone. `Damaged` never comes while an archive is held.
     fn command(&mut self, command: &Command<'_>, moment: u64) -> Answer
         requires moment { moment ≤ last_moment }
-        ensures done { (s : Standing)
-            → Fits (Holds D.content) (Rests D.content) is_ready
+        ensures done { (s : LastKnown)
+            → MatchesKnown (HoldsArchive D.content) (FilesAre D.content) is_ready
             (Leaves D.content D.moment D.left_since) self.old s
-            → (t : Standing) × Moves (Holds D.content) (Rests D.content) is_ready
+            → (t : LastKnown) × KeeperMoves (HoldsArchive D.content) (FilesAre D.content) is_ready
             (Leaves D.content D.moment D.left_since) self.old s self.new t
-            × Comes (is_ready self.old) s (λ (a : Archive). applied a command.now moment) result t }
+            × CommandGives (is_ready self.old) s (λ (a : Archive). applied a command.now moment) result t }
         ensures ready { StaysReady (is_ready self.old) result (is_ready self.new) }
         ensures later { D.faults self.old.disk ≤ D.faults self.new.disk }
         ensures cause { AnswerCause (D.faults self.old.disk) (D.faults self.new.disk) result }
         ensures reads { is_ready self.old ≡ true
             → ReadsFor command.now (D.reads self.old.disk) (D.reads self.new.disk) }
-        ensures unread { (a : Archive) → Holds D.content self.old a → is_ready self.old ≡ true
+        ensures unread { (a : Archive) → HoldsArchive D.content self.old a → is_ready self.old ≡ true
             → text_known a command.now ≡ false → D.reads self.new.disk ≡ D.reads self.old.disk }
         // Beyond any keeper. Each command gives only the answers of its kind.
         ensures for_command { IsForCommand command.now result }
         // The rest is said of an archive that needn't be reopened. A crash leaves the archive before the
         // command, or the one after it, and the disk is then that of the one that the answer tells, both
         // with this cache.
-        ensures any_moment { (a : Archive) (cache : List ℕ) → is_ready self.old ≡ true
+        ensures crash { (a : Archive) (cache : List ℕ) → is_ready self.old ≡ true
             → IsStoreWith self.old.view cache a (D.content self.old.disk)
             → LeavesOnly D.moment D.left_since self.old.disk self.new.disk
             (RecoversOneOf cache a (cache_left command.now cache) (applied a command.now moment).archive) }
@@ -398,12 +401,12 @@ impl<D: Disk> Keep for Engine<D> {
         // After a removal or a purge that was done the archive after it is held, rows included, even if the
         // engine has to be reopened for its threads.
         ensures removed { is_ready self.old ≡ true → IfRemoval (is_delivery command.now)
-            ((a : Archive) → Holds D.content self.old a
-            → OnDone result (Holds D.content self.new (applied a command.now moment).archive)) }
+            ((a : Archive) → HoldsArchive D.content self.old a
+            → OnDone result (HoldsArchive D.content self.new (applied a command.now moment).archive)) }
         // A refusal by the rules, and `NoMemory`, change nothing but what reading changes, and a
         // refusal before which no text is read changes nothing at all.
         ensures untouched { is_ready self.old ≡ true
-            → IfRefused result (ReadsOn D.content D.moment D.left_since self.old self.new) }
+            → IfRefused result (OnlyReadsOn D.content D.moment D.left_since self.old self.new) }
         ensures unmoved { is_ready self.old ≡ true
             → IfUnreadFor command.now result (self.new ≡ self.old) }
         // `Damaged` has the place of an entry whose text isn't there, or a file that is too short.
@@ -420,7 +423,7 @@ impl<D: Disk> Keep for Engine<D> {
         self.archive.epoch_bytes(&mut self.disk, epoch, into)
     }
 
-    ghost holds_rests = { λ e a store.
+    ghost holds_files_are = { λ e a store.
         holds-rest D.content D.moment D.left_since D.counts_now D.only_now e a store };
 
     ghost holds_left = { λ e a may store has.

@@ -1,4 +1,5 @@
 //! The index of the entries that a store keeps after a purge or an edit.
+//! Allocates.
 ghost use Rattle.std.specs.Prelude.{IfOk};
 ghost use Rattle.archive_core.specs.Kept.{IndexesKept};
 ghost use Rattle.store_planning.specs.Dropping.{without_blob};

@@ -1,5 +1,8 @@
-//! An archive on a disk that takes commands: its store, an index of its messages by their ids, and
-//! the rows and threads of its live messages.
+//! An archive on a disk that takes commands.
+//! Writes the disk; syncs.
+//!
+//! It has its store, an index of its messages by their ids, and the rows and threads of its live
+//! messages.
 #![tactic(auto)]
 
 mod archive;

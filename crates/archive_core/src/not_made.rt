@@ -1,4 +1,5 @@
 //! A disk that is handed back because no archive was created or opened on it.
+//! Pure.
 use arch_model::OpenRefusal;
 use epoch_store::InitRefusal;
 

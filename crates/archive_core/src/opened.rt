@@ -1,5 +1,5 @@
-//! An archive that was opened on a disk, with the rows, threads and words of its live
-//! messages.
+//! An archive that was opened on a disk, with the rows, threads and words of its live messages.
+//! Writes the disk; syncs.
 ghost use Rattle.std.specs.Prelude.{◌≡◌, ℕ, List, Err, IfOk, slice_get};
 ghost use Rattle.arch_base.specs.Counts.{RoseIf};
 ghost use Rattle.arch_model.specs.Archives.{Archive, live};

@@ -1,6 +1,7 @@
 //! Where the messages of an archive on a disk are, by their numbers.
+//! Allocates.
 ghost use Rattle.std.specs.Prelude.{◌≡◌, true, IfOk, OnOk, length};
-ghost use Rattle.archive_core.specs.Placing.{message_places, PlacesBy, PlacesRise, MayFollow, IsPlaceOf, IsLiveWith, ends_place, has_blob_at};
+ghost use Rattle.archive_core.specs.Placing.{message_places, PlacesBy, PlacesRise, PlaceMayFollow, IsPlaceOfNumber, IsLiveWith, ends_place, has_blob_at};
 ghost use Rattle.store_planning.specs.Dropping.{without_blob};
 
 use arch_base::{NoMemory, ObjectId};
@@ -140,7 +141,7 @@ pub(crate) fn are_rising(places: &[MessagePlace]) -> bool
 
 /// Returns whether a number is above those of all places, which rise.
 pub(crate) fn may_follow(places: &[MessagePlace], number: u32) -> bool
-    ensures { result ≡ true → MayFollow places.now number }
+    ensures { result ≡ true → PlaceMayFollow places.now number }
 {
     match places.last() {
         None => true,
@@ -159,7 +160,7 @@ pub(crate) fn end_place(places: &mut [MessagePlace], number: u32)
 
 /// Returns the index of a place of a number, or `None` if there is none.
 pub(crate) fn place_index(places: &[MessagePlace], number: u32) -> Option<usize>
-    ensures { IsPlaceOf places.now number result }
+    ensures { IsPlaceOfNumber places.now number result }
 {
     let index = places.partition_point(|place| place.number < number);
     match places.get(index) {

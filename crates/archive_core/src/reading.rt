@@ -1,14 +1,15 @@
 //! Reads an archive on a disk: its messages by their numbers, and its epochs.
+//! Reads the disk.
 ghost use Rattle.std.specs.Prelude.{◌≡◌, ◌≤◌, ◌<◌, ◌+◌, ◌^◌, ◌↔◌, ℕ, List, true, Err, IsTrue, IfSome, OnErr, is_some};
 ghost use Rattle.arch_base.specs.Counts.{RoseIf};
-ghost use Rattle.disk_model.specs.Disk.{Image, Told, Unchanged, LeavesOnly};
+ghost use Rattle.disk_model.specs.Disk.{Image, BothTold, Unchanged, LeavesOnly};
 ghost use Rattle.arch_model.specs.Archives.{Archive, live, messages, in_epoch, text_of, blob_number};
 ghost use Rattle.arch_model.specs.Shelves.{line_at, GivesBlobIn, AppendsTo};
 ghost use Rattle.arch_model.specs.Standing.{GivesTextIn, GivesEpochIn, KeepsUnlessFound};
 ghost use Rattle.arch_model.specs.declared.text_refusal.TextRefusal.{TextRefusal};
 ghost use Rattle.epoch_store.specs.Reads.{AnswersQuietly};
-ghost use Rattle.store_finding.specs.Kept.{IsStoreWith, Keeps};
-ghost use Rattle.archive_core.specs.Numbers.{has_live, IsMessageAt, IsLiveAt, HasBlobAt, IsBlobIndex, GivesTextKept, GivesBlobKept, Names, TellsOther};
+ghost use Rattle.store_finding.specs.Kept.{IsStoreWith, KeepsArchive};
+ghost use Rattle.archive_core.specs.Numbers.{has_live, IsMessageAt, IsLiveAt, HasBlobAt, IsBlobIndex, GivesTextKept, GivesBlobKept, NamesId, TellsOther};
 
 use crate::archive::DiskArchive;
 use crate::placing::place_index;
@@ -27,7 +28,7 @@ impl DiskArchive {
     /// Returns the index of the entry of a number's message, live or not, or `None` if there is none.
     pub(crate) fn message_index(&self, n: u32) -> Option<u64>
         ensures known { IfSome result (IsMessageAt self.now.entries n) }
-        ensures message { (a : Archive) → Keeps self.now a
+        ensures message { (a : Archive) → KeepsArchive self.now a
             → is_some (text_of (messages a.entries) n) ≡ is_some result }
     {
         match place_index(self.places.as_slice(), n) {
@@ -39,7 +40,7 @@ impl DiskArchive {
     /// Returns the index of the entry of a live message, or `None` if its number isn't live.
     pub(crate) fn live_index(&self, n: u32) -> Option<u64>
         ensures known { IfSome result (IsLiveAt self.now.entries n) }
-        ensures live { (a : Archive) → Keeps self.now a
+        ensures live { (a : Archive) → KeepsArchive self.now a
             → is_some (text_of (live a.entries) n) ≡ is_some result }
     {
         match place_index(self.places.as_slice(), n) {
@@ -57,7 +58,7 @@ impl DiskArchive {
 
     /// Returns the entry at an index, from 0, without its text, or `None` if there are not so many.
     pub fn entry(&self, index: u64) -> Option<EntryLine>
-        ensures { (a : Archive) → Keeps self.now a → result ≡ line_at a.entries index }
+        ensures { (a : Archive) → KeepsArchive self.now a → result ≡ line_at a.entries index }
     {
         self.store.entry(index)
     }
@@ -65,7 +66,7 @@ impl DiskArchive {
     /// Returns whether a number is live.
     pub fn has_text(&self, n: u32) -> bool
         ensures known { result ≡ true → has_live self.now.entries n ≡ true }
-        ensures text { (a : Archive) → Keeps self.now a
+        ensures text { (a : Archive) → KeepsArchive self.now a
             → is_some (text_of (live a.entries) n) ≡ result }
     {
         self.live_index(n).is_some()
@@ -85,8 +86,8 @@ impl DiskArchive {
             → GivesTextIn (live a.entries) n into.old into.new result }
         ensures kept { GivesTextKept self.now (D.content disk.old) n into.old into.new result }
         ensures refused { OnErr result (into.new ≡ into.old) }
-        ensures same { Told Unchanged (D.content disk.old) (D.content disk.new) }
-        ensures any_moment { LeavesOnly D.moment D.left_since disk.old disk.new
+        ensures same { BothTold Unchanged (D.content disk.old) (D.content disk.new) }
+        ensures crash { LeavesOnly D.moment D.left_since disk.old disk.new
             (Image (D.content disk.old)) }
         ensures cause { RoseIf (result ≡ Err TextRefusal.DiskFault) (D.faults disk.old)
             (D.faults disk.new) }
@@ -115,12 +116,12 @@ impl DiskArchive {
             → IsStoreWith self.now cache a (D.content disk.old)
             → GivesBlobIn a.entries id.now.0 into.old into.new result }
         ensures read { GivesBlobKept self.now (D.content disk.old) id.now into.old into.new result }
-        ensures named { Names id.now result }
+        ensures named { NamesId id.now result }
         ensures other { TellsOther result }
         ensures kept { KeepsUnlessFound into.old into.new result }
         ensures appends { AppendsTo into.old into.new }
-        ensures same { Told Unchanged (D.content disk.old) (D.content disk.new) }
-        ensures any_moment { LeavesOnly D.moment D.left_since disk.old disk.new
+        ensures same { BothTold Unchanged (D.content disk.old) (D.content disk.new) }
+        ensures crash { LeavesOnly D.moment D.left_since disk.old disk.new
             (Image (D.content disk.old)) }
         ensures cause { RoseIf (result ≡ Err TextRefusal.DiskFault) (D.faults disk.old)
             (D.faults disk.new) }
@@ -139,7 +140,7 @@ impl DiskArchive {
     /// Returns the index, from 0, of an entry with a blob id, or `None` if there is none.
     fn blob_index(&self, id: &ObjectId) -> Option<u64>
         ensures known { IfSome result (HasBlobAt self.now.entries id.now) }
-        ensures index { (a : Archive) → Keeps self.now a
+        ensures index { (a : Archive) → KeepsArchive self.now a
             → IsBlobIndex a.entries id.now.0 result }
     {
         let Some(number) = self.number_of(id) else {
@@ -167,7 +168,7 @@ impl DiskArchive {
 
     /// Returns the number of the first entry with a blob id.
     fn number_of(&self, id: &ObjectId) -> Option<u32>
-        ensures { (a : Archive) → Keeps self.now a → result ≡ blob_number a.entries id.now.0 }
+        ensures { (a : Archive) → KeepsArchive self.now a → result ≡ blob_number a.entries id.now.0 }
     {
         self.index.number(id)
     }
@@ -189,8 +190,8 @@ impl DiskArchive {
         ensures kept { KeepsUnlessFound into.old into.new result }
         ensures appends { AppendsTo into.old into.new }
         ensures undamaged { AnswersQuietly result }
-        ensures same { Told Unchanged (D.content disk.old) (D.content disk.new) }
-        ensures any_moment { LeavesOnly D.moment D.left_since disk.old disk.new
+        ensures same { BothTold Unchanged (D.content disk.old) (D.content disk.new) }
+        ensures crash { LeavesOnly D.moment D.left_since disk.old disk.new
             (Image (D.content disk.old)) }
         ensures cause { RoseIf (result ≡ Err TextRefusal.DiskFault) (D.faults disk.old)
             (D.faults disk.new) }

@@ -1,4 +1,5 @@
 //! Purges and edits of an archive on a disk.
+//! Writes the disk; syncs.
 ghost use Rattle.std.specs.Prelude.{Some, None, ◌≡◌, ◌≤◌, ℕ, Err, IfErr, IfOk, OnOk, List};
 ghost use Rattle.arch_base.specs.Counts.{RoseIf};
 ghost use Rattle.arch_base.specs.Moments.{last_moment};
@@ -8,8 +9,8 @@ ghost use Rattle.git_objects.specs.Objects.{blob_id_of};
 ghost use Rattle.arch_model.specs.Archives.{Archive, live, messages, text_of, without_entries};
 ghost use Rattle.arch_model.specs.Delivery.{delivered, edited, purged, unless_refused};
 ghost use Rattle.epoch_store.specs.Promises.{ChangesStore, Drops, Renews, Replaces};
-ghost use Rattle.epoch_store.specs.Commands.{EditsFiles, HasSizes, KeepsFiles, MayPurge};
-ghost use Rattle.store_finding.specs.Kept.{IsStoreWith, Keeps};
+ghost use Rattle.epoch_store.specs.Commands.{EditsFiles, StoreHasSizes, KeepsFiles, MayPurge};
+ghost use Rattle.store_finding.specs.Kept.{IsStoreWith, KeepsArchive};
 ghost use Rattle.store_planning.specs.Dropping.{without_blob};
 ghost use Rattle.archive_core.specs.Commands.{IfUnread, IsGone, IsLiveOf, KeepsText, KeepsTextFor, OnDone, OnlyLooks, TakesCommand, TellsText};
 ghost use Rattle.archive_core.specs.DamageTold.{TellsEntry};
@@ -42,7 +43,7 @@ impl DiskArchive {
         gone: &mut Option<u32>,
     ) -> Answer
         requires none { gone.old ≡ None }
-        requires sizes { WhereTold (HasSizes self.old) (D.content disk.old) }
+        requires sizes { WhereTold (StoreHasSizes self.old) (D.content disk.old) }
         ensures taken { TakesCommand D.content D.moment D.left_since D.faults D.reads disk.old
             disk.new self.old self.new (command.Purge number) (λ a. purged a number) result }
         ensures gone { (a : Archive) (cache : List ℕ)
@@ -76,11 +77,11 @@ impl DiskArchive {
         blob: &ObjectId,
     ) -> Result<Option<u32>, StoreRefusal>
         requires may { (number : ℕ) × MayPurge self.old number blob.now }
-        requires sizes { WhereTold (HasSizes self.old) (D.content disk.old) }
+        requires sizes { WhereTold (StoreHasSizes self.old) (D.content disk.old) }
         ensures changes { ChangesStore D.content D.moment D.left_since D.faults D.reads disk.old disk.new
             self.old self.new Renews (Drops blob.now) (bare result) }
         ensures kept_files { OnOk result (KeepsFiles self.old self.new blob.now) }
-        ensures lives { (number : ℕ) (a : Archive) (text : List ℕ) → Keeps self.old a
+        ensures lives { (number : ℕ) (a : Archive) (text : List ℕ) → KeepsArchive self.old a
             → text_of (messages a.entries) number ≡ Some text → blob_id_of text ≡ blob.now
             → IfOk result (IsLiveOf (live a.entries) text) }
     {
@@ -114,7 +115,7 @@ impl DiskArchive {
     ) -> Answer
         requires none { gone.old ≡ None }
         requires moment { moment ≤ last_moment }
-        requires sizes { WhereTold (HasSizes self.old) (D.content disk.old) }
+        requires sizes { WhereTold (StoreHasSizes self.old) (D.content disk.old) }
         ensures taken { TakesCommand D.content D.moment D.left_since D.faults D.reads disk.old
             disk.new self.old self.new (command.Edit number bytes.entry)
             (λ a. edited a number bytes.now moment) result }
@@ -193,7 +194,7 @@ impl DiskArchive {
     ) -> Answer
         requires may { MayPurge self.old number blob.now }
         requires moment { moment ≤ last_moment }
-        requires sizes { WhereTold (HasSizes self.old) (D.content disk.old) }
+        requires sizes { WhereTold (StoreHasSizes self.old) (D.content disk.old) }
         ensures edits { EditsAs D.content D.moment D.left_since D.faults disk.old disk.new self.old
             self.new number bytes.now moment result }
         ensures kept_files { OnDone result (EditsFiles self.old self.new blob.now) }
@@ -251,7 +252,7 @@ impl DiskArchive {
         requires may { MayReplace self.old old.now text.now ids.now }
         requires index { IndexesKept (without_blob self.old.entries old.now.0) index }
         requires moment { moment ≤ last_moment }
-        requires sizes { WhereTold (HasSizes self.old) (D.content disk.old) }
+        requires sizes { WhereTold (StoreHasSizes self.old) (D.content disk.old) }
         ensures changes { ChangesStore D.content D.moment D.left_since D.faults D.reads disk.old disk.new
             self.old self.new Renews (Replaces old.now text.now moment) result }
         ensures kept_files { OnOk result (EditsFiles self.old self.new old.now) }

@@ -1,4 +1,5 @@
 //! The rows, threads and words of live messages, as commands change them.
+//! Allocates.
 ghost use Rattle.std.specs.Prelude.{◌≡◌, true, is_ok, OnOk, OnErr};
 ghost use Rattle.git_objects.specs.Objects.{blob_id_of};
 ghost use Rattle.mail_reader.specs.Content.{content_id_of};

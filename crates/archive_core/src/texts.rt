@@ -1,4 +1,5 @@
 //! A text that was kept, and its own id and blob id as an index has them.
+//! Allocates.
 ghost use Rattle.std.specs.Prelude.{◌≡◌, [], IsSome, Some, IfOk, OnOk, OnErr};
 ghost use Rattle.mail_commits.specs.Ids.{text_ids_of};
 ghost use Rattle.mail_reader.specs.Ids.{own_id as own_id_in};

@@ -1,4 +1,5 @@
 //! The entries of an archive on a disk and their texts, one after another.
+//! Reads the disk.
 ghost use Rattle.std.specs.Prelude.{◌≡◌, ℕ, List, refl};
 ghost use Rattle.std.proofs.Common.{◌∙◌};
 ghost use Rattle.archive_core.specs.Commands.{OnlyLooks};

@@ -1,7 +1,7 @@
 //! Courses of commands on archives on disks in memory: what is left where the disk stops.
 ghost use Rattle.std.specs.Prelude.{◌≤◌, IfOk, OnOk};
 ghost use Rattle.disk_model.specs.Disk.{WhereTold};
-ghost use Rattle.epoch_store.specs.Commands.{HasSizes};
+ghost use Rattle.epoch_store.specs.Commands.{StoreHasSizes};
 
 use arch_model::{Answer, Command, OpenRefusal};
 use archive_core::DiskArchive;
@@ -74,7 +74,7 @@ impl Reached {
 fn made<D: Disk>(alloc: Global, disk: &mut D, limit: u64) -> Result<DiskArchive, InitRefusal>
     requires low { 1 ≤ limit }
     requires high { limit ≤ 1099511627776 }
-    ensures { IfOk result (λ archive. WhereTold (HasSizes archive) (D.content disk.new)) }
+    ensures { IfOk result (λ archive. WhereTold (StoreHasSizes archive) (D.content disk.new)) }
 {
     match settings(limit, 10, false) {
         None => Err(InitRefusal::NoMemory),
@@ -88,8 +88,8 @@ fn is_answered<D: Disk>(
     disk: &mut D,
     step: &Step,
 ) -> Result<bool, DiskFault>
-    requires sizes { WhereTold (HasSizes archive.old) (D.content disk.old) }
-    ensures sizes { OnOk result (WhereTold (HasSizes archive.new) (D.content disk.new)) }
+    requires sizes { WhereTold (StoreHasSizes archive.old) (D.content disk.old) }
+    ensures sizes { OnOk result (WhereTold (StoreHasSizes archive.new) (D.content disk.new)) }
 {
     match archive.command(disk, &step.command, LATER) {
         Answer::DiskFault => Err(DiskFault),
@@ -99,7 +99,7 @@ fn is_answered<D: Disk>(
 
 /// Carries out commands until the disk fails.
 fn carry_out<D: Disk>(archive: &mut DiskArchive, disk: &mut D, steps: &[Step]) -> Reached
-    requires sizes { WhereTold (HasSizes archive.old) (D.content disk.old) }
+    requires sizes { WhereTold (StoreHasSizes archive.old) (D.content disk.old) }
 {
     let mut right = true;
     let mut last = NOTHING;

@@ -13,14 +13,14 @@ use std::test::Fail;
 const EPOCH: FileName = FileName {
     kind: FileKind::Epoch,
     number: 0,
-    gen_: 2,
+    generation: 2,
 };
 
 /// The file of the map, which the first root names.
 const MAP: FileName = FileName {
     kind: FileKind::Map,
     number: 0,
-    gen_: 1,
+    generation: 1,
 };
 
 /// Delivers the first mail to an archive and removes it, and returns whether the disk failed in the

@@ -4,7 +4,7 @@ use Rattle.arch_model.specs.Archives.{Archive, live, text_of, without_text, with
 use Rattle.arch_model.specs.Following.{Follows, ShownStay}
 use Rattle.arch_model.specs.Validity.{IsArchive}
 use Rattle.arch_model.proofs.Purging.{live_without, valid_without}
-use Rattle.archive_laws.specs.Purges.{Lacks}
+use Rattle.archive_laws.specs.Purges.{IsWithoutText}
 use Rattle.archive_laws.proofs.Filtered.{none_left, others_left, left_in_order, has_entry_of, stays_shown, had_text}
 
 -- No text that is left under a number is the one that was dropped.
@@ -22,7 +22,7 @@ was_shown stay text other n a valid follows shows =
     had.1 ∙ ap Some (sym same)
 
 -- A valid archive without the entries of a text is what it is without the text.
-pub lacks : ShownStay → (a : Archive) (text : List ℕ) → IsArchive a → Follows a (without_entries a text) → Lacks a text (without_entries a text)
+pub lacks : ShownStay → (a : Archive) (text : List ℕ) → IsArchive a → Follows a (without_entries a text) → IsWithoutText a text (without_entries a text)
 lacks stay a text valid follows = record {
   gone = λ e among. none_left text a.entries e among;
   kept = λ e among other. others_left text a.entries e among other;

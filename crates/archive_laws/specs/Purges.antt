@@ -18,7 +18,7 @@ AreSome (f ∷ fs) [] = ⊥
 AreSome (f ∷ fs) (e ∷ es) = ((f ≡ e) × AreSome fs es) ⊎ AreSome (f ∷ fs) es
 
 -- One archive is what another one is without a text.
-pub record Lacks (a : Archive) (text : List ℕ) (b : Archive) : Type 0 where
+pub record IsWithoutText (a : Archive) (text : List ℕ) (b : Archive) : Type 0 where
   pub gone : (e : Entry) → IsAmong b.entries e → e.text ≢ text
   pub kept : (e : Entry) → IsAmong a.entries e → e.text ≢ text → IsAmong b.entries e
   pub order : AreSome b.entries a.entries
@@ -35,4 +35,4 @@ abbrev pub DropsOneText : Type 0
 DropsOneText = (a : Archive) (number n : ℕ) (id : Id20) → IsArchive a
     → (purged a number).answer ≡ answer.Ok n id
     → (text : List ℕ) × (text_of (messages a.entries) number ≡ Some text)
-    × Lacks a text (purged a number).archive
+    × IsWithoutText a text (purged a number).archive

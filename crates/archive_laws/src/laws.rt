@@ -1,4 +1,5 @@
 //! The laws of commands.
+//! Pure.
 ghost use Rattle.archive_laws.specs.Purges.{DropsOneText};
 ghost use Rattle.archive_laws.specs.Edits.{ExchangesOneText};
 

@@ -1,5 +1,8 @@
-//! Laws of archives in the words of their readers: what a command changes of the entries, the numbers
-//! and the messages that are shown, and what it leaves.
+//! Laws of archives in the words of their readers.
+//! Pure.
+//!
+//! They say what a command changes of the entries, the numbers and the messages that are shown, and
+//! what it leaves.
 #![tactic(auto)]
 
 mod laws;

@@ -2,7 +2,7 @@
 //! out by git.
 ghost use Rattle.std.specs.Prelude.{◌≤◌, IfOk, OnOk};
 ghost use Rattle.disk_model.specs.Disk.{WhereTold};
-ghost use Rattle.epoch_store.specs.Commands.{HasSizes};
+ghost use Rattle.epoch_store.specs.Commands.{StoreHasSizes};
 
 use crate::archives::accepted;
 use arch_model::{Answer, Command};
@@ -24,7 +24,7 @@ fn made<D: Disk>(
 ) -> Result<DiskArchive, InitRefusal>
     requires some { 1 ≤ max }
     requires few { max ≤ 2147483647 }
-    ensures { IfOk result (λ archive. WhereTold (HasSizes archive) (D.content disk.new)) }
+    ensures { IfOk result (λ archive. WhereTold (StoreHasSizes archive) (D.content disk.new)) }
 {
     match settings(316, max, mirror) {
         None => Err(InitRefusal::NoMemory),
@@ -38,8 +38,8 @@ fn deliver<D: Disk>(
     disk: &mut D,
     bytes: &[u8],
 ) -> Result<Answer, DiskFault>
-    requires sizes { WhereTold (HasSizes archive.old) (D.content disk.old) }
-    ensures sizes { OnOk result (WhereTold (HasSizes archive.new) (D.content disk.new)) }
+    requires sizes { WhereTold (StoreHasSizes archive.old) (D.content disk.old) }
+    ensures sizes { OnOk result (WhereTold (StoreHasSizes archive.new) (D.content disk.new)) }
 {
     match archive.command(disk, &Command::Deliver(bytes), MOMENT) {
         Answer::DiskFault => Err(DiskFault),
@@ -54,8 +54,8 @@ fn answers<D: Disk>(
     bytes: &[u8],
     wanted: Option<Answer>,
 ) -> Result<bool, DiskFault>
-    requires sizes { WhereTold (HasSizes archive.old) (D.content disk.old) }
-    ensures sizes { OnOk result (WhereTold (HasSizes archive.new) (D.content disk.new)) }
+    requires sizes { WhereTold (StoreHasSizes archive.old) (D.content disk.old) }
+    ensures sizes { OnOk result (WhereTold (StoreHasSizes archive.new) (D.content disk.new)) }
 {
     let answer = deliver(archive, disk, bytes)?;
     Ok(Some(answer) == wanted)
@@ -72,7 +72,7 @@ fn has_count(archive: &DiskArchive, count: u32) -> bool {
 /// Delivers three messages to an empty archive, the first one twice, and returns whether each is
 /// answered as it should be.
 fn takes_each_once<D: Disk>(archive: &mut DiskArchive, disk: &mut D) -> Result<bool, DiskFault>
-    requires sizes { WhereTold (HasSizes archive.old) (D.content disk.old) }
+    requires sizes { WhereTold (StoreHasSizes archive.old) (D.content disk.old) }
 {
     let first = answers(archive, disk, FIRST, accepted(1, FIRST_ID))?;
     let again = answers(archive, disk, FIRST, Some(Answer::Duplicate(1)))?;
@@ -116,7 +116,7 @@ fn a_mirror_takes_nothing(rt: HostRuntime) -> Result<(), Fail> {
 /// Delivers three messages to an empty archive for one message, and returns whether the second and
 /// the third are refused for their causes.
 fn takes_one_only<D: Disk>(archive: &mut DiskArchive, disk: &mut D) -> Result<bool, DiskFault>
-    requires sizes { WhereTold (HasSizes archive.old) (D.content disk.old) }
+    requires sizes { WhereTold (StoreHasSizes archive.old) (D.content disk.old) }
 {
     let first = answers(archive, disk, FIRST, accepted(1, FIRST_ID))?;
     let second = answers(archive, disk, SECOND, Some(Answer::Full(1)))?;
@@ -147,7 +147,7 @@ fn answers_alike<D: Disk>(
     memory: &mut MemArchive,
     messages: &[&[u8]],
 ) -> Result<bool, DiskFault>
-    requires sizes { WhereTold (HasSizes archive.old) (D.content disk.old) }
+    requires sizes { WhereTold (StoreHasSizes archive.old) (D.content disk.old) }
 {
     let mut alike = true;
     for bytes in messages {
@@ -166,7 +166,7 @@ fn answers_as_memory<D: Disk>(
     disk: &mut D,
     messages: &[&[u8]],
 ) -> Result<bool, DiskFault>
-    requires sizes { WhereTold (HasSizes archive.old) (D.content disk.old) }
+    requires sizes { WhereTold (StoreHasSizes archive.old) (D.content disk.old) }
 {
     match in_memory(alloc, 316, 4, false) {
         None => Ok(false),
@@ -218,8 +218,8 @@ fn filled_count<D: Disk>(alloc: Global, disk: &mut D) -> Result<u64, InitRefusal
 
 /// Appends a new message to an archive.
 fn put<D: Disk>(archive: &mut DiskArchive, disk: &mut D, bytes: &[u8]) -> Result<(), InitRefusal>
-    requires sizes { WhereTold (HasSizes archive.old) (D.content disk.old) }
-    ensures sizes { OnOk result (WhereTold (HasSizes archive.new) (D.content disk.new)) }
+    requires sizes { WhereTold (StoreHasSizes archive.old) (D.content disk.old) }
+    ensures sizes { OnOk result (WhereTold (StoreHasSizes archive.new) (D.content disk.new)) }
 {
     match deliver(archive, disk, bytes) {
         Ok(Answer::Ok { number: _, id: _ }) => Ok(()),
@@ -230,7 +230,7 @@ fn put<D: Disk>(archive: &mut DiskArchive, disk: &mut D, bytes: &[u8]) -> Result
 
 /// Returns whether an archive of two messages that was opened knows them, and takes a third.
 fn knows_two<D: Disk>(archive: &mut DiskArchive, disk: &mut D) -> Result<bool, DiskFault>
-    requires sizes { WhereTold (HasSizes archive.old) (D.content disk.old) }
+    requires sizes { WhereTold (StoreHasSizes archive.old) (D.content disk.old) }
 {
     let two = has_count(archive, 2);
     let again = answers(archive, disk, SECOND, Some(Answer::Duplicate(2)))?;

@@ -48,10 +48,10 @@ fn counts_two<K: Keep>(keep: &mut K) -> Result<bool, OpenRefusal> {
     let last = keep.live_to(9) == Some(2)
         && keep.live_to(1) == Some(1)
         && keep.live_to(0).is_none();
-    let between = keep.live_count(0, 9) == 2 && keep.live_count(2, 2) == 1;
+    let crash_between = keep.live_count(0, 9) == 2 && keep.live_count(2, 2) == 1;
     let none = keep.live_count(3, 9) == 0 && keep.live_count(2, 1) == 0;
     let settings = keep.config().limit == 316 && keep.next_number() == 3;
-    Ok(last && between && none && settings)
+    Ok(last && crash_between && none && settings)
 }
 
 /// Returns whether an entry is a message of this number, epoch and blob id, with a text of this size.

@@ -3,7 +3,7 @@ use Rattle.std.proofs.Common.{◌≡◌, ℕ, zero, suc, ◌^◌, ◌<◌, ◌�
 use Rattle.std.specs.Prelude.{codes, replicate}
 use Rattle.std.specs.List.{All, concat, flat_map}
 use Rattle.arch_base.specs.Moments.{IsMoment}
-use Rattle.arch_base.specs.Names.{IsName}
+use Rattle.arch_base.specs.Names.{IsArchiveName}
 use Rattle.mail_forms.specs.declared.row.Row.{Row}
 use Rattle.web_text.specs.Addresses.{address_of}
 use Rattle.web_text.specs.Days.{moment_text}
@@ -29,7 +29,7 @@ author_tags row =
     more (((a ++ b) ++ d) ++ e) f (codes "<><><><><><>") (codes "<>") is_3 refl
 
 -- The id, the moment and the address.
-place_tags : (name : List ℕ) (row : Row) → IsName name → IsMoment row.arrived → markup (entry_place name row) ≡ codes "<><><><><\"\">"
+place_tags : (name : List ℕ) (row : Row) → IsArchiveName name → IsMoment row.arrived → markup (entry_place name row) ≡ codes "<><><><><\"\">"
 unfolding entry_place
 place_tags name row h moment =
     let a : List ℕ = codes "<id>mid:" in
@@ -58,20 +58,20 @@ body_tags body =
     let is_1 : markup (a ++ b) ≡ codes "<\"\">" = and_none a b (codes "<\"\">") refl (text_none body) in
     more (a ++ b) d (codes "<\"\">") (codes "<><>") is_1 refl
 
-entry_tags : (name : List ℕ) (mail : Shown) → IsName name → HasMoment mail → markup (entry_of_shown name mail) ≡ entry_markup
+entry_tags : (name : List ℕ) (mail : Shown) → IsArchiveName name → HasMoment mail → markup (entry_of_shown name mail) ≡ entry_markup
 entry_tags name mail h moment =
     more (entry_author mail.row ++ entry_place name mail.row) (entry_body mail.body) (codes "<><><><><><><><><><><><\"\">") (codes "<\"\"><><>")
     (more (entry_author mail.row) (entry_place name mail.row) (codes "<><><><><><><>") (codes "<><><><><\"\">") (author_tags mail.row) (place_tags name mail.row h moment))
     (body_tags mail.body)
 
-entries_tags : (name : List ℕ) (mails : List Shown) → IsName name → All HasMoment mails → markup (flat_map (entry_of_shown name) mails) ≡ concat (replicate (length mails) entry_markup)
+entries_tags : (name : List ℕ) (mails : List Shown) → IsArchiveName name → All HasMoment mails → markup (flat_map (entry_of_shown name) mails) ≡ concat (replicate (length mails) entry_markup)
 entries_tags name [] h moments = refl
 entries_tags name (mail ∷ mails) h moments =
     more (entry_of_shown name mail) (flat_map (entry_of_shown name) mails) entry_markup (concat (replicate (length mails) entry_markup))
     (entry_tags name mail h (moments 0 mail (omega arith))) (entries_tags name mails h (λ k d l. moments (suc k) d (omega arith)))
 
 -- What is before the entries.
-start_tags : (name : List ℕ) (updated : ℕ) → IsName name → IsMoment updated → markup (feed_start name updated) ≡ codes "<\"\"\"\"><\"\"><><><><><><>"
+start_tags : (name : List ℕ) (updated : ℕ) → IsArchiveName name → IsMoment updated → markup (feed_start name updated) ≡ codes "<\"\"\"\"><\"\"><><><><><><>"
 unfolding feed_start
 start_tags name updated h moment =
     let a : List ℕ = codes "<?xml version=\"1.0\" encoding=\"utf-8\"?>\n" in

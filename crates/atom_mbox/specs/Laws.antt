@@ -1,7 +1,7 @@
 -- Laws of feeds: no tag, and no value of an attribute, comes from a mail.
 use Rattle.std.specs.Prelude.{◌≡◌, ℕ, ◌^◌, ◌<◌, List, ◌++◌, length, replicate, codes}
 use Rattle.std.specs.List.{All, concat}
-use Rattle.arch_base.specs.Names.{IsName}
+use Rattle.arch_base.specs.Names.{IsArchiveName}
 use Rattle.web_text.specs.Markup.{markup}
 use Rattle.atom_mbox.specs.Feeds.{HasMoment, feed_of}
 use Rattle.atom_mbox.specs.declared.feeds.Shown.{Shown}
@@ -19,5 +19,5 @@ feed_markup count =
 
 -- A feed has its own tags, and those of an entry for each of its mails, whatever the mails have.
 abbrev pub FeedHasItsTags : Type 0
-FeedHasItsTags = (name : List ℕ) (born : ℕ) (mails : List Shown) → IsName name → born < 2 ^ 32
+FeedHasItsTags = (name : List ℕ) (born : ℕ) (mails : List Shown) → IsArchiveName name → born < 2 ^ 32
     → All HasMoment mails → markup (feed_of name born mails) ≡ feed_markup (length mails)

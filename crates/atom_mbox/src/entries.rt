@@ -1,4 +1,5 @@
 //! The pieces of a feed: what is before its entries, an entry, and what is after them.
+//! Allocates.
 ghost use Rattle.std.specs.Prelude.{◌≡◌, ◌++◌, length, take, OnOk, OnErr};
 ghost use Rattle.arch_base.specs.Moments.{IsMoment};
 ghost use Rattle.web_text.specs.Addresses.{address_of};

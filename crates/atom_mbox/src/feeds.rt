@@ -1,4 +1,5 @@
 //! The feed of some mails.
+//! Allocates.
 ghost use Rattle.std.specs.Prelude.{◌≡◌, ◌++◌, IfOk, OnOk, All};
 ghost use Rattle.arch_base.specs.Moments.{IsMoment};
 ghost use Rattle.atom_mbox.specs.Feeds.{HasMoment, feed_of, updated_of, entries_of, last_arrival};

@@ -1,4 +1,5 @@
 //! Feeds of mails, and mailbox files of them.
+//! Allocates.
 #![tactic(auto)]
 
 mod entries;

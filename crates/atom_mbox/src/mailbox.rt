@@ -1,4 +1,5 @@
 //! Mailbox files of texts, piece by piece.
+//! Allocates.
 ghost use Rattle.std.specs.Prelude.{◌≡◌, ◌++◌, ◌<◌, ◌-◌, ◌^◌, List, ℕ, length, take, map, min, sum_by, OnOk, OnErr};
 ghost use Rattle.std.specs.List.{flat_map};
 ghost use Rattle.mail_reader.specs.Lines.{lines_of};

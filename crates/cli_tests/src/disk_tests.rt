@@ -113,11 +113,11 @@ pub(crate) fn printing_all(alloc: Global, disk: MemDisk, runs: &[Due<'_>]) -> Op
 }
 
 /// Returns whether the file of a kind, of the number 0 and a generation, has this length.
-fn has_length(disk: &mut MemDisk, kind: FileKind, gen_: u64, len: u64) -> bool {
+fn has_length(disk: &mut MemDisk, kind: FileKind, generation: u64, len: u64) -> bool {
     let file = FileName {
         kind,
         number: 0,
-        gen_,
+        generation,
     };
     disk.length(file) == Ok(len)
 }

@@ -11,7 +11,7 @@ fn damage(kind: FileKind, number: u32, at: u64) -> Answer {
         file: FileName {
             kind,
             number,
-            gen_: 1,
+            generation: 1,
         },
         at,
     }

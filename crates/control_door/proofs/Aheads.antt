@@ -51,7 +51,7 @@ asked_by-goes q Reindex rest = Same Reindexes rest
 asked_by-goes q Quit rest = Same Quits rest
 asked_by-goes q Bad rest = Same Mistakes rest
 
-asked_at-goes : (bytes q : List ℕ) (f : line.Front) → line.front line_limit bytes ≡ f → Goes q (asked_at f) (ahead (bytes ++ q))
+asked_at-goes : (bytes q : List ℕ) (f : line.LineFront) → line.front line_limit bytes ≡ f → Goes q (asked_at f) (ahead (bytes ++ q))
 asked_at-goes bytes q (line.Whole text rest) h = rw (front-goes_on line_limit bytes q text rest h) (asked_by-goes q (order_of (line.content text)) rest)
 asked_at-goes bytes q line.Long h = rw (front-stays_long line_limit bytes q h) Over
 asked_at-goes bytes q line.Partial h = Open (ahead (bytes ++ q))
@@ -85,7 +85,7 @@ asked_by-shorter n Reindex rest request after short is = let e : rest ≡ after 
 asked_by-shorter n Quit rest request after short is = let e : rest ≡ after = cc in omega (arith, ap length e)
 asked_by-shorter n Bad rest request after short is = let e : rest ≡ after = cc in omega (arith, ap length e)
 
-asked_at-shorter : (bytes : List ℕ) (f : line.Front) (request : Request) (after : List ℕ) → line.front line_limit bytes ≡ f → asked_at f ≡ Asked request after → (request ≡ Exceeds) ⊎ (length after < length bytes)
+asked_at-shorter : (bytes : List ℕ) (f : line.LineFront) (request : Request) (after : List ℕ) → line.front line_limit bytes ≡ f → asked_at f ≡ Asked request after → (request ≡ Exceeds) ⊎ (length after < length bytes)
 asked_at-shorter bytes (line.Whole text rest) request after h is = inr (asked_by-shorter (length bytes) (order_of (line.content text)) rest request after (front-shorter line_limit bytes text rest h) is)
 asked_at-shorter bytes line.Long request after h is = inl (cc)
 asked_at-shorter bytes line.Partial request after h is = absurd (cc is)

@@ -1,16 +1,16 @@
 -- What the calls of a keeper mean at the control door.
 use Rattle.std.proofs.Common.{◌≡◌, ◌≤◌, ℕ, Bool, true, false, List, [], ◌++◌, length, drop, Option, Some, None, is_some, is_ok, OnOk, Result, Ok, Err, refl, sym, ap, ◌∙◌, subst, arith, if◌then◌else◌}
 use Rattle.std.specs.List.{Contains}
-use Rattle.line_door.specs.Acts.{Outside, Plain, Memory, Disk, Acts, held_if}
+use Rattle.line_door.specs.Acts.{ConnectionState, Plain, Memory, Disk, Acts, held_if}
 use Rattle.line_door.specs.Making.{closes}
 use Rattle.edge_io.specs.Phrases.{Says}
 use Rattle.edge_io.specs.declared.sink.SinkFault.{SinkFault}
 use Rattle.line_door.proofs.Acting.{acts-by_held, acts-closing, acts-silent}
 use Rattle.arch_model.specs.Archives.{Archive, live, text_of}
 use Rattle.arch_model.specs.Delivery.{applied, answer_line}
-use Rattle.arch_model.specs.Keeping.{Moves, OnlyRead, Comes, AnswerCause, Settles, StaysShut, OpeningWhy}
+use Rattle.arch_model.specs.Keeping.{KeeperMoves, OnlyRead, CommandGives, AnswerCause, Settles, ReopeningRefused, OpeningWhy}
 use Rattle.arch_model.specs.Shelves.{IsUndamaged, ReadingWhy}
-use Rattle.arch_model.specs.Standing.{Standing, standing}
+use Rattle.arch_model.specs.Standing.{LastKnown, standing}
 use Rattle.arch_model.specs.declared.command.Command.{Command}
 use Rattle.arch_model.specs.declared.command.Command.TheVariants.{Deliver, Remove, Purge, Edit}
 use Rattle.arch_model.specs.declared.answer.Answer.{Answer}
@@ -23,23 +23,23 @@ use Rattle.keep_course.proofs.Commands.{commanded}
 use Rattle.answer_lines.specs.Lines.{whole_line, memory_word, disk_word, unread_words, unopened_words}
 use Rattle.control_door.specs.Requests.{Request, Shows, Threads, Lists, Reindexes, Quits, Mistakes, Exceeds, Asked, ahead}
 use Rattle.control_door.specs.Door.{waiting, said_to, goes_on, carries_out, doubts, answered, refused_memory, refused_disk, epochs_words, shown, threaded, reindexed_words, bad_word}
-use Rattle.control_door.specs.Sessions.{request_for, request_with, IsTurn, Answers, Opens, Turns}
+use Rattle.control_door.specs.Sessions.{request_for, request_with, IsControlAct, AnswersRequest, ReopensForCommand, ControlActs}
 use Rattle.control_door.specs.declared.front.Aim.{Aim}
 use Rattle.control_door.specs.declared.front.Aim.TheVariants.{New, InPlaceOf}
-use Rattle.control_door.specs.declared.session.Turn.{Turn}
-use Rattle.control_door.specs.declared.session.Turn.TheVariants.{Opened, Went, Closed}
+use Rattle.control_door.specs.declared.session.Act.{Act}
+use Rattle.control_door.specs.declared.session.Act.TheVariants.{Opened, Went, Closed}
 use Rattle.control_door.proofs.Holding.{turn-went, turn-opened}
 
 -- Acts at requests that change no archive.
 
 -- A text is said.
-pub acts-shown : (moment : ℕ) (s : Standing) (number : ℕ) (text rest : List ℕ) (i j : Outside) (sent : Result Unit SinkFault) → text_of (live s.archive.entries) number ≡ Some text → j.disk ≡ i.disk → Says (shown 0 (Some text)) i.out i.lost j.out j.lost sent
+pub acts-shown : (moment : ℕ) (s : LastKnown) (number : ℕ) (text rest : List ℕ) (i j : ConnectionState) (sent : Result Unit SinkFault) → text_of (live s.archive.entries) number ≡ Some text → j.disk ≡ i.disk → Says (shown 0 (Some text)) i.out i.lost j.out j.lost sent
     → Acts (said_to moment s (Shows number) rest) i (held_if (is_ok sent) (waiting rest false)) s j
 acts-shown moment s number text rest i j sent is kept words =
     acts-by_held (said_to moment s (Shows number) rest) Plain (goes_on rest (shown number (Some text)) s) i j (waiting rest false) s sent (rw is refl) refl kept (omega (arith, kept)) words refl
 
 -- A number without a text.
-pub acts-hidden : (moment : ℕ) (s : Standing) (number : ℕ) (rest : List ℕ) (i j : Outside) (sent : Result Unit SinkFault) → is_some (text_of (live s.archive.entries) number) ≡ false → j.disk ≡ i.disk → Says (shown number None) i.out i.lost j.out j.lost sent
+pub acts-hidden : (moment : ℕ) (s : LastKnown) (number : ℕ) (rest : List ℕ) (i j : ConnectionState) (sent : Result Unit SinkFault) → is_some (text_of (live s.archive.entries) number) ≡ false → j.disk ≡ i.disk → Says (shown number None) i.out i.lost j.out j.lost sent
     → Acts (said_to moment s (Shows number) rest) i (held_if (is_ok sent) (waiting rest false)) s j
 acts-hidden moment s number rest i j sent none kept words =
     acts-by_held (said_to moment s (Shows number) rest) Plain (goes_on rest (shown number None) s) i j (waiting rest false) s sent (rw (none_of (text_of (live s.archive.entries) number) none) refl) refl kept (omega (arith, kept)) words refl
@@ -49,7 +49,7 @@ acts-hidden moment s number rest i j sent none kept words =
     none_of (Some text) h = absurd (cc h)
 
 -- The tree of a thread is said, or that the number has no text.
-pub acts-threaded : (moment : ℕ) (s : Standing) (number : ℕ) (found : Option (List ℕ)) (rest : List ℕ) (i j : Outside) (sent : Result Unit SinkFault) → text_of (live s.archive.entries) number ≡ found → j.disk ≡ i.disk → Says (threaded (live s.archive.entries) number found) i.out i.lost j.out j.lost sent
+pub acts-threaded : (moment : ℕ) (s : LastKnown) (number : ℕ) (found : Option (List ℕ)) (rest : List ℕ) (i j : ConnectionState) (sent : Result Unit SinkFault) → text_of (live s.archive.entries) number ≡ found → j.disk ≡ i.disk → Says (threaded (live s.archive.entries) number found) i.out i.lost j.out j.lost sent
     → Acts (said_to moment s (Threads number) rest) i (held_if (is_ok sent) (waiting rest false)) s j
 acts-threaded moment s number found rest i j sent is kept words =
     acts-by_held (said_to moment s (Threads number) rest) Plain (goes_on rest (threaded (live s.archive.entries) number found) s) i j (waiting rest false) s sent (rw is refl) refl kept (omega (arith, kept)) words refl
@@ -68,19 +68,19 @@ on-weaker (Ok x) P Q less holds = less holds
 on-weaker (Err e) P Q less holds = tt
 
 -- Out of memory for a tree.
-pub acts-unthreaded : (moment : ℕ) (s : Standing) (number : ℕ) (rest : List ℕ) (i j : Outside) (sent : Result Unit SinkFault) → j.disk ≡ i.disk → Says memory_word i.out i.lost j.out j.lost sent
+pub acts-unthreaded : (moment : ℕ) (s : LastKnown) (number : ℕ) (rest : List ℕ) (i j : ConnectionState) (sent : Result Unit SinkFault) → j.disk ≡ i.disk → Says memory_word i.out i.lost j.out j.lost sent
     → Acts (said_to moment s (Threads number) rest) i (held_if (is_ok sent) (waiting rest false)) s j
 acts-unthreaded moment s number rest i j sent same words =
     acts-by_held (said_to moment s (Threads number) rest) Memory (goes_on rest memory_word s) i j (waiting rest false) s sent refl refl same (omega (arith, same)) words refl
 
 -- The epochs are listed.
-pub acts-listed : (moment : ℕ) (s : Standing) (rest : List ℕ) (i j : Outside) (sent : Result Unit SinkFault) → j.disk ≡ i.disk → Says (epochs_words s.archive.entries) i.out i.lost j.out j.lost sent
+pub acts-listed : (moment : ℕ) (s : LastKnown) (rest : List ℕ) (i j : ConnectionState) (sent : Result Unit SinkFault) → j.disk ≡ i.disk → Says (epochs_words s.archive.entries) i.out i.lost j.out j.lost sent
     → Acts (said_to moment s Lists rest) i (held_if (is_ok sent) (waiting rest false)) s j
 acts-listed moment s rest i j sent kept words =
     acts-by_held (said_to moment s Lists rest) Plain (goes_on rest (epochs_words s.archive.entries) s) i j (waiting rest false) s sent refl refl kept (omega (arith, kept)) words refl
 
 -- What was asked for was not read.
-pub acts-unread : (moment : ℕ) (s : Standing) (request : Request) (rest : List ℕ) (i j : Outside) (sent : Result Unit SinkFault) (refusal : TextRefusal)
+pub acts-unread : (moment : ℕ) (s : LastKnown) (request : Request) (rest : List ℕ) (i j : ConnectionState) (sent : Result Unit SinkFault) (refusal : TextRefusal)
     → refused_memory moment s request rest ≡ goes_on rest memory_word s → refused_disk moment s request rest ≡ goes_on rest disk_word s
     → IsUndamaged refusal → ReadingWhy i.disk j.disk refusal → i.disk ≤ j.disk → Says (unread_words refusal) i.out i.lost j.out j.lost sent
     → Acts (said_to moment s request rest) i (held_if (is_ok sent) (waiting rest false)) s j
@@ -91,41 +91,41 @@ acts-unread moment s request rest i j sent reading.NoMemory memory disk whole ca
     acts-by_held (said_to moment s request rest) Memory (goes_on rest memory_word s) i j (waiting rest false) s sent memory refl cause later words refl
 
 -- A line that is not an order.
-pub acts-mistaken : (moment : ℕ) (s : Standing) (rest : List ℕ) (i j : Outside) (sent : Result Unit SinkFault) → j.disk ≡ i.disk → Says bad_word i.out i.lost j.out j.lost sent
+pub acts-mistaken : (moment : ℕ) (s : LastKnown) (rest : List ℕ) (i j : ConnectionState) (sent : Result Unit SinkFault) → j.disk ≡ i.disk → Says bad_word i.out i.lost j.out j.lost sent
     → Acts (said_to moment s Mistakes rest) i (held_if (is_ok sent) (waiting rest false)) s j
 acts-mistaken moment s rest i j sent kept words =
     acts-by_held (said_to moment s Mistakes rest) Plain (goes_on rest bad_word s) i j (waiting rest false) s sent refl refl kept (omega (arith, kept)) words refl
 
 -- Too much is announced, or a line is too long.
-pub acts-exceeding : (moment : ℕ) (s : Standing) (rest : List ℕ) (i j : Outside) (sent : Result Unit SinkFault) → j.disk ≡ i.disk → Says bad_word i.out i.lost j.out j.lost sent → Acts (said_to moment s Exceeds rest) i None s j
+pub acts-exceeding : (moment : ℕ) (s : LastKnown) (rest : List ℕ) (i j : ConnectionState) (sent : Result Unit SinkFault) → j.disk ≡ i.disk → Says bad_word i.out i.lost j.out j.lost sent → Acts (said_to moment s Exceeds rest) i None s j
 acts-exceeding moment s rest i j sent kept words = acts-closing (said_to moment s Exceeds rest) Plain (closes s bad_word) i j s sent refl refl kept (omega (arith, kept)) words refl
 
 -- The connection ends.
-pub acts-quitting : (moment : ℕ) (s : Standing) (rest : List ℕ) (i : Outside) → Acts (said_to moment s Quits rest) i None s i
+pub acts-quitting : (moment : ℕ) (s : LastKnown) (rest : List ℕ) (i : ConnectionState) → Acts (said_to moment s Quits rest) i None s i
 acts-quitting moment s rest i = acts-silent (said_to moment s Quits rest) (closes s []) i i None s refl refl refl refl refl refl refl
 
 -- Out of memory for a message.
-memory-with : (moment : ℕ) (s : Standing) (aim : Aim) (message rest : List ℕ) → refused_memory moment s (request_with aim message) rest ≡ goes_on rest memory_word s
+memory-with : (moment : ℕ) (s : LastKnown) (aim : Aim) (message rest : List ℕ) → refused_memory moment s (request_with aim message) rest ≡ goes_on rest memory_word s
 memory-with moment s New message rest = refl
 memory-with moment s (InPlaceOf number) message rest = refl
 
-pub acts-refusing : (moment : ℕ) (s : Standing) (aim : Aim) (message rest : List ℕ) (i j : Outside) (sent : Result Unit SinkFault) → j.disk ≡ i.disk → Says memory_word i.out i.lost j.out j.lost sent
+pub acts-refusing : (moment : ℕ) (s : LastKnown) (aim : Aim) (message rest : List ℕ) (i j : ConnectionState) (sent : Result Unit SinkFault) → j.disk ≡ i.disk → Says memory_word i.out i.lost j.out j.lost sent
     → Acts (said_to moment s (request_with aim message) rest) i (held_if (is_ok sent) (waiting rest false)) s j
 acts-refusing moment s aim message rest i j sent same words =
     acts-by_held (said_to moment s (request_with aim message) rest) Memory (goes_on rest memory_word s) i j (waiting rest false) s sent (memory-with moment s aim message rest) refl same (omega (arith, same)) words refl
 
 -- The archive was reindexed.
-pub acts-reindexed : (moment : ℕ) (a : Archive) (rest : List ℕ) (t : Standing) (count : ℕ) (i j : Outside) (sent : Result Unit SinkFault) → Settles (standing a None) t → count ≡ length (live t.archive.entries) → j.disk ≡ i.disk
+pub acts-reindexed : (moment : ℕ) (a : Archive) (rest : List ℕ) (t : LastKnown) (count : ℕ) (i j : ConnectionState) (sent : Result Unit SinkFault) → Settles (standing a None) t → count ≡ length (live t.archive.entries) → j.disk ≡ i.disk
     → Says (reindexed_words count) i.out i.lost j.out j.lost sent → Acts (said_to moment (standing a None) Reindexes rest) i (held_if (is_ok sent) (waiting rest false)) t j
 acts-reindexed moment a rest t count i j sent settles counts kept words =
-    let s : Standing = standing a None in
+    let s : LastKnown = standing a None in
     let same : t ≡ s = settled-sure a t settles in
-    let live_in : count ≡ length (live a.entries) = counts ∙ ap (λ (x : Standing). length (live x.archive.entries)) same in
+    let live_in : count ≡ length (live a.entries) = counts ∙ ap (λ (x : LastKnown). length (live x.archive.entries)) same in
     acts-by_held (said_to moment s Reindexes rest) Plain (goes_on rest (reindexed_words (length (live a.entries))) s) i j (waiting rest false) t sent refl refl kept (omega (arith, kept))
     (subst (λ (n : ℕ). Says (reindexed_words n) i.out i.lost j.out j.lost sent) live_in words) same
 
 -- A reindexing was refused.
-pub acts-unindexed : (moment : ℕ) (a : Archive) (rest : List ℕ) (t : Standing) (why : OpenRefusal) (i j : Outside) (sent : Result Unit SinkFault) → StaysShut (standing a None) why t → OpeningWhy i.disk j.disk why → i.disk ≤ j.disk
+pub acts-unindexed : (moment : ℕ) (a : Archive) (rest : List ℕ) (t : LastKnown) (why : OpenRefusal) (i j : ConnectionState) (sent : Result Unit SinkFault) → ReopeningRefused (standing a None) why t → OpeningWhy i.disk j.disk why → i.disk ≤ j.disk
     → Says (unopened_words why) i.out i.lost j.out j.lost sent → Acts (said_to moment (standing a None) Reindexes rest) i (held_if (is_ok sent) (waiting rest false)) t j
 acts-unindexed moment a rest t opening.DiskFault i j sent same cause later words =
     acts-by_held (said_to moment (standing a None) Reindexes rest) Disk (goes_on rest disk_word (standing a (Some a))) i j (waiting rest false) t sent refl refl cause later words same
@@ -135,63 +135,63 @@ acts-unindexed moment a rest t opening.NoArchive i j sent never cause later word
 acts-unindexed moment a rest t (opening.Damaged file at) i j sent never cause later words = absurd never
 
 -- What is said to the request for a command.
-command-plain : (moment : ℕ) (s : Standing) (command : Command) (rest : List ℕ) → answered moment s (request_for command) rest ≡ carries_out (applied s.archive command moment) rest
+command-plain : (moment : ℕ) (s : LastKnown) (command : Command) (rest : List ℕ) → answered moment s (request_for command) rest ≡ carries_out (applied s.archive command moment) rest
 command-plain moment s (Deliver bytes) rest = refl
 command-plain moment s (Remove number) rest = refl
 command-plain moment s (Purge number) rest = refl
 command-plain moment s (Edit number bytes) rest = refl
 
-command-memory : (moment : ℕ) (s : Standing) (command : Command) (rest : List ℕ) → refused_memory moment s (request_for command) rest ≡ goes_on rest memory_word s
+command-memory : (moment : ℕ) (s : LastKnown) (command : Command) (rest : List ℕ) → refused_memory moment s (request_for command) rest ≡ goes_on rest memory_word s
 command-memory moment s (Deliver bytes) rest = refl
 command-memory moment s (Remove number) rest = refl
 command-memory moment s (Purge number) rest = refl
 command-memory moment s (Edit number bytes) rest = refl
 
-command-disk : (moment : ℕ) (s : Standing) (command : Command) (rest : List ℕ) → refused_disk moment s (request_for command) rest ≡ doubts s (applied s.archive command moment) rest
+command-disk : (moment : ℕ) (s : LastKnown) (command : Command) (rest : List ℕ) → refused_disk moment s (request_for command) rest ≡ doubts s (applied s.archive command moment) rest
 command-disk moment s (Deliver bytes) rest = refl
 command-disk moment s (Remove number) rest = refl
 command-disk moment s (Purge number) rest = refl
 command-disk moment s (Edit number bytes) rest = refl
 
 -- A command was answered, and the line of the answer was said.
-pub acts-commanded : (moment : ℕ) (a : Archive) (command : Command) (rest : List ℕ) (t : Standing) (reply : Answer) (i j : Outside) (sent : Result Unit SinkFault) → Comes true (standing a None) (λ (b : Archive). applied b command moment) reply t → AnswerCause i.disk j.disk reply → i.disk ≤ j.disk
+pub acts-commanded : (moment : ℕ) (a : Archive) (command : Command) (rest : List ℕ) (t : LastKnown) (reply : Answer) (i j : ConnectionState) (sent : Result Unit SinkFault) → CommandGives true (standing a None) (λ (b : Archive). applied b command moment) reply t → AnswerCause i.disk j.disk reply → i.disk ≤ j.disk
     → Says (whole_line (answer_line reply)) i.out i.lost j.out j.lost sent → Acts (said_to moment (standing a None) (request_for command) rest) i (held_if (is_ok sent) (waiting rest false)) t j
 acts-commanded moment a command rest t reply i j sent comes cause later said =
-    let s : Standing = standing a None in
+    let s : LastKnown = standing a None in
     commanded (said_to moment s (request_for command) rest) (waiting rest false) (λ (r : Answer). whole_line (answer_line r)) a (λ (b : Archive). applied b command moment) (command-plain moment s command rest) (command-memory moment s command rest) (command-disk moment s command rest) reply t i j sent
     comes cause later said
 
-module _ {K : Type 0} (holds rests : K → Archive → Type 0) (ready : K → Bool) (leaves : K → K → List (Option Archive) → Type 0) where
+module _ {K : Type 0} (holds files_are : K → Archive → Type 0) (ready : K → Bool) (leaves : K → K → List (Option Archive) → Type 0) where
   -- A request was answered.
-  pub turns-answered : (moment : ℕ) (old piece : List ℕ) (request : Request) (n : ℕ) (k k' : K) (i j : Outside) (new : List ℕ) (goes : Bool) → ready k ≡ true → ahead (old ++ piece) ≡ Asked request (drop n piece) → new ≡ []
-      → Answers holds rests ready leaves moment request k i goes k' j → Turns holds rests ready leaves moment true old piece k i (if goes then Went n else Closed) new k' j
+  pub turns-answered : (moment : ℕ) (old piece : List ℕ) (request : Request) (n : ℕ) (k k' : K) (i j : ConnectionState) (new : List ℕ) (goes : Bool) → ready k ≡ true → ahead (old ++ piece) ≡ Asked request (drop n piece) → new ≡ []
+      → AnswersRequest holds files_are ready leaves moment request k i goes k' j → ControlActs holds files_are ready leaves moment true old piece k i (if goes then Went n else Closed) new k' j
   turns-answered moment old piece request n k k' i j new goes at_hand stands none acts = λ s fits.
-      let is = settled-is holds rests ready leaves k s fits at_hand in
+      let is = settled-is holds files_are ready leaves k s fits at_hand in
       let done = acts s.archive (drop n piece) is.1 in
-      subst (λ (x : Standing). (t : Standing) × Moves holds rests ready leaves k x k' t × IsTurn moment true x old piece i (if goes then Went n else Closed) t new j) (sym is.0) (
+      subst (λ (x : LastKnown). (t : LastKnown) × KeeperMoves holds files_are ready leaves k x k' t × IsControlAct moment true x old piece i (if goes then Went n else Closed) t new j) (sym is.0) (
         done.0,
         done.1,
         turn-went moment (standing s.archive None) old piece request n i done.0 new j goes stands none done.2,
       )
 
   -- The archive was reopened before a request, or not.
-  pub turns-opened : (moment : ℕ) (old piece : List ℕ) (request : Request) (n : ℕ) (k k' : K) (i j : Outside) (done : Bool) → ahead (old ++ piece) ≡ Asked request (drop n piece)
-      → Opens holds rests ready leaves k i done k' j → Turns holds rests ready leaves moment false old piece k i (if done then Opened else Closed) old k' j
+  pub turns-opened : (moment : ℕ) (old piece : List ℕ) (request : Request) (n : ℕ) (k k' : K) (i j : ConnectionState) (done : Bool) → ahead (old ++ piece) ≡ Asked request (drop n piece)
+      → ReopensForCommand holds files_are ready leaves k i done k' j → ControlActs holds files_are ready leaves moment false old piece k i (if done then Opened else Closed) old k' j
   turns-opened moment old piece request n k k' i j done stands opens = λ s fits.
       let o = opens s (old ++ piece) fits in
       (o.0, o.1, turn-opened moment s old piece request n i o.0 j done stands o.2)
 
   -- Nothing was asked of the keeper.
-  pub turns-held : (moment : ℕ) (opened : Bool) (held piece : List ℕ) (k : K) (i : Outside) (turn : Turn) (new : List ℕ) (j : Outside) → ((s : Standing) → IsTurn moment opened s held piece i turn s new j) → Turns holds rests ready leaves moment opened held piece k i turn new k j
-  turns-held moment opened held piece k i turn new j done = λ s fits. (s, moves-same holds rests ready leaves k s fits, done s)
+  pub turns-held : (moment : ℕ) (opened : Bool) (held piece : List ℕ) (k : K) (i : ConnectionState) (turn : Act) (new : List ℕ) (j : ConnectionState) → ((s : LastKnown) → IsControlAct moment opened s held piece i turn s new j) → ControlActs holds files_are ready leaves moment opened held piece k i turn new k j
+  turns-held moment opened held piece k i turn new j done = λ s fits. (s, moves-same holds files_are ready leaves k s fits, done s)
 
-  module _ (holds_rests : (k : K) (a : Archive) → holds k a → rests k a) (holds_left : (k : K) (a : Archive) (may : List (Option Archive)) → holds k a → Contains may (Some a) → leaves k k may) where
+  module _ (holds_files_are : (k : K) (a : Archive) → holds k a → files_are k a) (holds_left : (k : K) (a : Archive) (may : List (Option Archive)) → holds k a → Contains may (Some a) → leaves k k may) where
     -- A request that only reads was answered.
-    pub answers-read : (moment : ℕ) (request : Request) (k k' : K) (i j : Outside) (goes : Bool) → OnlyRead holds rests ready leaves k k' → ((a : Archive) (rest : List ℕ) → holds k a → Acts (said_to moment (standing a None) request rest) i (held_if goes (waiting rest false)) (standing a None) j)
-        → Answers holds rests ready leaves moment request k i goes k' j
-    answers-read moment request k k' i j goes read acts = λ a rest held. (standing a None, moves-read holds rests ready leaves holds_rests holds_left k k' a held read, acts a rest held)
+    pub answers-read : (moment : ℕ) (request : Request) (k k' : K) (i j : ConnectionState) (goes : Bool) → OnlyRead holds files_are ready leaves k k' → ((a : Archive) (rest : List ℕ) → holds k a → Acts (said_to moment (standing a None) request rest) i (held_if goes (waiting rest false)) (standing a None) j)
+        → AnswersRequest holds files_are ready leaves moment request k i goes k' j
+    answers-read moment request k k' i j goes read acts = λ a rest held. (standing a None, moves-read holds files_are ready leaves holds_files_are holds_left k k' a held read, acts a rest held)
 
     -- A request was answered without the keeper.
-    pub answers-held : (moment : ℕ) (request : Request) (k : K) (i j : Outside) (goes : Bool) → ((a : Archive) (rest : List ℕ) → Acts (said_to moment (standing a None) request rest) i (held_if goes (waiting rest false)) (standing a None) j)
-        → Answers holds rests ready leaves moment request k i goes k j
-    answers-held moment request k i j goes acts = λ a rest held. (standing a None, moves-same holds rests ready leaves k (standing a None) (fits-held holds rests ready leaves holds_rests holds_left k a held), acts a rest)
+    pub answers-held : (moment : ℕ) (request : Request) (k : K) (i j : ConnectionState) (goes : Bool) → ((a : Archive) (rest : List ℕ) → Acts (said_to moment (standing a None) request rest) i (held_if goes (waiting rest false)) (standing a None) j)
+        → AnswersRequest holds files_are ready leaves moment request k i goes k j
+    answers-held moment request k i j goes acts = λ a rest held. (standing a None, moves-same holds files_are ready leaves k (standing a None) (fits-held holds files_are ready leaves holds_files_are holds_left k a held), acts a rest)

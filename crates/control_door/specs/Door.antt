@@ -1,14 +1,14 @@
 -- What the control door answers. Its session is the bytes that are not answered yet, and its
 -- requests read and change an archive.
 use Rattle.std.specs.Prelude.{◌+◌, ◌*◌, ℕ, zero, suc, Bool, true, false, List, [], ◌∷◌, ◌++◌, length, codes, decimal, Option, Some, None, if◌then◌else◌}
-use Rattle.line_door.specs.Acts.{Said, Way}
+use Rattle.line_door.specs.Acts.{Said, Departure}
 use Rattle.line_door.specs.Making.{says, closes, in_ways}
 use Rattle.line_door.specs.Plain.{silent}
 use Rattle.disk_model.specs.Sizes.{epoch_count}
 use Rattle.arch_model.specs.Archives.{Entry, live, text_of, in_epoch}
 use Rattle.arch_model.specs.Epochs.{epoch_bytes}
 use Rattle.arch_model.specs.Delivery.{Done, delivered, removed, purged, edited, answer_line}
-use Rattle.arch_model.specs.Standing.{Standing, standing, unsure}
+use Rattle.arch_model.specs.Standing.{LastKnown, standing, unsure}
 use Rattle.answer_lines.specs.Lines.{whole_line, memory_word, disk_word, unopened_words}
 use Rattle.keep_course.specs.Answering.{said_reopening}
 use Rattle.shelf_trees.specs.Twigs.{thread_twigs}
@@ -69,24 +69,24 @@ abbrev pub waiting : List ℕ → Bool → Waiting
 waiting bytes opened = record { bytes = bytes; opened = opened }
 
 -- What an act of a session says, and the session and the archive after it.
-abbrev pub Says : Type 0
-Says = Said Waiting Standing
+abbrev pub ControlSays : Type 0
+ControlSays = Said Waiting LastKnown
 
 -- The session continues with these bytes.
-abbrev pub goes_on : List ℕ → List ℕ → Standing → Says
+abbrev pub goes_on : List ℕ → List ℕ → LastKnown → ControlSays
 goes_on rest words s = says s (waiting rest false) words
 
 -- The line of a command's answer, and its archive.
-abbrev pub carries_out : Done → List ℕ → Says
+abbrev pub carries_out : Done → List ℕ → ControlSays
 carries_out done rest =
     goes_on rest (whole_line (answer_line done.answer)) (standing done.archive None)
 
 -- The disk's word, and the archive that the command would have left is in doubt.
-abbrev pub doubts : Standing → Done → List ℕ → Says
+abbrev pub doubts : LastKnown → Done → List ℕ → ControlSays
 doubts s done rest = goes_on rest disk_word (standing s.archive (Some done.archive))
 
 -- The answer to a request at a moment, by the rules.
-abbrev pub answered : ℕ → Standing → Request → List ℕ → Says
+abbrev pub answered : ℕ → LastKnown → Request → List ℕ → ControlSays
 answered moment s (Delivers message) rest = carries_out (delivered s.archive message moment) rest
 answered moment s (Shows number) rest =
     goes_on rest (shown number (text_of (live s.archive.entries) number)) s
@@ -106,7 +106,7 @@ answered moment s Exceeds rest = closes s bad_word
 -- The answer to a request that runs out of memory. A command and a reindexing leave the archive
 -- unchanged, and a text, a tree or a list of epochs is said whole or not at all. Other requests need
 -- no memory.
-abbrev pub refused_memory : ℕ → Standing → Request → List ℕ → Says
+abbrev pub refused_memory : ℕ → LastKnown → Request → List ℕ → ControlSays
 refused_memory moment s Quits rest = answered moment s Quits rest
 refused_memory moment s Mistakes rest = answered moment s Mistakes rest
 refused_memory moment s Exceeds rest = answered moment s Exceeds rest
@@ -115,7 +115,7 @@ refused_memory moment s other rest = goes_on rest memory_word s
 -- The answer to a request at which the disk fails. It is then in doubt whether a command was
 -- carried out. A text or a list of epochs is said whole or not at all, and a reindexing leaves the
 -- archives that were there, in doubt. Other requests don't use the disk.
-abbrev pub refused_disk : ℕ → Standing → Request → List ℕ → Says
+abbrev pub refused_disk : ℕ → LastKnown → Request → List ℕ → ControlSays
 refused_disk moment s (Delivers message) rest = doubts s (delivered s.archive message moment) rest
 refused_disk moment s (Shows number) rest = goes_on rest disk_word s
 refused_disk moment s (Removes number) rest = doubts s (removed s.archive number moment) rest
@@ -130,37 +130,37 @@ refused_disk moment s Mistakes rest = answered moment s Mistakes rest
 refused_disk moment s Exceeds rest = answered moment s Exceeds rest
 
 -- The answer to a request in each way.
-abbrev pub said_to : ℕ → Standing → Request → List ℕ → Way → Says
+abbrev pub said_to : ℕ → LastKnown → Request → List ℕ → Departure → ControlSays
 said_to moment s request rest way = in_ways (answered moment s request rest)
     (refused_memory moment s request rest) (refused_disk moment s request rest) way
 
 -- Reopening finds the older archive or the one in doubt, or it closes the session because memory
 -- ran out or the disk failed.
-abbrev pub said_opening : Standing → List ℕ → Way → Says
+abbrev pub said_opening : LastKnown → List ℕ → Departure → ControlSays
 said_opening s bytes way = said_reopening unopened_words s (waiting bytes true) way
 
 -- Out of memory for the beginning of a request, the session is closed with a word. An empty rest
 -- needs no memory.
-abbrev pub unkept : Standing → Waiting → List ℕ → Says
+abbrev pub unkept : LastKnown → Waiting → List ℕ → ControlSays
 unkept s w [] = silent s w
 unkept s w (byte ∷ bytes) = closes s memory_word
 
 -- The beginning of a request is kept without a word, or memory runs out.
-abbrev pub said_keeping : Standing → Waiting → Way → Says
+abbrev pub said_keeping : LastKnown → Waiting → Departure → ControlSays
 said_keeping s w way = in_ways (silent s w) (unkept s w w.bytes) (silent s w) way
 
 -- At a whole request the archive is reopened, and then the request is answered.
-abbrev pub said_asked : Bool → ℕ → Standing → List ℕ → Request → List ℕ → Way → Says
+abbrev pub said_asked : Bool → ℕ → LastKnown → List ℕ → Request → List ℕ → Departure → ControlSays
 said_asked true moment s bytes request rest way = said_to moment s request rest way
 said_asked false moment s bytes request rest way = said_opening s bytes way
 
 -- What is said to what is at the front of a session.
-abbrev pub said_at : ℕ → Standing → Waiting → Ahead → Way → Says
+abbrev pub said_at : ℕ → LastKnown → Waiting → Ahead → Departure → ControlSays
 said_at moment s w (Asked request rest) way = said_asked w.opened moment s w.bytes request rest way
 said_at moment s w Unfinished way = said_keeping s w way
 
 -- What the door says to a session at a moment.
-abbrev pub said : ℕ → Standing → Waiting → Way → Says
+abbrev pub said : ℕ → LastKnown → Waiting → Departure → ControlSays
 said moment s w way = said_at moment s w (ahead w.bytes) way
 
 -- The session starts with a whole request.

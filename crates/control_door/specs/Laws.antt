@@ -1,11 +1,11 @@
 -- The answers to a control connection do not depend on how its bytes are cut.
 use Rattle.std.specs.Prelude.{◌≡◌, ℕ, true, false, List, ◌++◌, Option, Some, None}
-use Rattle.line_door.specs.Acts.{Outside, Said, Acts}
-use Rattle.line_door.specs.Course.{Talk, talk, Requests, Fed}
+use Rattle.line_door.specs.Acts.{ConnectionState, Said, Acts}
+use Rattle.line_door.specs.Course.{SessionState, talk, Requests, Fed}
 use Rattle.line_door.specs.Plain.{plain}
-use Rattle.line_door.specs.Cuts.{DoorLaws, LeftWith}
+use Rattle.line_door.specs.Cuts.{DoorLaws, LeftWithRest}
 use Rattle.arch_model.specs.Archives.{Archive}
-use Rattle.arch_model.specs.Standing.{Standing, standing}
+use Rattle.arch_model.specs.Standing.{LastKnown, standing}
 use Rattle.control_door.specs.Requests.{is_request}
 use Rattle.control_door.specs.Door.{Waiting, waiting, said, said_opening, has_request, with_piece, left as size_of}
 
@@ -15,7 +15,7 @@ bytes_of None = None
 bytes_of (Some w) = Some w.bytes
 
 -- Two acts say the same, and leave the same bytes and the same archive.
-pub record SaysTheSame (s t : Said Waiting Standing) : Type 0 where
+pub record SaysTheSame (s t : Said Waiting LastKnown) : Type 0 where
   pub bytes : bytes_of s.next ≡ bytes_of t.next
   pub words : s.words ≡ t.words
   pub after : s.after ≡ t.after
@@ -31,7 +31,8 @@ OpeningIsSilent =
 -- course. The reopening is the one before that request in the joined piece.
 abbrev pub OpeningJoins : Type 0
 OpeningJoins =
-    (moment : ℕ) (bytes : List ℕ) (s t : Standing) (i j : Outside) (v : Talk Waiting Standing) →
+    (moment : ℕ) (bytes : List ℕ) (s t : LastKnown) (i j : ConnectionState)
+    (v : SessionState Waiting LastKnown) →
     is_request bytes ≡ true →
     Acts (said_opening s bytes) i (Some (waiting bytes true)) t j →
     Fed (said moment) has_request (talk (Some (waiting bytes true)) t j) v →
@@ -42,22 +43,24 @@ OpeningJoins =
 -- before the second call is the one before that request, and with it the second call is a course that
 -- starts with what the joined pieces leave after the first call: in the archive, at the moment and at
 -- the outside of its own time.
-pub record CallsJoin (moment later : ℕ) (bytes p q : List ℕ) (s : Standing) (o : Outside)
-    (v : Talk Waiting Standing) (k : Waiting) (u : Standing) (i : Outside) (z : Talk Waiting Standing)
+pub record CallsJoin (moment later : ℕ) (bytes p q : List ℕ) (s : LastKnown) (o : ConnectionState)
+    (v : SessionState Waiting LastKnown) (k : Waiting) (u : LastKnown) (i : ConnectionState)
+    (z : SessionState Waiting LastKnown)
     : Type 0 where
-  pub acts : List (Talk Waiting Standing)
-  pub rest : Talk Waiting Standing
+  pub acts : List (SessionState Waiting LastKnown)
+  pub rest : SessionState Waiting LastKnown
   pub first : Requests (said moment) has_request
       (talk (Some (waiting (bytes ++ (p ++ q)) true)) s o) acts rest
-  pub left : LeftWith (said moment) has_request with_piece size_of q k rest v
+  pub left : LeftWithRest (said moment) has_request with_piece size_of q k rest v
   pub second : Fed (said later) has_request (talk (Some (waiting (k.bytes ++ q) false)) u i) z
 
 -- The law of two calls: a first call that left a session open, a reopening that found the archive, and
 -- a second call join so.
 abbrev pub TwoCalls : Type 0
 TwoCalls =
-    (moment later : ℕ) (bytes p q : List ℕ) (s : Standing) (o : Outside) (v : Talk Waiting Standing)
-    (k : Waiting) (u t : Standing) (i j : Outside) (z : Talk Waiting Standing) →
+    (moment later : ℕ) (bytes p q : List ℕ) (s : LastKnown) (o : ConnectionState)
+    (v : SessionState Waiting LastKnown)
+    (k : Waiting) (u t : LastKnown) (i j : ConnectionState) (z : SessionState Waiting LastKnown) →
     Fed (said moment) has_request (talk (Some (waiting (bytes ++ p) true)) s o) v →
     v.held ≡ Some k →
     is_request (k.bytes ++ q) ≡ true →

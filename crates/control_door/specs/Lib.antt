@@ -2,7 +2,7 @@ pub mod Orders
 pub mod Requests
 pub mod Threads
 pub mod Door
-pub mod Refusals
 pub mod Sessions
 pub mod Counting
 pub mod Laws
+pub mod Refusals

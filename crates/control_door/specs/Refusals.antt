@@ -1,4 +1,4 @@
--- Results of the code that makes a list of epochs.
+-- Private: results of the code that makes a list of epochs.
 use Rattle.std.specs.Prelude.{◌≡◌, ℕ, List, ◌++◌, Result, Ok, Err}
 use Rattle.arch_model.specs.declared.text_refusal.TextRefusal.{TextRefusal}
 use Rattle.arch_model.specs.Shelves.{IsUndamaged}
@@ -9,6 +9,6 @@ AppendsWords words old new (Ok _) = new ≡ old ++ words
 AppendsWords words old new (Err refusal) = IsUndamaged refusal
 
 -- These words were made, or memory ran out, or the disk failed.
-abbrev pub Makes : List ℕ → Result (List ℕ) TextRefusal → Type 0
-Makes words (Ok made) = made ≡ words
-Makes words (Err refusal) = IsUndamaged refusal
+abbrev pub MakesWords : List ℕ → Result (List ℕ) TextRefusal → Type 0
+MakesWords words (Ok made) = made ≡ words
+MakesWords words (Err refusal) = IsUndamaged refusal

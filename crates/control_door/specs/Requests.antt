@@ -44,7 +44,7 @@ asked_by Quit rest = Asked Quits rest
 asked_by Bad rest = Asked Mistakes rest
 
 -- The request of the line at the front.
-abbrev pub asked_at : line.Front → Ahead
+abbrev pub asked_at : line.LineFront → Ahead
 asked_at (line.Whole text rest) = asked_by (order_of (line.content text)) rest
 asked_at line.Long = Asked Exceeds []
 asked_at line.Partial = Unfinished

@@ -1,13 +1,13 @@
 -- What a session holds between pieces, the front of its bytes, and its acts.
 use Rattle.std.specs.Prelude.{◌≡◌, ◌+◌, ◌<◌, ◌≤◌, ℕ, Bool, true, false, List, ◌++◌, length, drop, Option, Some, None}
 use Rattle.line_door.specs.Lines as line
-use Rattle.line_door.specs.Acts.{Outside, Way, Acts, held_if}
+use Rattle.line_door.specs.Acts.{ConnectionState, Departure, Acts, held_if}
 use Rattle.line_door.specs.Course.{talk}
 use Rattle.keep_course.specs.Answering as answering
-use Rattle.keep_course.specs.Courses.{CourseLeft}
+use Rattle.keep_course.specs.Courses.{SessionRunLeft}
 use Rattle.arch_model.specs.Archives.{Archive}
-use Rattle.arch_model.specs.Keeping.{Fits, Moves}
-use Rattle.arch_model.specs.Standing.{Standing, standing}
+use Rattle.arch_model.specs.Keeping.{MatchesKnown, KeeperMoves}
+use Rattle.arch_model.specs.Standing.{LastKnown, standing}
 use Rattle.arch_model.specs.declared.command.Command.{Command}
 use Rattle.arch_model.specs.declared.command.Command.TheVariants.{Deliver, Remove, Purge, Edit}
 use Rattle.control_door.specs.Orders.{order_of}
@@ -22,8 +22,8 @@ use Rattle.control_door.specs.declared.front.Requested.{Requested}
 use Rattle.control_door.specs.declared.front.Requested.TheVariants as requested
 use Rattle.control_door.specs.declared.front.Front.{Front}
 use Rattle.control_door.specs.declared.front.Front.TheVariants as found
-use Rattle.control_door.specs.declared.session.Turn.{Turn}
-use Rattle.control_door.specs.declared.session.Turn.TheVariants.{Opened, Went, Kept, Closed}
+use Rattle.control_door.specs.declared.session.Act.{Act}
+use Rattle.control_door.specs.declared.session.Act.TheVariants.{Opened, Went, Kept, Closed}
 
 -- The order that announces a message with an aim, of this size.
 abbrev pub order_with : Aim → ℕ → Order
@@ -43,9 +43,9 @@ pub record IsPayload (bytes : List ℕ) (aim : Aim) (start end : ℕ) : Type 0 w
   pub missing : length bytes < end
 
 -- What is held is a part of a line, or the beginning of a delivery or an edit.
-abbrev pub IsHeld : List ℕ → Option Payload → Type 0
-IsHeld bytes None = line.front line_limit bytes ≡ line.Partial
-IsHeld bytes (Some payload) = IsPayload bytes payload.aim payload.start payload.end
+abbrev pub IsHeldRequest : List ℕ → Option Payload → Type 0
+IsHeldRequest bytes None = line.front line_limit bytes ≡ line.Partial
+IsHeldRequest bytes (Some payload) = IsPayload bytes payload.aim payload.start payload.end
 
 -- The request for a command.
 abbrev pub request_for : Command → Request
@@ -87,63 +87,65 @@ pub record IsRequested (held piece : List ℕ) (request : Requested) (taken : �
   pub stands : ahead (held ++ piece) ≡ Asked (request_of held request) (drop taken piece)
 
 -- The front is the beginning of a request, or a whole one.
-abbrev pub IsFront : List ℕ → List ℕ → Front → Type 0
-IsFront held piece (found.Rest payload) = IsHeld (held ++ piece) payload
-IsFront held piece (found.Whole request taken) = IsRequested held piece request taken
+abbrev pub IsRequestFront : List ℕ → List ℕ → Front → Type 0
+IsRequestFront held piece (found.Rest payload) = IsHeldRequest (held ++ piece) payload
+IsRequestFront held piece (found.Whole request taken) = IsRequested held piece request taken
 
 -- One act on the bytes at the front, given whether the archive was already reopened. It is the
 -- reopening, or a request that took `n` bytes of the piece and left the session open, or the
 -- keeping of the piece, or the close.
-abbrev pub IsTurn : ℕ → Bool → Standing → List ℕ → List ℕ → Outside → Turn → Standing → List ℕ
-    → Outside → Type 0
-IsTurn moment opened s old piece i Opened t new j =
+abbrev pub IsControlAct : ℕ → Bool → LastKnown → List ℕ → List ℕ → ConnectionState → Act → LastKnown → List ℕ
+    → ConnectionState → Type 0
+IsControlAct moment opened s old piece i Opened t new j =
     (is_request (old ++ piece) ≡ true) × Acts (said moment s (waiting (old ++ piece) opened)) i
     (Some (waiting (new ++ piece) true)) t j
-IsTurn moment opened s old piece i (Went n) t new j =
+IsControlAct moment opened s old piece i (Went n) t new j =
     (is_request (old ++ piece) ≡ true) × Acts (said moment s (waiting (old ++ piece) opened)) i
     (Some (waiting (new ++ drop n piece) false)) t j
-IsTurn moment opened s old piece i Kept t new j =
+IsControlAct moment opened s old piece i Kept t new j =
     (is_request (old ++ piece) ≡ false) × (j.disk ≡ i.disk)
     × Acts (said moment s (waiting (old ++ piece) opened)) i (Some (waiting new opened)) t j
-IsTurn moment opened s old piece i Closed t new j =
+IsControlAct moment opened s old piece i Closed t new j =
     Acts (said moment s (waiting (old ++ piece) opened)) i None t j
 
 -- A reopening comes only if there was none yet, and a request takes bytes of the piece.
-abbrev pub Takes : Bool → List ℕ → Turn → Type 0
-Takes opened piece Opened = opened ≡ false
-Takes opened piece (Went n) = (0 < n) × (n ≤ length piece)
-Takes opened piece Kept = Unit {0}
-Takes opened piece Closed = Unit {0}
+abbrev pub TakesRequest : Bool → List ℕ → Act → Type 0
+TakesRequest opened piece Opened = opened ≡ false
+TakesRequest opened piece (Went n) = (0 < n) × (n ≤ length piece)
+TakesRequest opened piece Kept = Unit {0}
+TakesRequest opened piece Closed = Unit {0}
 
 -- A keeper: the archives that it holds, those of which its files are exactly, whether it is ready, and
 -- what each crash since a state may have left.
-module _ {K : Type 0} (holds rests : K → Archive → Type 0) (ready : K → Bool)
+module _ {K : Type 0} (holds files_are : K → Archive → Type 0) (ready : K → Bool)
     (leaves : K → K → List (Option Archive) → Type 0) where
-  -- Whichever archive is held, a request to it is answered, and the keeper fits the archive after
+  -- Whichever archive is held, a request to it is answered, and the keeper matches the archive after
   -- it.
-  abbrev pub Answers : ℕ → Request → K → Outside → Bool → K → Outside → Type 0
-  Answers moment request old i goes_on new j = answering.Answers holds rests ready leaves
-      (λ (a : Archive) (rest : List ℕ) (way : Way). said_to moment (standing a None) request rest way)
+  abbrev pub AnswersRequest : ℕ → Request → K → ConnectionState → Bool → K → ConnectionState → Type 0
+  AnswersRequest moment request old i goes_on new j = answering.ActsOnArchive holds files_are ready leaves
+      (λ (a : Archive) (rest : List ℕ) (way : Departure). said_to moment (standing a None) request rest way)
       (λ (rest : List ℕ). waiting rest false) old i goes_on new j
 
-  -- Whatever the keeper fits, it is reopened, or reopening is refused.
-  abbrev pub Opens : K → Outside → Bool → K → Outside → Type 0
-  Opens old i opened new j = answering.Opens holds rests ready leaves
-      (λ (s : Standing) (bytes : List ℕ) (way : Way). said_opening s bytes way)
+  -- Whatever the keeper matches, it is reopened, or reopening is refused.
+  abbrev pub ReopensForCommand : K → ConnectionState → Bool → K → ConnectionState → Type 0
+  ReopensForCommand old i opened new j = answering.ReopensBy holds files_are ready leaves
+      (λ (s : LastKnown) (bytes : List ℕ) (way : Departure). said_opening s bytes way)
       (λ (bytes : List ℕ). waiting bytes true) old i opened new j
 
-  -- Whatever the keeper fits, one act is done, and the keeper fits what the act leaves.
-  abbrev pub Turns : ℕ → Bool → List ℕ → List ℕ → K → Outside → Turn → List ℕ → K → Outside → Type 0
-  Turns moment opened held piece old i turn left new j =
-      (s : Standing) → Fits holds rests ready leaves old s → (t : Standing)
-      × Moves holds rests ready leaves old s new t × IsTurn moment opened s held piece i turn t left j
+  -- Whatever the keeper matches, one act is done, and the keeper matches what the act leaves.
+  abbrev pub ControlActs : ℕ → Bool → List ℕ → List ℕ → K → ConnectionState → Act → List ℕ → K
+      → ConnectionState → Type 0
+  ControlActs moment opened held piece old i turn left new j =
+      (s : LastKnown) → MatchesKnown holds files_are ready leaves old s → (t : LastKnown)
+      × KeeperMoves holds files_are ready leaves old s new t
+      × IsControlAct moment opened s held piece i turn t left j
 
-  -- Whatever the keeper fits, these bytes of a session are answered by a course, and the keeper fits
+  -- Whatever the keeper matches, these bytes of a session are answered by a course, and the keeper matches
   -- what that leaves. A crash since the start leaves an archive of one of its talks, or one in doubt
   -- there.
-  abbrev pub Feeds : ℕ → List ℕ → K → Outside → Bool → List ℕ → K → Outside → Type 0
-  Feeds moment bytes old i goes_on left new j =
-      (s : Standing) → Fits holds rests ready leaves old s → (t : Standing) × (opened : Bool)
-      × Fits holds rests ready leaves new t
-      × CourseLeft leaves (said moment) has_request old new (talk (Some (waiting bytes true)) s i)
+  abbrev pub AnswersCommands : ℕ → List ℕ → K → ConnectionState → Bool → List ℕ → K → ConnectionState → Type 0
+  AnswersCommands moment bytes old i goes_on left new j =
+      (s : LastKnown) → MatchesKnown holds files_are ready leaves old s → (t : LastKnown) × (opened : Bool)
+      × MatchesKnown holds files_are ready leaves new t
+      × SessionRunLeft leaves (said moment) has_request old new (talk (Some (waiting bytes true)) s i)
       (talk (held_if goes_on (waiting left opened)) t j)

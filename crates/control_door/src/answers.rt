@@ -1,16 +1,17 @@
 //! Answers the requests of a control connection from a keeper.
+//! Writes the disk; syncs.
 ghost use Rattle.std.specs.Prelude.{◌≡◌, ◌≤◌, ◌++◌, ℕ, List, length, drop, true, false, is_ok};
 ghost use Rattle.line_door.specs.Acts.{outside, Acts, held_if};
 ghost use Rattle.arch_model.specs.Archives.{Archive};
 ghost use Rattle.arch_base.specs.Moments.{last_moment};
 ghost use Rattle.arch_model.specs.Next.{continues};
-ghost use Rattle.arch_model.specs.Shelves.{Stays, ReadsOnce, ReadsUpTo};
+ghost use Rattle.arch_model.specs.Shelves.{ShelfStays, ReadsOnce, ReadsUpTo};
 ghost use Rattle.arch_model.specs.Standing.{standing};
 ghost use Rattle.control_door.specs.Counting.{Meets, request_asks, closes_session};
 ghost use Rattle.control_door.specs.Door.{waiting, said_to};
 ghost use Rattle.disk_model.specs.Sizes.{epoch_count};
 ghost use Rattle.control_door.specs.Requests.{Shows, Threads, Lists, Reindexes};
-ghost use Rattle.control_door.specs.Sessions.{request_of, request_for, request_with, StartsWithin, Answers, Opens};
+ghost use Rattle.control_door.specs.Sessions.{request_of, request_for, request_with, StartsWithin, AnswersRequest, ReopensForCommand};
 
 use crate::epochs::epochs_of;
 use crate::front::{Aim, Requested};
@@ -26,7 +27,7 @@ use std::alloc::Global;
 ///
 /// Does nothing if no command is in doubt. Writes the reason if reopening fails.
 pub(crate) fn reopen<K: Keep, O: Sink>(keep: &mut K, out: &mut O) -> Next
-    ensures acts { Opens K.holds K.rests K.ready K.leaves keep.old
+    ensures acts { ReopensForCommand K.holds K.files_are K.ready K.leaves keep.old
         (outside (O.taken out.old) (K.faults keep.old) (O.faults out.old))
         (continues result) keep.new
         (outside (O.taken out.new) (K.faults keep.new) (O.faults out.new)) }
@@ -59,7 +60,7 @@ pub(crate) fn say_requested<K: Keep, O: Sink>(
     requires ready { K.ready keep.old ≡ true }
     requires moment { moment ≤ last_moment }
     requires starts { StartsWithin held.old request }
-    ensures acts { Answers K.holds K.rests K.ready K.leaves moment
+    ensures acts { AnswersRequest K.holds K.files_are K.ready K.leaves moment
         (request_of held.old request.entry) keep.old
         (outside (O.taken out.old) (K.faults keep.old) (O.faults out.old))
         (continues result) keep.new
@@ -116,7 +117,8 @@ fn say_commanded<K: Keep, O: Sink>(
 ) -> Result<(), SinkFault>
     requires ready { K.ready keep.old ≡ true }
     requires moment { moment ≤ last_moment }
-    ensures acts { Answers K.holds K.rests K.ready K.leaves moment (request_for command.now) keep.old
+    ensures acts { AnswersRequest K.holds K.files_are K.ready K.leaves moment
+        (request_for command.now) keep.old
         (outside (O.taken out.old) (K.faults keep.old) (O.faults out.old))
         (is_ok result) keep.new
         (outside (O.taken out.new) (K.faults keep.new) (O.faults out.new)) }
@@ -145,7 +147,7 @@ fn say_joined<K: Keep, O: Sink>(
     requires ready { K.ready keep.old ≡ true }
     requires moment { moment ≤ last_moment }
     requires starts { start ≤ length held.old }
-    ensures acts { Answers K.holds K.rests K.ready K.leaves moment
+    ensures acts { AnswersRequest K.holds K.files_are K.ready K.leaves moment
         (request_with aim (drop start (held.old ++ last.now))) keep.old
         (outside (O.taken out.old) (K.faults keep.old) (O.faults out.old))
         (is_ok result) keep.new
@@ -175,7 +177,7 @@ fn say_message<S: Shelf, O: Sink>(
         (outside (O.taken out.old) (S.faults shelf.old) (O.faults out.old))
         (held_if (is_ok result) (waiting rest false)) (standing a None)
         (outside (O.taken out.new) (S.faults shelf.new) (O.faults out.new)) }
-    ensures shelf { Stays S.holds S.ready S.alike S.faults shelf.old shelf.new }
+    ensures shelf { ShelfStays S.holds S.ready S.alike S.faults shelf.old shelf.new }
     ensures reads { ReadsOnce (S.reads shelf.old) (S.reads shelf.new) }
     ensures sink { O.alike out.old out.new }
 {
@@ -223,7 +225,7 @@ fn say_epochs<K: Keep, O: Sink>(alloc: Global, keep: &mut K, out: &mut O) -> Res
         (outside (O.taken out.old) (K.faults keep.old) (O.faults out.old))
         (held_if (is_ok result) (waiting rest false)) (standing a None)
         (outside (O.taken out.new) (K.faults keep.new) (O.faults out.new)) }
-    ensures shelf { Stays K.holds K.ready K.alike K.faults keep.old keep.new }
+    ensures shelf { ShelfStays K.holds K.ready K.alike K.faults keep.old keep.new }
     ensures reads { ReadsUpTo epoch_count (K.reads keep.old) (K.reads keep.new) }
     ensures sink { O.alike out.old out.new }
 {
@@ -238,7 +240,8 @@ fn say_epochs<K: Keep, O: Sink>(alloc: Global, keep: &mut K, out: &mut O) -> Res
 /// A refusal leaves the keeper stale.
 fn say_reindexing<K: Keep, O: Sink>(keep: &mut K, out: &mut O) -> Result<(), SinkFault>
     requires { K.ready keep.old ≡ true }
-    ensures acts { (moment : ℕ) → Answers K.holds K.rests K.ready K.leaves moment Reindexes keep.old
+    ensures acts { (moment : ℕ) → AnswersRequest K.holds K.files_are K.ready K.leaves moment
+        Reindexes keep.old
         (outside (O.taken out.old) (K.faults keep.old) (O.faults out.old))
         (is_ok result) keep.new
         (outside (O.taken out.new) (K.faults keep.new) (O.faults out.new)) }

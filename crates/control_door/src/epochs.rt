@@ -1,10 +1,11 @@
 //! The list of the epochs of an archive.
+//! Reads the disk.
 ghost use Rattle.std.specs.Prelude.{◌≡◌, ◌++◌, [], true, OnOk};
 ghost use Rattle.disk_model.specs.Sizes.{epoch_count};
 ghost use Rattle.arch_model.specs.Archives.{Archive, in_epoch};
-ghost use Rattle.arch_model.specs.Shelves.{Stays, ReadCause, ReadsOnce, ReadsUpTo};
+ghost use Rattle.arch_model.specs.Shelves.{ShelfStays, ReadCause, ReadsOnce, ReadsUpTo};
 ghost use Rattle.control_door.specs.Door.{listed, listed_below, epoch_words, epochs_words};
-ghost use Rattle.control_door.specs.Refusals.{AppendsWords, Makes};
+ghost use Rattle.control_door.specs.Refusals.{AppendsWords, MakesWords};
 
 use arch_base::{Bytes, NoMemory};
 use arch_model::{Keep, TextRefusal};
@@ -17,8 +18,8 @@ use std::alloc::Global;
 /// The list is made whole before any of it is written.
 pub(crate) fn epochs_of<K: Keep>(alloc: Global, keep: &mut K) -> Result<Bytes, TextRefusal>
     requires { K.ready keep.old ≡ true }
-    ensures words { (a : Archive) → K.holds keep.old a → Makes (epochs_words a.entries) result }
-    ensures shelf { Stays K.holds K.ready K.alike K.faults keep.old keep.new }
+    ensures words { (a : Archive) → K.holds keep.old a → MakesWords (epochs_words a.entries) result }
+    ensures shelf { ShelfStays K.holds K.ready K.alike K.faults keep.old keep.new }
     ensures cause { ReadCause (K.faults keep.old) (K.faults keep.new) result }
     ensures reads { ReadsUpTo epoch_count (K.reads keep.old) (K.reads keep.new) }
 {
@@ -41,7 +42,7 @@ fn push_epochs<K: Keep>(alloc: Global, keep: &mut K, into: &mut Bytes) -> Result
     requires empty { into.old ≡ [] }
     ensures words { (a : Archive) → K.holds keep.old a
         → AppendsWords (listed_below epoch_count a.entries) [] into.new result }
-    ensures shelf { Stays K.holds K.ready K.alike K.faults keep.old keep.new }
+    ensures shelf { ShelfStays K.holds K.ready K.alike K.faults keep.old keep.new }
     ensures cause { ReadCause (K.faults keep.old) (K.faults keep.new) result }
     ensures reads { ReadsUpTo epoch_count (K.reads keep.old) (K.reads keep.new) }
 {
@@ -66,7 +67,7 @@ fn push_listed<K: Keep>(
     requires { K.ready keep.old ≡ true }
     ensures words { (a : Archive) → K.holds keep.old a
         → AppendsWords (listed epoch (in_epoch a.entries epoch)) into.old into.new result }
-    ensures shelf { Stays K.holds K.ready K.alike K.faults keep.old keep.new }
+    ensures shelf { ShelfStays K.holds K.ready K.alike K.faults keep.old keep.new }
     ensures cause { ReadCause (K.faults keep.old) (K.faults keep.new) result }
     ensures reads { ReadsOnce (K.reads keep.old) (K.reads keep.new) }
 {

@@ -1,4 +1,5 @@
 //! The front of a session's bytes: a whole request, or the beginning of one.
+//! Pure.
 
 /// What a message is delivered for.
 #[derive(Clone, Copy, Drop)]

@@ -1,4 +1,5 @@
 //! The laws of the control door, which hold for every archive and all bytes.
+//! Pure.
 ghost use Rattle.control_door.specs.Laws.{ControlLaws};
 
 /// Shows that the answers of the control door do not depend on how its bytes are cut.

@@ -1,5 +1,7 @@
-//! The control door: a connection that delivers, shows, removes, purges and edits messages, shows
-//! threads and lists epochs.
+//! The control door: a connection by which an archive is commanded.
+//! Writes the disk; syncs.
+//!
+//! It delivers, shows, removes, purges and edits messages, shows threads and lists epochs.
 #![tactic(auto)]
 
 mod answers;

@@ -1,4 +1,5 @@
 //! Reads the lines of the control door.
+//! Pure.
 ghost use Rattle.std.specs.Prelude.{◌≡◌, ◌≤◌, true, length};
 ghost use Rattle.control_door.specs.Orders.{order_of, begins_with as begins, deliver_order as deliver_order_of, number_in as number_of, show_order as show_order_of, remove_order as remove_order_of, purge_order as purge_order_of, edit_words as edit_words_of, edit_order as edit_order_of, thread_order as thread_order_of};
 

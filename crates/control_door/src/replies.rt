@@ -1,4 +1,5 @@
 //! Writes the replies that only the control door has.
+//! Pure.
 ghost use Rattle.std.specs.Prelude.{Some, None};
 ghost use Rattle.edge_io.specs.Phrases.{Says};
 ghost use Rattle.control_door.specs.Door.{bad_word, busy_word, shown, reindexed_words};

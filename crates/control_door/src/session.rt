@@ -1,11 +1,12 @@
 //! A control connection: the bytes that are not answered yet, and the answer to a piece.
+//! Writes the disk; syncs.
 ghost use Rattle.std.specs.Prelude.{◌≡◌, ◌⊎◌, ◌+◌, ◌<◌, ◌≤◌, ℕ, [], ◌++◌, length, take, drop, Bool, true, false, if◌then◌else◌};
 ghost use Rattle.line_door.specs.Lines.{front, Whole, content};
 ghost use Rattle.line_door.specs.Acts.{outside};
 ghost use Rattle.arch_base.specs.Moments.{last_moment};
 ghost use Rattle.arch_model.specs.Next.{continues};
-ghost use Rattle.arch_model.specs.Standing.{Standing};
-ghost use Rattle.control_door.specs.Counting.{Meets, IsTurnReads, IsRest, asks_for};
+ghost use Rattle.arch_model.specs.Standing.{LastKnown};
+ghost use Rattle.control_door.specs.Counting.{Meets, ControlActReads, IsRest, asks_for};
 ghost use Rattle.control_door.specs.Orders.{order_of};
 ghost use Rattle.control_door.specs.Requests.{is_request, line_limit};
 
@@ -25,7 +26,7 @@ const LINE_LIMIT: usize = 512;
 
 /// The result of one act on the bytes at the front.
 #[derive(Clone, Copy, Drop)]
-pub(crate) enum Turn {
+pub(crate) enum Act {
     /// The archive was reopened, or nothing was in doubt.
     Opened,
     /// A request that took this many bytes of the piece was answered, and the session continues.
@@ -48,17 +49,17 @@ pub struct Session {
 
 impl Model for Session {
     ghost use Rattle.std.specs.Prelude.{List, ℕ};
-    ghost use Rattle.control_door.specs.Sessions.{IsHeld};
+    ghost use Rattle.control_door.specs.Sessions.{IsHeldRequest};
 
     ghost Value = { List ℕ };
 
     ghost view = { λ s. s.held };
 
-    ghost invariant = { λ s. IsHeld s.held s.payload };
+    ghost invariant = { λ s. IsHeldRequest s.held s.payload };
 }
 
 impl Session {
-    ghost use Rattle.control_door.specs.Sessions.{IsTurn, IsHeld, IsPayload, order_with, IsFront, Turns, Takes, Feeds};
+    ghost use Rattle.control_door.specs.Sessions.{IsControlAct, IsHeldRequest, IsPayload, order_with, IsRequestFront, ControlActs, TakesRequest, AnswersCommands};
 
     /// Returns a session without bytes. The control door has no greeting.
     pub fn open(alloc: Global) -> Session
@@ -112,7 +113,8 @@ impl Session {
     ) -> Next
         requires ready { K.ready keep.old ≡ true }
         requires moment { moment ≤ last_moment }
-        ensures fed { Feeds K.holds K.rests K.ready K.leaves moment (self.old ++ piece.now) keep.old
+        ensures fed { AnswersCommands K.holds K.files_are K.ready K.leaves moment
+            (self.old ++ piece.now) keep.old
             (outside (O.taken out.old) (K.faults keep.old) (O.faults out.old))
             (continues result) self.new keep.new
             (outside (O.taken out.new) (K.faults keep.new) (O.faults out.new)) }
@@ -125,13 +127,13 @@ impl Session {
         let mut opened = true;
         loop {
             match self.act(rest, opened, moment, keep, out) {
-                Turn::Opened => opened = true,
-                Turn::Went(taken) => {
+                Act::Opened => opened = true,
+                Act::Went(taken) => {
                     rest = rest.split_at(taken).1;
                     opened = false;
                 }
-                Turn::Kept => return Next::Go,
-                Turn::Closed => return Next::Close,
+                Act::Kept => return Next::Go,
+                Act::Closed => return Next::Close,
             }
         }
     }
@@ -146,17 +148,18 @@ impl Session {
         moment: u64,
         keep: &mut K,
         out: &mut O,
-    ) -> Turn
+    ) -> Act
         requires ready { opened ≡ true → K.ready keep.old ≡ true }
         requires moment { moment ≤ last_moment }
-        ensures turn { Turns K.holds K.rests K.ready K.leaves moment opened self.old piece.now keep.old
+        ensures turn { ControlActs K.holds K.files_are K.ready K.leaves moment opened self.old
+            piece.now keep.old
             (outside (O.taken out.old) (K.faults keep.old) (O.faults out.old))
             result self.new keep.new
             (outside (O.taken out.new) (K.faults keep.new) (O.faults out.new)) }
-        ensures takes { Takes opened piece.now result }
-        ensures ready { result ≡ Turn.Opened → K.ready keep.new ≡ true }
-        ensures held { result ≡ Turn.Opened → self.new ≡ self.old }
-        ensures reads { K.ready keep.old ≡ true → IsTurnReads self.old piece.now result self.new
+        ensures takes { TakesRequest opened piece.now result }
+        ensures ready { result ≡ Act.Opened → K.ready keep.new ≡ true }
+        ensures held { result ≡ Act.Opened → self.new ≡ self.old }
+        ensures reads { K.ready keep.old ≡ true → ControlActReads self.old piece.now result self.new
             (K.ready keep.new) (K.reads keep.old) (K.reads keep.new) }
         ensures rest { is_request (self.old ++ piece.now) ≡ false
             → IsRest result (K.reads keep.old) (K.reads keep.new) }
@@ -178,31 +181,31 @@ impl Session {
     }
 
     /// Keeps a piece that doesn't end a request. An empty piece needs no memory.
-    fn hold<O: Sink>(&mut self, piece: &[u8], payload: Option<Payload>, out: &mut O) -> Turn
-        requires { IsHeld (self.old ++ piece.now) payload }
-        ensures turn { (moment disk : ℕ) (opened : Bool) (s : Standing)
-            → IsTurn moment opened s self.old piece.now
+    fn hold<O: Sink>(&mut self, piece: &[u8], payload: Option<Payload>, out: &mut O) -> Act
+        requires { IsHeldRequest (self.old ++ piece.now) payload }
+        ensures turn { (moment disk : ℕ) (opened : Bool) (s : LastKnown)
+            → IsControlAct moment opened s self.old piece.now
             (outside (O.taken out.old) disk (O.faults out.old))
             result s self.new
             (outside (O.taken out.new) disk (O.faults out.new)) }
-        ensures ends { (result ≡ Turn.Kept) ⊎ (result ≡ Turn.Closed) }
+        ensures ends { (result ≡ Act.Kept) ⊎ (result ≡ Act.Closed) }
         ensures sink { O.alike out.old out.new }
     {
         if piece.is_empty() {
             self.payload = payload;
-            return Turn::Kept;
+            return Act::Kept;
         }
         if self.held.push_slice(piece).is_err() {
             let _ = say_memory(out);
-            return Turn::Closed;
+            return Act::Closed;
         }
         self.payload = payload;
-        Turn::Kept
+        Act::Kept
     }
 
     /// Returns the front of what is held and a piece.
     fn front<'a>(&self, piece: &'a [u8]) -> Front<'a>
-        ensures { IsFront self.now piece.now result }
+        ensures { IsRequestFront self.now piece.now result }
     {
         if let Some(payload) = self.payload {
             return self.joined(payload, piece);
@@ -217,7 +220,7 @@ impl Session {
     /// Returns the front, if the beginning of a delivery or an edit is held.
     fn joined<'a>(&self, payload: Payload, piece: &'a [u8]) -> Front<'a>
         requires { IsPayload self.now payload.aim payload.start payload.end }
-        ensures { IsFront self.now piece.now result }
+        ensures { IsRequestFront self.now piece.now result }
     {
         let missing = payload.end - self.held.as_slice().len();
         if piece.len() < missing {
@@ -233,7 +236,7 @@ impl Session {
         requires short { length self.now + len < line_limit }
         requires line { front line_limit (self.now ++ piece.now)
             ≡ Whole (self.now ++ take len piece.now) (drop (len + 1) piece.now) }
-        ensures { IsFront self.now piece.now result }
+        ensures { IsRequestFront self.now piece.now result }
     {
         match line_order(self.held.as_slice(), &piece[..len]) {
             Order::Deliver(size) => self.message(Aim::New, size, len, piece),
@@ -257,7 +260,7 @@ impl Session {
         requires line { front line_limit (self.now ++ piece.now)
             ≡ Whole (self.now ++ take len piece.now) (drop (len + 1) piece.now) }
         requires order { order_of (content (self.now ++ take len piece.now)) ≡ order_with aim size }
-        ensures { IsFront self.now piece.now result }
+        ensures { IsRequestFront self.now piece.now result }
     {
         let size = size as usize;
         let (_line, after) = piece.split_at(len + 1);
@@ -272,22 +275,22 @@ impl Session {
 }
 
 /// Continues if reopening succeeded, otherwise closes.
-fn reopened(next: Next) -> Turn
-    ensures { result ≡ (if continues next then Turn.Opened else Turn.Closed) }
+fn reopened(next: Next) -> Act
+    ensures { result ≡ (if continues next then Act.Opened else Act.Closed) }
 {
     match next {
-        Next::Go => Turn::Opened,
-        Next::Close => Turn::Closed,
+        Next::Go => Act::Opened,
+        Next::Close => Act::Closed,
     }
 }
 
 /// Continues after a request that took `taken` bytes of the piece, or closes.
-fn went(taken: usize, next: Next) -> Turn
-    ensures { result ≡ (if continues next then Turn.Went taken else Turn.Closed) }
+fn went(taken: usize, next: Next) -> Act
+    ensures { result ≡ (if continues next then Act.Went taken else Act.Closed) }
 {
     match next {
-        Next::Go => Turn::Went(taken),
-        Next::Close => Turn::Closed,
+        Next::Go => Act::Went(taken),
+        Next::Close => Act::Closed,
     }
 }
 

@@ -1,4 +1,5 @@
 //! The words of the tree of a thread.
+//! Allocates.
 ghost use Rattle.std.specs.Prelude.{◌≡◌, ◌++◌, ◌∷◌, true, length, codes, decimal, IfOk, OnOk, option_copied};
 ghost use Rattle.answer_lines.specs.Lines.{whole_line};
 ghost use Rattle.arch_model.specs.Archives.{Archive, live};

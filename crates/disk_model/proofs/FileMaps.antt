@@ -21,7 +21,7 @@ use Rattle.disk_model.specs.Record.{file_at, SetsFile, SameFiles}
 use Rattle.disk_model.specs.Images.{same_name, names_total, exact_names}
 
 -- The derived order of names is the one of the definitions, kind by kind.
-derived_kinds : (k l : FileKind) (m n g h : ℕ) → order.ghosts.cmp (record { kind = k; number = m; gen_ = g }) (record { kind = l; number = n; gen_ = h }) ≡ name_cmp (record { kind = k; number = m; gen_ = g }) (record { kind = l; number = n; gen_ = h })
+derived_kinds : (k l : FileKind) (m n g h : ℕ) → order.ghosts.cmp (record { kind = k; number = m; generation = g }) (record { kind = l; number = n; generation = h }) ≡ name_cmp (record { kind = k; number = m; generation = g }) (record { kind = l; number = n; generation = h })
 derived_kinds Root Root m n g h = refl
 derived_kinds Root Map m n g h = refl
 derived_kinds Root Epoch m n g h = refl
@@ -41,7 +41,7 @@ derived_kinds Cache Cache m n g h = refl
 
 -- The derived order of names is the one of the definitions.
 pub derived : order.ghosts.cmp ≡ name_cmp
-derived = λ i a b. derived_kinds a.kind b.kind a.number b.number a.gen_ b.gen_ i
+derived = λ i a b. derived_kinds a.kind b.kind a.number b.number a.generation b.generation i
 
 -- The bytes of a vector.
 abbrev pub items_of : Vec ℕ Global → List ℕ

@@ -7,8 +7,8 @@ use Rattle.std.proofs.lemmas.List.{get_or-take, take-append-drop, length-replica
 use Rattle.disk_model.specs.declared.name.FileName.{FileName}
 use Rattle.disk_model.specs.declared.change.Change.{Change}
 use Rattle.disk_model.specs.declared.change.Change.TheVariants.{Write, Cut, Remove, Sync}
-use Rattle.disk_model.specs.Disk.{File, Files, Image, Kept, Content, Sure, Fits, bytes_of, overlay, write_sure, cut_sure, remove_sure, cut_file, ReadsFit}
-use Rattle.disk_model.specs.Laws.{Fits-Within, write_wider, cut_wider, remove_wider, exact-fits, overlay_length}
+use Rattle.disk_model.specs.Disk.{File, Files, Image, Kept, Content, Survival, MaySurvive, bytes_of, overlay, write_sure, cut_sure, remove_sure, cut_file, ReadsFit}
+use Rattle.disk_model.specs.Laws.{MaySurvive-Within, write_wider, cut_wider, remove_wider, exact-fits, overlay_length}
 use Rattle.disk_model.specs.Name.{name_cmp}
 use Rattle.disk_model.specs.Record.{step, replay, at_rest, content_of}
 
@@ -77,7 +77,7 @@ as_long (Some bytes) = refl
 
 -- A file that a crash may leave and that is as long as the one that reads give.
 pub record Tracks (k : Kept) (file : File) : Type 0 where
-  pub fits : Fits k.sure file
+  pub fits : MaySurvive k.sure file
   pub long : AsLong k.seen file
 
 -- Filling a write keeps its length.
@@ -99,7 +99,7 @@ pub write_tracks : (offset : ℕ) (bytes other : List ℕ) (k : Kept) (file : Fi
       sure = write_sure offset (length bytes) k.seen k.sure;
     }) (Some (overlay offset other (bytes_of file)))
 write_tracks offset bytes other k file same t = write_case k.seen k.sure file t.fits t.long where
-  write_case : (seen : File) (s : Sure) (image : File) → Fits s image → AsLong seen image
+  write_case : (seen : File) (s : Survival) (image : File) → MaySurvive s image → AsLong seen image
       → Tracks (record {
         seen = Some (overlay offset bytes (bytes_of seen));
         sure = write_sure offset (length bytes) seen s;
@@ -136,7 +136,7 @@ write_tracks offset bytes other k file same t = write_case k.seen k.sure file t.
 pub cut_tracks : (n : ℕ) (k : Kept) (file : File) → Tracks k file
     → Tracks (record { seen = cut_file n k.seen; sure = cut_sure n k.sure }) (cut_file n file)
 cut_tracks n k file t = cut_case k.seen k.sure file t.fits t.long where
-  cut_case : (seen : File) (s : Sure) (image : File) → Fits s image → AsLong seen image
+  cut_case : (seen : File) (s : Survival) (image : File) → MaySurvive s image → AsLong seen image
       → Tracks (record { seen = cut_file n seen; sure = cut_sure n s }) (cut_file n image)
   cut_case None s None fits long = record { fits = fits; long = tt }
   cut_case None s (Some b) fits long = absurd long
@@ -188,31 +188,31 @@ step_tracks fill name k file Sync plain t = absurd plain
 
 -- A file that a crash may leave is one that it may leave after a change that wasn't applied.
 pub step_wider : (name : FileName) (k : Kept) (file : File) (change : Change) → IsNoSync change
-    → Fits k.sure file → Fits (step name k change).sure file
+    → MaySurvive k.sure file → MaySurvive (step name k change).sure file
 step_wider name k file (Write other offset bytes) plain fits =
     chosen (is_at (name_cmp other) name) where
       chosen : (b : Bool)
-          → Fits (cond b (record {
+          → MaySurvive (cond b (record {
             seen = Some (overlay offset bytes.items (bytes_of k.seen));
             sure = write_sure offset (length bytes.items) k.seen k.sure;
           }) k).sure file
-      chosen true = Fits-Within k.sure (write_sure offset (length bytes.items) k.seen k.sure) file
+      chosen true = MaySurvive-Within k.sure (write_sure offset (length bytes.items) k.seen k.sure) file
           (write_wider offset (length bytes.items) k.seen k.sure) fits
       chosen false = fits
 step_wider name k file (Cut other n) plain fits = chosen (is_at (name_cmp other) name) where
   chosen : (b : Bool)
-      → Fits (cond b (record { seen = cut_file n k.seen; sure = cut_sure n k.sure }) k).sure file
-  chosen true = Fits-Within k.sure (cut_sure n k.sure) file (cut_wider n k.sure) fits
+      → MaySurvive (cond b (record { seen = cut_file n k.seen; sure = cut_sure n k.sure }) k).sure file
+  chosen true = MaySurvive-Within k.sure (cut_sure n k.sure) file (cut_wider n k.sure) fits
   chosen false = fits
 step_wider name k file (Remove other) plain fits = chosen (is_at (name_cmp other) name) where
-  chosen : (b : Bool) → Fits (cond b (record { seen = None; sure = remove_sure k.sure }) k).sure file
-  chosen true = Fits-Within k.sure (remove_sure k.sure) file (remove_wider k.sure) fits
+  chosen : (b : Bool) → MaySurvive (cond b (record { seen = None; sure = remove_sure k.sure }) k).sure file
+  chosen true = MaySurvive-Within k.sure (remove_sure k.sure) file (remove_wider k.sure) fits
   chosen false = fits
 step_wider name k file Sync plain fits = absurd plain
 
 -- The same for a list of changes that weren't applied.
 pub replay_wider : (name : FileName) (k : Kept) (file : File) (changes : List Change)
-    → AreUnsynced changes → Fits k.sure file → Fits (replay name k changes).sure file
+    → AreUnsynced changes → MaySurvive k.sure file → MaySurvive (replay name k changes).sure file
 replay_wider name k file [] plain fits = fits
 replay_wider name k file (change ∷ changes) plain fits = replay_wider name (step name k change)
     file changes plain.1 (step_wider name k file change plain.0 fits)
@@ -220,7 +220,7 @@ replay_wider name k file (change ∷ changes) plain fits = replay_wider name (st
 -- A file to which only the first m changes were applied is one that a crash may leave.
 pub part_fits : (fill : Bool) (name : FileName) (k : Kept) (file : File) (changes : List Change)
     (m : ℕ) → AreUnsynced changes → Tracks k file
-    → Fits (replay name k changes).sure (applied fill name file (take m changes))
+    → MaySurvive (replay name k changes).sure (applied fill name file (take m changes))
 part_fits fill name k file [] zero plain t = t.fits
 part_fits fill name k file [] (suc m) plain t = t.fits
 part_fits fill name k file (change ∷ changes) zero plain t =
@@ -288,7 +288,7 @@ last_rest name file changes n last = elim last.synced [
 
 -- A pick of the changes since the last sync gives a file that a crash may leave.
 pub applied_fits : (fill : Bool) (base : Files) (changes : List Change) (n m : ℕ) (name : FileName)
-    → IsLastSync changes n → Fits (content_of base changes name).sure (applied fill name
+    → IsLastSync changes n → MaySurvive (content_of base changes name).sure (applied fill name
     (applied false name (base name) (take n changes)) (take m (drop n changes)))
 unfolding content_of
 applied_fits fill base changes n m name last =
@@ -297,7 +297,7 @@ applied_fits fill base changes n m name last =
     ap (replay name (at_rest (base name))) (sym (take-append-drop n changes)) ∙ (replay_append name
     (at_rest (base name)) (take n changes) (drop n changes) ∙ ap (λ (k : Kept).
     replay name k (drop n changes)) (last_rest name (base name) changes n last)) in
-    let P : Kept → Type 0 = λ k. Fits k.sure (applied fill name file (take m (drop n changes))) in
+    let P : Kept → Type 0 = λ k. MaySurvive k.sure (applied fill name file (take m (drop n changes))) in
     subst P (sym rest) (part_fits fill name (at_rest file) file (drop n changes) m last.rest
     (record { fits = exact-fits file; long = as_long file }))
 
@@ -305,22 +305,22 @@ applied_fits fill base changes n m name last =
 pub IsPicked-image : (pick : ℕ) (base : Files) (changes : List Change) (files : Files)
     → IsPicked pick base changes files → Image (Some (content_of base changes)) files
 IsPicked-image pick base changes files picked name =
-    let P : File → Type 0 = λ file. Fits (content_of base changes name).sure file in
+    let P : File → Type 0 = λ file. MaySurvive (content_of base changes name).sure file in
     subst P (sym (picked.each name)) (applied_fits (pick == 2) base changes picked.count
     (picked_count pick (length changes - picked.count)) name picked.last_sync)
 
 -- A change that isn't a sync keeps what reads give among the images.
 pub by_tracks : (name : FileName) (k : Kept) (change : Change) → IsNoSync change
-    → Fits k.sure k.seen → Fits (step name k change).sure (step name k change).seen
+    → MaySurvive k.sure k.seen → MaySurvive (step name k change).sure (step name k change).seen
 by_tracks name k change plain fits =
     let t =
     step_tracks false name k k.seen change plain (record { fits = fits; long = as_long k.seen }) in
-    let P : File → Type 0 = λ file. Fits (step name k change).sure file in
+    let P : File → Type 0 = λ file. MaySurvive (step name k change).sure file in
     subst P (sym (step_seen name k change)) t.fits
 
 -- Every change keeps it so.
-pub step_reads_fit : (name : FileName) (k : Kept) (change : Change) → Fits k.sure k.seen
-    → Fits (step name k change).sure (step name k change).seen
+pub step_reads_fit : (name : FileName) (k : Kept) (change : Change) → MaySurvive k.sure k.seen
+    → MaySurvive (step name k change).sure (step name k change).seen
 step_reads_fit name k (Write other offset bytes) fits =
     by_tracks name k (Write other offset bytes) tt fits
 step_reads_fit name k (Cut other n) fits = by_tracks name k (Cut other n) tt fits
@@ -328,8 +328,8 @@ step_reads_fit name k (Remove other) fits = by_tracks name k (Remove other) tt f
 step_reads_fit name k Sync fits = exact-fits k.seen
 
 -- The same after all changes.
-pub replay_reads_fit : (name : FileName) (k : Kept) (changes : List Change) → Fits k.sure k.seen
-    → Fits (replay name k changes).sure (replay name k changes).seen
+pub replay_reads_fit : (name : FileName) (k : Kept) (changes : List Change) → MaySurvive k.sure k.seen
+    → MaySurvive (replay name k changes).sure (replay name k changes).seen
 replay_reads_fit name k [] fits = fits
 replay_reads_fit name k (change ∷ changes) fits =
     replay_reads_fit name (step name k change) changes (step_reads_fit name k change fits)
@@ -339,7 +339,7 @@ pub record_reads_fit : (base : Files) (changes : List Change)
     → ReadsFit (Some (content_of base changes))
 unfolding content_of
 record_reads_fit base changes k is name =
-    let P : Kept → Type 0 = λ kept. Fits kept.sure kept.seen in
+    let P : Kept → Type 0 = λ kept. MaySurvive kept.sure kept.seen in
     subst P (ap (λ (o : Option Content). kept_in o) is)
     (replay_reads_fit name (at_rest (base name)) changes (exact-fits (base name))) where
       kept_in : Option Content → Kept

@@ -1,7 +1,7 @@
 -- Runs of a disk's calls that change each file only from a bound on.
 use Rattle.std.specs.Prelude.{ℕ, ◌≤◌, Option, Some, None}
 use Rattle.disk_model.specs.declared.name.FileName.{FileName}
-use Rattle.disk_model.specs.Disk.{File, Files, Sure, Content, Fits, Told, LeavesOnly}
+use Rattle.disk_model.specs.Disk.{File, Files, Survival, Content, MaySurvive, BothTold, LeavesOnly}
 use Rattle.disk_model.specs.Laws.{FrontOrigin}
 
 -- The offset from which on each file may be changed, none if it may not be changed.
@@ -9,14 +9,14 @@ abbrev pub Bounds : Type 0
 Bounds = FileName → Option ℕ
 
 -- A change from this offset on respects a bound.
-abbrev pub Respects : Option ℕ → ℕ → Type 0
-Respects None at = ⊥
-Respects (Some n) at = n ≤ at
+abbrev pub RespectsBound : Option ℕ → ℕ → Type 0
+RespectsBound None at = ⊥
+RespectsBound (Some n) at = n ≤ at
 
 -- A file is one that a crash might have left before, or starts with the same bytes as one, up to a
 -- bound.
-abbrev pub StaysUpTo : Option ℕ → Sure → File → Type 0
-StaysUpTo None s file = Fits s file
+abbrev pub StaysUpTo : Option ℕ → Survival → File → Type 0
+StaysUpTo None s file = MaySurvive s file
 StaysUpTo (Some n) s file = FrontOrigin n s file
 
 -- Each file stays up to its bound.
@@ -30,7 +30,7 @@ Beside bounds (Some k) image = AreBeside bounds k image
 
 -- Each file that a crash may leave after a run stays up to its bound.
 pub record WentBeside (bounds : Bounds) (old new : Content) : Type 0 where
-  pub each : (name : FileName) (file : File) → Fits (new name).sure file
+  pub each : (name : FileName) (file : File) → MaySurvive (new name).sure file
       → StaysUpTo (bounds name) (old name).sure file
 
 -- A run changes each file only from its bound on: so does what a crash leaves at each of its
@@ -38,4 +38,4 @@ pub record WentBeside (bounds : Bounds) (old new : Content) : Type 0 where
 pub record RunsBeside {D : Type 0} (content : D → Option Content) (moment : D → ℕ)
     (left_since : D → ℕ → Files → Type 0) (bounds : Bounds) (old new : D) : Type 0 where
   pub moments : LeavesOnly moment left_since old new (Beside bounds (content old))
-  pub told : Told (WentBeside bounds) (content old) (content new)
+  pub told : BothTold (WentBeside bounds) (content old) (content new)

@@ -1,9 +1,10 @@
--- What a crash may leave of a file that was cut: a file with the same prefix as one from before.
+-- Lemmas for proofs: what a crash may leave of a file that was cut: a file with the same prefix as
+-- one from before.
 use Rattle.std.specs.Prelude.{◌≡◌, ℕ, ◌<◌, ◌≤◌, Some, List, ◌++◌, length, get_or, take, drop, refl}
 use Rattle.std.proofs.Common.{◌∙◌, sym, inl, inr, arith, length-take, length-drop, length-append}
 use Rattle.std.proofs.lemmas.Bool.{cases_lt}
 use Rattle.std.proofs.lemmas.Grind.{common_steps}
-use Rattle.disk_model.specs.Disk.{Sure, Holds, cut_sure}
+use Rattle.disk_model.specs.Disk.{Survival, MayHold, cut_sure}
 use Rattle.disk_model.specs.Laws.{FrontOrigin}
 
 -- The bytes of a file that a crash left after a cut, followed by the old ones.
@@ -36,8 +37,8 @@ spliced_take : (n : ℕ) (bytes seen : List ℕ) → n ≤ length bytes
 spliced_take n bytes seen long = grind (arith, common_steps)
 
 -- A file that a crash leaves after a cut below the least length has the prefix of one from before.
-front_below : (n : ℕ) (s : Sure) (seen bytes : List ℕ) → n ≤ s.least → Holds s seen
-    → Holds (cut_sure n s) bytes → FrontOrigin n s (Some bytes)
+front_below : (n : ℕ) (s : Survival) (seen bytes : List ℕ) → n ≤ s.least → MayHold s seen
+    → MayHold (cut_sure n s) bytes → FrontOrigin n s (Some bytes)
 front_below n s seen bytes below h left =
     let least = left.no_shorter in
     let low = h.no_shorter in
@@ -64,7 +65,7 @@ front_below n s seen bytes below h left =
     }
 
 -- A file that a crash leaves after a cut has the prefix of one from before.
-pub cut_front : (n : ℕ) (s : Sure) (seen bytes : List ℕ) → Holds s seen → Holds (cut_sure n s) bytes
+pub cut_front : (n : ℕ) (s : Survival) (seen bytes : List ℕ) → MayHold s seen → MayHold (cut_sure n s) bytes
     → FrontOrigin n s (Some bytes)
 cut_front n s seen bytes h left = elim (cases_lt s.least n) [
   | inl above ↦

@@ -19,7 +19,7 @@ bytes_of None = []
 bytes_of (Some bytes) = bytes
 
 -- What a crash may leave of a file.
-pub record Sure : Type 0 where
+pub record Survival : Type 0 where
   -- The file may be there.
   pub there : Bool
   -- The file may be missing.
@@ -34,25 +34,25 @@ pub record Sure : Type 0 where
   pub bytes : List ℕ
 
 -- No write touched this offset.
-abbrev pub Outside : List (ℕ × ℕ) → ℕ → Type 0
-Outside [] i = Unit {0}
-Outside (w ∷ ws) i = ((i < w.0) ⊎ (w.0 + w.1 ≤ i)) × Outside ws i
+abbrev pub NoWriteTouches : List (ℕ × ℕ) → ℕ → Type 0
+NoWriteTouches [] i = Unit {0}
+NoWriteTouches (w ∷ ws) i = ((i < w.0) ⊎ (w.0 + w.1 ≤ i)) × NoWriteTouches ws i
 
 -- A crash may leave the file with these bytes: the length is between the least and the greatest,
 -- and below the least each byte that no write touched is that of the last sync.
-pub record Holds (s : Sure) (bytes : List ℕ) : Type 0 where
+pub record MayHold (s : Survival) (bytes : List ℕ) : Type 0 where
   pub there : s.there ≡ true
   pub no_shorter : s.least ≤ length bytes
   pub no_longer : length bytes ≤ s.greatest
-  pub outside : (i : ℕ) → i < s.least → Outside s.written i → get_or bytes i 0 ≡ get_or s.bytes i 0
+  pub outside : (i : ℕ) → i < s.least → NoWriteTouches s.written i → get_or bytes i 0 ≡ get_or s.bytes i 0
 
 -- A crash may leave this file.
-abbrev pub Fits : Sure → File → Type 0
-Fits s None = s.gone ≡ true
-Fits s (Some bytes) = Holds s bytes
+abbrev pub MaySurvive : Survival → File → Type 0
+MaySurvive s None = s.gone ≡ true
+MaySurvive s (Some bytes) = MayHold s bytes
 
 -- What a crash may leave of a file that is on the disk as it reads: this file and no other.
-abbrev pub exact : File → Sure
+abbrev pub exact : File → Survival
 exact None = record { there = false; gone = true; least = 0; greatest = 0; written = []; bytes = [] }
 exact (Some bytes) = record {
   there = true;
@@ -64,12 +64,12 @@ exact (Some bytes) = record {
 }
 
 -- The least length before a write, which is 0 if the write creates the file.
-abbrev pub least_made : File → Sure → ℕ
+abbrev pub least_made : File → Survival → ℕ
 least_made None s = 0
 least_made (Some bytes) s = s.least
 
 -- What a crash may leave after a write of n bytes to a file that read so.
-abbrev pub write_sure : ℕ → ℕ → File → Sure → Sure
+abbrev pub write_sure : ℕ → ℕ → File → Survival → Survival
 write_sure at n seen s = record {
   there = true;
   gone = s.gone;
@@ -80,7 +80,7 @@ write_sure at n seen s = record {
 }
 
 -- What a crash may leave after a cut to n bytes.
-abbrev pub cut_sure : ℕ → Sure → Sure
+abbrev pub cut_sure : ℕ → Survival → Survival
 cut_sure n s = record {
   there = s.there;
   gone = s.gone;
@@ -91,7 +91,7 @@ cut_sure n s = record {
 }
 
 -- What a crash may leave after a removal.
-abbrev pub remove_sure : Sure → Sure
+abbrev pub remove_sure : Survival → Survival
 remove_sure s = record {
   there = s.there;
   gone = true;
@@ -102,18 +102,18 @@ remove_sure s = record {
 }
 
 -- The first allows no more files than the second, and the same calls keep it so.
-pub record Within (s t : Sure) : Type 0 where
+pub record Within (s t : Survival) : Type 0 where
   pub there : s.there ≡ true → t.there ≡ true
   pub gone : s.gone ≡ true → t.gone ≡ true
   pub least : t.least ≤ s.least
   pub greatest : s.greatest ≤ t.greatest
-  pub outside : (i : ℕ) → i < t.least → Outside t.written i → Outside s.written i
+  pub outside : (i : ℕ) → i < t.least → NoWriteTouches t.written i → NoWriteTouches s.written i
       × (get_or s.bytes i 0 ≡ get_or t.bytes i 0)
 
 -- A file as it reads, and what a crash may leave of it.
 pub record Kept : Type 0 where
   pub seen : File
-  pub sure : Sure
+  pub sure : Survival
 
 -- What a disk holds, by the names of files.
 abbrev pub Content : Type 0
@@ -122,7 +122,7 @@ Content = FileName → Kept
 -- A crash now may leave these files. A disk that doesn't tell its content may leave any.
 abbrev pub Image : Option Content → Files → Type 0
 Image None image = Unit {0}
-Image (Some k) image = (name : FileName) → Fits (k name).sure (image name)
+Image (Some k) image = (name : FileName) → MaySurvive (k name).sure (image name)
 
 -- A property of a disk's content, if the disk tells it.
 abbrev pub WhereTold : (Content → Type 0) → Option Content → Type 0
@@ -131,11 +131,11 @@ WhereTold P (Some k) = P k
 
 -- A relation of the content before and after a call, if the disk tells both. It tells both or
 -- neither.
-abbrev pub Told : (Content → Content → Type 0) → Option Content → Option Content → Type 0
-Told P (Some old) (Some new) = P old new
-Told P None None = Unit {0}
-Told P (Some old) None = ⊥
-Told P None (Some new) = ⊥
+abbrev pub BothTold : (Content → Content → Type 0) → Option Content → Option Content → Type 0
+BothTold P (Some old) (Some new) = P old new
+BothTold P None None = Unit {0}
+BothTold P (Some old) None = ⊥
+BothTold P None (Some new) = ⊥
 
 -- A call that changes at most this file.
 pub record OneFile (name : FileName) (P : Kept → Kept → Type 0) (old new : Content) : Type 0 where
@@ -157,7 +157,7 @@ pub record Wrote (at : ℕ) (bytes : List ℕ) (old new : Kept) : Type 0 where
 
 -- A write that fails: reads too may give anything in its range.
 pub record Tore (at n : ℕ) (old new : Kept) : Type 0 where
-  pub seen : Fits (write_sure at n old.seen (exact old.seen)) new.seen
+  pub seen : MaySurvive (write_sure at n old.seen (exact old.seen)) new.seen
   pub crash : Within new.sure (write_sure at n old.seen old.sure)
 
 -- A file cut to n bytes.
@@ -172,7 +172,7 @@ pub record CutTo (n : ℕ) (old new : Kept) : Type 0 where
 
 -- A cut that fails.
 pub record TornCut (n : ℕ) (old new : Kept) : Type 0 where
-  pub seen : Fits (cut_sure n (exact old.seen)) new.seen
+  pub seen : MaySurvive (cut_sure n (exact old.seen)) new.seen
   pub crash : Within new.sure (cut_sure n old.sure)
 
 -- A removal that returns `Ok`.
@@ -182,7 +182,7 @@ pub record Removed (old new : Kept) : Type 0 where
 
 -- A removal that fails.
 pub record TornRemoval (old new : Kept) : Type 0 where
-  pub seen : Fits (remove_sure (exact old.seen)) new.seen
+  pub seen : MaySurvive (remove_sure (exact old.seen)) new.seen
   pub crash : Within new.sure (remove_sure old.sure)
 
 -- A sync that returns `Ok`: files read as before, and a crash leaves what reads give.
@@ -193,7 +193,7 @@ pub record Synced (old new : Content) : Type 0 where
 -- A sync that fails: reads may give what a crash might have left, and a crash leaves no more than
 -- before.
 pub record NotSynced (old new : Content) : Type 0 where
-  pub seen : (name : FileName) → Fits (old name).sure (new name).seen
+  pub seen : (name : FileName) → MaySurvive (old name).sure (new name).seen
   pub crash : (name : FileName) → Within (new name).sure (old name).sure
 
 -- The n bytes of a file from an offset on are copied to the front of a buffer, as many as fit and
@@ -239,4 +239,4 @@ pub record LeavesOnly {D : Type 0} (moment : D → ℕ) (left_since : D → ℕ 
 -- The files as they read are one of the images.
 abbrev pub ReadsFit : Option Content → Type 0
 ReadsFit content = (k : Content) → content ≡ Some k → (name : FileName)
-    → Fits (k name).sure (k name).seen
+    → MaySurvive (k name).sure (k name).seen

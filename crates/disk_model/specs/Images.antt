@@ -1,4 +1,5 @@
--- Names that compare as equal are equal, and the files of an image are independent of each other.
+-- Lemmas for proofs: names that compare as equal are equal, and the files of an image are
+-- independent of each other.
 use Rattle.std.specs.Prelude.{◌≡◌, ◌≢◌, ◌⊎◌, ℕ, Bool, true, false, refl}
 use Rattle.std.specs.Ordering.{nat_cmp, ordering_then}
 use Rattle.std.specs.Cmp.{IsTotalOrder, Equal-is}
@@ -17,7 +18,7 @@ use Rattle.disk_model.specs.Name.{kind_index, name_cmp}
 pub names_total : IsTotalOrder name_cmp
 names_total = then_total (on_total (λ (n : FileName). kind_index n.kind) nat_cmp_total)
     (then_total (on_total (λ (n : FileName). n.number) nat_cmp_total)
-    (on_total (λ (n : FileName). n.gen_) nat_cmp_total))
+    (on_total (λ (n : FileName). n.generation) nat_cmp_total))
 
 -- Kinds with equal indices are equal.
 pub exact_kinds : (a b : FileKind) → nat_cmp (kind_index a) (kind_index b) ≡ Equal → a ≡ b
@@ -36,8 +37,8 @@ exact_names a b e =
     exact_pairs kinds (λ (x y : ℕ × ℕ). ordering_then (nat_cmp x.0 y.0) (nat_cmp x.1 y.1))
     exact_kinds numbers in
     let make : FileKind × (ℕ × ℕ) → FileName =
-    λ p. record { kind = p.0; number = p.1.0; gen_ = p.1.1 } in
-    ap make (all (a.kind, (a.number, a.gen_)) (b.kind, (b.number, b.gen_)) e)
+    λ p. record { kind = p.0; number = p.1.0; generation = p.1.1 } in
+    ap make (all (a.kind, (a.number, a.generation)) (b.kind, (b.number, b.generation)) e)
 
 -- A name found at a name is that name.
 pub same_name : (a b : FileName) → is_at (name_cmp a) b ≡ true → b ≡ a

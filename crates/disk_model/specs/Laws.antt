@@ -8,7 +8,7 @@ use Rattle.std.proofs.lemmas.Grind.{common_steps, same_number_lists}
 use Rattle.std.proofs.lemmas.Bool.{cases_lt}
 use Rattle.std.proofs.lemmas.List.{get_or-take, get_or_past}
 use Rattle.disk_model.specs.declared.name.FileName.{FileName}
-use Rattle.disk_model.specs.Disk.{File, Files, Sure, Holds, Fits, exact, write_sure, cut_sure, remove_sure, Within, Kept, Content, Image, Told, WhereTold, Unchanged, bytes_of, overlay, Synced, NotSynced, ReadsFit, IsLength}
+use Rattle.disk_model.specs.Disk.{File, Files, Survival, MayHold, MaySurvive, exact, write_sure, cut_sure, remove_sure, Within, Kept, Content, Image, BothTold, WhereTold, Unchanged, bytes_of, overlay, Synced, NotSynced, ReadsFit, IsLength}
 
 -- Bytes that differ in a range at most, with equal lengths.
 pub record SameOutside (at n : ℕ) (old new : List ℕ) : Type 0 where
@@ -23,23 +23,23 @@ TornFile at n None (Some new) = ⊥
 TornFile at n (Some old) None = ⊥
 
 -- A file after a write inside it is a file from before the write, with other bytes in the range.
-pub record Origin (at n : ℕ) (s : Sure) (image : File) : Type 0 where
+pub record Origin (at n : ℕ) (s : Survival) (image : File) : Type 0 where
   pub file : File
-  pub fits : Fits s file
+  pub fits : MaySurvive s file
   pub torn : TornFile at n file image
 
 -- A file after a write starts with the same bytes, up to the offset, as a file from before the
 -- write.
-pub record FrontOrigin (at : ℕ) (s : Sure) (image : File) : Type 0 where
+pub record FrontOrigin (at : ℕ) (s : Survival) (image : File) : Type 0 where
   pub file : File
-  pub fits : Fits s file
+  pub fits : MaySurvive s file
   pub same : take at (bytes_of image) ≡ take at (bytes_of file)
   pub long : at ≤ length (bytes_of file) → at ≤ length (bytes_of image)
 
 -- A file that the first allows, the second allows too.
-pub Fits-Within : (s t : Sure) (file : File) → Within s t → Fits s file → Fits t file
-Fits-Within s t None w fits = w.gone fits
-Fits-Within s t (Some bytes) w fits = record {
+pub MaySurvive-Within : (s t : Survival) (file : File) → Within s t → MaySurvive s file → MaySurvive t file
+MaySurvive-Within s t None w fits = w.gone fits
+MaySurvive-Within s t (Some bytes) w fits = record {
   there = w.there fits.there;
   no_shorter = omega (arith, w.least, fits.no_shorter);
   no_longer = omega (arith, w.greatest, fits.no_longer);
@@ -50,7 +50,7 @@ Fits-Within s t (Some bytes) w fits = record {
 }
 
 -- `Within` is reflexive.
-pub Within-refl : (s : Sure) → Within s s
+pub Within-refl : (s : Survival) → Within s s
 Within-refl s = record {
   there = λ e. e;
   gone = λ e. e;
@@ -60,7 +60,7 @@ Within-refl s = record {
 }
 
 -- `Within` is transitive.
-pub Within-trans : (s t u : Sure) → Within s t → Within t u → Within s u
+pub Within-trans : (s t u : Survival) → Within s t → Within t u → Within s u
 Within-trans s t u p q = record {
   there = λ e. q.there (p.there e);
   gone = λ e. q.gone (p.gone e);
@@ -74,7 +74,7 @@ Within-trans s t u p q = record {
 }
 
 -- A cut preserves `Within`.
-pub cut_within : (n : ℕ) (s t : Sure) → Within s t → Within (cut_sure n s) (cut_sure n t)
+pub cut_within : (n : ℕ) (s t : Survival) → Within s t → Within (cut_sure n s) (cut_sure n t)
 cut_within n s t w = record {
   there = w.there;
   gone = w.gone;
@@ -85,7 +85,7 @@ cut_within n s t w = record {
 }
 
 -- A removal preserves `Within`.
-pub remove_within : (s t : Sure) → Within s t → Within (remove_sure s) (remove_sure t)
+pub remove_within : (s t : Survival) → Within s t → Within (remove_sure s) (remove_sure t)
 remove_within s t w = record {
   there = w.there;
   gone = λ e. refl;
@@ -95,7 +95,7 @@ remove_within s t w = record {
 }
 
 -- A write that failed may have done nothing.
-pub write_wider : (at n : ℕ) (seen : File) (s : Sure) → Within s (write_sure at n seen s)
+pub write_wider : (at n : ℕ) (seen : File) (s : Survival) → Within s (write_sure at n seen s)
 write_wider at n None s = record {
   there = λ e. refl;
   gone = λ e. e;
@@ -112,7 +112,7 @@ write_wider at n (Some bytes) s = record {
 }
 
 -- A cut that failed may have done nothing.
-pub cut_wider : (n : ℕ) (s : Sure) → Within s (cut_sure n s)
+pub cut_wider : (n : ℕ) (s : Survival) → Within s (cut_sure n s)
 cut_wider n s = record {
   there = λ e. e;
   gone = λ e. e;
@@ -122,7 +122,7 @@ cut_wider n s = record {
 }
 
 -- A removal that failed may have done nothing.
-pub remove_wider : (s : Sure) → Within s (remove_sure s)
+pub remove_wider : (s : Survival) → Within s (remove_sure s)
 remove_wider s = record {
   there = λ e. e;
   gone = λ e. refl;
@@ -132,16 +132,16 @@ remove_wider s = record {
 }
 
 -- A failed sync may change nothing.
-pub NotSynced-same : (content : Option Content) → ReadsFit content → Told NotSynced content content
+pub NotSynced-same : (content : Option Content) → ReadsFit content → BothTold NotSynced content content
 NotSynced-same None fit = tt
 NotSynced-same (Some k) fit = record { seen = fit k refl; crash = λ name. Within-refl (k name).sure }
 
 -- A file that is on the disk as it reads has one image, itself.
-pub Fits-exact : (seen image : File) → Fits (exact seen) image → image ≡ seen
-Fits-exact None None fits = refl
-Fits-exact None (Some bytes) fits = let wrong : false ≡ true = fits.there in cc
-Fits-exact (Some seen) None fits = let wrong : false ≡ true = fits in cc
-Fits-exact (Some seen) (Some bytes) fits =
+pub MaySurvive-exact : (seen image : File) → MaySurvive (exact seen) image → image ≡ seen
+MaySurvive-exact None None fits = refl
+MaySurvive-exact None (Some bytes) fits = let wrong : false ≡ true = fits.there in cc
+MaySurvive-exact (Some seen) None fits = let wrong : false ≡ true = fits in cc
+MaySurvive-exact (Some seen) (Some bytes) fits =
     let short = fits.no_shorter in
     let long = fits.no_longer in
     let size : length bytes ≡ length seen = omega arith in
@@ -149,7 +149,7 @@ Fits-exact (Some seen) (Some bytes) fits =
     fits.outside i (omega (arith, size, below)) tt))
 
 -- A file that is on the disk as it reads is an image of itself.
-pub exact-fits : (seen : File) → Fits (exact seen) seen
+pub exact-fits : (seen : File) → MaySurvive (exact seen) seen
 exact-fits None = refl
 exact-fits (Some seen) = record {
   there = refl;
@@ -181,18 +181,18 @@ in_or_out at n i = elim (cases_lt i at) [
 
 -- Bytes from before a write: those of the last sync in its range, and elsewhere those from after
 -- it.
-abbrev pub unwritten : ℕ → ℕ → Sure → List ℕ → List ℕ
+abbrev pub unwritten : ℕ → ℕ → Survival → List ℕ → List ℕ
 unwritten at n s bytes = map (λ i. cond (is_in at n i) (get_or s.bytes i 0) (get_or bytes i 0))
     (range_with_len 0 (min (length bytes) s.greatest))
 
 -- The length of these bytes.
-pub unwritten_length : (at n : ℕ) (s : Sure) (bytes : List ℕ)
+pub unwritten_length : (at n : ℕ) (s : Survival) (bytes : List ℕ)
     → length (unwritten at n s bytes) ≡ min (length bytes) s.greatest
 unwritten_length at n s bytes = length-map-range_with_len (λ i. cond (is_in at n i)
     (get_or s.bytes i 0) (get_or bytes i 0)) 0 (min (length bytes) s.greatest)
 
 -- The byte at an offset.
-pub unwritten_at : (at n : ℕ) (s : Sure) (bytes : List ℕ) (i : ℕ)
+pub unwritten_at : (at n : ℕ) (s : Survival) (bytes : List ℕ) (i : ℕ)
     → i < min (length bytes) s.greatest → get_or (unwritten at n s bytes) i 0
     ≡ cond (is_in at n i) (get_or s.bytes i 0) (get_or bytes i 0)
 unwritten_at at n s bytes i below =
@@ -200,8 +200,8 @@ unwritten_at at n s bytes i below =
     (min (length bytes) s.greatest) i i 0 below (omega arith)
 
 -- A crash before the write might have left these bytes.
-pub unwritten_fits : (at n : ℕ) (s : Sure) (seen bytes : List ℕ) → Holds s seen
-    → Holds (write_sure at n (Some seen) s) bytes → Holds s (unwritten at n s bytes)
+pub unwritten_fits : (at n : ℕ) (s : Survival) (seen bytes : List ℕ) → MayHold s seen
+    → MayHold (write_sure at n (Some seen) s) bytes → MayHold s (unwritten at n s bytes)
 unwritten_fits at n s seen bytes h w =
     let size = unwritten_length at n s bytes in
     let least = w.no_shorter in
@@ -221,8 +221,8 @@ unwritten_fits at n s seen bytes h w =
     }
 
 -- Each file after a write inside it is a file from before, with other bytes in the range.
-pub write_origin : (at n : ℕ) (s : Sure) (seen : List ℕ) (image : File) → Holds s seen
-    → at + n ≤ length seen → Fits (write_sure at n (Some seen) s) image → Origin at n s image
+pub write_origin : (at n : ℕ) (s : Survival) (seen : List ℕ) (image : File) → MayHold s seen
+    → at + n ≤ length seen → MaySurvive (write_sure at n (Some seen) s) image → Origin at n s image
 write_origin at n s seen None h inside fits = record { file = None; fits = fits; torn = tt }
 write_origin at n s seen (Some bytes) h inside fits =
     let size = unwritten_length at n s bytes in
@@ -246,8 +246,8 @@ write_origin at n s seen (Some bytes) h inside fits =
 
 -- Each file after a write at an offset or after it starts with the same bytes as a file from
 -- before.
-pub write_front : (at n : ℕ) (s : Sure) (seen image : File) → Fits s seen
-    → at ≤ length (bytes_of seen) → Fits (write_sure at n seen s) image → FrontOrigin at s image
+pub write_front : (at n : ℕ) (s : Survival) (seen image : File) → MaySurvive s seen
+    → at ≤ length (bytes_of seen) → MaySurvive (write_sure at n seen s) image → FrontOrigin at s image
 write_front at n s seen None h after fits =
     record { file = None; fits = fits; same = refl; long = λ l. l }
 write_front at n s None (Some bytes) h after fits =
@@ -304,25 +304,25 @@ overlay-torn at bytes old inside = record {
 pub synced_image : (old new : Content) (image : Files) → Synced old new → Image (Some new) image
     → (name : FileName) → image name ≡ (new name).seen
 synced_image old new image synced left name =
-    Fits-exact (old name).seen (image name) (Fits-Within (new name).sure (exact (old name).seen)
+    MaySurvive-exact (old name).seen (image name) (MaySurvive-Within (new name).sure (exact (old name).seen)
     (image name) (synced.crash name) (left name)) ∙ sym (synced.seen name)
 
 -- A sync adds no image, whatever it returns.
 pub sync_image : {T E : Type 0} (result : Result T E) (old new : Option Content) (image : Files)
-    → ReadsFit old → OnOk result (Told Synced old new) → OnErr result (Told NotSynced old new)
+    → ReadsFit old → OnOk result (BothTold Synced old new) → OnErr result (BothTold NotSynced old new)
     → Image new image → Image old image
 sync_image (Ok v) None None image fit ok err left = tt
 sync_image (Ok v) None (Some k) image fit ok err left = absurd ok
 sync_image (Ok v) (Some k) None image fit ok err left = absurd ok
 sync_image (Ok v) (Some old) (Some new) image fit ok err left = λ name.
     let as_read = synced_image old new image ok left name ∙ ok.seen name in
-    let Fit : File → Type 0 = λ file. Fits (old name).sure file in
+    let Fit : File → Type 0 = λ file. MaySurvive (old name).sure file in
     subst Fit (sym as_read) (fit old refl name)
 sync_image (Err e) None None image fit ok err left = tt
 sync_image (Err e) None (Some k) image fit ok err left = absurd err
 sync_image (Err e) (Some k) None image fit ok err left = absurd err
 sync_image (Err e) (Some old) (Some new) image fit ok err left =
-    λ name. Fits-Within (new name).sure (old name).sure (image name) (err.crash name) (left name)
+    λ name. MaySurvive-Within (new name).sure (old name).sure (image name) (err.crash name) (left name)
 
 -- A disk that doesn't tell its content reads as one of its images.
 pub untold_fits : ReadsFit None
@@ -330,7 +330,7 @@ untold_fits k is name = let wrong : None ≡ Some k = is in cc
 
 -- A length that was read stays until the disk changes.
 pub IsLength-unchanged : (name : FileName) (n : ℕ) (old new : Option Content)
-    → WhereTold (IsLength name n) old → Told Unchanged old new → WhereTold (IsLength name n) new
+    → WhereTold (IsLength name n) old → BothTold Unchanged old new → WhereTold (IsLength name n) new
 IsLength-unchanged name n None None is same = tt
 IsLength-unchanged name n None (Some m) is same = absurd same
 IsLength-unchanged name n (Some k) None is same = absurd same

@@ -5,7 +5,7 @@ use Rattle.disk_model.specs.declared.change.Change.{Change}
 use Rattle.disk_model.specs.declared.plan.Plan.{Plan}
 use Rattle.disk_model.specs.declared.memory.MemDisk.{MemDisk}
 use Rattle.disk_model.specs.Disk.{Files, Content}
-use Rattle.disk_model.specs.Plan.{Starts}
+use Rattle.disk_model.specs.Plan.{PlanStarts}
 use Rattle.disk_model.specs.Record.{file_at, content_of}
 
 -- The disk's files as they read.
@@ -41,11 +41,11 @@ abbrev pub reads_of : MemDisk → ℕ
 reads_of disk = disk.reads
 
 -- A disk before its first call, with these files and these calls that are to fail.
-pub record IsFresh (files : Files) (listed : List ℕ) (disk : MemDisk) : Type 0 where
+pub record IsFreshDisk (files : Files) (listed : List ℕ) (disk : MemDisk) : Type 0 where
   pub here : (name : FileName) → files_of disk name ≡ files name
   pub base : (name : FileName) → base_of disk name ≡ files name
   pub changes : changes_of disk ≡ []
-  pub plan : Starts listed (plan_of disk)
+  pub plan : PlanStarts listed (plan_of disk)
   pub reads : reads_of disk ≡ 0
 
 -- No file.

@@ -1,4 +1,4 @@
--- What a crash at any moment of a run leaves, composed call by call.
+-- Lemmas for proofs: what a crash at any moment of a run leaves, composed call by call.
 use Rattle.std.specs.Prelude.{ℕ, ◌≤◌, Option}
 use Rattle.std.proofs.Common.{inl, inr, arith}
 use Rattle.disk_model.specs.Disk.{Files, Content, Image, Elapses, LeavesOnly}

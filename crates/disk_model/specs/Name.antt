@@ -16,4 +16,4 @@ kind_index Cache = 3
 -- How two names compare.
 abbrev pub name_cmp : FileName → FileName → Ordering
 name_cmp a b = ordering_then (nat_cmp (kind_index a.kind) (kind_index b.kind))
-    (ordering_then (nat_cmp a.number b.number) (nat_cmp a.gen_ b.gen_))
+    (ordering_then (nat_cmp a.number b.number) (nat_cmp a.generation b.generation))

@@ -12,7 +12,7 @@ abbrev pub IsListed : Plan → Type 0
 IsListed plan = Contains plan.listed (counted plan.calls)
 
 -- A plan before the first call.
-pub record Starts (listed : List ℕ) (plan : Plan) : Type 0 where
+pub record PlanStarts (listed : List ℕ) (plan : Plan) : Type 0 where
   pub listed_so : plan.listed ≡ listed
   pub calls : plan.calls ≡ 0
   pub faults : plan.faults ≡ 0

@@ -1,4 +1,5 @@
 //! Replays recorded changes on a copy of files.
+//! Allocates.
 ghost use Rattle.std.specs.Prelude.{◌≡◌, Some, OnOk};
 ghost use Rattle.disk_model.specs.declared.name.FileName.{FileName};
 ghost use Rattle.disk_model.specs.Disk.{bytes_of, overlay};

@@ -1,4 +1,5 @@
 //! The changes that a disk in memory records.
+//! Pure.
 use crate::FileName;
 
 /// A call that changed a disk, or a sync.

@@ -1,8 +1,9 @@
 //! The `Disk` trait: what reads give, and what a crash may leave.
+//! Writes the disk; syncs.
 ghost use Rattle.std.specs.Prelude.{◌≡◌, ◌≤◌, Some, ◌<◌, ◌+◌, ◌^◌, ℕ, Bool, Option, length, is_ok, IfOk, OnOk, OnErr};
 ghost use Rattle.arch_base.specs.Counts.{HasCause};
 ghost use Rattle.disk_model.specs.declared.name.FileName.{FileName};
-ghost use Rattle.disk_model.specs.Disk.{Files, Content, Image, Told, WhereTold, OneFile, Unchanged, Wrote, Tore, CutTo, TornCut, Removed, TornRemoval, Synced, NotSynced, HasRead, IsLength, IsAtMostLength, IsNameAt, Elapses, Fits};
+ghost use Rattle.disk_model.specs.Disk.{Files, Content, Image, BothTold, WhereTold, OneFile, Unchanged, Wrote, Tore, CutTo, TornCut, Removed, TornRemoval, Synced, NotSynced, HasRead, IsLength, IsAtMostLength, IsNameAt, Elapses, MaySurvive};
 
 use crate::FileName;
 use thiserror::Error;
@@ -55,7 +56,7 @@ pub trait Disk {
         ensures bound { IfOk result (λ n. n ≤ length into.new) }
         ensures bytes { IfOk result (λ n.
             WhereTold (HasRead name place n into.old into.new) (content self.old)) }
-        ensures same { Told Unchanged (content self.old) (content self.new) }
+        ensures same { BothTold Unchanged (content self.old) (content self.new) }
         ensures time { Elapses (moment self.old) (moment self.new) (left_since self.old)
             (left_since self.new) (content self.new) }
         ensures cause { HasCause (faults self.old) (faults self.new) result }
@@ -66,7 +67,7 @@ pub trait Disk {
     /// Returns a file's length in bytes, 0 for a missing file.
     fn length(&mut self, name: FileName) -> Result<u64, DiskFault>
         ensures length { IfOk result (λ n. WhereTold (IsLength name n) (content self.old)) }
-        ensures same { Told Unchanged (content self.old) (content self.new) }
+        ensures same { BothTold Unchanged (content self.old) (content self.new) }
         ensures time { Elapses (moment self.old) (moment self.new) (left_since self.old)
             (left_since self.new) (content self.new) }
         ensures cause { HasCause (faults self.old) (faults self.new) result }
@@ -80,9 +81,9 @@ pub trait Disk {
     fn write_at(&mut self, name: FileName, place: u64, bytes: &[u8]) -> Result<(), DiskFault>
         requires inside { WhereTold (IsAtMostLength name place) (content self.old) }
         requires end { place + length bytes.now < 2 ^ 63 }
-        ensures written { OnOk result (Told (OneFile name (Wrote place bytes.now))
+        ensures written { OnOk result (BothTold (OneFile name (Wrote place bytes.now))
             (content self.old) (content self.new)) }
-        ensures torn { OnErr result (Told (OneFile name (Tore place (length bytes.now)))
+        ensures torn { OnErr result (BothTold (OneFile name (Tore place (length bytes.now)))
             (content self.old) (content self.new)) }
         ensures time { Elapses (moment self.old) (moment self.new) (left_since self.old)
             (left_since self.new) (content self.new) }
@@ -94,9 +95,9 @@ pub trait Disk {
     fn cut(&mut self, name: FileName, length: u64) -> Result<(), DiskFault>
         requires inside { WhereTold (IsAtMostLength name length) (content self.old) }
         ensures cut { OnOk result
-            (Told (OneFile name (CutTo length)) (content self.old) (content self.new)) }
+            (BothTold (OneFile name (CutTo length)) (content self.old) (content self.new)) }
         ensures torn { OnErr result
-            (Told (OneFile name (TornCut length)) (content self.old) (content self.new)) }
+            (BothTold (OneFile name (TornCut length)) (content self.old) (content self.new)) }
         ensures time { Elapses (moment self.old) (moment self.new) (left_since self.old)
             (left_since self.new) (content self.new) }
         ensures cause { HasCause (faults self.old) (faults self.new) result }
@@ -106,9 +107,9 @@ pub trait Disk {
     /// Removes a file. A missing file stays missing.
     fn remove(&mut self, name: FileName) -> Result<(), DiskFault>
         ensures removed { OnOk result
-            (Told (OneFile name Removed) (content self.old) (content self.new)) }
+            (BothTold (OneFile name Removed) (content self.old) (content self.new)) }
         ensures torn { OnErr result
-            (Told (OneFile name TornRemoval) (content self.old) (content self.new)) }
+            (BothTold (OneFile name TornRemoval) (content self.old) (content self.new)) }
         ensures time { Elapses (moment self.old) (moment self.new) (left_since self.old)
             (left_since self.new) (content self.new) }
         ensures cause { HasCause (faults self.old) (faults self.new) result }
@@ -120,7 +121,7 @@ pub trait Disk {
     /// The result is `None` if there are not so many files.
     fn name_at(&mut self, index: u64) -> Result<Option<FileName>, DiskFault>
         ensures name { IfOk result (λ name. WhereTold (IsNameAt index name) (content self.old)) }
-        ensures same { Told Unchanged (content self.old) (content self.new) }
+        ensures same { BothTold Unchanged (content self.old) (content self.new) }
         ensures time { Elapses (moment self.old) (moment self.new) (left_since self.old)
             (left_since self.new) (content self.new) }
         ensures cause { HasCause (faults self.old) (faults self.new) result }
@@ -132,8 +133,8 @@ pub trait Disk {
     /// After `Ok` a crash leaves what reads give. After a fault reads may give whatever a crash
     /// might have left, and a crash may leave no more than before.
     fn sync(&mut self) -> Result<(), DiskFault>
-        ensures durable { OnOk result (Told Synced (content self.old) (content self.new)) }
-        ensures torn { OnErr result (Told NotSynced (content self.old) (content self.new)) }
+        ensures durable { OnOk result (BothTold Synced (content self.old) (content self.new)) }
+        ensures torn { OnErr result (BothTold NotSynced (content self.old) (content self.new)) }
         ensures time { Elapses (moment self.old) (moment self.new) (left_since self.old)
             (left_since self.new) (content self.new) }
         ensures cause { HasCause (faults self.old) (faults self.new) result }
@@ -150,5 +151,5 @@ pub trait Disk {
 
     /// The files as they read are one of the images that a crash may leave.
     ghost reads_fit: { (disk : Self) (k : Content) → content disk ≡ Some k → (name : FileName)
-        → Fits (k name).sure (k name).seen };
+        → MaySurvive (k name).sure (k name).seen };
 }

@@ -1,4 +1,5 @@
 //! Files in memory, by their names.
+//! Allocates.
 ghost use Rattle.std.specs.Prelude.{◌≡◌, ◌+◌, ◌-◌, Some, None, min, take, drop, length, ◌++◌, slice_get, IfOk, OnOk, OnErr};
 ghost use Rattle.std.specs.BTreeMap.{keys, IsOrdered};
 ghost use Rattle.disk_model.specs.declared.name.FileName.{FileName};

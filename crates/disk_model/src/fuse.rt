@@ -1,4 +1,5 @@
 //! A disk that passes a number of calls to another disk and then fails every call.
+//! Writes the disk; syncs.
 ghost use Rattle.std.specs.Prelude.{◌+◌, ◌≡◌};
 
 use crate::{Disk, DiskFault, FileName};

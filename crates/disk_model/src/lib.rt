@@ -1,5 +1,7 @@
-//! A disk of named files that says what a crash may leave; a disk in memory, and one that fails
-//! from a call on.
+//! A disk of named files that says what a crash may leave.
+//! Writes the disk; syncs.
+//!
+//! One such disk is in memory, and another one fails from a call on.
 #![tactic(auto)]
 
 mod again;

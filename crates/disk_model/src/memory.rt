@@ -1,4 +1,5 @@
 //! A disk in memory that records its changes.
+//! Allocates.
 ghost use Rattle.std.specs.Prelude.{◌≡◌, Some, length};
 ghost use Rattle.disk_model.specs.declared.name.FileName.{FileName};
 ghost use Rattle.disk_model.specs.Record.{file_at, content_of, LeftSince, record_counts_now, record_only_now};
@@ -29,13 +30,13 @@ impl MemDisk {
     ghost use Rattle.std.specs.Prelude.{◌≤◌, ◌++◌, ◌∷◌, [], take, IfOk, OnOk, OnErr};
     ghost use Rattle.disk_model.specs.Disk.{Image};
     ghost use Rattle.disk_model.specs.Applied.{IsPicked};
-    ghost use Rattle.disk_model.specs.Memory.{base_of, files_of, changes_of, content_then, starved_of, failed_of, no_files, IsFresh};
+    ghost use Rattle.disk_model.specs.Memory.{base_of, files_of, changes_of, content_then, starved_of, failed_of, no_files, IsFreshDisk};
 
     /// Creates a disk without files. It fails each call whose ordinal, from 1, is in `faults`.
     ///
     /// All seven calls of `Disk` count.
     pub fn new(alloc: Global, faults: Numbers) -> MemDisk
-        ensures { IsFresh no_files faults result }
+        ensures { IsFreshDisk no_files faults result }
     {
         MemDisk {
             alloc,
@@ -84,7 +85,7 @@ impl MemDisk {
             Image (Some (content_then self.now at)) (files_of disk)) }
         ensures picked { IfOk result (λ disk.
             IsPicked pick (base_of self.now) (take at (changes_of self.now)) (files_of disk)) }
-        ensures fresh { IfOk result (λ disk. IsFresh (files_of disk) [] disk) }
+        ensures fresh { IfOk result (λ disk. IsFreshDisk (files_of disk) [] disk) }
     {
         let changes = &self.changes[..at as usize];
         let (synced, since) = changes.split_at(last_sync(changes));
@@ -97,7 +98,7 @@ impl MemDisk {
 
     /// Creates a disk with these files, before its first call and without listed faults.
     fn of_files(alloc: Global, files: Contents) -> Result<MemDisk, NoMemory>
-        ensures { IfOk result (IsFresh (file_at files) []) }
+        ensures { IfOk result (IsFreshDisk (file_at files) []) }
     {
         let base = copy(&files)?;
         Ok(MemDisk {

@@ -1,4 +1,5 @@
 //! The names of files.
+//! Pure.
 
 /// What a file is for. Kinds are ordered as declared here, and file names by kind first.
 #[derive(Clone, Copy, Debug, PartialEq, Eq, PartialOrd, Ord)]
@@ -21,5 +22,5 @@ pub struct FileName {
     /// The number among the files of its kind, such as the number of an epoch.
     pub number: u32,
     /// The generation: a file that is rewritten gets another one.
-    pub gen_: u64,
+    pub generation: u64,
 }

@@ -1,4 +1,5 @@
 //! The plan of a disk in memory: which of its calls fail.
+//! Pure.
 ghost use Rattle.std.specs.Prelude.{◌≡◌, ◌≤◌, true};
 ghost use Rattle.arch_base.specs.Counts.{Rose};
 
@@ -18,11 +19,11 @@ pub struct Plan {
 }
 
 impl Plan {
-    ghost use Rattle.disk_model.specs.Plan.{Starts, Counts, Starves};
+    ghost use Rattle.disk_model.specs.Plan.{PlanStarts, Counts, Starves};
 
     /// Creates a plan by which the calls with the listed ordinals fail.
     pub fn new(listed: Numbers) -> Plan
-        ensures { Starts listed result }
+        ensures { PlanStarts listed result }
     {
         Plan {
             listed,

@@ -1,4 +1,5 @@
 //! The errors of reading a file through.
+//! Pure.
 use crate::DiskFault;
 use arch_base::NoMemory;
 use thiserror::Error;

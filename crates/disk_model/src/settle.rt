@@ -1,8 +1,9 @@
 //! One range of a file, written and synced.
+//! Writes the disk; syncs.
 ghost use Rattle.std.specs.Prelude.{◌≡◌, ◌<◌, ◌+◌, ◌^◌, length, OnOk};
 ghost use Rattle.arch_base.specs.Counts.{HasCause};
-ghost use Rattle.disk_model.specs.Disk.{Told, WhereTold, IsAtMostLength, LeavesOnly};
-ghost use Rattle.disk_model.specs.Synced.{Writing, IsWritten};
+ghost use Rattle.disk_model.specs.Disk.{BothTold, WhereTold, IsAtMostLength, LeavesOnly};
+ghost use Rattle.disk_model.specs.Synced.{WritingLeaves, IsWritten};
 
 use crate::{Disk, DiskFault, FileName};
 
@@ -18,10 +19,10 @@ pub fn write_and_sync<D: Disk>(
 ) -> Result<(), DiskFault>
     requires inside { WhereTold (IsAtMostLength name offset) (D.content disk.old) }
     requires end { offset + length bytes.now < 2 ^ 63 }
-    ensures any_moment { LeavesOnly D.moment D.left_since disk.old disk.new
-        (Writing name offset (length bytes.now) (D.content disk.old)) }
+    ensures crash { LeavesOnly D.moment D.left_since disk.old disk.new
+        (WritingLeaves name offset (length bytes.now) (D.content disk.old)) }
     ensures written { OnOk result
-        (Told (IsWritten name offset bytes.now) (D.content disk.old) (D.content disk.new)) }
+        (BothTold (IsWritten name offset bytes.now) (D.content disk.old) (D.content disk.new)) }
     ensures cause { HasCause (D.faults disk.old) (D.faults disk.new) result }
     ensures count { D.reads disk.new ≡ D.reads disk.old }
 {

@@ -1,4 +1,5 @@
 //! The counts and lengths that more than one file of an archive goes by.
+//! Pure.
 
 /// The count of epochs that an archive may have. Their numbers are 0 to 63.
 pub const EPOCHS: u32 = 64;

@@ -5,15 +5,15 @@ use Rattle.std.proofs.lemmas.Grind.{same_number_lists}
 use Rattle.std.proofs.lemmas.Bool.Decides.{nat_tests}
 use Rattle.std.proofs.lemmas.List.{get_or-take, get_or-drop}
 use Rattle.disk_model.specs.declared.name.FileName.{FileName}
-use Rattle.disk_model.specs.Disk.{File, Files, Content, Told, WhereTold, exact, bytes_of, overlay, ReadsFit}
-use Rattle.disk_model.specs.Laws.{SameOutside, TornFile, Fits-exact, Fits-Within, overlay-torn, overlay-size, overlay-inside}
-use Rattle.disk_model.specs.Synced.{Writing, IsWriting, IsWritten, writing_inside}
+use Rattle.disk_model.specs.Disk.{File, Files, Content, BothTold, WhereTold, exact, bytes_of, overlay, ReadsFit}
+use Rattle.disk_model.specs.Laws.{SameOutside, TornFile, MaySurvive-exact, MaySurvive-Within, overlay-torn, overlay-size, overlay-inside}
+use Rattle.disk_model.specs.Synced.{WritingLeaves, IsWriting, IsWritten, writing_inside}
 use Rattle.root_slots.specs.Each.{IfThere}
-use Rattle.disk_tests.specs.Texts.{StandsFor, IsReady, HasSize, EachFile, StandsForEither}
+use Rattle.disk_tests.specs.Texts.{StandsForText, IsReadyFile, HasSeventeen, EachFile, StandsForEitherText}
 
 -- The gate is shut, and both texts are there.
 pub record IsFilled (old new file : List ℕ) : Type 0 where
-  pub ready : IsReady old file
+  pub ready : IsReadyFile old file
   pub second : take 8 (drop 9 file) ≡ new
 
 -- A part that a write doesn't reach is unchanged.
@@ -41,7 +41,7 @@ either_stands gate second first = chosen (gate == 1) where
   chosen false = inl refl
 
 -- A crash may leave any bytes in the second text.
-pub first_torn : (old new : List ℕ) (file image : File) → IfThere (IsReady old) file → TornFile 9 8 file image → IfThere (λ bytes. StandsFor old bytes ⊎ StandsFor new bytes) image
+pub first_torn : (old new : List ℕ) (file image : File) → IfThere (IsReadyFile old) file → TornFile 9 8 file image → IfThere (λ bytes. StandsForText old bytes ⊎ StandsForText new bytes) image
 first_torn old new None image ready torn = absurd ready
 first_torn old new (Some a) None ready torn = absurd torn
 first_torn old new (Some a) (Some b) ready torn =
@@ -50,7 +50,7 @@ first_torn old new (Some a) (Some b) ready torn =
     inl (shut_stands (get_or b 0 0) (take 8 (drop 9 b)) (take 8 (drop 1 b)) shut ∙ (part_stays 9 8 a b 1 8 torn (inl (omega arith)) ∙ ready.first))
 
 -- A crash may leave any byte in the gate.
-pub gate_torn : (old new : List ℕ) (file image : File) → IfThere (IsFilled old new) file → TornFile 0 1 file image → IfThere (λ bytes. StandsFor old bytes ⊎ StandsFor new bytes) image
+pub gate_torn : (old new : List ℕ) (file image : File) → IfThere (IsFilled old new) file → TornFile 0 1 file image → IfThere (λ bytes. StandsForText old bytes ⊎ StandsForText new bytes) image
 gate_torn old new None image filled torn = absurd filled
 gate_torn old new (Some a) None filled torn = absurd torn
 gate_torn old new (Some a) (Some b) filled torn =
@@ -59,20 +59,20 @@ gate_torn old new (Some a) (Some b) filled torn =
     elim (either_stands (get_or b 0 0) (take 8 (drop 9 b)) (take 8 (drop 1 b))) [ inl one ↦ inl (one ∙ first) | inr two ↦ inr (two ∙ second) ]
 
 -- The images during the first write.
-pub during_text : (name : FileName) (old new : List ℕ) (k0 : Option Content) (image : Files) → length new ≡ 8 → ReadsFit k0 → WhereTold (HasSize name) k0 → EachFile name (IsReady old) k0 → Writing name 9 (length new) k0 image → StandsForEither name old new image
+pub during_text : (name : FileName) (old new : List ℕ) (k0 : Option Content) (image : Files) → length new ≡ 8 → ReadsFit k0 → WhereTold (HasSeventeen name) k0 → EachFile name (IsReadyFile old) k0 → WritingLeaves name 9 (length new) k0 image → StandsForEitherText name old new image
 during_text name old new None image eight fit size each writing = absurd each
 during_text name old new (Some k) image eight fit size each writing =
     let origin = writing_inside name 9 8 k image fit (omega (arith, size)) (omega arith) (subst (λ (n : ℕ). IsWriting name 9 n k image) eight writing) in
     first_torn old new origin.file (image name) (each origin.file origin.fits) origin.torn
 
 -- The file after the first write.
-pub text_filled : (name : FileName) (old new : List ℕ) (k0 k1 : Option Content) → length new ≡ 8 → ReadsFit k0 → EachFile name (IsReady old) k0 → Told (IsWritten name 9 new) k0 k1 → EachFile name (IsFilled old new) k1
+pub text_filled : (name : FileName) (old new : List ℕ) (k0 k1 : Option Content) → length new ≡ 8 → ReadsFit k0 → EachFile name (IsReadyFile old) k0 → BothTold (IsWritten name 9 new) k0 k1 → EachFile name (IsFilled old new) k1
 text_filled name old new None k1 eight fit each written = absurd each
 text_filled name old new (Some k) None eight fit each written = absurd written
 text_filled name old new (Some k) (Some m) eight fit each written = λ file fits.
-    let is : file ≡ (m name).seen = Fits-exact (m name).seen file (Fits-Within (m name).sure (exact (m name).seen) file (written.settled name) fits) in
+    let is : file ≡ (m name).seen = MaySurvive-exact (m name).seen file (MaySurvive-Within (m name).sure (exact (m name).seen) file (written.settled name) fits) in
     subst (λ (f : File). IfThere (IsFilled old new) f) (sym (is ∙ written.here)) (of_seen (k name).seen (each (k name).seen (fit k refl name))) where
-      of_seen : (seen : File) → IfThere (IsReady old) seen → IsFilled old new (overlay 9 new (bytes_of seen))
+      of_seen : (seen : File) → IfThere (IsReadyFile old) seen → IsFilled old new (overlay 9 new (bytes_of seen))
       of_seen None ready = absurd ready
       of_seen (Some bytes) ready =
           let size = ready.size in
@@ -88,7 +88,7 @@ text_filled name old new (Some k) (Some m) eight fit each written = λ file fits
           }
 
 -- The size after the first write.
-pub size_stays : (name : FileName) (new : List ℕ) (k0 k1 : Option Content) → length new ≡ 8 → WhereTold (HasSize name) k0 → Told (IsWritten name 9 new) k0 k1 → WhereTold (HasSize name) k1
+pub size_stays : (name : FileName) (new : List ℕ) (k0 k1 : Option Content) → length new ≡ 8 → WhereTold (HasSeventeen name) k0 → BothTold (IsWritten name 9 new) k0 k1 → WhereTold (HasSeventeen name) k1
 size_stays name new None None eight size written = tt
 size_stays name new None (Some m) eight size written = absurd written
 size_stays name new (Some k) None eight size written = absurd written
@@ -96,20 +96,20 @@ size_stays name new (Some k) (Some m) eight size written =
     omega (arith, ap (λ (f : File). length (bytes_of f)) written.here, overlay-size 9 new (bytes_of (k name).seen) (omega (arith, eight, size)), size)
 
 -- The images during the second write.
-pub during_gate : (name : FileName) (old new : List ℕ) (k1 : Option Content) (image : Files) → ReadsFit k1 → WhereTold (HasSize name) k1 → EachFile name (IsFilled old new) k1 → Writing name 0 1 k1 image → StandsForEither name old new image
+pub during_gate : (name : FileName) (old new : List ℕ) (k1 : Option Content) (image : Files) → ReadsFit k1 → WhereTold (HasSeventeen name) k1 → EachFile name (IsFilled old new) k1 → WritingLeaves name 0 1 k1 image → StandsForEitherText name old new image
 during_gate name old new None image fit size each writing = absurd each
 during_gate name old new (Some k) image fit size each writing =
     let origin = writing_inside name 0 1 k image fit (omega (arith, size)) (omega arith) writing in
     gate_torn old new origin.file (image name) (each origin.file origin.fits) origin.torn
 
 -- The file after the second write.
-pub gate_opened : (name : FileName) (old new : List ℕ) (k1 k2 : Option Content) → ReadsFit k1 → EachFile name (IsFilled old new) k1 → Told (IsWritten name 0 (1 ∷ [])) k1 k2 → EachFile name (StandsFor new) k2
+pub gate_opened : (name : FileName) (old new : List ℕ) (k1 k2 : Option Content) → ReadsFit k1 → EachFile name (IsFilled old new) k1 → BothTold (IsWritten name 0 (1 ∷ [])) k1 k2 → EachFile name (StandsForText new) k2
 gate_opened name old new None k2 fit each written = absurd each
 gate_opened name old new (Some k) None fit each written = absurd written
 gate_opened name old new (Some k) (Some m) fit each written = λ file fits.
-    let is : file ≡ (m name).seen = Fits-exact (m name).seen file (Fits-Within (m name).sure (exact (m name).seen) file (written.settled name) fits) in
-    subst (λ (f : File). IfThere (StandsFor new) f) (sym (is ∙ written.here)) (of_seen (k name).seen (each (k name).seen (fit k refl name))) where
-      of_seen : (seen : File) → IfThere (IsFilled old new) seen → StandsFor new (overlay 0 (1 ∷ []) (bytes_of seen))
+    let is : file ≡ (m name).seen = MaySurvive-exact (m name).seen file (MaySurvive-Within (m name).sure (exact (m name).seen) file (written.settled name) fits) in
+    subst (λ (f : File). IfThere (StandsForText new) f) (sym (is ∙ written.here)) (of_seen (k name).seen (each (k name).seen (fit k refl name))) where
+      of_seen : (seen : File) → IfThere (IsFilled old new) seen → StandsForText new (overlay 0 (1 ∷ []) (bytes_of seen))
       of_seen None filled = absurd filled
       of_seen (Some bytes) filled =
           let size = filled.ready.size in

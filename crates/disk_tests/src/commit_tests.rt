@@ -14,7 +14,7 @@ use std::test::Fail;
 const OTHER: FileName = FileName {
     kind: FileKind::Epoch,
     number: 5,
-    gen_: 1,
+    generation: 1,
 };
 
 /// Begins a root file in place of a file of 4,097 bytes, and stops after `passes` calls.

@@ -5,19 +5,19 @@ use disk_model::{FileKind, FileName};
 pub const M: FileName = FileName {
     kind: FileKind::Map,
     number: 0,
-    gen_: 3,
+    generation: 3,
 };
 
 /// An epoch.
 pub const A: FileName = FileName {
     kind: FileKind::Epoch,
     number: 0,
-    gen_: 2,
+    generation: 2,
 };
 
 /// Another epoch.
 pub const B: FileName = FileName {
     kind: FileKind::Epoch,
     number: 1,
-    gen_: 1,
+    generation: 1,
 };

@@ -12,7 +12,7 @@ use store_finding::{ReadRefusal, file_names, remove_files};
 const C: FileName = FileName {
     kind: FileKind::Cache,
     number: 0,
-    gen_: 0,
+    generation: 0,
 };
 
 /// Puts three files onto a disk, and syncs.

@@ -12,9 +12,12 @@ use std::test::Fail;
 /// Returns the sample of sequence 1 and largest number 7. Its fields differ from one another.
 fn made() -> Option<Root> {
     let name = Name::read(b"list-1.x")?;
-    let mut epochs = [Place { gen_: 0, length: 0 }; 64];
+    let mut epochs = [Place {
+        generation: 0,
+        length: 0,
+    }; 64];
     epochs[0] = Place {
-        gen_: 1,
+        generation: 1,
         length: 0x1234,
     };
     epochs[63].length = 9;
@@ -30,12 +33,12 @@ fn made() -> Option<Root> {
         sequence: 1,
         next: 3,
         map: Place {
-            gen_: 1,
+            generation: 1,
             length: 56,
         },
         epochs,
         cache: Place {
-            gen_: 1,
+            generation: 1,
             length: 77,
         },
     })

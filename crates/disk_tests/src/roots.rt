@@ -11,7 +11,7 @@ use std::alloc::Global;
 pub const ROOT: FileName = FileName {
     kind: FileKind::Root,
     number: 0,
-    gen_: 0,
+    generation: 0,
 };
 
 /// The fields of the sample of sequence 1 and largest number 7: their offsets in the body and their

@@ -5,7 +5,7 @@ use Rattle.arch_base.specs.Counts.{Rose}
 use Rattle.edge_io.specs.Phrases.{Says}
 use Rattle.edge_io.specs.declared.sink.SinkFault.{SinkFault}
 use Rattle.edge_io.proofs.Wording.{plus-none, Says-then}
-use Rattle.line_door.specs.Acts.{Outside, Plain, Memory, Disk, Acts, held_if}
+use Rattle.line_door.specs.Acts.{ConnectionState, Plain, Memory, Disk, Acts, held_if}
 use Rattle.line_door.specs.Making.{says, streams}
 use Rattle.line_door.proofs.Acting.{acts-by_held}
 use Rattle.line_door.proofs.Streaming.{acts-short, acts-cut_off}
@@ -14,19 +14,19 @@ use Rattle.arch_model.specs.Shelves.{IsUndamaged, ReadingWhy}
 use Rattle.arch_model.specs.declared.text_refusal.TextRefusal.{TextRefusal}
 use Rattle.arch_model.specs.declared.text_refusal.TextRefusal.TheVariants as refusal
 use Rattle.answer_lines.specs.Lines.{whole_line, memory_word, disk_word, unread_words}
-use Rattle.door_tests.specs.Streams.{text_line, texts_from, texts_said, SaysNothing, SaysText, SaysUnread, Stops, IsPart}
+use Rattle.door_tests.specs.Streams.{text_line, texts_from, texts_said, SaysNothing, SaysText, TellsUnread, StopsTelling, TellsPart}
 use Rattle.door_tests.specs.declared.shelf_client.Part.{Part}
 use Rattle.door_tests.specs.declared.shelf_client.Part.TheVariants as part
 
 -- So many numbers were said.
-pub record SoFar (entries : List Entry) (low at : ℕ) (begun : Bool) (i j : Outside) : Type 0 where
+pub record SoFar (entries : List Entry) (low at : ℕ) (begun : Bool) (i j : ConnectionState) : Type 0 where
   pub words : Says (texts_from entries low at) i.out i.lost j.out j.lost (Ok tt)
   pub some : begun ≡ true → 0 < length (texts_from entries low at)
   pub none : begun ≡ false → texts_from entries low at ≡ []
   pub kept : j.disk ≡ i.disk
 
 -- Why a text wasn't read, while an archive is held.
-pub says-unread : (i j k : Outside) (why : TextRefusal) (sent : Result Unit SinkFault) → IsUndamaged why → ReadingWhy i.disk j.disk why → i.disk ≤ j.disk → i.out ≡ j.out → i.lost ≡ j.lost → j.disk ≡ k.disk → Says (unread_words why) j.out j.lost k.out k.lost sent → SaysUnread i sent k
+pub says-unread : (i j k : ConnectionState) (why : TextRefusal) (sent : Result Unit SinkFault) → IsUndamaged why → ReadingWhy i.disk j.disk why → i.disk ≤ j.disk → i.out ≡ j.out → i.lost ≡ j.lost → j.disk ≡ k.disk → Says (unread_words why) j.out j.lost k.out k.lost sent → TellsUnread i sent k
 says-unread i j k refusal.DiskFault sent well rose later out lost same said =
     let on : Says disk_word i.out i.lost k.out k.lost sent = rw (out, lost) said in
     let now : Rose i.disk k.disk = subst (λ (n : ℕ). Rose i.disk n) same rose in
@@ -43,9 +43,9 @@ stops-why before now (refusal.Damaged named found) well cause = absurd well
 stops-why before now refusal.NoMemory well kept = inr kept
 
 -- Whether a text that was sent was taken.
-pub part-given : (begun : Bool) (text : Option (List ℕ)) (i j : Outside) (sent : Result Unit SinkFault) (what : Part) → what ≡ (if is_ok sent then part.Given else part.Lost) → SaysText text i sent j → IsPart begun text i what j
-part-given begun text i j (Ok done) what is said = subst (λ (p : Part). IsPart begun text i p j) (sym is) said
-part-given begun text i j (Err fault) what is said = subst (λ (p : Part). IsPart begun text i p j) (sym is) (fault, said)
+pub part-given : (begun : Bool) (text : Option (List ℕ)) (i j : ConnectionState) (sent : Result Unit SinkFault) (what : Part) → what ≡ (if is_ok sent then part.Given else part.Lost) → SaysText text i sent j → TellsPart begun text i what j
+part-given begun text i j (Ok done) what is said = subst (λ (p : Part). TellsPart begun text i p j) (sym is) said
+part-given begun text i j (Err fault) what is said = subst (λ (p : Part). TellsPart begun text i p j) (sym is) (fault, said)
 
 -- A number without a text.
 pub no-text : (text : Option (List ℕ)) → is_some text ≡ false → text ≡ None
@@ -62,14 +62,14 @@ line-some : (text : List ℕ) → 0 < length (whole_line text)
 line-some text = omega (arith, length-append text (10 ∷ []))
 
 -- Nothing changes words that were said.
-says-still : (words : List ℕ) (i j k : Outside) → Says words i.out i.lost j.out j.lost (Ok tt) → SaysNothing j k → Says words i.out i.lost k.out k.lost (Ok tt)
+says-still : (words : List ℕ) (i j k : ConnectionState) → Says words i.out i.lost j.out j.lost (Ok tt) → SaysNothing j k → Says words i.out i.lost k.out k.lost (Ok tt)
 says-still words i j k said nothing = (nothing.lost ∙ said.0, nothing.out ∙ said.1)
 
 module _ (entries : List Entry) (low : ℕ) where
-  pub sofar-none : (i : Outside) → SoFar entries low 0 false i i
+  pub sofar-none : (i : ConnectionState) → SoFar entries low 0 false i i
   sofar-none i = record { words = (refl, plus-none i.out); some = λ no. absurd (cc no); none = λ is. refl; kept = refl }
 
-  module _ (at : ℕ) (begun : Bool) (i j k : Outside) (before : SoFar entries low at begun i j) where
+  module _ (at : ℕ) (begun : Bool) (i j k : ConnectionState) (before : SoFar entries low at begun i j) where
     -- One more number, which has no text.
     pub sofar-absent : text_of entries (low + at) ≡ None → SaysNothing j k → k.disk ≡ j.disk → SoFar entries low (at + 1) begun i k
     sofar-absent none nothing kept =
@@ -120,14 +120,14 @@ module _ (entries : List Entry) (low : ℕ) where
 
 module _ (a : Archive) (low count : ℕ) (h : List ℕ) where
   -- All was said, or the end was lost.
-  pub streams-end : (at : ℕ) (begun : Bool) (i j k : Outside) (sent : Result Unit SinkFault) → at ≡ count → SoFar (live a.entries) low at begun i j → j.disk ≡ k.disk → Says (whole_line (codes "end")) j.out j.lost k.out k.lost sent → Acts (texts_said a low count h) i (held_if (is_ok sent) h) a k
+  pub streams-end : (at : ℕ) (begun : Bool) (i j k : ConnectionState) (sent : Result Unit SinkFault) → at ≡ count → SoFar (live a.entries) low at begun i j → j.disk ≡ k.disk → Says (whole_line (codes "end")) j.out j.lost k.out k.lost sent → Acts (texts_said a low count h) i (held_if (is_ok sent) h) a k
   streams-end at begun i j k sent all so_far same said =
       let before : SoFar (live a.entries) low count begun i j = subst (λ (n : ℕ). SoFar (live a.entries) low n begun i j) all so_far in
       acts-by_held (texts_said a low count h) Plain (streams a h (texts_from (live a.entries) low count ++ whole_line (codes "end"))) i k h a sent refl refl (sym same ∙ before.kept) (omega (arith, before.kept, same))
       (Says-then (texts_from (live a.entries) low count) (whole_line (codes "end")) i.out j.out k.out i.lost j.lost k.lost tt sent before.words said) refl
 
   -- No text was said, but why.
-  pub streams-unread : (at : ℕ) (begun : Bool) (i j k : Outside) (sent : Result Unit SinkFault) → begun ≡ false → SoFar (live a.entries) low at begun i j → SaysUnread j sent k → Acts (texts_said a low count h) i (held_if (is_ok sent) h) a k
+  pub streams-unread : (at : ℕ) (begun : Bool) (i j k : ConnectionState) (sent : Result Unit SinkFault) → begun ≡ false → SoFar (live a.entries) low at begun i j → TellsUnread j sent k → Acts (texts_said a low count h) i (held_if (is_ok sent) h) a k
   streams-unread at begun i j k sent unbegun before unread = elim unread.words [
     | inl both ↦ (
         let rose : Rose i.disk k.disk = omega (arith, both.0, before.kept) in
@@ -142,14 +142,14 @@ module _ (a : Archive) (low count : ℕ) (h : List ℕ) where
       none = subst (λ (w : List ℕ). Says w i.out i.lost j.out j.lost (Ok tt)) (before.none unbegun) before.words
 
   -- A text was lost.
-  pub streams-lost : (at : ℕ) (begun : Bool) (i j k : Outside) (fault : SinkFault) → at < count → SoFar (live a.entries) low at begun i j → SaysText (text_of (live a.entries) (low + at)) j (Err fault) k → Acts (texts_said a low count h) i None a k
+  pub streams-lost : (at : ℕ) (begun : Bool) (i j k : ConnectionState) (fault : SinkFault) → at < count → SoFar (live a.entries) low at begun i j → SaysText (text_of (live a.entries) (low + at)) j (Err fault) k → Acts (texts_said a low count h) i None a k
   streams-lost at begun i j k fault less before said =
       let rest = words-from (live a.entries) low at count said.found less said.is in
       acts-cut_off (texts_said a low count h) Plain (streams a h (texts_from (live a.entries) low count ++ whole_line (codes "end"))) (texts_from (live a.entries) low at) (whole_line said.found) rest.0 i j k a fault refl rest.1
       (said.kept ∙ before.kept) (omega (arith, before.kept, said.kept)) before.words said.words refl
 
   -- The reply stopped after a text.
-  pub streams-short : (at : ℕ) (begun : Bool) (i j k : Outside) → at < count → SoFar (live a.entries) low at begun i j → Stops begun (text_of (live a.entries) (low + at)) j k → Acts (texts_said a low count h) i None a k
+  pub streams-short : (at : ℕ) (begun : Bool) (i j k : ConnectionState) → at < count → SoFar (live a.entries) low at begun i j → StopsTelling begun (text_of (live a.entries) (low + at)) j k → Acts (texts_said a low count h) i None a k
   streams-short at begun i j k less before stops =
       let rest = words-from (live a.entries) low at count stops.found less stops.is in
       let line = whole_line stops.found in

@@ -27,7 +27,7 @@ const ANSWERS: [(Answer, &[u8]); 11] = [
 const EPOCH: FileName = FileName {
     kind: FileKind::Epoch,
     number: 2,
-    gen_: 1,
+    generation: 1,
 };
 
 /// Returns the file of a kind that has no number.
@@ -35,7 +35,7 @@ fn file(kind: FileKind) -> FileName {
     FileName {
         kind,
         number: 0,
-        gen_: 1,
+        generation: 1,
     }
 }
 

@@ -1,8 +1,8 @@
 //! Three commands in order over any keeper, with one sentence on a crash since the first one's start.
 ghost use Rattle.std.specs.Prelude.{◌≤◌};
 ghost use Rattle.arch_base.specs.Moments.{last_moment};
-ghost use Rattle.arch_model.specs.Keeping.{Fits};
-ghost use Rattle.arch_model.specs.Standing.{Standing};
+ghost use Rattle.arch_model.specs.Keeping.{MatchesKnown};
+ghost use Rattle.arch_model.specs.Standing.{LastKnown};
 ghost use Rattle.door_tests.specs.Chains.{Chain};
 
 use crate::connection::archive;
@@ -20,8 +20,8 @@ fn deliver_three<K: Keep>(
     keep: &mut K,
 ) -> (Answer, Answer, Answer)
     requires { moment ≤ last_moment }
-    ensures { (s : Standing) → Fits K.holds K.rests K.ready K.leaves keep.old s
-        → Chain K.holds K.rests K.ready K.leaves keep.old keep.new s }
+    ensures { (s : LastKnown) → MatchesKnown K.holds K.files_are K.ready K.leaves keep.old s
+        → Chain K.holds K.files_are K.ready K.leaves keep.old keep.new s }
 {
     let first = keep.command(&Command::Deliver(messages[0]), moment);
     let second = keep.command(&Command::Deliver(messages[1]), moment);

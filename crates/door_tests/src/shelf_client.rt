@@ -5,8 +5,8 @@
 ghost use Rattle.std.specs.Prelude.{◌≡◌, ◌+◌, ◌<◌, ◌^◌, ℕ, List, true, is_ok, if◌then◌else◌};
 ghost use Rattle.line_door.specs.Acts.{outside, held_if, Acts};
 ghost use Rattle.arch_model.specs.Archives.{Archive, live, text_of};
-ghost use Rattle.arch_model.specs.Shelves.{Stays};
-ghost use Rattle.door_tests.specs.Streams.{IsPart, texts_said};
+ghost use Rattle.arch_model.specs.Shelves.{ShelfStays};
+ghost use Rattle.door_tests.specs.Streams.{TellsPart, texts_said};
 
 use answer_lines::say_unread;
 use arch_base::Bytes;
@@ -38,10 +38,10 @@ fn say_part<S: Shelf, O: Sink>(
     out: &mut O,
 ) -> Part
     requires { S.ready shelf.old ≡ true }
-    ensures part { (a : Archive) → S.holds shelf.old a → IsPart begun (text_of (live a.entries) n)
+    ensures part { (a : Archive) → S.holds shelf.old a → TellsPart begun (text_of (live a.entries) n)
         (outside (O.taken out.old) (S.faults shelf.old) (O.faults out.old)) result
         (outside (O.taken out.new) (S.faults shelf.new) (O.faults out.new)) }
-    ensures shelf { Stays S.holds S.ready S.alike S.faults shelf.old shelf.new }
+    ensures shelf { ShelfStays S.holds S.ready S.alike S.faults shelf.old shelf.new }
     ensures sink { O.alike out.old out.new }
 {
     if !is_live(n, shelf) {
@@ -83,7 +83,7 @@ pub fn say_texts<S: Shelf, O: Sink>(
         → Acts (texts_said a low count h)
         (outside (O.taken out.old) (S.faults shelf.old) (O.faults out.old)) (held_if result h) a
         (outside (O.taken out.new) (S.faults shelf.new) (O.faults out.new)) }
-    ensures shelf { Stays S.holds S.ready S.alike S.faults shelf.old shelf.new }
+    ensures shelf { ShelfStays S.holds S.ready S.alike S.faults shelf.old shelf.new }
     ensures sink { O.alike out.old out.new }
 {
     let mut at: u32 = 0;

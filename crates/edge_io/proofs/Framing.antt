@@ -8,7 +8,7 @@ use Rattle.std.proofs.lemmas.Option.{slice_get-get_or, slice_get_past}
 use Rattle.std.specs.List.{slice_get}
 use Rattle.edge_io.specs.Frames.{Outputs, bytes_or_none, count_or_0, written, closing, each_from, each_connection, event_frame, written_between, closing_between, frames_from, frames_of, last_from, last_of, nothing, FirstFrames}
 use Rattle.edge_io.specs.Hosts.{SameEvents, OthersKept}
-use Rattle.edge_io.specs.Passing.{Passing, given_of, left_of}
+use Rattle.edge_io.specs.Passing.{PassedEvents, given_of, left_of}
 use Rattle.edge_io.specs.Taken.{plus}
 use Rattle.edge_io.specs.MemHosts.{outputs_in, IsUnused}
 use Rattle.edge_io.specs.ScriptHosts.{mark_at, marked, IsAtMark, IsOutside, AreMarked, AgreeOn, Scripting, begun_of, Collected, Recorded}
@@ -336,7 +336,7 @@ recorded-kept old new past begun later frames is = record {
 }
 
 -- A host whose events alone are others has the same record.
-pub recorded-with : (host : Scripting) (events : Passing) (past : List Outputs) → Recorded host past → Recorded (record host { events = events }) past
+pub recorded-with : (host : Scripting) (events : PassedEvents) (past : List Outputs) → Recorded host past → Recorded (record host { events = events }) past
 recorded-with host events past is = record { begun_is = is.begun_is; frames_are = is.frames_are; first_frames = is.first_frames }
 
 -- A call on one connection leaves the events and the record.
@@ -345,8 +345,8 @@ pub events-kept : (start old new : Scripting) (touched : Touched) → old ≡ st
     → SameEvents (λ (s : Scripting). Some (left_of s.events)) (λ (s : Scripting). Some (given_of s.events)) Recorded (λ (s : Scripting). 0) start new
 events-kept start old new touched from is events marks frames starved grows =
     subst (λ (s : Scripting). SameEvents (λ (s : Scripting). Some (left_of s.events)) (λ (s : Scripting). Some (given_of s.events)) Recorded (λ (s : Scripting). 0) s new) from (record {
-      left_same = ap (λ (p : Passing). Some (left_of p)) events;
-      given_same = ap (λ (p : Passing). Some (given_of p)) events;
+      left_same = ap (λ (p : PassedEvents). Some (left_of p)) events;
+      given_same = ap (λ (p : PassedEvents). Some (given_of p)) events;
       recorded_same = λ past noted. recorded-kept old new past
           (λ conn small. subst (λ (m : List Mark). AgreeOn (marked (outputs_in new.outgoing) m) (begun_of old) conn) (sym marks)
           (begun-kept (outputs_in old.outgoing) (outputs_in new.outgoing) old.marks conn (grows conn) (is.within conn small)))

@@ -3,7 +3,7 @@ use Rattle.std.proofs.Common.{◌≡◌, ◌<◌, ◌≤◌, ◌+◌, ◌-◌, �
 use Rattle.std.proofs.lemmas.Grind.{common_steps}
 use Rattle.std.proofs.lemmas.List.{take-append-drop, length-take-le}
 use Rattle.std.proofs.Math.Seq.{take-append_seam}
-use Rattle.edge_io.specs.Left.{Gave}
+use Rattle.edge_io.specs.Left.{GaveBytes}
 
 -- A list of length 0 is empty.
 pub nil_from_length : {A : Type 0} (xs : List A) → length xs ≡ 0 → xs ≡ []
@@ -32,7 +32,7 @@ front-after bytes copied more at count within front =
 
 -- A read of `count` bytes into the front of a buffer removes them from the remaining bytes.
 pub gave-front : (bytes into copied : List ℕ) (at count : ℕ) → 0 < length into → count ≡ min (length (drop at bytes)) (length into)
-    → copied ≡ take count (drop at bytes) → Gave count (copied ++ drop count into) (Some (drop at bytes)) (Some (drop (at + count) bytes))
+    → copied ≡ take count (drop at bytes) → GaveBytes count (copied ++ drop count into) (Some (drop at bytes)) (Some (drop (at + count) bytes))
 gave-front bytes into copied at count some is front = record {
   taken = ap Some (front-after bytes copied (drop count into) at count (omega arith) front);
   end = λ none. nil_from_length (drop at bytes) (omega arith);

@@ -2,14 +2,14 @@
 use Rattle.std.proofs.Common.{◌≡◌, ◌≢◌, ℕ, false, ◌==◌, List, [], ◌∷◌, ◌++◌, refl, sym, ◌∙◌, ap, arith, codes, get_or, drop}
 use Rattle.std.proofs.lemmas.Bool.Decides.{nat_tests}
 use Rattle.std.specs.Fmt.{decimal}
-use Rattle.edge_io.specs.Events.{IsDoor, IsWhat, IsLine, door_word, words_of, line_of}
-use Rattle.edge_io.specs.Parsing.{Lacks, IsOpening, opening_words, IsSending, sending_words}
+use Rattle.edge_io.specs.Events.{IsDoor, IsWhat, IsScriptLine, door_word, words_of, line_of}
+use Rattle.edge_io.specs.Parsing.{LacksByte, IsScriptOpening, opening_words, IsSending, sending_words}
 use Rattle.edge_io.specs.declared.events.Event.{Event}
 use Rattle.edge_io.specs.declared.events.What.{What}
 use Rattle.edge_io.specs.declared.events.What.TheVariants.{Opened, Bytes, Ended, Quiet, Stop}
 use Rattle.edge_io.specs.declared.events.Door.{Door}
 use Rattle.edge_io.specs.declared.events.Door.TheVariants.{Control, Http, Nntp, Imap}
-use Rattle.edge_io.proofs.Dividing.{Lacks-append}
+use Rattle.edge_io.proofs.Dividing.{LacksByte-append}
 use Rattle.edge_io.proofs.Numerals.{decimal-lacks}
 
 -- Texts with different first bytes differ.
@@ -21,7 +21,7 @@ pub rest-same : (a b : ℕ) (x y : List ℕ) → a ∷ b ∷ x ≡ a ∷ b ∷ y
 rest-same a b x y e = ap (drop 2) e
 
 -- Words that start like an opening, and spell none, spell nothing.
-pub no_opening : (words rest : List ℕ) → words ≡ codes "o " ++ rest → ((x : ℕ × Door) → IsOpening x → rest ≢ opening_words x) → (what : What) → IsWhat what → words ≢ words_of what
+pub no_opening : (words rest : List ℕ) → words ≡ codes "o " ++ rest → ((x : ℕ × Door) → IsScriptOpening x → rest ≢ opening_words x) → (what : What) → IsWhat what → words ≢ words_of what
 no_opening words rest is none (Opened conn door) h e = none (conn, door) h (rest-same 111 32 rest (decimal conn ++ 32 ∷ door_word door) (sym is ∙ e))
 no_opening words rest is none (Bytes conn len) h e = apart 111 98 (32 ∷ rest) (32 ∷ (decimal conn ++ 32 ∷ decimal len)) refl (sym is ∙ e)
 no_opening words rest is none (Ended conn) h e = apart 111 101 (32 ∷ rest) (32 ∷ decimal conn) refl (sym is ∙ e)
@@ -37,23 +37,23 @@ no_sending words rest is none Quiet h e = apart 98 113 (32 ∷ rest) [] refl (sy
 no_sending words rest is none Stop h e = apart 98 115 (32 ∷ rest) [] refl (sym is ∙ e)
 
 -- The name of a door contains no line feed.
-door-lacks : (door : Door) → Lacks 10 (door_word door)
+door-lacks : (door : Door) → LacksByte 10 (door_word door)
 door-lacks Control = (refl, (refl, (refl, (refl, (refl, (refl, (refl, tt)))))))
 door-lacks Http = (refl, (refl, (refl, (refl, tt))))
 door-lacks Nntp = (refl, (refl, (refl, (refl, tt))))
 door-lacks Imap = (refl, (refl, (refl, (refl, tt))))
 
-words-lack : (what : What) → IsWhat what → Lacks 10 (words_of what)
-words-lack (Opened conn door) h = (refl, (refl, Lacks-append 10 (decimal conn) (32 ∷ door_word door) (decimal-lacks 10 conn (omega arith) (omega (arith, h.0))) (refl, door-lacks door)))
+words-lack : (what : What) → IsWhat what → LacksByte 10 (words_of what)
+words-lack (Opened conn door) h = (refl, (refl, LacksByte-append 10 (decimal conn) (32 ∷ door_word door) (decimal-lacks 10 conn (omega arith) (omega (arith, h.0))) (refl, door-lacks door)))
 words-lack (Bytes conn len) h =
-    (refl, (refl, Lacks-append 10 (decimal conn) (32 ∷ decimal len) (decimal-lacks 10 conn (omega arith) (omega (arith, h.0))) (refl, decimal-lacks 10 len (omega arith) (omega (arith, h.1.1)))))
+    (refl, (refl, LacksByte-append 10 (decimal conn) (32 ∷ decimal len) (decimal-lacks 10 conn (omega arith) (omega (arith, h.0))) (refl, decimal-lacks 10 len (omega arith) (omega (arith, h.1.1)))))
 words-lack (Ended conn) h = (refl, (refl, decimal-lacks 10 conn (omega arith) (omega (arith, h))))
 words-lack Quiet h = (refl, tt)
 words-lack Stop h = (refl, tt)
 
-pub line-lacks : (event : Event) → IsLine event → Lacks 10 (line_of event)
+pub line-lacks : (event : Event) → IsScriptLine event → LacksByte 10 (line_of event)
 line-lacks event h =
-    Lacks-append 10 (decimal event.moment) (32 ∷ words_of event.what) (decimal-lacks 10 event.moment (omega arith) (omega (arith, h.moment))) (refl, words-lack event.what h.what)
+    LacksByte-append 10 (decimal event.moment) (32 ∷ words_of event.what) (decimal-lacks 10 event.moment (omega arith) (omega (arith, h.moment))) (refl, words-lack event.what h.what)
 
 -- A text that is none of these words names no door that the server has.
 pub no_door : (word : List ℕ) → word ≢ door_word Control → word ≢ door_word Http → word ≢ door_word Nntp → (door : Door) → IsDoor door → word ≢ door_word door

@@ -6,7 +6,7 @@ use Rattle.std.proofs.lemmas.List.Elements.{All-head, All-tail}
 use Rattle.std.proofs.lemmas.List.{map-append}
 use Rattle.edge_io.specs.Events.{piece_len}
 use Rattle.edge_io.specs.Scripts.{Arrival}
-use Rattle.edge_io.specs.Spans.{arrival_of, arrivals_of, IsWithin, AllWithin}
+use Rattle.edge_io.specs.Spans.{arrival_of, arrivals_of, PieceIsWithin, AllWithin}
 use Rattle.edge_io.specs.declared.events.Event.{Event}
 use Rattle.edge_io.specs.declared.scripts.Placed.{Placed}
 
@@ -19,8 +19,8 @@ pub arrivals-kept : (pieces more : List ℕ) (all : List Placed) → AllWithin p
 arrivals-kept pieces more [] within = refl
 arrivals-kept pieces more (placed ∷ all) within =
     let head : arrival_of (pieces ++ more) placed ≡ arrival_of pieces placed =
-    ap (λ (piece : List ℕ). let a : Arrival = (placed.event, piece) in a) (part-kept pieces more placed.start (piece_len placed.event.what) (All-head (IsWithin pieces) placed all within)) in
-    let tail : arrivals_of (pieces ++ more) all ≡ arrivals_of pieces all = arrivals-kept pieces more all (All-tail (IsWithin pieces) placed all within) in
+    ap (λ (piece : List ℕ). let a : Arrival = (placed.event, piece) in a) (part-kept pieces more placed.start (piece_len placed.event.what) (All-head (PieceIsWithin pieces) placed all within)) in
+    let tail : arrivals_of (pieces ++ more) all ≡ arrivals_of pieces all = arrivals-kept pieces more all (All-tail (PieceIsWithin pieces) placed all within) in
     cc
 
 -- Appends one event, whose piece follows the others.

@@ -4,15 +4,15 @@ use Rattle.std.proofs.lemmas.Fmt.{decimal_injective}
 use Rattle.std.proofs.lemmas.List.{flat_map_more}
 use Rattle.std.proofs.lemmas.List.Elements.{All-head, All-tail}
 use Rattle.std.specs.Fmt.{decimal}
-use Rattle.edge_io.specs.Events.{IsDoor, IsWhat, IsLine, IsEvent, piece_len, door_word, words_of, line_of, after_line, spelled}
+use Rattle.edge_io.specs.Events.{IsDoor, IsWhat, IsScriptLine, IsEvent, piece_len, door_word, words_of, line_of, after_line, spelled}
 use Rattle.edge_io.specs.Scripts.{Arrival, IsArrival, HasNoFirst, spelled_all, ReadInOneWay}
-use Rattle.edge_io.specs.Parsing.{Lacks}
+use Rattle.edge_io.specs.Parsing.{LacksByte}
 use Rattle.edge_io.specs.declared.events.Door.{Door}
 use Rattle.edge_io.specs.declared.events.Door.TheVariants.{Control, Http, Nntp, Imap}
 use Rattle.edge_io.specs.declared.events.Event.{Event}
 use Rattle.edge_io.specs.declared.events.What.{What}
 use Rattle.edge_io.specs.declared.events.What.TheVariants.{Opened, Bytes, Ended, Quiet, Stop}
-use Rattle.edge_io.proofs.Dividing.{Lacks-divided, divided-once, same_parts}
+use Rattle.edge_io.proofs.Dividing.{LacksByte-divided, divided-once, same_parts}
 use Rattle.edge_io.proofs.Numerals.{decimal-lacks}
 use Rattle.edge_io.proofs.Lines.{line-lacks, rest-same}
 use Rattle.edge_io.proofs.Fronts.{nil_from_length}
@@ -55,7 +55,7 @@ words-once Stop Stop p q e = refl
 words-once a b p q e = let first : get_or (words_of a) 0 0 ≡ get_or (words_of b) 0 0 = ap (λ l. get_or l 0 0) e in absurd (omega arith)
 
 -- A line tells its event.
-pub line-once : (a b : Event) → IsLine a → IsLine b → line_of a ≡ line_of b → a ≡ b
+pub line-once : (a b : Event) → IsScriptLine a → IsScriptLine b → line_of a ≡ line_of b → a ≡ b
 line-once a b p q e =
     let parts = divided-once 32 (decimal a.moment) (decimal b.moment) (words_of a.what) (words_of b.what) (decimal-lacks 32 a.moment (omega arith) (omega (arith, p.moment)))
     (decimal-lacks 32 b.moment (omega arith) (omega (arith, q.moment))) e in
@@ -68,22 +68,22 @@ pub spelled-line : (event : Event) (piece after : List ℕ) → spelled event pi
 spelled-line event piece after = append_assoc (line_of event) (10 ∷ after_line event.what piece) after
 
 -- Bytes without a line feed start with no event.
-pub no_line : (bytes : List ℕ) → Lacks 10 bytes → HasNoFirst bytes
+pub no_line : (bytes : List ℕ) → LacksByte 10 bytes → HasNoFirst bytes
 no_line bytes none event piece after h e =
-    Lacks-divided 10 bytes (line_of event) (after_line event.what piece ++ after) none (e ∙ spelled-line event piece after)
+    LacksByte-divided 10 bytes (line_of event) (after_line event.what piece ++ after) none (e ∙ spelled-line event piece after)
 
 -- The first line of bytes is the line of their first event, and the rest comes after it.
-pub line-and-after : (bytes line rest : List ℕ) (event : Event) (piece after : List ℕ) → Lacks 10 line → bytes ≡ line ++ 10 ∷ rest → IsLine event → bytes ≡ spelled event piece ++ after
+pub line-and-after : (bytes line rest : List ℕ) (event : Event) (piece after : List ℕ) → LacksByte 10 line → bytes ≡ line ++ 10 ∷ rest → IsScriptLine event → bytes ≡ spelled event piece ++ after
     → (line ≡ line_of event) × (rest ≡ after_line event.what piece ++ after)
 line-and-after bytes line rest event piece after no_feed is h e =
     same_parts 10 bytes line rest (line_of event) (after_line event.what piece ++ after) no_feed is (line-lacks event h) (e ∙ spelled-line event piece after)
 
 -- Bytes whose first line is of no event start with no event.
-pub no_event : (bytes line rest : List ℕ) → Lacks 10 line → bytes ≡ line ++ 10 ∷ rest → ((event : Event) → IsLine event → line ≢ line_of event) → HasNoFirst bytes
+pub no_event : (bytes line rest : List ℕ) → LacksByte 10 line → bytes ≡ line ++ 10 ∷ rest → ((event : Event) → IsScriptLine event → line ≢ line_of event) → HasNoFirst bytes
 no_event bytes line rest no_feed is none event piece after h e = none event h.in_range (line-and-after bytes line rest event piece after no_feed is h.in_range e).0
 
 -- Bytes start with no event if their first line announces a piece that is incomplete.
-pub no_piece : (bytes line rest : List ℕ) (first : Event) (conn len : ℕ) → Lacks 10 line → bytes ≡ line ++ 10 ∷ rest → IsLine first → line ≡ line_of first → first.what ≡ Bytes conn len
+pub no_piece : (bytes line rest : List ℕ) (first : Event) (conn len : ℕ) → LacksByte 10 line → bytes ≡ line ++ 10 ∷ rest → IsScriptLine first → line ≡ line_of first → first.what ≡ Bytes conn len
     → ((piece after : List ℕ) → length piece ≡ len → rest ≢ piece ++ 10 ∷ after) → HasNoFirst bytes
 no_piece bytes line rest first conn len no_feed is in_range named what none event piece after h e =
     let parts = line-and-after bytes line rest event piece after no_feed is h.in_range e in

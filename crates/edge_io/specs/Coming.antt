@@ -26,6 +26,6 @@ after_first None = None
 after_first (Some moments) = Some (passed moments)
 
 -- The moment is the first of those to come, if they are told.
-abbrev pub IsFirst : ℕ → Option Moments → Type 0
-IsFirst moment None = Unit {0}
-IsFirst moment (Some moments) = moment ≡ moments.next
+abbrev pub IsFirstMoment : ℕ → Option Moments → Type 0
+IsFirstMoment moment None = Unit {0}
+IsFirstMoment moment (Some moments) = moment ≡ moments.next

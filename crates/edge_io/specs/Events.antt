@@ -40,13 +40,13 @@ piece_len Quiet = 0
 piece_len Stop = 0
 
 -- The ranges of an event in a script.
-pub record IsLine (event : Event) : Type 0 where
+pub record IsScriptLine (event : Event) : Type 0 where
   pub moment : IsMoment event.moment
   pub what : IsWhat event.what
 
 -- An event of a script with its piece, which is empty if the event has none.
 pub record IsEvent (event : Event) (piece : List ℕ) : Type 0 where
-  pub in_range : IsLine event
+  pub in_range : IsScriptLine event
   pub whole : length piece ≡ piece_len event.what
 
 -- The name of a door.

@@ -1,10 +1,10 @@
--- What the calls on one connection of a host leave alone.
+-- Lemmas for `impl Sink`: what the calls on one connection of a host leave alone.
 use Rattle.std.specs.Prelude.{◌≡◌, ℕ, List, Option, refl}
 use Rattle.std.proofs.Common.{◌∙◌}
 use Rattle.edge_io.specs.Frames.{Outputs}
-use Rattle.edge_io.specs.Hosts.{Told, SameEvents, SameElsewhere}
+use Rattle.edge_io.specs.Hosts.{ToldEvents, SameEvents, SameElsewhere}
 
-module _ {H : Type 0} (left given : H → Told) (recorded : H → List Outputs → Type 0)
+module _ {H : Type 0} (left given : H → ToldEvents) (recorded : H → List Outputs → Type 0)
     (faults : H → ℕ) where
   -- A host has the same events as itself.
   pub SameEvents-same : (h : H) → SameEvents left given recorded faults h h

@@ -6,41 +6,41 @@ use Rattle.edge_io.specs.Frames.{Outputs}
 use Rattle.edge_io.specs.declared.events.Event.{Event}
 
 -- The events of a host, each with its piece, if they are told.
-abbrev pub Told : Type 0
-Told = Option (List Arrival)
+abbrev pub ToldEvents : Type 0
+ToldEvents = Option (List Arrival)
 
 -- The events given, and then this one. None stays None.
-abbrev pub then_given : Told → Arrival → Told
+abbrev pub then_given : ToldEvents → Arrival → ToldEvents
 then_given None arrival = None
 then_given (Some arrivals) arrival = Some (arrivals ++ arrival ∷ [])
 
 -- This event, followed by those that are left. None stays None.
-abbrev pub before_left : Arrival → Told → Told
+abbrev pub before_left : Arrival → ToldEvents → ToldEvents
 before_left arrival None = None
 before_left arrival (Some arrivals) = Some (arrival ∷ arrivals)
 
 -- No events are left, if they are told.
-abbrev pub NoneLeft : Told → Type 0
+abbrev pub NoneLeft : ToldEvents → Type 0
 NoneLeft None = Unit {0}
 NoneLeft (Some arrivals) = arrivals ≡ []
 
 -- No event was given, since none is left.
-pub record GaveNone (left left' given given' : Told) : Type 0 where
+pub record GaveNone (left left' given given' : ToldEvents) : Type 0 where
   pub ended : NoneLeft left
   pub left_same : left' ≡ left
   pub given_same : given' ≡ given
 
 -- An event was given, and its piece is at the front of the buffer.
-pub record GaveOne (event : Event) (into : List ℕ) (left left' given given' : Told) : Type 0 where
+pub record GaveOne (event : Event) (into : List ℕ) (left left' given given' : ToldEvents) : Type 0 where
   pub within : piece_len event.what ≤ length into
   pub arrival : IsArrival (event, take (piece_len event.what) into)
   pub first : left ≡ before_left (event, take (piece_len event.what) into) left'
   pub last : given' ≡ then_given given (event, take (piece_len event.what) into)
 
 -- One event was given, or none is left.
-abbrev pub Gave : Option Event → List ℕ → Told → Told → Told → Told → Type 0
-Gave None into left left' given given' = GaveNone left left' given given'
-Gave (Some event) into left left' given given' = GaveOne event into left left' given given'
+abbrev pub GaveEvent : Option Event → List ℕ → ToldEvents → ToldEvents → ToldEvents → ToldEvents → Type 0
+GaveEvent None into left left' given given' = GaveNone left left' given given'
+GaveEvent (Some event) into left left' given given' = GaveOne event into left left' given given'
 
 -- One more closing, up to the end of the count's type. None stays None.
 abbrev pub one_more : Option ℕ → Option ℕ
@@ -62,7 +62,7 @@ abbrev pub OthersKept : {X : Type 0} → ℕ → (ℕ → X) → (ℕ → X) →
 OthersKept conn old new = (other : ℕ) → other ≢ conn → new other ≡ old other
 
 -- A host: see the trait.
-module _ {H : Type 0} (left given : H → Told) (recorded : H → List Outputs → Type 0)
+module _ {H : Type 0} (left given : H → ToldEvents) (recorded : H → List Outputs → Type 0)
     (faults : H → ℕ) where
   -- No event was given, and the record of the outputs at each event is as before.
   pub record SameEvents (old new : H) : Type 0 where

@@ -13,6 +13,6 @@ IsUsedUp (Some left) = left ≡ []
 
 -- The first `count` bytes of the buffer were removed from the front of the remaining bytes. The
 -- count is 0 only if no bytes remained.
-pub record Gave (count : ℕ) (into : List ℕ) (old new : Option (List ℕ)) : Type 0 where
+pub record GaveBytes (count : ℕ) (into : List ℕ) (old new : Option (List ℕ)) : Type 0 where
   pub taken : old ≡ before (take count into) new
   pub end : count ≡ 0 → IsUsedUp old

@@ -1,7 +1,6 @@
 pub mod Taken
 pub mod Phrases
 pub mod Left
-pub mod Listed
 pub mod MemSources
 pub mod MemSinks
 pub mod Events
@@ -9,10 +8,11 @@ pub mod Coming
 pub mod MemClocks
 pub mod Scripts
 pub mod Spans
-pub mod Parsing
 pub mod Frames
 pub mod Hosts
-pub mod Hosting
 pub mod Passing
 pub mod MemHosts
 pub mod ScriptHosts
+pub mod Listed
+pub mod Parsing
+pub mod Hosting

@@ -1,4 +1,4 @@
--- Counts of calls, and lists of the calls that fail.
+-- Private: counts of calls, and lists of the calls that fail.
 use Rattle.std.specs.Prelude.{ℕ, ◌+◌, ◌-◌, ◌^◌, Bool, ◌==◌, List, min}
 use Rattle.std.specs.List.{list_any}
 

@@ -6,7 +6,7 @@ use Rattle.std.specs.Map.{lookup}
 use Rattle.std.specs.Global.{Vec}
 use Rattle.edge_io.specs.Listed.{raised, is_listed}
 use Rattle.edge_io.specs.Frames.{Outputs, outputs}
-use Rattle.edge_io.specs.Passing.{Passing, unbegun}
+use Rattle.edge_io.specs.Passing.{PassedEvents, unbegun}
 use Rattle.edge_io.specs.Scripts.{Arrival}
 
 -- The bytes of a vector, or none if there is no vector.
@@ -42,7 +42,7 @@ pub record IsUnused (outputs : Outputs) : Type 0 where
 -- The state of a host: its events, its outputs, the ordinals of the calls that fail, and the counts
 -- of calls of `next` and `send`, of failed calls of `next`, and of calls that ran out of memory.
 pub record Hosting : Type 0 where
-  pub events : Passing
+  pub events : PassedEvents
   pub outgoing : Outgoing
   pub listed : List ℕ
   pub calls : ℕ
@@ -70,7 +70,7 @@ SendFails result s s' = MatchResult result
     (λ _. s'.starved ≡ (if is_listed s.listed s.calls then s.starved else raised s.starved))
 
 -- The call is counted, and the same calls are listed.
-pub record Counted (s s' : Hosting) : Type 0 where
+pub record CountsCall (s s' : Hosting) : Type 0 where
   pub listed_same : s'.listed ≡ s.listed
   pub calls_more : s'.calls ≡ raised s.calls
 

@@ -1,4 +1,4 @@
--- What a parser of scripts finds at the front of a text.
+-- Private: what a parser of scripts finds at the front of a text.
 use Rattle.std.specs.Prelude.{◌≡◌, ◌≢◌, ◌<◌, ℕ, ◌==◌, false, List, [], ◌∷◌, ◌++◌, length, Option, MatchOption}
 use Rattle.edge_io.specs.Events.{IsEvent, IsConnection, IsDoor, IsPieceLen, door_word, spelled}
 use Rattle.edge_io.specs.declared.events.Door.{Door}
@@ -8,13 +8,13 @@ use Rattle.edge_io.specs.declared.reading.Parts.{Parts}
 use Rattle.edge_io.specs.declared.reading.First.{First}
 
 -- The text does not contain the byte.
-abbrev pub Lacks : ℕ → List ℕ → Type 0
-Lacks byte [] = Unit {0}
-Lacks byte (b ∷ bs) = ((b == byte) ≡ false) × Lacks byte bs
+abbrev pub LacksByte : ℕ → List ℕ → Type 0
+LacksByte byte [] = Unit {0}
+LacksByte byte (b ∷ bs) = ((b == byte) ≡ false) × LacksByte byte bs
 
 -- The parts of a text before and after the first such byte, or none if it has no such byte.
 abbrev pub Divides : ℕ → List ℕ → Option Parts → Type 0
-Divides byte text found = MatchOption found (Lacks byte text) (λ parts. Lacks byte parts.before.now
+Divides byte text found = MatchOption found (LacksByte byte text) (λ parts. LacksByte byte parts.before.now
     × (text ≡ parts.before.now ++ byte ∷ parts.after.now))
 
 -- The value of a kind that a text spells, or none if it spells no value of that kind.
@@ -23,8 +23,8 @@ Spells Is spelling text found =
     MatchOption found ((x : _) → Is x → text ≢ spelling x) (λ x. Is x × (text ≡ spelling x))
 
 -- A connection and a door that a script may have.
-abbrev pub IsOpening : ℕ × Door → Type 0
-IsOpening opening = IsConnection opening.0 × IsDoor opening.1
+abbrev pub IsScriptOpening : ℕ × Door → Type 0
+IsScriptOpening opening = IsConnection opening.0 × IsDoor opening.1
 
 -- The form of an opening: the connection, a space, and the door.
 abbrev pub opening_words : ℕ × Door → List ℕ
@@ -46,8 +46,8 @@ HasPiece len text found =
     (λ parts. (length parts.before.now ≡ len) × (text ≡ parts.before.now ++ 10 ∷ parts.after.now))
 
 -- The first event of some bytes, its piece and the remaining bytes, or none if no event is first.
-abbrev pub IsFirst : List ℕ → Option First → Type 0
-IsFirst bytes found =
+abbrev pub IsFirstEvent : List ℕ → Option First → Type 0
+IsFirstEvent bytes found =
     MatchOption found (HasNoFirst bytes)
     (λ first. IsEvent first.event first.piece.now × (bytes ≡ spelled first.event first.piece.now
     ++ first.rest.now) × (length first.rest.now < length bytes))

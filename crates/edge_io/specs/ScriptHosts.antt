@@ -1,7 +1,7 @@
 -- The host over a script, which collects frames.
 use Rattle.std.specs.Prelude.{◌≡◌, ◌≤◌, ◌<◌, ◌⊎◌, ℕ, List, [], ◌++◌, length, take, get_or, Some}
 use Rattle.edge_io.specs.Frames.{Outputs, outputs, bytes_or_none, count_or_0, event_frame, frames_of, last_of, FirstFrames}
-use Rattle.edge_io.specs.Passing.{Passing, unbegun}
+use Rattle.edge_io.specs.Passing.{PassedEvents, unbegun}
 use Rattle.edge_io.specs.Scripts.{Arrival}
 use Rattle.edge_io.specs.MemHosts.{Outgoing, outputs_in, IsUnused}
 use Rattle.edge_io.specs.declared.marks.Mark.{Mark}
@@ -37,7 +37,7 @@ pub record AreMarked (now : Outputs) (marks : List Mark) (touched : Touched) : T
 -- The state of a host: its events, its outputs, the marks of these when the last event was given, the
 -- frames, and the count of calls that ran out of memory.
 pub record Scripting : Type 0 where
-  pub events : Passing
+  pub events : PassedEvents
   pub outgoing : Outgoing
   pub marks : List Mark
   pub frames : List ℕ

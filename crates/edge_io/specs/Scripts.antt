@@ -39,10 +39,10 @@ pub record IsBad (number : ℕ) (bytes : List ℕ) : Type 0 where
   pub none : HasNoFirst rest
 
 -- The result of reading bytes: their script, their first bad event, or out of memory.
-abbrev pub IsReading : List ℕ → Result (List Arrival) ScriptRefusal → Type 0
-IsReading bytes (Ok arrivals) = IsScript arrivals bytes
-IsReading bytes (Err (Bad number)) = IsBad number bytes
-IsReading bytes (Err NoMemory) = Unit {0}
+abbrev pub IsScriptReading : List ℕ → Result (List Arrival) ScriptRefusal → Type 0
+IsScriptReading bytes (Ok arrivals) = IsScript arrivals bytes
+IsScriptReading bytes (Err (Bad number)) = IsBad number bytes
+IsScriptReading bytes (Err NoMemory) = Unit {0}
 
 -- The event of an arrival, if there is one.
 abbrev pub event_in : Option Arrival → Option Event

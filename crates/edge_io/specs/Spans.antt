@@ -14,9 +14,9 @@ abbrev pub arrivals_of : List ℕ → List Placed → List Arrival
 arrivals_of pieces all = map (arrival_of pieces) all
 
 -- The piece lies within the bytes.
-abbrev pub IsWithin : List ℕ → Placed → Type 0
-IsWithin pieces placed = placed.start + piece_len placed.event.what ≤ length pieces
+abbrev pub PieceIsWithin : List ℕ → Placed → Type 0
+PieceIsWithin pieces placed = placed.start + piece_len placed.event.what ≤ length pieces
 
 -- Every piece lies within the bytes.
 abbrev pub AllWithin : List ℕ → List Placed → Type 0
-AllWithin pieces all = All (IsWithin pieces) all
+AllWithin pieces all = All (PieceIsWithin pieces) all

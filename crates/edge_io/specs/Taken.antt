@@ -7,6 +7,6 @@ plus None bytes = None
 plus (Some taken) bytes = Some (taken ++ bytes)
 
 -- All bytes were taken. If the call failed, a prefix of them was.
-abbrev pub Took : {T E : Type 0} → Result T E → List ℕ → Option (List ℕ) → Option (List ℕ) → Type 0
-Took result bytes old new =
+abbrev pub TookBytes : {T E : Type 0} → Result T E → List ℕ → Option (List ℕ) → Option (List ℕ) → Type 0
+TookBytes result bytes old new =
     MatchResult result (λ _. new ≡ plus old bytes) (λ _. (n : ℕ) × (new ≡ plus old (take n bytes)))

@@ -1,6 +1,7 @@
 //! The events of a script, given one by one.
+//! Pure.
 ghost use Rattle.std.specs.Prelude.{◌≡◌, ◌≤◌, Some, All, length};
-ghost use Rattle.edge_io.specs.Hosts.{Gave};
+ghost use Rattle.edge_io.specs.Hosts.{GaveEvent};
 ghost use Rattle.edge_io.specs.Passing.{unbegun, given_of, left_of};
 ghost use Rattle.edge_io.specs.Scripts.{IsArrival, piece_at};
 
@@ -18,10 +19,10 @@ pub(crate) struct Arrivals {
 // A contract sees all events, and how many of them were given.
 impl Model for Arrivals {
     ghost use Rattle.std.specs.Prelude.{◌≤◌, length, All};
-    ghost use Rattle.edge_io.specs.Passing.{Passing};
+    ghost use Rattle.edge_io.specs.Passing.{PassedEvents};
     ghost use Rattle.edge_io.specs.Scripts.{IsArrival};
 
-    ghost Value = { Passing };
+    ghost Value = { PassedEvents };
 
     ghost view = { λ s. record { all = s.script; at = s.at } };
 
@@ -41,7 +42,7 @@ impl Arrivals {
     /// left.
     pub(crate) fn next(&mut self, into: &mut [u8]) -> Option<Event>
         requires { 1048576 ≤ length into.old }
-        ensures { Gave result into.new (Some (left_of self.old)) (Some (left_of self.new))
+        ensures { GaveEvent result into.new (Some (left_of self.old)) (Some (left_of self.new))
             (Some (given_of self.old)) (Some (given_of self.new)) }
     {
         let event = *self.script.event(self.at)?;

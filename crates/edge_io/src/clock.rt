@@ -1,8 +1,9 @@
 //! The clock trait.
+//! Pure.
 ghost use Rattle.std.specs.Prelude.{◌≡◌, ℕ, Option, IfOk, OnOk, OnErr};
 ghost use Rattle.arch_base.specs.Counts.{HasCause};
 ghost use Rattle.arch_base.specs.Moments.{IsMoment};
-ghost use Rattle.edge_io.specs.Coming.{Moments, IsFirst, after_first};
+ghost use Rattle.edge_io.specs.Coming.{Moments, IsFirstMoment, after_first};
 
 use thiserror::Error;
 
@@ -25,7 +26,7 @@ pub trait Clock {
     /// moments to come unchanged, and the count of faults rose.
     fn now(&mut self) -> Result<u64, ClockFault>
         ensures moment { IfOk result IsMoment }
-        ensures first { IfOk result (λ moment. IsFirst moment (coming self.old)) }
+        ensures first { IfOk result (λ moment. IsFirstMoment moment (coming self.old)) }
         ensures rest { OnOk result (coming self.new ≡ after_first (coming self.old)) }
         ensures failed { OnErr result (coming self.new ≡ coming self.old) }
         ensures cause { HasCause (faults self.old) (faults self.new) result };

@@ -1,4 +1,5 @@
 //! A sink over one connection of a host.
+//! Pure.
 ghost use Rattle.std.specs.Prelude.{◌≡◌, refl};
 ghost use Rattle.std.proofs.Common.{◌∙◌};
 ghost use Rattle.edge_io.specs.Hosts.{SameElsewhere};

@@ -1,4 +1,5 @@
 //! The events of a server.
+//! Pure.
 
 /// A door of the server. Each protocol has one.
 #[derive(Clone, Copy, Debug, PartialEq, Eq, Drop)]

@@ -1,4 +1,5 @@
 //! The frames in which a replay prints what the events of a script wrote.
+//! Allocates.
 ghost use Rattle.std.specs.Prelude.{◌≡◌, ◌≤◌, ◌<◌, ◌-◌, ◌++◌, length, true, OnOk, IfOk};
 ghost use Rattle.edge_io.specs.Frames.{written, closing, head as head_of, each_from, written_between, closing_between};
 ghost use Rattle.edge_io.specs.MemHosts.{outputs_in};

@@ -1,9 +1,10 @@
 //! The host trait.
+//! Pure.
 ghost use Rattle.std.specs.Prelude.{◌≡◌, ◌≤◌, ◌++◌, ◌∷◌, [], ℕ, List, Option, length, IfOk, OnOk, OnErr};
 ghost use Rattle.arch_base.specs.Counts.{HasCause};
-ghost use Rattle.edge_io.specs.Taken.{Took};
+ghost use Rattle.edge_io.specs.Taken.{TookBytes};
 ghost use Rattle.edge_io.specs.Frames.{Outputs, outputs};
-ghost use Rattle.edge_io.specs.Hosts.{Told, Gave, SameEvents, OthersKept, one_more, closed_with};
+ghost use Rattle.edge_io.specs.Hosts.{ToldEvents, GaveEvent, SameEvents, OthersKept, one_more, closed_with};
 
 use crate::events::Event;
 use thiserror::Error;
@@ -16,10 +17,10 @@ pub struct HostFault;
 /// The outside of a server: events come in, and each connection takes bytes.
 pub trait Host {
     /// The events that are left, each with its piece, if the host is told.
-    ghost left: { Self → Told };
+    ghost left: { Self → ToldEvents };
 
     /// The events that were given, each with its piece, if the host is told.
-    ghost given: { Self → Told };
+    ghost given: { Self → ToldEvents };
 
     /// The bytes that a connection has taken, if the host is told.
     ghost taken: { Self → ℕ → Option (List ℕ) };
@@ -48,7 +49,7 @@ pub trait Host {
     /// count of faults rose.
     fn next(&mut self, into: &mut [u8]) -> Result<Option<Event>, HostFault>
         requires { 1048576 ≤ length into.old }
-        ensures gave { IfOk result (λ event. Gave event into.new (left self.old) (left self.new)
+        ensures gave { IfOk result (λ event. GaveEvent event into.new (left self.old) (left self.new)
             (given self.old) (given self.new)) }
         ensures noted { (past : List Outputs) → recorded self.old past
             → OnOk result (recorded self.new
@@ -68,7 +69,7 @@ pub trait Host {
     /// `HostFault` if the connection took a prefix of the bytes, which may be empty or whole. The
     /// count of lost calls rose.
     fn send(&mut self, conn: u32, bytes: &[u8]) -> Result<(), HostFault>
-        ensures took { Took result bytes.now (taken self.old conn) (taken self.new conn) }
+        ensures took { TookBytes result bytes.now (taken self.old conn) (taken self.new conn) }
         ensures others { OthersKept conn (taken self.old) (taken self.new) }
         ensures closings { (other : ℕ) → closings self.new other ≡ closings self.old other }
         ensures events { SameEvents left given recorded faults self.old self.new }

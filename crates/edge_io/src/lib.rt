@@ -1,6 +1,8 @@
-//! The outside of the archive: sources of bytes, sinks of bytes, clocks, and hosts of connections,
-//! each with a count of faults, their versions in memory, words written to a sink, and scripts of
-//! the events that a server runs on.
+//! The outside of the archive: sources and sinks of bytes, clocks, and hosts of connections.
+//! Allocates.
+//!
+//! Each has a count of faults, and a version in memory. Here are also words written to a sink, and
+//! scripts of the events that a server runs on.
 #![tactic(auto)]
 
 mod arrivals;

@@ -1,4 +1,5 @@
 //! What the connections had taken when an event began.
+//! Allocates.
 ghost use Rattle.std.specs.Prelude.{◌≡◌, ◌≤◌, ◌<◌, ℕ, length, IfOk};
 ghost use Rattle.edge_io.specs.Frames.{bytes_or_none, count_or_0};
 ghost use Rattle.edge_io.specs.MemHosts.{outputs_in};

@@ -1,8 +1,9 @@
 //! A clock in memory.
+//! Allocates.
 ghost use Rattle.std.specs.Prelude.{◌≡◌, ◌<◌, ◌+◌, ◌-◌, Some, length, min, All, IfOk, OnOk, OnErr};
 ghost use Rattle.arch_base.specs.Counts.{HasCause};
 ghost use Rattle.arch_base.specs.Moments.{IsMoment};
-ghost use Rattle.edge_io.specs.Coming.{IsFirst, after_first, moments_of};
+ghost use Rattle.edge_io.specs.Coming.{IsFirstMoment, after_first, moments_of};
 ghost use Rattle.edge_io.specs.Listed.{is_listed};
 ghost use Rattle.edge_io.specs.MemClocks.{Ticking, Ticks};
 
@@ -76,7 +77,7 @@ impl Clock for MemClock {
 
     fn now(&mut self) -> Result<u64, ClockFault>
         ensures moment { IfOk result IsMoment }
-        ensures first { IfOk result (λ moment. IsFirst moment (Some self.old.coming)) }
+        ensures first { IfOk result (λ moment. IsFirstMoment moment (Some self.old.coming)) }
         ensures rest { OnOk result (Some self.new.coming ≡ after_first (Some self.old.coming)) }
         ensures failed { OnErr result (Some self.new.coming ≡ Some self.old.coming) }
         ensures cause { HasCause self.old.faults self.new.faults result }

@@ -1,12 +1,13 @@
 //! A host in memory.
+//! Allocates.
 ghost use Rattle.std.specs.Prelude.{◌≡◌, ◌≤◌, ◌++◌, ◌∷◌, [], ℕ, Some, List, All, length, IfOk, OnOk, OnErr};
 ghost use Rattle.arch_base.specs.Counts.{HasCause};
-ghost use Rattle.edge_io.specs.Taken.{Took};
+ghost use Rattle.edge_io.specs.Taken.{TookBytes};
 ghost use Rattle.edge_io.specs.Passing.{given_of, left_of};
-ghost use Rattle.edge_io.specs.Hosts.{Gave, SameEvents, OthersKept, untold};
+ghost use Rattle.edge_io.specs.Hosts.{GaveEvent, SameEvents, OthersKept, untold};
 ghost use Rattle.edge_io.specs.Frames.{Outputs};
 ghost use Rattle.edge_io.specs.Listed.{raised, is_listed};
-ghost use Rattle.edge_io.specs.MemHosts.{Hosting, outputs_in, IsNewHost, Counted, NextFails, SendFails, is_closed};
+ghost use Rattle.edge_io.specs.MemHosts.{Hosting, outputs_in, IsNewHost, CountsCall, NextFails, SendFails, is_closed};
 ghost use Rattle.edge_io.specs.Scripts.{IsArrival};
 
 use crate::arrivals::Arrivals;
@@ -120,7 +121,7 @@ impl Host for MemHost {
 
     fn next(&mut self, into: &mut [u8]) -> Result<Option<Event>, HostFault>
         requires { 1048576 ≤ length into.old }
-        ensures gave { IfOk result (λ event. Gave event into.new (Some (left_of self.old.events))
+        ensures gave { IfOk result (λ event. GaveEvent event into.new (Some (left_of self.old.events))
             (Some (left_of self.new.events)) (Some (given_of self.old.events))
             (Some (given_of self.new.events))) }
         ensures noted { (past : List Outputs) → Unit {0} → OnOk result (Unit {0}) }
@@ -137,7 +138,7 @@ impl Host for MemHost {
         ensures lost { self.new.outgoing.lost ≡ self.old.outgoing.lost }
         ensures closed_at { (conn : ℕ) → untold self.new conn ≡ untold self.old conn }
         ensures fails { NextFails result self.old self.new }
-        ensures counted { Counted self.old self.new }
+        ensures counted { CountsCall self.old self.new }
     {
         if self.fails() {
             self.faults = self.faults.saturating_add(1);
@@ -147,7 +148,7 @@ impl Host for MemHost {
     }
 
     fn send(&mut self, conn: u32, bytes: &[u8]) -> Result<(), HostFault>
-        ensures took { Took result bytes.now ((outputs_in self.old.outgoing).taken conn)
+        ensures took { TookBytes result bytes.now ((outputs_in self.old.outgoing).taken conn)
             ((outputs_in self.new.outgoing).taken conn) }
         ensures others { OthersKept conn (outputs_in self.old.outgoing).taken
             (outputs_in self.new.outgoing).taken }
@@ -161,7 +162,7 @@ impl Host for MemHost {
         ensures untaken { OnErr result ((outputs_in self.new.outgoing).taken conn
             ≡ (outputs_in self.old.outgoing).taken conn) }
         ensures fails { SendFails result self.old self.new }
-        ensures counted { Counted self.old self.new }
+        ensures counted { CountsCall self.old self.new }
     {
         if self.fails() {
             self.outlets.lose();

@@ -1,8 +1,9 @@
 //! A sink in memory.
+//! Allocates.
 ghost use Rattle.std.specs.Prelude.{◌≡◌, ◌-◌, [], Some, refl};
 ghost use Rattle.arch_base.specs.Counts.{HasCause};
-ghost use Rattle.edge_io.specs.Taken.{Took};
-ghost use Rattle.edge_io.specs.MemSinks.{Writing, Writes};
+ghost use Rattle.edge_io.specs.Taken.{TookBytes};
+ghost use Rattle.edge_io.specs.MemSinks.{SinkState, SinkWrites};
 
 use crate::mem_source::is_listed;
 use crate::{Sink, SinkFault};
@@ -26,9 +27,9 @@ pub struct MemSink {
 // allocations. If no ordinal is listed, every fault is a failed allocation.
 impl Model for MemSink {
     ghost use Rattle.std.specs.Prelude.{◌≡◌, []};
-    ghost use Rattle.edge_io.specs.MemSinks.{Writing};
+    ghost use Rattle.edge_io.specs.MemSinks.{SinkState};
 
-    ghost Value = { Writing };
+    ghost Value = { SinkState };
 
     ghost view = { λ s. record {
       taken = s.bytes;
@@ -91,10 +92,10 @@ impl Sink for MemSink {
     ghost alike_same = { λ s. refl };
 
     fn write(&mut self, bytes: &[u8]) -> Result<(), SinkFault>
-        ensures took { Took result bytes.now (Some self.old.taken) (Some self.new.taken) }
+        ensures took { TookBytes result bytes.now (Some self.old.taken) (Some self.new.taken) }
         ensures cause { HasCause self.old.faults self.new.faults result }
         ensures alike { self.new.listed ≡ self.old.listed }
-        ensures writes { Writes result bytes.now self.old self.new }
+        ensures writes { SinkWrites result bytes.now self.old self.new }
     {
         let fails = is_listed(&self.listed, self.calls);
         self.calls = self.calls.saturating_add(1);

@@ -1,9 +1,10 @@
 //! A source in memory.
+//! Allocates.
 ghost use Rattle.std.specs.Prelude.{◌≡◌, ◌≤◌, ◌<◌, ◌+◌, ◌-◌, Some, length, IfOk, OnErr};
 ghost use Rattle.arch_base.specs.Counts.{HasCause};
-ghost use Rattle.edge_io.specs.Left.{Gave};
+ghost use Rattle.edge_io.specs.Left.{GaveBytes};
 ghost use Rattle.edge_io.specs.Listed.{is_listed};
-ghost use Rattle.edge_io.specs.MemSources.{Reading, Reads};
+ghost use Rattle.edge_io.specs.MemSources.{SourceState, SourceReads};
 
 use crate::{Source, SourceFault};
 use arch_base::{Bytes, Numbers};
@@ -23,9 +24,9 @@ pub struct MemSource {
 // A contract sees the remaining bytes, the listed ordinals, and the counts of calls and faults.
 impl Model for MemSource {
     ghost use Rattle.std.specs.Prelude.{◌≤◌, length, drop};
-    ghost use Rattle.edge_io.specs.MemSources.{Reading};
+    ghost use Rattle.edge_io.specs.MemSources.{SourceState};
 
-    ghost Value = { Reading };
+    ghost Value = { SourceState };
 
     ghost view = { λ s. record {
       left = drop s.at s.bytes;
@@ -69,10 +70,10 @@ impl Source for MemSource {
         requires { 0 < length into.old }
         ensures within { IfOk result (λ count. count ≤ length into.new) }
         ensures gave { IfOk result (λ count.
-            Gave count into.new (Some self.old.left) (Some self.new.left)) }
+            GaveBytes count into.new (Some self.old.left) (Some self.new.left)) }
         ensures failed { OnErr result (Some self.new.left ≡ Some self.old.left) }
         ensures cause { HasCause self.old.faults self.new.faults result }
-        ensures reads { Reads result into.old into.new self.old self.new }
+        ensures reads { SourceReads result into.old into.new self.old self.new }
     {
         let fails = is_listed(&self.listed, self.calls);
         self.calls = self.calls.saturating_add(1);

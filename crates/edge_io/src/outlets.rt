@@ -1,4 +1,5 @@
 //! What the connections of a host in memory take.
+//! Allocates.
 ghost use Rattle.std.specs.Prelude.{◌≡◌, ◌≤◌, ◌<◌, ℕ, Some, Option, OnOk, OnErr, IfOk, if◌then◌else◌, nat_lt, None, slice_get};
 ghost use Rattle.arch_base.specs.Counts.{HasCause};
 ghost use Rattle.edge_io.specs.Taken.{plus};

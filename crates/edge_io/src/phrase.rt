@@ -1,4 +1,5 @@
 //! Writes words to a sink.
+//! Pure.
 ghost use Rattle.std.specs.Prelude.{◌++◌, ◌∷◌, []};
 ghost use Rattle.edge_io.specs.Phrases.{Says};
 

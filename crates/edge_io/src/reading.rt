@@ -1,4 +1,5 @@
 //! Reads a script from bytes.
+//! Allocates.
 //!
 //! An event is a line `T o C DOOR`, `T b C LEN`, `T e C`, `T q` or `T s`. The line of a `b` is
 //! followed by LEN bytes and a line feed. T is a moment and C a connection. Numbers are decimals
@@ -6,9 +7,9 @@
 ghost use Rattle.std.specs.Prelude.{◌<◌};
 ghost use Rattle.std.specs.Fmt.{decimal};
 ghost use Rattle.arch_base.specs.Moments.{IsMoment};
-ghost use Rattle.edge_io.specs.Events.{IsConnection, IsDoor, IsPieceLen, IsWhat, IsLine, door_word, words_of, line_of};
-ghost use Rattle.edge_io.specs.Scripts.{IsReading, ReadInOneWay};
-ghost use Rattle.edge_io.specs.Parsing.{Divides, Spells, HasPiece, IsFirst, IsOpening, opening_words, IsSending, sending_words};
+ghost use Rattle.edge_io.specs.Events.{IsConnection, IsDoor, IsPieceLen, IsWhat, IsScriptLine, door_word, words_of, line_of};
+ghost use Rattle.edge_io.specs.Scripts.{IsScriptReading, ReadInOneWay};
+ghost use Rattle.edge_io.specs.Parsing.{Divides, Spells, HasPiece, IsFirstEvent, IsScriptOpening, opening_words, IsSending, sending_words};
 
 use crate::events::{Door, Event, What};
 use crate::scripts::{Script, ScriptRefusal};
@@ -27,7 +28,7 @@ const CONNECTIONS: u64 = 65536;
 /// `Bad` gives the number, from 1, of the first event that is malformed or incomplete. `NoMemory`
 /// if an allocation fails.
 pub fn script(alloc: Global, bytes: &[u8]) -> Result<Script, ScriptRefusal>
-    ensures { IsReading bytes.now result }
+    ensures { IsScriptReading bytes.now result }
 {
     let mut made = Script::new(alloc, bytes.len())?;
     let mut rest = bytes;
@@ -67,7 +68,7 @@ pub struct Parts<'a> {
 
 /// Reads the first event of some bytes, or returns `None` if they start with none.
 fn first_event(bytes: &[u8]) -> Option<First<'_>>
-    ensures { IsFirst bytes.now result }
+    ensures { IsFirstEvent bytes.now result }
 {
     let line = divide(b'\n', bytes)?;
     let event = read_line(line.before)?;
@@ -114,7 +115,7 @@ fn split_piece(len: usize, text: &[u8]) -> Option<Parts<'_>>
 
 /// Reads the event that a line spells, or returns `None` if it spells none.
 fn read_line(line: &[u8]) -> Option<Event>
-    ensures { Spells IsLine line_of line.now result }
+    ensures { Spells IsScriptLine line_of line.now result }
 {
     let parts = divide(b' ', line)?;
     let moment = read_moment(parts.before)?;
@@ -147,7 +148,7 @@ fn read_what(words: &[u8]) -> Option<What>
 
 /// Reads a connection and a door, or returns `None` if the words don't spell them.
 fn read_opening(words: &[u8]) -> Option<(u32, Door)>
-    ensures { Spells IsOpening opening_words words.now result }
+    ensures { Spells IsScriptOpening opening_words words.now result }
 {
     let parts = divide(b' ', words)?;
     let conn = read_connection(parts.before)?;

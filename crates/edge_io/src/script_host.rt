@@ -1,12 +1,13 @@
 //! A host over a script, which collects frames.
+//! Allocates.
 ghost use Rattle.std.specs.Prelude.{◌≡◌, ◌≤◌, ◌<◌, ◌++◌, ◌∷◌, [], ℕ, Some, List, All, length, IfOk, OnOk, OnErr, IsOk};
 ghost use Rattle.arch_base.specs.Counts.{HasCause};
-ghost use Rattle.edge_io.specs.Taken.{Took};
+ghost use Rattle.edge_io.specs.Taken.{TookBytes};
 ghost use Rattle.edge_io.specs.Frames.{Outputs, event_frame, frames_of, FirstFrames};
 ghost use Rattle.edge_io.specs.Listed.{raised};
 ghost use Rattle.edge_io.specs.MemHosts.{outputs_in};
 ghost use Rattle.edge_io.specs.Passing.{given_of, left_of};
-ghost use Rattle.edge_io.specs.Hosts.{Gave, SameEvents, OthersKept, untold};
+ghost use Rattle.edge_io.specs.Hosts.{GaveEvent, SameEvents, OthersKept, untold};
 ghost use Rattle.edge_io.specs.ScriptHosts.{Scripting, Recorded, IsNewScriptHost, AgreeOn, Collected, begun_of};
 ghost use Rattle.edge_io.specs.Scripts.{IsArrival};
 
@@ -175,7 +176,7 @@ impl Host for ScriptHost {
 
     fn next(&mut self, into: &mut [u8]) -> Result<Option<Event>, HostFault>
         requires { 1048576 ≤ length into.old }
-        ensures gave { IfOk result (λ event. Gave event into.new (Some (left_of self.old.events))
+        ensures gave { IfOk result (λ event. GaveEvent event into.new (Some (left_of self.old.events))
             (Some (left_of self.new.events)) (Some (given_of self.old.events))
             (Some (given_of self.new.events))) }
         ensures noted { (past : List Outputs) → Recorded self.old past
@@ -200,7 +201,7 @@ impl Host for ScriptHost {
     }
 
     fn send(&mut self, conn: u32, bytes: &[u8]) -> Result<(), HostFault>
-        ensures took { Took result bytes.now ((outputs_in self.old.outgoing).taken conn)
+        ensures took { TookBytes result bytes.now ((outputs_in self.old.outgoing).taken conn)
             ((outputs_in self.new.outgoing).taken conn) }
         ensures others { OthersKept conn (outputs_in self.old.outgoing).taken
             (outputs_in self.new.outgoing).taken }

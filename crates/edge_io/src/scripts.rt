@@ -1,4 +1,5 @@
 //! A script: a list of events, each with its piece of bytes.
+//! Allocates.
 ghost use Rattle.std.specs.Prelude.{◌≡◌, ◌<◌, ◌^◌, ◌++◌, ◌∷◌, [], List, length, IfOk, OnOk, IsSome};
 ghost use Rattle.std.specs.Option.{option_copied};
 ghost use Rattle.edge_io.specs.Events.{piece_len};

@@ -1,7 +1,8 @@
 //! The sink trait.
+//! Pure.
 ghost use Rattle.std.specs.Prelude.{ℕ, List, Option};
 ghost use Rattle.arch_base.specs.Counts.{HasCause};
-ghost use Rattle.edge_io.specs.Taken.{Took};
+ghost use Rattle.edge_io.specs.Taken.{TookBytes};
 
 use thiserror::Error;
 
@@ -27,7 +28,7 @@ pub trait Sink {
     /// `SinkFault` if a prefix of the bytes, which may be empty or whole, was taken. The count of
     /// faults rose.
     fn write(&mut self, bytes: &[u8]) -> Result<(), SinkFault>
-        ensures took { Took result bytes.now (taken self.old) (taken self.new) }
+        ensures took { TookBytes result bytes.now (taken self.old) (taken self.new) }
         ensures cause { HasCause (faults self.old) (faults self.new) result }
         ensures alike { alike self.old self.new };
 

@@ -1,7 +1,8 @@
 //! The source trait.
+//! Pure.
 ghost use Rattle.std.specs.Prelude.{◌≡◌, ◌≤◌, ◌<◌, ℕ, List, Option, length, IfOk, OnErr};
 ghost use Rattle.arch_base.specs.Counts.{HasCause};
-ghost use Rattle.edge_io.specs.Left.{Gave};
+ghost use Rattle.edge_io.specs.Left.{GaveBytes};
 
 use thiserror::Error;
 
@@ -26,7 +27,7 @@ pub trait Source {
     fn read(&mut self, into: &mut [u8]) -> Result<usize, SourceFault>
         requires { 0 < length into.old }
         ensures within { IfOk result (λ count. count ≤ length into.new) }
-        ensures gave { IfOk result (λ count. Gave count into.new (left self.old) (left self.new)) }
+        ensures gave { IfOk result (λ count. GaveBytes count into.new (left self.old) (left self.new)) }
         ensures failed { OnErr result (left self.new ≡ left self.old) }
         ensures cause { HasCause (faults self.old) (faults self.new) result };
 }

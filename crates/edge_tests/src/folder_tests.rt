@@ -14,14 +14,14 @@ use std::time::Duration;
 const ROOT: FileName = FileName {
     kind: FileKind::Root,
     number: 0,
-    gen_: 0,
+    generation: 0,
 };
 
-fn epoch(number: u32, gen_: u64) -> FileName {
+fn epoch(number: u32, generation: u64) -> FileName {
     FileName {
         kind: FileKind::Epoch,
         number,
-        gen_,
+        generation,
     }
 }
 
@@ -231,52 +231,52 @@ const ORDERED: [FileName; 11] = [
     FileName {
         kind: FileKind::Root,
         number: 1,
-        gen_: 0,
+        generation: 0,
     },
     FileName {
         kind: FileKind::Map,
         number: 0,
-        gen_: 2,
+        generation: 2,
     },
     FileName {
         kind: FileKind::Map,
         number: 0,
-        gen_: u64::MAX,
+        generation: u64::MAX,
     },
     FileName {
         kind: FileKind::Map,
         number: 4,
-        gen_: 0,
+        generation: 0,
     },
     FileName {
         kind: FileKind::Epoch,
         number: 0,
-        gen_: 0,
+        generation: 0,
     },
     FileName {
         kind: FileKind::Epoch,
         number: 2,
-        gen_: 3,
+        generation: 3,
     },
     FileName {
         kind: FileKind::Epoch,
         number: 2,
-        gen_: 11,
+        generation: 11,
     },
     FileName {
         kind: FileKind::Epoch,
         number: 10,
-        gen_: 2,
+        generation: 2,
     },
     FileName {
         kind: FileKind::Cache,
         number: 0,
-        gen_: 7,
+        generation: 7,
     },
     FileName {
         kind: FileKind::Cache,
         number: u32::MAX,
-        gen_: 1,
+        generation: 1,
     },
 ];
 

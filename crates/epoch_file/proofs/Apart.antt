@@ -11,7 +11,7 @@ use Rattle.git_objects.specs.Commits.{commit_content, tree_line, parent_line, au
 use Rattle.git_objects.specs.declared.entry_kind.EntryKind.{EntryKind}
 use Rattle.git_objects.specs.Objects.{blob_spelling, blob_id_of, id_of, tree_content, sized_before}
 use Rattle.git_objects.proofs.Spellings.{sized-once, tree-once, length-tree_content}
-use Rattle.git_objects.proofs.ObjectIds.{IsId-id_of}
+use Rattle.git_objects.proofs.ObjectIds.{IsObjectId-id_of}
 use Rattle.git_objects.proofs.Splitting.{parted-once}
 use Rattle.git_objects.proofs.Numbers.{NoByte-decimal}
 use Rattle.mail_date.specs.declared.moment.Moment.{Moment}
@@ -80,7 +80,7 @@ moment_once text tree parent m n small fits e = go (date_fact text) (after_ids t
 
 -- The content of a tree is small.
 tree_small : (kind : EntryKind) (text : List ℕ) → length (tree_content kind (blob_id_of text)) < 2 ^ 64
-tree_small kind text = omega (arith, length-tree_content kind (blob_id_of text) (IsId-id_of (blob_spelling text)).len)
+tree_small kind text = omega (arith, length-tree_content kind (blob_id_of text) (IsObjectId-id_of (blob_spelling text)).len)
 
 -- Entries with equal parts are equal.
 same_entry : (e f : EpochEntry) → e.kind ≡ f.kind → e.text ≡ f.text → e.moment ≡ f.moment → e ≡ f

@@ -6,13 +6,13 @@ use Rattle.disk_model.specs.Disk.{Content, WhereTold, HasRead, bytes_of}
 use Rattle.mail_commits.specs.Entries.{magic}
 use Rattle.epoch_file.specs.declared.state.State.{State}
 use Rattle.epoch_file.specs.declared.window.Part.{Part}
-use Rattle.epoch_file.specs.Steps.{Walked, BeginsAt, BeginsIn, BeginsWith}
-use Rattle.epoch_file.specs.Windows.{Shows, Comes, IsInside}
+use Rattle.epoch_file.specs.Steps.{Walked, BeginsAt, BeginsIn, BeginsAfterMagic}
+use Rattle.epoch_file.specs.Windows.{Shows, BytesCome, IsInsidePart}
 use Rattle.epoch_file.proofs.Showing.{shows-more}
 
 -- The bytes that a read puts into a window.
 pub comes-some : (content : Option Content) (part : Part) (offset n : ℕ) (before after old chunk new : List ℕ) → WhereTold (HasRead part.file offset n before after) content → chunk ≡ take n after
-    → new ≡ old ++ chunk → offset ≡ part.offset + length old → part.offset + length old + length before ≤ part.end → WhereTold (Comes part (length before) old new (Ok true)) content
+    → new ≡ old ++ chunk → offset ≡ part.offset + length old → part.offset + length old + length before ≤ part.end → WhereTold (BytesCome part (length before) old new (Ok true)) content
 comes-some None part offset n before after old chunk new read is grown at fits = tt
 comes-some (Some k) part offset n before after old chunk new read is grown at fits = λ shows.
     let bytes = bytes_of (k part.file).seen in
@@ -28,7 +28,7 @@ comes-some (Some k) part offset n before after old chunk new read is grown at fi
 
 -- More room brings equally many bytes if no more are left.
 pub comes-wider : (content : Option Content) (part : Part) (cut room : ℕ) (old new : List ℕ) (result : Result Bool WalkRefusal) → min (length old + room) (part.end - part.offset) ≤ min (length old + cut) (part.end - part.offset)
-    → WhereTold (Comes part cut old new result) content → WhereTold (Comes part room old new result) content
+    → WhereTold (BytesCome part cut old new result) content → WhereTold (BytesCome part room old new result) content
 comes-wider None part cut room old new result less comes = tt
 comes-wider (Some k) part cut room old new (Ok true) less comes = λ shows. let got = comes shows in (got.0, omega (arith, less, got.1))
 comes-wider (Some k) part cut room old new (Ok false) less comes = comes
@@ -39,7 +39,7 @@ shows_first : (bytes : List ℕ) (part : Part) → part.offset ≡ 0 → part.en
 shows_first bytes part front whole = record { rest = take part.end bytes; is = ap (λ (n : ℕ). drop n (take part.end bytes)) front; whole = whole; inside = omega (arith, front) }
 
 -- If what was read doesn't start with the magic, the file doesn't either.
-begins_none : (content : Option Content) (part : Part) (room : ℕ) (window : List ℕ) (came : Bool) → part.offset ≡ 0 → 8 ≤ part.end → 8 ≤ room → WhereTold (Comes part room [] window (Ok came)) content
+begins_none : (content : Option Content) (part : Part) (room : ℕ) (window : List ℕ) (came : Bool) → part.offset ≡ 0 → 8 ≤ part.end → 8 ≤ room → WhereTold (BytesCome part room [] window (Ok came)) content
     → ((rest : List ℕ) → window ≢ magic ++ rest) → WhereTold (λ k. BeginsAt part.end (bytes_of (k part.file).seen) (Ok None)) content
 begins_none None part room window came front some big comes none = tt
 begins_none (Some k) part room window false front some big comes none = λ whole. absurd (comes (shows_first (bytes_of (k part.file).seen) part front whole))
@@ -52,8 +52,8 @@ begins_none (Some k) part room window true front some big comes none = λ whole 
     none (drop 8 window) (sym (take-append-drop 8 window) ∙ ap (λ (l : List ℕ). l ++ drop 8 window) (sym same ∙ is))
 
 -- A walk starts after the magic.
-begins_some : (content : Option Content) (part : Part) (room : ℕ) (window : List ℕ) (came : Bool) (s : State) → part.offset ≡ 0 → WhereTold (Comes part room [] window (Ok came)) content
-    → BeginsWith part window (Some s) → WhereTold (λ k. BeginsAt part.end (bytes_of (k part.file).seen) (Ok (Some s))) content
+begins_some : (content : Option Content) (part : Part) (room : ℕ) (window : List ℕ) (came : Bool) (s : State) → part.offset ≡ 0 → WhereTold (BytesCome part room [] window (Ok came)) content
+    → BeginsAfterMagic part window (Some s) → WhereTold (λ k. BeginsAt part.end (bytes_of (k part.file).seen) (Ok (Some s))) content
 begins_some None part room window came s front comes b = tt
 begins_some (Some k) part room window false s front comes b = λ whole. absurd (comes (shows_first (bytes_of (k part.file).seen) part front whole))
 begins_some (Some k) part room window true s front comes b = λ whole.
@@ -77,16 +77,16 @@ begins_some (Some k) part room window true s front comes b = λ whole.
 
 -- A walk starts after the magic, or the magic isn't there.
 pub begins-either : (content : Option Content) (part : Part) (room : ℕ) (old window : List ℕ) (came : Bool) (found : Option State) → old ≡ [] → part.offset ≡ 0 → 8 ≤ part.end → 8 ≤ room
-    → WhereTold (Comes part room old window (Ok came)) content → BeginsWith part window found → WhereTold (λ k. BeginsAt part.end (bytes_of (k part.file).seen) (Ok found)) content
+    → WhereTold (BytesCome part room old window (Ok came)) content → BeginsAfterMagic part window found → WhereTold (λ k. BeginsAt part.end (bytes_of (k part.file).seen) (Ok found)) content
 begins-either content part room old window came None empty front some big comes b =
-    begins_none content part room window came front some big (subst (λ (l : List ℕ). WhereTold (Comes part room l window (Ok came)) content) empty comes) b
+    begins_none content part room window came front some big (subst (λ (l : List ℕ). WhereTold (BytesCome part room l window (Ok came)) content) empty comes) b
 begins-either content part room old window came (Some s) empty front some big comes b =
-    begins_some content part room window came s front (subst (λ (l : List ℕ). WhereTold (Comes part room l window (Ok came)) content) empty comes) b
+    begins_some content part room window came s front (subst (λ (l : List ℕ). WhereTold (BytesCome part room l window (Ok came)) content) empty comes) b
 
 -- A walk starts inside the part.
-pub begins-inside : (part : Part) (window : List ℕ) (found : Option State) → part.offset ≡ 0 → IsInside part window → BeginsWith part window found → BeginsIn part.file part.end (Ok found)
+pub begins-inside : (part : Part) (window : List ℕ) (found : Option State) → part.offset ≡ 0 → IsInsidePart part window → BeginsAfterMagic part window found → BeginsIn part.file part.end (Ok found)
 begins-inside part window None front inside b = tt
 begins-inside part window (Some s) front inside b =
     let room : 8 + length b.0 ≤ part.end = omega (arith, inside, front, ap length b.1, length-append magic b.0) in
-    let Holds : State → Type 0 = λ t. (t.part.file ≡ part.file) × (t.part.end ≤ part.end) × IsInside t.part t.window × (t.seen ≡ []) in
+    let Holds : State → Type 0 = λ t. (t.part.file ≡ part.file) × (t.part.end ≤ part.end) × IsInsidePart t.part t.window × (t.seen ≡ []) in
     subst Holds (sym b.2) (refl, omega arith, room, refl)

@@ -7,7 +7,7 @@ use Rattle.arch_base.specs.declared.sequence.NoMemory.{NoMemory}
 use Rattle.git_objects.specs.declared.commits.Commit.{Commit}
 use Rattle.git_objects.specs.Commits.{IsCommit, IsParent, commit_content}
 use Rattle.git_objects.specs.Objects.{blob_spelling, id_of}
-use Rattle.git_objects.proofs.ObjectIds.{IsId-id_of}
+use Rattle.git_objects.proofs.ObjectIds.{IsObjectId-id_of}
 use Rattle.mail_reader.specs.StorageTexts.{IsStorageText}
 use Rattle.mail_commits.specs.declared.commits.EntryIds.{EntryIds}
 use Rattle.mail_commits.specs.Commits.{commit_of}
@@ -16,19 +16,19 @@ use Rattle.epoch_file.specs.declared.entry.Seen.{Seen}
 use Rattle.epoch_file.specs.declared.reading.Parts.{Parts}
 use Rattle.epoch_file.specs.Entries.{EpochEntry, IsEpochEntry, bytes_after}
 use Rattle.arch_base.specs.Moments.{last_moment}
-use Rattle.epoch_file.specs.Reading.{IsParted, HasParts, PartsAgain, AreIds, IsRead, Reads, ReadsWhere, seen_by}
+use Rattle.epoch_file.specs.Reading.{IsParted, HasParts, PartsAgain, AreIds, IsEntryRead, ReadsEntry, ReadsWhere, seen_by}
 use Rattle.epoch_file.specs.Walking.{seen_at}
 use Rattle.epoch_file.proofs.Kept.{commit_valid, committed-is}
 
 -- By parts that are found.
 pub reads-parted : (offset : ℕ) (parent : Option Id20) (bytes : List ℕ) (parts : Parts) (result : Result (Option (Seen × ℕ)) NoMemory) → PartsAgain bytes (Some parts)
-    → ReadsWhere (λ e. HasParts parent e parts) offset parent bytes result → Reads offset parent bytes result
+    → ReadsWhere (λ e. HasParts parent e parts) offset parent bytes result → ReadsEntry offset parent bytes result
 reads-parted offset parent bytes parts (Ok None) again reads = λ p e rest valid is. reads p e rest valid is (again parent e rest valid is)
 reads-parted offset parent bytes parts (Ok (Some found)) again reads = reads
 reads-parted offset parent bytes parts (Err e) again reads = tt
 
 -- If the bytes have no parts.
-pub reads-unparted : (offset : ℕ) (parent : Option Id20) (bytes : List ℕ) → PartsAgain bytes None → Reads offset parent bytes (Ok None)
+pub reads-unparted : (offset : ℕ) (parent : Option Id20) (bytes : List ℕ) → PartsAgain bytes None → ReadsEntry offset parent bytes (Ok None)
 reads-unparted offset parent bytes again = λ p e rest valid is. again parent e rest valid is
 
 -- A moment is found in the content of an entry's commit.
@@ -40,7 +40,7 @@ moment_is parent e parts found p valid has again =
     let tree = id_of (tree_of e.kind e.text) in
     let commit = commit_of e.text tree parent e.moment in
     let at = committed-is e.text tree parent e.moment in
-    again commit (commit_valid e.text tree parent e.moment (IsId-id_of (tree_of e.kind e.text)) p valid.moment) has.commit (omega (arith, at, valid.moment)) ∙ ap Some at
+    again commit (commit_valid e.text tree parent e.moment (IsObjectId-id_of (tree_of e.kind e.text)) p valid.moment) has.commit (omega (arith, at, valid.moment)) ∙ ap Some at
 
 -- By the moment that is found.
 pub reads-moment : (offset : ℕ) (parent : Option Id20) (bytes : List ℕ) (parts : Parts) (moment : ℕ) (result : Result (Option (Seen × ℕ)) NoMemory) → MomentAgain parts.commit.now (Some moment)
@@ -103,7 +103,7 @@ reads-other offset parent bytes parts moment front cut other = λ p e rest valid
 -- If the bytes are those of the entry.
 pub reads-entry : (offset : ℕ) (parent : Option Id20) (bytes : List ℕ) (parts : Parts) (moment : ℕ) (front : List ℕ) (ids : EntryIds) (seen : Seen) → IsParted bytes parts → PartsAgain bytes (Some parts)
     → moment ≤ last_moment → IsStorageText parts.text.now → front ≡ take parts.size bytes → front ≡ entry_bytes parts.kind parts.text.now moment parent → AreIds parts.kind parts.text.now moment parent ids
-    → seen ≡ seen_by offset parts moment ids → IsRead offset parent bytes (seen, parts.size)
+    → seen ≡ seen_by offset parts moment ids → IsEntryRead offset parent bytes (seen, parts.size)
 reads-entry offset parent bytes parts moment front ids seen parted again small stored cut same are is =
     let e : EpochEntry = record { kind = parts.kind; text = parts.text.now; moment = moment } in
     let rest = drop parts.size bytes in

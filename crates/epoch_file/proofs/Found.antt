@@ -5,14 +5,14 @@ use Rattle.git_objects.specs.declared.entry_kind.EntryKind.{EntryKind}
 use Rattle.git_objects.specs.declared.objects.Object.{Object}
 use Rattle.git_objects.specs.declared.objects.Object.TheVariants.{Blob, Tree, Commit}
 use Rattle.git_objects.specs.Objects.{BlobOf, TreeOf, CommitOf, blob_spelling, spelling}
-use Rattle.git_objects.specs.Reading.{IsFront, shown}
+use Rattle.git_objects.specs.Reading.{IsObjectFront, shown}
 
 -- A blob.
 pub blob_is : (found : Object) (held : Bor (List ℕ)) (content : List ℕ) → found ≡ Blob held → shown found ≡ BlobOf content → held.now ≡ content
 blob_is found held content is e = let same : BlobOf held.now ≡ BlobOf content = ap shown (sym is) ∙ e in cc
 
 -- The bytes start with the blob.
-pub blob_ahead_is : (bytes : List ℕ) (found : Object) (held : Bor (List ℕ)) (len : ℕ) → found ≡ Blob held → IsFront bytes (shown found) len → take len bytes ≡ blob_spelling held.now
+pub blob_ahead_is : (bytes : List ℕ) (found : Object) (held : Bor (List ℕ)) (len : ℕ) → found ≡ Blob held → IsObjectFront bytes (shown found) len → take len bytes ≡ blob_spelling held.now
 blob_ahead_is bytes found held len is front =
     let whole : len ≡ len - 0 = omega arith in
     ap (λ (n : ℕ). take n bytes) whole ∙ (front.spelled ∙ ap (λ (object : Object). spelling (shown object)) is)

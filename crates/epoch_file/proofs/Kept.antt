@@ -2,11 +2,11 @@
 use Rattle.std.proofs.Common.{◌≡◌, ℕ, ◌≤◌, List, [], ◌∷◌, ◌++◌, Option, Some, None, IfSome, refl, arith}
 use Rattle.std.proofs.lemmas.Int.{ints}
 use Rattle.arch_base.specs.declared.ids.Id20.{Id20}
-use Rattle.arch_base.specs.Ids.{IsId}
-use Rattle.git_objects.specs.CleanText.{clean, IsClean}
+use Rattle.arch_base.specs.Ids.{IsObjectId}
+use Rattle.git_objects.specs.CleanText.{clean, IsCleanText}
 use Rattle.git_objects.specs.Commits.{IsCommit, IsParent}
-use Rattle.git_objects.proofs.Cleaning.{IsClean-clean}
-use Rattle.git_objects.proofs.ObjectIds.{IsId-id_of}
+use Rattle.git_objects.proofs.Cleaning.{IsCleanText-clean}
+use Rattle.git_objects.proofs.ObjectIds.{IsObjectId-id_of}
 use Rattle.mail_address.specs.declared.address.Address.{Address}
 use Rattle.mail_date.specs.declared.moment.Moment.{Moment}
 use Rattle.mime_words.specs.Decoding.{decoded}
@@ -17,23 +17,23 @@ use Rattle.epoch_file.specs.Entries.{EpochEntry, commit_after, last_of}
 use Rattle.arch_base.specs.Moments.{last_moment}
 use Rattle.epoch_file.proofs.Zones.{IsNear, date-near}
 
-name_clean : (name address : List ℕ) → IsClean name → IsClean address → IsClean (name_or name address)
+name_clean : (name address : List ℕ) → IsCleanText name → IsCleanText address → IsCleanText (name_or name address)
 name_clean [] address h k = k
 name_clean (b ∷ name) address h k = h
 
-from_clean : (mailbox : Option Address) → IsClean (from_of mailbox)
+from_clean : (mailbox : Option Address) → IsCleanText (from_of mailbox)
 from_clean None = record { same = refl }
-from_clean (Some address) = name_clean (clean (decoded address.name)) (clean_address address) (IsClean-clean (decoded address.name)) (IsClean-clean (address.mailbox ++ 64 ∷ address.host))
+from_clean (Some address) = name_clean (clean (decoded address.name)) (clean_address address) (IsCleanText-clean (decoded address.name)) (IsCleanText-clean (address.mailbox ++ 64 ∷ address.host))
 
-email_clean : (mailbox : Option Address) → IsClean (email_of mailbox)
+email_clean : (mailbox : Option Address) → IsCleanText (email_of mailbox)
 email_clean None = record { same = refl }
-email_clean (Some address) = IsClean-clean (address.mailbox ++ 64 ∷ address.host)
+email_clean (Some address) = IsCleanText-clean (address.mailbox ++ 64 ∷ address.host)
 
-author_clean : (text : List ℕ) → IsClean (from_fact text)
+author_clean : (text : List ℕ) → IsCleanText (from_fact text)
 unfolding from_fact
 author_clean text = from_clean (first_mailbox text)
 
-address_clean : (text : List ℕ) → IsClean (email_fact text)
+address_clean : (text : List ℕ) → IsCleanText (email_fact text)
 unfolding email_fact
 address_clean text = email_clean (first_mailbox text)
 
@@ -42,7 +42,7 @@ written_near None moment small h = record { secs = small; zone = record { low = 
 written_near (Some written) moment small h = h
 
 -- The commit of a text is valid.
-pub commit_valid : (text : List ℕ) (tree : Id20) (parent : Option Id20) (moment : ℕ) → IsId tree → IsParent parent → moment ≤ last_moment → IsCommit (commit_of text tree parent moment)
+pub commit_valid : (text : List ℕ) (tree : Id20) (parent : Option Id20) (moment : ℕ) → IsObjectId tree → IsParent parent → moment ≤ last_moment → IsCommit (commit_of text tree parent moment)
 unfolding commit_of
 commit_valid text tree parent moment t p small =
     let near = written_near (date_fact text) moment small (date-near text) in
@@ -54,7 +54,7 @@ commit_valid text tree parent moment t p small =
       secs = omega (arith, near.secs);
       zone = near.zone;
       committed = omega (arith, small);
-      subject = IsClean-clean (subject_fact text);
+      subject = IsCleanText-clean (subject_fact text);
     }
 
 -- The moment of the commit of a text.
@@ -63,11 +63,11 @@ unfolding commit_of
 committed-is text tree parent moment = refl
 
 -- The id of an entry's commit is valid.
-pub IsId-commit : (parent : Option Id20) (e : EpochEntry) → IsId (commit_after parent e)
+pub IsObjectId-commit : (parent : Option Id20) (e : EpochEntry) → IsObjectId (commit_after parent e)
 unfolding commit_id
-IsId-commit parent e = IsId-id_of (commit_text e.kind e.text e.moment parent)
+IsObjectId-commit parent e = IsObjectId-id_of (commit_text e.kind e.text e.moment parent)
 
 -- The last commit of entries may be a parent.
 pub IsParent-last : (parent : Option Id20) (es : List EpochEntry) → IsParent parent → IsParent (last_of parent es)
 IsParent-last parent [] h = h
-IsParent-last parent (e ∷ es) h = IsParent-last (Some (commit_after parent e)) es (IsId-commit parent e)
+IsParent-last parent (e ∷ es) h = IsParent-last (Some (commit_after parent e)) es (IsObjectId-commit parent e)

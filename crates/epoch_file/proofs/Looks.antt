@@ -10,12 +10,12 @@ use Rattle.mail_commits.specs.Entries.{tree_of}
 use Rattle.epoch_file.specs.declared.sight.Sight.{Sight}
 use Rattle.epoch_file.specs.declared.sight.Sight.TheVariants.{Lacks, Short, Whole}
 use Rattle.epoch_file.specs.Entries.{EpochEntry, bytes_after}
-use Rattle.epoch_file.specs.Sights.{Starts, Sees, SeesCommit, SeesAll, commit_offset, EndsCommit}
+use Rattle.epoch_file.specs.Sights.{StartsWithEntry, Sees, SeesCommit, SeesAll, commit_offset, EndsCommit}
 use Rattle.epoch_file.proofs.Fronts.{within, fits, after}
 use Rattle.epoch_file.proofs.Sizes.{content_after, head_of, objects, headed, head_first, length-head, digits-le, length-blob, length-tree, length-entry}
 
 -- The type and the size of the blob are held.
-pub blob_head : (parent : Option Id20) (e : EpochEntry) (held more rest : List ℕ) (left : ℕ) → Starts parent e held more rest left → (28 ≤ length held) ⊎ (left ≤ length held)
+pub blob_head : (parent : Option Id20) (e : EpochEntry) (held more rest : List ℕ) (left : ℕ) → StartsWithEntry parent e held more rest left → (28 ≤ length held) ⊎ (left ≤ length held)
     → (tail : List ℕ) × (held ≡ codes "blob " ++ (decimal (length e.text) ++ 0 ∷ tail))
 blob_head parent e held more rest left s enough =
     let after_text = tree_of e.kind e.text ++ ((codes "commit " ++ (decimal (length (content_after parent e)) ++ 0 ∷ content_after parent e)) ++ rest) in
@@ -28,7 +28,7 @@ blob_head parent e held more rest left s enough =
     (drop (length head) held, here ∙ sym (head_first (codes "blob ") (drop (length head) held) (length e.text)))
 
 -- An entry has no more bytes than are left.
-pub entry-le : (parent : Option Id20) (e : EpochEntry) (held more rest : List ℕ) (left : ℕ) → Starts parent e held more rest left → length (bytes_after parent e) ≤ left
+pub entry-le : (parent : Option Id20) (e : EpochEntry) (held more rest : List ℕ) (left : ℕ) → StartsWithEntry parent e held more rest left → length (bytes_after parent e) ≤ left
 entry-le parent e held more rest left s = omega (arith, s.all, ap length s.is, length-append (bytes_after parent e) rest)
 
 -- The type and the size of the commit are held.
@@ -37,7 +37,7 @@ pub record CommitHead (parent : Option Id20) (e : EpochEntry) (held : List ℕ) 
   pub offset : commit_offset e.text ≤ length held
   pub is : drop (commit_offset e.text) held ≡ codes "commit " ++ (decimal (length (content_after parent e)) ++ 0 ∷ tail)
 
-pub commit_head : (parent : Option Id20) (e : EpochEntry) (held more rest : List ℕ) (left : ℕ) → left < 2 ^ 64 → Starts parent e held more rest left
+pub commit_head : (parent : Option Id20) (e : EpochEntry) (held more rest : List ℕ) (left : ℕ) → left < 2 ^ 64 → StartsWithEntry parent e held more rest left
     → (commit_offset e.text + 28 ≤ length held) ⊎ (left ≤ length held) → CommitHead parent e held
 commit_head parent e held more rest left small s enough =
     let content = content_after parent e in
@@ -64,7 +64,7 @@ commit_head parent e held more rest left small s enough =
     }
 
 -- The end of a commit is that of its entry.
-pub commit_end : (parent : Option Id20) (e : EpochEntry) (held more rest : List ℕ) (left at : ℕ) (found : Option ℕ) → left < 2 ^ 64 → Starts parent e held more rest left → at ≡ commit_offset e.text
+pub commit_end : (parent : Option Id20) (e : EpochEntry) (held more rest : List ℕ) (left at : ℕ) (found : Option ℕ) → left < 2 ^ 64 → StartsWithEntry parent e held more rest left → at ≡ commit_offset e.text
     → (at + 28 ≤ length held) ⊎ (left ≤ length held) → EndsCommit at held found → found ≡ Some (length (bytes_after parent e))
 commit_end parent e held more rest left at found small s offset enough ends =
     let content = content_after parent e in
@@ -91,7 +91,7 @@ sees-no_length at held left small enough ends = λ parent e more rest offset s. 
 abbrev pub FindsPlace : List ℕ → Option ℕ → Type 0
 FindsPlace held found = (text rest : List ℕ) → length text ≤ max_text_len → held ≡ codes "blob " ++ (decimal (length text) ++ 0 ∷ rest) → found ≡ Some (commit_offset text)
 
-place_found : (parent : Option Id20) (e : EpochEntry) (held more rest : List ℕ) (left : ℕ) (found : Option ℕ) → Starts parent e held more rest left → (28 ≤ length held) ⊎ (left ≤ length held) → FindsPlace held found
+place_found : (parent : Option Id20) (e : EpochEntry) (held more rest : List ℕ) (left : ℕ) (found : Option ℕ) → StartsWithEntry parent e held more rest left → (28 ≤ length held) ⊎ (left ≤ length held) → FindsPlace held found
     → found ≡ Some (commit_offset e.text)
 place_found parent e held more rest left found s enough finds = let head = blob_head parent e held more rest left s enough in finds e.text head.0 s.valid.text.short head.1
 

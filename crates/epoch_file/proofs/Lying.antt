@@ -12,15 +12,15 @@ use Rattle.disk_model.specs.declared.name.FileName.{FileName}
 use Rattle.disk_model.specs.declared.name.FileKind.TheVariants.{Epoch}
 use Rattle.epoch_file.specs.declared.entry.Seen.{Seen}
 use Rattle.epoch_file.specs.Entries.{EpochEntry, bytes_after}
-use Rattle.epoch_file.specs.Lying.{LiesIn, LieIn, tree_end}
-use Rattle.epoch_file.specs.Planning.{CopiesEntry, EndUpTo, FinishesIn, IsMoved, IsPlannedIn, IsUpTo, KeepsIn, LeavesIn, Planned, PlannedBy, count_by, reach_by}
-use Rattle.epoch_file.specs.Reading.{IsRead}
+use Rattle.epoch_file.specs.Lying.{EntryLiesIn, LieIn, tree_end}
+use Rattle.epoch_file.specs.Planning.{CopiesEntry, EndUpTo, FinishesIn, IsMoved, IsPlannedIn, SourceEndsBy, KeepsIn, LeftOutIn, Planned, PlannedBy, count_by, reach_by}
+use Rattle.epoch_file.specs.Reading.{IsEntryRead}
 use Rattle.epoch_file.specs.Walking.{seen_at}
 use Rattle.epoch_file.proofs.Planned.{first_plan, none_there}
 use Rattle.epoch_file.proofs.Sizes.{length-entry}
 
 -- One more entry, after those before.
-pub lie_more : (from mid to : ℕ) (ss : List Seen) (s : Seen) → from ≤ mid → mid ≤ to → LieIn from mid ss → LiesIn mid to s → LieIn from to (ss ++ s ∷ [])
+pub lie_more : (from mid to : ℕ) (ss : List Seen) (s : Seen) → from ≤ mid → mid ≤ to → LieIn from mid ss → EntryLiesIn mid to s → LieIn from to (ss ++ s ∷ [])
 lie_more from mid to [] s least most lie lies = (record { at = (let at = lies.at in omega (arith, at, least)); text = lies.text; ends = lies.ends }, tt)
 lie_more from mid to (t ∷ ss) s least most lie lies = (
   record { at = lie.0.at; text = lie.0.text; ends = (let ends = lie.0.ends in omega (arith, ends, most)) },
@@ -28,15 +28,15 @@ lie_more from mid to (t ∷ ss) s least most lie lies = (
 )
 
 -- An entry that is read lies in its bytes.
-entry_lies : (offset : ℕ) (parent : Option Id20) (e : EpochEntry) → LiesIn offset (offset + length (bytes_after parent e)) (seen_at offset parent e)
+entry_lies : (offset : ℕ) (parent : Option Id20) (e : EpochEntry) → EntryLiesIn offset (offset + length (bytes_after parent e)) (seen_at offset parent e)
 entry_lies offset parent e = record { at = omega arith; text = omega arith; ends = (let size = length-entry parent e in omega (arith, size)) }
 
-pub read_lies : (offset : ℕ) (parent : Option Id20) (bytes : List ℕ) (found : Seen × ℕ) → IsRead offset parent bytes found → LiesIn offset (offset + found.1) found.0
+pub read_lies : (offset : ℕ) (parent : Option Id20) (bytes : List ℕ) (found : Seen × ℕ) → IsEntryRead offset parent bytes found → EntryLiesIn offset (offset + found.1) found.0
 read_lies offset parent bytes found r =
-    subst (λ (s : Seen). LiesIn offset (offset + found.1) s) (sym r.seen) (subst (λ (n : ℕ). LiesIn offset (offset + n) (seen_at offset parent r.entry)) (sym r.size) (entry_lies offset parent r.entry))
+    subst (λ (s : Seen). EntryLiesIn offset (offset + found.1) s) (sym r.seen) (subst (λ (n : ℕ). EntryLiesIn offset (offset + n) (seen_at offset parent r.entry)) (sym r.size) (entry_lies offset parent r.entry))
 
 -- An entry stays in its place.
-pub keeps_in_place : (from most : ℕ) (old new : Planned) (seen made : Seen) → old.changed ≡ None → new.changed ≡ None → IsMoved seen seen.at seen.commit made → LiesIn from most seen → KeepsIn from most old seen new made
+pub keeps_in_place : (from most : ℕ) (old new : Planned) (seen made : Seen) → old.changed ≡ None → new.changed ≡ None → IsMoved seen seen.at seen.commit made → EntryLiesIn from most seen → KeepsIn from most old seen new made
 keeps_in_place from most old new seen made none still moved lies =
     let at = moved.at_is in
     let text = moved.text_at in
@@ -52,14 +52,14 @@ keeps_in_place from most old new seen made none still moved lies =
 
 -- Plans whose ranges end up to an offset, with one source more.
 up_with_bytes : (most : ℕ) (plan : Plan) (bytes : List ℕ) → EndUpTo most plan → EndUpTo most (with_bytes plan bytes)
-up_with_bytes most plan bytes up = each_more (IsUpTo most) plan.sources (Bytes (length plan.bytes) (length bytes)) up tt
+up_with_bytes most plan bytes up = each_more (SourceEndsBy most) plan.sources (Bytes (length plan.bytes) (length bytes)) up tt
 
 up_with_range : (most : ℕ) (plan : Plan) (file : FileName) (offset count : ℕ) → EndUpTo most plan → offset + count ≤ most → EndUpTo most (with_range plan file offset count)
-up_with_range most plan file offset count up ends = each_more (IsUpTo most) plan.sources (Range (record { file = file; offset = offset; count = count })) up ends
+up_with_range most plan file offset count up ends = each_more (SourceEndsBy most) plan.sources (Range (record { file = file; offset = offset; count = count })) up ends
 
 -- An entry is copied to the new file.
 pub keeps_copied_in : (from most : ℕ) (old new : Planned) (plan made_plan : Plan) (seen made : Seen) (commit : Id20) (bytes : List ℕ) → old.changed ≡ Some plan → new.changed ≡ Some made_plan → new.end_ ≡ plan_count made_plan → CopiesEntry old.file seen bytes plan made_plan
-    → IsMoved seen old.end_ commit made → LiesIn from most seen → IsPlannedIn most old → KeepsIn from most old seen new made
+    → IsMoved seen old.end_ commit made → EntryLiesIn from most seen → IsPlannedIn most old → KeepsIn from most old seen new made
 keeps_copied_in from most old new plan made_plan seen made commit bytes some now end_is copies moved lies in_ =
     let n : ℕ = copies.0 in
     let count = copies.1 in
@@ -82,7 +82,7 @@ keeps_copied_in from most old new plan made_plan seen made commit bytes some now
     }
 
 -- An entry is left out: the first one, or after another one.
-pub leaves_first_in : (from most : ℕ) (old new : Planned) (seen : Seen) → old.changed ≡ None → new.changed ≡ Some (first_plan old.file seen.at) → new.end_ ≡ seen.at → new.parent ≡ old.parent → LiesIn from most seen → LeavesIn from most old seen new
+pub leaves_first_in : (from most : ℕ) (old new : Planned) (seen : Seen) → old.changed ≡ None → new.changed ≡ Some (first_plan old.file seen.at) → new.end_ ≡ seen.at → new.parent ≡ old.parent → EntryLiesIn from most seen → LeftOutIn from most old seen new
 leaves_first_in from most old new seen none now end_is parent lies =
     let plan = first_plan old.file seen.at in
     let was_at = lies.at in
@@ -99,11 +99,11 @@ leaves_first_in from most old new seen none now end_is parent lies =
       parent = parent;
     }
 
-pub leaves_more_in : (from most : ℕ) (old new : Planned) (plan : Plan) (seen : Seen) → old.changed ≡ Some plan → new ≡ old → IsPlannedIn most old → LeavesIn from most old seen new
+pub leaves_more_in : (from most : ℕ) (old new : Planned) (plan : Plan) (seen : Seen) → old.changed ≡ Some plan → new ≡ old → IsPlannedIn most old → LeftOutIn from most old seen new
 leaves_more_in from most old new plan seen some same in_ =
     let before : reach_by from old.end_ old.changed ≡ old.end_ = ap (reach_by from old.end_) some in
     let after : reach_by (tree_end seen) old.end_ old.changed ≡ old.end_ = ap (reach_by (tree_end seen) old.end_) some in
-    subst (LeavesIn from most old seen) (sym same) (record { planned = in_; reach = omega (arith, before, after); parent = refl })
+    subst (LeftOutIn from most old seen) (sym same) (record { planned = in_; reach = omega (arith, before, after); parent = refl })
 
 -- The plan of the whole file.
 pub finishes_as : (most : ℕ) (old : Planned) → IsPlannedIn most old → FinishesIn most old old.changed

@@ -3,9 +3,9 @@ use Rattle.std.proofs.Common.{◌≡◌, ℕ, ◌+◌, ◌-◌, ◌<◌, ◌^◌
 use Rattle.std.specs.Fmt.{decimal}
 use Rattle.std.proofs.lemmas.List.{append_assoc, drop_at}
 use Rattle.arch_base.specs.declared.ids.Id20.{Id20}
-use Rattle.arch_base.specs.Ids.{IsId}
+use Rattle.arch_base.specs.Ids.{IsObjectId}
 use Rattle.git_objects.specs.Objects.{CommitOf, HasSize, blob_spelling, tree_spelling, blob_id_of, spelling}
-use Rattle.git_objects.proofs.ObjectIds.{IsId-id_of}
+use Rattle.git_objects.proofs.ObjectIds.{IsObjectId-id_of}
 use Rattle.mail_commits.specs.Entries.{tree_of}
 use Rattle.epoch_file.specs.Entries.{EpochEntry, IsEpochEntry, bytes_after}
 use Rattle.epoch_file.specs.Walking.{blob_front}
@@ -43,8 +43,8 @@ pub content_size : (parent : Option Id20) (e : EpochEntry) (rest bytes : List �
 content_size parent e rest bytes small is = omega (arith, small, ap length is, length-append (bytes_after parent e) rest, length-entry parent e)
 
 -- The id of the text's blob is valid.
-pub blob_id_valid : (text : List ℕ) → IsId (blob_id_of text)
-blob_id_valid text = IsId-id_of (blob_spelling text)
+pub blob_id_valid : (text : List ℕ) → IsObjectId (blob_id_of text)
+blob_id_valid text = IsObjectId-id_of (blob_spelling text)
 
 -- The three objects take as many bytes as the entry.
 pub whole_size : (parent : Option Id20) (e : EpochEntry) (blob tree commit : ℕ) → blob ≡ length (blob_spelling e.text) → tree ≡ length (tree_spelling e.kind (blob_id_of e.text))

@@ -22,7 +22,7 @@ use Rattle.root_change.proofs.Pushes.{whole_with_bytes, whole_with_range}
 use Rattle.epoch_file.specs.declared.entry.Seen.{Seen}
 use Rattle.epoch_file.specs.declared.planning.NewCommit.{NewCommit}
 use Rattle.epoch_file.specs.Entries.{EpochEntry, bytes_after, commit_after, epoch_of, last_of}
-use Rattle.epoch_file.specs.Planning.{Checks, CommitsAnew, CopiesEntry, Finishes, HasNext, IsAnew, IsMoved, IsPlanOf, IsPlanned, KeepsNext, LacksText, LeavesNext, Planned, TellsLack, file_of, seen_after, texts_in}
+use Rattle.epoch_file.specs.Planning.{Checks, CommitsAnew, CopiesEntry, FinishesPlan, HasNext, IsAnew, IsMoved, IsPlanOf, IsPlanned, KeepsNext, LacksText, LeavesNext, Planned, TellsLack, file_of, seen_after, texts_in}
 use Rattle.epoch_file.specs.Walking.{blob_front, seen_at}
 use Rattle.epoch_file.proofs.Chains.{epoch-push, last-push}
 use Rattle.epoch_file.proofs.Sizes.{head_first, head_of, length-blob, length-head, length-tree}
@@ -226,7 +226,7 @@ none_kept : (kept : List EpochEntry) → last_of None kept ≡ None → kept ≡
 none_kept [] is = refl
 none_kept (e ∷ es) is = absurd (last_some (commit_after None e) es is)
 
-pub finishes_none : (old : Planned) → old.parent ≡ None → Finishes old (Some (no_plan Epoch old.file.number Anew))
+pub finishes_none : (old : Planned) → old.parent ≡ None → FinishesPlan old (Some (no_plan Epoch old.file.number Anew))
 finishes_none old none = λ texts es kept planned. (refl, (λ i s wrong. absurd (none_there i s wrong)), ap file_of (sym (none_kept kept (sym planned.parent ∙ none))))
 
 -- What is told of a disk.

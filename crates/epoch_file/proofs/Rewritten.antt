@@ -7,9 +7,9 @@ use Rattle.disk_model.specs.declared.name.FileName.{FileName}
 use Rattle.disk_model.specs.declared.name.FileKind.TheVariants.{Epoch}
 use Rattle.disk_model.specs.declared.refusal.WalkRefusal.{WalkRefusal}
 use Rattle.disk_model.specs.declared.refusal.WalkRefusal.TheVariants.{DiskFault, NoMemory, Damaged}
-use Rattle.disk_model.specs.Disk.{Files, Content, Image, Told, WhereTold, Unchanged, bytes_of}
+use Rattle.disk_model.specs.Disk.{Files, Content, Image, BothTold, WhereTold, Unchanged, bytes_of}
 use Rattle.mail_commits.specs.Entries.{magic}
-use Rattle.root_change.specs.Copying.{OthersStay}
+use Rattle.root_change.specs.Copying.{OtherFilesStay}
 use Rattle.root_change.specs.declared.plan.Target.TheVariants.{Anew}
 use Rattle.root_change.specs.Gathering.{HasSources, PutSources, gathered}
 use Rattle.root_change.specs.Rewriting.{Plan, no_plan, plan_count, with_range}
@@ -18,8 +18,8 @@ use Rattle.root_change.proofs.Plans.{written_long, written_with_range}
 use Rattle.root_change.proofs.Pushes.{plan_put, sources_there, whole_with_range}
 use Rattle.epoch_file.specs.declared.entry.Seen.{Seen}
 use Rattle.epoch_file.specs.Entries.{EpochEntry, IsEpochEntry, AreEpochEntries, bytes_after, chain, commit_after, epoch_of, last_of}
-use Rattle.epoch_file.specs.Planning.{Finishes, HasNext, IsPlanned, KeepsNext, LeavesNext, Planned, PlansFile, PlansWhole, Rewrites, TakesNext, file_of, is_among, kept_from, staying_with, seen_after, texts_in}
-use Rattle.epoch_file.specs.Walking.{IsEpoch, Walks, seen_at, seen_from}
+use Rattle.epoch_file.specs.Planning.{FinishesPlan, HasNext, IsPlanned, KeepsNext, LeavesNext, Planned, PlansFile, PlansWhole, RewritesEpoch, TakesNext, file_of, is_among, kept_from, staying_with, seen_after, texts_in}
+use Rattle.epoch_file.specs.Walking.{IsEpoch, WalksEpoch, seen_at, seen_from}
 use Rattle.epoch_file.proofs.Chains.{length-seen}
 use Rattle.epoch_file.proofs.Planned.{none_there}
 
@@ -135,25 +135,25 @@ planned_now file seen gone i s old new k below file_is takes planned = λ n epoc
 content_same : (k m : Content) → Unchanged k m → m ≡ k
 content_same k m same = λ i (name : FileName). same name i
 
-pub told_on : (P : Content → Type 0) (k m : Option Content) → Told Unchanged k m → WhereTold P k → WhereTold P m
+pub told_on : (P : Content → Type 0) (k m : Option Content) → BothTold Unchanged k m → WhereTold P k → WhereTold P m
 told_on P None None same told = tt
 told_on P None (Some d) same told = absurd same
 told_on P (Some c) None same told = absurd same
 told_on P (Some c) (Some d) same told = subst P (sym (content_same c d same)) told
 
-pub told_back : (P : Content → Type 0) (k m : Option Content) → Told Unchanged k m → WhereTold P m → WhereTold P k
+pub told_back : (P : Content → Type 0) (k m : Option Content) → BothTold Unchanged k m → WhereTold P m → WhereTold P k
 told_back P None None same told = tt
 told_back P None (Some d) same told = absurd same
 told_back P (Some c) None same told = absurd same
 told_back P (Some c) (Some d) same told = subst P (content_same c d same) told
 
-pub image_back : (k m : Option Content) → Told Unchanged k m → (image : Files) → Image m image → Image k image
+pub image_back : (k m : Option Content) → BothTold Unchanged k m → (image : Files) → Image m image → Image k image
 image_back None None same image left = tt
 image_back None (Some d) same image left = absurd same
 image_back (Some c) None same image left = absurd same
 image_back (Some c) (Some d) same image left = subst (λ (l : Content). Image (Some l) image) (content_same c d same) left
 
-pub unchanged_then : (k m o : Option Content) → Told Unchanged k m → Told Unchanged m o → Told Unchanged k o
+pub unchanged_then : (k m o : Option Content) → BothTold Unchanged k m → BothTold Unchanged m o → BothTold Unchanged k o
 unchanged_then None None None first second = tt
 unchanged_then None None (Some e) first second = absurd second
 unchanged_then None (Some d) o first second = absurd first
@@ -161,7 +161,7 @@ unchanged_then (Some c) None o first second = absurd first
 unchanged_then (Some c) (Some d) None first second = absurd second
 unchanged_then (Some c) (Some d) (Some e) first second = λ name. second name ∙ first name
 
-pub planned_more : (file : FileName) (seen : List Seen) (gone : List ℕ) (i : ℕ) (s : Seen) (old new : Planned) (k m : Option Content) → i < length seen → old.file ≡ file → Told Unchanged k m → WhereTold (TakesNext old (get_or seen i s) (is_among gone i) new (Ok tt)) k → WhereTold (PlannedTo file seen gone i old) k
+pub planned_more : (file : FileName) (seen : List Seen) (gone : List ℕ) (i : ℕ) (s : Seen) (old new : Planned) (k m : Option Content) → i < length seen → old.file ≡ file → BothTold Unchanged k m → WhereTold (TakesNext old (get_or seen i s) (is_among gone i) new (Ok tt)) k → WhereTold (PlannedTo file seen gone i old) k
     → WhereTold (PlannedTo file seen gone (i + 1) new) m
 planned_more file seen gone i s old new None None below file_is same takes planned = tt
 planned_more file seen gone i s old new None (Some d) below file_is same takes planned = absurd same
@@ -179,7 +179,7 @@ refused_at file seen gone i s old new (Damaged at) k below file_is takes planned
     let there = subst (λ (f : FileName). HasNext (texts_in k) f (take i es) next.entry) (sym file_is) next.next in
     takes (take i es) (kept_from gone 0 (take i es)) next.entry (planned n epoch) there next.is
 
-pub entries_refused : (file : FileName) (seen : List Seen) (gone : List ℕ) (i : ℕ) (s : Seen) (old new : Planned) (refusal : WalkRefusal) (k m : Option Content) → i < length seen → old.file ≡ file → Told Unchanged k m → WhereTold (TakesNext old (get_or seen i s) (is_among gone i) new (Err refusal)) m → WhereTold (PlannedTo file seen gone i old) m
+pub entries_refused : (file : FileName) (seen : List Seen) (gone : List ℕ) (i : ℕ) (s : Seen) (old new : Planned) (refusal : WalkRefusal) (k m : Option Content) → i < length seen → old.file ≡ file → BothTold Unchanged k m → WhereTold (TakesNext old (get_or seen i s) (is_among gone i) new (Err refusal)) m → WhereTold (PlannedTo file seen gone i old) m
     → WhereTold (PlansWhole file seen gone (Err refusal)) k
 entries_refused file seen gone i s old new refusal None m below file_is same takes planned = tt
 entries_refused file seen gone i s old new refusal (Some c) None below file_is same takes planned = absurd same
@@ -187,13 +187,13 @@ entries_refused file seen gone i s old new refusal (Some c) (Some d) below file_
     told_back (PlansWhole file seen gone (Err refusal)) (Some c) (Some d) same (refused_at file seen gone i s old new refusal d below file_is takes planned)
 
 -- All entries are planned.
-whole_now : (file : FileName) (seen : List Seen) (gone : List ℕ) (i : ℕ) (plan : Planned) (result : Option Plan) (k : Content) → length seen ≤ i → Finishes plan result → PlannedTo file seen gone i plan k → PlansWhole file seen gone (Ok result) k
+whole_now : (file : FileName) (seen : List Seen) (gone : List ℕ) (i : ℕ) (plan : Planned) (result : Option Plan) (k : Content) → length seen ≤ i → FinishesPlan plan result → PlannedTo file seen gone i plan k → PlansWhole file seen gone (Ok result) k
 whole_now file seen gone i plan result k most finishes planned = λ n epoch.
     let es = epoch.entries in
     let all : take i es ≡ es = take_all i es (omega (arith, most, ap (λ (l : List Seen). length l) epoch.is, length-seen 8 None es)) in
     finishes (texts_in k) es (kept_from gone 0 es) (subst (λ (l : List EpochEntry). IsPlanned (texts_in k) l (kept_from gone 0 l) plan) all (planned n epoch))
 
-pub entries_whole : (file : FileName) (seen : List Seen) (gone : List ℕ) (i : ℕ) (plan : Planned) (result : Option Plan) (k m : Option Content) → length seen ≤ i → Finishes plan result → Told Unchanged k m → WhereTold (PlannedTo file seen gone i plan) m → WhereTold (PlansWhole file seen gone (Ok result)) k
+pub entries_whole : (file : FileName) (seen : List Seen) (gone : List ℕ) (i : ℕ) (plan : Planned) (result : Option Plan) (k m : Option Content) → length seen ≤ i → FinishesPlan plan result → BothTold Unchanged k m → WhereTold (PlannedTo file seen gone i plan) m → WhereTold (PlansWhole file seen gone (Ok result)) k
 entries_whole file seen gone i plan result None m most finishes same planned = tt
 entries_whole file seen gone i plan result (Some c) None most finishes same planned = absurd same
 entries_whole file seen gone i plan result (Some c) (Some d) most finishes same planned =
@@ -229,30 +229,30 @@ file_refused file n seen gone NoMemory (Some c) whole = tt
 file_refused file n seen gone (Damaged at) (Some c) whole = λ epoch. whole n epoch
 
 -- The epoch can't be read, or not planned.
-walk_now : (from : FileName) (n : ℕ) (to : FileName) (gone : List ℕ) (refusal : WalkRefusal) (k m : Content) → Walks n (bytes_of (k from).seen) (Err refusal) → Unchanged k m → Rewrites from n to gone k m (Err refusal)
+walk_now : (from : FileName) (n : ℕ) (to : FileName) (gone : List ℕ) (refusal : WalkRefusal) (k m : Content) → WalksEpoch n (bytes_of (k from).seen) (Err refusal) → Unchanged k m → RewritesEpoch from n to gone k m (Err refusal)
 walk_now from n to gone DiskFault k m walks same = tt
 walk_now from n to gone NoMemory k m walks same = same
 walk_now from n to gone (Damaged at) k m walks same = (walks, same)
 
-pub walk_refused : (from : FileName) (n : ℕ) (to : FileName) (gone : List ℕ) (refusal : WalkRefusal) (k m : Option Content) → WhereTold (λ c. Walks n (bytes_of (c from).seen) (Err refusal)) k → Told Unchanged k m → Told (λ c d. Rewrites from n to gone c d (Err refusal)) k m
+pub walk_refused : (from : FileName) (n : ℕ) (to : FileName) (gone : List ℕ) (refusal : WalkRefusal) (k m : Option Content) → WhereTold (λ c. WalksEpoch n (bytes_of (c from).seen) (Err refusal)) k → BothTold Unchanged k m → BothTold (λ c d. RewritesEpoch from n to gone c d (Err refusal)) k m
 walk_refused from n to gone refusal None None walks same = tt
 walk_refused from n to gone refusal None (Some d) walks same = absurd same
 walk_refused from n to gone refusal (Some c) None walks same = absurd same
 walk_refused from n to gone refusal (Some c) (Some d) walks same = walk_now from n to gone refusal c d walks same
 
-plan_now : (from : FileName) (n : ℕ) (to : FileName) (seen : List Seen) (gone : List ℕ) (refusal : WalkRefusal) (k m : Content) → IsEpoch n (bytes_of (k from).seen) seen → PlansFile from n seen gone (Err refusal) k → Unchanged k m → Rewrites from n to gone k m (Err refusal)
+plan_now : (from : FileName) (n : ℕ) (to : FileName) (seen : List Seen) (gone : List ℕ) (refusal : WalkRefusal) (k m : Content) → IsEpoch n (bytes_of (k from).seen) seen → PlansFile from n seen gone (Err refusal) k → Unchanged k m → RewritesEpoch from n to gone k m (Err refusal)
 plan_now from n to seen gone DiskFault k m epoch plans same = tt
 plan_now from n to seen gone NoMemory k m epoch plans same = same
 plan_now from n to seen gone (Damaged at) k m epoch plans same = absurd (plans epoch)
 
-pub plan_refused : (from : FileName) (n : ℕ) (to : FileName) (seen : List Seen) (gone : List ℕ) (refusal : WalkRefusal) (k m : Option Content) → WhereTold (λ c. Walks n (bytes_of (c from).seen) (Ok seen)) k → WhereTold (PlansFile from n seen gone (Err refusal)) k → Told Unchanged k m → Told (λ c d. Rewrites from n to gone c d (Err refusal)) k m
+pub plan_refused : (from : FileName) (n : ℕ) (to : FileName) (seen : List Seen) (gone : List ℕ) (refusal : WalkRefusal) (k m : Option Content) → WhereTold (λ c. WalksEpoch n (bytes_of (c from).seen) (Ok seen)) k → WhereTold (PlansFile from n seen gone (Err refusal)) k → BothTold Unchanged k m → BothTold (λ c d. RewritesEpoch from n to gone c d (Err refusal)) k m
 plan_refused from n to seen gone refusal None None epoch plans same = tt
 plan_refused from n to seen gone refusal None (Some d) epoch plans same = absurd same
 plan_refused from n to seen gone refusal (Some c) None epoch plans same = absurd same
 plan_refused from n to seen gone refusal (Some c) (Some d) epoch plans same = plan_now from n to seen gone refusal c d epoch plans same
 
 -- The plan was carried out.
-written_now : (from : FileName) (n : ℕ) (to : FileName) (seen : List Seen) (gone : List ℕ) (plan : Plan) (long : ℕ) (k m : Content) → IsEpoch n (bytes_of (k from).seen) seen → PlansFile from n seen gone (Ok plan) k → long ≡ plan_count plan → PutSources plan.bytes plan.sources to 0 k m → Rewrites from n to gone k m (Ok long)
+written_now : (from : FileName) (n : ℕ) (to : FileName) (seen : List Seen) (gone : List ℕ) (plan : Plan) (long : ℕ) (k m : Content) → IsEpoch n (bytes_of (k from).seen) seen → PlansFile from n seen gone (Ok plan) k → long ≡ plan_count plan → PutSources plan.bytes plan.sources to 0 k m → RewritesEpoch from n to gone k m (Ok long)
 written_now from n to seen gone plan long k m epoch plans count put =
     let all = plans epoch in
     let kept = kept_from gone 0 epoch.entries in
@@ -264,8 +264,8 @@ written_now from n to seen gone plan long k m epoch plans count put =
       λ none. put.added.alone (nil_from_length (gathered plan.bytes k plan.sources) (put.full ∙ (whole ∙ ap (λ (es : List EpochEntry). length (file_of es)) none))),
     )
 
-pub written_whole : (from : FileName) (n : ℕ) (to : FileName) (seen : List Seen) (gone : List ℕ) (plan : Plan) (long : ℕ) (k m o : Option Content) → WhereTold (λ c. Walks n (bytes_of (c from).seen) (Ok seen)) k → WhereTold (PlansFile from n seen gone (Ok plan)) k → long ≡ plan_count plan → Told Unchanged k m → Told (PutSources plan.bytes plan.sources to 0) m o
-    → Told (λ c d. Rewrites from n to gone c d (Ok long)) k o
+pub written_whole : (from : FileName) (n : ℕ) (to : FileName) (seen : List Seen) (gone : List ℕ) (plan : Plan) (long : ℕ) (k m o : Option Content) → WhereTold (λ c. WalksEpoch n (bytes_of (c from).seen) (Ok seen)) k → WhereTold (PlansFile from n seen gone (Ok plan)) k → long ≡ plan_count plan → BothTold Unchanged k m → BothTold (PutSources plan.bytes plan.sources to 0) m o
+    → BothTold (λ c d. RewritesEpoch from n to gone c d (Ok long)) k o
 written_whole from n to seen gone plan long None None None epoch plans count same put = tt
 written_whole from n to seen gone plan long None None (Some e) epoch plans count same put = absurd put
 written_whole from n to seen gone plan long None (Some d) o epoch plans count same put = absurd same
@@ -275,8 +275,8 @@ written_whole from n to seen gone plan long (Some c) (Some d) (Some e) epoch pla
     written_now from n to seen gone plan long c e epoch plans count (subst (λ (l : Content). PutSources plan.bytes plan.sources to 0 l e) (content_same c d same) put)
 
 -- The plan is whole where the epoch was read.
-pub never_short : (from : FileName) (n : ℕ) (to : FileName) (seen : List Seen) (gone : List ℕ) (at : ℕ) (plan : Plan) (whole : Bool) (k m o : Option Content) → WhereTold (λ c. Walks n (bytes_of (c from).seen) (Ok seen)) k → WhereTold (PlansFile from n seen gone (Ok plan)) k → Told Unchanged k m → Told (OthersStay to) m o
-    → (HasSources plan.bytes m plan.sources → whole ≡ true) → whole ≡ false → Told (λ c d. Rewrites from n to gone c d (Err (Damaged at))) k o
+pub never_short : (from : FileName) (n : ℕ) (to : FileName) (seen : List Seen) (gone : List ℕ) (at : ℕ) (plan : Plan) (whole : Bool) (k m o : Option Content) → WhereTold (λ c. WalksEpoch n (bytes_of (c from).seen) (Ok seen)) k → WhereTold (PlansFile from n seen gone (Ok plan)) k → BothTold Unchanged k m → BothTold (OtherFilesStay to) m o
+    → (HasSources plan.bytes m plan.sources → whole ≡ true) → whole ≡ false → BothTold (λ c d. RewritesEpoch from n to gone c d (Err (Damaged at))) k o
 never_short from n to seen gone at plan whole None None None epoch plans same others all short = tt
 never_short from n to seen gone at plan whole None None (Some e) epoch plans same others all short = absurd others
 never_short from n to seen gone at plan whole None (Some d) o epoch plans same others all short = absurd same

@@ -8,7 +8,7 @@ use Rattle.git_objects.specs.Commits.{commit_content}
 use Rattle.git_objects.specs.declared.entry_kind.EntryKind.{EntryKind}
 use Rattle.git_objects.specs.Objects.{blob_spelling, blob_id_of, id_of}
 use Rattle.git_objects.proofs.Spellings.{length-tree_spelling}
-use Rattle.git_objects.proofs.ObjectIds.{IsId-id_of}
+use Rattle.git_objects.proofs.ObjectIds.{IsObjectId-id_of}
 use Rattle.mail_commits.specs.Commits.{commit_of}
 use Rattle.mail_commits.specs.Entries.{tree_of, commit_text, entry_bytes}
 use Rattle.epoch_file.specs.Entries.{EpochEntry, bytes_after}
@@ -56,7 +56,7 @@ length-blob text = omega (arith, length-append (codes "blob ") (decimal (length 
 
 -- The length of a tree.
 pub length-tree : (kind : EntryKind) (text : List ℕ) → length (tree_of kind text) ≡ 37
-length-tree kind text = length-tree_spelling kind (blob_id_of text) (IsId-id_of (blob_spelling text)).len
+length-tree kind text = length-tree_spelling kind (blob_id_of text) (IsObjectId-id_of (blob_spelling text)).len
 
 -- The length of an entry.
 pub length-entry : (parent : Option Id20) (e : EpochEntry)

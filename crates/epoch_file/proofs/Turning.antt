@@ -10,15 +10,15 @@ use Rattle.epoch_file.specs.declared.entry.Seen.{Seen}
 use Rattle.epoch_file.specs.declared.window.Part.{Part}
 use Rattle.epoch_file.specs.declared.state.State.{State}
 use Rattle.epoch_file.specs.Entries.{EpochEntry, IsEpochEntry, bytes_after, commit_after, chain, last_of, epoch_of}
-use Rattle.epoch_file.specs.Reading.{IsRead}
+use Rattle.epoch_file.specs.Reading.{IsEntryRead}
 use Rattle.epoch_file.specs.Walking.{seen_at, seen_from, LacksEntry, EndsEarly, IsEpoch}
-use Rattle.epoch_file.specs.Windows.{Shows, IsInside}
-use Rattle.epoch_file.specs.Steps.{left_of, Walked, next_state, Brings, Takes, Turns, Moves, KeepsWalked, SamePart, IsWanted, GoesOn}
+use Rattle.epoch_file.specs.Windows.{Shows, IsInsidePart}
+use Rattle.epoch_file.specs.Steps.{left_of, Walked, next_state, Brings, TakesEntry, WalkTurns, WalkMoves, KeepsWalked, SamePart, WantsEntry, WalkGoesOn}
 use Rattle.disk_model.specs.declared.name.FileName.{FileName}
 use Rattle.disk_model.specs.declared.refusal.WalkRefusal.TheVariants.{Damaged}
-use Rattle.disk_model.specs.Disk.{Kept, Content, WhereTold, Told, Unchanged, bytes_of}
+use Rattle.disk_model.specs.Disk.{Kept, Content, WhereTold, BothTold, Unchanged, bytes_of}
 use Rattle.git_objects.specs.Commits.{IsParent}
-use Rattle.epoch_file.specs.Lying.{LieIn, LiesIn}
+use Rattle.epoch_file.specs.Lying.{LieIn, EntryLiesIn}
 use Rattle.epoch_file.proofs.Fronts.{within}
 use Rattle.epoch_file.proofs.Lying.{lie_more, read_lies}
 use Rattle.epoch_file.proofs.Chains.{chain-push, last-push, valid-push, seen-push, epoch-push, length-seen}
@@ -27,7 +27,7 @@ use Rattle.epoch_file.proofs.Sizes.{length-entry}
 use Rattle.epoch_file.proofs.Kept.{IsParent-last}
 
 -- One more entry.
-pub walked-more : (bytes : List ℕ) (s : State) (found : Seen × ℕ) → Walked bytes s → IsRead s.part.offset s.parent s.window found → Walked bytes (next_state s found)
+pub walked-more : (bytes : List ℕ) (s : State) (found : Seen × ℕ) → Walked bytes s → IsEntryRead s.part.offset s.parent s.window found → Walked bytes (next_state s found)
 walked-more bytes s found w r =
     let e = r.entry in
     let piece = bytes_after s.parent e in
@@ -128,7 +128,7 @@ entry_some parent e = omega (arith, length-entry parent e)
 
 -- A turn takes an entry, or finds none.
 pub turns-either : (content : Option Content) (old mid new : State) (came found : Bool) → came ≡ true → mid.part ≡ old.part → mid.parent ≡ old.parent → mid.seen ≡ old.seen
-    → WhereTold (Brings old.part old.window mid.window (Ok came)) content → Takes mid new (Ok found) → WhereTold (Turns old new (Ok found)) content
+    → WhereTold (Brings old.part old.window mid.window (Ok came)) content → TakesEntry mid new (Ok found) → WhereTold (WalkTurns old new (Ok found)) content
 turns-either None old mid new came found yes_came part parent seen brings takes = tt
 turns-either (Some k) old mid new false found yes_came part parent seen brings takes = cc
 turns-either (Some k) old mid new true true yes_came part parent seen brings takes = λ w.
@@ -144,15 +144,15 @@ turns-either (Some k) old mid new true false yes_came part parent seen brings ta
     none-left bytes old.part mid.window old.parent brought.0 brought.1 none
 
 -- A turn advances in the part.
-pub moves-either : (old mid new : State) (found : Bool) → mid.part ≡ old.part → mid.seen ≡ old.seen → IsInside mid.part mid.window → Takes mid new (Ok found) → Moves old new (Ok found)
+pub moves-either : (old mid new : State) (found : Bool) → mid.part ≡ old.part → mid.seen ≡ old.seen → IsInsidePart mid.part mid.window → TakesEntry mid new (Ok found) → WalkMoves old new (Ok found)
 moves-either old mid new true part seen inside takes =
     let r = takes.1 in
     let size : takes.0.1 ≤ length mid.window = omega (arith, r.size, ap length r.is, length-append (bytes_after mid.parent r.entry) r.rest) in
     let some : 0 < takes.0.1 = omega (arith, r.size, entry_some mid.parent r.entry) in
     let offset : mid.part.offset ≡ old.part.offset = ap (λ (p : Part). p.offset) part in
     let found = takes.0 in
-    let lies : LiesIn old.part.offset (mid.part.offset + found.1) found.0 = subst (λ (n : ℕ). LiesIn n (mid.part.offset + found.1) found.0) offset (read_lies mid.part.offset mid.parent mid.window found r) in
-    let Holds : State → Type 0 = λ t. (old.part.offset < t.part.offset) × IsInside t.part t.window × (LieIn 0 old.part.offset old.seen → LieIn 0 t.part.offset t.seen) in
+    let lies : EntryLiesIn old.part.offset (mid.part.offset + found.1) found.0 = subst (λ (n : ℕ). EntryLiesIn n (mid.part.offset + found.1) found.0) offset (read_lies mid.part.offset mid.parent mid.window found r) in
+    let Holds : State → Type 0 = λ t. (old.part.offset < t.part.offset) × IsInsidePart t.part t.window × (LieIn 0 old.part.offset old.seen → LieIn 0 t.part.offset t.seen) in
     subst Holds (sym takes.2) (
       omega (arith, some, offset),
       omega (arith, size, inside, length-drop takes.0.1 mid.window),
@@ -165,8 +165,8 @@ same_bytes : (k m : Content) (start cur : Part) → Unchanged k m → SamePart s
 same_bytes k m start cur same part = ap (λ (kept : Kept). bytes_of kept.seen) (same cur.file) ∙ ap (λ (file : FileName). bytes_of (k file).seen) part.file
 
 -- A walk that finds no entry although one is needed returns its offset.
-pub goes-damaged : (first mid : Option Content) (n : ℕ) (start cur new : State) (offset : ℕ) → WhereTold (KeepsWalked start cur) first → SamePart start.part cur.part → Told Unchanged first mid
-    → WhereTold (Turns cur new (Ok false)) mid → IsWanted cur n true → offset ≡ cur.part.offset → WhereTold (λ k. GoesOn n (bytes_of (k start.part.file).seen) start (Err (Damaged offset))) first
+pub goes-damaged : (first mid : Option Content) (n : ℕ) (start cur new : State) (offset : ℕ) → WhereTold (KeepsWalked start cur) first → SamePart start.part cur.part → BothTold Unchanged first mid
+    → WhereTold (WalkTurns cur new (Ok false)) mid → WantsEntry cur n true → offset ≡ cur.part.offset → WhereTold (λ k. WalkGoesOn n (bytes_of (k start.part.file).seen) start (Err (Damaged offset))) first
 goes-damaged None mid n start cur new offset keeps part same turns wanted at = tt
 goes-damaged (Some k) None n start cur new offset keeps part same turns wanted at = absurd same
 goes-damaged (Some k) (Some m) n start cur new offset keeps part same turns wanted at = λ walked end.
@@ -177,13 +177,13 @@ goes-damaged (Some k) (Some m) n start cur new offset keeps part same turns want
     inr (subst (λ (p : ℕ). EndsEarly n (bytes_of (k start.part.file).seen) p) (sym at) early)
 
 -- A walk that needs no more entry returns what it has found.
-pub goes-whole : (first : Option Content) (n : ℕ) (start cur : State) → WhereTold (KeepsWalked start cur) first → SamePart start.part cur.part → IsWanted cur n false
-    → WhereTold (λ k. GoesOn n (bytes_of (k start.part.file).seen) start (Ok cur.seen)) first
+pub goes-whole : (first : Option Content) (n : ℕ) (start cur : State) → WhereTold (KeepsWalked start cur) first → SamePart start.part cur.part → WantsEntry cur n false
+    → WhereTold (λ k. WalkGoesOn n (bytes_of (k start.part.file).seen) start (Ok cur.seen)) first
 goes-whole None n start cur keeps part done = tt
 goes-whole (Some k) n start cur keeps part done = λ walked end. whole-epoch (bytes_of (k start.part.file).seen) n cur (keeps walked) (part.end ∙ end) done.0 done.1
 
 -- So says a turn that finds no entry where one is wanted.
-pub goes-unfound : (first mid : Option Content) (n : ℕ) (start cur new : State) (found : Bool) → found ≡ false → WhereTold (KeepsWalked start cur) first → SamePart start.part cur.part → Told Unchanged first mid
-    → WhereTold (Turns cur new (Ok found)) mid → Moves cur new (Ok found) → IsWanted cur n true → WhereTold (λ k. GoesOn n (bytes_of (k start.part.file).seen) start (Err (Damaged new.part.offset))) first
+pub goes-unfound : (first mid : Option Content) (n : ℕ) (start cur new : State) (found : Bool) → found ≡ false → WhereTold (KeepsWalked start cur) first → SamePart start.part cur.part → BothTold Unchanged first mid
+    → WhereTold (WalkTurns cur new (Ok found)) mid → WalkMoves cur new (Ok found) → WantsEntry cur n true → WhereTold (λ k. WalkGoesOn n (bytes_of (k start.part.file).seen) start (Err (Damaged new.part.offset))) first
 goes-unfound first mid n start cur new true is keeps part same turns moves wanted = let wrong : true ≡ false = is in absurd cc
 goes-unfound first mid n start cur new false is keeps part same turns moves wanted = goes-damaged first mid n start cur new new.part.offset keeps part same turns wanted moves

@@ -1,7 +1,7 @@
 -- What appending an entry writes, and what it leaves of the disk.
 use Rattle.std.specs.Prelude.{◌≡◌, ℕ, ◌+◌, ◌==◌, List, [], ◌++◌, length, Option, Result, Ok, Err, if◌then◌else◌}
 use Rattle.disk_model.specs.declared.name.FileName.{FileName}
-use Rattle.disk_model.specs.Disk.{Content, Told, OneFile, Wrote, Tore}
+use Rattle.disk_model.specs.Disk.{Content, BothTold, OneFile, Wrote, Tore}
 use Rattle.git_objects.specs.Objects.{blob_id_of}
 use Rattle.mail_commits.specs.Entries.{magic}
 use Rattle.epoch_file.specs.declared.entry.NewEntry.{NewEntry}
@@ -36,8 +36,8 @@ written_of offset new = record {
 abbrev pub AppendLeaves : {D : Type 0} → FileName → ℕ → List ℕ → (D → Option Content) → D → D
     → Result Written StoreRefusal → Type 0
 AppendLeaves file offset piece content old new (Ok written) =
-    Told (OneFile file (Wrote offset piece)) (content old) (content new)
+    BothTold (OneFile file (Wrote offset piece)) (content old) (content new)
 AppendLeaves file offset piece content old new (Err DiskFault) =
-    Told (OneFile file (Tore offset (length piece))) (content old) (content new)
+    BothTold (OneFile file (Tore offset (length piece))) (content old) (content new)
 AppendLeaves file offset piece content old new (Err NoMemory) = new ≡ old
 AppendLeaves file offset piece content old new (Err (Damaged name at)) = ⊥

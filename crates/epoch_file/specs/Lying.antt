@@ -8,7 +8,7 @@ abbrev pub tree_end : Seen → ℕ
 tree_end seen = seen.text_at + seen.size + tree_size
 
 -- An entry starts at one offset or after it, its text follows, and its tree ends up to another offset.
-pub record LiesIn (from to : ℕ) (seen : Seen) : Type 0 where
+pub record EntryLiesIn (from to : ℕ) (seen : Seen) : Type 0 where
   pub at : from ≤ seen.at
   pub text : seen.at ≤ seen.text_at
   pub ends : tree_end seen ≤ to
@@ -16,4 +16,4 @@ pub record LiesIn (from to : ℕ) (seen : Seen) : Type 0 where
 -- Entries lie so, one after the other.
 abbrev pub LieIn : ℕ → ℕ → List Seen → Type 0
 LieIn from to [] = Unit {0}
-LieIn from to (s ∷ ss) = LiesIn from to s × LieIn (tree_end s) to ss
+LieIn from to (s ∷ ss) = EntryLiesIn from to s × LieIn (tree_end s) to ss

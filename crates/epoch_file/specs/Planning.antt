@@ -18,9 +18,9 @@ use Rattle.mail_commits.specs.Entries.{commit_id, commit_text}
 use Rattle.epoch_file.specs.declared.planning.NewCommit.{NewCommit}
 use Rattle.epoch_file.specs.declared.entry.Seen.{Seen}
 use Rattle.epoch_file.specs.Entries.{EpochEntry, IsEpochEntry, epoch_of, last_of}
-use Rattle.epoch_file.specs.Lying.{LiesIn, tree_end}
+use Rattle.epoch_file.specs.Lying.{EntryLiesIn, tree_end}
 use Rattle.epoch_file.specs.Sights.{tree_size}
-use Rattle.epoch_file.specs.Walking.{IsDamagedAt, IsEpoch, seen_at}
+use Rattle.epoch_file.specs.Walking.{IsDamagedEpochAt, IsEpoch, seen_at}
 
 -- What is planned of an epoch's file so far: the plan of the new file if an entry was left out, the
 -- offset of the next entry in the new file, and the last commit there.
@@ -64,18 +64,18 @@ abbrev pub seen_after : List EpochEntry → EpochEntry → Seen
 seen_after es e = seen_at (length (epoch_of es)) (last_of None es) e
 
 -- An entry stays, and what is recorded of it in the new file is given. Nothing is damaged.
-abbrev pub Stays : Texts → List EpochEntry → List EpochEntry → EpochEntry → Planned
+abbrev pub EntryStays : Texts → List EpochEntry → List EpochEntry → EpochEntry → Planned
     → Result Seen WalkRefusal → Type 0
-Stays texts es kept e new (Ok seen) = (seen ≡ seen_after kept e)
+EntryStays texts es kept e new (Ok seen) = (seen ≡ seen_after kept e)
     × IsPlanned texts (es ++ e ∷ []) (kept ++ e ∷ []) new
-Stays texts es kept e new (Err (Damaged at)) = ⊥
-Stays texts es kept e new (Err _) = Unit {0}
+EntryStays texts es kept e new (Err (Damaged at)) = ⊥
+EntryStays texts es kept e new (Err _) = Unit {0}
 
 -- Where the entries of a file are planned so, and it has another one, that stays.
 abbrev pub KeepsNext : Planned → Seen → Planned → Result Seen WalkRefusal → Content → Type 0
 KeepsNext old seen new result k = (es kept : List EpochEntry) (e : EpochEntry)
     → IsPlanned (texts_in k) es kept old → HasNext (texts_in k) old.file es e
-    → seen ≡ seen_after es e → Stays (texts_in k) es kept e new result
+    → seen ≡ seen_after es e → EntryStays (texts_in k) es kept e new result
 
 -- Where the entries of a file are planned so, and it has another one, that is left out.
 abbrev pub LeavesNext : Planned → Seen → Planned → Type 0
@@ -95,8 +95,8 @@ IsFinished texts es kept (Some plan) = (plan.target ≡ Anew) × IsPlanWhole tex
     × (written_by texts plan ≡ file_of kept)
 
 -- The result is such a plan, whichever entries a file has and which of them stay, if they are planned so.
-abbrev pub Finishes : Planned → Option Plan → Type 0
-Finishes old result = (texts : Texts) (es kept : List EpochEntry) → IsPlanned texts es kept old
+abbrev pub FinishesPlan : Planned → Option Plan → Type 0
+FinishesPlan old result = (texts : Texts) (es kept : List EpochEntry) → IsPlanned texts es kept old
     → IsFinished texts es kept result
 
 -- A plan writes the epoch of a file anew, from bytes and ranges of that file.
@@ -113,14 +113,14 @@ IsOfEpoch file None = Unit {0}
 IsOfEpoch file (Some plan) = IsAnewOf file plan
 
 -- A source that is a range ends up to an offset.
-abbrev pub IsUpTo : ℕ → Source → Type 0
-IsUpTo most (Bytes offset count) = Unit {0}
-IsUpTo most (Range range) = range.offset + range.count ≤ most
+abbrev pub SourceEndsBy : ℕ → Source → Type 0
+SourceEndsBy most (Bytes offset count) = Unit {0}
+SourceEndsBy most (Range range) = range.offset + range.count ≤ most
 
 -- Each range among the sources of a plan ends up to an offset.
 abbrev pub EndUpTo : ℕ → Plan → Type 0
 EndUpTo most plan = (i : ℕ) (source : Source) → slice_get plan.sources i ≡ Some source
-    → IsUpTo most source
+    → SourceEndsBy most source
 
 -- What holds of a plan, if there is one.
 abbrev pub IfPlan : (Plan → Type 0) → Option Plan → Type 0
@@ -150,10 +150,10 @@ reach from p = reach_by from p.end_ p.changed
 pub record KeepsIn (from most : ℕ) (old : Planned) (seen : Seen) (new : Planned) (made : Seen)
     : Type 0 where
   pub planned : IsPlannedIn most new
-  pub lies : LiesIn (reach from old) (reach (tree_end seen) new) made
+  pub lies : EntryLiesIn (reach from old) (reach (tree_end seen) new) made
 
 -- Such an entry was left out: those that stay reach no further than they may after it.
-pub record LeavesIn (from most : ℕ) (old : Planned) (seen : Seen) (new : Planned) : Type 0 where
+pub record LeftOutIn (from most : ℕ) (old : Planned) (seen : Seen) (new : Planned) : Type 0 where
   pub planned : IsPlannedIn most new
   pub reach : reach from old ≤ reach (tree_end seen) new
   pub parent : new.parent ≡ old.parent
@@ -197,18 +197,18 @@ abbrev pub staying_with : Bool → List EpochEntry → EpochEntry → List Epoch
 staying_with leaves kept e = if leaves then kept else kept ++ e ∷ []
 
 -- Of these entries those stay, and so they are planned after a call. Nothing is damaged.
-abbrev pub IsTaken : Texts → List EpochEntry → List EpochEntry → Planned → Result Unit WalkRefusal
+abbrev pub IsPlannedTake : Texts → List EpochEntry → List EpochEntry → Planned → Result Unit WalkRefusal
     → Type 0
-IsTaken texts es kept new (Ok _) = IsPlanned texts es kept new
-IsTaken texts es kept new (Err (Damaged at)) = ⊥
-IsTaken texts es kept new (Err _) = Unit {0}
+IsPlannedTake texts es kept new (Ok _) = IsPlanned texts es kept new
+IsPlannedTake texts es kept new (Err (Damaged at)) = ⊥
+IsPlannedTake texts es kept new (Err _) = Unit {0}
 
 -- Where the entries of a file are planned so, and it has another one, that is left out or stays.
 abbrev pub TakesNext : Planned → Seen → Bool → Planned → Result Unit WalkRefusal → Content → Type 0
 TakesNext old seen leaves new result k = (es kept : List EpochEntry) (e : EpochEntry)
     → IsPlanned (texts_in k) es kept old → HasNext (texts_in k) old.file es e
     → seen ≡ seen_after es e
-    → IsTaken (texts_in k) (es ++ e ∷ []) (staying_with leaves kept e) new result
+    → IsPlannedTake (texts_in k) (es ++ e ∷ []) (staying_with leaves kept e) new result
 
 -- The plan of the whole new file, where the records are those of an epoch. Nothing is damaged.
 abbrev pub PlansFile : FileName → ℕ → List Seen → List ℕ → Result Plan WalkRefusal → Content → Type 0
@@ -221,18 +221,18 @@ PlansFile file n seen gone (Err _) k = Unit {0}
 -- The results of a rewriting: the old file is an epoch, and the new one, if it wasn't there, has its
 -- entries but those with these indexes, and is so long, and stays as it was where these are all; or
 -- the old file is damaged, or memory ran out, and nothing was done; or nothing is told.
-abbrev pub Rewrites : FileName → ℕ → FileName → List ℕ → Content → Content → Result ℕ WalkRefusal
+abbrev pub RewritesEpoch : FileName → ℕ → FileName → List ℕ → Content → Content → Result ℕ WalkRefusal
     → Type 0
-Rewrites from n to gone k m (Ok long) = (seen : List Seen)
+RewritesEpoch from n to gone k m (Ok long) = (seen : List Seen)
     × (is : IsEpoch n (bytes_of (k from).seen) seen)
     × (long ≡ length (file_of (kept_from gone 0 is.entries)))
     × (bytes_of (k to).seen ≡ []
     → bytes_of (m to).seen ≡ file_of (kept_from gone 0 is.entries))
     × (kept_from gone 0 is.entries ≡ [] → (m to).seen ≡ (k to).seen)
-Rewrites from n to gone k m (Err (Damaged at)) =
-    IsDamagedAt n (bytes_of (k from).seen) at × Unchanged k m
-Rewrites from n to gone k m (Err DiskFault) = Unit {0}
-Rewrites from n to gone k m (Err NoMemory) = Unchanged k m
+RewritesEpoch from n to gone k m (Err (Damaged at)) =
+    IsDamagedEpochAt n (bytes_of (k from).seen) at × Unchanged k m
+RewritesEpoch from n to gone k m (Err DiskFault) = Unit {0}
+RewritesEpoch from n to gone k m (Err NoMemory) = Unchanged k m
 
 -- An entry is recorded at another offset, with another commit.
 pub record IsMoved (seen : Seen) (at : ℕ) (commit : Id20) (made : Seen) : Type 0 where

@@ -1,4 +1,4 @@
--- The results of reading an entry at the front of bytes.
+-- Private: the results of reading an entry at the front of bytes.
 use Rattle.std.specs.Prelude.{◌≡◌, ◌≢◌, ℕ, ◌+◌, ◌≤◌, List, ◌++◌, length, take, Option, Some, None, Result, Ok, Err, MatchOption, [], unwrap_or}
 use Rattle.arch_base.specs.declared.ids.Id20.{Id20}
 use Rattle.arch_base.specs.declared.sequence.NoMemory.{NoMemory}
@@ -55,7 +55,7 @@ Respells bytes kind text moment parent (Ok (Some ids)) =
 Respells bytes kind text moment parent (Err e) = Unit {0}
 
 -- An entry that bytes start with: what is recorded of it at its offset, and its length.
-pub record IsRead (offset : ℕ) (parent : Option Id20) (bytes : List ℕ) (found : Seen × ℕ)
+pub record IsEntryRead (offset : ℕ) (parent : Option Id20) (bytes : List ℕ) (found : Seen × ℕ)
     : Type 0 where
   pub entry : EpochEntry
   pub valid : IsEpochEntry entry
@@ -66,10 +66,10 @@ pub record IsRead (offset : ℕ) (parent : Option Id20) (bytes : List ℕ) (foun
 
 -- The results of reading: the entry that bytes start with, or none if they start with none after a
 -- parent whose id has 20 bytes.
-abbrev pub Reads : ℕ → Option Id20 → List ℕ → Result (Option (Seen × ℕ)) NoMemory → Type 0
-Reads offset parent bytes (Ok None) = IsParent parent → LacksEntry parent bytes
-Reads offset parent bytes (Ok (Some found)) = IsRead offset parent bytes found
-Reads offset parent bytes (Err e) = Unit {0}
+abbrev pub ReadsEntry : ℕ → Option Id20 → List ℕ → Result (Option (Seen × ℕ)) NoMemory → Type 0
+ReadsEntry offset parent bytes (Ok None) = IsParent parent → LacksEntry parent bytes
+ReadsEntry offset parent bytes (Ok (Some found)) = IsEntryRead offset parent bytes found
+ReadsEntry offset parent bytes (Err e) = Unit {0}
 
 -- The same for entries with a property.
 abbrev pub ReadsWhere : (EpochEntry → Type 0) → ℕ → Option Id20 → List ℕ
@@ -77,7 +77,7 @@ abbrev pub ReadsWhere : (EpochEntry → Type 0) → ℕ → Option Id20 → List
 ReadsWhere P offset parent bytes (Ok None) =
     IsParent parent → (e : EpochEntry) (rest : List ℕ) → IsEpochEntry e
     → bytes ≡ bytes_after parent e ++ rest → P e → ⊥
-ReadsWhere P offset parent bytes (Ok (Some found)) = IsRead offset parent bytes found
+ReadsWhere P offset parent bytes (Ok (Some found)) = IsEntryRead offset parent bytes found
 ReadsWhere P offset parent bytes (Err e) = Unit {0}
 
 -- What is recorded of parts at an offset, with a moment and ids.

@@ -3,13 +3,13 @@ use Rattle.std.specs.Prelude.{◌≡◌, ℕ, ◌≤◌, Option, Result, Ok, Err
 use Rattle.arch_base.specs.Counts.{Rose}
 use Rattle.disk_model.specs.declared.refusal.WalkRefusal.{WalkRefusal}
 use Rattle.disk_model.specs.declared.refusal.WalkRefusal.TheVariants.{DiskFault, NoMemory, Damaged}
-use Rattle.disk_model.specs.Disk.{Files, Content, Image, Told, Unchanged, LeavesOnly}
+use Rattle.disk_model.specs.Disk.{Files, Content, Image, BothTold, Unchanged, LeavesOnly}
 
 -- A call changes no file, leaves nothing else to a crash, and no count of faults falls.
 pub record OnlyReads {D : Type 0} (content : D → Option Content) (moment : D → ℕ)
     (left_since : D → ℕ → Files → Type 0) (faults : D → ℕ) (old new : D) : Type 0 where
-  pub same : Told Unchanged (content old) (content new)
-  pub any_moment : LeavesOnly moment left_since old new (Image (content old))
+  pub same : BothTold Unchanged (content old) (content new)
+  pub crash : LeavesOnly moment left_since old new (Image (content old))
   pub later : faults old ≤ faults new
 
 -- The count of faults rose if the disk failed, and otherwise stays the same.

@@ -8,7 +8,7 @@ use Rattle.epoch_file.specs.Entries.{EpochEntry, IsEpochEntry, bytes_after}
 use Rattle.epoch_file.specs.Walking.{blob_front}
 
 -- The held bytes start with an entry, and they are the first of the bytes that are left.
-pub record Starts (parent : Option Id20) (e : EpochEntry) (held more rest : List ℕ) (left : ℕ)
+pub record StartsWithEntry (parent : Option Id20) (e : EpochEntry) (held more rest : List ℕ) (left : ℕ)
     : Type 0 where
   pub valid : IsEpochEntry e
   pub is : held ++ more ≡ bytes_after parent e ++ rest
@@ -17,11 +17,11 @@ pub record Starts (parent : Option Id20) (e : EpochEntry) (held more rest : List
 -- What a result says of the entries with a property.
 abbrev pub SeesWhere : (Option Id20 → EpochEntry → Type 0) → List ℕ → ℕ → Sight → Type 0
 SeesWhere P held left Lacks = (parent : Option Id20) (e : EpochEntry) (more rest : List ℕ)
-    → P parent e → Starts parent e held more rest left → ⊥
+    → P parent e → StartsWithEntry parent e held more rest left → ⊥
 SeesWhere P held left Short = length held < left
 SeesWhere P held left Whole =
     (parent : Option Id20) (e : EpochEntry) (more rest : List ℕ) → P parent e
-    → Starts parent e held more rest left → length (bytes_after parent e) ≤ length held
+    → StartsWithEntry parent e held more rest left → length (bytes_after parent e) ≤ length held
 
 -- What a result says of any entry.
 abbrev pub Sees : List ℕ → ℕ → Sight → Type 0

@@ -1,4 +1,4 @@
--- The steps of a walk.
+-- Private: the steps of a walk.
 use Rattle.std.specs.Prelude.{◌≡◌, ◌≢◌, ℕ, ◌+◌, ◌<◌, ◌≤◌, min, Bool, true, false, List, [], ◌∷◌, ◌++◌, length, take, drop, Option, Some, None, Result, Ok, Err}
 use Rattle.arch_base.specs.declared.ids.Id20.{Id20}
 use Rattle.arch_base.specs.declared.sequence.NoMemory.{NoMemory as NoRoom}
@@ -12,9 +12,9 @@ use Rattle.epoch_file.specs.declared.window.Part.{Part}
 use Rattle.epoch_file.specs.declared.state.State.{State}
 use Rattle.epoch_file.specs.Entries.{EpochEntry, IsEpochEntry, AreEpochEntries, bytes_after, chain, last_of, epoch_of}
 use Rattle.epoch_file.specs.Lying.{LieIn}
-use Rattle.epoch_file.specs.Reading.{IsRead}
-use Rattle.epoch_file.specs.Walking.{seen_from, LacksEntry, LacksMagic, Walks}
-use Rattle.epoch_file.specs.Windows.{Shows, IsInside}
+use Rattle.epoch_file.specs.Reading.{IsEntryRead}
+use Rattle.epoch_file.specs.Walking.{seen_from, LacksEntry, LacksMagic, WalksEpoch}
+use Rattle.epoch_file.specs.Windows.{Shows, IsInsidePart}
 
 -- The bytes of a part that are left after its offset.
 abbrev pub left_of : List ℕ → Part → List ℕ
@@ -58,19 +58,19 @@ next_state s found = record {
 }
 
 -- The entry at the front of the window is taken, or there is none.
-abbrev pub Takes : State → State → Result Bool NoRoom → Type 0
-Takes old new (Ok true) = (found : Seen × ℕ) × IsRead old.part.offset old.parent old.window found
+abbrev pub TakesEntry : State → State → Result Bool NoRoom → Type 0
+TakesEntry old new (Ok true) = (found : Seen × ℕ) × IsEntryRead old.part.offset old.parent old.window found
     × (new ≡ next_state old found)
-Takes old new (Ok false) = (IsParent old.parent → LacksEntry old.parent old.window) × (new ≡ old)
-Takes old new (Err e) = Unit {0}
+TakesEntry old new (Ok false) = (IsParent old.parent → LacksEntry old.parent old.window) × (new ≡ old)
+TakesEntry old new (Err e) = Unit {0}
 
 -- A turn of a walk finds one more entry, or that there is none.
-abbrev pub Turns : State → State → Result Bool WalkRefusal → Content → Type 0
-Turns old new (Ok true) k = Walked (bytes_of (k old.part.file).seen) old
+abbrev pub WalkTurns : State → State → Result Bool WalkRefusal → Content → Type 0
+WalkTurns old new (Ok true) k = Walked (bytes_of (k old.part.file).seen) old
     → Walked (bytes_of (k old.part.file).seen) new
-Turns old new (Ok false) k = Walked (bytes_of (k old.part.file).seen) old
+WalkTurns old new (Ok false) k = Walked (bytes_of (k old.part.file).seen) old
     → LacksEntry old.parent (left_of (bytes_of (k old.part.file).seen) old.part)
-Turns old new (Err e) k = Unit {0}
+WalkTurns old new (Err e) k = Unit {0}
 
 -- The part that is walked keeps its file and its end.
 pub record SamePart (old new : Part) : Type 0 where
@@ -79,17 +79,17 @@ pub record SamePart (old new : Part) : Type 0 where
 
 -- A turn advances in the part if it finds an entry, which lies up to the new offset, and otherwise
 -- stays.
-abbrev pub Moves : State → State → Result Bool WalkRefusal → Type 0
-Moves old new (Ok true) = (old.part.offset < new.part.offset) × IsInside new.part new.window
+abbrev pub WalkMoves : State → State → Result Bool WalkRefusal → Type 0
+WalkMoves old new (Ok true) = (old.part.offset < new.part.offset) × IsInsidePart new.part new.window
     × (LieIn 0 old.part.offset old.seen → LieIn 0 new.part.offset new.seen)
-Moves old new (Ok false) = new.part.offset ≡ old.part.offset
-Moves old new (Err e) = Unit {0}
+WalkMoves old new (Ok false) = new.part.offset ≡ old.part.offset
+WalkMoves old new (Err e) = Unit {0}
 
 -- A walk over the first n bytes of a file starts after the magic, or finds that it isn't there.
-abbrev pub Begins : ℕ → List ℕ → Result (Option State) WalkRefusal → Type 0
-Begins n bytes (Ok None) = LacksMagic n bytes
-Begins n bytes (Ok (Some s)) = Walked bytes s × (s.part.end ≡ min n (length bytes))
-Begins n bytes (Err e) = Unit {0}
+abbrev pub BeginsWalk : ℕ → List ℕ → Result (Option State) WalkRefusal → Type 0
+BeginsWalk n bytes (Ok None) = LacksMagic n bytes
+BeginsWalk n bytes (Ok (Some s)) = Walked bytes s × (s.part.end ≡ min n (length bytes))
+BeginsWalk n bytes (Err e) = Unit {0}
 
 -- The same for n bytes that the file has.
 abbrev pub BeginsAt : ℕ → List ℕ → Result (Option State) WalkRefusal → Type 0
@@ -103,9 +103,9 @@ HasMagic window true = (rest : List ℕ) × (window ≡ magic ++ rest)
 HasMagic window false = (rest : List ℕ) → window ≢ magic ++ rest
 
 -- A walk starts after the magic at the front of a window, or the magic isn't there.
-abbrev pub BeginsWith : Part → List ℕ → Option State → Type 0
-BeginsWith part window None = (rest : List ℕ) → window ≢ magic ++ rest
-BeginsWith part window (Some s) =
+abbrev pub BeginsAfterMagic : Part → List ℕ → Option State → Type 0
+BeginsAfterMagic part window None = (rest : List ℕ) → window ≢ magic ++ rest
+BeginsAfterMagic part window (Some s) =
     (rest : List ℕ) × (window ≡ magic ++ rest) × (s ≡ record {
       part = record {
         file = part.file;
@@ -121,13 +121,13 @@ BeginsWith part window (Some s) =
 abbrev pub BeginsIn : FileName → ℕ → Result (Option State) WalkRefusal → Type 0
 BeginsIn file n (Ok None) = Unit {0}
 BeginsIn file n (Ok (Some s)) = (s.part.file ≡ file) × (s.part.end ≤ n)
-    × IsInside s.part s.window × (s.seen ≡ [])
+    × IsInsidePart s.part s.window × (s.seen ≡ [])
 BeginsIn file n (Err e) = Unit {0}
 
 -- Another entry is needed; or none is, since all n bytes are walked and there is an entry.
-abbrev pub IsWanted : State → ℕ → Bool → Type 0
-IsWanted s n true = s.part.offset ≡ n → length s.seen ≡ 0
-IsWanted s n false = (s.part.offset ≡ n) × (0 < length s.seen)
+abbrev pub WantsEntry : State → ℕ → Bool → Type 0
+WantsEntry s n true = s.part.offset ≡ n → length s.seen ≡ 0
+WantsEntry s n false = (s.part.offset ≡ n) × (0 < length s.seen)
 
 -- A walk that led from one state to another.
 abbrev pub KeepsWalked : State → State → Content → Type 0
@@ -135,5 +135,5 @@ KeepsWalked old new k = Walked (bytes_of (k old.part.file).seen) old
     → Walked (bytes_of (k old.part.file).seen) new
 
 -- The result of a walk over the first n bytes, continued from a state.
-abbrev pub GoesOn : ℕ → List ℕ → State → Result (List Seen) WalkRefusal → Type 0
-GoesOn n bytes s result = Walked bytes s → s.part.end ≡ min n (length bytes) → Walks n bytes result
+abbrev pub WalkGoesOn : ℕ → List ℕ → State → Result (List Seen) WalkRefusal → Type 0
+WalkGoesOn n bytes s result = Walked bytes s → s.part.end ≡ min n (length bytes) → WalksEpoch n bytes result

@@ -68,11 +68,11 @@ LacksMagic n bytes = take 8 (take n bytes) ≢ magic
 
 -- The offset at which the first n bytes of a file leave an epoch's form: 0, or that of the first
 -- entry that isn't there.
-abbrev pub IsDamagedAt : ℕ → List ℕ → ℕ → Type 0
-IsDamagedAt n bytes offset = ((offset ≡ 0) × LacksMagic n bytes) ⊎ EndsEarly n bytes offset
+abbrev pub IsDamagedEpochAt : ℕ → List ℕ → ℕ → Type 0
+IsDamagedEpochAt n bytes offset = ((offset ≡ 0) × LacksMagic n bytes) ⊎ EndsEarly n bytes offset
 
 -- The results of a walk over the first n bytes of a file.
-abbrev pub Walks : ℕ → List ℕ → Result (List Seen) WalkRefusal → Type 0
-Walks n bytes (Ok seen) = IsEpoch n bytes seen
-Walks n bytes (Err (Damaged offset)) = IsDamagedAt n bytes offset
-Walks n bytes (Err _) = Unit {0}
+abbrev pub WalksEpoch : ℕ → List ℕ → Result (List Seen) WalkRefusal → Type 0
+WalksEpoch n bytes (Ok seen) = IsEpoch n bytes seen
+WalksEpoch n bytes (Err (Damaged offset)) = IsDamagedEpochAt n bytes offset
+WalksEpoch n bytes (Err _) = Unit {0}

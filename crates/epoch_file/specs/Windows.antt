@@ -1,4 +1,4 @@
--- What a window shows of a part of a file.
+-- Private: what a window shows of a part of a file.
 use Rattle.std.specs.Prelude.{◌≡◌, ℕ, ◌+◌, ◌-◌, ◌<◌, ◌≤◌, min, Bool, true, false, List, ◌++◌, length, take, drop, Result, Ok, Err}
 use Rattle.disk_model.specs.declared.refusal.WalkRefusal.{WalkRefusal}
 use Rattle.disk_model.specs.Disk.{Content, bytes_of}
@@ -13,19 +13,19 @@ pub record Shows (bytes : List ℕ) (part : Part) (window : List ℕ) : Type 0 w
   pub inside : part.offset ≤ part.end
 
 -- More bytes of a file came into a window, as many as it has room for or as are left; or none came.
-abbrev pub Comes : Part → ℕ → List ℕ → List ℕ → Result Bool WalkRefusal → Content → Type 0
-Comes part room old new (Ok true) k =
+abbrev pub BytesCome : Part → ℕ → List ℕ → List ℕ → Result Bool WalkRefusal → Content → Type 0
+BytesCome part room old new (Ok true) k =
     Shows (bytes_of (k part.file).seen) part old → Shows (bytes_of (k part.file).seen) part new
     × (min (length old + room) (part.end - part.offset) ≤ length new)
-Comes part room old new (Ok false) k = Shows (bytes_of (k part.file).seen) part old → ⊥
-Comes part room old new (Err e) k = Unit {0}
+BytesCome part room old new (Ok false) k = Shows (bytes_of (k part.file).seen) part old → ⊥
+BytesCome part room old new (Err e) k = Unit {0}
 
 -- The window has more bytes than before, if there were more.
-abbrev pub Grows : List ℕ → List ℕ → Result Bool WalkRefusal → Type 0
-Grows old new (Ok true) = length old < length new
-Grows old new (Ok false) = Unit {0}
-Grows old new (Err e) = Unit {0}
+abbrev pub WindowGrows : List ℕ → List ℕ → Result Bool WalkRefusal → Type 0
+WindowGrows old new (Ok true) = length old < length new
+WindowGrows old new (Ok false) = Unit {0}
+WindowGrows old new (Err e) = Unit {0}
 
 -- The window doesn't go past its part.
-abbrev pub IsInside : Part → List ℕ → Type 0
-IsInside part window = part.offset + length window ≤ part.end
+abbrev pub IsInsidePart : Part → List ℕ → Type 0
+IsInsidePart part window = part.offset + length window ≤ part.end

@@ -1,7 +1,8 @@
 //! Appends an entry to an epoch's file.
+//! Writes the disk; syncs.
 ghost use Rattle.std.specs.Prelude.{◌≡◌, ◌<◌, ◌≤◌, ◌^◌, Err, IfOk};
 ghost use Rattle.arch_base.specs.Counts.{RoseIf};
-ghost use Rattle.disk_model.specs.Beside.{Bounds, Respects, RunsBeside};
+ghost use Rattle.disk_model.specs.Beside.{Bounds, RespectsBound, RunsBeside};
 ghost use Rattle.disk_model.specs.Disk.{WhereTold, IsAtMostLength, Elapses};
 ghost use Rattle.git_objects.specs.Objects.{blob_id_of};
 ghost use Rattle.mail_commits.specs.Ids.{text_ids_of};
@@ -40,7 +41,7 @@ pub fn append_entry<D: Disk>(
     ensures written { IfOk result (λ written. written ≡ written_of at entry.now) }
     ensures left { AppendLeaves file at (appended at entry.now) D.content disk.old disk.new result }
     // All that is before the offset stays at each moment.
-    ensures beside { (bounds : Bounds) → Respects (bounds file) at
+    ensures crash_beside { (bounds : Bounds) → RespectsBound (bounds file) at
         → RunsBeside D.content D.moment D.left_since bounds disk.old disk.new }
     ensures time { Elapses (D.moment disk.old) (D.moment disk.new) (D.left_since disk.old)
         (D.left_since disk.new) (D.content disk.new) }

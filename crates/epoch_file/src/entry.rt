@@ -1,4 +1,5 @@
 //! The entries of an epoch's file, as they are written and as they are read.
+//! Pure.
 use arch_base::{Bytes, ObjectId, Sequence};
 use git_objects::EntryKind;
 use mail_commits::TextIds;

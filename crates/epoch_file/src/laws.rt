@@ -1,4 +1,5 @@
 //! Laws of epochs, which other crates cite.
+//! Pure.
 ghost use Rattle.epoch_file.specs.Entries.{EpochsDiffer, EntriesDiffer};
 
 /// Epochs with the same bytes have the same entries: no entry can be read in two ways.

@@ -1,4 +1,5 @@
 //! The file of an epoch: the git objects of its entries, one after the other.
+//! Writes the disk; syncs.
 //!
 //! Appends an entry, reads all of them, and writes an epoch anew without some of them.
 #![tactic(auto)]

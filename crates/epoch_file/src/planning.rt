@@ -1,10 +1,11 @@
 //! Plans how an epoch's file is written anew without some of its entries.
+//! Reads the disk.
 ghost use Rattle.std.specs.Prelude.{◌≡◌, ◌≤◌, ◌+◌, ℕ, true, None, Err, is_some, length, IfOk, IfErr, OnOk, OnErr};
 ghost use Rattle.arch_base.specs.declared.ids.Id20.{Id20};
 ghost use Rattle.arch_base.specs.Counts.{RoseIf};
-ghost use Rattle.disk_model.specs.Disk.{Image, Told, WhereTold, Unchanged, LeavesOnly};
-ghost use Rattle.epoch_file.specs.Lying.{LiesIn};
-ghost use Rattle.epoch_file.specs.Planning.{Checks, CommitsAnew, CopiesEntry, Finishes, FinishesIn, IsAnewOf, IsMoved, IsOfEpoch, IsPlannedIn, KeepsIn, KeepsNext, LeavesIn, LeavesNext, TellsLack};
+ghost use Rattle.disk_model.specs.Disk.{Image, BothTold, WhereTold, Unchanged, LeavesOnly};
+ghost use Rattle.epoch_file.specs.Lying.{EntryLiesIn};
+ghost use Rattle.epoch_file.specs.Planning.{Checks, CommitsAnew, CopiesEntry, FinishesPlan, FinishesIn, IsAnewOf, IsMoved, IsOfEpoch, IsPlannedIn, KeepsIn, KeepsNext, LeftOutIn, LeavesNext, TellsLack};
 ghost use Rattle.epoch_file.specs.Sights.{tree_size};
 
 use crate::entry::Seen;
@@ -86,10 +87,10 @@ impl EpochPlan {
             × IsMoved seen.now at commit made) }
         ensures going { OnOk result (is_some self.new.changed ≡ is_some self.old.changed) }
         ensures some { OnOk result (is_some self.new.parent ≡ true) }
-        ensures lies { IfOk result (λ made. (from : ℕ) (most : ℕ) → LiesIn from most seen.now
+        ensures lies { IfOk result (λ made. (from : ℕ) (most : ℕ) → EntryLiesIn from most seen.now
             → IsPlannedIn most self.old → KeepsIn from most self.old seen.now self.new made) }
-        ensures same { Told Unchanged (D.content disk.old) (D.content disk.new) }
-        ensures any_moment { LeavesOnly D.moment D.left_since disk.old disk.new
+        ensures same { BothTold Unchanged (D.content disk.old) (D.content disk.new) }
+        ensures crash { LeavesOnly D.moment D.left_since disk.old disk.new
             (Image (D.content disk.old)) }
         ensures fewest { D.reads disk.old ≤ D.reads disk.new }
         ensures cause { RoseIf (result ≡ Err WalkRefusal.DiskFault) (D.faults disk.old)
@@ -118,8 +119,8 @@ impl EpochPlan {
         ensures left { OnOk result (LeavesNext self.old seen.now self.new) }
         ensures file { self.new.file ≡ self.old.file }
         ensures changes { OnOk result (is_some self.new.changed ≡ true) }
-        ensures lies { OnOk result ((from : ℕ) (most : ℕ) → LiesIn from most seen.now
-            → IsPlannedIn most self.old → LeavesIn from most self.old seen.now self.new) }
+        ensures lies { OnOk result ((from : ℕ) (most : ℕ) → EntryLiesIn from most seen.now
+            → IsPlannedIn most self.old → LeftOutIn from most self.old seen.now self.new) }
         ensures same { OnErr result (self.new ≡ self.old) }
     {
         if self.changed.is_some() {
@@ -136,7 +137,7 @@ impl EpochPlan {
     ///
     /// If none stays, it writes nothing. Allocates nothing.
     pub fn finish(self, alloc: Global) -> Option<PartPlan>
-        ensures finished { Finishes self result }
+        ensures finished { FinishesPlan self result }
         ensures epoch { IsOfEpoch self.file result }
         ensures only { is_some result ≡ is_some self.changed }
         ensures within { (most : ℕ) → IsPlannedIn most self → FinishesIn most self result }
@@ -195,8 +196,8 @@ fn new_commit<D: Disk>(
 ) -> Result<NewCommit, WalkRefusal>
     ensures commit { WhereTold (CommitsAnew file seen.now parent result) (D.content disk.old) }
     ensures damage { IfErr result (TellsLack file seen.now (D.content disk.old)) }
-    ensures same { Told Unchanged (D.content disk.old) (D.content disk.new) }
-    ensures any_moment { LeavesOnly D.moment D.left_since disk.old disk.new
+    ensures same { BothTold Unchanged (D.content disk.old) (D.content disk.new) }
+    ensures crash { LeavesOnly D.moment D.left_since disk.old disk.new
         (Image (D.content disk.old)) }
     ensures fewest { D.reads disk.old ≤ D.reads disk.new }
     ensures cause { RoseIf (result ≡ Err WalkRefusal.DiskFault) (D.faults disk.old)
@@ -218,8 +219,8 @@ fn commit_read<D: Disk>(
     requires room { length room.old ≡ seen.now.size }
     ensures commit { WhereTold (CommitsAnew file seen.now parent result) (D.content disk.old) }
     ensures damage { IfErr result (TellsLack file seen.now (D.content disk.old)) }
-    ensures same { Told Unchanged (D.content disk.old) (D.content disk.new) }
-    ensures any_moment { LeavesOnly D.moment D.left_since disk.old disk.new
+    ensures same { BothTold Unchanged (D.content disk.old) (D.content disk.new) }
+    ensures crash { LeavesOnly D.moment D.left_since disk.old disk.new
         (Image (D.content disk.old)) }
     ensures fewest { D.reads disk.old ≤ D.reads disk.new }
     ensures cause { RoseIf (result ≡ Err WalkRefusal.DiskFault) (D.faults disk.old)

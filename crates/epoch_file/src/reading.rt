@@ -1,6 +1,7 @@
 //! Reads an entry from the front of bytes.
+//! Allocates.
 ghost use Rattle.std.specs.Prelude.{◌≡◌, ◌+◌, ◌-◌, ◌<◌, ◌≤◌, ◌^◌, ◌++◌, ℕ, List, Some, None, length, take, IfSome, IfOk, IsTrue, ◌↔◌, MatchOption};
-ghost use Rattle.arch_base.specs.Ids.{IsId};
+ghost use Rattle.arch_base.specs.Ids.{IsObjectId};
 ghost use Rattle.arch_base.specs.declared.ids.Id20.{Id20};
 ghost use Rattle.git_objects.specs.declared.commits.Commit.{Commit as CommitRecord};
 ghost use Rattle.git_objects.specs.declared.entry_kind.EntryKind.{EntryKind};
@@ -9,7 +10,7 @@ ghost use Rattle.git_objects.specs.Objects.{CommitOf, HasSize, blob_spelling, sp
 ghost use Rattle.mail_reader.specs.Ids.{own_id as own_id_of};
 ghost use Rattle.mail_reader.specs.StorageTexts.{IsStorageText};
 ghost use Rattle.arch_base.specs.Moments.{last_moment};
-ghost use Rattle.epoch_file.specs.Reading.{IsParted, HasParts, PartsAgain, Respells, Reads, ReadsWhere, seen_by};
+ghost use Rattle.epoch_file.specs.Reading.{IsParted, HasParts, PartsAgain, Respells, ReadsEntry, ReadsWhere, seen_by};
 
 use crate::entry::Seen;
 use crate::sight::after;
@@ -75,7 +76,7 @@ fn blob_ahead(bytes: &[u8]) -> Option<(&[u8], usize)>
 /// Reads the kind of entry in the tree that bytes start with, and the tree's length.
 fn tree_ahead(bytes: &[u8]) -> Option<(EntryKind, usize)>
     ensures inside { IfSome result (λ found. found.1 ≤ length bytes.now) }
-    ensures again { (kind : EntryKind) (id : Id20) (rest : List ℕ) → IsId id
+    ensures again { (kind : EntryKind) (id : Id20) (rest : List ℕ) → IsObjectId id
         → bytes.now ≡ tree_spelling kind id ++ rest
         → MatchOption result ⊥ (λ found. (found.0 ≡ kind)
         × (found.1 ≡ length (tree_spelling kind id))) }
@@ -154,7 +155,7 @@ pub(crate) fn read_entry(
     parent: Option<ObjectId>,
 ) -> Result<Option<(Seen, usize)>, NoMemory>
     requires { offset + length bytes.now < 2 ^ 64 }
-    ensures { Reads offset parent bytes.now result }
+    ensures { ReadsEntry offset parent bytes.now result }
 {
     match read_parts(bytes) {
         Some(parts) => read_in_parts(alloc, offset, bytes, parent, &parts),

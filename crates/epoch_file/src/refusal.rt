@@ -1,4 +1,5 @@
 //! The errors of calls on stored files.
+//! Pure.
 use arch_base::NoMemory;
 use disk_model::{DiskFault, FileName};
 use thiserror::Error;

@@ -1,13 +1,14 @@
 //! Writes an epoch's file anew, without some of its entries.
+//! Writes the disk; syncs.
 ghost use Rattle.std.specs.Prelude.{◌≡◌, ◌≢◌, Err, IfOk};
 ghost use Rattle.arch_base.specs.Counts.{RoseIf};
-ghost use Rattle.disk_model.specs.Beside.{Bounds, Respects, RunsBeside};
-ghost use Rattle.disk_model.specs.Disk.{Image, Told, WhereTold, Unchanged, LeavesOnly};
+ghost use Rattle.disk_model.specs.Beside.{Bounds, RespectsBound, RunsBeside};
+ghost use Rattle.disk_model.specs.Disk.{Image, BothTold, WhereTold, Unchanged, LeavesOnly};
 ghost use Rattle.disk_model.specs.declared.name.FileKind.TheVariants as kind;
 ghost use Rattle.root_change.specs.declared.plan.Target.TheVariants as target;
-ghost use Rattle.root_change.specs.Copying.{OthersStay};
+ghost use Rattle.root_change.specs.Copying.{OtherFilesStay};
 ghost use Rattle.root_change.specs.Rewriting.{no_plan, with_range};
-ghost use Rattle.epoch_file.specs.Planning.{is_among as among, IsAnewOf, IsOfEpoch, PlansFile, PlansWhole, Rewrites, TakesNext};
+ghost use Rattle.epoch_file.specs.Planning.{is_among as among, IsAnewOf, IsOfEpoch, PlansFile, PlansWhole, RewritesEpoch, TakesNext};
 
 use crate::entry::{Seen, SeenList};
 use crate::planning::EpochPlan;
@@ -35,8 +36,8 @@ fn take_entry<D: Disk>(
     ensures taken { WhereTold (TakesNext plan.old entry.now leaves plan.new result)
         (D.content disk.old) }
     ensures file { plan.new.file ≡ plan.old.file }
-    ensures same { Told Unchanged (D.content disk.old) (D.content disk.new) }
-    ensures any_moment { LeavesOnly D.moment D.left_since disk.old disk.new
+    ensures same { BothTold Unchanged (D.content disk.old) (D.content disk.new) }
+    ensures crash { LeavesOnly D.moment D.left_since disk.old disk.new
         (Image (D.content disk.old)) }
     ensures cause { RoseIf (result ≡ Err WalkRefusal.DiskFault) (D.faults disk.old)
         (D.faults disk.new) }
@@ -59,8 +60,8 @@ fn plan_entries<D: Disk>(
 ) -> Result<Option<PartPlan>, WalkRefusal>
     ensures of { IfOk result (IsOfEpoch from) }
     ensures planned { WhereTold (PlansWhole from seen.now gone.now result) (D.content disk.old) }
-    ensures same { Told Unchanged (D.content disk.old) (D.content disk.new) }
-    ensures any_moment { LeavesOnly D.moment D.left_since disk.old disk.new
+    ensures same { BothTold Unchanged (D.content disk.old) (D.content disk.new) }
+    ensures crash { LeavesOnly D.moment D.left_since disk.old disk.new
         (Image (D.content disk.old)) }
     ensures cause { RoseIf (result ≡ Err WalkRefusal.DiskFault) (D.faults disk.old)
         (D.faults disk.new) }
@@ -101,8 +102,8 @@ fn plan_file<D: Disk>(
     ensures anew { IfOk result (IsAnewOf from) }
     ensures planned { WhereTold (PlansFile from count seen.now gone.now result)
         (D.content disk.old) }
-    ensures same { Told Unchanged (D.content disk.old) (D.content disk.new) }
-    ensures any_moment { LeavesOnly D.moment D.left_since disk.old disk.new
+    ensures same { BothTold Unchanged (D.content disk.old) (D.content disk.new) }
+    ensures crash { LeavesOnly D.moment D.left_since disk.old disk.new
         (Image (D.content disk.old)) }
     ensures cause { RoseIf (result ≡ Err WalkRefusal.DiskFault) (D.faults disk.old)
         (D.faults disk.new) }
@@ -132,10 +133,10 @@ pub fn rewrite<D: Disk>(
     gone: &Numbers,
 ) -> Result<u64, WalkRefusal>
     requires apart { from ≢ to }
-    ensures rewritten { Told (λ k m. Rewrites from count to gone.now k m result) (D.content disk.old)
+    ensures rewritten { BothTold (λ k m. RewritesEpoch from count to gone.now k m result) (D.content disk.old)
         (D.content disk.new) }
-    ensures others { Told (OthersStay to) (D.content disk.old) (D.content disk.new) }
-    ensures beside { (bounds : Bounds) → Respects (bounds to) 0
+    ensures others { BothTold (OtherFilesStay to) (D.content disk.old) (D.content disk.new) }
+    ensures crash_beside { (bounds : Bounds) → RespectsBound (bounds to) 0
         → RunsBeside D.content D.moment D.left_since bounds disk.old disk.new }
     ensures cause { RoseIf (result ≡ Err WalkRefusal.DiskFault) (D.faults disk.old) (D.faults disk.new) }
 {

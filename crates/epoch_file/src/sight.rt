@@ -1,4 +1,5 @@
 //! How much of an entry is at the front of bytes, by the sizes that its objects start with.
+//! Pure.
 ghost use Rattle.std.specs.Prelude.{◌≡◌, ◌+◌, ◌<◌, ◌≤◌, ◌^◌, ◌++◌, ◌∷◌, ℕ, List, Some, length, codes, IfSome, MatchOption, ◌≢◌};
 ghost use Rattle.std.specs.Fmt.{decimal};
 ghost use Rattle.mail_reader.specs.StorageTexts.{max_text_len};

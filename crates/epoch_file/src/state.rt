@@ -1,4 +1,5 @@
 //! The state of a walk.
+//! Pure.
 use crate::entry::SeenList;
 use crate::window::{Part, Window};
 use arch_base::ObjectId;

@@ -1,12 +1,13 @@
 //! Walks over an epoch's file.
+//! Reads the disk.
 ghost use Rattle.std.specs.Prelude.{◌≡◌, ◌+◌, ◌<◌, ◌≤◌, length, min, Err, IfOk};
 ghost use Rattle.arch_base.specs.Counts.{RoseIf};
-ghost use Rattle.disk_model.specs.Disk.{Image, Told, WhereTold, Unchanged, LeavesOnly, bytes_of};
+ghost use Rattle.disk_model.specs.Disk.{Image, BothTold, WhereTold, Unchanged, LeavesOnly, bytes_of};
 ghost use Rattle.epoch_file.specs.Lying.{LieIn};
-ghost use Rattle.epoch_file.specs.Walking.{Walks};
+ghost use Rattle.epoch_file.specs.Walking.{WalksEpoch};
 ghost use Rattle.epoch_file.specs.Runs.{OnlyReads, FaultRose, StopRose};
-ghost use Rattle.epoch_file.specs.Windows.{IsInside};
-ghost use Rattle.epoch_file.specs.Steps.{Brings, Begins, BeginsAt, BeginsIn, BeginsWith, HasMagic, GoesOn, Moves, SamePart, Takes, Turns, IsWanted};
+ghost use Rattle.epoch_file.specs.Windows.{IsInsidePart};
+ghost use Rattle.epoch_file.specs.Steps.{Brings, BeginsWalk, BeginsAt, BeginsIn, BeginsAfterMagic, HasMagic, WalkGoesOn, WalkMoves, SamePart, TakesEntry, WalkTurns, WantsEntry};
 
 use crate::entry::SeenList;
 use crate::reading::read_entry;
@@ -34,11 +35,11 @@ pub fn walk<D: Disk>(
     length: u64,
 ) -> Result<SeenList, WalkRefusal>
     ensures walked { WhereTold (λ k.
-        Walks length (bytes_of (k file).seen) result) (D.content disk.old) }
+        WalksEpoch length (bytes_of (k file).seen) result) (D.content disk.old) }
     // Also where the disk doesn't tell its content.
     ensures lie { IfOk result (LieIn 0 length) }
-    ensures same { Told Unchanged (D.content disk.old) (D.content disk.new) }
-    ensures any_moment { LeavesOnly D.moment D.left_since disk.old disk.new
+    ensures same { BothTold Unchanged (D.content disk.old) (D.content disk.new) }
+    ensures crash { LeavesOnly D.moment D.left_since disk.old disk.new
         (Image (D.content disk.old)) }
     ensures cause { RoseIf (result ≡ Err WalkRefusal.DiskFault) (D.faults disk.old) (D.faults disk.new) }
 {
@@ -60,7 +61,7 @@ fn begin<D: Disk>(
 ) -> Result<Option<State>, WalkRefusal>
     requires room { 8 ≤ length piece.old }
     ensures begins { WhereTold (λ k.
-        Begins count (bytes_of (k file).seen) result) (D.content disk.old) }
+        BeginsWalk count (bytes_of (k file).seen) result) (D.content disk.old) }
     ensures inside { BeginsIn file count result }
     ensures reads { OnlyReads D.content D.moment D.left_since D.faults disk.old disk.new }
     ensures fault { StopRose (D.faults disk.old) (D.faults disk.new) result }
@@ -103,7 +104,7 @@ fn begin_in<D: Disk>(
 ///
 /// Returns `None` if they don't start with the magic.
 fn begin_with(alloc: Global, part: &Part, window: Window) -> Option<State>
-    ensures { BeginsWith part.now window result }
+    ensures { BeginsAfterMagic part.now window result }
 {
     let mut window = window;
     if !has_magic(&window) {
@@ -138,12 +139,12 @@ fn go_on<D: Disk>(
     piece: &mut [u8],
 ) -> Result<SeenList, WalkRefusal>
     requires room { 8 ≤ length piece.old }
-    requires inside { IsInside start.part start.window }
+    requires inside { IsInsidePart start.part start.window }
     requires end { start.part.end ≤ count }
     requires lie { LieIn 0 start.part.offset start.seen }
     ensures lie { IfOk result (LieIn 0 count) }
     ensures walked { WhereTold (λ k.
-        GoesOn count (bytes_of (k start.part.file).seen) start result) (D.content disk.old) }
+        WalkGoesOn count (bytes_of (k start.part.file).seen) start result) (D.content disk.old) }
     ensures reads { OnlyReads D.content D.moment D.left_since D.faults disk.old disk.new }
     ensures fault { FaultRose (D.faults disk.old) (D.faults disk.new) result }
 {
@@ -164,7 +165,7 @@ fn go_on<D: Disk>(
 
 /// Returns whether another entry is needed: there is none yet, or more bytes count.
 fn is_wanted(state: &State, count: u64) -> bool
-    ensures { IsWanted state.now count result }
+    ensures { WantsEntry state.now count result }
 {
     state.part.offset != count || state.seen.as_slice().is_empty()
 }
@@ -177,9 +178,9 @@ fn turn<D: Disk>(
     piece: &mut [u8],
 ) -> Result<bool, WalkRefusal>
     requires room { 8 ≤ length piece.old }
-    requires inside { IsInside state.old.part state.old.window }
-    ensures turns { WhereTold (Turns state.old state.new result) (D.content disk.old) }
-    ensures moves { Moves state.old state.new result }
+    requires inside { IsInsidePart state.old.part state.old.window }
+    ensures turns { WhereTold (WalkTurns state.old state.new result) (D.content disk.old) }
+    ensures moves { WalkMoves state.old state.new result }
     ensures part { SamePart state.old.part state.new.part }
     ensures reads { OnlyReads D.content D.moment D.left_since D.faults disk.old disk.new }
     ensures fault { StopRose (D.faults disk.old) (D.faults disk.new) result }
@@ -193,8 +194,8 @@ fn turn<D: Disk>(
 
 /// Takes the entry at the front of the window. Returns `false` if there is none.
 fn take_one(alloc: Global, state: &mut State) -> Result<bool, NoMemory>
-    requires inside { IsInside state.old.part state.old.window }
-    ensures takes { Takes state.old state.new result }
+    requires inside { IsInsidePart state.old.part state.old.window }
+    ensures takes { TakesEntry state.old state.new result }
     ensures part { SamePart state.old.part state.new.part }
 {
     let _end = state.part.end; // its range bounds the places
@@ -225,9 +226,9 @@ fn bring<D: Disk>(
     piece: &mut [u8],
 ) -> Result<bool, WalkRefusal>
     requires room { 8 ≤ length piece.old }
-    requires inside { IsInside part.now window.old }
+    requires inside { IsInsidePart part.now window.old }
     ensures brings { WhereTold (Brings part.now window.old window.new result) (D.content disk.old) }
-    ensures inside { IsInside part.now window.new }
+    ensures inside { IsInsidePart part.now window.new }
     ensures reads { OnlyReads D.content D.moment D.left_since D.faults disk.old disk.new }
     ensures fault { StopRose (D.faults disk.old) (D.faults disk.new) result }
 {

@@ -1,7 +1,8 @@
 //! A window over a part of a file: bytes that were read and are still in use.
+//! Reads the disk.
 ghost use Rattle.std.specs.Prelude.{◌≡◌, ◌+◌, ◌-◌, ◌<◌, ◌≤◌, ◌++◌, ℕ, List, [], length, drop, vec_len, IfOk, OnOk, OnErr};
 ghost use Rattle.disk_model.specs.Disk.{WhereTold};
-ghost use Rattle.epoch_file.specs.Windows.{Comes, Grows, IsInside};
+ghost use Rattle.epoch_file.specs.Windows.{BytesCome, WindowGrows, IsInsidePart};
 ghost use Rattle.epoch_file.specs.Runs.{OnlyReads, StopRose};
 
 use arch_base::{Bytes, NoMemory};
@@ -110,10 +111,10 @@ pub(crate) fn read_on<D: Disk>(
 ) -> Result<bool, WalkRefusal>
     requires room { 0 < length piece.old }
     requires wanted { part.now.offset + length window.old < part.now.end }
-    ensures came { WhereTold (Comes part.now (length piece.old) window.old window.new result)
+    ensures came { WhereTold (BytesCome part.now (length piece.old) window.old window.new result)
         (D.content disk.old) }
-    ensures grows { Grows window.old window.new result }
-    ensures inside { IsInside part.now window.new }
+    ensures grows { WindowGrows window.old window.new result }
+    ensures inside { IsInsidePart part.now window.new }
     ensures reads { OnlyReads D.content D.moment D.left_since D.faults disk.old disk.new }
     ensures fault { StopRose (D.faults disk.old) (D.faults disk.new) result }
 {
@@ -132,10 +133,10 @@ fn read_into<D: Disk>(
 ) -> Result<bool, WalkRefusal>
     requires some { 0 < length room.old }
     requires fits { part.now.offset + length window.old + length room.old ≤ part.now.end }
-    ensures came { WhereTold (Comes part.now (length room.old) window.old window.new result)
+    ensures came { WhereTold (BytesCome part.now (length room.old) window.old window.new result)
         (D.content disk.old) }
-    ensures grows { Grows window.old window.new result }
-    ensures inside { IsInside part.now window.new }
+    ensures grows { WindowGrows window.old window.new result }
+    ensures inside { IsInsidePart part.now window.new }
     ensures reads { OnlyReads D.content D.moment D.left_since D.faults disk.old disk.new }
     ensures fault { StopRose (D.faults disk.old) (D.faults disk.new) result }
 {

@@ -8,7 +8,7 @@ use Rattle.std.proofs.lemmas.Option.{same_Some}
 use Rattle.std.proofs.lemmas.Result.{on_ok_weaker}
 use Rattle.arch_base.specs.declared.ids.Id20.{Id20}
 use Rattle.arch_base.specs.Moments.{last_moment}
-use Rattle.disk_model.specs.Disk.{Content, Files, Kept, Told, Unchanged, WhereTold, bytes_of}
+use Rattle.disk_model.specs.Disk.{Content, Files, Kept, BothTold, Unchanged, WhereTold, bytes_of}
 use Rattle.disk_model.specs.Tells.{told_then}
 use Rattle.mail_reader.specs.StorageTexts.{IsStorageText}
 use Rattle.arch_model.specs.Archives.{Entry, Archive, IsFree, in_epoch, live, with_entry, without_entries, without_text}
@@ -25,32 +25,32 @@ use Rattle.epoch_file.specs.declared.refusal.StoreRefusal.{StoreRefusal}
 use Rattle.epoch_file.specs.declared.refusal.StoreRefusal.TheVariants.{DiskFault, NoMemory, Damaged}
 use Rattle.store_finding.specs.declared.entries.StoredEntry.{StoredEntry}
 use Rattle.store_planning.specs.Planning.{KeepsPlanned, Planning, PlansArchive, PlansPurge, PlansWithout}
-use Rattle.epoch_store.specs.Commands.{DropsEntries, HasSizes, UnlessFailed}
-use Rattle.store_finding.specs.Kept.{InEpochs, IsDiskWith, IsStoreWith, Keeps, View, stored_after}
+use Rattle.epoch_store.specs.Commands.{DropsEntries, StoreHasSizes, UnlessFailed}
+use Rattle.store_finding.specs.Kept.{InEpochs, IsDiskWith, IsStoreWith, KeepsArchive, StoreState, stored_after}
 use Rattle.store_planning.specs.Dropping.{KeptOf, without_blob}
 use Rattle.store_finding.proofs.FindingTold.{reads_both}
 use Rattle.store_planning.proofs.Planned.{last_at_most}
 use Rattle.epoch_store.proofs.Purged.{one_content}
 
 -- A disk that reads as before is the same store's, and was it before.
-pub store_same : (v : View) (cache : List ℕ) (a : Archive) (k m : Option Content) → Told Unchanged k m → IsStoreWith v cache a k → IsStoreWith v cache a m
+pub store_same : (v : StoreState) (cache : List ℕ) (a : Archive) (k m : Option Content) → BothTold Unchanged k m → IsStoreWith v cache a k → IsStoreWith v cache a m
 store_same v cache a None m same store = absurd store
 store_same v cache a (Some k) None same store = absurd same
 store_same v cache a (Some k) (Some m) same store = subst (IsDiskWith v cache a) (sym (one_content k m same)) store
 
-pub store_back : (v : View) (cache : List ℕ) (a : Archive) (k m : Option Content) → Told Unchanged k m → IsStoreWith v cache a m → IsStoreWith v cache a k
+pub store_back : (v : StoreState) (cache : List ℕ) (a : Archive) (k m : Option Content) → BothTold Unchanged k m → IsStoreWith v cache a m → IsStoreWith v cache a k
 store_back v cache a k None same store = absurd store
 store_back v cache a None (Some m) same store = absurd same
 store_back v cache a (Some k) (Some m) same store = subst (IsDiskWith v cache a) (one_content k m same) store
 
-pub sizes_same : (v : View) (k m : Option Content) → Told Unchanged k m → WhereTold (HasSizes v) k → WhereTold (HasSizes v) m
+pub sizes_same : (v : StoreState) (k m : Option Content) → BothTold Unchanged k m → WhereTold (StoreHasSizes v) k → WhereTold (StoreHasSizes v) m
 sizes_same v None None same sizes = tt
 sizes_same v None (Some m) same sizes = absurd same
 sizes_same v (Some k) None same sizes = absurd same
-sizes_same v (Some k) (Some m) same sizes = subst (HasSizes v) (sym (one_content k m same)) sizes
+sizes_same v (Some k) (Some m) same sizes = subst (StoreHasSizes v) (sym (one_content k m same)) sizes
 
 -- The root file after a commit, if it reads as before until then.
-pub rooted_since : {T : Type 0} (result : Result T StoreRefusal) (free : ℕ) (body : List ℕ) (k m o : Option Content) → Told Unchanged k m → OnOk result (Told (HasNewRoot free body) m o) → OnOk result (Told (HasNewRoot free body) k o)
+pub rooted_since : {T : Type 0} (result : Result T StoreRefusal) (free : ℕ) (body : List ℕ) (k m o : Option Content) → BothTold Unchanged k m → OnOk result (BothTold (HasNewRoot free body) m o) → OnOk result (BothTold (HasNewRoot free body) k o)
 rooted_since result free body k m o same = on_ok_weaker result (told_then Unchanged (HasNewRoot free body) (HasNewRoot free body) k m o
     (λ a b c is told kept rooted. rooted ∙ ap (λ (it : Kept). Some (with_root free body (bytes_of it.seen))) (kept root_name)) same)
 
@@ -66,7 +66,7 @@ module _ {D : Type 0} (content : D → Option Content) (moment : D → ℕ) (lef
   reads_then result old mid new first then_ = unless_weaker (OnlyReads content moment left_since faults mid new) (OnlyReads content moment left_since faults old new) result (λ more. reads_both content moment left_since faults old mid new first more) then_
 
 -- The archive without a text is planned.
-pub purged_archive : (v : View) (cache : List ℕ) (a : Archive) (text : List ℕ) (p : Planning) → Keeps v a → PlansWithout v.root cache a text p.plans × (p.entries ≡ stored_after [] (without_text a.entries text)) → PlansArchive v.root cache a (without_entries a text) p v.root.next
+pub purged_archive : (v : StoreState) (cache : List ℕ) (a : Archive) (text : List ℕ) (p : Planning) → KeepsArchive v a → PlansWithout v.root cache a text p.plans × (p.entries ≡ stored_after [] (without_text a.entries text)) → PlansArchive v.root cache a (without_entries a text) p v.root.next
 purged_archive v cache a text p keeps plans = record {
   valid = valid_without a text keeps.valid;
   config = refl;
@@ -97,7 +97,7 @@ kept_low [] (f ∷ fs) blob low all = absurd all
 kept_low (e ∷ es) fs blob low all = low_step (not (bytes_eq blob e.seen.blob.0)) e (without_blob es blob) fs (first_low e es low) (λ gs more. kept_low es gs blob (rest_low e es low) more) all
 
 -- What is kept after a purge.
-pub purge_drops : (v new : View) (blob : Id20) (p : Planning) → PlansPurge v blob p.entries p.plans → KeepsPlanned v p v.root.next new → DropsEntries v new blob
+pub purge_drops : (v new : StoreState) (blob : Id20) (p : Planning) → PlansPurge v blob p.entries p.plans → KeepsPlanned v p v.root.next new → DropsEntries v new blob
 purge_drops v new blob p plans kept = record {
   entries = subst (AllZip KeptOf (without_blob v.entries blob.0)) (sym kept.entries) plans.kept;
   next = kept.root.next;

@@ -13,7 +13,7 @@ use Rattle.root_slots.specs.Valid.{no_place}
 use Rattle.root_change.specs.declared.plan.Target.{Target}
 use Rattle.root_change.specs.declared.plan.Target.TheVariants.{Anew, Behind}
 use Rattle.root_change.specs.Names.{named_by, names_file, named_some, named_none, place_of}
-use Rattle.root_change.specs.Parts.{Parts, IsOwn}
+use Rattle.root_change.specs.Parts.{Parts, IsOwnOfParts}
 use Rattle.root_change.specs.Rewriting.{IsRootAfter, Plan, RecoversPlanned, map_by, map_planned, place_anew, place_by, place_planned, plan_count, plan_of, rewritten}
 use Rattle.root_change.specs.Texts.{HasPartSizes, HasSizes as HasAllSizes}
 use Rattle.root_change.proofs.Drops.{named, named_root, named_map, named_number, named_epoch, true_or_false}
@@ -22,15 +22,15 @@ use Rattle.root_change.proofs.Sizes.{end_at_most}
 use Rattle.arch_model.specs.Archives.{Archive}
 use Rattle.store_finding.specs.declared.entries.StoredEntry.{StoredEntry}
 use Rattle.store_finding.specs.Files.{map_file_of, epoch_file_of}
-use Rattle.store_planning.specs.Planning.{IsReady, Planning, PlansArchive}
+use Rattle.store_planning.specs.Planning.{IsReadyPlan, Planning, PlansArchive}
 use Rattle.store_finding.specs.Recovery.{parts_of}
-use Rattle.epoch_store.specs.Commands.{HasSizes, RecoversOneOf, GoesOnAnew}
-use Rattle.store_finding.specs.Kept.{IsStoreWith, View}
+use Rattle.epoch_store.specs.Commands.{StoreHasSizes, RecoversOneOf, GoesOnAnew}
+use Rattle.store_finding.specs.Kept.{IsStoreWith, StoreState}
 use Rattle.epoch_store.proofs.NextArchive.{IsNext, next_leaves, store_next}
 use Rattle.store_finding.proofs.FrontParts.{store_keeps, store_owns}
 
 -- Plans of a store's own disk make the next archive.
-module _ (v : View) (cache : List ℕ) (a b : Archive) (p : Planning) (next : ℕ) (k : Option Content) (store : IsStoreWith v cache a k) (made : PlansArchive v.root cache a b p next) where
+module _ (v : StoreState) (cache : List ℕ) (a b : Archive) (p : Planning) (next : ℕ) (k : Option Content) (store : IsStoreWith v cache a k) (made : PlansArchive v.root cache a b p next) where
   planned_next : IsNext (IsRootAfter v.root p.plans next) (rewritten v.root p.plans (parts_of a cache)) [] b
   planned_next = record {
     valid = made.valid;
@@ -41,21 +41,21 @@ module _ (v : View) (cache : List ℕ) (a b : Archive) (p : Planning) (next : �
   }
 
   -- What a crash leaves.
-  pub carried_leaves : {D : Type 0} (moment : D → ℕ) (left_since : D → ℕ → Files → Type 0) (disk new : D) → ((parts : Parts) → IsOwn v.root (1 - v.slot) parts k → LeavesOnly moment left_since disk new (RecoversPlanned v.root p.plans next parts)) → LeavesOnly moment left_since disk new (RecoversOneOf cache a [] b)
+  pub carried_leaves : {D : Type 0} (moment : D → ℕ) (left_since : D → ℕ → Files → Type 0) (disk new : D) → ((parts : Parts) → IsOwnOfParts v.root (1 - v.slot) parts k → LeavesOnly moment left_since disk new (RecoversPlanned v.root p.plans next parts)) → LeavesOnly moment left_since disk new (RecoversOneOf cache a [] b)
   carried_leaves moment left_since disk new leaves = next_leaves _ _ [] b planned_next moment left_since disk new v cache a k store (leaves (parts_of a cache) (store_owns v cache a k store))
 
   -- What the store has then.
-  pub carried_store : (root : Root) (m : Option Content) → IsRootAfter v.root p.plans next root → ((parts : Parts) → IsOwn v.root (1 - v.slot) parts k → IsOwn root (1 - (1 - v.slot)) (rewritten v.root p.plans parts) m) → IsStoreWith (record { root = root; slot = 1 - v.slot; entries = p.entries }) [] b m
+  pub carried_store : (root : Root) (m : Option Content) → IsRootAfter v.root p.plans next root → ((parts : Parts) → IsOwnOfParts v.root (1 - v.slot) parts k → IsOwnOfParts root (1 - (1 - v.slot)) (rewritten v.root p.plans parts) m) → IsStoreWith (record { root = root; slot = 1 - v.slot; entries = p.entries }) [] b m
   carried_store root m after done = store_next _ _ [] b planned_next root after (1 - v.slot) p.entries m made.entries (done (parts_of a cache) (store_owns v cache a k store))
 
 -- The files that a store names have at least their sizes, but for the cache.
-pub part_sizes : (v : View) (k : Option Content) → WhereTold (HasSizes v) k → WhereTold (HasPartSizes v.root) k
+pub part_sizes : (v : StoreState) (k : Option Content) → WhereTold (StoreHasSizes v) k → WhereTold (HasPartSizes v.root) k
 part_sizes v None sizes = tt
 part_sizes v (Some k) sizes = record {
   root_file = sizes.root;
   lengths = λ name apart other.
       elim (true_or_false (names_file v.root name)) [
-        | inl is ↦ (let at_most = end_at_most v.root name in let enough = by name.kind name.number name.gen_ apart other is in omega (arith, at_most, enough))
+        | inl is ↦ (let at_most = end_at_most v.root name in let enough = by name.kind name.number name.generation apart other is in omega (arith, at_most, enough))
         | inr isnt ↦ (let none = named_none v.root name isnt in omega (arith, none))
       ];
 } where
@@ -68,55 +68,55 @@ part_sizes v (Some k) sizes = record {
       subst (λ (h : ℕ). (place_of v.root kind.Epoch n).length ≤ length (bytes_of (k (named kind.Epoch n h)).seen)) (sym (named_epoch v.root n g is)) (sizes.epochs_long n (named_number v.root n g is))
 
 -- So have those of a store whose root names files of these sizes.
-pub sizes_of_parts : (root : Root) (slot : ℕ) (entries : List StoredEntry) (k : Option Content) → WhereTold (HasPartSizes root) k → WhereTold (HasSizes (record { root = root; slot = slot; entries = entries })) k
+pub sizes_of_parts : (root : Root) (slot : ℕ) (entries : List StoredEntry) (k : Option Content) → WhereTold (HasPartSizes root) k → WhereTold (StoreHasSizes (record { root = root; slot = slot; entries = entries })) k
 sizes_of_parts root slot entries None sizes = tt
 sizes_of_parts root slot entries (Some k) sizes = record {
   root = sizes.root_file;
-  map_long = subst (λ (n : ℕ). n ≤ length (bytes_of (k (map_file_of root)).seen)) (named_some root (map_file_of root) (map_is_named root root.map.gen_ refl)) (sizes.lengths (map_file_of root) (map_isnt_root root.map.gen_) (λ wrong. absurd cc));
+  map_long = subst (λ (n : ℕ). n ≤ length (bytes_of (k (map_file_of root)).seen)) (named_some root (map_file_of root) (map_is_named root root.map.generation refl)) (sizes.lengths (map_file_of root) (map_isnt_root root.map.generation) (λ wrong. absurd cc));
   epochs_long = λ e below. elim (cases_lt 0 (get_or root.epochs e no_place).length) [
     | inl some ↦
-        subst (λ (n : ℕ). n ≤ length (bytes_of (k (epoch_file_of root e)).seen)) (named_some root (epoch_file_of root e) (epoch_is_named root e (get_or root.epochs e no_place).gen_ below some refl))
-        (sizes.lengths (epoch_file_of root e) (epoch_isnt_root e (get_or root.epochs e no_place).gen_) (λ wrong. absurd cc))
+        subst (λ (n : ℕ). n ≤ length (bytes_of (k (epoch_file_of root e)).seen)) (named_some root (epoch_file_of root e) (epoch_is_named root e (get_or root.epochs e no_place).generation below some refl))
+        (sizes.lengths (epoch_file_of root e) (epoch_isnt_root e (get_or root.epochs e no_place).generation) (λ wrong. absurd cc))
     | inr none ↦ omega (arith, none)
   ];
 }
 
-pub sizes_carried : (root : Root) (slot : ℕ) (entries : List StoredEntry) (k : Option Content) → WhereTold (HasAllSizes root) k → WhereTold (HasSizes (record { root = root; slot = slot; entries = entries })) k
+pub sizes_carried : (root : Root) (slot : ℕ) (entries : List StoredEntry) (k : Option Content) → WhereTold (HasAllSizes root) k → WhereTold (StoreHasSizes (record { root = root; slot = slot; entries = entries })) k
 sizes_carried root slot entries None sizes = tt
 sizes_carried root slot entries (Some k) sizes = sizes_of_parts root slot entries (Some k) (record { root_file = sizes.root_file; lengths = λ name apart other. sizes.lengths name apart })
 
 -- A part stays in its file, or is in one of the new generation, or has no bytes.
-pub anew_goes : (n count : ℕ) → ((place_anew n count).gen_ ≡ n) ⊎ (place_anew n count ≡ no_place)
+pub anew_goes : (n count : ℕ) → ((place_anew n count).generation ≡ n) ⊎ (place_anew n count ≡ no_place)
 anew_goes n count = by (nat_lt 0 count) where
-  by : (t : Bool) → ((if t then record { gen_ = n; length = count } else no_place).gen_ ≡ n) ⊎ ((if t then record { gen_ = n; length = count } else no_place) ≡ no_place)
+  by : (t : Bool) → ((if t then record { generation = n; length = count } else no_place).generation ≡ n) ⊎ ((if t then record { generation = n; length = count } else no_place) ≡ no_place)
   by true = inl refl
   by false = inr refl
 
-target_goes : (n : ℕ) (target : Target) (place : Place) (count : ℕ) → ((place_by n target place count).gen_ ≡ place.gen_) ⊎ (((place_by n target place count).gen_ ≡ n) ⊎ (place_by n target place count ≡ no_place))
+target_goes : (n : ℕ) (target : Target) (place : Place) (count : ℕ) → ((place_by n target place count).generation ≡ place.generation) ⊎ (((place_by n target place count).generation ≡ n) ⊎ (place_by n target place count ≡ no_place))
 target_goes n Anew place count = inr (anew_goes n count)
 target_goes n Behind place count = by (nat_lt 0 place.length) where
   after : Place
-  after = record { gen_ = place.gen_; length = place.length + count }
+  after = record { generation = place.generation; length = place.length + count }
 
-  by : (t : Bool) → ((if t then after else place_anew n count).gen_ ≡ place.gen_) ⊎ (((if t then after else place_anew n count).gen_ ≡ n) ⊎ ((if t then after else place_anew n count) ≡ no_place))
+  by : (t : Bool) → ((if t then after else place_anew n count).generation ≡ place.generation) ⊎ (((if t then after else place_anew n count).generation ≡ n) ⊎ ((if t then after else place_anew n count) ≡ no_place))
   by true = inl refl
   by false = inr (anew_goes n count)
 
-plan_goes : (n : ℕ) (plan : Option Plan) (place : Place) → ((place_planned n plan place).gen_ ≡ place.gen_) ⊎ (((place_planned n plan place).gen_ ≡ n) ⊎ (place_planned n plan place ≡ no_place))
+plan_goes : (n : ℕ) (plan : Option Plan) (place : Place) → ((place_planned n plan place).generation ≡ place.generation) ⊎ (((place_planned n plan place).generation ≡ n) ⊎ (place_planned n plan place ≡ no_place))
 plan_goes n None place = inl refl
 plan_goes n (Some plan) place = target_goes n plan.target place (plan_count plan)
 
 -- The new root goes on from the old one.
-pub carried_on : (old new : Root) (plans : List Plan) (next : ℕ) → IsReady old plans next → IsRootAfter old plans next new → GoesOnAnew old new
+pub carried_on : (old new : Root) (plans : List Plan) (next : ℕ) → IsReadyPlan old plans next → IsRootAfter old plans next new → GoesOnAnew old new
 carried_on old new plans next ready after = record {
   sequence = after.sequence;
   map =
-      ap (λ (q : Place). q.gen_) after.map
-      ∙ (ap (λ (o : Option Plan). (map_planned (old.sequence + 1) o old.map).gen_) ready.map_is
-      ∙ (ap (λ (t : Target). (map_by (old.sequence + 1) t old.map (plan_count ready.map_plan)).gen_) ready.map_anew ∙ sym after.sequence));
+      ap (λ (q : Place). q.generation) after.map
+      ∙ (ap (λ (o : Option Plan). (map_planned (old.sequence + 1) o old.map).generation) ready.map_is
+      ∙ (ap (λ (t : Target). (map_by (old.sequence + 1) t old.map (plan_count ready.map_plan)).generation) ready.map_anew ∙ sym after.sequence));
   cache = after.cache;
   epochs = λ e below.
-      subst (λ (q : Place). (q.gen_ ≡ (get_or old.epochs e no_place).gen_) ⊎ ((q.gen_ ≡ new.sequence) ⊎ (q ≡ no_place))) (sym (after.epochs e below))
-      (subst (λ (n : ℕ). ((place_planned (old.sequence + 1) (plan_of plans kind.Epoch e) (get_or old.epochs e no_place)).gen_ ≡ (get_or old.epochs e no_place).gen_) ⊎ (((place_planned (old.sequence + 1) (plan_of plans kind.Epoch e) (get_or old.epochs e no_place)).gen_ ≡ n) ⊎ (place_planned (old.sequence + 1) (plan_of plans kind.Epoch e) (get_or old.epochs e no_place) ≡ no_place))) (sym after.sequence)
+      subst (λ (q : Place). (q.generation ≡ (get_or old.epochs e no_place).generation) ⊎ ((q.generation ≡ new.sequence) ⊎ (q ≡ no_place))) (sym (after.epochs e below))
+      (subst (λ (n : ℕ). ((place_planned (old.sequence + 1) (plan_of plans kind.Epoch e) (get_or old.epochs e no_place)).generation ≡ (get_or old.epochs e no_place).generation) ⊎ (((place_planned (old.sequence + 1) (plan_of plans kind.Epoch e) (get_or old.epochs e no_place)).generation ≡ n) ⊎ (place_planned (old.sequence + 1) (plan_of plans kind.Epoch e) (get_or old.epochs e no_place) ≡ no_place))) (sym after.sequence)
       (plan_goes (old.sequence + 1) (plan_of plans kind.Epoch e) (get_or old.epochs e no_place)));
 }

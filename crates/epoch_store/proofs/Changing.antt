@@ -4,7 +4,7 @@ use Rattle.std.proofs.Common.{◌∙◌, sym, ap, subst, inr, arith}
 use Rattle.arch_base.specs.Counts.{RoseIf}
 use Rattle.disk_model.specs.declared.name.FileName.{FileName}
 use Rattle.disk_model.specs.Beside.{Beside, Bounds, RunsBeside, WentBeside}
-use Rattle.disk_model.specs.Disk.{Content, Files, Image, LeavesOnly, Told, Unchanged, WhereTold}
+use Rattle.disk_model.specs.Disk.{Content, Files, Image, LeavesOnly, BothTold, Unchanged, WhereTold}
 use Rattle.disk_model.specs.Moments.{joined, started, weaker}
 use Rattle.arch_model.specs.Archives.{Archive}
 use Rattle.epoch_file.specs.Runs.{OnlyReads}
@@ -19,10 +19,10 @@ use Rattle.root_change.specs.Names.{bounds_of}
 use Rattle.root_change.specs.Rewriting.{CarriesOut, Plan}
 use Rattle.store_finding.specs.declared.entries.StoredEntry.{StoredEntry}
 use Rattle.store_planning.specs.DamagedTexts.{DamageBy, IfDamaged, IsDamageIn}
-use Rattle.store_planning.specs.Planning.{IsReady, Planning, PlansArchive, PlansUndamaged}
-use Rattle.epoch_store.specs.Promises.{Appends, ChangesStore, ReadsBy, Renews, StaysBy, UndamagedBy, Way, cache_by}
-use Rattle.store_finding.specs.Kept.{IsStoreWith, View}
-use Rattle.store_planning.specs.Dropping.{IsUndamaged}
+use Rattle.store_planning.specs.Planning.{IsReadyPlan, Planning, PlansArchive, PlansUndamaged}
+use Rattle.epoch_store.specs.Promises.{Appends, ChangesStore, ReadsByKind, Renews, StaysBy, UndamagedBy, WriteKind, cache_by}
+use Rattle.store_finding.specs.Kept.{IsStoreWith, StoreState}
+use Rattle.store_planning.specs.Dropping.{IsUndamagedStore}
 use Rattle.epoch_store.specs.Commands.{RecoversOneOf, UnlessFailed}
 use Rattle.epoch_store.proofs.CarriedOut.{reads_then, rooted_since, store_back, store_same}
 use Rattle.epoch_store.proofs.Carrying.{carried_leaves, carried_on, carried_store, sizes_carried}
@@ -32,7 +32,7 @@ use Rattle.epoch_store.proofs.Readying.{read_between}
 use Rattle.epoch_store.proofs.TextDamage.{content_is, short_told}
 
 -- An error before which nothing was written, by one that was asked for.
-pub unless_short : {T : Type 0} {P : Type 0} (why : StoreRefusal) → (◌≡◌ {A = Result T StoreRefusal} (Err why) (Err NoMemory) → P) → IsUndamaged why → UnlessFailed {T = Unit {0}} (Err why) P
+pub unless_short : {T : Type 0} {P : Type 0} (why : StoreRefusal) → (◌≡◌ {A = Result T StoreRefusal} (Err why) (Err NoMemory) → P) → IsUndamagedStore why → UnlessFailed {T = Unit {0}} (Err why) P
 unless_short DiskFault short sound = tt
 unless_short NoMemory short sound = short refl
 unless_short (Damaged file at) short sound = absurd sound
@@ -44,7 +44,7 @@ unless_any NoMemory p = p
 unless_any (Damaged file at) p = p
 
 -- A range is never short where the disk tells its content.
-never_short : (v : View) (why : StoreRefusal) (k : Option Content) → WhereTold (λ (c : Content). Unit {0} → ⊥) k → PlansUndamaged {T = Unit {0}} v (Err why) k
+never_short : (v : StoreState) (why : StoreRefusal) (k : Option Content) → WhereTold (λ (c : Content). Unit {0} → ⊥) k → PlansUndamaged {T = Unit {0}} v (Err why) k
 never_short v why None whole = λ a cache store. absurd store
 never_short v why (Some k) whole = λ a cache store. absurd (whole tt)
 
@@ -53,7 +53,7 @@ short_image : (k : Option Content) (image : Files) → WhereTold (λ (c : Conten
 short_image None image whole = tt
 short_image (Some k) image whole = absurd (whole tt)
 
-short_unchanged : (bounds : Bounds) (k m : Option Content) → WhereTold (λ (c : Content). Unit {0} → ⊥) k → Told (WentBeside bounds) k m → Told Unchanged k m
+short_unchanged : (bounds : Bounds) (k m : Option Content) → WhereTold (λ (c : Content). Unit {0} → ⊥) k → BothTold (WentBeside bounds) k m → BothTold Unchanged k m
 short_unchanged bounds None None whole went = tt
 short_unchanged bounds None (Some m) whole went = absurd went
 short_unchanged bounds (Some k) m whole went = absurd (whole tt)
@@ -62,24 +62,24 @@ short_reads : {D : Type 0} {content : D → Option Content} {moment : D → ℕ}
     → OnlyReads content moment left_since faults old new
 short_reads {D} {content} {moment} {left_since} {faults} {old} {new} bounds whole run later = record {
   same = short_unchanged bounds (content old) (content new) whole run.told;
-  any_moment = weaker moment left_since old new (Beside bounds (content old)) (Image (content old)) run.moments (λ image beside. short_image (content old) image whole);
+  crash = weaker moment left_since old new (Beside bounds (content old)) (Image (content old)) run.moments (λ image crash_beside. short_image (content old) image whole);
   later = later;
 }
 
 -- What a crash leaves of the archive on the disk while files are read.
-read_leaves : {D : Type 0} {content : D → Option Content} {moment : D → ℕ} {left_since : D → ℕ → Files → Type 0} {faults : D → ℕ} {old mid : D} (only : OnlyReads content moment left_since faults old mid) (v : View) (cache : List ℕ) (a b : Archive) → IsStoreWith v cache a (content old)
+read_leaves : {D : Type 0} {content : D → Option Content} {moment : D → ℕ} {left_since : D → ℕ → Files → Type 0} {faults : D → ℕ} {old mid : D} (only : OnlyReads content moment left_since faults old mid) (v : StoreState) (cache : List ℕ) (a b : Archive) → IsStoreWith v cache a (content old)
     → LeavesOnly moment left_since old mid (RecoversOneOf cache a [] b)
 read_leaves {D} {content} {moment} {left_since} {faults} {old} {mid} only v cache a b store =
-    weaker moment left_since old mid (Image (content old)) (RecoversOneOf cache a [] b) only.any_moment (λ image now. stands_now v cache [] a b (content old) image store now)
+    weaker moment left_since old mid (Image (content old)) (RecoversOneOf cache a [] b) only.crash (λ image now. stands_now v cache [] a b (content old) image store now)
 
 module _ {D : Type 0} {content : D → Option Content} {moment : D → ℕ} {left_since : D → ℕ → Files → Type 0} {faults reads : D → ℕ} where
   -- An error, by what a crash leaves until then.
-  pub stopped : {old new : D} {before after : View} {way : Way} {Makes : Archive → Archive → Type 0} {result : Result (Unit {0}) StoreRefusal} (why : StoreRefusal) → result ≡ Err why
+  pub stopped : {old new : D} {before after : StoreState} {way : WriteKind} {Makes : Archive → Archive → Type 0} {result : Result (Unit {0}) StoreRefusal} (why : StoreRefusal) → result ≡ Err why
       → ((a b : Archive) (cache : List ℕ) → IsStoreWith before cache a (content old) → before.root.sequence + 1 < 2 ^ 64 → Makes a b → LeavesOnly moment left_since old new (RecoversOneOf cache a (cache_by way cache) b))
-      → after ≡ before → UnlessFailed {T = Unit {0}} (Err why) (StaysBy way content moment left_since faults old new) → UndamagedBy {T = Unit {0}} way before (Err why) (content old) → DamageBy why (λ (file : FileName) (at : ℕ). IsDamageIn before file at (content old)) → RoseIf (result ≡ Err DiskFault) (faults old) (faults new) → ReadsBy way (reads old) (reads new) → RunsBetween content moment left_since old new
+      → after ≡ before → UnlessFailed {T = Unit {0}} (Err why) (StaysBy way content moment left_since faults old new) → UndamagedBy {T = Unit {0}} way before (Err why) (content old) → DamageBy why (λ (file : FileName) (at : ℕ). IsDamageIn before file at (content old)) → RoseIf (result ≡ Err DiskFault) (faults old) (faults new) → ReadsByKind way (reads old) (reads new) → RunsBetween content moment left_since old new
       → ChangesStore content moment left_since faults reads old new before after way Makes result
-  stopped {old} {new} {before} {after} {way} {Makes} {result} why is run same still sound told cause count between = subst (λ (r : Result (Unit {0}) StoreRefusal). ChangesStore content moment left_since faults reads old new before after way Makes r) (sym is) (record {
-    any_moment = run;
+  stopped {old} {new} {before} {after} {way} {Makes} {result} why is run same still sound told cause count crash_between = subst (λ (r : Result (Unit {0}) StoreRefusal). ChangesStore content moment left_since faults reads old new before after way Makes r) (sym is) (record {
+    crash = run;
     done = λ a b cache store room made. tt;
     settled = tt;
     sizes = tt;
@@ -91,42 +91,42 @@ module _ {D : Type 0} {content : D → Option Content} {moment : D → ℕ} {lef
     cause = subst (λ (r : Result (Unit {0}) StoreRefusal). RoseIf (r ≡ Err DiskFault) (faults old) (faults new)) is cause;
     count = count;
     rooted = tt;
-    between = between;
+    crash_between = crash_between;
     damage = told;
   })
 
   -- Memory ran out before anything was done.
-  pub unstarted : {disk : D} {before after : View} {way : Way} {Makes : Archive → Archive → Type 0} {result : Result (Unit {0}) StoreRefusal} → ((image : Files) → left_since disk (moment disk) image → Image (content disk) image) → after ≡ before → result ≡ Err NoMemory
+  pub unstarted : {disk : D} {before after : StoreState} {way : WriteKind} {Makes : Archive → Archive → Type 0} {result : Result (Unit {0}) StoreRefusal} → ((image : Files) → left_since disk (moment disk) image → Image (content disk) image) → after ≡ before → result ≡ Err NoMemory
       → ChangesStore content moment left_since faults reads disk disk before after way Makes result
   unstarted {disk} {before} {after} {way} {Makes} {result} now same is =
       stopped NoMemory is (λ a b cache store room made. started moment left_since disk (RecoversOneOf cache a (cache_by way cache) b) (λ image left. stands_now before cache (cache_by way cache) a b (content disk) image store (now image left))) same
       (still way) (sound way) tt (record { later = omega arith; failed = λ fault. absurd (cc (sym is ∙ fault)); kept = λ never. refl }) (count way)
       (looks_between content moment left_since disk disk (started moment left_since disk (Image (content disk)) now)) where
-        still : (way : Way) → StaysBy way content moment left_since faults disk disk
+        still : (way : WriteKind) → StaysBy way content moment left_since faults disk disk
         still Appends = refl
         still Renews = reads_none content moment left_since faults disk now
 
-        sound : (way : Way) → UndamagedBy {T = Unit {0}} way before (Err NoMemory) (content disk)
+        sound : (way : WriteKind) → UndamagedBy {T = Unit {0}} way before (Err NoMemory) (content disk)
         sound Appends = tt
         sound Renews = λ a cache store. tt
 
-        count : (way : Way) → ReadsBy way (reads disk) (reads disk)
+        count : (way : WriteKind) → ReadsByKind way (reads disk) (reads disk)
         count Appends = refl
         count Renews = omega arith
 
-  module _ {old mid : D} {before : View} (only : OnlyReads content moment left_since faults old mid) where
+  module _ {old mid : D} {before : StoreState} (only : OnlyReads content moment left_since faults old mid) where
     -- Planning failed.
     pub unplanned : {Makes : Archive → Archive → Type 0} {result : Result (Unit {0}) StoreRefusal} (why : StoreRefusal) → result ≡ Err why → PlansUndamaged {T = Unit {0}} before (Err why) (content old) → DamageBy why (λ (file : FileName) (at : ℕ). IsDamageIn before file at (content old)) → RoseIf (result ≡ Err DiskFault) (faults old) (faults mid) → reads old ≤ reads mid
         → ChangesStore content moment left_since faults reads old mid before before Renews Makes result
-    unplanned why is sound told cause count = stopped why is (λ a b cache store room made. read_leaves only before cache a b store) refl (unless_any why only) sound told cause count (looks_between content moment left_since old mid only.any_moment)
+    unplanned why is sound told cause count = stopped why is (λ a b cache store room made. read_leaves only before cache a b store) refl (unless_any why only) sound told cause count (looks_between content moment left_since old mid only.crash)
 
     -- What was planned was carried out, or wasn't.
-    pub planned : {new : D} {after : View} {Makes : Archive → Archive → Type 0} {result : Result (Unit {0}) StoreRefusal} (plans : Planning) (next : ℕ) → ((a b : Archive) (cache : List ℕ) → IsStoreWith before cache a (content old) → Makes a b → PlansArchive before.root cache a b plans next)
+    pub planned : {new : D} {after : StoreState} {Makes : Archive → Archive → Type 0} {result : Result (Unit {0}) StoreRefusal} (plans : Planning) (next : ℕ) → ((a b : Archive) (cache : List ℕ) → IsStoreWith before cache a (content old) → Makes a b → PlansArchive before.root cache a b plans next)
         → faults mid ≡ faults old → reads old ≤ reads mid → ChangesStore content moment left_since faults reads mid new before after Renews (λ a b. (cache : List ℕ) → IsStoreWith before cache a (content mid) → PlansArchive before.root cache a b plans next) result
         → ChangesStore content moment left_since faults reads old new before after Renews Makes result
     planned {new} {after} {Makes} {result} plans next makes steady fewest carried = record {
-      any_moment = λ a b cache store room made.
-          joined moment left_since old mid new (RecoversOneOf cache a [] b) (RecoversOneOf cache a [] b) (RecoversOneOf cache a [] b) (read_leaves only before cache a b store) (carried.any_moment a b cache (still cache a store) room (planned_so a b made)) (λ image stands. stands) (λ image stands. stands);
+      crash = λ a b cache store room made.
+          joined moment left_since old mid new (RecoversOneOf cache a [] b) (RecoversOneOf cache a [] b) (RecoversOneOf cache a [] b) (read_leaves only before cache a b store) (carried.crash a b cache (still cache a store) room (planned_so a b made)) (λ image stands. stands) (λ image stands. stands);
       done = λ a b cache store room made. carried.done a b cache (still cache a store) room (planned_so a b made);
       settled = carried.settled;
       sizes = carried.sizes;
@@ -138,7 +138,7 @@ module _ {D : Type 0} {content : D → Option Content} {moment : D → ℕ} {lef
       cause = subst (λ (n : ℕ). RoseIf (result ≡ Err DiskFault) n (faults new)) steady carried.cause;
       count = (let more = carried.count in omega (arith, fewest, more));
       rooted = rooted_since result after.slot (spelling after.root) (content old) (content mid) (content new) only.same carried.rooted;
-      between = read_between content moment left_since old mid new only.same only.any_moment carried.between;
+      crash_between = read_between content moment left_since old mid new only.same only.crash carried.crash_between;
       damage = subst (λ (k : Option Content). IfDamaged result (λ (file : FileName) (at : ℕ). IsDamageIn before file at k)) (content_is (content old) (content mid) only.same) carried.damage;
     } where
       still : (cache : List ℕ) (a : Archive) → IsStoreWith before cache a (content old) → IsStoreWith before cache a (content mid)
@@ -148,23 +148,23 @@ module _ {D : Type 0} {content : D → Option Content} {moment : D → ℕ} {lef
       planned_so a b made cache own = makes a b cache (store_back before cache a (content old) (content mid) only.same own) made
 
 -- What carrying out promises, by the view of the store and of the planner.
-by_views : {D : Type 0} {content : D → Option Content} {moment : D → ℕ} {left_since : D → ℕ → Files → Type 0} {faults : D → ℕ} {old new : D} {w v : View} {free next : ℕ} {plans all : List Plan} {result : Result Root RewriteRefusal} → w ≡ v → free ≡ 1 - w.slot → plans ≡ all
+by_views : {D : Type 0} {content : D → Option Content} {moment : D → ℕ} {left_since : D → ℕ → Files → Type 0} {faults : D → ℕ} {old new : D} {w v : StoreState} {free next : ℕ} {plans all : List Plan} {result : Result Root RewriteRefusal} → w ≡ v → free ≡ 1 - w.slot → plans ≡ all
     → CarriesOut content moment left_since faults old new w.root free plans next result → CarriesOut content moment left_since faults old new v.root (1 - v.slot) all next result
 by_views {content = content} {moment} {left_since} {faults} {old} {new} {w} {v} {free} {next} {plans} {all} {result} same free_is plans_are carried =
-    subst (λ (u : View). CarriesOut content moment left_since faults old new u.root (1 - u.slot) all next result) same
+    subst (λ (u : StoreState). CarriesOut content moment left_since faults old new u.root (1 - u.slot) all next result) same
     (subst (λ (l : List Plan). CarriesOut content moment left_since faults old new w.root (1 - w.slot) l next result) plans_are
     (subst (λ (n : ℕ). CarriesOut content moment left_since faults old new w.root n plans next result) free_is carried))
 
-module _ {D : Type 0} {content : D → Option Content} {moment : D → ℕ} {left_since : D → ℕ → Files → Type 0} {faults reads : D → ℕ} {old new : D} {w v : View} {free next : ℕ} {plans : List Plan} {p : Planning}
+module _ {D : Type 0} {content : D → Option Content} {moment : D → ℕ} {left_since : D → ℕ → Files → Type 0} {faults reads : D → ℕ} {old new : D} {w v : StoreState} {free next : ℕ} {plans : List Plan} {p : Planning}
     (same : w ≡ v) (free_is : free ≡ 1 - w.slot) (plans_are : plans ≡ p.plans) (fewest : reads old ≤ reads new) where
   -- Plans were carried out.
-  pub carried_done : {root : Root} {entries : List StoredEntry} → entries ≡ p.entries → IsReady v.root p.plans next → CarriesOut content moment left_since faults old new w.root free plans next (Ok root)
+  pub carried_done : {root : Root} {entries : List StoredEntry} → entries ≡ p.entries → IsReadyPlan v.root p.plans next → CarriesOut content moment left_since faults old new w.root free plans next (Ok root)
       → ChangesStore content moment left_since faults reads old new v (record { root = root; slot = free; entries = entries }) Renews (λ a b. (cache : List ℕ) → IsStoreWith v cache a (content old) → PlansArchive v.root cache a b p next) (Ok tt)
   carried_done {root} {entries} entries_are ready carries =
       let carried = by_views same free_is plans_are carries in
-      let slot : 1 - v.slot ≡ free = sym (free_is ∙ ap (λ (u : View). 1 - u.slot) same) in
+      let slot : 1 - v.slot ≡ free = sym (free_is ∙ ap (λ (u : StoreState). 1 - u.slot) same) in
       subst (λ (n : ℕ). Changed (record { root = root; slot = n; entries = entries })) slot (subst (λ (es : List StoredEntry). Changed (record { root = root; slot = 1 - v.slot; entries = es })) (sym entries_are) (record {
-        any_moment = λ a b cache store room made. carried_leaves v cache a b p next (content old) store (made cache store) moment left_since old new carried.any_moment;
+        crash = λ a b cache store room made. carried_leaves v cache a b p next (content old) store (made cache store) moment left_since old new carried.crash;
         done = λ a b cache store room made. carried_store v cache a b p next (content old) store (made cache store) root (content new) carried.root_is carried.done;
         settled = carried.settled;
         sizes = sizes_carried root (1 - v.slot) p.entries (content new) carried.sizes;
@@ -176,10 +176,10 @@ module _ {D : Type 0} {content : D → Option Content} {moment : D → ℕ} {lef
         cause = record { later = carried.cause.later; failed = λ fault. absurd (cc fault); kept = λ never. carried.cause.kept (λ wrong. wrong) };
         count = fewest;
         rooted = carried.rooted;
-        between = carried.between;
+        crash_between = carried.crash_between;
         damage = tt;
       })) where
-        Changed : View → Type 0
+        Changed : StoreState → Type 0
         Changed after = ChangesStore content moment left_since faults reads old new v after Renews (λ a b. (cache : List ℕ) → IsStoreWith v cache a (content old) → PlansArchive v.root cache a b p next) (Ok tt)
 
   -- The disk failed.
@@ -188,13 +188,13 @@ module _ {D : Type 0} {content : D → Option Content} {moment : D → ℕ} {lef
   carried_failed {refused = rewrite.Short file at} is carries = absurd (cc is)
   carried_failed {refused = rewrite.DiskFault} is carries =
       let carried = by_views same free_is plans_are carries in
-      stopped DiskFault refl (λ a b cache store room made. carried_leaves v cache a b p next (content old) store (made cache store) moment left_since old new carried.any_moment) refl tt (λ a cache store. tt) tt
-      (record { later = carried.cause.later; failed = λ fault. carried.cause.failed tt; kept = λ never. absurd (never refl) }) fewest carried.between
+      stopped DiskFault refl (λ a b cache store room made. carried_leaves v cache a b p next (content old) store (made cache store) moment left_since old new carried.crash) refl tt (λ a cache store. tt) tt
+      (record { later = carried.cause.later; failed = λ fault. carried.cause.failed tt; kept = λ never. absurd (never refl) }) fewest carried.crash_between
 
   -- A range was short.
-  pub carried_short : {refused : RewriteRefusal} {file : FileName} {at : ℕ} → refused ≡ rewrite.Short file at → IsReady v.root p.plans next → CarriesOut content moment left_since faults old new w.root free plans next (Err refused)
+  pub carried_short : {refused : RewriteRefusal} {file : FileName} {at : ℕ} → refused ≡ rewrite.Short file at → IsReadyPlan v.root p.plans next → CarriesOut content moment left_since faults old new w.root free plans next (Err refused)
       → ChangesStore content moment left_since faults reads old new v v Renews (λ a b. (cache : List ℕ) → IsStoreWith v cache a (content old) → PlansArchive v.root cache a b p next) (Err (Damaged file at))
   carried_short {refused} {file} {at} is ready carries =
       let carried = by_views same free_is plans_are (subst (λ (r : RewriteRefusal). CarriesOut content moment left_since faults old new w.root free plans next (Err r)) is carries) in
-      unplanned (short_reads (bounds_of v.root) carried.whole (carried.beside tt) carried.cause.later) (Damaged file at) refl (never_short v (Damaged file at) (content old) carried.whole) (inr (short_told v p next file at (content old) ready carried.whole carried.short))
+      unplanned (short_reads (bounds_of v.root) carried.whole (carried.crash_beside tt) carried.cause.later) (Damaged file at) refl (never_short v (Damaged file at) (content old) carried.whole) (inr (short_told v p next file at (content old) ready carried.whole carried.short))
       (record { later = carried.cause.later; failed = λ fault. absurd (cc fault); kept = λ never. carried.cause.kept (λ wrong. wrong) }) fewest

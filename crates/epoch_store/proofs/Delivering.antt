@@ -24,15 +24,15 @@ use Rattle.epoch_file.specs.declared.refusal.StoreRefusal.{StoreRefusal}
 use Rattle.epoch_file.specs.Appending.{front_at, appended, entry_of}
 use Rattle.epoch_file.specs.Entries.{bytes_after}
 use Rattle.root_slots.specs.declared.root.Root.{Root}
-use Rattle.root_change.specs.Parts.{Parts, IsOwn}
+use Rattle.root_change.specs.Parts.{Parts, IsOwnOfParts}
 use Rattle.root_change.proofs.Roots.{equal_or_not, same_test, other_test}
 use Rattle.store_finding.specs.declared.entries.StoredEntry.{StoredEntry}
 use Rattle.store_planning.specs.declared.next.NextPlace.{NextPlace}
 use Rattle.epoch_store.specs.Entering.{Enters, RecoversEntered, line_by, line_of, numbers_by, parts_with, root_with, with_new}
-use Rattle.epoch_store.specs.Promises.{Adds, ChangesStore, Ends, Way}
+use Rattle.epoch_store.specs.Promises.{AddsMessage, ChangesStore, EndsMessage, WriteKind}
 use Rattle.store_finding.specs.Recovery.{bytes_in, map_bytes, parts_of}
 use Rattle.epoch_store.specs.Commands.{Accepts, IsNextPlace, RecoversOneOf, next_sequence}
-use Rattle.store_finding.specs.Kept.{IsStoreWith, Keeps, View, stored_after, stored_at}
+use Rattle.store_finding.specs.Kept.{IsStoreWith, KeepsArchive, StoreState, stored_after, stored_at}
 use Rattle.epoch_store.proofs.CarriedOut.{edited_valid, epoch_low}
 use Rattle.store_finding.proofs.Growing.{bytes_here, bytes_other, map_grows, map_stays, stored_more}
 use Rattle.epoch_store.proofs.NextArchive.{IsNext, next_leaves, store_next}
@@ -48,7 +48,7 @@ number_below [] high n text below is = let wrong : None ≡ Some text = is in cc
 number_below (e ∷ es) high n text below is = below_step (e.number == n) e (text_of es n) high n text refl below.0 (number_below es high n text below.1) is
 
 -- A message that is accepted enters with the next number.
-pub message_enters : (v : View) (a b : Archive) (text : List ℕ) (moment : ℕ) → Keeps v a → Accepts v text → moment ≤ last_moment → Adds text moment a b → Enters Message v.root.next text moment a b
+pub message_enters : (v : StoreState) (a b : Archive) (text : List ℕ) (moment : ℕ) → KeepsArchive v a → Accepts v text → moment ≤ last_moment → AddsMessage text moment a b → Enters Message v.root.next text moment a b
 message_enters v a b text moment keeps accepts in_time adds = subst (Enters Message v.root.next text moment a) (sym adds.is) (subst (λ (n : ℕ). Enters Message n text moment a (with_entry a (new_epoch a) text moment)) (sym keeps.names.next) (record {
   valid = edited_valid a text moment keeps.valid (let left = accepts.number_left in let at = keeps.names.next in let same = ap (λ (c : Config). c.max) keeps.names.config in omega (arith, left, at, same)) accepts.storage (accepts.id a keeps) adds.alone in_time;
   is = refl;
@@ -56,7 +56,7 @@ message_enters v a b text moment keeps accepts in_time adds = subst (Enters Mess
 }))
 
 -- The deletion of a live number enters.
-pub deletion_enters : (v : View) (a b : Archive) (number : ℕ) (text : List ℕ) (moment : ℕ) → Keeps v a → moment ≤ last_moment → Ends number text moment a b → Enters Deletion number text moment a b
+pub deletion_enters : (v : StoreState) (a b : Archive) (number : ℕ) (text : List ℕ) (moment : ℕ) → KeepsArchive v a → moment ≤ last_moment → EndsMessage number text moment a b → Enters Deletion number text moment a b
 deletion_enters v a b number text moment keeps in_time ends = subst (Enters Deletion number text moment a) (sym ends.is) (record {
   valid =
       let has = live-has a.entries text (found-has (live a.entries) number text ends.shown) in
@@ -68,7 +68,7 @@ deletion_enters v a b number text moment keeps in_time ends = subst (Enters Dele
 })
 
 -- An entry that enters makes the parts of the next archive.
-module _ (v : View) (a b : Archive) (cache : List ℕ) (p : NextPlace) (e : NewEntry) (number : ℕ) (keeps : Keeps v a) (next : IsNextPlace v.root a (next_sequence v.root.sequence) p) (parent : e.parent ≡ p.parent) (enters : Enters e.kind number e.text.now e.moment a b) where
+module _ (v : StoreState) (a b : Archive) (cache : List ℕ) (p : NextPlace) (e : NewEntry) (number : ℕ) (keeps : KeepsArchive v a) (next : IsNextPlace v.root a (next_sequence v.root.sequence) p) (parent : e.parent ≡ p.parent) (enters : Enters e.kind number e.text.now e.moment a b) where
   abbrev new : Entry
   new = record { kind = e.kind; number = number; epoch = p.epoch; text = e.text.now; moment = e.moment }
 
@@ -115,42 +115,42 @@ module _ (v : View) (a b : Archive) (cache : List ℕ) (p : NextPlace) (e : NewE
   entries_next = ap (λ (es : List StoredEntry). es ++ stored_at a.entries new ∷ []) keeps.kept ∙ (sym (stored_more [] a.entries new) ∙ ap (λ (c : Archive). stored_after [] c.entries) made_is)
 
 -- What is promised of parts holds of the archives of a store that got room for one more entry.
-module _ (e : NewEntry) {w v : View} {p : NextPlace} {free number : ℕ} (k : Option Content) (same : w ≡ v) (free_is : free ≡ 1 - w.slot) (next : (a : Archive) → Keeps v a → IsNextPlace v.root a (next_sequence v.root.sequence) p) (parent : e.parent ≡ p.parent)
+module _ (e : NewEntry) {w v : StoreState} {p : NextPlace} {free number : ℕ} (k : Option Content) (same : w ≡ v) (free_is : free ≡ 1 - w.slot) (next : (a : Archive) → KeepsArchive v a → IsNextPlace v.root a (next_sequence v.root.sequence) p) (parent : e.parent ≡ p.parent)
     (a b : Archive) (cache : List ℕ) (store : IsStoreWith v cache a k) (room : v.root.sequence + 1 < 2 ^ 64) (enters : Enters e.kind number e.text.now e.moment a b) where
   store_now : IsStoreWith w cache a k
-  store_now = subst (λ (u : View). IsStoreWith u cache a k) (sym same) store
+  store_now = subst (λ (u : StoreState). IsStoreWith u cache a k) (sym same) store
 
-  keeps_now : Keeps w a
+  keeps_now : KeepsArchive w a
   keeps_now = store_keeps w cache a k store_now
 
   place_now : IsNextPlace w.root a (next_sequence w.root.sequence) p
-  place_now = subst (λ (u : View). IsNextPlace u.root a (next_sequence u.root.sequence) p) (sym same) (next a (store_keeps v cache a k store))
+  place_now = subst (λ (u : StoreState). IsNextPlace u.root a (next_sequence u.root.sequence) p) (sym same) (next a (store_keeps v cache a k store))
 
-  own_now : IsOwn w.root free (parts_of a cache) k
-  own_now = subst (λ (n : ℕ). IsOwn w.root n (parts_of a cache) k) (sym free_is) (store_owns w cache a k store_now)
+  own_now : IsOwnOfParts w.root free (parts_of a cache) k
+  own_now = subst (λ (n : ℕ). IsOwnOfParts w.root n (parts_of a cache) k) (sym free_is) (store_owns w cache a k store_now)
 
   room_now : w.root.sequence + 1 < 2 ^ 64
-  room_now = subst (λ (u : View). u.root.sequence + 1 < 2 ^ 64) (sym same) room
+  room_now = subst (λ (u : StoreState). u.root.sequence + 1 < 2 ^ 64) (sym same) room
 
   is_next : IsNext (λ root. root ≡ root_with w.root p e) (parts_with w.root p e (parts_of a cache)) cache b
   is_next = entry_next w a b cache p e number keeps_now place_now parent enters (store_cache w cache a k store_now)
 
-  pub enters_leaves : {D : Type 0} (moment : D → ℕ) (left_since : D → ℕ → Files → Type 0) (disk after : D) → ((parts : Parts) → IsOwn w.root free parts k → w.root.sequence + 1 < 2 ^ 64 → LeavesOnly moment left_since disk after (RecoversEntered w.root p e parts)) → LeavesOnly moment left_since disk after (RecoversOneOf cache a cache b)
+  pub enters_leaves : {D : Type 0} (moment : D → ℕ) (left_since : D → ℕ → Files → Type 0) (disk after : D) → ((parts : Parts) → IsOwnOfParts w.root free parts k → w.root.sequence + 1 < 2 ^ 64 → LeavesOnly moment left_since disk after (RecoversEntered w.root p e parts)) → LeavesOnly moment left_since disk after (RecoversOneOf cache a cache b)
   enters_leaves moment left_since disk after leaves = next_leaves _ _ cache b is_next moment left_since disk after w cache a k store_now (leaves (parts_of a cache) own_now room_now)
 
   pub enters_store : (root : Root) (entries : List StoredEntry) (stored : StoredEntry) (m : Option Content) → root ≡ root_with w.root p e → entries ≡ w.entries ++ stored ∷ []
-      → ((c : Archive) → Keeps w c → IsNextPlace w.root c (next_sequence w.root.sequence) p → stored ≡ stored_at c.entries (record { kind = e.kind; number = number; epoch = p.epoch; text = e.text.now; moment = e.moment }))
-      → ((parts : Parts) → IsOwn w.root free parts k → w.root.sequence + 1 < 2 ^ 64 → IsOwn root (1 - free) (parts_with w.root p e parts) m) → IsStoreWith (record { root = root; slot = free; entries = entries }) cache b m
+      → ((c : Archive) → KeepsArchive w c → IsNextPlace w.root c (next_sequence w.root.sequence) p → stored ≡ stored_at c.entries (record { kind = e.kind; number = number; epoch = p.epoch; text = e.text.now; moment = e.moment }))
+      → ((parts : Parts) → IsOwnOfParts w.root free parts k → w.root.sequence + 1 < 2 ^ 64 → IsOwnOfParts root (1 - free) (parts_with w.root p e parts) m) → IsStoreWith (record { root = root; slot = free; entries = entries }) cache b m
   enters_store root entries stored m root_is more kept done =
       store_next _ _ cache b is_next root root_is free entries m
       (more ∙ (ap (λ (s : StoredEntry). w.entries ++ s ∷ []) (kept a keeps_now place_now) ∙ entries_next w a b cache p e number keeps_now place_now parent enters))
       (done (parts_of a cache) own_now room_now)
 
 -- A command that makes an archive of another one makes each that it comes to.
-pub changes_so : {D : Type 0} {content : D → Option Content} {moment : D → ℕ} {left_since : D → ℕ → Files → Type 0} {faults reads : D → ℕ} {old new : D} {before after : View} {way : Way} {Makes Other : Archive → Archive → Type 0} {result : Result (Unit {0}) StoreRefusal} → ((a b : Archive) → Keeps before a → Makes a b → Other a b)
+pub changes_so : {D : Type 0} {content : D → Option Content} {moment : D → ℕ} {left_since : D → ℕ → Files → Type 0} {faults reads : D → ℕ} {old new : D} {before after : StoreState} {way : WriteKind} {Makes Other : Archive → Archive → Type 0} {result : Result (Unit {0}) StoreRefusal} → ((a b : Archive) → KeepsArchive before a → Makes a b → Other a b)
     → ChangesStore content moment left_since faults reads old new before after way Other result → ChangesStore content moment left_since faults reads old new before after way Makes result
 changes_so {content = content} {old = old} {before = before} so changes = record {
-  any_moment = λ a b cache store room makes. changes.any_moment a b cache store room (so a b (store_keeps before cache a (content old) store) makes);
+  crash = λ a b cache store room makes. changes.crash a b cache store room (so a b (store_keeps before cache a (content old) store) makes);
   done = λ a b cache store room makes. changes.done a b cache store room (so a b (store_keeps before cache a (content old) store) makes);
   settled = changes.settled;
   sizes = changes.sizes;
@@ -162,6 +162,6 @@ changes_so {content = content} {old = old} {before = before} so changes = record
   cause = changes.cause;
   count = changes.count;
   rooted = changes.rooted;
-  between = changes.between;
+  crash_between = changes.crash_between;
   damage = changes.damage;
 }

@@ -13,8 +13,8 @@ use Rattle.store_finding.specs.declared.entries.StoredEntry.{StoredEntry}
 use Rattle.store_planning.specs.declared.next.End.{End}
 use Rattle.arch_model.proofs.ValidArchives.{none_later, all_weaker}
 use Rattle.store_finding.specs.Recovery.{bytes_in}
-use Rattle.store_finding.specs.Kept.{View, Keeps}
-use Rattle.store_planning.specs.Dropping.{IsEnd}
+use Rattle.store_finding.specs.Kept.{StoreState, KeepsArchive}
+use Rattle.store_planning.specs.Dropping.{IsStoreEnd}
 use Rattle.epoch_store.specs.Commands.{IsNextPlace, next_sequence, place_of}
 use Rattle.store_finding.proofs.Lasts.{none_in}
 use Rattle.store_planning.proofs.Ends.{end_none, end_last}
@@ -35,20 +35,20 @@ longer epoch len limit low more =
     rw (other_test epoch 63 (λ is. absurd (omega (arith, low, is)))) test
 
 -- The generation of a file with bytes, and of a new one.
-gen_old : (v : View) (a : Archive) (epoch : ℕ) → Keeps v a → epoch ≤ 63 → bytes_in a epoch ≢ [] → (place_of v.root epoch None).gen_ ≡ (get_or v.root.epochs epoch no_place).gen_
+gen_old : (v : StoreState) (a : Archive) (epoch : ℕ) → KeepsArchive v a → epoch ≤ 63 → bytes_in a epoch ≢ [] → (place_of v.root epoch None).generation ≡ (get_or v.root.epochs epoch no_place).generation
 gen_old v a epoch keeps small some =
     let is = keeps.names.epochs epoch (omega (arith, small)) in
     rw (other_test (get_or v.root.epochs epoch no_place).length 0 (λ zero_is. some (nil_from_length (bytes_in a epoch) (sym is ∙ zero_is)))) refl
 
-gen_new : (v : View) (a : Archive) (epoch : ℕ) → Keeps v a → epoch ≤ 63 → bytes_in a epoch ≡ [] → (place_of v.root epoch None).gen_ ≡ next_sequence v.root.sequence
+gen_new : (v : StoreState) (a : Archive) (epoch : ℕ) → KeepsArchive v a → epoch ≤ 63 → bytes_in a epoch ≡ [] → (place_of v.root epoch None).generation ≡ next_sequence v.root.sequence
 gen_new v a epoch keeps small none =
     let is = keeps.names.epochs epoch (omega (arith, small)) in
     rw (same_test (get_or v.root.epochs epoch no_place).length 0 (is ∙ ap length none)) refl
 
-pub end_of_none : (v : View) (a : Archive) → Keeps v a → v.entries ≡ [] → IsEnd a (record { epoch = 0; parent = None })
+pub end_of_none : (v : StoreState) (a : Archive) → KeepsArchive v a → v.entries ≡ [] → IsStoreEnd a (record { epoch = 0; parent = None })
 end_of_none v a keeps none = end_none v.entries a keeps.kept none
 
-pub end_of_last : (v : View) (a : Archive) → Keeps v a → (last : StoredEntry) → slice_get v.entries (length v.entries - 1) ≡ Some last → IsEnd a (record { epoch = last.epoch; parent = Some last.seen.commit })
+pub end_of_last : (v : StoreState) (a : Archive) → KeepsArchive v a → (last : StoredEntry) → slice_get v.entries (length v.entries - 1) ≡ Some last → IsStoreEnd a (record { epoch = last.epoch; parent = Some last.seen.commit })
 end_of_last v a keeps last is = end_last v.entries a keeps.valid.order keeps.kept last is
 
 -- The epoch of the next entry.
@@ -64,7 +64,7 @@ pub none_after : (a : Archive) → in_epoch a.entries (last_epoch a.entries + 1)
 none_after a = none_in a.entries (last_epoch a.entries + 1) (all_weaker (λ (e : Entry). e.epoch ≤ last_epoch a.entries) (λ (e : Entry). e.epoch < last_epoch a.entries + 1) a.entries (λ e less. omega (arith, less)) (none_later a.entries))
 
 -- Where the next entry is written if it is in the last epoch.
-pub next_here : (v : View) (a : Archive) (end_ : End) → Keeps v a → IsEnd a end_ → end_.epoch ≤ 63 → (end_.epoch ≡ 63) ⊎ ((get_or v.root.epochs end_.epoch no_place).length < v.root.config.limit)
+pub next_here : (v : StoreState) (a : Archive) (end_ : End) → KeepsArchive v a → IsStoreEnd a end_ → end_.epoch ≤ 63 → (end_.epoch ≡ 63) ⊎ ((get_or v.root.epochs end_.epoch no_place).length < v.root.config.limit)
     → IsNextPlace v.root a (next_sequence v.root.sequence) (place_of v.root end_.epoch end_.parent)
 next_here v a end_ keeps is small takes = record {
   epoch = is.epoch ∙ sym (taken (subst (λ (e : ℕ). (e ≡ 63) ⊎ ((get_or v.root.epochs e no_place).length < v.root.config.limit)) is.epoch takes));
@@ -81,7 +81,7 @@ next_here v a end_ keeps is small takes = record {
       epoch_here a (inr short)
 
 -- Where the next entry is written if it is in a new epoch.
-pub next_after : (v : View) (a : Archive) (end_ : End) → Keeps v a → IsEnd a end_ → end_.epoch < 63 → v.root.config.limit ≤ (get_or v.root.epochs end_.epoch no_place).length
+pub next_after : (v : StoreState) (a : Archive) (end_ : End) → KeepsArchive v a → IsStoreEnd a end_ → end_.epoch < 63 → v.root.config.limit ≤ (get_or v.root.epochs end_.epoch no_place).length
     → IsNextPlace v.root a (next_sequence v.root.sequence) (place_of v.root (end_.epoch + 1) None)
 next_after v a end_ keeps is small full =
     let below : end_.epoch + 1 ≤ 63 = omega (arith, small) in

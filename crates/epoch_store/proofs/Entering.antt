@@ -7,15 +7,15 @@ use Rattle.arch_base.specs.declared.ids.Id20.{Id20}
 use Rattle.disk_model.specs.declared.name.FileKind.{FileKind}
 use Rattle.disk_model.specs.declared.name.FileKind.TheVariants as kind
 use Rattle.disk_model.specs.declared.name.FileName.{FileName}
-use Rattle.disk_model.specs.Beside.{Respects, RunsBeside}
-use Rattle.disk_model.specs.Disk.{File, Files, Content, Told, WhereTold, OneFile, Wrote, IsAtMostLength, LeavesOnly, bytes_of}
+use Rattle.disk_model.specs.Beside.{RespectsBound, RunsBeside}
+use Rattle.disk_model.specs.Disk.{File, Files, Content, BothTold, WhereTold, OneFile, Wrote, IsAtMostLength, LeavesOnly, bytes_of}
 use Rattle.disk_model.specs.Images.{same_or_other}
 use Rattle.disk_model.specs.Moments.{weaker}
 use Rattle.disk_model.specs.Tells.{told_then, told_weaker, told_where}
 use Rattle.git_objects.specs.Objects.{blob_id_of, blob_spelling}
 use Rattle.git_objects.specs.declared.entry_kind.EntryKind.{EntryKind}
 use Rattle.git_objects.specs.declared.entry_kind.EntryKind.TheVariants.{Message, Deletion}
-use Rattle.git_objects.proofs.ObjectIds.{IsId-id_of}
+use Rattle.git_objects.proofs.ObjectIds.{IsObjectId-id_of}
 use Rattle.mail_commits.specs.Entries.{entry_bytes}
 use Rattle.number_map.specs.Sizes.{record_length}
 use Rattle.epoch_file.specs.Entries.{EpochEntry, bytes_after}
@@ -28,10 +28,10 @@ use Rattle.root_slots.specs.Between.{RunsBetween, joined_between}
 use Rattle.root_slots.specs.Sizes.{sequence-spelling}
 use Rattle.root_slots.specs.Slots.{HasNewRoot, HasRootSize, with_root}
 use Rattle.root_slots.specs.Valid.{IsRoot, RootFits, no_place}
-use Rattle.root_change.specs.Changing.{ReadsAs, Becomes}
+use Rattle.root_change.specs.Changing.{ReadsAsTexts, BecomesRoot}
 use Rattle.root_change.specs.Copying.{Added}
 use Rattle.root_change.specs.Names.{map_name, epoch_name, place_of, has_place, named_by, names_file, named_end, named_none, named_some, bounds_of}
-use Rattle.root_change.specs.Parts.{Parts, texts_of, PartsFit, RecoversBy, IsOwn}
+use Rattle.root_change.specs.Parts.{Parts, texts_of, PartsFit, RecoversPartsBy, IsOwnOfParts}
 use Rattle.root_change.specs.Replacing.{ToReplace, StandsForEither}
 use Rattle.root_change.specs.Texts.{Texts, IsOn, OnDisk, HasPartSizes, KeepsNamed}
 use Rattle.root_change.proofs.Changes.{text_named, text_unnamed, parts_measure, writing_by, to_replace, changing_by, changed}
@@ -43,15 +43,15 @@ use Rattle.root_change.proofs.Roots.{equal_or_not, same_test, other_test, set_he
 use Rattle.root_change.proofs.Sizes.{end_at_most, end_respects}
 use Rattle.store_planning.specs.declared.next.NextPlace.{NextPlace}
 use Rattle.epoch_store.specs.Entering.{numbers_by, line_by, line_of, root_after, root_with, parts_with, Entered, RecoversEntered}
-use Rattle.epoch_store.specs.Commands.{next_sequence, GoesOn}
+use Rattle.epoch_store.specs.Commands.{next_sequence, RootGoesOn}
 use Rattle.epoch_store.specs.Commands.{place_of as place_at}
 
 -- Bytes that are written at the end of those of a file are added to it, if the disk tells its content.
-pub wrote_told : (bytes : List ℕ) (to : FileName) (end_ : ℕ) (k m : Option Content) → 0 < length bytes → WhereTold (IsAtMostLength to end_) k → Told (OneFile to (Wrote end_ bytes)) k m → Told (Added bytes to end_) k m
+pub wrote_told : (bytes : List ℕ) (to : FileName) (end_ : ℕ) (k m : Option Content) → 0 < length bytes → WhereTold (IsAtMostLength to end_) k → BothTold (OneFile to (Wrote end_ bytes)) k m → BothTold (Added bytes to end_) k m
 wrote_told bytes to end_ k m some inside = told_weaker (OneFile to (Wrote end_ bytes)) (Added bytes to end_) k m (λ a b is it one. wrote_added bytes to end_ a b some (subst (WhereTold (IsAtMostLength to end_)) is inside) one)
 
 -- No bytes are added by no call.
-pub nothing_told : (to : FileName) (end_ : ℕ) (k : Option Content) → WhereTold (IsAtMostLength to end_) k → Told (Added [] to end_) k k
+pub nothing_told : (to : FileName) (end_ : ℕ) (k : Option Content) → WhereTold (IsAtMostLength to end_) k → BothTold (Added [] to end_) k k
 nothing_told to end_ None inside = tt
 nothing_told to end_ (Some k) inside = none_added to end_ k inside
 
@@ -68,75 +68,75 @@ appended_some at e = (let some = some_bytes e.parent (entry_of e) in omega (arit
 line_size : (root : Root) (p : NextPlace) (e : NewEntry) → length (line_of root p e) ≡ numbers_by e.kind * 28
 line_size root p e = by e.kind where
   by : (k : EntryKind) → length (line_by k root.next p.epoch (blob_id_of e.text.now)) ≡ numbers_by k * 28
-  by Message = record_length (record { number = root.next; epoch = p.epoch; blob = blob_id_of e.text.now }) (IsId-id_of (blob_spelling e.text.now)).len
+  by Message = record_length (record { number = root.next; epoch = p.epoch; blob = blob_id_of e.text.now }) (IsObjectId-id_of (blob_spelling e.text.now)).len
   by Deletion = refl
 
 -- The map's bytes that count end where its records do.
-map_end : (root : Root) → named_end root (map_name root.map.gen_) ≡ root.map.length
-map_end root = named_some root (map_name root.map.gen_) (map_is_named root root.map.gen_ refl)
+map_end : (root : Root) → named_end root (map_name root.map.generation) ≡ root.map.length
+map_end root = named_some root (map_name root.map.generation) (map_is_named root root.map.generation refl)
 
-pub map_respects : (root : Root) → Respects (bounds_of root (map_name root.map.gen_)) root.map.length
-map_respects root = subst (λ (n : ℕ). Respects (bounds_of root (map_name root.map.gen_)) n) (map_end root) (end_respects root (map_name root.map.gen_) (map_isnt_root root.map.gen_))
+pub map_respects : (root : Root) → RespectsBound (bounds_of root (map_name root.map.generation)) root.map.length
+map_respects root = subst (λ (n : ℕ). RespectsBound (bounds_of root (map_name root.map.generation)) n) (map_end root) (end_respects root (map_name root.map.generation) (map_isnt_root root.map.generation))
 
 -- The place of the next entry.
 module _ (root : Root) (p : NextPlace) (is : p ≡ place_at root p.epoch p.parent) (small : p.epoch ≤ 63) where
   abbrev was : Place
   was = place_of root kind.Epoch p.epoch
 
-  gens : p.gen_ ≡ (if was.length == 0 then next_sequence root.sequence else was.gen_)
-  gens = ap (λ (q : NextPlace). q.gen_) is
+  gens : p.generation ≡ (if was.length == 0 then next_sequence root.sequence else was.generation)
+  gens = ap (λ (q : NextPlace). q.generation) is
 
   length_is : p.length ≡ was.length
   length_is = ap (λ (q : NextPlace). q.length) is
 
-  gen_kept : 0 < was.length → p.gen_ ≡ was.gen_
-  gen_kept some = gens ∙ ap (λ (b : Bool). if b then next_sequence root.sequence else was.gen_) (other_test was.length 0 (λ none. absurd (omega (arith, some, none))))
+  gen_kept : 0 < was.length → p.generation ≡ was.generation
+  gen_kept some = gens ∙ ap (λ (b : Bool). if b then next_sequence root.sequence else was.generation) (other_test was.length 0 (λ none. absurd (omega (arith, some, none))))
 
-  gen_fresh : was.length ≡ 0 → p.gen_ ≡ next_sequence root.sequence
-  gen_fresh none = gens ∙ ap (λ (b : Bool). if b then next_sequence root.sequence else was.gen_) (same_test was.length 0 none)
+  gen_fresh : was.length ≡ 0 → p.generation ≡ next_sequence root.sequence
+  gen_fresh none = gens ∙ ap (λ (b : Bool). if b then next_sequence root.sequence else was.generation) (same_test was.length 0 none)
 
   -- The bytes of its file that count end there, so it respects the bounds of the root.
-  pub place_end : named_end root (epoch_name p.epoch p.gen_) ≡ p.length
+  pub place_end : named_end root (epoch_name p.epoch p.generation) ≡ p.length
   place_end = elim (cases_lt 0 was.length) [
-    | inl some ↦ named_some root (epoch_name p.epoch p.gen_) (epoch_is_named root p.epoch p.gen_ (omega (arith, small)) some (sym (gen_kept some))) ∙ sym length_is
-    | inr none ↦ (let most : named_end root (epoch_name p.epoch p.gen_) ≤ was.length = end_at_most root (epoch_name p.epoch p.gen_) in omega (arith, none, most, length_is))
+    | inl some ↦ named_some root (epoch_name p.epoch p.generation) (epoch_is_named root p.epoch p.generation (omega (arith, small)) some (sym (gen_kept some))) ∙ sym length_is
+    | inr none ↦ (let most : named_end root (epoch_name p.epoch p.generation) ≤ was.length = end_at_most root (epoch_name p.epoch p.generation) in omega (arith, none, most, length_is))
   ]
 
-  pub place_respects : Respects (bounds_of root (epoch_name p.epoch p.gen_)) p.length
-  place_respects = subst (λ (n : ℕ). Respects (bounds_of root (epoch_name p.epoch p.gen_)) n) place_end (end_respects root (epoch_name p.epoch p.gen_) (epoch_isnt_root p.epoch p.gen_))
+  pub place_respects : RespectsBound (bounds_of root (epoch_name p.epoch p.generation)) p.length
+  place_respects = subst (λ (n : ℕ). RespectsBound (bounds_of root (epoch_name p.epoch p.generation)) n) place_end (end_respects root (epoch_name p.epoch p.generation) (epoch_isnt_root p.epoch p.generation))
 
-  pub place_inside : (k : Option Content) → WhereTold (HasPartSizes root) k → WhereTold (IsAtMostLength (epoch_name p.epoch p.gen_) p.length) k
+  pub place_inside : (k : Option Content) → WhereTold (HasPartSizes root) k → WhereTold (IsAtMostLength (epoch_name p.epoch p.generation) p.length) k
   place_inside None sizes = tt
-  place_inside (Some k) sizes = subst (λ (n : ℕ). n ≤ length (bytes_of (k (epoch_name p.epoch p.gen_)).seen)) place_end (sizes.lengths (epoch_name p.epoch p.gen_) (epoch_isnt_root p.epoch p.gen_) (λ wrong. absurd cc))
+  place_inside (Some k) sizes = subst (λ (n : ℕ). n ≤ length (bytes_of (k (epoch_name p.epoch p.generation)).seen)) place_end (sizes.lengths (epoch_name p.epoch p.generation) (epoch_isnt_root p.epoch p.generation) (λ wrong. absurd cc))
 
   -- So the map has its bytes once the entry is there.
-  pub map_inside : (bytes : List ℕ) (k m : Option Content) → WhereTold (HasPartSizes root) k → Told (Added bytes (epoch_name p.epoch p.gen_) p.length) k m → WhereTold (IsAtMostLength (map_name root.map.gen_) root.map.length) m
+  pub map_inside : (bytes : List ℕ) (k m : Option Content) → WhereTold (HasPartSizes root) k → BothTold (Added bytes (epoch_name p.epoch p.generation) p.length) k m → WhereTold (IsAtMostLength (map_name root.map.generation) root.map.length) m
   map_inside bytes k m sizes added =
-      told_where (Added bytes (epoch_name p.epoch p.gen_) p.length) (HasPartSizes root) (IsAtMostLength (map_name root.map.gen_) root.map.length) k m
+      told_where (Added bytes (epoch_name p.epoch p.generation) p.length) (HasPartSizes root) (IsAtMostLength (map_name root.map.generation) root.map.length) k m
       (λ a b it new_is one long.
-      let inside = long.lengths (map_name root.map.gen_) (map_isnt_root root.map.gen_) (λ wrong. absurd cc) in
-      let still = ap (λ (f : File). length (bytes_of f)) (one.others (map_name root.map.gen_) (λ same. epoch_isnt_map p.epoch p.gen_ root.map.gen_ (sym same))) in
+      let inside = long.lengths (map_name root.map.generation) (map_isnt_root root.map.generation) (λ wrong. absurd cc) in
+      let still = ap (λ (f : File). length (bytes_of f)) (one.others (map_name root.map.generation) (λ same. epoch_isnt_map p.epoch p.generation root.map.generation (sym same))) in
       let end_ = map_end root in
       omega (arith, inside, still, end_)) added sizes
 
   -- The root after an entry there goes on from the one before.
-  pub goes_on_after : (kind_ : EntryKind) (end_ : ℕ) → length root.epochs ≡ 64 → GoesOn root (root_after root kind_ p end_)
+  pub goes_on_after : (kind_ : EntryKind) (end_ : ℕ) → length root.epochs ≡ 64 → RootGoesOn root (root_after root kind_ p end_)
   goes_on_after kind_ end_ count = record {
     sequence = refl;
     map = refl;
     cache = refl;
     epochs = λ e below. elim (equal_or_not e p.epoch) [
       | inl at ↦ inr (elim (cases_lt 0 (place_of root kind.Epoch e).length) [
-        | inl some ↦ inl (some, new_gen e at ∙ (gen_kept (subst (λ (n : ℕ). 0 < (place_of root kind.Epoch n).length) at some) ∙ ap (λ (n : ℕ). (place_of root kind.Epoch n).gen_) (sym at)))
+        | inl some ↦ inl (some, new_gen e at ∙ (gen_kept (subst (λ (n : ℕ). 0 < (place_of root kind.Epoch n).length) at some) ∙ ap (λ (n : ℕ). (place_of root kind.Epoch n).generation) (sym at)))
         | inr none ↦ inr (omega (arith, none), new_gen e at ∙ gen_fresh (ap (λ (n : ℕ). (place_of root kind.Epoch n).length) (sym at) ∙ omega (arith, none)))
       ])
-      | inr apart ↦ inl (set_elsewhere root.epochs p.epoch (record { gen_ = p.gen_; length = end_ }) e apart)
+      | inr apart ↦ inl (set_elsewhere root.epochs p.epoch (record { generation = p.generation; length = end_ }) e apart)
     ];
   } where
-    new_gen : (e : ℕ) → e ≡ p.epoch → (get_or (set root.epochs p.epoch (record { gen_ = p.gen_; length = end_ })) e no_place).gen_ ≡ p.gen_
+    new_gen : (e : ℕ) → e ≡ p.epoch → (get_or (set root.epochs p.epoch (record { generation = p.generation; length = end_ })) e no_place).generation ≡ p.generation
     new_gen e at =
-        ap (λ (n : ℕ). (get_or (set root.epochs p.epoch (record { gen_ = p.gen_; length = end_ })) n no_place).gen_) at
-        ∙ ap (λ (q : Place). q.gen_) (set_here root.epochs p.epoch (record { gen_ = p.gen_; length = end_ }) (omega (arith, count, small)))
+        ap (λ (n : ℕ). (get_or (set root.epochs p.epoch (record { generation = p.generation; length = end_ })) n no_place).generation) at
+        ∙ ap (λ (q : Place). q.generation) (set_here root.epochs p.epoch (record { generation = p.generation; length = end_ }) (omega (arith, count, small)))
 
   module _ (e : NewEntry) (count : length root.epochs ≡ 64) where
     -- The root after a new entry, and the files to which it was appended.
@@ -144,13 +144,13 @@ module _ (root : Root) (p : NextPlace) (is : p ≡ place_at root p.epoch p.paren
     new = root_with root p e
 
     abbrev place : Place
-    place = record { gen_ = p.gen_; length = p.length + length (appended p.length e) }
+    place = record { generation = p.generation; length = p.length + length (appended p.length e) }
 
     abbrev epoch : FileName
-    epoch = epoch_name p.epoch p.gen_
+    epoch = epoch_name p.epoch p.generation
 
     abbrev map : FileName
-    map = map_name root.map.gen_
+    map = map_name root.map.generation
 
     -- That root names both, and the one before the map's.
     new_place : place_of new kind.Epoch p.epoch ≡ place
@@ -160,13 +160,13 @@ module _ (root : Root) (p : NextPlace) (is : p ≡ place_at root p.epoch p.paren
     epoch_named =
         let some = appended_some p.length e in
         let size : (place_of new kind.Epoch p.epoch).length ≡ place.length = ap (λ (q : Place). q.length) new_place in
-        epoch_is_named new p.epoch p.gen_ (omega (arith, small)) (omega (arith, some, size)) (ap (λ (q : Place). q.gen_) new_place)
+        epoch_is_named new p.epoch p.generation (omega (arith, small)) (omega (arith, some, size)) (ap (λ (q : Place). q.generation) new_place)
 
     map_named : names_file new map ≡ true
-    map_named = map_is_named new root.map.gen_ refl
+    map_named = map_is_named new root.map.generation refl
 
     map_was_named : names_file root map ≡ true
-    map_was_named = map_is_named root root.map.gen_ refl
+    map_was_named = map_is_named root root.map.generation refl
 
     -- Each other file that it names is that of a part that stays.
     record IsOther (k : FileKind) (n g : ℕ) : Type 0 where
@@ -180,7 +180,7 @@ module _ (root : Root) (p : NextPlace) (is : p ≡ place_at root p.epoch p.paren
     other_file kind.Map n g there not_epoch not_map = absurd (not_map (named_map new n g there))
     other_file kind.Epoch n g there not_epoch not_map = elim (equal_or_not n p.epoch) [
       | inl at ↦
-          let gen_is : g ≡ p.gen_ = named_epoch new n g there ∙ (ap (λ (m : ℕ). (place_of new kind.Epoch m).gen_) at ∙ ap (λ (q : Place). q.gen_) new_place) in
+          let gen_is : g ≡ p.generation = named_epoch new n g there ∙ (ap (λ (m : ℕ). (place_of new kind.Epoch m).generation) at ∙ ap (λ (q : Place). q.generation) new_place) in
           absurd (not_epoch (ap (λ (m : ℕ). named kind.Epoch m g) at ∙ ap (named kind.Epoch p.epoch) gen_is))
       | inr apart ↦
           let same = set_elsewhere root.epochs p.epoch place n apart in
@@ -196,7 +196,7 @@ module _ (root : Root) (p : NextPlace) (is : p ≡ place_at root p.epoch p.paren
     others_stay k m wrote name not_epoch not_map = wrote.line.others name not_map ∙ wrote.entry.others name not_epoch
 
     root_stays : (k m : Content) → Entered root p e k m → (m root_name).seen ≡ (k root_name).seen
-    root_stays k m wrote = others_stay k m wrote root_name (λ same. epoch_isnt_root p.epoch p.gen_ (sym same)) (λ same. map_isnt_root root.map.gen_ (sym same))
+    root_stays k m wrote = others_stay k m wrote root_name (λ same. epoch_isnt_root p.epoch p.generation (sym same)) (λ same. map_isnt_root root.map.generation (sym same))
 
     -- The files are as long as it says.
     end_there : (k m : Content) → HasPartSizes root k → Entered root p e k m → (name : FileName) → name ≢ root_name → name.kind ≢ kind.Cache → names_file new name ≡ true → named_end new name ≤ length (bytes_of (m name).seen)
@@ -204,7 +204,7 @@ module _ (root : Root) (p : NextPlace) (is : p ≡ place_at root p.epoch p.paren
       | inl same ↦ subst (λ (f : FileName). named_end new f ≤ length (bytes_of (m f).seen)) (sym same) (
           let size = named_some new epoch epoch_named ∙ ap (λ (q : Place). q.length) new_place in
           let reached = wrote.entry.reaches in
-          let still = ap (λ (f : File). length (bytes_of f)) (wrote.line.others epoch (epoch_isnt_map p.epoch p.gen_ root.map.gen_)) in
+          let still = ap (λ (f : File). length (bytes_of f)) (wrote.line.others epoch (epoch_isnt_map p.epoch p.generation root.map.generation)) in
           omega (arith, size, reached, still)
           )
       | inr not_epoch ↦ elim (same_or_other map name) [
@@ -215,7 +215,7 @@ module _ (root : Root) (p : NextPlace) (is : p ≡ place_at root p.epoch p.paren
             omega (arith, size, reached, more)
             )
         | inr not_map ↦
-            let one = other_file name.kind name.number name.gen_ there not_epoch not_map in
+            let one = other_file name.kind name.number name.generation there not_epoch not_map in
             let now = named_some new name there ∙ ap (λ (q : Place). q.length) one.place_is in
             let before = named_some root name one.was_named in
             let inside = sizes.lengths name apart no_cache in
@@ -233,17 +233,17 @@ module _ (root : Root) (p : NextPlace) (is : p ≡ place_at root p.epoch p.paren
       ];
     }
 
-    pub sizes_after : (k m n : Option Content) → WhereTold (HasPartSizes root) k → Told (Entered root p e) k m → Told (KeepsNamed new) m n → WhereTold (HasPartSizes new) n
+    pub sizes_after : (k m n : Option Content) → WhereTold (HasPartSizes root) k → BothTold (Entered root p e) k m → BothTold (KeepsNamed new) m n → WhereTold (HasPartSizes new) n
     sizes_after k m n sizes wrote kept =
         let Keeps : Content → Content → Type 0 = λ a b. HasPartSizes root a → HasPartSizes new b in
         told_where Keeps (HasPartSizes root) (HasPartSizes new) k n (λ a b it is keeps. keeps)
         (told_then (Entered root p e) (KeepsNamed new) Keeps k m n (λ a b d it is one two was_. kept_sizes a b d was_ one two) wrote kept) sizes
 
     -- The root file is as before, and has only the next root once it is committed.
-    pub root_sized : (k m : Option Content) → WhereTold (HasPartSizes root) k → Told (Entered root p e) k m → WhereTold HasRootSize m
+    pub root_sized : (k m : Option Content) → WhereTold (HasPartSizes root) k → BothTold (Entered root p e) k m → WhereTold HasRootSize m
     root_sized k m sizes wrote = told_where (Entered root p e) (HasPartSizes root) HasRootSize k m (λ a b it is one sized. ap (λ (f : File). length (bytes_of f)) (root_stays a b one) ∙ sized.root_file) wrote sizes
 
-    pub rooted_after : (free : ℕ) (body : List ℕ) (k m n : Option Content) → Told (Entered root p e) k m → Told (HasNewRoot free body) m n → Told (HasNewRoot free body) k n
+    pub rooted_after : (free : ℕ) (body : List ℕ) (k m n : Option Content) → BothTold (Entered root p e) k m → BothTold (HasNewRoot free body) m n → BothTold (HasNewRoot free body) k n
     rooted_after free body k m n = told_then (Entered root p e) (HasNewRoot free body) (HasNewRoot free body) k m n (λ a b d it is one two. two ∙ ap (λ (f : File). Some (with_root free body (bytes_of f))) (root_stays a b one))
 
     module _ (parts : Parts) (long : PartsFit root parts) where
@@ -289,15 +289,15 @@ module _ (root : Root) (p : NextPlace) (is : p ≡ place_at root p.epoch p.paren
         -- What both files read then.
         epoch_reads : bytes_of (m epoch).seen ≡ next kind.Epoch p.epoch
         epoch_reads =
-            let apart = epoch_isnt_root p.epoch p.gen_ in
-            ap bytes_of (wrote.line.others epoch (epoch_isnt_map p.epoch p.gen_ root.map.gen_))
+            let apart = epoch_isnt_root p.epoch p.generation in
+            ap bytes_of (wrote.line.others epoch (epoch_isnt_map p.epoch p.generation root.map.generation))
             ∙ (wrote.entry.there (measured epoch apart ∙ place_end)
             ∙ (ap (λ (text : List ℕ). text ++ appended p.length e) (on.exact.ends epoch apart ∙ epoch_text) ∙ sym next_here))
 
         map_reads : bytes_of (m map).seen ≡ next kind.Map 0
         map_reads =
-            let apart = map_isnt_root root.map.gen_ in
-            let still : bytes_of (wrote.between map).seen ≡ bytes_of (k map).seen = ap bytes_of (wrote.entry.others map (λ same. epoch_isnt_map p.epoch p.gen_ root.map.gen_ (sym same))) in
+            let apart = map_isnt_root root.map.generation in
+            let still : bytes_of (wrote.crash_between map).seen ≡ bytes_of (k map).seen = ap bytes_of (wrote.entry.others map (λ same. epoch_isnt_map p.epoch p.generation root.map.generation (sym same))) in
             wrote.line.there (ap length still ∙ (measured map apart ∙ map_end root))
             ∙ ap (λ (text : List ℕ). text ++ line_of root p e) (still ∙ (on.exact.ends map apart ∙ text_named root parts map map_was_named))
 
@@ -305,7 +305,7 @@ module _ (root : Root) (p : NextPlace) (is : p ≡ place_at root p.epoch p.paren
         abbrev so_far : Texts
         so_far name = bytes_of (m name).seen
 
-        reads_so_far : ReadsAs root so_far m
+        reads_so_far : ReadsAsTexts root so_far m
         reads_so_far = record {
           bytes = λ name apart. refl;
           no_other = λ name isnt none. elim (same_or_other epoch name) [
@@ -321,7 +321,7 @@ module _ (root : Root) (p : NextPlace) (is : p ≡ place_at root p.epoch p.paren
           ];
         }
 
-        becomes_next : Becomes root so_far new (texts_of new next)
+        becomes_next : BecomesRoot root so_far new (texts_of new next)
         becomes_next = record {
           later = (let before = sequence-spelling root fits.sequence in omega (arith, before, room));
           measures = parts_measure new next parts_long;
@@ -330,7 +330,7 @@ module _ (root : Root) (p : NextPlace) (is : p ≡ place_at root p.epoch p.paren
             | inr not_epoch ↦ elim (same_or_other map name) [
               | inl same ↦ subst (λ (f : FileName). so_far f ≡ texts_of new next f) (sym same) (map_reads ∙ sym (text_named new next map map_named))
               | inr not_map ↦
-                  let one = other_file name.kind name.number name.gen_ there not_epoch not_map in
+                  let one = other_file name.kind name.number name.generation there not_epoch not_map in
                   ap bytes_of (others_stay k m wrote name not_epoch not_map)
                   ∙ (on.exact.ends name apart ∙ (text_named root parts name one.was_named ∙ (sym (one.part_is parts) ∙ sym (text_named new next name there))))
             ]
@@ -349,14 +349,14 @@ module _ (root : Root) (p : NextPlace) (is : p ≡ place_at root p.epoch p.paren
       reading None name = []
       reading (Some m) name = bytes_of (m name).seen
 
-      entered_told : (free : ℕ) (k m : Option Content) (made : Root) → RootFits root → root.sequence + 1 < 2 ^ 64 → made ≡ new → OnDisk root free texts k → Told (Entered root p e) k m → WhereTold (ReadsAs root (reading m)) m × Becomes root (reading m) made (texts_of made next)
+      entered_told : (free : ℕ) (k m : Option Content) (made : Root) → RootFits root → root.sequence + 1 < 2 ^ 64 → made ≡ new → OnDisk root free texts k → BothTold (Entered root p e) k m → WhereTold (ReadsAsTexts root (reading m)) m × BecomesRoot root (reading m) made (texts_of made next)
       entered_told free None m made fits room made_is on wrote = absurd on
       entered_told free (Some k) None made fits room made_is on wrote = absurd wrote
-      entered_told free (Some k) (Some m) made fits room made_is on wrote = (reads_so_far fits room free k m on wrote, subst (λ (r : Root). Becomes root (so_far fits room free k m on wrote) r (texts_of r next)) (sym made_is) (becomes_next fits room free k m on wrote))
+      entered_told free (Some k) (Some m) made fits room made_is on wrote = (reads_so_far fits room free k m on wrote, subst (λ (r : Root). BecomesRoot root (so_far fits room free k m on wrote) r (texts_of r next)) (sym made_is) (becomes_next fits room free k m on wrote))
 
     -- What a crash leaves while the root is replaced, and what the disk is then.
-    module _ {D : Type 0} (content : D → Option Content) (moment : D → ℕ) (left_since : D → ℕ → Files → Type 0) (disk d1 d2 : D) (free : ℕ) (run : RunsBeside content moment left_since (bounds_of root) disk d1) (wrote : Told (Entered root p e) (content disk) (content d1)) (made : Root) (made_is : made ≡ new) (valid : IsRoot made) (fits : RootFits made) (parts : Parts) (own : IsOwn root free parts (content disk)) (room : root.sequence + 1 < 2 ^ 64) where
-      written : WhereTold (ReadsAs root (reading parts own.long (content d1))) (content d1) × Becomes root (reading parts own.long (content d1)) made (texts_of made (parts_with root p e parts))
+    module _ {D : Type 0} (content : D → Option Content) (moment : D → ℕ) (left_since : D → ℕ → Files → Type 0) (disk d1 d2 : D) (free : ℕ) (run : RunsBeside content moment left_since (bounds_of root) disk d1) (wrote : BothTold (Entered root p e) (content disk) (content d1)) (made : Root) (made_is : made ≡ new) (valid : IsRoot made) (fits : RootFits made) (parts : Parts) (own : IsOwnOfParts root free parts (content disk)) (room : root.sequence + 1 < 2 ^ 64) where
+      written : WhereTold (ReadsAsTexts root (reading parts own.long (content d1))) (content d1) × BecomesRoot root (reading parts own.long (content d1)) made (texts_of made (parts_with root p e parts))
       written = entered_told parts own.long free (content disk) (content d1) made own.fits room made_is own.on wrote
 
       made_long : PartsFit made (parts_with root p e parts)
@@ -368,15 +368,15 @@ module _ (root : Root) (p : NextPlace) (is : p ≡ place_at root p.epoch p.paren
           (changing_by free root made parts (parts_with root p e parts) content moment left_since disk d1 own run (reading parts own.long (content d1)) written.0 written.1 valid fits made_long d2 replaces)
           (λ image either. elim either [ inl stands ↦ inl stands | inr stands ↦ inr (made, made_is, stands) ])
 
-      pub entered_done : ((old nexts : Texts) → ToReplace free root old made nexts (content d1) → OnDisk made (1 - free) nexts (content d2)) → IsOwn made (1 - free) (parts_with root p e parts) (content d2)
+      pub entered_done : ((old nexts : Texts) → ToReplace free root old made nexts (content d1) → OnDisk made (1 - free) nexts (content d2)) → IsOwnOfParts made (1 - free) (parts_with root p e parts) (content d2)
       entered_done done =
           changed free root made parts (parts_with root p e parts) content moment left_since disk d1 own run (reading parts own.long (content d1)) written.0 written.1 valid fits made_long d2
           (done (texts_of root parts) (texts_of made (parts_with root p e parts)) (to_replace free root made parts (parts_with root p e parts) content moment left_since disk d1 own run (reading parts own.long (content d1)) written.0 written.1 valid fits made_long))
 
 -- What a crash leaves while files are written beside the root.
-pub stopped_leaves : {D : Type 0} (content : D → Option Content) (moment : D → ℕ) (left_since : D → ℕ → Files → Type 0) (root : Root) (p : NextPlace) (e : NewEntry) (free : ℕ) (disk d1 : D) → RunsBeside content moment left_since (bounds_of root) disk d1 → (parts : Parts) → IsOwn root free parts (content disk) → LeavesOnly moment left_since disk d1 (RecoversEntered root p e parts)
+pub stopped_leaves : {D : Type 0} (content : D → Option Content) (moment : D → ℕ) (left_since : D → ℕ → Files → Type 0) (root : Root) (p : NextPlace) (e : NewEntry) (free : ℕ) (disk d1 : D) → RunsBeside content moment left_since (bounds_of root) disk d1 → (parts : Parts) → IsOwnOfParts root free parts (content disk) → LeavesOnly moment left_since disk d1 (RecoversEntered root p e parts)
 stopped_leaves content moment left_since root p e free disk d1 run parts own =
-    weaker moment left_since disk d1 (RecoversBy root parts) (RecoversEntered root p e parts) (writing_by free root root parts parts content moment left_since disk d1 own run) (λ image stands. inl stands)
+    weaker moment left_since disk d1 (RecoversPartsBy root parts) (RecoversEntered root p e parts) (writing_by free root root parts parts content moment left_since disk d1 own run) (λ image stands. inl stands)
 
 -- The bytes of the root file between its gates and its bodies, while files are written beside a root and it is replaced.
 pub replaced_between : {D : Type 0} (content : D → Option Content) (moment : D → ℕ) (left_since : D → ℕ → Files → Type 0) (root : Root) (disk mid new : D) → RunsBeside content moment left_since (bounds_of root) disk mid → RunsBetween content moment left_since mid new → RunsBetween content moment left_since disk new

@@ -20,7 +20,7 @@ use Rattle.epoch_file.specs.declared.entry.NewEntry.{NewEntry}
 use Rattle.epoch_file.specs.declared.entry.Seen.{Seen}
 use Rattle.epoch_file.specs.declared.entry.Written.{Written}
 use Rattle.epoch_file.specs.Entries.{bytes_after}
-use Rattle.epoch_file.specs.Lying.{LiesIn, tree_end}
+use Rattle.epoch_file.specs.Lying.{EntryLiesIn, tree_end}
 use Rattle.epoch_file.specs.Walking.{blob_front}
 use Rattle.epoch_file.proofs.Sizes.{length-entry}
 use Rattle.mail_commits.specs.Entries.{magic}
@@ -42,7 +42,7 @@ are_in_longer f g es longer are = record {
 }
 
 -- One more entry, which is written at the end of the last epoch or of a later one.
-pub are_in_more : (f g : ℕ → ℕ) (es : List StoredEntry) (e : StoredEntry) (end_ : ℕ) → ((x : ℕ) → f x ≤ g x) → end_ ≤ g e.epoch → AreUpToEpoch e.epoch es → LiesIn (f e.epoch) end_ e.seen → AreIn f es → AreIn g (es ++ e ∷ [])
+pub are_in_more : (f g : ℕ → ℕ) (es : List StoredEntry) (e : StoredEntry) (end_ : ℕ) → ((x : ℕ) → f x ≤ g x) → end_ ≤ g e.epoch → AreUpToEpoch e.epoch es → EntryLiesIn (f e.epoch) end_ e.seen → AreIn f es → AreIn g (es ++ e ∷ [])
 are_in_more f g es e end_ longer most last lies are =
     let at = lies.at in
     let ends = lies.ends in
@@ -64,12 +64,12 @@ pub up_to_later : (es : List StoredEntry) (epoch later : ℕ) → epoch ≤ late
 up_to_later es epoch later more all = all_weaker (λ (e : StoredEntry). e.epoch ≤ epoch) (λ (e : StoredEntry). e.epoch ≤ later) es (λ e less. omega (arith, less, more)) all
 
 -- A new entry lies at the end of its file.
-new_lies : (start : ℕ) (entry : NewEntry) (seen : Seen) (at front : ℕ) → at ≡ (if start == 0 then 8 else start) → front ≡ blob_front entry.text.now → seen.at ≡ at → seen.text_at ≡ at + front → seen.size ≡ length entry.text.now → LiesIn start (start + length (appended start entry)) seen
+new_lies : (start : ℕ) (entry : NewEntry) (seen : Seen) (at front : ℕ) → at ≡ (if start == 0 then 8 else start) → front ≡ blob_front entry.text.now → seen.at ≡ at → seen.text_at ≡ at + front → seen.size ≡ length entry.text.now → EntryLiesIn start (start + length (appended start entry)) seen
 new_lies start entry seen at front at_is front_is seen_at_is text_is size_is = by (start == 0) refl where
   more : length (appended start entry) ≡ length (front_at start) + length (bytes_after entry.parent (entry_of entry))
   more = length-append (front_at start) (bytes_after entry.parent (entry_of entry))
 
-  by : (t : Bool) → (start == 0) ≡ t → LiesIn start (start + length (appended start entry)) seen
+  by : (t : Bool) → (start == 0) ≡ t → EntryLiesIn start (start + length (appended start entry)) seen
   by true is =
       let none : start ≡ 0 = grind (arith, nat_tests, is) in
       let at_8 : at ≡ 8 = at_is ∙ ap (λ (b : Bool). if b then 8 else start) is in
@@ -81,15 +81,15 @@ new_lies start entry seen at front at_is front_is seen_at_is text_is size_is = b
       let size = length-entry entry.parent (entry_of entry) in
       record { at = omega (arith, at_same, seen_at_is); text = omega (arith, seen_at_is, text_is); ends = omega (arith, more, size, at_same, text_is, front_is, size_is) }
 
-pub written_lies : (start : ℕ) (entry : NewEntry) (seen : Seen) (at front : ℕ) (written : Written) → written ≡ written_of start entry → at ≡ (if start == 0 then 8 else start) → front ≡ blob_front entry.text.now → seen.at ≡ at → seen.text_at ≡ at + front → seen.size ≡ length entry.text.now → LiesIn start written.end seen
+pub written_lies : (start : ℕ) (entry : NewEntry) (seen : Seen) (at front : ℕ) (written : Written) → written ≡ written_of start entry → at ≡ (if start == 0 then 8 else start) → front ≡ blob_front entry.text.now → seen.at ≡ at → seen.text_at ≡ at + front → seen.size ≡ length entry.text.now → EntryLiesIn start written.end seen
 written_lies start entry seen at front written is at_is front_is seen_at_is text_is size_is =
-    subst (λ (w : Written). LiesIn start w.end seen) (sym is) (new_lies start entry seen at front at_is front_is seen_at_is text_is size_is)
+    subst (λ (w : Written). EntryLiesIn start w.end seen) (sym is) (new_lies start entry seen at front at_is front_is seen_at_is text_is size_is)
 
 -- The lengths that a root names after an entry was written in an epoch, which ends then at an offset.
-pub written_lengths : (epochs : List Place) (gen_ epoch end_ : ℕ) → epoch < length epochs → (get_or epochs epoch no_place).length ≤ end_
-    → ((e : ℕ) → (get_or epochs e no_place).length ≤ (get_or (set epochs epoch (record { gen_ = gen_; length = end_ })) e no_place).length) × (end_ ≤ (get_or (set epochs epoch (record { gen_ = gen_; length = end_ })) epoch no_place).length)
-written_lengths epochs gen_ epoch end_ within longer =
-    let place : Place = record { gen_ = gen_; length = end_ } in
+pub written_lengths : (epochs : List Place) (generation epoch end_ : ℕ) → epoch < length epochs → (get_or epochs epoch no_place).length ≤ end_
+    → ((e : ℕ) → (get_or epochs e no_place).length ≤ (get_or (set epochs epoch (record { generation = generation; length = end_ })) e no_place).length) × (end_ ≤ (get_or (set epochs epoch (record { generation = generation; length = end_ })) epoch no_place).length)
+written_lengths epochs generation epoch end_ within longer =
+    let place : Place = record { generation = generation; length = end_ } in
     let here : (get_or (set epochs epoch place) epoch no_place).length ≡ end_ = ap (λ (p : Place). p.length) (get_or-set_same epochs epoch place no_place within) in (
       λ e. elim (equal_or_not e epoch) [
         | inl same ↦
@@ -104,18 +104,18 @@ written_lengths epochs gen_ epoch end_ within longer =
     )
 
 -- What a store keeps then: one more entry, in the bytes that the new root names.
-pub named_more : (root new : Root) (gen_ end_ start : ℕ) (es : List StoredEntry) (e : StoredEntry) → length root.epochs ≡ 64 → e.epoch ≤ 63 → start ≡ named_length root e.epoch → new.epochs ≡ set root.epochs e.epoch (record { gen_ = gen_; length = end_ }) → AreUpToEpoch e.epoch es → LiesIn start end_ e.seen → AreNamed root es → AreNamed new (es ++ e ∷ [])
-named_more root new gen_ end_ start es e count low start_is new_is last lies are =
+pub named_more : (root new : Root) (generation end_ start : ℕ) (es : List StoredEntry) (e : StoredEntry) → length root.epochs ≡ 64 → e.epoch ≤ 63 → start ≡ named_length root e.epoch → new.epochs ≡ set root.epochs e.epoch (record { generation = generation; length = end_ }) → AreUpToEpoch e.epoch es → EntryLiesIn start end_ e.seen → AreNamed root es → AreNamed new (es ++ e ∷ [])
+named_more root new generation end_ start es e count low start_is new_is last lies are =
     let at = lies.at in
     let text = lies.text in
     let ends = lies.ends in
-    let so = written_lengths root.epochs gen_ e.epoch end_ (omega (arith, count, low)) (omega (arith, at, text, ends, start_is)) in
+    let so = written_lengths root.epochs generation e.epoch end_ (omega (arith, count, low)) (omega (arith, at, text, ends, start_is)) in
     subst (λ (places : List Place). AreIn (λ (x : ℕ). (get_or places x no_place).length) (es ++ e ∷ [])) (sym new_is)
-    (are_in_more (named_length root) (λ (x : ℕ). (get_or (set root.epochs e.epoch (record { gen_ = gen_; length = end_ })) x no_place).length) es e end_ so.0 so.1 last (subst (λ (n : ℕ). LiesIn n end_ e.seen) start_is lies) are)
+    (are_in_more (named_length root) (λ (x : ℕ). (get_or (set root.epochs e.epoch (record { generation = generation; length = end_ })) x no_place).length) es e end_ so.0 so.1 last (subst (λ (n : ℕ). EntryLiesIn n end_ e.seen) start_is lies) are)
 
 behind_long : (next : ℕ) (place : Place) (n : ℕ) → (place_behind next place n).length ≡ place.length + n
 behind_long next place n = by (nat_lt 0 place.length) refl where
-  by : (t : Bool) → nat_lt 0 place.length ≡ t → (if t then record { gen_ = place.gen_; length = place.length + n } else place_anew next n).length ≡ place.length + n
+  by : (t : Bool) → nat_lt 0 place.length ≡ t → (if t then record { generation = place.generation; length = place.length + n } else place_anew next n).length ≡ place.length + n
   by true is = refl
   by false is = let none : place.length ≡ 0 = grind (arith, nat_tests, is) in let anew = anew_long next n in omega (arith, none, anew)
 
@@ -155,10 +155,10 @@ more_planned root old new e piece anew is = by (plan_of old kind.Epoch e) refl w
 
 -- One more message is planned.
 pub planned_more : (root : Root) (old new : List Plan) (es : List StoredEntry) (e : StoredEntry) (piece : List ℕ) (start end_ : ℕ) → AreAnew old → plan_of new kind.Epoch e.epoch ≡ Some (with_bytes (unwrap_or (plan_of old kind.Epoch e.epoch) (no_plan kind.Epoch e.epoch Behind)) piece)
-    → ((x : ℕ) → x ≢ e.epoch → plan_of new kind.Epoch x ≡ plan_of old kind.Epoch x) → start ≡ length_planned root old e.epoch → end_ ≡ start + length piece → (LieFrom 0 0 es → AreUpToEpoch e.epoch es) → LiesIn start end_ e.seen → AreNamedAfter root old es → AreNamedAfter root new (es ++ e ∷ [])
+    → ((x : ℕ) → x ≢ e.epoch → plan_of new kind.Epoch x ≡ plan_of old kind.Epoch x) → start ≡ length_planned root old e.epoch → end_ ≡ start + length piece → (LieFrom 0 0 es → AreUpToEpoch e.epoch es) → EntryLiesIn start end_ e.seen → AreNamedAfter root old es → AreNamedAfter root new (es ++ e ∷ [])
 planned_more root old new es e piece start end_ anew own others start_is end_is last lies are =
     let here = more_planned root old new e.epoch piece anew own in
-    are_in_more (length_planned root old) (length_planned root new) es e end_ longer (omega (arith, here, start_is, end_is)) (last are.lie) (subst (λ (n : ℕ). LiesIn n end_ e.seen) start_is lies) are where
+    are_in_more (length_planned root old) (length_planned root new) es e end_ longer (omega (arith, here, start_is, end_is)) (last are.lie) (subst (λ (n : ℕ). EntryLiesIn n end_ e.seen) start_is lies) are where
       longer : (x : ℕ) → length_planned root old x ≤ length_planned root new x
       longer x = elim (equal_or_not x e.epoch) [
         | inl same ↦
@@ -183,9 +183,9 @@ named_after old plans next new es after low are = record { lie = are.lie; ends =
       (omega (arith, ends, long), by xs (λ i f here. in_ (suc i) f here) all.1)
 
 -- What a store keeps after an entry was written at the next place.
-pub written_named : (root new : Root) (p : NextPlace) (end_ : ℕ) (es : List StoredEntry) (e : StoredEntry) → length root.epochs ≡ 64 → p.epoch ≤ 63 → p ≡ place_of root p.epoch p.parent → new.epochs ≡ set root.epochs p.epoch (record { gen_ = p.gen_; length = end_ }) → e.epoch ≡ p.epoch → AreUpToEpoch p.epoch es → LiesIn p.length end_ e.seen
+pub written_named : (root new : Root) (p : NextPlace) (end_ : ℕ) (es : List StoredEntry) (e : StoredEntry) → length root.epochs ≡ 64 → p.epoch ≤ 63 → p ≡ place_of root p.epoch p.parent → new.epochs ≡ set root.epochs p.epoch (record { generation = p.generation; length = end_ }) → e.epoch ≡ p.epoch → AreUpToEpoch p.epoch es → EntryLiesIn p.length end_ e.seen
     → AreNamed root es → AreNamed new (es ++ e ∷ [])
 written_named root new p end_ es e count small place new_is epoch_is last lies are =
     let long : p.length ≡ named_length root e.epoch = ap (λ (q : NextPlace). q.length) place ∙ ap (named_length root) (sym epoch_is) in
-    named_more root new p.gen_ end_ p.length es e count (omega (arith, epoch_is, small)) long
-    (subst (λ (n : ℕ). new.epochs ≡ set root.epochs n (record { gen_ = p.gen_; length = end_ })) (sym epoch_is) new_is) (subst (λ (n : ℕ). AreUpToEpoch n es) (sym epoch_is) last) lies are
+    named_more root new p.generation end_ p.length es e count (omega (arith, epoch_is, small)) long
+    (subst (λ (n : ℕ). new.epochs ≡ set root.epochs n (record { generation = p.generation; length = end_ })) (sym epoch_is) new_is) (subst (λ (n : ℕ). AreUpToEpoch n es) (sym epoch_is) last) lies are

@@ -27,7 +27,7 @@ use Rattle.root_change.proofs.Roots.{other_test, same_test}
 use Rattle.number_map.specs.Records.{record_bytes}
 use Rattle.number_map.specs.Rewriting.{PlansMap, is_among, map_without, none_record, record_without}
 use Rattle.number_map.specs.declared.line.Record.{Record}
-use Rattle.number_map.specs.Walks.{BeginsWith}
+use Rattle.number_map.specs.Walks.{BeginsWithRecords}
 use Rattle.git_objects.specs.declared.entry_kind.EntryKind.{EntryKind}
 use Rattle.git_objects.specs.declared.entry_kind.EntryKind.TheVariants.{Message, Deletion}
 use Rattle.arch_model.specs.Archives.{Entry, Archive, in_epoch, is_message, messages, without_text, without_entries}
@@ -40,7 +40,7 @@ use Rattle.epoch_file.specs.Planning.{Planned, texts_in}
 use Rattle.store_finding.specs.Files.{map_file_of}
 use Rattle.store_planning.specs.Planning.{AreFrom, ClosesLast, FinishesPlans, IsCurrent, IsPlannedUpTo, Planning, PlansWithout, gone_of}
 use Rattle.store_finding.specs.Recovery.{bytes_in, entry_of, map_bytes, parts_of, record_for, records_from, records_of}
-use Rattle.store_finding.specs.Kept.{View, IsDiskWith, stored_after}
+use Rattle.store_finding.specs.Kept.{StoreState, IsDiskWith, stored_after}
 use Rattle.store_finding.proofs.Mapped.{map_length, records_few, records_valid}
 use Rattle.store_planning.proofs.Planned.{IsShut, each_plan, in_epoch_none, of_first, planned_none, shut, without_all}
 
@@ -172,7 +172,7 @@ by_plan t u root plans k n (Some p) before is from same =
     ap (bytes_by p.target before) (written_same t u (file_by root p.kind p.number) p (same (file_by root p.kind p.number) (part_isnt_root root p.kind p.number own.0)) own.1)
 
 -- The last epoch was closed.
-module _ (k : Content) (v : View) (cache : List ℕ) (a : Archive) (own : IsDiskWith v cache a k) (text : List ℕ) (old : Planning) (up : IsPlannedUpTo (texts_in k) v.root a a.entries text old) where
+module _ (k : Content) (v : StoreState) (cache : List ℕ) (a : Archive) (own : IsDiskWith v cache a k) (text : List ℕ) (old : Planning) (up : IsPlannedUpTo (texts_in k) v.root a a.entries text old) where
   all_shut : (current : Option Planned) → IsCurrent (texts_in k) v.root a.entries text current → (mid : Planning) → ClosesLast old current mid → IsShut (texts_in k) a a.entries text mid
   all_shut None none mid is = subst (IsShut (texts_in k) a a.entries text) (sym is) (record {
     entries = up.entries;
@@ -219,9 +219,9 @@ module _ (k : Content) (v : View) (cache : List ℕ) (a : Archive) (own : IsDisk
     map_text : texts_in k map ≡ map_bytes a
     map_text =
         ap (texts_in k) map_is
-        ∙ (reads (map_file_of v.root) (map_isnt_root v.root.map.gen_) ∙ text_named v.root (parts_of a cache) (map_file_of v.root) (map_is_named v.root v.root.map.gen_ refl))
+        ∙ (reads (map_file_of v.root) (map_isnt_root v.root.map.generation) ∙ text_named v.root (parts_of a cache) (map_file_of v.root) (map_is_named v.root v.root.map.generation refl))
 
-    begins : BeginsWith (records_of a) (texts_in k map)
+    begins : BeginsWithRecords (records_of a) (texts_in k map)
     begins =
         let long : 28 * length (records_of a) ≡ length (map_bytes a) = ap (λ (n : ℕ). 28 * n) (records_few a) ∙ sym (map_length a own.keeps.valid) in
         record {

@@ -4,9 +4,9 @@ use Rattle.std.specs.Int.{from_be_bytes, w64}
 use Rattle.std.proofs.Common.{◌∙◌, sym, ap, subst, inl, inr, arith}
 use Rattle.std.proofs.lemmas.List.{drop-replicate, get_or-replicate, length-replicate, take-replicate}
 use Rattle.std.proofs.lemmas.Bool.{cases_eq}
-use Rattle.disk_model.specs.Disk.{File, Files, Content, Told, WhereTold, bytes_of, overlay, ReadsFit}
+use Rattle.disk_model.specs.Disk.{File, Files, Content, BothTold, WhereTold, bytes_of, overlay, ReadsFit}
 use Rattle.disk_model.specs.Laws.{SameOutside, overlay-torn, overlay-size}
-use Rattle.disk_model.specs.Synced.{Writing, IsWritten}
+use Rattle.disk_model.specs.Synced.{WritingLeaves, IsWritten}
 use Rattle.disk_model.specs.Tells.{told_then, told_where}
 use Rattle.root_slots.specs.RootName.{root_name}
 use Rattle.root_slots.specs.Each.{IfThere, EachRoot, each_writing, each_written, elsewhere_before}
@@ -94,7 +94,7 @@ shut_there (Some file) there = there
 
 module _ (body : List ℕ) (whole : length body ≡ 1536) where
   -- While the body is written.
-  pub during_body : (k : Option Content) (image : Files) → ReadsFit k → WhereTold HasRootSize k → EachRoot AreZeros k → Writing root_name (body_offset 0) 1536 k image → ShutOrFirst body k image
+  pub during_body : (k : Option Content) (image : Files) → ReadsFit k → WhereTold HasRootSize k → EachRoot AreZeros k → WritingLeaves root_name (body_offset 0) 1536 k image → ShutOrFirst body k image
   during_body None image fit size each writing = absurd each
   during_body (Some k) image fit size each writing = record {
     root = inl (shut_there (image root_name) (each_writing AreZeros IsShut (body_offset 0) 1536 k image fit (omega (arith, size)) (omega arith) each (λ a b zeros. zeros_torn 4096 a zeros refl b) writing));
@@ -102,11 +102,11 @@ module _ (body : List ℕ) (whole : length body ≡ 1536) where
   }
 
   -- After the body is written.
-  pub body_filled : (k m : Option Content) → ReadsFit k → EachRoot AreZeros k → Told (IsWritten root_name (body_offset 0) body) k m → EachRoot (HasFirst body) m
+  pub body_filled : (k m : Option Content) → ReadsFit k → EachRoot AreZeros k → BothTold (IsWritten root_name (body_offset 0) body) k m → EachRoot (HasFirst body) m
   body_filled k m fit each written = each_written AreZeros (HasFirst body) (body_offset 0) body k m fit each (λ a zeros. zeros_filled 4096 a zeros refl body whole) written
 
   -- While the gate is opened.
-  pub during_gate : (k m : Option Content) (image : Files) → ReadsFit k → ReadsFit m → WhereTold HasRootSize m → Told (IsWritten root_name (body_offset 0) body) k m → EachRoot (HasFirst body) m → Writing root_name 0 1 m image → ShutOrFirst body k image
+  pub during_gate : (k m : Option Content) (image : Files) → ReadsFit k → ReadsFit m → WhereTold HasRootSize m → BothTold (IsWritten root_name (body_offset 0) body) k m → EachRoot (HasFirst body) m → WritingLeaves root_name 0 1 m image → ShutOrFirst body k image
   during_gate None None image fit fit2 size written each writing = tt
   during_gate None (Some m) image fit fit2 size written each writing = absurd written
   during_gate (Some k) None image fit fit2 size written each writing = absurd written
@@ -116,23 +116,23 @@ module _ (body : List ℕ) (whole : length body ≡ 1536) where
   }
 
   -- After the gate is opened.
-  pub gate_opened : (m n : Option Content) → ReadsFit m → 0 < sequence_of body → EachRoot (HasFirst body) m → Told (IsWritten root_name 0 (1 ∷ [])) m n → EachRoot (Ready 1 body) n
+  pub gate_opened : (m n : Option Content) → ReadsFit m → 0 < sequence_of body → EachRoot (HasFirst body) m → BothTold (IsWritten root_name 0 (1 ∷ [])) m n → EachRoot (Ready 1 body) n
   gate_opened m n fit newer each written = each_written (HasFirst body) (Ready 1 body) 0 (1 ∷ []) m n fit each (λ a first. first_ready body a first newer) written
 
   -- The root file keeps its size.
-  pub size_filled : (k m : Option Content) → WhereTold HasRootSize k → Told (IsWritten root_name (body_offset 0) body) k m → WhereTold HasRootSize m
+  pub size_filled : (k m : Option Content) → WhereTold HasRootSize k → BothTold (IsWritten root_name (body_offset 0) body) k m → WhereTold HasRootSize m
   size_filled k m size written =
       told_where (IsWritten root_name (body_offset 0) body) HasRootSize HasRootSize k m
       (λ a b is told after long. ap (λ (f : File). length (bytes_of f)) after.here ∙ (overlay-size (body_offset 0) body (bytes_of (a root_name).seen) (omega (arith, long, whole)) ∙ long)) written size
 
 -- The other files after both writes.
-pub first_committed : (body : List ℕ) (k m n : Option Content) → Told (IsWritten root_name (body_offset 0) body) k m → Told (IsWritten root_name 0 (1 ∷ [])) m n → Told IsCommitted k n
+pub first_committed : (body : List ℕ) (k m n : Option Content) → BothTold (IsWritten root_name (body_offset 0) body) k m → BothTold (IsWritten root_name 0 (1 ∷ [])) m n → BothTold IsCommitted k n
 first_committed body k m n one two =
     told_then (IsWritten root_name (body_offset 0) body) (IsWritten root_name 0 (1 ∷ [])) IsCommitted k m n
     (λ a b c is told first last. record { elsewhere = λ other apart. last.elsewhere other apart ∙ first.elsewhere other apart; settled = last.settled }) one two
 
 -- The root file after both writes.
-pub first_written : (body : List ℕ) (k m n : Option Content) → Told (IsWritten root_name (body_offset 0) body) k m → Told (IsWritten root_name 0 (1 ∷ [])) m n → Told (HasNewRoot 0 body) k n
+pub first_written : (body : List ℕ) (k m n : Option Content) → BothTold (IsWritten root_name (body_offset 0) body) k m → BothTold (IsWritten root_name 0 (1 ∷ [])) m n → BothTold (HasNewRoot 0 body) k n
 first_written body k m n one two =
     told_then (IsWritten root_name (body_offset 0) body) (IsWritten root_name 0 (1 ∷ [])) (HasNewRoot 0 body) k m n
     (λ a b c is told first second. second.here ∙ ap (λ (f : File). Some (overlay 0 (1 ∷ []) (bytes_of f))) first.here) one two

@@ -6,15 +6,15 @@ use Rattle.std.specs.List.{Contains}
 use Rattle.store_finding.specs.Listing.{AreAllNames}
 use Rattle.arch_base.specs.declared.config.Config.{Config}
 use Rattle.arch_base.specs.Configs.{IsConfig}
-use Rattle.arch_base.specs.Names.{IsName}
+use Rattle.arch_base.specs.Names.{IsArchiveName}
 use Rattle.disk_model.specs.declared.name.FileKind.{FileKind}
 use Rattle.disk_model.specs.declared.name.FileKind.TheVariants as kind
 use Rattle.disk_model.specs.declared.name.FileName.{FileName}
-use Rattle.disk_model.specs.Disk.{File, Files, Kept, Content, Image, Told, WhereTold, Unchanged, Synced, Fits, exact, bytes_of, ReadsFit, Elapses, LeavesOnly}
+use Rattle.disk_model.specs.Disk.{File, Files, Kept, Content, Image, BothTold, WhereTold, Unchanged, Synced, MaySurvive, exact, bytes_of, ReadsFit, Elapses, LeavesOnly}
 use Rattle.disk_model.specs.Synced.{IsSettled}
 use Rattle.disk_model.specs.Moments.{started, goes_on, joined}
 use Rattle.disk_model.specs.Tells.{told_where}
-use Rattle.disk_model.specs.Laws.{Fits-Within, Fits-exact, sync_image}
+use Rattle.disk_model.specs.Laws.{MaySurvive-Within, MaySurvive-exact, sync_image}
 use Rattle.arch_model.specs.Archives.{empty_archive}
 use Rattle.root_slots.specs.declared.root.Place.{Place}
 use Rattle.root_slots.specs.declared.root.Root.{Root}
@@ -27,16 +27,16 @@ use Rattle.root_change.specs.Names.{names_file}
 use Rattle.root_change.specs.Texts.{Fronts, StandsFor}
 use Rattle.root_change.specs.Parts.{texts_of}
 use Rattle.arch_model.specs.Validity.{IsArchive}
-use Rattle.store_finding.specs.Recovery.{map_bytes, parts_of, Names}
+use Rattle.store_finding.specs.Recovery.{map_bytes, parts_of, NamesArchive}
 use Rattle.store_finding.specs.Kept.{IsDiskOf}
-use Rattle.epoch_store.specs.Commands.{HasSizes}
+use Rattle.epoch_store.specs.Commands.{StoreHasSizes}
 use Rattle.epoch_store.specs.First.{MakesRoot, MakingLeaves, HasOnly, first_root_of}
 use Rattle.root_change.proofs.Drops.{unnamed_apart}
 use Rattle.store_finding.proofs.FindingTold.{where_so}
 use Rattle.epoch_store.proofs.Making.{first_is_root}
 
 -- An archive without entries is valid.
-pub empty_valid : (config : Config) → IsName config.name → IsConfig config → IsArchive (empty_archive config)
+pub empty_valid : (config : Config) → IsArchiveName config.name → IsConfig config → IsArchive (empty_archive config)
 empty_valid config name valid = record { name = name; config = valid; next_least = omega arith; next_most = omega arith; entries = tt; below = tt; order = tt; ends = tt; ids = tt; blobs = tt }
 
 -- All places of the first root are empty.
@@ -44,16 +44,16 @@ first_place : (config : Config) (e : ℕ) → e < 64 → get_or (first_root_of c
 first_place config e below = get_or-replicate 64 e no_place no_place below
 
 -- The first root names the archive without entries.
-pub empty_names : (config : Config) → IsName config.name → IsConfig config → Names (first_root_of config) (empty_archive config)
+pub empty_names : (config : Config) → IsArchiveName config.name → IsConfig config → NamesArchive (first_root_of config) (empty_archive config)
 empty_names config name valid = record {
   is_root = first_is_root config valid;
   fits = record {
     name = name;
     sequence = omega arith;
-    map = record { gen_ = omega arith; length = omega arith };
-    epochs = λ e below. subst PlaceFits (sym (first_place config e below)) (record { gen_ = omega arith; length = omega arith });
+    map = record { generation = omega arith; length = omega arith };
+    epochs = λ e below. subst PlaceFits (sym (first_place config e below)) (record { generation = omega arith; length = omega arith });
     count = length-replicate {A = Place} 64 no_place;
-    cache = record { gen_ = omega arith; length = omega arith };
+    cache = record { generation = omega arith; length = omega arith };
   };
   config = refl;
   next = refl;
@@ -86,7 +86,7 @@ empty_stands config image there = record {
 }
 
 -- What a crash leaves while the root is created.
-pub makes_empty : (config : Config) (old k : Option Content) (image : Files) → IsName config.name → IsConfig config → (k ≡ None → old ≡ None) → WhereTold (λ c. IsShutFile (c root_name).seen) old → MakesRoot (spelling (first_root_of config)) k image → MakingLeaves (empty_archive config) old image
+pub makes_empty : (config : Config) (old k : Option Content) (image : Files) → IsArchiveName config.name → IsConfig config → (k ≡ None → old ≡ None) → WhereTold (λ c. IsShutFile (c root_name).seen) old → MakesRoot (spelling (first_root_of config)) k image → MakingLeaves (empty_archive config) old image
 makes_empty config old None image name valid same was makes = inl (subst (λ (o : Option Content). Image o image) (sym (same refl)) tt)
 makes_empty config old (Some k) image name valid same was (inl shut) = inr (was, inl shut)
 makes_empty config old (Some k) image name valid same was (inr there) = inr (was, inr (first_root_of config, record { valid = empty_valid config name valid; names = empty_names config name valid; cache_long = refl; stands = empty_stands config image there }))
@@ -97,7 +97,7 @@ root_there body None there = absurd there
 root_there body (Some file) there = (0, there.current)
 
 -- What the store has at the end.
-pub owns_empty : (config : Config) (k : Option Content) → IsName config.name → IsConfig config → ReadsFit k → WhereTold (HasOnly (spelling (first_root_of config))) k → WhereTold (IsDiskOf (record { root = first_root_of config; slot = 0; entries = [] }) (empty_archive config)) k
+pub owns_empty : (config : Config) (k : Option Content) → IsArchiveName config.name → IsConfig config → ReadsFit k → WhereTold (HasOnly (spelling (first_root_of config))) k → WhereTold (IsDiskOf (record { root = first_root_of config; slot = 0; entries = [] }) (empty_archive config)) k
 owns_empty config None name valid fit only = tt
 owns_empty config (Some k) name valid fit only = record {
   keeps = record { valid = empty_valid config name valid; names = empty_names config name valid; kept = refl };
@@ -122,7 +122,7 @@ pub only_rooted : (config : Config) (k : Option Content) → WhereTold (HasOnly 
 only_rooted config k only = where_so _ (HasFirstRoot (spelling (first_root_of config))) k only (λ c has. has.first)
 
 -- Its files have their sizes.
-pub sized_empty : (config : Config) (k : Option Content) → ReadsFit k → WhereTold (HasOnly (spelling (first_root_of config))) k → WhereTold (HasSizes (record { root = first_root_of config; slot = 0; entries = [] })) k
+pub sized_empty : (config : Config) (k : Option Content) → ReadsFit k → WhereTold (HasOnly (spelling (first_root_of config))) k → WhereTold (StoreHasSizes (record { root = first_root_of config; slot = 0; entries = [] })) k
 sized_empty config None fit only = tt
 sized_empty config (Some k) fit only = record {
   root = size_there (k root_name).seen (only.roots (k root_name).seen (fit k refl root_name));
@@ -134,40 +134,40 @@ sized_empty config (Some k) fit only = record {
   size_there (Some file) there = there.current.size
 
 -- After a sync a crash leaves the root file as it reads.
-pub shut_synced : (old new : Option Content) → Told Synced old new → WhereTold (λ k. IsShutFile (k root_name).seen) old → EachShut new
+pub shut_synced : (old new : Option Content) → BothTold Synced old new → WhereTold (λ k. IsShutFile (k root_name).seen) old → EachShut new
 shut_synced None None synced shut = tt
 shut_synced None (Some m) synced shut = absurd synced
 shut_synced (Some k) None synced shut = absurd synced
 shut_synced (Some k) (Some m) synced shut = λ file fits.
-    let is : file ≡ (k root_name).seen = Fits-exact (k root_name).seen file (Fits-Within (m root_name).sure (exact (k root_name).seen) file (synced.crash root_name) fits) in
+    let is : file ≡ (k root_name).seen = MaySurvive-exact (k root_name).seen file (MaySurvive-Within (m root_name).sure (exact (k root_name).seen) file (synced.crash root_name) fits) in
     subst IsShutFile (sym is) shut
 
 -- A disk that doesn't change still has no open slot.
-pub shut_unchanged : (old new : Option Content) → Told Unchanged old new → EachShut old → EachShut new
+pub shut_unchanged : (old new : Option Content) → BothTold Unchanged old new → EachShut old → EachShut new
 shut_unchanged None None same shut = tt
 shut_unchanged None (Some m) same shut = absurd same
 shut_unchanged (Some k) None same shut = absurd same
-shut_unchanged (Some k) (Some m) same shut = λ file fits. shut file (subst (λ (kept : Kept). Fits kept.sure file) (same root_name) fits)
+shut_unchanged (Some k) (Some m) same shut = λ file fits. shut file (subst (λ (kept : Kept). MaySurvive kept.sure file) (same root_name) fits)
 
 -- A disk that doesn't change still has the same names.
-pub names_unchanged : (names : List FileName) (old new : Option Content) → Told Unchanged old new → WhereTold (AreAllNames names) old → WhereTold (AreAllNames names) new
+pub names_unchanged : (names : List FileName) (old new : Option Content) → BothTold Unchanged old new → WhereTold (AreAllNames names) old → WhereTold (AreAllNames names) new
 names_unchanged names old new =
     told_where Unchanged (AreAllNames names) (AreAllNames names) old new
     (λ k m is told same all. record { in_order = all.in_order; all = λ name. subst (λ (kept : Kept). IsSome kept.seen ↔ Contains names name) (sym (same name)) (all.all name) })
 
 -- A sync adds no image.
-pub synced_fewer : (old new : Option Content) (image : Files) → ReadsFit old → Told Synced old new → Image new image → Image old image
+pub synced_fewer : (old new : Option Content) (image : Files) → ReadsFit old → BothTold Synced old new → Image new image → Image old image
 synced_fewer old new image fit synced left = sync_image {T = Unit {0}} {E = Unit {0}} (Ok tt) old new image fit synced tt left
 
 -- A disk that doesn't tell its content at the end didn't tell it before.
-pub none_before : (k m n : Option Content) → Told Synced k m → Told Unchanged m n → n ≡ None → k ≡ None
+pub none_before : (k m n : Option Content) → BothTold Synced k m → BothTold Unchanged m n → n ≡ None → k ≡ None
 none_before None m n synced same none = refl
 none_before (Some k) None n synced same none = absurd synced
 none_before (Some k) (Some m) None synced same none = absurd same
 none_before (Some k) (Some m) (Some n) synced same none = let wrong : Some n ≡ None = none in cc
 
 -- An archive is made on a disk on which there is none, from the clauses of the calls.
-module _ (config : Config) (name : IsName config.name) (valid : IsConfig config) (root : Root) (root_is : root ≡ first_root_of config) (k0 k1 k2 : Option Content) (synced : Told Synced k0 k1) (same : Told Unchanged k1 k2) (shut : WhereTold (λ k. IsShutFile (k root_name).seen) k0) where
+module _ (config : Config) (name : IsArchiveName config.name) (valid : IsConfig config) (root : Root) (root_is : root ≡ first_root_of config) (k0 k1 k2 : Option Content) (synced : BothTold Synced k0 k1) (same : BothTold Unchanged k1 k2) (shut : WhereTold (λ k. IsShutFile (k root_name).seen) k0) where
   -- What a crash leaves at each moment of it.
   pub making_leaves : {D : Type 0} (moment : D → ℕ) (left_since : D → ℕ → Files → Type 0) (disk d1 d2 new : D) → ReadsFit k0 → LeavesOnly moment left_since disk d1 (Image k0) → LeavesOnly moment left_since d1 d2 (Image k1)
       → (EachShut k2 → LeavesOnly moment left_since d2 new (MakesRoot (spelling root) k2)) → LeavesOnly moment left_since disk new (MakingLeaves (empty_archive config) k0)
@@ -180,7 +180,7 @@ module _ (config : Config) (name : IsName config.name) (valid : IsConfig config)
       joined moment left_since disk d2 new P (MakesRoot body k2) P first made (λ image leaves. leaves) (λ image. makes_empty config k0 k2 image name valid (none_before k0 k1 k2 synced same) shut)
 
 -- At the end only the root is there.
-pub makes_only : (config : Config) (root : Root) → root ≡ first_root_of config → (names listed : List FileName) → names ≡ listed → (k1 k2 k3 : Option Content) → Told Unchanged k1 k2 → WhereTold (AreAllNames listed) k1
+pub makes_only : (config : Config) (root : Root) → root ≡ first_root_of config → (names listed : List FileName) → names ≡ listed → (k1 k2 k3 : Option Content) → BothTold Unchanged k1 k2 → WhereTold (AreAllNames listed) k1
     → (WhereTold (AreAllNames names) k2 → 0 < root.sequence → WhereTold (HasOnly (spelling root)) k3) → WhereTold (HasOnly (spelling (first_root_of config))) k3
 makes_only config root root_is names listed names_are k1 k2 k3 same all done =
     let named = names_unchanged names k1 k2 same (subst (λ (l : List FileName). WhereTold (AreAllNames l) k1) (sym names_are) all) in

@@ -18,8 +18,8 @@ use Rattle.root_change.proofs.Pushes.{count_with_bytes}
 use Rattle.root_change.proofs.Roots.{equal_or_not, same_test}
 use Rattle.store_finding.specs.declared.entries.StoredEntry.{StoredEntry}
 use Rattle.store_planning.specs.Planning.{KeepsPlanned, Planning, PlansEdit, PlansPurge, loses}
-use Rattle.epoch_store.specs.Commands.{EditsFiles, Grows, HasBlob, IsMadeAnew, KeepsFiles}
-use Rattle.store_finding.specs.Kept.{View}
+use Rattle.epoch_store.specs.Commands.{EditsFiles, EpochFileGrows, HasBlob, IsMadeAnew, KeepsFiles}
+use Rattle.store_finding.specs.Kept.{StoreState}
 use Rattle.epoch_store.proofs.Carrying.{anew_goes}
 use Rattle.epoch_store.proofs.Purged.{id_is}
 
@@ -73,7 +73,7 @@ the_some : (o : Option Plan) → is_some o ≡ true → (p : Plan) × (o ≡ Som
 the_some None is = absurd (let wrong : false ≡ true = is in cc)
 the_some (Some p) is = (p, refl)
 
-module _ (v : View) (blob : Id20) (p : Planning) (purge : PlansPurge v blob p.entries p.plans) where
+module _ (v : StoreState) (blob : Id20) (p : Planning) (purge : PlansPurge v blob p.entries p.plans) where
   none_planned : (e : ℕ) → (HasBlob v.entries blob e → ⊥) → plan_of p.plans kind.Epoch e ≡ None
   none_planned e none = elim (true_or_false (loses v.entries blob.0 e)) [
     | inl is ↦ absurd (none (lost_has v.entries blob e is))
@@ -95,37 +95,37 @@ module _ (v : View) (blob : Id20) (p : Planning) (purge : PlansPurge v blob p.en
       let n = v.root.sequence + 1 in
       let place_is : get_or new.epochs e no_place ≡ place_anew n (plan_count q) =
       after.epochs e below ∙ (ap (λ (o : Option Plan). place_planned n o old) is ∙ ap (λ (t : Target). place_by n t old (plan_count q)) anew) in
-      subst (λ (x : Place). (x.gen_ ≡ new.sequence) ⊎ (x ≡ no_place)) (sym place_is)
-      (subst (λ (m : ℕ). ((place_anew n (plan_count q)).gen_ ≡ m) ⊎ (place_anew n (plan_count q) ≡ no_place)) (sym after.sequence) (anew_goes n (plan_count q)))
+      subst (λ (x : Place). (x.generation ≡ new.sequence) ⊎ (x ≡ no_place)) (sym place_is)
+      (subst (λ (m : ℕ). ((place_anew n (plan_count q)).generation ≡ m) ⊎ (place_anew n (plan_count q) ≡ no_place)) (sym after.sequence) (anew_goes n (plan_count q)))
 
   stays : (new : Root) (plans : List Plan) (next : ℕ) (after : IsRootAfter v.root plans next new) (e : ℕ) → e < 64 → plan_of plans kind.Epoch e ≡ None → get_or new.epochs e no_place ≡ get_or v.root.epochs e no_place
   stays new plans next after e below is = after.epochs e below ∙ ap (λ (o : Option Plan). place_planned (v.root.sequence + 1) o (get_or v.root.epochs e no_place)) is
 
   -- Epochs that lose no entry keep their files, and the others don't.
-  pub purge_keeps : (new : View) → KeepsPlanned v p v.root.next new → KeepsFiles v new blob
+  pub purge_keeps : (new : StoreState) → KeepsPlanned v p v.root.next new → KeepsFiles v new blob
   purge_keeps new kept = record {
     kept = λ e below none. stays new.root p.plans v.root.next kept.root e below (none_planned e none);
     anew = λ e below has. (let is = anew_planned e has in made_anew new.root p.plans v.root.next kept.root e below is.0 is.1 is.2);
   }
 
   -- The file of the epoch of a new entry grows.
-  module _ (text : List ℕ) (moment : ℕ) (q : Planning) (edit : PlansEdit v p text moment q) (new : View) (kept : KeepsPlanned v q (v.root.next + 1) new) where
+  module _ (text : List ℕ) (moment : ℕ) (q : Planning) (edit : PlansEdit v p text moment q) (new : StoreState) (kept : KeepsPlanned v q (v.root.next + 1) new) where
     abbrev own : ℕ
     own = edit.entry.epoch
 
-    grows : (n gen_ len count : ℕ) → 0 < count
-        → ((0 < len) × ((place_behind n (record { gen_ = gen_; length = len }) count).gen_ ≡ gen_) × (len < (place_behind n (record { gen_ = gen_; length = len }) count).length))
-        ⊎ ((len ≡ 0) × ((place_behind n (record { gen_ = gen_; length = len }) count).gen_ ≡ n))
-    grows n gen_ len count some = by (nat_lt 0 len) refl (nat_lt 0 count) refl where
+    grows : (n generation len count : ℕ) → 0 < count
+        → ((0 < len) × ((place_behind n (record { generation = generation; length = len }) count).generation ≡ generation) × (len < (place_behind n (record { generation = generation; length = len }) count).length))
+        ⊎ ((len ≡ 0) × ((place_behind n (record { generation = generation; length = len }) count).generation ≡ n))
+    grows n generation len count some = by (nat_lt 0 len) refl (nat_lt 0 count) refl where
       by : (t : Bool) → nat_lt 0 len ≡ t → (u : Bool) → nat_lt 0 count ≡ u
-          → ((0 < len) × ((if t then record { gen_ = gen_; length = len + count } else (if u then record { gen_ = n; length = count } else no_place)).gen_ ≡ gen_)
-          × (len < (if t then record { gen_ = gen_; length = len + count } else (if u then record { gen_ = n; length = count } else no_place)).length))
-          ⊎ ((len ≡ 0) × ((if t then record { gen_ = gen_; length = len + count } else (if u then record { gen_ = n; length = count } else no_place)).gen_ ≡ n))
+          → ((0 < len) × ((if t then record { generation = generation; length = len + count } else (if u then record { generation = n; length = count } else no_place)).generation ≡ generation)
+          × (len < (if t then record { generation = generation; length = len + count } else (if u then record { generation = n; length = count } else no_place)).length))
+          ⊎ ((len ≡ 0) × ((if t then record { generation = generation; length = len + count } else (if u then record { generation = n; length = count } else no_place)).generation ≡ n))
       by true is u test = inl (grind (arith, nat_tests, is), refl, omega (arith, some))
       by false is true test = inr (grind (arith, nat_tests, is), refl)
       by false is false test = absurd (let none : count ≡ 0 = grind (arith, nat_tests, test) in omega (arith, none, some))
 
-    grown : (HasBlob v.entries blob own → ⊥) → Grows v.root new.root own
+    grown : (HasBlob v.entries blob own → ⊥) → EpochFileGrows v.root new.root own
     grown none =
         let old = get_or v.root.epochs own no_place in
         let n = v.root.sequence + 1 in
@@ -135,9 +135,9 @@ module _ (v : View) (blob : Id20) (p : Planning) (purge : PlansPurge v blob p.en
         let some = edit.some in
         let plan_is : plan_of q.plans kind.Epoch own ≡ Some plan = edit.own ∙ ap (λ (o : Option Plan). Some (with_bytes (unwrap_or o (no_plan kind.Epoch own Behind)) edit.piece)) (none_planned own none) in
         let place_is : get_or new.root.epochs own no_place ≡ place_behind n old (plan_count plan) = kept.root.epochs own (omega (arith, low)) ∙ ap (λ (o : Option Plan). place_planned n o old) plan_is in
-        subst (λ (x : Place). ((0 < old.length) × (x.gen_ ≡ old.gen_) × (old.length < x.length)) ⊎ ((old.length ≡ 0) × (x.gen_ ≡ new.root.sequence))) (sym place_is)
-        (subst (λ (m : ℕ). ((0 < old.length) × ((place_behind n old (plan_count plan)).gen_ ≡ old.gen_) × (old.length < (place_behind n old (plan_count plan)).length)) ⊎ ((old.length ≡ 0) × ((place_behind n old (plan_count plan)).gen_ ≡ m))) (sym kept.root.sequence)
-        (grows n old.gen_ old.length (plan_count plan) (omega (arith, size, some))))
+        subst (λ (x : Place). ((0 < old.length) × (x.generation ≡ old.generation) × (old.length < x.length)) ⊎ ((old.length ≡ 0) × (x.generation ≡ new.root.sequence))) (sym place_is)
+        (subst (λ (m : ℕ). ((0 < old.length) × ((place_behind n old (plan_count plan)).generation ≡ old.generation) × (old.length < (place_behind n old (plan_count plan)).length)) ⊎ ((old.length ≡ 0) × ((place_behind n old (plan_count plan)).generation ≡ m))) (sym kept.root.sequence)
+        (grows n old.generation old.length (plan_count plan) (omega (arith, size, some))))
 
     anew : (e : ℕ) → e < 64 → HasBlob v.entries blob e → IsMadeAnew new.root e
     anew e below has =

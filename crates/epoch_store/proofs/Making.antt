@@ -9,8 +9,8 @@ use Rattle.root_slots.specs.declared.root.Place.{Place}
 use Rattle.root_slots.specs.Valid.{IsRoot, PlaceIsValid, no_place}
 use Rattle.disk_model.specs.declared.name.FileName.{FileName}
 use Rattle.disk_model.specs.Moments.{joined, weaker}
-use Rattle.disk_model.specs.Disk.{LeavesOnly, File, Files, Kept, Content, Image, Told, WhereTold, Fits, Sure, remove_sure, exact, bytes_of}
-use Rattle.disk_model.specs.Laws.{Fits-Within, Fits-exact}
+use Rattle.disk_model.specs.Disk.{LeavesOnly, File, Files, Kept, Content, Image, BothTold, WhereTold, MaySurvive, Survival, remove_sure, exact, bytes_of}
+use Rattle.disk_model.specs.Laws.{MaySurvive-Within, MaySurvive-exact}
 use Rattle.store_finding.specs.Listing.{AreAllNames}
 use Rattle.store_finding.proofs.NameLists.{contains_or_not}
 use Rattle.store_finding.specs.Removing.{Fewer, AreRemoved}
@@ -20,7 +20,7 @@ use Rattle.root_slots.specs.Slots.{HasRootSize, Ready, IsShutFile, EachShut, Lea
 use Rattle.epoch_store.specs.First.{first_root_of, AreZeros, ShutOrFirst, MakesRoot, HasOnly}
 
 -- A removal leaves a file missing, or as before.
-removed_or_before : (s : Sure) (file : File) → Fits (remove_sure s) file → (file ≡ None) ⊎ Fits s file
+removed_or_before : (s : Survival) (file : File) → MaySurvive (remove_sure s) file → (file ≡ None) ⊎ MaySurvive s file
 removed_or_before s None fits = inl refl
 removed_or_before s (Some bytes) fits = inr (record { there = fits.there; no_shorter = fits.no_shorter; no_longer = fits.no_longer; outside = fits.outside })
 
@@ -30,7 +30,7 @@ none_is_shut None is = tt
 none_is_shut (Some bytes) is = let wrong : Some bytes ≡ None = is in cc
 
 -- A file that was removed, or is as before, has no open slot.
-shut_still : (s : Sure) (file : File) → ((f : File) → Fits s f → IsShutFile f) → (file ≡ None) ⊎ Fits s file → IsShutFile file
+shut_still : (s : Survival) (file : File) → ((f : File) → MaySurvive s f → IsShutFile f) → (file ≡ None) ⊎ MaySurvive s file → IsShutFile file
 shut_still s file shut (inl none) = none_is_shut file none
 shut_still s file shut (inr fits) = shut file fits
 
@@ -49,45 +49,45 @@ module _ (body : List ℕ) (names : List FileName) where
   ])
 
   -- After files are removed.
-  pub shut_removed : (k m : Option Content) → EachShut k → Told (AreRemoved names) k m → EachShut m
+  pub shut_removed : (k m : Option Content) → EachShut k → BothTold (AreRemoved names) k m → EachShut m
   shut_removed None None shut removed = tt
   shut_removed None (Some m) shut removed = absurd removed
   shut_removed (Some k) None shut removed = absurd removed
   shut_removed (Some k) (Some m) shut removed = λ file fits. elim (contains_or_not names root_name) [
-    | inl among ↦ shut_still (k root_name).sure file shut (removed_or_before (k root_name).sure file (Fits-Within (m root_name).sure (remove_sure (k root_name).sure) file (removed.listed root_name among).crash fits))
-    | inr out ↦ shut file (subst (λ (kept : Kept). Fits kept.sure file) (removed.others root_name out) fits)
+    | inl among ↦ shut_still (k root_name).sure file shut (removed_or_before (k root_name).sure file (MaySurvive-Within (m root_name).sure (remove_sure (k root_name).sure) file (removed.listed root_name among).crash fits))
+    | inr out ↦ shut file (subst (λ (kept : Kept). MaySurvive kept.sure file) (removed.others root_name out) fits)
   ]
 
   -- While the root file is created.
-  pub shut_begun : (k m : Option Content) (image : Files) → Told (AreRemoved names) k m → LeavesShut m image → MakesRoot body k image
+  pub shut_begun : (k m : Option Content) (image : Files) → BothTold (AreRemoved names) k m → LeavesShut m image → MakesRoot body k image
   shut_begun None m image removed leaves = tt
   shut_begun (Some k) None image removed leaves = absurd removed
   shut_begun (Some k) (Some m) image removed leaves = inl leaves.root
 
   -- All bytes of the root file are then zeros.
-  pub zeros_each : (m n : Option Content) → WhereTold (λ c. Unit {0}) m → (m ≡ None → ⊥) → Told IsBegun m n → EachRoot AreZeros n
+  pub zeros_each : (m n : Option Content) → WhereTold (λ c. Unit {0}) m → (m ≡ None → ⊥) → BothTold IsBegun m n → EachRoot AreZeros n
   zeros_each None n told some begun = absurd (some refl)
   zeros_each (Some m) None told some begun = absurd begun
   zeros_each (Some m) (Some n) told some begun = λ file fits.
-      let is : file ≡ (n root_name).seen = Fits-exact (n root_name).seen file (Fits-Within (n root_name).sure (exact (n root_name).seen) file (begun.settled root_name) fits) in
+      let is : file ≡ (n root_name).seen = MaySurvive-exact (n root_name).seen file (MaySurvive-Within (n root_name).sure (exact (n root_name).seen) file (begun.settled root_name) fits) in
       subst (IfThere AreZeros) (sym (is ∙ begun.root)) refl
 
   -- The file has its size.
-  pub zeros_sized : (m n : Option Content) → Told IsBegun m n → WhereTold HasRootSize n
+  pub zeros_sized : (m n : Option Content) → BothTold IsBegun m n → WhereTold HasRootSize n
   zeros_sized None None begun = tt
   zeros_sized None (Some n) begun = absurd begun
   zeros_sized (Some m) None begun = absurd begun
   zeros_sized (Some m) (Some n) begun = ap (λ (f : File). length (bytes_of f)) begun.root ∙ length-replicate {A = ℕ} 4096 0
 
   -- While the first root is written.
-  pub first_made : (k m n : Option Content) (image : Files) → Told (AreRemoved names) k m → Told IsBegun m n → ShutOrFirst body n image → MakesRoot body k image
+  pub first_made : (k m n : Option Content) (image : Files) → BothTold (AreRemoved names) k m → BothTold IsBegun m n → ShutOrFirst body n image → MakesRoot body k image
   first_made None m n image removed begun first = tt
   first_made (Some k) None n image removed begun first = absurd removed
   first_made (Some k) (Some m) None image removed begun first = absurd begun
   first_made (Some k) (Some m) (Some n) image removed begun first = first.root
 
   -- The state at the end.
-  pub only_first : (k m n o : Option Content) → WhereTold (AreAllNames names) k → Told (AreRemoved names) k m → Told IsBegun m n → Told IsCommitted n o → ((n ≡ None → ⊥) → EachRoot (Ready 1 body) o) → Told (HasNewRoot 0 body) n o → WhereTold (HasOnly body) o
+  pub only_first : (k m n o : Option Content) → WhereTold (AreAllNames names) k → BothTold (AreRemoved names) k m → BothTold IsBegun m n → BothTold IsCommitted n o → ((n ≡ None → ⊥) → EachRoot (Ready 1 body) o) → BothTold (HasNewRoot 0 body) n o → WhereTold (HasOnly body) o
   only_first k m n None all removed begun committed ready written = tt
   only_first k m None (Some o) all removed begun committed ready written = absurd committed
   only_first k None (Some n) (Some o) all removed begun committed ready written = absurd begun
@@ -108,7 +108,7 @@ module _ (body : List ℕ) (names : List FileName) where
       not_there name (Some bytes) is out = absurd (out ((all.all name).0 (ap is_some is)))
 
   -- The contents are told at each step, or at none.
-  pub told_through : (k m n o : Option Content) → Told (AreRemoved names) k m → Told IsBegun m n → Told IsCommitted n o → Told (λ old new. Unit {0}) k o
+  pub told_through : (k m n o : Option Content) → BothTold (AreRemoved names) k m → BothTold IsBegun m n → BothTold IsCommitted n o → BothTold (λ old new. Unit {0}) k o
   told_through None None None None a b c = tt
   told_through None None None (Some o) a b c = absurd c
   told_through None None (Some n) o a b c = absurd b
@@ -119,7 +119,7 @@ module _ (body : List ℕ) (names : List FileName) where
   told_through (Some k) (Some m) (Some n) (Some o) a b c = tt
 
 -- One more step; a disk that doesn't tell its content promises nothing for it.
-pub first_step : {D : Type 0} (moment : D → ℕ) (left_since : D → ℕ → Files → Type 0) (content : D → Option Content) (old mid begun new : D) (body : List ℕ) (names : List FileName) (k m n : Option Content) → Told (AreRemoved names) k m → Told IsBegun m n
+pub first_step : {D : Type 0} (moment : D → ℕ) (left_since : D → ℕ → Files → Type 0) (content : D → Option Content) (old mid begun new : D) (body : List ℕ) (names : List FileName) (k m n : Option Content) → BothTold (AreRemoved names) k m → BothTold IsBegun m n
     → LeavesOnly moment left_since old begun (MakesRoot body k) → (EachRoot AreZeros n → LeavesOnly moment left_since begun new (ShutOrFirst body n)) → moment begun ≤ moment new → LeavesOnly moment left_since old new (MakesRoot body k)
 first_step moment left_since content old mid begun new body names None m n removed is_begun first last later = weaker moment left_since old new (λ image. Unit {0}) (MakesRoot body None) (record { later = (let a = first.later in omega (arith, a, later)); each = λ image left. tt; before = λ t image low left. inr tt }) (λ image left. left)
 first_step moment left_since content old mid begun new body names (Some k) None n removed is_begun first last later = absurd removed
@@ -130,10 +130,10 @@ first_step moment left_since content old mid begun new body names (Some k) (Some
     (λ image. first_made body names (Some k) (Some m) (Some n) image removed is_begun)
 
 -- The state at the end if the last step returns `Ok`.
-pub only_on_ok : {T E : Type 0} (result : Result T E) (body : List ℕ) (names : List FileName) (k m n o : Option Content) → WhereTold (AreAllNames names) k → Told (AreRemoved names) k m → Told IsBegun m n → OnOk result (Told IsCommitted n o)
-    → (EachRoot AreZeros n → OnOk result (EachRoot (Ready 1 body) o)) → OnOk result (Told (HasNewRoot 0 body) n o) → OnOk result (WhereTold (HasOnly body) o)
+pub only_on_ok : {T E : Type 0} (result : Result T E) (body : List ℕ) (names : List FileName) (k m n o : Option Content) → WhereTold (AreAllNames names) k → BothTold (AreRemoved names) k m → BothTold IsBegun m n → OnOk result (BothTold IsCommitted n o)
+    → (EachRoot AreZeros n → OnOk result (EachRoot (Ready 1 body) o)) → OnOk result (BothTold (HasNewRoot 0 body) n o) → OnOk result (WhereTold (HasOnly body) o)
 only_on_ok (Ok v) body names k m n o all removed begun committed ready written = only_first body names k m n o all removed begun committed (λ some. ready (zeros body names m n some begun)) written where
-  zeros : (body : List ℕ) (names : List FileName) (m n : Option Content) → (n ≡ None → ⊥) → Told IsBegun m n → EachRoot AreZeros n
+  zeros : (body : List ℕ) (names : List FileName) (m n : Option Content) → (n ≡ None → ⊥) → BothTold IsBegun m n → EachRoot AreZeros n
   zeros body names None None some begun = absurd (some refl)
   zeros body names None (Some n) some begun = absurd begun
   zeros body names (Some m) None some begun = absurd begun
@@ -148,6 +148,6 @@ first_is_root config valid = record {
   next_most = omega arith;
   map_gen = omega arith;
   map_length = omega arith;
-  epochs = λ i d below. subst (PlaceIsValid 1) (sym (get_or-replicate 64 i no_place d (omega (arith, below, length-replicate {A = Place} 64 no_place)))) (record { gen_ = omega arith; empty = λ none. refl });
-  cache = record { gen_ = omega arith; empty = λ none. refl };
+  epochs = λ i d below. subst (PlaceIsValid 1) (sym (get_or-replicate 64 i no_place d (omega (arith, below, length-replicate {A = Place} 64 no_place)))) (record { generation = omega arith; empty = λ none. refl });
+  cache = record { generation = omega arith; empty = λ none. refl };
 }

@@ -5,7 +5,7 @@ use Rattle.std.proofs.lemmas.Bool.Decides.{nat_tests}
 use Rattle.disk_model.specs.declared.name.FileKind.{FileKind}
 use Rattle.disk_model.specs.declared.name.FileKind.TheVariants as kind
 use Rattle.arch_base.specs.declared.ids.Id20.{Id20}
-use Rattle.git_objects.proofs.ObjectIds.{IsId-id_of}
+use Rattle.git_objects.proofs.ObjectIds.{IsObjectId-id_of}
 use Rattle.git_objects.specs.Objects.{blob_id_of, blob_spelling}
 use Rattle.git_objects.specs.declared.entry_kind.EntryKind.TheVariants.{Message}
 use Rattle.number_map.specs.Records.{record_bytes}
@@ -29,15 +29,15 @@ use Rattle.arch_model.specs.Epochs.{last_commit}
 use Rattle.arch_model.specs.Validity.{IsArchive}
 use Rattle.epoch_file.specs.Appending.{front_at}
 use Rattle.epoch_file.specs.Entries.{EpochEntry, bytes_after}
-use Rattle.epoch_file.specs.Lying.{LiesIn}
+use Rattle.epoch_file.specs.Lying.{EntryLiesIn}
 use Rattle.epoch_file.specs.Planning.{Planned}
 use Rattle.store_finding.specs.declared.entries.StoredEntry.{StoredEntry}
 use Rattle.store_planning.specs.declared.next.NextPlace.{NextPlace}
 use Rattle.store_finding.specs.Extents.{AreNamedAfter, AreUpToEpoch, LieFrom, length_planned}
-use Rattle.store_planning.specs.Planning.{AppendsRecord, AreAnew, AreValid, IsPlaceAfter, IsReady, Planning, PlansArchive, PlansEdit, length_after, length_by, plans_with, with_record}
-use Rattle.store_finding.specs.Recovery.{Names, bytes_in, map_bytes, parts_of}
-use Rattle.epoch_store.specs.Commands.{EndsAt}
-use Rattle.store_finding.specs.Kept.{View, stored_at}
+use Rattle.store_planning.specs.Planning.{AppendsRecord, AreAnew, AreValid, IsPlaceAfter, IsReadyPlan, Planning, PlansArchive, PlansEdit, length_after, length_by, plans_with, with_record}
+use Rattle.store_finding.specs.Recovery.{NamesArchive, bytes_in, map_bytes, parts_of}
+use Rattle.epoch_store.specs.Commands.{EntriesEndAt}
+use Rattle.store_finding.specs.Kept.{StoreState, stored_at}
 use Rattle.epoch_store.proofs.Entering.{some_bytes}
 use Rattle.epoch_store.proofs.EntryExtents.{after_planned, planned_more}
 use Rattle.store_finding.proofs.Growing.{bytes_here, bytes_other, map_grows, stored_more}
@@ -54,7 +54,7 @@ none_whole t e = λ i s here. absurd (let wrong : None ≡ Some s = here in cc)
 none_valid : (e : ℕ) → IsPlan (no_plan kind.Epoch e Behind)
 none_valid e = record { sources = λ i s here. absurd (let wrong : None ≡ Some s = here in cc); short = omega arith }
 
-module _ (root : Root) (cache : List ℕ) (a b : Archive) (old : Planning) (next : ℕ) (made : PlansArchive root cache a b old next) (names : Names root a) (valid : AreValid old.plans) where
+module _ (root : Root) (cache : List ℕ) (a b : Archive) (old : Planning) (next : ℕ) (made : PlansArchive root cache a b old next) (names : NamesArchive root a) (valid : AreValid old.plans) where
   abbrev texts : Texts
   texts = texts_of root (parts_of a cache)
 
@@ -143,9 +143,9 @@ module _ (root : Root) (cache : List ℕ) (a b : Archive) (old : Planning) (next
     }
 
 -- One more message is planned at the next place.
-module _ (v : View) (old : Planning) (p : NextPlace) (text : List ℕ) (moment : ℕ) (piece : List ℕ) (blob : Id20) (stored : StoredEntry) (valid : AreValid old.plans) (place : IsPlaceAfter v.root old p) (small : p.epoch ≤ 63) (long : p.length ≡ length_after v.root old.plans p.epoch) (short : p.length < 2 ^ 62)
+module _ (v : StoreState) (old : Planning) (p : NextPlace) (text : List ℕ) (moment : ℕ) (piece : List ℕ) (blob : Id20) (stored : StoredEntry) (valid : AreValid old.plans) (place : IsPlaceAfter v.root old p) (small : p.epoch ≤ 63) (long : p.length ≡ length_after v.root old.plans p.epoch) (short : p.length < 2 ^ 62)
     (piece_is : piece ≡ front_at p.length ++ bytes_after p.parent (record { kind = Message; text = text; moment = moment })) (blob_is : blob ≡ blob_id_of text)
-    (stored_is : (before : List Entry) → EndsAt before p → stored ≡ stored_at before (record { kind = Message; number = v.root.next; epoch = p.epoch; text = text; moment = moment })) (mp : Plan) (map_is : plan_of (plans_with old.plans p.epoch piece) kind.Map 0 ≡ Some mp) where
+    (stored_is : (before : List Entry) → EntriesEndAt before p → stored ≡ stored_at before (record { kind = Message; number = v.root.next; epoch = p.epoch; text = text; moment = moment })) (mp : Plan) (map_is : plan_of (plans_with old.plans p.epoch piece) kind.Map 0 ≡ Some mp) where
   abbrev written : EpochEntry
   written = record { kind = Message; text = text; moment = moment }
 
@@ -156,16 +156,16 @@ module _ (v : View) (old : Planning) (p : NextPlace) (text : List ℕ) (moment :
   all_plans = with_record (plans_with old.plans p.epoch piece) record_line
 
   -- The plans may be carried out.
-  pub message_ready : AreValid all_plans → IsReady v.root old.plans v.root.next → IsReady v.root all_plans (v.root.next + 1)
+  pub message_ready : AreValid all_plans → IsReadyPlan v.root old.plans v.root.next → IsReadyPlan v.root all_plans (v.root.next + 1)
   message_ready after ready = ready_more v.root old.plans v.root.next p.epoch piece record_line small room size after ready where
     room : plan_of old.plans kind.Epoch p.epoch ≡ None → (get_or v.root.epochs p.epoch no_place).length < 2 ^ 62
     room none = subst (λ (n : ℕ). n < 2 ^ 62) (long ∙ ap (length_by (get_or v.root.epochs p.epoch no_place).length) none) short
 
     size : length record_line ≡ 28
-    size = record_length (record { number = v.root.next; epoch = p.epoch; blob = blob }) (subst (λ (i : Id20). length i.0 ≡ 20) (sym blob_is) (IsId-id_of (blob_spelling text)).len)
+    size = record_length (record { number = v.root.next; epoch = p.epoch; blob = blob }) (subst (λ (i : Id20). length i.0 ≡ 20) (sym blob_is) (IsObjectId-id_of (blob_spelling text)).len)
 
   -- They write the archive with the message.
-  pub message_archive : (cache : List ℕ) (a b : Archive) → PlansArchive v.root cache a b old v.root.next → Names v.root a → AreAnew old.plans → IsArchive (with_entry b (new_epoch b) text moment) → (gone : List ℕ) (current : Option Planned) (entries : List StoredEntry) → entries ≡ old.entries ++ stored ∷ []
+  pub message_archive : (cache : List ℕ) (a b : Archive) → PlansArchive v.root cache a b old v.root.next → NamesArchive v.root a → AreAnew old.plans → IsArchive (with_entry b (new_epoch b) text moment) → (gone : List ℕ) (current : Option Planned) (entries : List StoredEntry) → entries ≡ old.entries ++ stored ∷ []
       → PlansArchive v.root cache a (with_entry b (new_epoch b) text moment) (record { plans = all_plans; entries = entries; gone = gone; current = current }) (v.root.next + 1)
   message_archive cache a b made names anew is gone current entries entries_are =
       subst (λ (e : ℕ). PlansArchive v.root cache a (with_entry b e text moment) (record { plans = all_plans; entries = entries; gone = gone; current = current }) (v.root.next + 1)) at.0
@@ -192,12 +192,12 @@ piece_some at parent e piece is =
     omega (arith, size, parts, own)
 
 -- So all of it is planned.
-pub message_planned : (v : View) (old one two : Planning) (p : NextPlace) (text : List ℕ) (moment : ℕ) (piece : List ℕ) (blob : Id20) (stored : StoredEntry) → IsPlaceAfter v.root old p → p.epoch ≤ 63 → p.length ≡ length_after v.root old.plans p.epoch → p.length < 2 ^ 62
+pub message_planned : (v : StoreState) (old one two : Planning) (p : NextPlace) (text : List ℕ) (moment : ℕ) (piece : List ℕ) (blob : Id20) (stored : StoredEntry) → IsPlaceAfter v.root old p → p.epoch ≤ 63 → p.length ≡ length_after v.root old.plans p.epoch → p.length < 2 ^ 62
     → piece ≡ front_at p.length ++ bytes_after p.parent (record { kind = Message; text = text; moment = moment }) → blob ≡ blob_id_of text
-    → ((before : List Entry) → EndsAt before p → stored ≡ stored_at before (record { kind = Message; number = v.root.next; epoch = p.epoch; text = text; moment = moment })) → one ≡ record { plans = plans_with old.plans p.epoch piece; entries = old.entries; gone = old.gone; current = old.current } → AreValid old.plans
+    → ((before : List Entry) → EntriesEndAt before p → stored ≡ stored_at before (record { kind = Message; number = v.root.next; epoch = p.epoch; text = text; moment = moment })) → one ≡ record { plans = plans_with old.plans p.epoch piece; entries = old.entries; gone = old.gone; current = old.current } → AreValid old.plans
     → AppendsRecord one (record { number = v.root.next; epoch = p.epoch; blob = blob }) two → AreValid two.plans → (plans : List Plan) (before : List StoredEntry) (gone : List ℕ) (current : Option Planned) → record { plans = plans; entries = before; gone = gone; current = current } ≡ two
     → (entries : List StoredEntry) → entries ≡ before ++ stored ∷ [] → stored.seen.kind ≡ Message → stored.number ≡ v.root.next → own_id text ≡ Some stored.seen.id → stored.seen.blob ≡ blob_id_of text → stored.seen.content ≡ content_id_of text → stored.epoch ≡ p.epoch
-    → (end_ : ℕ) → LiesIn p.length end_ stored.seen → end_ ≡ p.length + length piece → (LieFrom 0 0 old.entries → AreUpToEpoch p.epoch old.entries)
+    → (end_ : ℕ) → EntryLiesIn p.length end_ stored.seen → end_ ≡ p.length + length piece → (LieFrom 0 0 old.entries → AreUpToEpoch p.epoch old.entries)
     → PlansEdit v old text moment (record { plans = plans; entries = entries; gone = gone; current = current })
 message_planned v old one two p text moment piece blob stored place small long short piece_is blob_is stored_is one_is valid appends valid_two plans before gone current two_is entries entries_are kind_is number_is id_is stored_blob content_is epoch_is end_ lies end_is last =
     let line = record_bytes (record { number = v.root.next; epoch = p.epoch; blob = blob }) in
@@ -227,7 +227,7 @@ message_planned v old one two p text moment piece blob stored place small long s
       own = own_is;
       others = others_are;
       ready = λ ready.
-          subst (λ (l : List Plan). IsReady v.root l (v.root.next + 1)) (sym plans_are)
+          subst (λ (l : List Plan). IsReadyPlan v.root l (v.root.next + 1)) (sym plans_are)
           (message_ready v old p text moment piece blob stored valid place small long short piece_is blob_is stored_is appends.1.0 map_is (subst AreValid two_plans valid_two) ready);
       named = λ anew named.
           let long_is : p.length ≡ length_planned v.root old.plans stored.epoch = long ∙ (after_planned v.root old.plans p.epoch anew ∙ ap (length_planned v.root old.plans) (sym epoch_is)) in

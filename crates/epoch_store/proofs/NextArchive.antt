@@ -10,11 +10,11 @@ use Rattle.arch_model.specs.Validity.{IsArchive}
 use Rattle.root_slots.specs.declared.root.Root.{Root}
 use Rattle.root_slots.specs.Valid.{IsRoot, RootFits}
 use Rattle.root_change.specs.Names.{place_of}
-use Rattle.root_change.specs.Parts.{Parts, PartsFit, IsOwn, RecoversBy as RecoversParts, texts_of}
+use Rattle.root_change.specs.Parts.{Parts, PartsFit, IsOwnOfParts, RecoversPartsBy as RecoversParts, texts_of}
 use Rattle.root_change.specs.Texts.{IsOn, StandsFor}
 use Rattle.store_finding.specs.declared.entries.StoredEntry.{StoredEntry}
-use Rattle.store_finding.specs.Recovery.{Names, parts_of, RecoversWith}
-use Rattle.store_finding.specs.Kept.{IsStoreWith, View, stored_after}
+use Rattle.store_finding.specs.Recovery.{NamesArchive, parts_of, RecoversWith}
+use Rattle.store_finding.specs.Kept.{IsStoreWith, StoreState, stored_after}
 use Rattle.epoch_store.specs.Commands.{RecoversOneOf}
 use Rattle.store_finding.proofs.FrontParts.{store_keeps, store_cache}
 
@@ -32,7 +32,7 @@ module _ (After : Root → Type 0) (parts : Parts) (cache : List ℕ) (b : Archi
   same_parts = λ i. λ (k : FileKind) (n : ℕ). is.parts_are k n i
 
   module _ (root : Root) (after : After root) where
-    names_next : IsRoot root → RootFits root → PartsFit root parts → Names root b
+    names_next : IsRoot root → RootFits root → PartsFit root parts → NamesArchive root b
     names_next valid fits long = record {
       is_root = valid;
       fits = fits;
@@ -45,7 +45,7 @@ module _ (After : Root → Type 0) (parts : Parts) (cache : List ℕ) (b : Archi
     recovers_next image by = (root, record { valid = is.valid; names = names_next by.valid by.fits by.long; cache_long = is.cache_long root after; stands = subst (λ (ps : Parts). StandsFor root (texts_of root ps) image) same_parts by.stands })
 
     -- What the store has that keeps its entries.
-    pub store_next : (free : ℕ) (entries : List StoredEntry) (k : Option Content) → entries ≡ stored_after [] b.entries → IsOwn root (1 - free) parts k → IsStoreWith (record { root = root; slot = free; entries = entries }) cache b k
+    pub store_next : (free : ℕ) (entries : List StoredEntry) (k : Option Content) → entries ≡ stored_after [] b.entries → IsOwnOfParts root (1 - free) parts k → IsStoreWith (record { root = root; slot = free; entries = entries }) cache b k
     store_next free entries None kept own = absurd own.on
     store_next free entries (Some k) kept own = record {
       keeps = record { valid = is.valid; names = names_next own.valid own.fits own.long; kept = kept };
@@ -54,7 +54,7 @@ module _ (After : Root → Type 0) (parts : Parts) (cache : List ℕ) (b : Archi
     }
 
   -- What a crash leaves of a store's own disk, or of the next archive.
-  pub next_leaves : {D : Type 0} (moment : D → ℕ) (left_since : D → ℕ → Files → Type 0) (disk new : D) (v : View) (old : List ℕ) (a : Archive) (k : Option Content) → IsStoreWith v old a k
+  pub next_leaves : {D : Type 0} (moment : D → ℕ) (left_since : D → ℕ → Files → Type 0) (disk new : D) (v : StoreState) (old : List ℕ) (a : Archive) (k : Option Content) → IsStoreWith v old a k
       → LeavesOnly moment left_since disk new (λ image. RecoversParts v.root (parts_of a old) image ⊎ ((made : Root) × After made × RecoversParts made parts image)) → LeavesOnly moment left_since disk new (RecoversOneOf old a cache b)
   next_leaves moment left_since disk new v old a k store leaves =
       let keeps = store_keeps v old a k store in

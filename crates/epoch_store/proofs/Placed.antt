@@ -10,13 +10,13 @@ use Rattle.root_slots.specs.declared.root.Root.{Root}
 use Rattle.store_planning.specs.declared.next.End.{End}
 use Rattle.store_planning.specs.Planning.{IsPlaceAfter, Planning, length_after}
 use Rattle.store_finding.specs.Recovery.{bytes_in}
-use Rattle.store_planning.specs.Dropping.{IsEnd}
+use Rattle.store_planning.specs.Dropping.{IsStoreEnd}
 use Rattle.store_finding.specs.Kept.{stored_after}
 use Rattle.epoch_store.proofs.Ends.{epoch_after, epoch_here, none_after}
 
-module _ (root : Root) (p : Planning) (end_ : End) (ends : (b : Archive) → IsArchive b → p.entries ≡ stored_after [] b.entries → IsEnd b end_) where
+module _ (root : Root) (p : Planning) (end_ : End) (ends : (b : Archive) → IsArchive b → p.entries ≡ stored_after [] b.entries → IsStoreEnd b end_) where
   -- In the last epoch.
-  pub place_here : (count : ℕ) → count ≡ length_after root p.plans end_.epoch → end_.epoch ≤ 63 → (end_.epoch ≡ 63) ⊎ (count < root.config.limit) → IsPlaceAfter root p (record { epoch = end_.epoch; gen_ = 0; length = count; parent = end_.parent })
+  pub place_here : (count : ℕ) → count ≡ length_after root p.plans end_.epoch → end_.epoch ≤ 63 → (end_.epoch ≡ 63) ⊎ (count < root.config.limit) → IsPlaceAfter root p (record { epoch = end_.epoch; generation = 0; length = count; parent = end_.parent })
   place_here count count_is small takes = λ b valid config kept long.
       let is = ends b valid kept in
       let long_is : count ≡ length (bytes_in b end_.epoch) = count_is ∙ long end_.epoch (omega (arith, small)) in (
@@ -24,12 +24,12 @@ module _ (root : Root) (p : Planning) (end_ : End) (ends : (b : Archive) → IsA
         long_is,
         is.parent ∙ ap (λ (e : ℕ). last_commit None (in_epoch b.entries e)) (sym is.epoch),
       ) where
-        by : (b : Archive) → root.config ≡ b.config → IsEnd b end_ → count ≡ length (bytes_in b end_.epoch) → (end_.epoch ≡ 63) ⊎ (count < root.config.limit) → (last_epoch b.entries ≡ 63) ⊎ (length (bytes_in b (last_epoch b.entries)) < b.config.limit)
+        by : (b : Archive) → root.config ≡ b.config → IsStoreEnd b end_ → count ≡ length (bytes_in b end_.epoch) → (end_.epoch ≡ 63) ⊎ (count < root.config.limit) → (last_epoch b.entries ≡ 63) ⊎ (length (bytes_in b (last_epoch b.entries)) < b.config.limit)
         by b config is long_is (inl is63) = inl (sym is.epoch ∙ is63)
         by b config is long_is (inr less) = inr (subst (λ (e : ℕ). length (bytes_in b e) < b.config.limit) is.epoch (subst (λ (n : ℕ). n < b.config.limit) long_is (subst (λ (c : Config). count < c.limit) config less)))
 
   -- In a new one.
-  pub place_next : (before count : ℕ) → before ≡ length_after root p.plans end_.epoch → count ≡ length_after root p.plans (end_.epoch + 1) → end_.epoch < 63 → root.config.limit ≤ before → IsPlaceAfter root p (record { epoch = end_.epoch + 1; gen_ = 0; length = count; parent = None })
+  pub place_next : (before count : ℕ) → before ≡ length_after root p.plans end_.epoch → count ≡ length_after root p.plans (end_.epoch + 1) → end_.epoch < 63 → root.config.limit ≤ before → IsPlaceAfter root p (record { epoch = end_.epoch + 1; generation = 0; length = count; parent = None })
   place_next before count before_is count_is low full = λ b valid config kept long.
       let is = ends b valid kept in
       let low_is = is.epoch in

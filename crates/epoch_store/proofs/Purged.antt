@@ -8,7 +8,7 @@ use Rattle.std.proofs.lemmas.List.Elements.{AllZip-push, filter-append}
 use Rattle.std.proofs.lemmas.Option.{same_Some, slice_get-get_or, slice_get_within}
 use Rattle.std.proofs.lemmas.Slice.Eq.{bytes_eq-Decides}
 use Rattle.arch_base.specs.declared.ids.Id20.{Id20}
-use Rattle.disk_model.specs.Disk.{Content, Told, Unchanged, WhereTold}
+use Rattle.disk_model.specs.Disk.{Content, BothTold, Unchanged, WhereTold}
 use Rattle.disk_model.specs.declared.name.FileName.{FileName}
 use Rattle.git_objects.specs.Objects.{blob_id_of}
 use Rattle.git_objects.specs.declared.entry_kind.EntryKind.{EntryKind}
@@ -30,14 +30,14 @@ use Rattle.epoch_file.specs.declared.refusal.StoreRefusal.TheVariants.{DiskFault
 use Rattle.store_finding.specs.declared.entries.StoredEntry.{StoredEntry}
 use Rattle.store_finding.specs.Extents.{AreNamedAfter}
 use Rattle.store_finding.specs.Files.{epoch_file_of, map_file_of}
-use Rattle.store_planning.specs.Planning.{AreAnew, AreFrom, ArePlansIn, ClosesAs, ClosesLast, FinishesPlans, GivesNext, IsPlannedUpTo, IsReady, IsTaken, KeepsBut, PicksText, Planning, PlansFirst, PlansLost, PlansOwn, PlansPurge, PlansUndamaged, PlansNext, no_planning, without_current}
+use Rattle.store_planning.specs.Planning.{AreAnew, AreFrom, ArePlansIn, ClosesAs, ClosesLast, FinishesPlans, GivesNext, IsPlannedUpTo, IsReadyPlan, IsTakenToOffset, KeepsBut, PicksText, Planning, PlansFirst, PlansLost, PlansOwn, PlansPurge, PlansUndamaged, PlansNext, no_planning, without_current}
 use Rattle.store_planning.specs.Dropping.{KeptOf, SeesNoDamage, without_blob}
-use Rattle.store_finding.specs.Kept.{View, IsDiskWith, stored_after, stored_at}
+use Rattle.store_finding.specs.Kept.{StoreState, IsDiskWith, stored_after, stored_at}
 use Rattle.epoch_store.proofs.Finished.{entries_are, finished_without}
 use Rattle.epoch_store.proofs.Texts.{kept_found}
 
 -- Before the first entry.
-pub first_none : (v : View) (blob : Id20) (content : Option Content) → WhereTold (PlansFirst v blob 0 no_planning) content
+pub first_none : (v : StoreState) (blob : Id20) (content : Option Content) → WhereTold (PlansFirst v blob 0 no_planning) content
 first_none v blob None = tt
 first_none v blob (Some k) = λ cache a text own picks. record {
   entries = refl;
@@ -53,9 +53,9 @@ pub plans_none : (root : Root) → ArePlansIn root no_planning
 plans_none root = record { each = λ i p here. absurd (let wrong : None ≡ Some p = here in cc); current = tt }
 
 -- An entry of a store at an index.
-pub entry_at : (v : View) (root : Root) (slot : Slot) (es items : List StoredEntry) (i : ℕ) (e : StoredEntry) → ◌≡◌ {A = View} (record { root = root; slot = slot_number slot; entries = es }) v → items ≡ es → i < length items → e ≡ get_or items i e → slice_get v.entries i ≡ Some e
+pub entry_at : (v : StoreState) (root : Root) (slot : Slot) (es items : List StoredEntry) (i : ℕ) (e : StoredEntry) → ◌≡◌ {A = StoreState} (record { root = root; slot = slot_number slot; entries = es }) v → items ≡ es → i < length items → e ≡ get_or items i e → slice_get v.entries i ≡ Some e
 entry_at v root slot es items i e view_is same within is =
-    let all : items ≡ v.entries = same ∙ ap (λ (u : View). u.entries) view_is in
+    let all : items ≡ v.entries = same ∙ ap (λ (u : StoreState). u.entries) view_is in
     ap (λ (l : List StoredEntry). slice_get l i) (sym all) ∙ (slice_get-get_or items i e within ∙ ap (λ (s : StoredEntry). Some s) (sym is))
 
 -- A count that rose from where it stood.
@@ -91,7 +91,7 @@ pub one_content : (k m : Content) → Unchanged k m → m ≡ k
 one_content k m same = λ i. λ (name : FileName). same name i
 
 -- One entry more.
-pub first_more : (v : View) (blob : Id20) (n : ℕ) (p new : Planning) (content mid : Option Content) (stored : StoredEntry) (file : FileName) → Told Unchanged content mid → slice_get v.entries n ≡ Some stored → file ≡ epoch_file_of v.root stored.epoch
+pub first_more : (v : StoreState) (blob : Id20) (n : ℕ) (p new : Planning) (content mid : Option Content) (stored : StoredEntry) (file : FileName) → BothTold Unchanged content mid → slice_get v.entries n ≡ Some stored → file ≡ epoch_file_of v.root stored.epoch
     → WhereTold (PlansFirst v blob n p) content → PlansNext p file stored blob mid new (Ok tt) → WhereTold (PlansFirst v blob (n + 1) new) content
 first_more v blob n p new None mid stored file same here file_is up takes = tt
 first_more v blob n p new (Some k) None stored file same here file_is up takes = absurd same
@@ -107,7 +107,7 @@ length_stored : (before es : List Entry) → length (stored_after before es) ≡
 length_stored before [] = refl
 length_stored before (e ∷ es) = ap suc (length_stored (before ++ e ∷ []) es)
 
-pub first_whole : (v : View) (blob : Id20) (n : ℕ) (p : Planning) (content : Option Content) → length v.entries ≤ n → WhereTold (PlansFirst v blob n p) content → WhereTold (PlansFirst v blob (length v.entries) p) content
+pub first_whole : (v : StoreState) (blob : Id20) (n : ℕ) (p : Planning) (content : Option Content) → length v.entries ≤ n → WhereTold (PlansFirst v blob n p) content → WhereTold (PlansFirst v blob (length v.entries) p) content
 first_whole v blob n p None most up = tt
 first_whole v blob n p (Some k) most up = λ cache a text own picks.
     let size : length v.entries ≡ length a.entries = ap length own.keeps.kept ∙ length_stored [] a.entries in
@@ -140,7 +140,7 @@ picks_text a blob text agree has is =
     all_weaker (λ (e : Entry). blob_id_of text ≡ blob_id_of e.text → text ≡ e.text) (λ (e : Entry). bytes_eq blob.0 (blob_id_of e.text).0 ≡ bytes_eq text e.text) a.entries (λ e agrees. picks_one blob text e is agrees) (agrees-has a.entries text agree has)
 
 -- The text of an entry that is kept with a blob id.
-pub picked : (v : View) (cache : List ℕ) (a : Archive) (k : Content) (blob : Id20) → IsDiskWith v cache a k → (e : StoredEntry) × Contains v.entries e × (e.seen.blob ≡ blob) → (text : List ℕ) × PicksText a blob text
+pub picked : (v : StoreState) (cache : List ℕ) (a : Archive) (k : Content) (blob : Id20) → IsDiskWith v cache a k → (e : StoredEntry) × Contains v.entries e × (e.seen.blob ≡ blob) → (text : List ℕ) × PicksText a blob text
 picked v cache a k blob own there =
     let at = there.1 in
     let here : slice_get v.entries at.0 ≡ Some there.0 = slice_get-get_or v.entries at.0 there.0 at.1 ∙ ap (λ (s : StoredEntry). Some s) at.2 in
@@ -154,7 +154,7 @@ sees_none texts root a es e text new DiskFault T gives = tt
 sees_none texts root a es e text new NoMemory T gives = tt
 sees_none texts root a es e text new (Damaged file at) T gives = gives
 
-pub first_stops : (v : View) (blob : Id20) (n : ℕ) (p new : Planning) (content mid : Option Content) (stored : StoredEntry) (file : FileName) (refusal : StoreRefusal) (T : Type 0) → Told Unchanged content mid → slice_get v.entries n ≡ Some stored → file ≡ epoch_file_of v.root stored.epoch
+pub first_stops : (v : StoreState) (blob : Id20) (n : ℕ) (p new : Planning) (content mid : Option Content) (stored : StoredEntry) (file : FileName) (refusal : StoreRefusal) (T : Type 0) → BothTold Unchanged content mid → slice_get v.entries n ≡ Some stored → file ≡ epoch_file_of v.root stored.epoch
     → (e : StoredEntry) × Contains v.entries e × (e.seen.blob ≡ blob) → WhereTold (PlansFirst v blob n p) content → PlansNext p file stored blob mid new (Err refusal) → PlansUndamaged {T = T} v (Err refusal) content
 first_stops v blob n p new None mid stored file refusal T same here file_is there up takes = λ a cache store. absurd store
 first_stops v blob n p new (Some k) None stored file refusal T same here file_is there up takes = absurd same
@@ -204,7 +204,7 @@ finish_entries old map count new finishes = ap (λ (p : Planning). p.entries) fi
   by (Some c) closes = closes_entries (without_current old) closes.0 finishes.0 closes.3
 
 -- All entries were planned, and the map.
-module _ (v : View) (blob : Id20) (p new : Planning) (map : FileName) (map_is : map ≡ map_file_of v.root) (count : ℕ) (count_is : count ≡ v.root.next - 1) (finishes : FinishesPlans p map count new) (from : AreFrom v.root new.plans) where
+module _ (v : StoreState) (blob : Id20) (p new : Planning) (map : FileName) (map_is : map ≡ map_file_of v.root) (count : ℕ) (count_is : count ≡ v.root.next - 1) (finishes : FinishesPlans p map count new) (from : AreFrom v.root new.plans) where
   up_all : (k : Content) (cache : List ℕ) (a : Archive) (text : List ℕ) → IsDiskWith v cache a k → PicksText a blob text → PlansFirst v blob (length v.entries) p k → IsPlannedUpTo (texts_in k) v.root a a.entries text p
   up_all k cache a text own picks up =
       let size : length v.entries ≡ length a.entries = ap length own.keeps.kept ∙ length_stored [] a.entries in
@@ -218,17 +218,17 @@ module _ (v : View) (blob : Id20) (p new : Planning) (map : FileName) (map_is : 
       (finished_without k v cache a own text p all map map_is count count_is new finishes from, entries_are k v cache a own text p all map map_is count count_is new finishes from)
 
 -- What is known once a planner is finished, of a store that was looked into.
-pub record ReadyOf (v : View) (root : Root) (p new : Planning) : Type 0 where
+pub record ReadyOf (v : StoreState) (root : Root) (p new : Planning) : Type 0 where
   pub purge : (blob : Id20) → AllZip KeptOf (without_blob v.entries blob.0) p.entries → PlansLost v.entries blob new.plans → PlansPurge v blob new.entries new.plans
   pub own : (blob : Id20) (content : Option Content) → WhereTold (PlansFirst v blob (length v.entries) p) content → PlansOwn v blob new.entries new.plans content
 
-pub ready_of : (v : View) (root : Root) (slot : ℕ) (entries : List StoredEntry) (map : FileName) (p new : Planning) → ◌≡◌ {A = View} (record { root = root; slot = slot; entries = entries }) v → IsRoot root → map ≡ map_file_of root → ArePlansIn v.root p → IsTaken v.root p → FinishesPlans p map (root.next - 1) new
-    → ((r : Root) → IsRoot r → map ≡ map_file_of r → r.map.length ≡ 28 * (root.next - 1) → ArePlansIn r p → IsTaken r p → AreFrom r new.plans × AreAnew new.plans × IsReady r new.plans (root.next - 1 + 1) × AreNamedAfter r new.plans new.entries)
+pub ready_of : (v : StoreState) (root : Root) (slot : ℕ) (entries : List StoredEntry) (map : FileName) (p new : Planning) → ◌≡◌ {A = StoreState} (record { root = root; slot = slot; entries = entries }) v → IsRoot root → map ≡ map_file_of root → ArePlansIn v.root p → IsTakenToOffset v.root p → FinishesPlans p map (root.next - 1) new
+    → ((r : Root) → IsRoot r → map ≡ map_file_of r → r.map.length ≡ 28 * (root.next - 1) → ArePlansIn r p → IsTakenToOffset r p → AreFrom r new.plans × AreAnew new.plans × IsReadyPlan r new.plans (root.next - 1 + 1) × AreNamedAfter r new.plans new.entries)
     → ReadyOf v root p new
 ready_of v root slot entries map p new view_is valid map_is are taken finishes ready =
-    let root_is : root ≡ v.root = ap (λ (u : View). u.root) view_is in
+    let root_is : root ≡ v.root = ap (λ (u : StoreState). u.root) view_is in
     let are_inside = subst (λ (r : Root). ArePlansIn r p) (sym root_is) are in
-    let taken_inside = subst (λ (r : Root). IsTaken r p) (sym root_is) taken in
+    let taken_inside = subst (λ (r : Root). IsTakenToOffset r p) (sym root_is) taken in
     let so = ready root valid map_is valid.map_length are_inside taken_inside in
     let least = valid.next_least in
     let count : root.next - 1 + 1 ≡ root.next = omega (arith, least) in
@@ -238,7 +238,7 @@ ready_of v root slot entries map p new view_is valid map_is are taken finishes r
     record {
       purge = λ blob kept lost. record {
         kept = subst (AllZip KeptOf (without_blob v.entries blob.0)) (sym (finish_entries p map (root.next - 1) new finishes)) kept;
-        ready = subst (λ (r : Root). IsReady r new.plans r.next) root_is (subst (IsReady root new.plans) count so.2);
+        ready = subst (λ (r : Root). IsReadyPlan r new.plans r.next) root_is (subst (IsReadyPlan root new.plans) count so.2);
         anew = so.1;
         lost = lost;
         named = subst (λ (r : Root). AreNamedAfter r new.plans new.entries) root_is so.3;

@@ -2,18 +2,18 @@
 use Rattle.std.specs.Prelude.{◌≡◌, ◌≢◌, ◌⊎◌, ◌+◌, ◌-◌, ◌<◌, ◌≤◌, ℕ, zero, suc, true, false, List, [], ◌∷◌, ◌++◌, length, take, drop, Option, Some, None, refl}
 use Rattle.std.proofs.Common.{◌∙◌, sym, ap, subst, inl, inr, arith, length-append}
 use Rattle.std.proofs.lemmas.List.{length-take-le, take-append-le, take_at, drop_at, drop-drop}
-use Rattle.disk_model.specs.Disk.{File, Files, Kept, Content, Image, Told, WhereTold, Unchanged, Fits, Within, LeavesOnly, exact, bytes_of, overlay, ReadsFit}
-use Rattle.disk_model.specs.Laws.{SameOutside, overlay-torn, overlay-size, overlay-inside, Fits-exact, Fits-Within}
+use Rattle.disk_model.specs.Disk.{File, Files, Kept, Content, Image, BothTold, WhereTold, Unchanged, MaySurvive, Within, LeavesOnly, exact, bytes_of, overlay, ReadsFit}
+use Rattle.disk_model.specs.Laws.{SameOutside, overlay-torn, overlay-size, overlay-inside, MaySurvive-exact, MaySurvive-Within}
 use Rattle.disk_model.specs.Moments.{weaker}
-use Rattle.disk_model.specs.Synced.{Writing, IsWritten, IsSettled}
+use Rattle.disk_model.specs.Synced.{WritingLeaves, IsWritten, IsSettled}
 use Rattle.disk_model.specs.Tells.{told_weaker, told_where}
-use Rattle.root_slots.specs.Between.{BetweenStays, RunsBetween, WentBetween, between, between_writing, joined_between, looks_between, went_settled, went_then, went_unchanged, went_written}
+use Rattle.root_slots.specs.Between.{BetweenStays, RunsBetween, WentBetween, crash_between, between_writing, joined_between, looks_between, went_settled, went_then, went_unchanged, went_written}
 use Rattle.root_slots.specs.RootName.{root_name}
 use Rattle.root_slots.specs.Each.{IfThere, EachRoot, part_stays, each_writing, each_written}
 use Rattle.root_slots.specs.Slots.{HasRootSize, IsGateOpen, gate, body_offset, body_at, with_root, Current, Ready}
 use Rattle.root_change.proofs.Roots.{equal_or_not}
 use Rattle.epoch_store.specs.Opens.{IsOnlySynced}
-use Rattle.epoch_store.specs.Settling.{Rests, StaysCurrent, IsReadied, KeepsSlots, ReadiesSlot}
+use Rattle.epoch_store.specs.Settling.{RootIsSettled, StaysCurrent, IsReadied, KeepsSlots, ReadiesSlot}
 
 -- The other slot of the other slot.
 back : (slot : ℕ) → slot < 2 → slot ≡ 1 - (1 - slot)
@@ -68,7 +68,7 @@ pub record HasShut (slot : ℕ) (body file : List ℕ) : Type 0 where
 
 -- A crash leaves the root file of a settled disk as it reads.
 each_settled : (P : List ℕ → Type 0) (k : Content) → IsSettled k → IfThere P (k root_name).seen → EachRoot P (Some k)
-each_settled P k settled there = λ file fits. subst (IfThere P) (sym (Fits-exact (k root_name).seen file (Fits-Within (k root_name).sure (exact (k root_name).seen) file (settled root_name) fits))) there
+each_settled P k settled there = λ file fits. subst (IfThere P) (sym (MaySurvive-exact (k root_name).seen file (MaySurvive-Within (k root_name).sure (exact (k root_name).seen) file (settled root_name) fits))) there
 
 -- The root file has its current root, and the other gate is shut.
 with_gate : (slot : ℕ) (body : List ℕ) (file : File) → IfThere (Current slot body) file → gate (bytes_of file) (1 - slot) ≢ 1 → IfThere (HasShut slot body) file
@@ -81,42 +81,42 @@ with_open slot body (Some file) there opened = open_ready slot body file there o
 
 module _ (slot : ℕ) (body : List ℕ) where
   -- Before anything is done.
-  pub current_now : (k : Option Content) (image : Files) → Rests slot body k → Image k image → StaysCurrent slot body k image
-  current_now None image rests left = absurd rests
-  current_now (Some k) image rests left = record { root = each_settled (Current slot body) k rests.settled rests.current (image root_name) (left root_name); elsewhere = λ other apart. left other }
+  pub current_now : (k : Option Content) (image : Files) → RootIsSettled slot body k → Image k image → StaysCurrent slot body k image
+  current_now None image files_are left = absurd files_are
+  current_now (Some k) image files_are left = record { root = each_settled (Current slot body) k files_are.settled files_are.current (image root_name) (left root_name); elsewhere = λ other apart. left other }
 
   -- If the gate is open, nothing has to be done.
-  pub readied_open : (k m : Option Content) → Rests slot body k → Told Unchanged k m → WhereTold (IsGateOpen (1 - slot) true) k → Told (IsReadied slot body) k m
-  readied_open None m rests same opened = absurd rests
-  readied_open (Some k) None rests same opened = absurd same
-  readied_open (Some k) (Some m) rests same opened = record {
-    root = subst (λ (kept : Kept). IfThere (Ready (1 - slot) body) kept.seen) (sym (same root_name)) (with_open slot body (k root_name).seen rests.current opened);
+  pub readied_open : (k m : Option Content) → RootIsSettled slot body k → BothTold Unchanged k m → WhereTold (IsGateOpen (1 - slot) true) k → BothTold (IsReadied slot body) k m
+  readied_open None m files_are same opened = absurd files_are
+  readied_open (Some k) None files_are same opened = absurd same
+  readied_open (Some k) (Some m) files_are same opened = record {
+    root = subst (λ (kept : Kept). IfThere (Ready (1 - slot) body) kept.seen) (sym (same root_name)) (with_open slot body (k root_name).seen files_are.current opened);
     elsewhere = λ other apart. ap (λ (kept : Kept). kept.seen) (same other);
-    settled = λ other. subst (λ (kept : Kept). Within kept.sure (exact kept.seen)) (sym (same other)) (rests.settled other);
+    settled = λ other. subst (λ (kept : Kept). Within kept.sure (exact kept.seen)) (sym (same other)) (files_are.settled other);
   }
 
   -- While the slot is filled.
-  pub filling : (k m : Option Content) (image : Files) → ReadsFit k → ReadsFit m → Rests slot body k → Told Unchanged k m → WhereTold (IsGateOpen (1 - slot) false) k → WhereTold HasRootSize k → Writing root_name (body_offset (1 - slot)) 1536 m image → StaysCurrent slot body k image
-  filling None m image fit fit2 rests same shut size writing = absurd rests
-  filling (Some k) None image fit fit2 rests same shut size writing = absurd same
-  filling (Some k) (Some m) image fit fit2 rests same shut size writing =
-      let shut_there : IfThere (HasShut slot body) (m root_name).seen = subst (λ (kept : Kept). IfThere (HasShut slot body) kept.seen) (sym (same root_name)) (with_gate slot body (k root_name).seen rests.current shut) in
-      let settled : IsSettled m = λ other. subst (λ (kept : Kept). Within kept.sure (exact kept.seen)) (sym (same other)) (rests.settled other) in
-      let low = rests.in_range in
+  pub filling : (k m : Option Content) (image : Files) → ReadsFit k → ReadsFit m → RootIsSettled slot body k → BothTold Unchanged k m → WhereTold (IsGateOpen (1 - slot) false) k → WhereTold HasRootSize k → WritingLeaves root_name (body_offset (1 - slot)) 1536 m image → StaysCurrent slot body k image
+  filling None m image fit fit2 files_are same shut size writing = absurd files_are
+  filling (Some k) None image fit fit2 files_are same shut size writing = absurd same
+  filling (Some k) (Some m) image fit fit2 files_are same shut size writing =
+      let shut_there : IfThere (HasShut slot body) (m root_name).seen = subst (λ (kept : Kept). IfThere (HasShut slot body) kept.seen) (sym (same root_name)) (with_gate slot body (k root_name).seen files_are.current shut) in
+      let settled : IsSettled m = λ other. subst (λ (kept : Kept). Within kept.sure (exact kept.seen)) (sym (same other)) (files_are.settled other) in
+      let low = files_are.in_range in
       let long : length (bytes_of (m root_name).seen) ≡ 4096 = ap (λ (kept : Kept). length (bytes_of kept.seen)) (same root_name) ∙ size in
       record {
         root = each_writing (HasShut slot body) (Current slot body) (body_offset (1 - slot)) 1536 m image fit2 (omega (arith, long, low)) (omega arith) (each_settled (HasShut slot body) m settled shut_there) (λ a b has torn. twin_torn slot body a b has.current has.shut torn) writing;
-        elsewhere = λ other apart. subst (λ (kept : Kept). Fits kept.sure (image other)) (same other) (writing.elsewhere other apart);
+        elsewhere = λ other apart. subst (λ (kept : Kept). MaySurvive kept.sure (image other)) (same other) (writing.elsewhere other apart);
       }
 
   -- After the slot is filled.
-  pub readied_filled : (k m n : Option Content) → length body ≡ 1536 → ReadsFit m → ReadsFit n → Rests slot body k → Told Unchanged k m → WhereTold (IsGateOpen (1 - slot) false) k → Told (IsWritten root_name (body_offset (1 - slot)) body) m n → Told (IsReadied slot body) k n
-  readied_filled None m n whole fit fit2 rests same shut written = absurd rests
-  readied_filled (Some k) None n whole fit fit2 rests same shut written = absurd same
-  readied_filled (Some k) (Some m) None whole fit fit2 rests same shut written = absurd written
-  readied_filled (Some k) (Some m) (Some n) whole fit fit2 rests same shut written =
-      let shut_there : IfThere (HasShut slot body) (m root_name).seen = subst (λ (kept : Kept). IfThere (HasShut slot body) kept.seen) (sym (same root_name)) (with_gate slot body (k root_name).seen rests.current shut) in
-      let settled : IsSettled m = λ other. subst (λ (kept : Kept). Within kept.sure (exact kept.seen)) (sym (same other)) (rests.settled other) in
+  pub readied_filled : (k m n : Option Content) → length body ≡ 1536 → ReadsFit m → ReadsFit n → RootIsSettled slot body k → BothTold Unchanged k m → WhereTold (IsGateOpen (1 - slot) false) k → BothTold (IsWritten root_name (body_offset (1 - slot)) body) m n → BothTold (IsReadied slot body) k n
+  readied_filled None m n whole fit fit2 files_are same shut written = absurd files_are
+  readied_filled (Some k) None n whole fit fit2 files_are same shut written = absurd same
+  readied_filled (Some k) (Some m) None whole fit fit2 files_are same shut written = absurd written
+  readied_filled (Some k) (Some m) (Some n) whole fit fit2 files_are same shut written =
+      let shut_there : IfThere (HasShut slot body) (m root_name).seen = subst (λ (kept : Kept). IfThere (HasShut slot body) kept.seen) (sym (same root_name)) (with_gate slot body (k root_name).seen files_are.current shut) in
+      let settled : IsSettled m = λ other. subst (λ (kept : Kept). Within kept.sure (exact kept.seen)) (sym (same other)) (files_are.settled other) in
       let ready : EachRoot (Ready (1 - slot) body) (Some n) = each_written (HasShut slot body) (Ready (1 - slot) body) (body_offset (1 - slot)) body (Some m) (Some n) fit (each_settled (HasShut slot body) m settled shut_there) (λ a has. filled_ready slot body a whole has.current has.shut) written in
       record {
         root = ready (n root_name).seen (fit2 n refl root_name);
@@ -176,7 +176,7 @@ committed_over slot body next a b low whole long size kept = elim (equal_or_not 
 ]
 
 -- The same of disks that may tell their content.
-pub slots_open : (slot : ℕ) (body : List ℕ) (k m : Option Content) → Told Unchanged k m → WhereTold (IsGateOpen (1 - slot) true) k → Told (ReadiesSlot slot body) k m
+pub slots_open : (slot : ℕ) (body : List ℕ) (k m : Option Content) → BothTold Unchanged k m → WhereTold (IsGateOpen (1 - slot) true) k → BothTold (ReadiesSlot slot body) k m
 slots_open slot body None None same opened = tt
 slots_open slot body None (Some m) same opened = absurd same
 slots_open slot body (Some k) None same opened = absurd same
@@ -185,7 +185,7 @@ slots_open slot body (Some k) (Some m) same opened = record {
   elsewhere = λ other apart. ap (λ (kept : Kept). kept.seen) (same other);
 }
 
-pub slots_written : (slot : ℕ) (body : List ℕ) (k m n : Option Content) → Told Unchanged k m → WhereTold (IsGateOpen (1 - slot) false) k → Told (IsWritten root_name (body_offset (1 - slot)) body) m n → Told (ReadiesSlot slot body) k n
+pub slots_written : (slot : ℕ) (body : List ℕ) (k m n : Option Content) → BothTold Unchanged k m → WhereTold (IsGateOpen (1 - slot) false) k → BothTold (IsWritten root_name (body_offset (1 - slot)) body) m n → BothTold (ReadiesSlot slot body) k n
 slots_written slot body None None None same shut written = tt
 slots_written slot body None None (Some n) same shut written = absurd written
 slots_written slot body None (Some m) n same shut written = absurd same
@@ -199,29 +199,29 @@ slots_written slot body (Some k) (Some m) (Some n) same shut written =
     }
 
 -- The size of the root file of a disk that is unchanged.
-size_still : (k m : Option Content) → Told Unchanged k m → WhereTold HasRootSize k → WhereTold HasRootSize m
+size_still : (k m : Option Content) → BothTold Unchanged k m → WhereTold HasRootSize k → WhereTold HasRootSize m
 size_still k m same size = told_where Unchanged HasRootSize HasRootSize k m (λ a b is told kept was. ap (λ (it : Kept). length (bytes_of it.seen)) (kept root_name) ∙ was) same size
 
 -- The bytes between the gates and the bodies, while the other slot is filled, and then.
-pub fill_went : (slot : ℕ) → slot < 2 → (body : List ℕ) (k m n : Option Content) → length body ≡ 1536 → ReadsFit m → WhereTold HasRootSize k → Told Unchanged k m → Told (IsWritten root_name (body_offset (1 - slot)) body) m n → Told WentBetween k n
+pub fill_went : (slot : ℕ) → slot < 2 → (body : List ℕ) (k m n : Option Content) → length body ≡ 1536 → ReadsFit m → WhereTold HasRootSize k → BothTold Unchanged k m → BothTold (IsWritten root_name (body_offset (1 - slot)) body) m n → BothTold WentBetween k n
 fill_went slot low body k m n whole fit size same written =
     went_then k m n (went_unchanged k m same)
     (went_written (body_offset (1 - slot)) body m n (inl (omega arith)) (omega (arith, whole, low)) fit (size_still k m same size) written)
 
-pub fill_between : {D : Type 0} (content : D → Option Content) (moment : D → ℕ) (left_since : D → ℕ → Files → Type 0) (slot : ℕ) → slot < 2 → (disk mid new : D) → ReadsFit (content mid) → WhereTold HasRootSize (content disk) → Told Unchanged (content disk) (content mid) → LeavesOnly moment left_since disk mid (Image (content disk))
-    → LeavesOnly moment left_since mid new (Writing root_name (body_offset (1 - slot)) 1536 (content mid)) → RunsBetween content moment left_since disk new
+pub fill_between : {D : Type 0} (content : D → Option Content) (moment : D → ℕ) (left_since : D → ℕ → Files → Type 0) (slot : ℕ) → slot < 2 → (disk mid new : D) → ReadsFit (content mid) → WhereTold HasRootSize (content disk) → BothTold Unchanged (content disk) (content mid) → LeavesOnly moment left_since disk mid (Image (content disk))
+    → LeavesOnly moment left_since mid new (WritingLeaves root_name (body_offset (1 - slot)) 1536 (content mid)) → RunsBetween content moment left_since disk new
 fill_between content moment left_since slot low disk mid new fit size same looks writes =
     joined_between content moment left_since disk mid new (looks_between content moment left_since disk mid looks) (went_unchanged (content disk) (content mid) same)
-    (weaker moment left_since mid new (Writing root_name (body_offset (1 - slot)) 1536 (content mid)) (BetweenStays (content mid)) writes
+    (weaker moment left_since mid new (WritingLeaves root_name (body_offset (1 - slot)) 1536 (content mid)) (BetweenStays (content mid)) writes
     (λ image. between_writing (body_offset (1 - slot)) 1536 (content mid) image (inl (omega arith)) (omega arith) (omega (arith, low)) fit (size_still (content disk) (content mid) same size)))
 
 -- The same while files are read, and in what comes after it.
-pub read_between : {D : Type 0} (content : D → Option Content) (moment : D → ℕ) (left_since : D → ℕ → Files → Type 0) (disk mid new : D) → Told Unchanged (content disk) (content mid) → LeavesOnly moment left_since disk mid (Image (content disk)) → RunsBetween content moment left_since mid new → RunsBetween content moment left_since disk new
+pub read_between : {D : Type 0} (content : D → Option Content) (moment : D → ℕ) (left_since : D → ℕ → Files → Type 0) (disk mid new : D) → BothTold Unchanged (content disk) (content mid) → LeavesOnly moment left_since disk mid (Image (content disk)) → RunsBetween content moment left_since mid new → RunsBetween content moment left_since disk new
 read_between content moment left_since disk mid new same looks run =
     joined_between content moment left_since disk mid new (looks_between content moment left_since disk mid looks) (went_unchanged (content disk) (content mid) same) run
 
 -- While a disk is synced, and in what comes after it.
-pub synced_between : {D : Type 0} (content : D → Option Content) (moment : D → ℕ) (left_since : D → ℕ → Files → Type 0) (disk mid new : D) → ReadsFit (content disk) → Told IsOnlySynced (content disk) (content mid) → LeavesOnly moment left_since disk mid (Image (content disk)) → RunsBetween content moment left_since mid new → RunsBetween content moment left_since disk new
+pub synced_between : {D : Type 0} (content : D → Option Content) (moment : D → ℕ) (left_since : D → ℕ → Files → Type 0) (disk mid new : D) → ReadsFit (content disk) → BothTold IsOnlySynced (content disk) (content mid) → LeavesOnly moment left_since disk mid (Image (content disk)) → RunsBetween content moment left_since mid new → RunsBetween content moment left_since disk new
 synced_between content moment left_since disk mid new fit synced looks run =
     joined_between content moment left_since disk mid new (looks_between content moment left_since disk mid looks)
-    (told_weaker IsOnlySynced WentBetween (content disk) (content mid) (λ a b is told one. went_settled a b (λ k same. fit k (is ∙ same)) one.settled (ap (λ (f : File). between (bytes_of f)) (one.seen root_name))) synced) run
+    (told_weaker IsOnlySynced WentBetween (content disk) (content mid) (λ a b is told one. went_settled a b (λ k same. fit k (is ∙ same)) one.settled (ap (λ (f : File). crash_between (bytes_of f)) (one.seen root_name))) synced) run

@@ -5,7 +5,7 @@ use Rattle.std.specs.List.{flat_map}
 use Rattle.std.proofs.Common.{◌∙◌, sym, ap, subst, inl, inr, arith, length-take}
 use Rattle.std.proofs.lemmas.Bool.{cases_lt}
 use Rattle.disk_model.specs.declared.name.FileName.{FileName}
-use Rattle.disk_model.specs.Disk.{File, Files, Content, Image, Told, WhereTold, Synced, bytes_of, ReadsFit}
+use Rattle.disk_model.specs.Disk.{File, Files, Content, Image, BothTold, WhereTold, Synced, bytes_of, ReadsFit}
 use Rattle.disk_model.specs.Synced.{settled_image}
 use Rattle.disk_model.specs.Tells.{told_then, told_where}
 use Rattle.arch_model.specs.Archives.{Archive, in_epoch}
@@ -32,26 +32,26 @@ use Rattle.root_change.proofs.Grown.{epoch_isnt_root, map_isnt_root, epoch_is_na
 use Rattle.store_finding.specs.declared.entries.StoredEntry.{StoredEntry}
 use Rattle.store_finding.specs.declared.finding.Found.{Found}
 use Rattle.store_finding.specs.Files.{map_file_of, epoch_file_of, as_read}
-use Rattle.store_finding.specs.Finding.{Finds, IsFoundIn, IsCurrentRoot, IsDamagedFile}
+use Rattle.store_finding.specs.Finding.{FindsStore, IsFoundIn, IsCurrentRoot, IsDamagedFile}
 use Rattle.store_finding.specs.Joined.{AreBefore}
 use Rattle.epoch_store.specs.Laws.{RecoversOne}
 use Rattle.store_finding.specs.Openings.{archive_of, HasMap, OpenedRecovers, RecoversUndamaged}
-use Rattle.epoch_store.specs.Opens.{RecoversOfWith, AllRecoverWith, ReadsWith, Opens, OpensNone, IsOpenedIn, IsWant, IsOnlySynced, SyncsBy, OnSynced}
+use Rattle.epoch_store.specs.Opens.{RecoversOfWith, AllRecoverWith, ReadsWith, OpensFiles, OpensNone, IsOpenedIn, IsWant, IsOnlySynced, SyncsBy, OnSynced}
 use Rattle.epoch_store.specs.Reads.{HasTexts}
-use Rattle.store_finding.specs.Recovery.{parts_of, RecoversWith, RecoversBy}
-use Rattle.epoch_store.specs.Settling.{IsFound, FoundOn, KeepsSlots, IsSettledBy}
-use Rattle.store_finding.specs.Kept.{View, IsStoreWith, InEpochs, stored_after}
-use Rattle.epoch_store.specs.Commands.{HasSizes}
+use Rattle.store_finding.specs.Recovery.{parts_of, RecoversWith, RecoversArchiveBy}
+use Rattle.epoch_store.specs.Settling.{IsFoundDisk, FoundOn, KeepsSlots, IsSettledBy}
+use Rattle.store_finding.specs.Kept.{StoreState, IsStoreWith, InEpochs, stored_after}
+use Rattle.epoch_store.specs.Commands.{StoreHasSizes}
 use Rattle.epoch_store.proofs.TextsOpened.{fronts-kept, texts-stand}
 use Rattle.store_finding.proofs.FrontParts.{parts_front, texts_measure}
 use Rattle.epoch_store.proofs.Readying.{slots_size}
 use Rattle.store_finding.proofs.UniqueRoots.{root_is_one, not_shut}
 
 -- What is found after a sync is found of the files as they read before it.
-pub found_before : (result : Result Found OpenRefusal) (k m : Option Content) → Told Synced k m → WhereTold (λ c. Finds (as_read c) result) m → WhereTold (λ c. Finds (as_read c) result) k
+pub found_before : (result : Result Found OpenRefusal) (k m : Option Content) → BothTold Synced k m → WhereTold (λ c. FindsStore (as_read c) result) m → WhereTold (λ c. FindsStore (as_read c) result) k
 found_before result None m synced found = tt
 found_before result (Some k) None synced found = absurd synced
-found_before result (Some k) (Some m) synced found = subst (λ (files : Files). Finds files result) (λ i. λ (name : FileName). synced.seen name i) found
+found_before result (Some k) (Some m) synced found = subst (λ (files : Files). FindsStore files result) (λ i. λ (name : FileName). synced.seen name i) found
 
 -- An epoch below 64 is one up to 63.
 pub in_epochs : (es : List StoredEntry) → AreBefore 64 es → InEpochs es
@@ -67,11 +67,11 @@ sized_root slot body None there = absurd there
 sized_root slot body (Some bytes) there = there.size
 
 -- Files that stand for texts of the named lengths still do after the sync.
-found_so : (root : Root) (slot : ℕ) (texts : Texts) (k m : Content) → IsOnlySynced k m → IsCurrentRoot root slot (as_read k) → StandsFor root texts (as_read k) → Measures root texts → IsFound root slot texts m
+found_so : (root : Root) (slot : ℕ) (texts : Texts) (k m : Content) → IsOnlySynced k m → IsCurrentRoot root slot (as_read k) → StandsFor root texts (as_read k) → Measures root texts → IsFoundDisk root slot texts m
 found_so root slot texts k m synced current stands measures =
     let one : as_read m ≡ as_read k = (λ i. λ (name : FileName). synced.seen name i) in
     record {
-      rests = record {
+      files_are = record {
         in_range = current.in_range;
         settled = synced.settled;
         current = subst (IfThere (Current slot (spelling root))) (sym (synced.seen root_name)) current.current;
@@ -81,11 +81,11 @@ found_so root slot texts k m synced current stands measures =
     }
 
 -- Files stand for an archive by their current root.
-by_current : SpellingsDiffer → (files : Files) (cache : List ℕ) (a : Archive) (root : Root) (slot : ℕ) → RecoversWith cache files a → IsCurrentRoot root slot files → RecoversBy root cache files a
+by_current : SpellingsDiffer → (files : Files) (cache : List ℕ) (a : Archive) (root : Root) (slot : ℕ) → RecoversWith cache files a → IsCurrentRoot root slot files → RecoversArchiveBy root cache files a
 by_current spellings files cache a root slot r is =
     let there = current_has slot (spelling root) (files root_name) is.current in
     let one : r.0 ≡ root = spellings r.0 root r.1.names.fits is.fits r.1.names.is_root is.is_root (root_is_one (files root_name) (spelling r.0) (spelling root) r.1.stands.current there) in
-    subst (λ (s : Root). RecoversBy s cache files a) one r.1
+    subst (λ (s : Root). RecoversArchiveBy s cache files a) one r.1
 
 module _ (found : Found) (files : Files) (is : IsFoundIn files found) where
   root : Root
@@ -96,7 +96,7 @@ module _ (found : Found) (files : Files) (is : IsFoundIn files found) where
   has_root = current_has (slot_number found.slot) (spelling found.root) (files root_name) is.root.current
 
   -- The archive's entries are those that were read.
-  kept_is : RecoversOne → OpenedRecovers → (cache : List ℕ) (a : Archive) → RecoversBy found.root cache files a → found.entries.items ≡ stored_after [] a.entries
+  kept_is : RecoversOne → OpenedRecovers → (cache : List ℕ) (a : Archive) → RecoversArchiveBy found.root cache files a → found.entries.items ≡ stored_after [] a.entries
   kept_is one opened cache a r =
       let map : HasMap found.root files is.records = record { is_root = is.root.is_root; fits = is.root.fits; current = has_root; count = is.has.count; begins = is.has.begins } in
       let parts = parts_front found.root cache files a r in
@@ -109,12 +109,12 @@ abbrev pub texts_found : Found → List ℕ → Archive → Texts
 texts_found found cache a = texts_of found.root (parts_of a cache)
 
 -- What was found of an archive is found so after the sync.
-found_archive : (found : Found) (cache : List ℕ) (a : Archive) (k m : Content) → IsFoundIn (as_read k) found → RecoversBy found.root cache (as_read k) a → IsOnlySynced k m → IsFound found.root (slot_number found.slot) (texts_found found cache a) m
+found_archive : (found : Found) (cache : List ℕ) (a : Archive) (k m : Content) → IsFoundIn (as_read k) found → RecoversArchiveBy found.root cache (as_read k) a → IsOnlySynced k m → IsFoundDisk found.root (slot_number found.slot) (texts_found found cache a) m
 found_archive found cache a k m is r synced =
     found_so found.root (slot_number found.slot) (texts_found found cache a) k m synced is.root r.stands (texts_measure found.root a cache r.valid r.names r.cache_long)
 
 -- The view of what was found.
-abbrev pub view_of : Found → View
+abbrev pub view_of : Found → StoreState
 view_of found = record { root = found.root; slot = slot_number found.slot; entries = found.entries.items }
 
 -- What is answered of what was found, of an error of reading, and of one that says nothing of the files.
@@ -122,14 +122,14 @@ pub opens_view : (found : Found) (k : Option Content) → WhereTold (λ c. IsFou
 opens_view found None is = tt
 opens_view found (Some k) is = record { records = is.records; root = is.root; has = is.has; read = is.read }
 
-pub opens_refused : (refusal : OpenRefusal) (k : Option Content) → WhereTold (λ c. Finds (as_read c) (Err refusal)) k → WhereTold (λ c. Opens (as_read c) (Err refusal)) k
+pub opens_refused : (refusal : OpenRefusal) (k : Option Content) → WhereTold (λ c. FindsStore (as_read c) (Err refusal)) k → WhereTold (λ c. OpensFiles (as_read c) (Err refusal)) k
 opens_refused refusal None is = tt
 opens_refused NoArchive (Some k) is = is
 opens_refused (Damaged file at) (Some k) is = is
 opens_refused DiskFault (Some k) is = tt
 opens_refused NoMemory (Some k) is = tt
 
-pub opens_want : (refusal : OpenRefusal) (k : Option Content) → IsWant refusal → WhereTold (λ c. Opens (as_read c) (Err refusal)) k
+pub opens_want : (refusal : OpenRefusal) (k : Option Content) → IsWant refusal → WhereTold (λ c. OpensFiles (as_read c) (Err refusal)) k
 opens_want refusal None is = tt
 opens_want NoArchive (Some k) is = absurd is
 opens_want (Damaged file at) (Some k) is = absurd is
@@ -148,7 +148,7 @@ still_long root name k n long same =
     omega (arith, long, sizes, length-take {A = ℕ} (named_end root name) (bytes_of (n name).seen), length-take {A = ℕ} (named_end root name) (bytes_of (k name).seen))
 
 -- The files have their sizes at the end, with or without a cache.
-sized_so : (found : Found) (k n : Content) → IsFoundIn (as_read k) found → IsSettledBy found.root (slot_number found.slot) k n → HasSizes (view_of found) n
+sized_so : (found : Found) (k n : Content) → IsFoundIn (as_read k) found → IsSettledBy found.root (slot_number found.slot) k n → StoreHasSizes (view_of found) n
 sized_so found k n is kept = record {
   root =
       let slot = slot_number found.slot in
@@ -163,23 +163,23 @@ sized_so found k n is kept = record {
   map_there : found.root.map.length ≤ length (bytes_of (n (map_file_of found.root)).seen)
   map_there =
       let name = map_file_of found.root in
-      let end_ : named_end found.root name ≡ found.root.map.length = named_some found.root name (map_is_named found.root found.root.map.gen_ refl) in
+      let end_ : named_end found.root name ≡ found.root.map.length = named_some found.root name (map_is_named found.root found.root.map.generation refl) in
       let size = records_length 1 is.records is.has.begins.valid in
       let spelled : length (take (28 * length is.records) (bytes_of (k name).seen)) ≡ length (flat_map record_bytes is.records) = ap (λ (b : List ℕ). length b) is.has.begins.spelled in
       let long = is.root.is_root.map_length in
       let count = is.has.count in
       let was : named_end found.root name ≤ length (bytes_of (k name).seen) = omega (arith, end_, size, spelled, long, count, length-take {A = ℕ} (28 * length is.records) (bytes_of (k name).seen)) in
-      let now = still_long found.root name k n was (kept.fronts name (map_isnt_root found.root.map.gen_)) in
+      let now = still_long found.root name k n was (kept.fronts name (map_isnt_root found.root.map.generation)) in
       omega (arith, now, end_)
 
   epoch_there : (e : ℕ) → e < 64 → 0 < (get_or found.root.epochs e no_place).length → (get_or found.root.epochs e no_place).length ≤ length (bytes_of (n (epoch_file_of found.root e)).seen)
   epoch_there e below some =
       let name = epoch_file_of found.root e in
-      let end_ : named_end found.root name ≡ (get_or found.root.epochs e no_place).length = named_some found.root name (epoch_is_named found.root e (get_or found.root.epochs e no_place).gen_ below some refl) in
+      let end_ : named_end found.root name ≡ (get_or found.root.epochs e no_place).length = named_some found.root name (epoch_is_named found.root e (get_or found.root.epochs e no_place).generation below some refl) in
       let whole = is.read.opened.whole.lengths e below in
       let front = (is.read.opened.whole.fronts e below).long in
       let was : named_end found.root name ≤ length (bytes_of (k name).seen) = omega (arith, end_, whole, front) in
-      let now = still_long found.root name k n was (kept.fronts name (epoch_isnt_root e (get_or found.root.epochs e no_place).gen_)) in
+      let now = still_long found.root name k n was (kept.fronts name (epoch_isnt_root e (get_or found.root.epochs e no_place).generation)) in
       omega (arith, now, end_)
 
 -- What settling keeps of the files after the sync it keeps of those before.
@@ -191,12 +191,12 @@ settled_since root slot k m n synced kept = record {
   slots = subst (λ (file : File). KeepsSlots slot (spelling root) (bytes_of file) (bytes_of (n root_name).seen)) (synced.seen root_name) kept.slots;
 }
 
-pub opened_kept : (root : Root) (slot : ℕ) (k m n : Option Content) → Told IsOnlySynced k m → Told (IsSettledBy root slot) m n → Told (IsSettledBy root slot) k n
+pub opened_kept : (root : Root) (slot : ℕ) (k m n : Option Content) → BothTold IsOnlySynced k m → BothTold (IsSettledBy root slot) m n → BothTold (IsSettledBy root slot) k n
 opened_kept root slot k m n synced kept = told_then IsOnlySynced (IsSettledBy root slot) (IsSettledBy root slot) k m n (λ a b c is told one two. settled_since root slot a b c one two) synced kept
 
-pub opened_sizes : (found : Found) (k m n : Option Content) → WhereTold (λ c. IsFoundIn (as_read c) found) k → Told IsOnlySynced k m → Told (IsSettledBy found.root (slot_number found.slot)) m n → WhereTold (HasSizes (view_of found)) n
+pub opened_sizes : (found : Found) (k m n : Option Content) → WhereTold (λ c. IsFoundIn (as_read c) found) k → BothTold IsOnlySynced k m → BothTold (IsSettledBy found.root (slot_number found.slot)) m n → WhereTold (StoreHasSizes (view_of found)) n
 opened_sizes found k m n is synced kept =
-    told_where (IsSettledBy found.root (slot_number found.slot)) (λ c. IsFoundIn (as_read c) found) (HasSizes (view_of found)) k n (λ a b before after settled has. sized_so found a b has settled)
+    told_where (IsSettledBy found.root (slot_number found.slot)) (λ c. IsFoundIn (as_read c) found) (StoreHasSizes (view_of found)) k n (λ a b before after settled has. sized_so found a b has settled)
     (opened_kept found.root (slot_number found.slot) k m n synced kept) is
 
 -- A file starts with no bytes.
@@ -213,12 +213,12 @@ texts_so found k n is kept = texts-stand (view_of found) is.read.entries n is.re
   there : (e : ℕ) → e < 64 → 0 < (get_or found.root.epochs e no_place).length → Fronts (epoch_bytes (in_epoch is.read.entries e)) (n (epoch_file_of found.root e)).seen
   there e below some =
       let name = epoch_file_of found.root e in
-      let end_ : named_end found.root name ≡ (get_or found.root.epochs e no_place).length = named_some found.root name (epoch_is_named found.root e (get_or found.root.epochs e no_place).gen_ below some refl) in
+      let end_ : named_end found.root name ≡ (get_or found.root.epochs e no_place).length = named_some found.root name (epoch_is_named found.root e (get_or found.root.epochs e no_place).generation below some refl) in
       let count : named_end found.root name ≡ length (epoch_bytes (in_epoch is.read.entries e)) = end_ ∙ is.read.opened.whole.lengths e below in
       fronts-kept (epoch_bytes (in_epoch is.read.entries e)) (k name).seen (n name).seen (is.read.opened.whole.fronts e below)
-      (subst (λ (m : ℕ). take m (bytes_of (n name).seen) ≡ take m (bytes_of (k name).seen)) count (kept.fronts name (epoch_isnt_root e (get_or found.root.epochs e no_place).gen_)))
+      (subst (λ (m : ℕ). take m (bytes_of (n name).seen) ≡ take m (bytes_of (k name).seen)) count (kept.fronts name (epoch_isnt_root e (get_or found.root.epochs e no_place).generation)))
 
-pub opened_texts : (found : Found) (k m n : Option Content) → WhereTold (λ c. IsFoundIn (as_read c) found) k → Told IsOnlySynced k m → Told (IsSettledBy found.root (slot_number found.slot)) m n → WhereTold (HasTexts (view_of found)) n
+pub opened_texts : (found : Found) (k m n : Option Content) → WhereTold (λ c. IsFoundIn (as_read c) found) k → BothTold IsOnlySynced k m → BothTold (IsSettledBy found.root (slot_number found.slot)) m n → WhereTold (HasTexts (view_of found)) n
 opened_texts found k m n is synced kept =
     told_where (IsSettledBy found.root (slot_number found.slot)) (λ c. IsFoundIn (as_read c) found) (HasTexts (view_of found)) k n (λ a b before after settled has. texts_so found a b has settled)
     (opened_kept found.root (slot_number found.slot) k m n synced kept) is
@@ -230,7 +230,7 @@ at_first cache may (Some k) image all left = all image left
 
 module _ (spellings : SpellingsDiffer) where
   -- The store is the archive's, and the disk its own.
-  pub opened_store : RecoversOne → OpenedRecovers → (found : Found) (cache : List ℕ) (a : Archive) (k m n : Option Content) → WhereTold (λ c. IsFoundIn (as_read c) found) k → ReadsWith cache a k → Told IsOnlySynced k m
+  pub opened_store : RecoversOne → OpenedRecovers → (found : Found) (cache : List ℕ) (a : Archive) (k m n : Option Content) → WhereTold (λ c. IsFoundIn (as_read c) found) k → ReadsWith cache a k → BothTold IsOnlySynced k m
       → ((texts : Texts) → FoundOn found.root (slot_number found.slot) texts m → OnDisk found.root (1 - slot_number found.slot) texts n) → IsStoreWith (view_of found) cache a n
   opened_store one opened found cache a None m n is reads synced done = absurd reads
   opened_store one opened found cache a (Some k) None n is reads synced done = absurd synced
@@ -244,7 +244,7 @@ module _ (spellings : SpellingsDiffer) where
             record { keeps = record { valid = r.valid; names = r.names; kept = kept_is found (as_read k) is one opened cache a r }; cache_long = r.cache_long; on = on }
 
   -- While the disk is settled, files stand for an archive that they might have stood for.
-  pub opening_stands : (cache : List ℕ) (may : List (Option Archive)) (found : Found) (k m : Option Content) → ReadsFit k → WhereTold (λ c. IsFoundIn (as_read c) found) k → AllRecoverWith cache may k → Told IsOnlySynced k m
+  pub opening_stands : (cache : List ℕ) (may : List (Option Archive)) (found : Found) (k m : Option Content) → ReadsFit k → WhereTold (λ c. IsFoundIn (as_read c) found) k → AllRecoverWith cache may k → BothTold IsOnlySynced k m
       → (a : Archive) × FoundOn found.root (slot_number found.slot) (texts_found found cache a) m × ((image : Files) → StandsFor found.root (texts_found found cache a) image → RecoversOfWith cache may image)
   opening_stands cache may found None m fit is all synced = absurd all
   opening_stands cache may found (Some k) None fit is all synced = absurd synced
@@ -256,7 +256,7 @@ module _ (spellings : SpellingsDiffer) where
         (a, found_archive found cache a k m is r synced, λ image stands. (Some a, in_may, (found.root, record { valid = r.valid; names = r.names; cache_long = r.cache_long; stands = stands })))
 
   -- While the disk is settled, files stand for the archive as which they read.
-  pub reading_stands : (found : Found) (cache : List ℕ) (a : Archive) (k m : Option Content) → WhereTold (λ c. IsFoundIn (as_read c) found) k → ReadsWith cache a k → Told IsOnlySynced k m
+  pub reading_stands : (found : Found) (cache : List ℕ) (a : Archive) (k m : Option Content) → WhereTold (λ c. IsFoundIn (as_read c) found) k → ReadsWith cache a k → BothTold IsOnlySynced k m
       → FoundOn found.root (slot_number found.slot) (texts_found found cache a) m × ((image : Files) → StandsFor found.root (texts_found found cache a) image → RecoversWith cache image a)
   reading_stands found cache a None m is reads synced = absurd reads
   reading_stands found cache a (Some k) None is reads synced = absurd synced
@@ -267,7 +267,7 @@ module _ (spellings : SpellingsDiffer) where
   -- Files that stand for an archive are opened.
   module _ (undamaged : RecoversUndamaged) (files : Files) (cache : List ℕ) (a : Archive) (recovers : RecoversWith cache files a) where
     -- Their current root is a root.
-    root_undamaged : (at : ℕ) (file : File) → IfThere (HasRoot (spelling recovers.0)) file → slots.IsDamaged at (bytes_of file) → ⊥
+    root_undamaged : (at : ℕ) (file : File) → IfThere (HasRoot (spelling recovers.0)) file → slots.SpellsNoRoot at (bytes_of file) → ⊥
     root_undamaged at None there damaged = absurd there
     root_undamaged at (Some bytes) there damaged =
         damaged.none recovers.0 recovers.1.names.fits recovers.1.names.is_root
@@ -287,18 +287,18 @@ module _ (spellings : SpellingsDiffer) where
         } in
         (undamaged d.root files a cache r).1 d.records d.epoch at map d.first
 
-    finds_well : (refusal : OpenRefusal) → Finds files (Err refusal) → IsWant refusal
+    finds_well : (refusal : OpenRefusal) → FindsStore files (Err refusal) → IsWant refusal
     finds_well NoArchive shut = absurd (not_shut (files root_name) (spelling recovers.0) recovers.1.stands.current shut)
     finds_well (Damaged file at) damaged = absurd (no_damage file at damaged)
     finds_well DiskFault found = tt
     finds_well NoMemory found = tt
 
-  pub opens_well : RecoversUndamaged → (cache : List ℕ) (a : Archive) (k : Option Content) (refusal : OpenRefusal) → ReadsWith cache a k → WhereTold (λ c. Finds (as_read c) (Err refusal)) k → IsWant refusal
+  pub opens_well : RecoversUndamaged → (cache : List ℕ) (a : Archive) (k : Option Content) (refusal : OpenRefusal) → ReadsWith cache a k → WhereTold (λ c. FindsStore (as_read c) (Err refusal)) k → IsWant refusal
   opens_well undamaged cache a None refusal reads finds = absurd reads
   opens_well undamaged cache a (Some k) refusal reads finds = finds_well undamaged (as_read k) cache a reads refusal finds
 
 -- What a crash leaves of a disk that was only synced stands for the archive as which its files read.
-pub synced_recovers : (cache : List ℕ) (a : Archive) (k m : Option Content) (image : Files) → ReadsWith cache a k → Told IsOnlySynced k m → Image m image → RecoversWith cache image a
+pub synced_recovers : (cache : List ℕ) (a : Archive) (k m : Option Content) (image : Files) → ReadsWith cache a k → BothTold IsOnlySynced k m → Image m image → RecoversWith cache image a
 synced_recovers cache a None m image reads synced left = absurd reads
 synced_recovers cache a (Some k) None image reads synced left = absurd synced
 synced_recovers cache a (Some k) (Some m) image reads synced left =
@@ -307,7 +307,7 @@ synced_recovers cache a (Some k) (Some m) image reads synced left =
     subst (λ (files : Files). RecoversWith cache files a) (sym (one ∙ two)) reads
 
 -- A refusal of a call after the sync comes after it.
-pub refused_first : (T U P : Type 0) (why : OpenRefusal) (k m : Option Content) → SyncsBy {T = T} (Err why) k m → (Told IsOnlySynced k m → P) → OnSynced {T = U} (Err why) P
+pub refused_first : (T U P : Type 0) (why : OpenRefusal) (k m : Option Content) → SyncsBy {T = T} (Err why) k m → (BothTold IsOnlySynced k m → P) → OnSynced {T = U} (Err why) P
 refused_first T U P NoArchive k m synced so = so synced
 refused_first T U P (Damaged file at) k m synced so = so synced
 refused_first T U P DiskFault k m synced so = tt

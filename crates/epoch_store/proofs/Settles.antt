@@ -4,7 +4,7 @@ use Rattle.std.specs.List.{Contains}
 use Rattle.std.proofs.Common.{◌∙◌, sym, ap, subst, inl, inr}
 use Rattle.store_finding.specs.Listing.{AreAllNames}
 use Rattle.disk_model.specs.declared.name.FileName.{FileName}
-use Rattle.disk_model.specs.Disk.{File, Files, Content, Image, Told, WhereTold, Unchanged, LeavesOnly, bytes_of}
+use Rattle.disk_model.specs.Disk.{File, Files, Content, Image, BothTold, WhereTold, Unchanged, LeavesOnly, bytes_of}
 use Rattle.disk_model.specs.Images.{same_or_other}
 use Rattle.disk_model.specs.Moments.{joined}
 use Rattle.disk_model.specs.Synced.{settled_image}
@@ -20,7 +20,7 @@ use Rattle.root_change.specs.Tidying.{Tidied, IsToTidy, ToTidy}
 use Rattle.root_change.proofs.Drops.{unnamed_apart}
 use Rattle.root_change.proofs.Phases.{current_has, settled_file}
 use Rattle.root_change.proofs.Roots.{none_at_most}
-use Rattle.epoch_store.specs.Settling.{Rests, StaysCurrent, IsReadied, KeepsSlots, ReadiesSlot, FoundOn, IsToSettle, ToSettle, IsSwept, IsSettledBy}
+use Rattle.epoch_store.specs.Settling.{RootIsSettled, StaysCurrent, IsReadied, KeepsSlots, ReadiesSlot, FoundOn, IsToSettle, ToSettle, IsSwept, IsSettledBy}
 
 -- A file is there or missing.
 there_or_not : (file : File) → IsSome file ⊎ (file ≡ None)
@@ -34,16 +34,16 @@ some_there P (Some bytes) there = refl
 
 module _ (root : Root) (slot : ℕ) (texts : Texts) (names : List FileName) where
   -- A disk that is to be settled is synced and has its current root.
-  pub to_settle_rests : (k : Option Content) → ToSettle root slot texts names k → Rests slot (spelling root) k
+  pub to_settle_rests : (k : Option Content) → ToSettle root slot texts names k → RootIsSettled slot (spelling root) k
   to_settle_rests None todo = absurd todo
-  to_settle_rests (Some k) todo = todo.found.rests
+  to_settle_rests (Some k) todo = todo.found.files_are
 
   -- While the other slot is made ready.
   pub readying_stands : (k : Option Content) (image : Files) → ToSettle root slot texts names k → StaysCurrent slot (spelling root) k image → StandsFor root texts image
   readying_stands None image todo stays = absurd todo
   readying_stands (Some k) image todo stays = record {
     current = current_has slot (spelling root) (image root_name) stays.root;
-    fronts = λ name apart. subst (λ (file : File). Fronts (texts name) file) (sym (settled_file k name (image name) todo.found.rests.settled (stays.elsewhere name apart))) (todo.found.stands.fronts name apart);
+    fronts = λ name apart. subst (λ (file : File). Fronts (texts name) file) (sym (settled_file k name (image name) todo.found.files_are.settled (stays.elsewhere name apart))) (todo.found.stands.fronts name apart);
   }
 
   -- Once it is ready the files may be tidied.
@@ -53,18 +53,18 @@ module _ (root : Root) (slot : ℕ) (texts : Texts) (names : List FileName) wher
     fronts = λ name apart file fits. subst (λ (f : File). Fronts (texts name) f) (sym (settled_file m name file readied.settled fits ∙ readied.elsewhere name apart)) (todo.found.stands.fronts name apart);
     measures = todo.found.measures;
     all = λ name there. elim (same_or_other root_name name) [
-      | inl same ↦ subst (λ (n : FileName). Contains names n) (sym same) (todo.all root_name (some_there _ (k root_name).seen todo.found.rests.current))
+      | inl same ↦ subst (λ (n : FileName). Contains names n) (sym same) (todo.all root_name (some_there _ (k root_name).seen todo.found.files_are.current))
       | inr apart ↦ todo.all name (subst (λ (file : File). IsSome file) (readied.elsewhere name apart) there)
     ];
   }
 
-  pub tidy_ready : (k m : Option Content) → ToSettle root slot texts names k → Told (IsReadied slot (spelling root)) k m → ToTidy root (1 - slot) texts names m
+  pub tidy_ready : (k m : Option Content) → ToSettle root slot texts names k → BothTold (IsReadied slot (spelling root)) k m → ToTidy root (1 - slot) texts names m
   tidy_ready None m todo readied = absurd todo
   tidy_ready (Some k) None todo readied = absurd readied
   tidy_ready (Some k) (Some m) todo readied = to_tidy k m todo readied
 
   -- A disk that was found is to be settled.
-  pub listed_to_settle : (k m : Option Content) → FoundOn root slot texts k → Told Unchanged k m → WhereTold (AreAllNames names) k → ToSettle root slot texts names m
+  pub listed_to_settle : (k m : Option Content) → FoundOn root slot texts k → BothTold Unchanged k m → WhereTold (AreAllNames names) k → ToSettle root slot texts names m
   listed_to_settle None m found same all = absurd found
   listed_to_settle (Some k) None found same all = absurd same
   listed_to_settle (Some k) (Some m) found same all =
@@ -75,7 +75,7 @@ module _ (root : Root) (slot : ℕ) (texts : Texts) (names : List FileName) wher
 pub found_image : (root : Root) (slot : ℕ) (texts : Texts) (k : Option Content) (image : Files) → FoundOn root slot texts k → Image k image → StandsFor root texts image
 found_image root slot texts None image found left = absurd found
 found_image root slot texts (Some k) image found left =
-    let one : image ≡ as_read k = (λ i. λ (name : FileName). settled_image k image found.rests.settled left name i) in
+    let one : image ≡ as_read k = (λ i. λ (name : FileName). settled_image k image found.files_are.settled left name i) in
     subst (StandsFor root texts) (sym one) found.stands
 
 -- What a crash leaves while files are listed and the disk is then swept.
@@ -95,7 +95,7 @@ module _ (root : Root) (slot : ℕ) (names : List FileName) where
     slots = subst (λ (file : File). KeepsSlots slot (spelling root) (bytes_of (k root_name).seen) (bytes_of file)) (sym tidied.root_same) readies.slots;
   }
 
-  pub swept_told : (k m n : Option Content) → Told (ReadiesSlot slot (spelling root)) k m → Told (Tidied (Contains names) root) m n → Told (IsSwept root slot names) k n
+  pub swept_told : (k m n : Option Content) → BothTold (ReadiesSlot slot (spelling root)) k m → BothTold (Tidied (Contains names) root) m n → BothTold (IsSwept root slot names) k n
   swept_told k m n readies tidied = told_then (ReadiesSlot slot (spelling root)) (Tidied (Contains names) root) (IsSwept root slot names) k m n (λ a b c is told one two. swept a b c one two) readies tidied
 
   -- If all files are listed, these are all.
@@ -113,7 +113,7 @@ module _ (root : Root) (slot : ℕ) (names : List FileName) where
     slots = was.slots;
   }
 
-  pub settled_told : (k m n : Option Content) → WhereTold (AreAllNames names) k → Told Unchanged k m → Told (IsSwept root slot names) m n → Told (IsSettledBy root slot) k n
+  pub settled_told : (k m n : Option Content) → WhereTold (AreAllNames names) k → BothTold Unchanged k m → BothTold (IsSwept root slot names) m n → BothTold (IsSettledBy root slot) k n
   settled_told None None None all same was = tt
   settled_told None None (Some n) all same was = absurd was
   settled_told None (Some m) n all same was = absurd same

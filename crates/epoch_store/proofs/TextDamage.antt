@@ -2,7 +2,7 @@
 use Rattle.std.specs.Prelude.{◌≡◌, ◌<◌, ℕ, length, drop, slice_get, Option, Some, None, refl}
 use Rattle.std.proofs.Common.{◌∙◌, subst, inl, arith, length-drop, length-take}
 use Rattle.disk_model.specs.declared.name.FileName.{FileName}
-use Rattle.disk_model.specs.Disk.{Content, Told, Unchanged, WhereTold, bytes_of}
+use Rattle.disk_model.specs.Disk.{Content, BothTold, Unchanged, WhereTold, bytes_of}
 use Rattle.root_change.specs.Rewriting.{IsPlannedPart}
 use Rattle.epoch_file.specs.Planning.{LacksText}
 use Rattle.epoch_file.specs.declared.refusal.StoreRefusal.{StoreRefusal}
@@ -10,20 +10,20 @@ use Rattle.epoch_file.specs.declared.refusal.StoreRefusal.TheVariants.{DiskFault
 use Rattle.store_finding.specs.declared.entries.StoredEntry.{StoredEntry}
 use Rattle.store_planning.specs.DamagedTexts.{DamageBy, IsDamageIn, IsDamageOf, IsDamagedEntry, IsShortPart}
 use Rattle.store_finding.specs.Files.{epoch_file_of}
-use Rattle.store_planning.specs.Planning.{IsReady, Planning}
+use Rattle.store_planning.specs.Planning.{IsReadyPlan, Planning}
 use Rattle.store_finding.specs.Reading.{HasText}
-use Rattle.store_planning.specs.Dropping.{IsUndamaged}
-use Rattle.store_finding.specs.Kept.{View}
+use Rattle.store_planning.specs.Dropping.{IsUndamagedStore}
+use Rattle.store_finding.specs.Kept.{StoreState}
 use Rattle.epoch_store.proofs.Purged.{one_content}
 
 -- An error that isn't damage tells of none.
-pub none_told : (P : FileName → ℕ → Type 0) (why : StoreRefusal) → IsUndamaged why → DamageBy why P
+pub none_told : (P : FileName → ℕ → Type 0) (why : StoreRefusal) → IsUndamagedStore why → DamageBy why P
 none_told P DiskFault sound = tt
 none_told P NoMemory sound = tt
 none_told P (Damaged file at) sound = absurd sound
 
 -- An entry whose text isn't in its place, after the disk was only read.
-lacks_here : (v : View) (s : StoredEntry) (file : FileName) (k m : Option Content) → file ≡ epoch_file_of v.root s.epoch → Told Unchanged k m → WhereTold (LacksText file s.seen) m → WhereTold (λ (c : Content). HasText v.root s c → ⊥) k
+lacks_here : (v : StoreState) (s : StoredEntry) (file : FileName) (k m : Option Content) → file ≡ epoch_file_of v.root s.epoch → BothTold Unchanged k m → WhereTold (LacksText file s.seen) m → WhereTold (λ (c : Content). HasText v.root s c → ⊥) k
 lacks_here v s file None m file_is same lack = tt
 lacks_here v s file (Some k) None file_is same lack = absurd same
 lacks_here v s file (Some k) (Some m) file_is same lack = λ has.
@@ -33,19 +33,19 @@ lacks_here v s file (Some k) (Some m) file_is same lack = λ has.
     let long = has.long in
     lacks (omega (arith, long, length-take s.seen.size (drop s.seen.text_at bytes), length-drop s.seen.text_at bytes)) has.blob
 
-pub entry_damage : (v : View) (i : ℕ) (s : StoredEntry) (file : FileName) (k m : Option Content) (why : StoreRefusal) → slice_get v.entries i ≡ Some s → file ≡ epoch_file_of v.root s.epoch → Told Unchanged k m → DamageBy why (IsDamageOf file s m) → DamageBy why (λ (f : FileName) (at : ℕ). IsDamagedEntry v f at k)
+pub entry_damage : (v : StoreState) (i : ℕ) (s : StoredEntry) (file : FileName) (k m : Option Content) (why : StoreRefusal) → slice_get v.entries i ≡ Some s → file ≡ epoch_file_of v.root s.epoch → BothTold Unchanged k m → DamageBy why (IsDamageOf file s m) → DamageBy why (λ (f : FileName) (at : ℕ). IsDamagedEntry v f at k)
 entry_damage v i s file k m DiskFault here file_is same damage = tt
 entry_damage v i s file k m NoMemory here file_is same damage = tt
 entry_damage v i s file k m (Damaged f at) here file_is same damage =
     record { index = i; entry = s; there = here; file_is = damage.0 ∙ file_is; at_is = damage.1; lacks = lacks_here v s file k m file_is same damage.2 }
 
-pub entry_told : (v : View) (k : Option Content) (why : StoreRefusal) → DamageBy why (λ (f : FileName) (at : ℕ). IsDamagedEntry v f at k) → DamageBy why (λ (f : FileName) (at : ℕ). IsDamageIn v f at k)
+pub entry_told : (v : StoreState) (k : Option Content) (why : StoreRefusal) → DamageBy why (λ (f : FileName) (at : ℕ). IsDamagedEntry v f at k) → DamageBy why (λ (f : FileName) (at : ℕ). IsDamageIn v f at k)
 entry_told v k DiskFault damage = tt
 entry_told v k NoMemory damage = tt
 entry_told v k (Damaged f at) damage = inl damage
 
 -- The file of a planned part is too short.
-pub short_told : (v : View) (p : Planning) (next : ℕ) (file : FileName) (at : ℕ) (k : Option Content) → IsReady v.root p.plans next → WhereTold (λ (c : Content). Unit {0} → ⊥) k → IsPlannedPart v.root p.plans file at → IsShortPart v.root file at k
+pub short_told : (v : StoreState) (p : Planning) (next : ℕ) (file : FileName) (at : ℕ) (k : Option Content) → IsReadyPlan v.root p.plans next → WhereTold (λ (c : Content). Unit {0} → ⊥) k → IsPlannedPart v.root p.plans file at → IsShortPart v.root file at k
 short_told v p next file at k ready whole planned = record {
   kind = planned.plan.kind;
   number = planned.plan.number;
@@ -59,7 +59,7 @@ short_told v p next file at k ready whole planned = record {
   never (Some c) whole = absurd (whole tt)
 
 -- What a disk tells that was only read.
-pub content_is : (k m : Option Content) → Told Unchanged k m → m ≡ k
+pub content_is : (k m : Option Content) → BothTold Unchanged k m → m ≡ k
 content_is None None same = refl
 content_is None (Some m) same = absurd same
 content_is (Some k) None same = absurd same

@@ -14,7 +14,7 @@ use Rattle.store_finding.specs.declared.entries.StoredEntry.{StoredEntry}
 use Rattle.root_change.specs.Texts.{Fronts}
 use Rattle.store_finding.specs.Files.{epoch_file_of}
 use Rattle.arch_model.specs.Validity.{IsEntry}
-use Rattle.store_finding.specs.Kept.{View, stored_at, stored_after}
+use Rattle.store_finding.specs.Kept.{StoreState, stored_at, stored_after}
 use Rattle.arch_model.specs.declared.text_refusal.TextRefusal.TheVariants.{Damaged}
 use Rattle.root_slots.specs.declared.root.Root.{Root}
 use Rattle.store_finding.specs.Kept.{IsStoreWith}
@@ -82,23 +82,23 @@ text_at root es k valid fronts i s is =
     subst (IsTextAt root es k i) (sym r.kept) (record { entry = e; here = r.here; size = refl; blob = refl; long = reads.0; stands = reads.1 })
 
 -- The bytes at the offset, on the disk of an archive, are the text of its entry.
-stands_is_text : (v : View) (a : Archive) (k : Content) (i : ℕ) (s : StoredEntry) (text : List ℕ) → IsTextAt v.root a.entries k i s
+stands_is_text : (v : StoreState) (a : Archive) (k : Content) (i : ℕ) (s : StoredEntry) (text : List ℕ) → IsTextAt v.root a.entries k i s
     → StandsAt (bytes_of (k (epoch_file_of v.root s.epoch)).seen) s.seen.text_at s.seen.size text → (text_if (slice_get a.entries i) ≡ Some text) × (blob_id_of text ≡ s.seen.blob)
 stands_is_text v a k i s text at stands =
     let same : text ≡ at.entry.text = stands at.long ∙ at.stands in
     (ap text_if at.here ∙ ap (λ (t : List ℕ). Some t) (sym same), ap blob_id_of same ∙ sym at.blob)
 
 -- So the text is read, and no damage is found.
-pub right_text : (v : View) (cache : List ℕ) (a : Archive) (k : Option Content) (i : ℕ) (s : StoredEntry) (text : List ℕ) → IsStoreWith v cache a k → slice_get v.entries i ≡ Some s
+pub right_text : (v : StoreState) (cache : List ℕ) (a : Archive) (k : Option Content) (i : ℕ) (s : StoredEntry) (text : List ℕ) → IsStoreWith v cache a k → slice_get v.entries i ≡ Some s
     → WhereTold (λ (c : Content). StandsAt (bytes_of (c (epoch_file_of v.root s.epoch)).seen) s.seen.text_at s.seen.size text) k → (text_if (slice_get a.entries i) ≡ Some text) × (blob_id_of text ≡ s.seen.blob)
 right_text v cache a None i s text own is stands = absurd own
 right_text v cache a (Some k) i s text own is stands =
     stands_is_text v a k i s text (text_at v.root a.entries k own.keeps.valid.entries (disk_fronts v cache a k own).epochs_front i s (subst (λ (l : List StoredEntry). slice_get l i ≡ Some s) own.keeps.kept is)) stands
 
 -- The entry that is looked up.
-pub here_is : (v : View) (root : Root) (slot : ℕ) (es : List StoredEntry) (i : ℕ) (e : StoredEntry) → ◌≡◌ {A = View} (record { root = root; slot = slot; entries = es }) v → e ≡ get_or es i e → i < length v.entries → slice_get v.entries i ≡ Some e
+pub here_is : (v : StoreState) (root : Root) (slot : ℕ) (es : List StoredEntry) (i : ℕ) (e : StoredEntry) → ◌≡◌ {A = StoreState} (record { root = root; slot = slot; entries = es }) v → e ≡ get_or es i e → i < length v.entries → slice_get v.entries i ≡ Some e
 here_is v root slot es i e view is within =
-    let same : es ≡ v.entries = ap (λ (w : View). w.entries) view in
+    let same : es ≡ v.entries = ap (λ (w : StoreState). w.entries) view in
     slice_get-get_or v.entries i e within ∙ ap (λ (f : StoredEntry). Some f) (sym (is ∙ ap (λ (l : List StoredEntry). get_or l i e) same))
 
 -- There is only one entry at an index.
@@ -129,7 +129,7 @@ finds_text root s e old new text file k is file_is added stands =
     where_so _ (FindsText root s old new (Ok (tt {0}))) k stands (λ c there. (text, stands_by root s e text file c is file_is there, added))
 
 -- The same for a file by its name.
-pub right_text_in : (v : View) (cache : List ℕ) (a : Archive) (k : Option Content) (i : ℕ) (e : StoredEntry) (text : List ℕ) (file : FileName) → IsStoreWith v cache a k → slice_get v.entries i ≡ Some e → file ≡ epoch_file_of v.root e.epoch
+pub right_text_in : (v : StoreState) (cache : List ℕ) (a : Archive) (k : Option Content) (i : ℕ) (e : StoredEntry) (text : List ℕ) (file : FileName) → IsStoreWith v cache a k → slice_get v.entries i ≡ Some e → file ≡ epoch_file_of v.root e.epoch
     → WhereTold (λ (c : Content). StandsAt (bytes_of (c file).seen) e.seen.text_at e.seen.size text) k → (text_if (slice_get a.entries i) ≡ Some text) × (blob_id_of text ≡ e.seen.blob)
 right_text_in v cache a k i e text file own here file_is stands =
     right_text v cache a k i e text own here (subst (λ (f : FileName). WhereTold (λ (c : Content). StandsAt (bytes_of (c f).seen) e.seen.text_at e.seen.size text) k) file_is stands)

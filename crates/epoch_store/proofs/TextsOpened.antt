@@ -11,7 +11,7 @@ use Rattle.git_objects.specs.Objects.{blob_id_of}
 use Rattle.root_change.specs.Texts.{Fronts}
 use Rattle.store_finding.specs.Files.{epoch_file_of}
 use Rattle.epoch_store.specs.Reads.{HasTexts}
-use Rattle.store_finding.specs.Kept.{View, stored_after}
+use Rattle.store_finding.specs.Kept.{StoreState, stored_after}
 use Rattle.store_finding.specs.declared.entries.StoredEntry.{StoredEntry}
 use Rattle.epoch_store.proofs.Texts.{text_at}
 
@@ -23,7 +23,7 @@ fronts-kept bytes old new fronts same =
     record { long = omega (arith, whole, least); front = same ∙ fronts.front }
 
 -- Where each epoch's file starts with the bytes of its entries, each text is in its place.
-pub texts-stand : (v : View) (es : List Entry) (k : Content) → v.entries ≡ stored_after [] es → AllByRecursion IsEntry es → ((e : ℕ) → e < epoch_count → Fronts (epoch_bytes (in_epoch es e)) (k (epoch_file_of v.root e)).seen) → HasTexts v k
+pub texts-stand : (v : StoreState) (es : List Entry) (k : Content) → v.entries ≡ stored_after [] es → AllByRecursion IsEntry es → ((e : ℕ) → e < epoch_count → Fronts (epoch_bytes (in_epoch es e)) (k (epoch_file_of v.root e)).seen) → HasTexts v k
 texts-stand v es k kept valid fronts i s is =
     let at = text_at v.root es k valid fronts i s (subst (λ (l : List StoredEntry). slice_get l i ≡ Some s) kept is) in
     record { long = at.long; blob = ap blob_id_of at.stands ∙ sym at.blob }

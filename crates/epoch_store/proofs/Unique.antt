@@ -12,7 +12,7 @@ use Rattle.root_slots.specs.Spelling.{spelling}
 use Rattle.root_change.specs.Parts.{texts_of}
 use Rattle.store_finding.specs.Files.{cache_file_of}
 use Rattle.epoch_store.specs.Laws.{RecoversOne, RecoversSomeOne, CachesOne, ExactRecovers, StoreRecovers}
-use Rattle.store_finding.specs.Recovery.{records_of, parts_of, RecoversBy}
+use Rattle.store_finding.specs.Recovery.{records_of, parts_of, RecoversArchiveBy}
 use Rattle.epoch_store.specs.Leaving.{disk_recovers}
 use Rattle.store_finding.proofs.FrontParts.{parts_front, exact_stands}
 use Rattle.store_finding.proofs.UniqueRoots.{root_is_one, not_shut, front_is_one}
@@ -24,7 +24,7 @@ archive_is : (a b : Archive) → a.config ≡ b.config → a.entries ≡ b.entri
 archive_is a b p q r = λ i. record { config = p i; entries = q i; next = r i }
 
 -- Files stand for at most one archive by one root.
-one_by_root : RecordsDiffer → EpochsDiffer → (root : Root) (image : Files) (a b : Archive) (c d : List ℕ) → RecoversBy root c image a → RecoversBy root d image b → a ≡ b
+one_by_root : RecordsDiffer → EpochsDiffer → (root : Root) (image : Files) (a b : Archive) (c d : List ℕ) → RecoversArchiveBy root c image a → RecoversArchiveBy root d image b → a ≡ b
 one_by_root records epochs root image a b c d p q =
     let map = recovers_map root image a c p in
     let one = recovers_opened records root image (records_of a) a c map p in
@@ -38,7 +38,7 @@ recovers_one spellings records epochs image a b c d p q =
     let root : p.0 ≡ q.0 =
     spellings p.0 q.0 p.1.names.fits q.1.names.fits p.1.names.is_root q.1.names.is_root
     (root_is_one (image root_name) (spelling p.0) (spelling q.0) p.1.stands.current q.1.stands.current) in
-    one_by_root records epochs q.0 image a b c d (subst (λ (r : Root). RecoversBy r c image a) root p.1) q.1
+    one_by_root records epochs q.0 image a b c d (subst (λ (r : Root). RecoversArchiveBy r c image a) root p.1) q.1
 
 -- Files never stand both for an archive and for none.
 pub recovers_some_one : SpellingsDiffer → RecordsDiffer → EpochsDiffer → RecoversSomeOne
@@ -54,7 +54,7 @@ caches_one spellings image a (Some b) c d p q =
     let root : p.0 ≡ q.0 =
     spellings p.0 q.0 p.1.names.fits q.1.names.fits p.1.names.is_root q.1.names.is_root
     (root_is_one (image root_name) (spelling p.0) (spelling q.0) p.1.stands.current q.1.stands.current) in
-    let first : RecoversBy q.0 c image a = subst (λ (r : Root). RecoversBy r c image a) root p.1 in
+    let first : RecoversArchiveBy q.0 c image a = subst (λ (r : Root). RecoversArchiveBy r c image a) root p.1 in
     front_is_one (image (cache_file_of q.0)) c d (sym first.cache_long ∙ q.1.cache_long) (parts_front q.0 c image a first).cache_front (parts_front q.0 d image b q.1).cache_front
 
 -- Files that are exactly those of an archive stand for it.

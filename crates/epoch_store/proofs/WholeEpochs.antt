@@ -12,7 +12,7 @@ use Rattle.root_slots.specs.Valid.{no_place}
 use Rattle.store_finding.specs.Files.{epoch_file_of}
 use Rattle.store_finding.specs.Recovery.{bytes_in}
 use Rattle.store_finding.specs.Reading.{StandsAt}
-use Rattle.store_finding.specs.Kept.{View, IsStoreWith}
+use Rattle.store_finding.specs.Kept.{StoreState, IsStoreWith}
 use Rattle.store_finding.proofs.FrontParts.{none_above, disk_fronts}
 
 -- An epoch without bytes has no entry.
@@ -34,7 +34,7 @@ zero_or_not zero = inl refl
 zero_or_not (suc n) = inr (omega arith)
 
 -- The result for an epoch of which the root names no bytes, or that there is not.
-pub unnamed_gives : (v : View) (cache : List ℕ) (a : Archive) (k : Option Content) (n : ℕ) (old : List ℕ) → IsStoreWith v cache a k → (get_or v.root.epochs n no_place).length ≡ 0 → GivesEpochIn (in_epoch a.entries n) old old (Ok false)
+pub unnamed_gives : (v : StoreState) (cache : List ℕ) (a : Archive) (k : Option Content) (n : ℕ) (old : List ℕ) → IsStoreWith v cache a k → (get_or v.root.epochs n no_place).length ≡ 0 → GivesEpochIn (in_epoch a.entries n) old old (Ok false)
 unnamed_gives v cache a None n old own unnamed = absurd own
 unnamed_gives v cache a (Some k) n old own unnamed =
     nothing (in_epoch a.entries n) old
@@ -48,7 +48,7 @@ front_is : (bytes file text : List ℕ) (size : ℕ) → size ≡ length bytes �
 front_is bytes file text size is long front stands = stands (omega (arith, is, long)) ∙ (ap (λ (n : ℕ). take n file) is ∙ front)
 
 -- The result for an epoch of which the root names bytes.
-pub read_gives : (v : View) (cache : List ℕ) (a : Archive) (k : Option Content) (n : ℕ) (old new text : List ℕ) (file : FileName) → IsStoreWith v cache a k → n ≤ 63 → file ≡ epoch_file_of v.root n → 0 < (get_or v.root.epochs n no_place).length
+pub read_gives : (v : StoreState) (cache : List ℕ) (a : Archive) (k : Option Content) (n : ℕ) (old new text : List ℕ) (file : FileName) → IsStoreWith v cache a k → n ≤ 63 → file ≡ epoch_file_of v.root n → 0 < (get_or v.root.epochs n no_place).length
     → WhereTold (λ (c : Content). StandsAt (bytes_of (c file).seen) 0 (get_or v.root.epochs n no_place).length text) k → new ≡ old ++ text → GivesEpochIn (in_epoch a.entries n) old new (Ok true)
 read_gives v cache a None n old new text file own low file_is there stands added = absurd own
 read_gives v cache a (Some k) n old new text file own low file_is there stands added =

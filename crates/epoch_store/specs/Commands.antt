@@ -22,7 +22,7 @@ use Rattle.store_planning.specs.declared.next.End.{End}
 use Rattle.store_planning.specs.declared.next.NextPlace.{NextPlace}
 use Rattle.store_finding.specs.Files.{map_file_of, epoch_file_of}
 use Rattle.store_finding.specs.Recovery.{bytes_in, RecoversWith}
-use Rattle.store_finding.specs.Kept.{View, Keeps}
+use Rattle.store_finding.specs.Kept.{StoreState, KeepsArchive}
 use Rattle.store_planning.specs.Dropping.{without_blob, KeptOf}
 
 -- Files stand for one archive, with a cache of these bytes, or for another one with one of those.
@@ -39,7 +39,7 @@ RecoversEither a b image = RecoversEitherWith [] a b image
 
 -- The files that a store names have at least their sizes: the root file its own, and map and epochs
 -- those that the root names.
-pub record HasSizes (v : View) (k : Content) : Type 0 where
+pub record StoreHasSizes (v : StoreState) (k : Content) : Type 0 where
   pub root : HasRootSize k
   pub map_long : v.root.map.length ≤ length (bytes_of (k (map_file_of v.root)).seen)
   pub epochs_long : (e : ℕ) → e < epoch_count → (get_or v.root.epochs e no_place).length
@@ -59,15 +59,15 @@ live_kept (e ∷ es) =
 
 -- A new text would be accepted by what is kept: the archive is no mirror and has a number left, the
 -- text is a storage text, and no live message of the archive has its own id.
-pub record Accepts (v : View) (text : List ℕ) : Type 0 where
+pub record Accepts (v : StoreState) (text : List ℕ) : Type 0 where
   pub writable : v.root.config.mirror ≡ false
   pub number_left : v.root.next ≤ v.root.config.max
   pub storage : IsStorageText text
-  pub id : (a : Archive) → Keeps v a → IsFree (live a.entries) text
+  pub id : (a : Archive) → KeepsArchive v a → IsFree (live a.entries) text
 
 -- A removal would be accepted by what is kept: the archive is no mirror, and a live entry has the
 -- number, and the own id and the blob id of the text.
-pub record MayEnd (v : View) (number : ℕ) (text : List ℕ) : Type 0 where
+pub record MayEnd (v : StoreState) (number : ℕ) (text : List ℕ) : Type 0 where
   pub writable : v.root.config.mirror ≡ false
   pub entry : StoredEntry
   pub is_live : Contains (live_kept v.entries) entry
@@ -80,12 +80,12 @@ pub record MayEnd (v : View) (number : ℕ) (text : List ℕ) : Type 0 where
 pub record IsNextPlace (root : Root) (a : Archive) (new_gen : ℕ) (p : NextPlace) : Type 0 where
   pub epoch : p.epoch ≡ new_epoch a
   pub length_is : p.length ≡ length (bytes_in a p.epoch)
-  pub old : bytes_in a p.epoch ≢ [] → p.gen_ ≡ (get_or root.epochs p.epoch no_place).gen_
-  pub new : bytes_in a p.epoch ≡ [] → p.gen_ ≡ new_gen
+  pub old : bytes_in a p.epoch ≢ [] → p.generation ≡ (get_or root.epochs p.epoch no_place).generation
+  pub new : bytes_in a p.epoch ≡ [] → p.generation ≡ new_gen
   pub parent : p.parent ≡ last_commit None (in_epoch a.entries p.epoch)
 
 -- Entries end at this place: the bytes of its epoch are so long, and this is its last commit.
-pub record EndsAt (before : List Entry) (p : NextPlace) : Type 0 where
+pub record EntriesEndAt (before : List Entry) (p : NextPlace) : Type 0 where
   pub length_is : p.length ≡ length (epoch_bytes (in_epoch before p.epoch))
   pub parent : p.parent ≡ last_commit None (in_epoch before p.epoch)
 
@@ -97,15 +97,15 @@ next_sequence n = min (n + 1) (2 ^ 64 - 1)
 abbrev pub place_of : Root → ℕ → Option Id20 → NextPlace
 place_of root epoch parent = record {
   epoch = epoch;
-  gen_ = if (get_or root.epochs epoch no_place).length == 0 then next_sequence root.sequence
-      else (get_or root.epochs epoch no_place).gen_;
+  generation = if (get_or root.epochs epoch no_place).length == 0 then next_sequence root.sequence
+      else (get_or root.epochs epoch no_place).generation;
   length = (get_or root.epochs epoch no_place).length;
   parent = parent;
 }
 
 -- One more message follows the entries that were kept. It has the next number and the ids of a text.
 -- The next number is one more, and the settings stay.
-pub record AddsEntry (old new : View) (text : List ℕ) : Type 0 where
+pub record AddsEntry (old new : StoreState) (text : List ℕ) : Type 0 where
   pub entry : StoredEntry
   pub entries : new.entries ≡ old.entries ++ entry ∷ []
   pub kind : entry.seen.kind ≡ Message
@@ -118,7 +118,7 @@ pub record AddsEntry (old new : View) (text : List ℕ) : Type 0 where
 
 -- The deletion of a number follows the entries that were kept. It has the ids of a text. The next
 -- number and the settings stay.
-pub record EndsEntry (old new : View) (number : ℕ) (text : List ℕ) : Type 0 where
+pub record EndsEntry (old new : StoreState) (number : ℕ) (text : List ℕ) : Type 0 where
   pub entry : StoredEntry
   pub entries : new.entries ≡ old.entries ++ entry ∷ []
   pub kind : entry.seen.kind ≡ Deletion
@@ -138,20 +138,20 @@ UnlessFailed _ P = P
 -- A root goes on from another one. Its sequence is one more. The map and the cache stay in their
 -- files. Each epoch stays in its file, or has its first bytes in a file whose generation is the new
 -- sequence.
-pub record GoesOn (old new : Root) : Type 0 where
+pub record RootGoesOn (old new : Root) : Type 0 where
   pub sequence : new.sequence ≡ next_sequence old.sequence
-  pub map : new.map.gen_ ≡ old.map.gen_
+  pub map : new.map.generation ≡ old.map.generation
   pub cache : new.cache ≡ old.cache
   pub epochs : (e : ℕ) → e < epoch_count
       → (get_or new.epochs e no_place ≡ get_or old.epochs e no_place)
       ⊎ (((0 < (get_or old.epochs e no_place).length)
-      × ((get_or new.epochs e no_place).gen_ ≡ (get_or old.epochs e no_place).gen_))
+      × ((get_or new.epochs e no_place).generation ≡ (get_or old.epochs e no_place).generation))
       ⊎ (((get_or old.epochs e no_place).length ≡ 0)
-      × ((get_or new.epochs e no_place).gen_ ≡ new.sequence)))
+      × ((get_or new.epochs e no_place).generation ≡ new.sequence)))
 
 -- A purge would be accepted by what is kept: the archive is no mirror, and an entry is the message
 -- with the number and has this blob id.
-pub record MayPurge (v : View) (number : ℕ) (blob : Id20) : Type 0 where
+pub record MayPurge (v : StoreState) (number : ℕ) (blob : Id20) : Type 0 where
   pub writable : v.root.config.mirror ≡ false
   pub entry : StoredEntry
   pub is_there : Contains v.entries entry
@@ -161,24 +161,24 @@ pub record MayPurge (v : View) (number : ℕ) (blob : Id20) : Type 0 where
 
 -- What is kept of an edit that would be accepted: a purge would be, a number is left, the new text is a
 -- storage text, and no live message of the archive without the old text has its own id.
-pub record MayEdit (v : View) (number : ℕ) (blob : Id20) (text : List ℕ) : Type 0 where
+pub record MayEdit (v : StoreState) (number : ℕ) (blob : Id20) (text : List ℕ) : Type 0 where
   pub purge : MayPurge v number blob
   pub number_left : v.root.next ≤ v.root.config.max
   pub storage : IsStorageText text
-  pub id : (a : Archive) (n : ℕ) (old : List ℕ) → Keeps v a
+  pub id : (a : Archive) (n : ℕ) (old : List ℕ) → KeepsArchive v a
       → text_of (messages a.entries) n ≡ Some old → blob_id_of old ≡ blob
       → IsFree (live (without_text a.entries old)) text
 
 -- What a purge leaves of what is kept: the entries but those with a blob id, in order. The next number
 -- and the settings stay.
-pub record DropsEntries (old new : View) (blob : Id20) : Type 0 where
+pub record DropsEntries (old new : StoreState) (blob : Id20) : Type 0 where
   pub entries : AllZip KeptOf (without_blob old.entries blob.0) new.entries
   pub next : new.root.next ≡ old.root.next
   pub config : new.root.config ≡ old.root.config
 
 -- What an edit leaves of what is kept: the entries but those with a blob id, and one more message with
 -- the next number and the ids of a text.
-pub record EditsEntries (old new : View) (blob : Id20) (text : List ℕ) : Type 0 where
+pub record EditsEntries (old new : StoreState) (blob : Id20) (text : List ℕ) : Type 0 where
   pub front : List StoredEntry
   pub entry : StoredEntry
   pub entries : new.entries ≡ front ++ entry ∷ []
@@ -196,11 +196,11 @@ pub record EditsEntries (old new : View) (blob : Id20) (text : List ℕ) : Type 
 -- generation, or has none.
 pub record GoesOnAnew (old new : Root) : Type 0 where
   pub sequence : new.sequence ≡ old.sequence + 1
-  pub map : new.map.gen_ ≡ new.sequence
+  pub map : new.map.generation ≡ new.sequence
   pub cache : new.cache ≡ no_place
   pub epochs : (e : ℕ) → e < epoch_count
-      → ((get_or new.epochs e no_place).gen_ ≡ (get_or old.epochs e no_place).gen_)
-      ⊎ (((get_or new.epochs e no_place).gen_ ≡ new.sequence)
+      → ((get_or new.epochs e no_place).generation ≡ (get_or old.epochs e no_place).generation)
+      ⊎ (((get_or new.epochs e no_place).generation ≡ new.sequence)
       ⊎ (get_or new.epochs e no_place ≡ no_place))
 
 -- An epoch has an entry with a blob id.
@@ -210,31 +210,31 @@ HasBlob entries blob epoch = (e : StoredEntry) × Contains entries e × (e.epoch
 
 -- An epoch is in a file whose generation is the root's sequence, or it has no file.
 abbrev pub IsMadeAnew : Root → ℕ → Type 0
-IsMadeAnew root epoch = ((get_or root.epochs epoch no_place).gen_ ≡ root.sequence)
+IsMadeAnew root epoch = ((get_or root.epochs epoch no_place).generation ≡ root.sequence)
     ⊎ (get_or root.epochs epoch no_place ≡ no_place)
 
 -- Which files a purge keeps. Each epoch without an entry with the blob id stays in its file, which is as
 -- long as before. Each other one is in a new file, or has none.
-pub record KeepsFiles (old new : View) (blob : Id20) : Type 0 where
+pub record KeepsFiles (old new : StoreState) (blob : Id20) : Type 0 where
   pub kept : (e : ℕ) → e < epoch_count → (HasBlob old.entries blob e → ⊥)
       → get_or new.root.epochs e no_place ≡ get_or old.root.epochs e no_place
   pub anew : (e : ℕ) → e < epoch_count → HasBlob old.entries blob e → IsMadeAnew new.root e
 
 -- An epoch's file stays and is longer. If the epoch had none, it is in a new one.
-abbrev pub Grows : Root → Root → ℕ → Type 0
-Grows old new epoch = ((0 < (get_or old.epochs epoch no_place).length)
-    × ((get_or new.epochs epoch no_place).gen_ ≡ (get_or old.epochs epoch no_place).gen_)
+abbrev pub EpochFileGrows : Root → Root → ℕ → Type 0
+EpochFileGrows old new epoch = ((0 < (get_or old.epochs epoch no_place).length)
+    × ((get_or new.epochs epoch no_place).generation ≡ (get_or old.epochs epoch no_place).generation)
     × ((get_or old.epochs epoch no_place).length < (get_or new.epochs epoch no_place).length))
     ⊎ (((get_or old.epochs epoch no_place).length ≡ 0)
-    × ((get_or new.epochs epoch no_place).gen_ ≡ new.sequence))
+    × ((get_or new.epochs epoch no_place).generation ≡ new.sequence))
 
 -- Which files an edit keeps: those that a purge keeps. But that of the epoch of the new entry, which is
 -- the last one, grows, unless the epoch loses an entry.
-pub record EditsFiles (old new : View) (blob : Id20) : Type 0 where
+pub record EditsFiles (old new : StoreState) (blob : Id20) : Type 0 where
   pub front : List StoredEntry
   pub entry : StoredEntry
   pub entries : new.entries ≡ front ++ entry ∷ []
   pub kept : (e : ℕ) → e < epoch_count → e ≢ entry.epoch → (HasBlob old.entries blob e → ⊥)
       → get_or new.root.epochs e no_place ≡ get_or old.root.epochs e no_place
-  pub grown : (HasBlob old.entries blob entry.epoch → ⊥) → Grows old.root new.root entry.epoch
+  pub grown : (HasBlob old.entries blob entry.epoch → ⊥) → EpochFileGrows old.root new.root entry.epoch
   pub anew : (e : ℕ) → e < epoch_count → HasBlob old.entries blob e → IsMadeAnew new.root e

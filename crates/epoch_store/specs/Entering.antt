@@ -1,4 +1,5 @@
--- What writing an entry appends to the files that a root names, and the root that names it then.
+-- Private: what writing an entry appends to the files that a root names, and the root that names it
+-- then.
 use Rattle.std.specs.Prelude.{◌≡◌, ◌⊎◌, ◌+◌, ◌*◌, ℕ, List, [], ◌∷◌, ◌++◌, length, set, Some}
 use Rattle.arch_base.specs.declared.ids.Id20.{Id20}
 use Rattle.arch_model.specs.Archives.{Archive}
@@ -18,12 +19,12 @@ use Rattle.root_slots.specs.declared.root.Root.{Root}
 use Rattle.root_change.specs.Changing.{grown}
 use Rattle.root_change.specs.Copying.{Added}
 use Rattle.root_change.specs.Names.{epoch_name}
-use Rattle.root_change.specs.Parts.{Parts, RecoversBy}
+use Rattle.root_change.specs.Parts.{Parts, RecoversPartsBy}
 use Rattle.store_planning.specs.declared.next.NextPlace.{NextPlace}
 use Rattle.store_finding.specs.declared.entries.StoredEntry.{StoredEntry}
 use Rattle.store_finding.specs.Files.{map_file_of}
 use Rattle.store_finding.specs.Recovery.{map_bytes}
-use Rattle.store_finding.specs.Kept.{View}
+use Rattle.store_finding.specs.Kept.{StoreState}
 use Rattle.epoch_store.specs.Commands.{next_sequence}
 
 -- How many numbers an entry takes: a message the next one, a deletion none.
@@ -49,10 +50,10 @@ root_after root kind p end_ = record {
   sequence = next_sequence root.sequence;
   next = root.next + numbers_by kind;
   map = record {
-    gen_ = root.map.gen_;
+    generation = root.map.generation;
     length = root.map.length + numbers_by kind * record_size;
   };
-  epochs = set root.epochs p.epoch (record { gen_ = p.gen_; length = end_ });
+  epochs = set root.epochs p.epoch (record { generation = p.generation; length = end_ });
   cache = root.cache;
 }
 
@@ -66,15 +67,15 @@ parts_with root p e parts = grown p.epoch (appended p.length e) (line_of root p 
 
 -- An entry was appended to the file of its epoch, and then its record to that of the map.
 pub record Entered (root : Root) (p : NextPlace) (e : NewEntry) (old new : Content) : Type 0 where
-  pub between : Content
-  pub entry : Added (appended p.length e) (epoch_name p.epoch p.gen_) p.length old between
-  pub line : Added (line_of root p e) (map_file_of root) root.map.length between new
+  pub crash_between : Content
+  pub entry : Added (appended p.length e) (epoch_name p.epoch p.generation) p.length old crash_between
+  pub line : Added (line_of root p e) (map_file_of root) root.map.length crash_between new
 
 -- Files stand for parts by a root, or for those with a new entry by the root after it.
 abbrev pub RecoversEntered : Root → NextPlace → NewEntry → Parts → Files → Type 0
-RecoversEntered root p e parts image = RecoversBy root parts image
+RecoversEntered root p e parts image = RecoversPartsBy root parts image
     ⊎ ((made : Root) × (made ≡ root_with root p e)
-    × RecoversBy made (parts_with root p e parts) image)
+    × RecoversPartsBy made (parts_with root p e parts) image)
 
 -- An archive with one more entry of a kind.
 abbrev pub with_new : Archive → EntryKind → ℕ → ℕ → List ℕ → ℕ → Archive
@@ -94,7 +95,7 @@ pub record Enters (kind : EntryKind) (number : ℕ) (text : List ℕ) (arrived :
 
 -- One more entry follows those that were kept: it has a kind, a number, and the ids of a text. The
 -- settings stay.
-pub record KeepsEntry (kind_ : EntryKind) (number_ : ℕ) (text : List ℕ) (old new : View)
+pub record EntersEntry (kind_ : EntryKind) (number_ : ℕ) (text : List ℕ) (old new : StoreState)
     : Type 0 where
   pub entry : StoredEntry
   pub entries : new.entries ≡ old.entries ++ entry ∷ []

@@ -7,7 +7,7 @@ use Rattle.root_slots.specs.declared.root.Root.{Root}
 use Rattle.root_slots.specs.Valid.{no_place}
 use Rattle.epoch_store.specs.declared.refusal.InitRefusal.{InitRefusal}
 use Rattle.epoch_store.specs.declared.refusal.InitRefusal.TheVariants.{Exists, DiskFault}
-use Rattle.disk_model.specs.Disk.{File, Files, Content, Image, Told, WhereTold, Fits}
+use Rattle.disk_model.specs.Disk.{File, Files, Content, Image, BothTold, WhereTold, MaySurvive}
 use Rattle.disk_model.specs.Synced.{IsSettled}
 use Rattle.arch_model.specs.Archives.{Archive}
 use Rattle.root_slots.specs.RootName.{root_name}
@@ -52,7 +52,7 @@ first_root_of config = record {
   config = config;
   sequence = 1;
   next = 1;
-  map = record { gen_ = 1; length = 0 };
+  map = record { generation = 1; length = 0 };
   epochs = replicate epoch_count no_place;
   cache = no_place;
 }
@@ -60,7 +60,7 @@ first_root_of config = record {
 -- A disk has a root of this body in the first slot of a root file that is otherwise zeros, the other
 -- slot is ready for the next one, there is no other file, and all that reads give is on the disk.
 pub record HasOnly (body : List ℕ) (k : Content) : Type 0 where
-  pub roots : (file : File) → Fits (k root_name).sure file → IfThere (Ready 1 body) file
+  pub roots : (file : File) → MaySurvive (k root_name).sure file → IfThere (Ready 1 body) file
   pub others : (name : FileName) → name ≢ root_name → (k name).seen ≡ None
   pub settled : IsSettled k
   pub first : HasFirstRoot body k
@@ -75,7 +75,7 @@ MakingAnswers (Err _) k = Unit {0}
 -- After this error, unless the disk failed, all files are synced, and otherwise unchanged.
 abbrev pub OnlySyncs : InitRefusal → Option Content → Option Content → Type 0
 OnlySyncs DiskFault old new = Unit {0}
-OnlySyncs _ old new = Told IsOnlySynced old new
+OnlySyncs _ old new = BothTold IsOnlySynced old new
 
 -- An error of creating an archive, except a fault of the disk, comes before anything is changed.
 abbrev pub RefusesToMake : {T : Type 0} → Result T InitRefusal → Option Content → Option Content

@@ -4,7 +4,7 @@ use Rattle.disk_model.specs.Disk.{Files, Content, Image}
 use Rattle.arch_model.specs.Archives.{Archive}
 use Rattle.store_finding.specs.Files.{as_read}
 use Rattle.store_finding.specs.Recovery.{RecoversWith, RecoversSomeWith, ExactWith}
-use Rattle.store_finding.specs.Kept.{View, IsDiskWith}
+use Rattle.store_finding.specs.Kept.{StoreState, IsDiskWith}
 
 -- Files stand for at most one archive, with whatever caches.
 abbrev pub RecoversOne : Type 0
@@ -29,6 +29,6 @@ ExactRecovers = (cache : List ℕ) (files : Files) (a : Archive) → ExactWith c
 -- Each crash of a store's own disk leaves files that stand for its archive, and its files as they
 -- read are exactly the archive's.
 abbrev pub StoreRecovers : Type 0
-StoreRecovers = (v : View) (cache : List ℕ) (a : Archive) (k : Content) → IsDiskWith v cache a k
+StoreRecovers = (v : StoreState) (cache : List ℕ) (a : Archive) (k : Content) → IsDiskWith v cache a k
     → ((image : Files) → Image (Some k) image → RecoversWith cache image a)
     × ExactWith cache (as_read k) a

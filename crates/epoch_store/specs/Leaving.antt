@@ -1,14 +1,14 @@
--- What a crash leaves of a store's own disk.
+-- Lemmas for proofs: what a crash leaves of a store's own disk.
 use Rattle.std.specs.Prelude.{◌-◌, ℕ, List, Some}
 use Rattle.disk_model.specs.Disk.{Files, Content, Image}
 use Rattle.arch_model.specs.Archives.{Archive}
 use Rattle.root_change.specs.Leaving.{on_stands}
 use Rattle.root_change.specs.Parts.{texts_of}
 use Rattle.store_finding.specs.Recovery.{parts_of, RecoversWith}
-use Rattle.store_finding.specs.Kept.{View, IsDiskWith}
+use Rattle.store_finding.specs.Kept.{StoreState, IsDiskWith}
 
 -- Each crash leaves files that stand for its archive.
-pub disk_recovers : (v : View) (cache : List ℕ) (a : Archive) (k : Content) (image : Files)
+pub disk_recovers : (v : StoreState) (cache : List ℕ) (a : Archive) (k : Content) (image : Files)
     → IsDiskWith v cache a k → Image (Some k) image → RecoversWith cache image a
 disk_recovers v cache a k image own left = (
   v.root,

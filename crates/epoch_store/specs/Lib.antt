@@ -1,9 +1,9 @@
-pub mod Entering
 pub mod First
 pub mod Laws
-pub mod Leaving
 pub mod Opens
 pub mod Promises
 pub mod Reads
 pub mod Settling
 pub mod Commands
+pub mod Entering
+pub mod Leaving

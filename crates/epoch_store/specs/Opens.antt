@@ -2,7 +2,7 @@
 use Rattle.std.specs.Prelude.{◌≡◌, ◌⊎◌, ℕ, List, [], Option, Some, None, Result, Ok, Err}
 use Rattle.std.specs.List.{Contains}
 use Rattle.disk_model.specs.declared.name.FileName.{FileName}
-use Rattle.disk_model.specs.Disk.{Files, Content, Image, Told, LeavesOnly}
+use Rattle.disk_model.specs.Disk.{Files, Content, Image, BothTold, LeavesOnly}
 use Rattle.disk_model.specs.Synced.{IsSettled}
 use Rattle.arch_model.specs.Archives.{Archive}
 use Rattle.arch_model.specs.declared.opening.OpenRefusal.{OpenRefusal}
@@ -15,7 +15,7 @@ use Rattle.store_finding.specs.Files.{as_read}
 use Rattle.store_finding.specs.Openings.{AreRead}
 use Rattle.store_finding.specs.Finding.{IsCurrentRoot, HasRecords, IsDamagedFile}
 use Rattle.store_finding.specs.Recovery.{RecoversWith, RecoversSomeWith}
-use Rattle.store_finding.specs.Kept.{View}
+use Rattle.store_finding.specs.Kept.{StoreState}
 
 -- Files stand for one of these archives with a cache of these bytes, or for none if that is one of
 -- these.
@@ -44,29 +44,29 @@ abbrev pub AllRecoverOf : List (Option Archive) → Option Content → Type 0
 AllRecoverOf may content = AllRecoverWith [] may content
 
 -- A disk that tells its content reads as files that stand for an archive without a cache.
-abbrev pub ReadsAs : Archive → Option Content → Type 0
-ReadsAs a content = ReadsWith [] a content
+abbrev pub ReadsAsArchive : Archive → Option Content → Type 0
+ReadsAsArchive a content = ReadsWith [] a content
 
 -- A store keeps what the files stand for: their current root and its slot, and the entries of all
 -- epochs.
-pub record IsOpenedIn (files : Files) (v : View) : Type 0 where
+pub record IsOpenedIn (files : Files) (v : StoreState) : Type 0 where
   pub records : List Record
   pub root : IsCurrentRoot v.root v.slot files
   pub has : HasRecords v.root files records
   pub read : AreRead v.root files records v.entries
 
 -- The result of opening, without the index of the store's entries.
-abbrev pub store_of : Result (View × Index) OpenRefusal → Result View OpenRefusal
+abbrev pub store_of : Result (StoreState × Index) OpenRefusal → Result StoreState OpenRefusal
 store_of (Ok opened) = Ok opened.0
 store_of (Err refusal) = Err refusal
 
 -- The results of opening, by the files as they read: a store of them, that no slot is open, or the
 -- first offset that is damaged.
-abbrev pub Opens : Files → Result View OpenRefusal → Type 0
-Opens files (Ok store) = IsOpenedIn files store
-Opens files (Err NoArchive) = IsShutFile (files root_name)
-Opens files (Err (Damaged file at)) = IsDamagedFile files file at
-Opens files (Err _) = Unit {0}
+abbrev pub OpensFiles : Files → Result StoreState OpenRefusal → Type 0
+OpensFiles files (Ok store) = IsOpenedIn files store
+OpensFiles files (Err NoArchive) = IsShutFile (files root_name)
+OpensFiles files (Err (Damaged file at)) = IsDamagedFile files file at
+OpensFiles files (Err _) = Unit {0}
 
 -- An error that says nothing of the files: the disk failed, or memory ran out.
 abbrev pub IsWant : OpenRefusal → Type 0
@@ -87,20 +87,20 @@ pub record IsOnlySynced (old new : Content) : Type 0 where
 -- Unless the disk failed, all files are synced, and otherwise unchanged.
 abbrev pub SyncsBy : {T : Type 0} → Result T OpenRefusal → Option Content → Option Content → Type 0
 SyncsBy (Err DiskFault) old new = Unit {0}
-SyncsBy _ old new = Told IsOnlySynced old new
+SyncsBy _ old new = BothTold IsOnlySynced old new
 
 -- An error, except a fault of the disk, comes before anything is changed.
 abbrev pub RefusesBefore : {T : Type 0} → Result T OpenRefusal → Option Content → Option Content
     → Type 0
 RefusesBefore (Ok store) old new = Unit {0}
 RefusesBefore (Err DiskFault) old new = Unit {0}
-RefusesBefore _ old new = Told IsOnlySynced old new
+RefusesBefore _ old new = BothTold IsOnlySynced old new
 
 -- Nothing can be opened of what a disk that tells its content reads as: there is no archive, or a
 -- file is damaged.
 abbrev pub OpensNone : Option Content → Type 0
 OpensNone None = ⊥
-OpensNone (Some k) = (v : View) → IsOpenedIn (as_read k) v → ⊥
+OpensNone (Some k) = (v : StoreState) → IsOpenedIn (as_read k) v → ⊥
 
 -- The disk was synced before anything else was done. Until then a crash leaves what it might have left
 -- before, and from then on what is said of the archive as which the files read and of its cache. Where
@@ -109,7 +109,7 @@ pub record SyncsThen {D : Type 0} (content : D → Option Content) (moment : D �
     (left_since : D → ℕ → Files → Type 0) (leaves : List ℕ → Archive → Files → Type 0) (old new : D)
     : Type 0 where
   pub synced : D
-  pub only : Told IsOnlySynced (content old) (content synced)
+  pub only : BothTold IsOnlySynced (content old) (content synced)
   pub before : LeavesOnly moment left_since old synced (Image (content old))
   pub after : (a : Archive) (cache : List ℕ) → ReadsWith cache a (content old)
       → LeavesOnly moment left_since synced new (leaves cache a)

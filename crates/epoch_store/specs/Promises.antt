@@ -4,7 +4,7 @@ use Rattle.arch_base.specs.Counts.{RoseIf}
 use Rattle.arch_base.specs.declared.config.Config.{Config}
 use Rattle.arch_base.specs.declared.ids.Id20.{Id20}
 use Rattle.disk_model.specs.declared.name.FileName.{FileName}
-use Rattle.disk_model.specs.Disk.{Files, Content, Told, WhereTold, LeavesOnly}
+use Rattle.disk_model.specs.Disk.{Files, Content, BothTold, WhereTold, LeavesOnly}
 use Rattle.disk_model.specs.Synced.{IsSettled}
 use Rattle.git_objects.specs.Objects.{blob_id_of}
 use Rattle.arch_model.specs.Archives.{Archive, empty_archive, live, messages, text_of, with_deletion, with_entry, without_entries}
@@ -23,11 +23,11 @@ use Rattle.epoch_store.specs.declared.refusal.InitRefusal.TheVariants as making
 use Rattle.store_finding.specs.Files.{as_read}
 use Rattle.epoch_store.specs.First.{MakingAnswers, MakingLeaves, RefusesToMake, first_root_of}
 use Rattle.store_planning.specs.DamagedTexts.{IfDamaged, IsDamageIn}
-use Rattle.epoch_store.specs.Opens.{RecoversOfWith, AllRecoverWith, ReadsWith, Opens, OpensWell, SyncsFirst, SyncsAtMost, OnSynced}
+use Rattle.epoch_store.specs.Opens.{RecoversOfWith, AllRecoverWith, ReadsWith, OpensFiles, OpensWell, SyncsFirst, SyncsAtMost, OnSynced}
 use Rattle.store_planning.specs.Planning.{PlansUndamaged}
 use Rattle.epoch_store.specs.Settling.{IsSettledBy}
-use Rattle.store_finding.specs.Kept.{View, IsDiskOf, IsStoreWith}
-use Rattle.epoch_store.specs.Commands.{GoesOn, HasSizes, RecoversOneOf, GoesOnAnew, UnlessFailed}
+use Rattle.store_finding.specs.Kept.{StoreState, IsDiskOf, IsStoreWith}
+use Rattle.epoch_store.specs.Commands.{RootGoesOn, StoreHasSizes, RecoversOneOf, GoesOnAnew, UnlessFailed}
 use Rattle.store_planning.specs.Dropping.{SeesNoDamage}
 
 -- An archive without entries is made, of these settings. At each moment a crash leaves what it might
@@ -37,17 +37,17 @@ use Rattle.store_planning.specs.Dropping.{SeesNoDamage}
 -- the disk. It fails only if the count of faults rose.
 pub record MakesArchive {D : Type 0} (content : D → Option Content) (moment : D → ℕ)
     (left_since : D → ℕ → Files → Type 0) (faults : D → ℕ) (old new : D) (config : Config)
-    (result : Result View InitRefusal) : Type 0 where
-  pub any_moment : LeavesOnly moment left_since old new
+    (result : Result StoreState InitRefusal) : Type 0 where
+  pub crash : LeavesOnly moment left_since old new
       (MakingLeaves (empty_archive config) (content old))
   pub answer : WhereTold (MakingAnswers result) (content old)
   pub refused : RefusesToMake result (content old) (content new)
-  pub done : IfOk result (λ (v : View). WhereTold (IsDiskOf v (empty_archive config)) (content new))
+  pub done : IfOk result (λ (v : StoreState). WhereTold (IsDiskOf v (empty_archive config)) (content new))
   pub settled : OnOk result (WhereTold IsSettled (content new))
-  pub sizes : IfOk result (λ (v : View). WhereTold (HasSizes v) (content new))
-  pub first : IfOk result (λ (v : View). v.root.sequence ≡ 1)
-  pub slot : IfOk result (λ (v : View). v.slot ≡ 0)
-  pub none : IfOk result (λ (v : View). v.entries ≡ [])
+  pub sizes : IfOk result (λ (v : StoreState). WhereTold (StoreHasSizes v) (content new))
+  pub first : IfOk result (λ (v : StoreState). v.root.sequence ≡ 1)
+  pub slot : IfOk result (λ (v : StoreState). v.slot ≡ 0)
+  pub none : IfOk result (λ (v : StoreState). v.entries ≡ [])
   pub cause : RoseIf (result ≡ Err making.DiskFault) (faults old) (faults new)
   -- The root file has the first root, and is otherwise zeros.
   pub rooted : OnOk result (WhereTold (HasFirstRoot (spelling (first_root_of config))) (content new))
@@ -60,62 +60,64 @@ pub record MakesArchive {D : Type 0} (content : D → Option Content) (moment : 
 -- committed, and all that reads give is on the disk. It fails only if the count of faults rose.
 pub record OpensArchive {D : Type 0} (content : D → Option Content) (moment : D → ℕ)
     (left_since : D → ℕ → Files → Type 0) (faults : D → ℕ) (old new : D)
-    (result : Result View OpenRefusal) : Type 0 where
-  pub any_moment : (may : List (Option Archive)) (cache : List ℕ)
+    (result : Result StoreState OpenRefusal) : Type 0 where
+  pub crash : (may : List (Option Archive)) (cache : List ℕ)
       → AllRecoverWith cache may (content old)
       → LeavesOnly moment left_since old new (RecoversOfWith cache may)
-  pub answer : WhereTold (λ (k : Content). Opens (as_read k) result) (content old)
+  pub answer : WhereTold (λ (k : Content). OpensFiles (as_read k) result) (content old)
   pub done : (a : Archive) (cache : List ℕ) → ReadsWith cache a (content old)
-      → IfOk result (λ (v : View). IsStoreWith v cache a (content new))
+      → IfOk result (λ (v : StoreState). IsStoreWith v cache a (content new))
   pub well : (a : Archive) (cache : List ℕ) → ReadsWith cache a (content old) → OpensWell result
   pub first : OnSynced result (SyncsFirst content moment left_since old new)
   pub before : SyncsAtMost content moment left_since old new
   pub settled : OnOk result (WhereTold IsSettled (content new))
-  pub kept : IfOk result (λ (v : View). Told (IsSettledBy v.root v.slot) (content old) (content new))
-  pub sizes : IfOk result (λ (v : View). WhereTold (HasSizes v) (content new))
+  pub kept : IfOk result (λ (v : StoreState). BothTold (IsSettledBy v.root v.slot) (content old)
+      (content new))
+  pub sizes : IfOk result (λ (v : StoreState). WhereTold (StoreHasSizes v) (content new))
   pub cause : RoseIf (result ≡ Err opening.DiskFault) (faults old) (faults new)
   -- At each moment the bytes of the root file between its gates and its bodies are as before.
-  pub between : RunsBetween content moment left_since old new
+  pub crash_between : RunsBetween content moment left_since old new
 
 -- How a command changes the files of an archive: it appends to them, or writes some of them anew.
-pub data Way : Type 0 where
-  Appends : Way
-  Renews : Way
+pub data WriteKind : Type 0 where
+  Appends : WriteKind
+  Renews : WriteKind
 
 -- The cache after a command that was carried out. Files that are written anew leave none.
-abbrev pub cache_by : Way → List ℕ → List ℕ
+abbrev pub cache_by : WriteKind → List ℕ → List ℕ
 cache_by Appends cache = cache
 cache_by Renews cache = []
 
 -- How the root goes on from one to the next.
-abbrev pub GoesOnBy : Way → Root → Root → Type 0
-GoesOnBy Appends old new = GoesOn old new
+abbrev pub GoesOnBy : WriteKind → Root → Root → Type 0
+GoesOnBy Appends old new = RootGoesOn old new
 GoesOnBy Renews old new = GoesOnAnew old new
 
 -- What was done where nothing was written: nothing at all, or files were only read.
-abbrev pub StaysBy : {D : Type 0} → Way → (D → Option Content) → (D → ℕ)
+abbrev pub StaysBy : {D : Type 0} → WriteKind → (D → Option Content) → (D → ℕ)
     → (D → ℕ → Files → Type 0) → (D → ℕ) → D → D → Type 0
 StaysBy Appends content moment left_since faults old new = new ≡ old
 StaysBy Renews content moment left_since faults old new =
     OnlyReads content moment left_since faults old new
 
 -- Where no damage is found: anywhere, if nothing is read, and else on a store's own disk.
-abbrev pub UndamagedBy : {T : Type 0} → Way → View → Result T StoreRefusal → Option Content → Type 0
+abbrev pub UndamagedBy : {T : Type 0} → WriteKind → StoreState → Result T StoreRefusal
+    → Option Content → Type 0
 UndamagedBy Appends v result content = SeesNoDamage result
 UndamagedBy Renews v result content = PlansUndamaged v result content
 
 -- How often a command reads: never, or as often as it has to.
-abbrev pub ReadsBy : Way → ℕ → ℕ → Type 0
-ReadsBy Appends before now = now ≡ before
-ReadsBy Renews before now = before ≤ now
+abbrev pub ReadsByKind : WriteKind → ℕ → ℕ → Type 0
+ReadsByKind Appends before now = now ≡ before
+ReadsByKind Renews before now = before ≤ now
 
 -- The second archive is the first with one more message. No other text has the blob id of its text.
-pub record Adds (text : List ℕ) (arrived : ℕ) (a b : Archive) : Type 0 where
+pub record AddsMessage (text : List ℕ) (arrived : ℕ) (a b : Archive) : Type 0 where
   pub alone : collision a.entries text ≡ None
   pub is : b ≡ with_entry a (new_epoch a) text arrived
 
 -- The second archive is the first with the deletion of a live number, which has this text.
-pub record Ends (number : ℕ) (text : List ℕ) (arrived : ℕ) (a b : Archive) : Type 0 where
+pub record EndsMessage (number : ℕ) (text : List ℕ) (arrived : ℕ) (a b : Archive) : Type 0 where
   pub shown : text_of (live a.entries) number ≡ Some text
   pub is : b ≡ with_deletion a number (new_epoch a) text arrived
 
@@ -145,28 +147,28 @@ pub record Replaces (blob : Id20) (text : List ℕ) (arrived : ℕ) (a b : Archi
 -- only if the count of faults rose. Damage is told with the place of an entry that was kept and whose text
 -- isn't there, or with a file that is shorter than the root says.
 pub record ChangesStore {D : Type 0} (content : D → Option Content) (moment : D → ℕ)
-    (left_since : D → ℕ → Files → Type 0) (faults reads : D → ℕ) (old new : D) (before after : View)
-    (way : Way) (Makes : Archive → Archive → Type 0) (result : Result (Unit {0}) StoreRefusal)
+    (left_since : D → ℕ → Files → Type 0) (faults reads : D → ℕ) (old new : D) (before after : StoreState)
+    (way : WriteKind) (Makes : Archive → Archive → Type 0) (result : Result (Unit {0}) StoreRefusal)
     : Type 0 where
-  pub any_moment : (a b : Archive) (cache : List ℕ) → IsStoreWith before cache a (content old)
+  pub crash : (a b : Archive) (cache : List ℕ) → IsStoreWith before cache a (content old)
       → before.root.sequence + 1 < 2 ^ 64 → Makes a b
       → LeavesOnly moment left_since old new (RecoversOneOf cache a (cache_by way cache) b)
   pub done : (a b : Archive) (cache : List ℕ) → IsStoreWith before cache a (content old)
       → before.root.sequence + 1 < 2 ^ 64 → Makes a b
       → OnOk result (IsStoreWith after (cache_by way cache) b (content new))
   pub settled : OnOk result (WhereTold IsSettled (content new))
-  pub sizes : OnOk result (WhereTold (HasSizes after) (content new))
+  pub sizes : OnOk result (WhereTold (StoreHasSizes after) (content new))
   pub goes_on : OnOk result (GoesOnBy way before.root after.root)
   pub slot : OnOk result (after.slot ≡ 1 - before.slot)
   pub same : OnErr result (after ≡ before)
   pub untouched : UnlessFailed result (StaysBy way content moment left_since faults old new)
   pub undamaged : UndamagedBy way before result (content old)
   pub cause : RoseIf (result ≡ Err refusal.DiskFault) (faults old) (faults new)
-  pub count : ReadsBy way (reads old) (reads new)
+  pub count : ReadsByKind way (reads old) (reads new)
   -- The root file has the new root in its slot, whose gate is open, and is otherwise as it was.
   pub rooted : OnOk result
-      (Told (HasNewRoot after.slot (spelling after.root)) (content old) (content new))
+      (BothTold (HasNewRoot after.slot (spelling after.root)) (content old) (content new))
   -- At each moment its bytes between the gates and the bodies are as before.
-  pub between : RunsBetween content moment left_since old new
+  pub crash_between : RunsBetween content moment left_since old new
   pub damage : IfDamaged result
       (λ (file : FileName) (at : ℕ). IsDamageIn before file at (content old))

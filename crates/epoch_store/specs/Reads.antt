@@ -12,7 +12,7 @@ use Rattle.root_slots.specs.declared.root.Root.{Root}
 use Rattle.root_slots.specs.Valid.{no_place}
 use Rattle.store_finding.specs.declared.entries.StoredEntry.{StoredEntry}
 use Rattle.store_finding.specs.Files.{epoch_file_of}
-use Rattle.store_finding.specs.Kept.{View}
+use Rattle.store_finding.specs.Kept.{StoreState}
 use Rattle.store_finding.specs.Reading.{StandsAt, HasText}
 
 -- An entry without its text.
@@ -106,5 +106,5 @@ FindsEpoch root e old new (Ok true) k = (bytes : List ℕ)
 FindsEpoch root e old new _ k = Unit {0}
 
 -- The texts of all entries that are kept are in their places.
-abbrev pub HasTexts : View → Content → Type 0
+abbrev pub HasTexts : StoreState → Content → Type 0
 HasTexts v k = (i : ℕ) (s : StoredEntry) → slice_get v.entries i ≡ Some s → HasText v.root s k

@@ -14,15 +14,15 @@ use Rattle.root_change.specs.Names.{names_file, named_end}
 use Rattle.root_change.specs.Texts.{Texts, StandsFor, Measures, as_read}
 
 -- All that reads give is on the disk, and the current root is this body in this slot.
-pub record RestsOn (slot : ℕ) (body : List ℕ) (k : Content) : Type 0 where
+pub record IsSettledRoot (slot : ℕ) (body : List ℕ) (k : Content) : Type 0 where
   pub in_range : slot < 2
   pub settled : IsSettled k
   pub current : IfThere (Current slot body) (k root_name).seen
 
 -- The same for a disk that tells its content.
-abbrev pub Rests : ℕ → List ℕ → Option Content → Type 0
-Rests slot body None = ⊥
-Rests slot body (Some k) = RestsOn slot body k
+abbrev pub RootIsSettled : ℕ → List ℕ → Option Content → Type 0
+RootIsSettled slot body None = ⊥
+RootIsSettled slot body (Some k) = IsSettledRoot slot body k
 
 -- While the other slot is made ready, the current root stays, and all other files are as a crash
 -- before might have left them.
@@ -60,21 +60,21 @@ pub record ReadiesSlot (slot : ℕ) (body : List ℕ) (old new : Content) : Type
 
 -- A disk on which all is synced reads as files that stand for texts by a root in a slot, and the
 -- texts are as long as the root says.
-pub record IsFound (root : Root) (slot : ℕ) (texts : Texts) (k : Content) : Type 0 where
-  pub rests : RestsOn slot (spelling root) k
+pub record IsFoundDisk (root : Root) (slot : ℕ) (texts : Texts) (k : Content) : Type 0 where
+  pub files_are : IsSettledRoot slot (spelling root) k
   pub stands : StandsFor root texts (as_read k)
   pub measures : Measures root texts
 
 -- The same for a disk that tells its content.
 abbrev pub FoundOn : Root → ℕ → Texts → Option Content → Type 0
 FoundOn root slot texts None = ⊥
-FoundOn root slot texts (Some k) = IsFound root slot texts k
+FoundOn root slot texts (Some k) = IsFoundDisk root slot texts k
 
 -- What settling a disk requires: it reads as files that stand for texts, and these are the names of
 -- all files.
 pub record IsToSettle (root : Root) (slot : ℕ) (texts : Texts) (names : List FileName)
     (k : Content) : Type 0 where
-  pub found : IsFound root slot texts k
+  pub found : IsFoundDisk root slot texts k
   pub all : (name : FileName) → IsSome (k name).seen → Contains names name
 
 -- The same for a disk that tells its content.

@@ -1,9 +1,10 @@
 //! Reads the epochs of an archive on a disk.
+//! Reads the disk.
 ghost use Rattle.std.specs.Prelude.{◌≡◌, ◌<◌, ◌≤◌, ◌+◌, ℕ, List, get_or, Err};
 ghost use Rattle.arch_base.specs.Counts.{RoseIf};
 ghost use Rattle.arch_model.specs.Archives.{Archive, in_epoch};
 ghost use Rattle.arch_model.specs.Standing.{GivesEpochIn, KeepsUnlessFound};
-ghost use Rattle.disk_model.specs.Disk.{Image, Told, WhereTold, Unchanged, LeavesOnly};
+ghost use Rattle.disk_model.specs.Disk.{Image, BothTold, WhereTold, Unchanged, LeavesOnly};
 ghost use Rattle.disk_model.specs.Sizes.{greatest_epoch};
 ghost use Rattle.arch_model.specs.declared.text_refusal.TextRefusal.{TextRefusal};
 ghost use Rattle.root_slots.specs.Valid.{no_place};
@@ -56,8 +57,8 @@ impl Store {
             (D.content disk.old) }
         ensures kept { KeepsUnlessFound into.old into.new result }
         ensures undamaged { AnswersQuietly result }
-        ensures same { Told Unchanged (D.content disk.old) (D.content disk.new) }
-        ensures any_moment { LeavesOnly D.moment D.left_since disk.old disk.new
+        ensures same { BothTold Unchanged (D.content disk.old) (D.content disk.new) }
+        ensures crash { LeavesOnly D.moment D.left_since disk.old disk.new
             (Image (D.content disk.old)) }
         ensures cause { RoseIf (result ≡ Err TextRefusal.DiskFault) (D.faults disk.old)
             (D.faults disk.new) }

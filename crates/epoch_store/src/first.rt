@@ -1,14 +1,15 @@
 //! The first root of an archive.
+//! Writes the disk; syncs.
 ghost use Rattle.std.specs.Prelude.{◌≡◌, ◌≢◌, ◌<◌, ◌≤◌, Err, IfOk, OnOk};
 ghost use Rattle.arch_base.specs.Counts.{RoseIf, HasCause};
-ghost use Rattle.disk_model.specs.Disk.{Image, Told, WhereTold, Unchanged, Synced, LeavesOnly};
+ghost use Rattle.disk_model.specs.Disk.{Image, BothTold, WhereTold, Unchanged, Synced, LeavesOnly};
 ghost use Rattle.root_slots.specs.Each.{EachRoot};
 ghost use Rattle.root_slots.specs.Slots.{HasNewRoot, HasRootSize, Ready, IsCommitted};
 ghost use Rattle.root_slots.specs.Spelling.{spelling};
 ghost use Rattle.root_slots.specs.Valid.{IsRoot};
 ghost use Rattle.root_slots.specs.Slots.{EachShut};
 ghost use Rattle.arch_base.specs.Configs.{IsConfig};
-ghost use Rattle.arch_base.specs.Names.{IsName};
+ghost use Rattle.arch_base.specs.Names.{IsArchiveName};
 ghost use Rattle.store_finding.specs.Listing.{AreAllNames};
 ghost use Rattle.epoch_store.specs.First.{AreZeros, ShutOrFirst, MakesRoot, HasOnly, MakingAnswers, RefusesToMake, first_root_of};
 ghost use Rattle.arch_base.specs.Counts.{RoseIf};
@@ -26,7 +27,7 @@ pub fn first_root(config: &Config) -> Root
     requires { IsConfig config.now }
     ensures root { result ≡ first_root_of config.now }
     ensures valid { IsRoot result }
-    ensures name { IsName config.now.name }
+    ensures name { IsArchiveName config.now.name }
 {
     // The slice brings into the proof that the name is valid.
     let _name = config.name.as_slice();
@@ -34,9 +35,18 @@ pub fn first_root(config: &Config) -> Root
         config: config.copy(),
         sequence: 1,
         next: 1,
-        map: Place { gen_: 1, length: 0 },
-        epochs: [Place { gen_: 0, length: 0 }; EPOCHS as usize],
-        cache: Place { gen_: 0, length: 0 },
+        map: Place {
+            generation: 1,
+            length: 0,
+        },
+        epochs: [Place {
+            generation: 0,
+            length: 0,
+        }; EPOCHS as usize],
+        cache: Place {
+            generation: 0,
+            length: 0,
+        },
     }
 }
 
@@ -44,13 +54,13 @@ pub fn first_root(config: &Config) -> Root
 pub fn make<D: Disk>(disk: &mut D, names: &[FileName], root: &Root) -> Result<(), DiskFault>
     requires root { IsRoot root.now }
     // If no crash leaves an open slot before, at each moment a crash leaves none, or the root.
-    ensures any_moment { EachShut (D.content disk.old) → LeavesOnly D.moment D.left_since disk.old
+    ensures crash { EachShut (D.content disk.old) → LeavesOnly D.moment D.left_since disk.old
         disk.new (MakesRoot (spelling root.now) (D.content disk.old)) }
     // After `Ok` a crash leaves the root, the other slot is ready, and there is no other file.
     ensures done { WhereTold (AreAllNames names.now) (D.content disk.old) → 0 < root.now.sequence
         → OnOk result (WhereTold (HasOnly (spelling root.now)) (D.content disk.new)) }
     ensures told { OnOk result
-        (Told (λ old new. Unit {0}) (D.content disk.old) (D.content disk.new)) }
+        (BothTold (λ old new. Unit {0}) (D.content disk.old) (D.content disk.new)) }
     ensures cause { HasCause (D.faults disk.old) (D.faults disk.new) result }
     ensures count { D.reads disk.new ≡ D.reads disk.old }
 {
@@ -64,13 +74,13 @@ pub fn make<D: Disk>(disk: &mut D, names: &[FileName], root: &Root) -> Result<()
 pub fn raise_first<D: Disk>(disk: &mut D, root: &Root) -> Result<(), DiskFault>
     requires size { WhereTold HasRootSize (D.content disk.old) }
     requires root { IsRoot root.now }
-    ensures any_moment { EachRoot AreZeros (D.content disk.old) → LeavesOnly D.moment D.left_since
+    ensures crash { EachRoot AreZeros (D.content disk.old) → LeavesOnly D.moment D.left_since
         disk.old disk.new (ShutOrFirst (spelling root.now) (D.content disk.old)) }
     ensures time { D.moment disk.old ≤ D.moment disk.new }
     ensures done { EachRoot AreZeros (D.content disk.old) → 0 < root.now.sequence
         → OnOk result (EachRoot (Ready 1 (spelling root.now)) (D.content disk.new)) }
-    ensures committed { OnOk result (Told IsCommitted (D.content disk.old) (D.content disk.new)) }
-    ensures written { OnOk result (Told (HasNewRoot 0 (spelling root.now))
+    ensures committed { OnOk result (BothTold IsCommitted (D.content disk.old) (D.content disk.new)) }
+    ensures written { OnOk result (BothTold (HasNewRoot 0 (spelling root.now))
         (D.content disk.old) (D.content disk.new)) }
     ensures cause { HasCause (D.faults disk.old) (D.faults disk.new) result }
     ensures count { D.reads disk.new ≡ D.reads disk.old }
@@ -84,10 +94,10 @@ pub fn raise_first<D: Disk>(disk: &mut D, root: &Root) -> Result<(), DiskFault>
 ///
 /// `Exists` comes exactly if a slot is open. Nothing is done but the sync.
 pub fn no_archive<D: Disk>(disk: &mut D) -> Result<(), InitRefusal>
-    ensures any_moment { LeavesOnly D.moment D.left_since disk.old disk.new
+    ensures crash { LeavesOnly D.moment D.left_since disk.old disk.new
         (Image (D.content disk.old)) }
     ensures answer { WhereTold (MakingAnswers result) (D.content disk.old) }
-    ensures synced { OnOk result (Told Synced (D.content disk.old) (D.content disk.new)) }
+    ensures synced { OnOk result (BothTold Synced (D.content disk.old) (D.content disk.new)) }
     ensures refused { RefusesToMake result (D.content disk.old) (D.content disk.new) }
     ensures cause { RoseIf (result ≡ Err InitRefusal.DiskFault) (D.faults disk.old) (D.faults disk.new) }
 {
@@ -103,8 +113,8 @@ pub fn no_archive<D: Disk>(disk: &mut D) -> Result<(), InitRefusal>
 /// Returns the names of all files, in order.
 pub fn all_names<D: Disk>(alloc: Global, disk: &mut D) -> Result<FileNames, InitRefusal>
     ensures names { IfOk result (λ names. WhereTold (AreAllNames names) (D.content disk.old)) }
-    ensures same { Told Unchanged (D.content disk.old) (D.content disk.new) }
-    ensures any_moment { LeavesOnly D.moment D.left_since disk.old disk.new
+    ensures same { BothTold Unchanged (D.content disk.old) (D.content disk.new) }
+    ensures crash { LeavesOnly D.moment D.left_since disk.old disk.new
         (Image (D.content disk.old)) }
     ensures cause { RoseIf (result ≡ Err InitRefusal.DiskFault) (D.faults disk.old) (D.faults disk.new) }
     ensures none { result ≢ Err InitRefusal.Exists }

@@ -1,4 +1,5 @@
 //! Laws of files that stand for archives.
+//! Pure.
 ghost use Rattle.epoch_store.specs.Laws.{RecoversOne, RecoversSomeOne, CachesOne, StoreRecovers, ExactRecovers};
 
 use epoch_file::law_of_epochs;

@@ -1,4 +1,5 @@
 //! The archive on a disk: a root, a map of numbers, and the files of the epochs.
+//! Writes the disk; syncs.
 //!
 //! No crash leaves a change half done.
 #![tactic(auto)]

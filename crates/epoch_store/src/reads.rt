@@ -1,8 +1,9 @@
 //! Reads the entries of an archive on a disk.
+//! Reads the disk.
 ghost use Rattle.std.specs.Prelude.{◌≡◌, ◌≤◌, ◌<◌, ◌+◌, ℕ, List, Err, Some, length, slice_get};
 ghost use Rattle.arch_base.specs.Counts.{RoseIf};
 ghost use Rattle.arch_model.specs.Archives.{Archive};
-ghost use Rattle.disk_model.specs.Disk.{Image, Told, WhereTold, Unchanged, LeavesOnly};
+ghost use Rattle.disk_model.specs.Disk.{Image, BothTold, WhereTold, Unchanged, LeavesOnly};
 ghost use Rattle.arch_model.specs.declared.text_refusal.TextRefusal.{TextRefusal};
 ghost use Rattle.disk_model.specs.Sizes.{greatest_epoch};
 ghost use Rattle.store_finding.specs.declared.entries.StoredEntry.{StoredEntry};
@@ -69,7 +70,7 @@ impl Store {
         requires { epoch ≤ greatest_epoch }
         ensures { result ≡ epoch_file_of self.now.root epoch }
     {
-        epoch_file(epoch, self.root.epochs[epoch as usize].gen_)
+        epoch_file(epoch, self.root.epochs[epoch as usize].generation)
     }
 
     /// Appends the text of an entry to `into`.
@@ -94,8 +95,8 @@ impl Store {
         ensures archive { (a : Archive) (cache : List ℕ)
             → IsStoreWith self.now cache a (D.content disk.old)
             → GivesTextOf a index into.old into.new result }
-        ensures same { Told Unchanged (D.content disk.old) (D.content disk.new) }
-        ensures any_moment { LeavesOnly D.moment D.left_since disk.old disk.new
+        ensures same { BothTold Unchanged (D.content disk.old) (D.content disk.new) }
+        ensures crash { LeavesOnly D.moment D.left_since disk.old disk.new
             (Image (D.content disk.old)) }
         ensures cause { RoseIf (result ≡ Err TextRefusal.DiskFault) (D.faults disk.old)
             (D.faults disk.new) }

@@ -1,4 +1,5 @@
 //! The errors of creating an archive.
+//! Pure.
 use arch_base::NoMemory;
 use disk_model::DiskFault;
 use thiserror::Error;

@@ -1,4 +1,5 @@
 //! Purges and edits of the archive on a disk.
+//! Writes the disk; syncs.
 ghost use Rattle.std.specs.Prelude.{◌≡◌, ◌+◌, ◌-◌, ◌<◌, ◌≤◌, ℕ, List, Err, Some, None, IfOk, OnOk, OnErr, length};
 ghost use Rattle.std.specs.List.{AllZip, Contains};
 ghost use Rattle.arch_base.specs.Counts.{RoseIf};
@@ -11,11 +12,11 @@ ghost use Rattle.store_finding.specs.declared.entries.StoredEntry.{StoredEntry};
 ghost use Rattle.store_finding.specs.Extents.{AreNamedAfter, AreUpToEpoch, LieFrom};
 ghost use Rattle.disk_model.specs.declared.name.FileKind.TheVariants as kind;
 ghost use Rattle.root_change.specs.Rewriting.{Plan, plan_of};
-ghost use Rattle.store_planning.specs.Planning.{ArePlansIn, IsPlaceAfter, IsReady, IsTaken, KeepsPlanned, PlansArchive, PlansEdit, PlansFirst, PlansOwn, PlansPurge, PlansUndamaged, is_anew, length_after, loses, no_planning};
+ghost use Rattle.store_planning.specs.Planning.{ArePlansIn, IsPlaceAfter, IsReadyPlan, IsTakenToOffset, KeepsPlanned, PlansArchive, PlansEdit, PlansFirst, PlansOwn, PlansPurge, PlansUndamaged, is_anew, length_after, loses, no_planning};
 ghost use Rattle.epoch_file.specs.Runs.{OnlyReads};
 ghost use Rattle.store_planning.specs.DamagedTexts.{IfDamaged, IsDamagedEntry};
 ghost use Rattle.epoch_store.specs.Promises.{ChangesStore, Drops, Renews, Replaces};
-ghost use Rattle.epoch_store.specs.Commands.{DropsEntries, EditsEntries, EditsFiles, HasSizes, KeepsFiles, MayEdit, MayPurge};
+ghost use Rattle.epoch_store.specs.Commands.{DropsEntries, EditsEntries, EditsFiles, StoreHasSizes, KeepsFiles, MayEdit, MayPurge};
 ghost use Rattle.store_finding.specs.Kept.{InEpochs, IsStoreWith};
 ghost use Rattle.store_planning.specs.Dropping.{KeptOf, without_blob};
 
@@ -57,7 +58,7 @@ impl Store {
         blob: &ObjectId,
     ) -> Result<(), StoreRefusal>
         requires may { (number : ℕ) × MayPurge self.old number blob.now }
-        requires sizes { WhereTold (HasSizes self.old) (D.content disk.old) }
+        requires sizes { WhereTold (StoreHasSizes self.old) (D.content disk.old) }
         ensures changes { ChangesStore D.content D.moment D.left_since D.faults D.reads disk.old disk.new
             self.old self.new Renews (Drops blob.now) result }
         ensures dropped { OnOk result (DropsEntries self.old self.new blob.now) }
@@ -88,7 +89,7 @@ impl Store {
         requires may { (number : ℕ) × MayEdit self.old number old.now text.now }
         requires ids { ids.now ≡ text_ids_of text.now }
         requires moment { moment ≤ last_moment }
-        requires sizes { WhereTold (HasSizes self.old) (D.content disk.old) }
+        requires sizes { WhereTold (StoreHasSizes self.old) (D.content disk.old) }
         ensures changes { ChangesStore D.content D.moment D.left_since D.faults D.reads disk.old disk.new
             self.old self.new Renews (Replaces old.now text.now moment) result }
         ensures edited { OnOk result (EditsEntries self.old self.new old.now text.now) }
@@ -124,7 +125,7 @@ impl Store {
             Ok(()) => {}
             Err(refusal) => return Err(refusal),
         }
-        planned.finish(map_file(self.root.map.gen_), self.root.next - 1)?;
+        planned.finish(map_file(self.root.map.generation), self.root.next - 1)?;
         Ok(planned)
     }
 
@@ -140,7 +141,7 @@ impl Store {
         ensures kept { OnOk result (AllZip KeptOf (without_blob self.now.entries blob.now.0)
             planned.new.entries) }
         ensures plans { OnOk result (ArePlansIn self.now.root planned.new) }
-        ensures taken { OnOk result (IsTaken self.now.root planned.new) }
+        ensures taken { OnOk result (IsTakenToOffset self.now.root planned.new) }
         ensures changes { OnOk result ((e : ℕ)
             → is_anew planned.new e ≡ loses self.now.entries blob.now.0 e) }
         ensures all { OnOk result (WhereTold
@@ -188,7 +189,7 @@ impl Store {
         if end.epoch == LAST_EPOCH || length < self.root.config.limit {
             return NextPlace {
                 epoch: end.epoch,
-                gen_: 0,
+                generation: 0,
                 length,
                 parent: end.parent,
             };
@@ -196,7 +197,7 @@ impl Store {
         let epoch = end.epoch + 1;
         NextPlace {
             epoch,
-            gen_: 0,
+            generation: 0,
             length: self.planned_length(planned, epoch),
             parent: None,
         }
@@ -258,11 +259,11 @@ impl Store {
         planned: Planner,
         next: u32,
     ) -> Result<(), StoreRefusal>
-        requires ready { IsReady self.old.root planned.plans next }
+        requires ready { IsReadyPlan self.old.root planned.plans next }
         requires next { (1 ≤ next) × (next ≤ 2147483648) }
         requires epochs { InEpochs planned.entries }
         requires named { AreNamedAfter self.old.root planned.plans planned.entries }
-        requires sizes { WhereTold (HasSizes self.old) (D.content disk.old) }
+        requires sizes { WhereTold (StoreHasSizes self.old) (D.content disk.old) }
         ensures changes { ChangesStore D.content D.moment D.left_since D.faults D.reads disk.old disk.new
             self.old self.new Renews (λ a b. (cache : List ℕ)
             → IsStoreWith self.old cache a (D.content disk.old)

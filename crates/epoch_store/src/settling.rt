@@ -1,14 +1,15 @@
 //! Settles the disk of an archive when it is opened.
+//! Writes the disk; syncs.
 ghost use Rattle.std.specs.Prelude.{◌-◌, OnOk};
 ghost use Rattle.arch_base.specs.Counts.{HasCause};
-ghost use Rattle.disk_model.specs.Disk.{Told, WhereTold, LeavesOnly};
+ghost use Rattle.disk_model.specs.Disk.{BothTold, WhereTold, LeavesOnly};
 ghost use Rattle.disk_model.specs.Synced.{IsSettled};
 ghost use Rattle.root_slots.specs.Between.{RunsBetween, WentBetween};
 ghost use Rattle.root_slots.specs.Slots.{slot_number, HasRootSize};
 ghost use Rattle.root_slots.specs.Spelling.{spelling};
 ghost use Rattle.root_slots.specs.Valid.{IsRoot};
 ghost use Rattle.root_change.specs.Texts.{Texts, StandsFor, OnDisk};
-ghost use Rattle.epoch_store.specs.Settling.{Rests, StaysCurrent, IsReadied, ReadiesSlot, ToSettle, IsSwept};
+ghost use Rattle.epoch_store.specs.Settling.{RootIsSettled, StaysCurrent, IsReadied, ReadiesSlot, ToSettle, IsSwept};
 
 use disk_model::{Disk, DiskFault, FileName};
 use root_change::tidy;
@@ -20,18 +21,18 @@ use root_slots::{Root, Slot, fill, is_open};
 pub(crate) fn ready_other<D: Disk>(disk: &mut D, slot: Slot, root: &Root) -> Result<(), DiskFault>
     requires size { WhereTold HasRootSize (D.content disk.old) }
     requires root { IsRoot root.now }
-    ensures any_moment { Rests (slot_number slot) (spelling root.now) (D.content disk.old)
+    ensures crash { RootIsSettled (slot_number slot) (spelling root.now) (D.content disk.old)
         → LeavesOnly D.moment D.left_since disk.old disk.new
         (StaysCurrent (slot_number slot) (spelling root.now) (D.content disk.old)) }
-    ensures done { Rests (slot_number slot) (spelling root.now) (D.content disk.old)
-        → OnOk result (Told (IsReadied (slot_number slot) (spelling root.now)) (D.content disk.old)
+    ensures done { RootIsSettled (slot_number slot) (spelling root.now) (D.content disk.old)
+        → OnOk result (BothTold (IsReadied (slot_number slot) (spelling root.now)) (D.content disk.old)
         (D.content disk.new)) }
     // Whatever the root file holds, only the body of a shut slot is written.
-    ensures readies { OnOk result (Told (ReadiesSlot (slot_number slot) (spelling root.now))
+    ensures readies { OnOk result (BothTold (ReadiesSlot (slot_number slot) (spelling root.now))
         (D.content disk.old) (D.content disk.new)) }
     // The bytes of the root file between its gates and its bodies are as before.
-    ensures went { OnOk result (Told WentBetween (D.content disk.old) (D.content disk.new)) }
-    ensures between { RunsBetween D.content D.moment D.left_since disk.old disk.new }
+    ensures went { OnOk result (BothTold WentBetween (D.content disk.old) (D.content disk.new)) }
+    ensures crash_between { RunsBetween D.content D.moment D.left_since disk.old disk.new }
     ensures cause { HasCause (D.faults disk.old) (D.faults disk.new) result }
 {
     let other = slot.other();
@@ -54,7 +55,7 @@ pub(crate) fn sweep<D: Disk>(
     requires size { WhereTold HasRootSize (D.content disk.old) }
     requires root { IsRoot root.now }
     // At each moment a crash leaves files that stand for the same texts.
-    ensures any_moment { (texts : Texts)
+    ensures crash { (texts : Texts)
         → ToSettle root.now (slot_number slot) texts names.now (D.content disk.old)
         → LeavesOnly D.moment D.left_since disk.old disk.new (StandsFor root.now texts) }
     // After `Ok` the disk is exactly theirs.
@@ -62,9 +63,9 @@ pub(crate) fn sweep<D: Disk>(
         → ToSettle root.now (slot_number slot) texts names.now (D.content disk.old)
         → OnOk result (OnDisk root.now (1 - slot_number slot) texts (D.content disk.new)) }
     ensures settled { OnOk result (WhereTold IsSettled (D.content disk.new)) }
-    ensures swept { OnOk result (Told (IsSwept root.now (slot_number slot) names.now)
+    ensures swept { OnOk result (BothTold (IsSwept root.now (slot_number slot) names.now)
         (D.content disk.old) (D.content disk.new)) }
-    ensures between { RunsBetween D.content D.moment D.left_since disk.old disk.new }
+    ensures crash_between { RunsBetween D.content D.moment D.left_since disk.old disk.new }
     ensures cause { HasCause (D.faults disk.old) (D.faults disk.new) result }
 {
     ready_other(disk, slot, root)?;

@@ -1,6 +1,7 @@
 //! The archive on a disk, as it is kept in memory.
+//! Writes the disk; syncs.
 ghost use Rattle.std.specs.Prelude.{◌≡◌, ◌≤◌, ◌<◌, ◌+◌, ◌-◌, ◌^◌, List, Err, Some, None, IsSome, IfOk, OnOk, ◌==◌, if◌then◌else◌, decimal, length};
-ghost use Rattle.disk_model.specs.Disk.{Told, WhereTold};
+ghost use Rattle.disk_model.specs.Disk.{BothTold, WhereTold};
 ghost use Rattle.disk_model.specs.Sizes.{greatest_epoch};
 ghost use Rattle.mail_reader.specs.Ids.{own_id as own_id_in};
 ghost use Rattle.mail_reader.specs.Content.{content_id_of};
@@ -9,16 +10,16 @@ ghost use Rattle.mail_commits.specs.Ids.{text_ids_of};
 ghost use Rattle.arch_model.specs.Archives.{Archive, Entry};
 ghost use Rattle.arch_base.specs.Moments.{last_moment};
 ghost use Rattle.epoch_file.specs.Appending.{written_of};
-ghost use Rattle.epoch_file.specs.Lying.{LiesIn};
+ghost use Rattle.epoch_file.specs.Lying.{EntryLiesIn};
 ghost use Rattle.root_slots.specs.Valid.{IsRoot};
 ghost use Rattle.arch_base.specs.Configs.{IsConfig};
 ghost use Rattle.store_finding.specs.Extents.{AreUpToEpoch};
 ghost use Rattle.epoch_store.specs.declared.refusal.InitRefusal.{InitRefusal};
-ghost use Rattle.epoch_store.specs.Promises.{Adds, Appends, ChangesStore, Ends, MakesArchive};
-ghost use Rattle.epoch_store.specs.Entering.{Enters, KeepsEntry, numbers_by};
-ghost use Rattle.store_finding.specs.Kept.{Keeps, stored_at};
-ghost use Rattle.store_planning.specs.Dropping.{IsEnd};
-ghost use Rattle.epoch_store.specs.Commands.{IsNextPlace, next_sequence, place_of, HasSizes, Accepts, MayEnd, AddsEntry, EndsAt, EndsEntry};
+ghost use Rattle.epoch_store.specs.Promises.{AddsMessage, Appends, ChangesStore, EndsMessage, MakesArchive};
+ghost use Rattle.epoch_store.specs.Entering.{Enters, EntersEntry, numbers_by};
+ghost use Rattle.store_finding.specs.Kept.{KeepsArchive, stored_at};
+ghost use Rattle.store_planning.specs.Dropping.{IsStoreEnd};
+ghost use Rattle.epoch_store.specs.Commands.{IsNextPlace, next_sequence, place_of, StoreHasSizes, Accepts, MayEnd, AddsEntry, EntriesEndAt, EndsEntry};
 
 use crate::first::{all_names, first_root, make, no_archive};
 use crate::refusal::InitRefusal;
@@ -57,9 +58,9 @@ impl Model for Store {
     ghost use Rattle.root_slots.specs.Slots.{slot_number};
     ghost use Rattle.root_slots.specs.Valid.{IsRoot};
     ghost use Rattle.store_finding.specs.Extents.{AreNamed};
-    ghost use Rattle.store_finding.specs.Kept.{View, InEpochs};
+    ghost use Rattle.store_finding.specs.Kept.{StoreState, InEpochs};
 
-    ghost Value = { View };
+    ghost Value = { StoreState };
 
     ghost view = { λ s.
         record { root = s.root; slot = slot_number s.slot; entries = s.entries.items } };
@@ -98,7 +99,7 @@ impl Store {
     fn end(&self) -> End
         ensures small { result.epoch ≤ greatest_epoch }
         ensures last { AreUpToEpoch result.epoch self.now.entries }
-        ensures end { (a : Archive) → Keeps self.now a → IsEnd a result }
+        ensures end { (a : Archive) → KeepsArchive self.now a → IsStoreEnd a result }
     {
         match self.entries.last() {
             None => End {
@@ -117,7 +118,7 @@ impl Store {
         ensures small { result.epoch ≤ greatest_epoch }
         ensures last { AreUpToEpoch result.epoch self.now.entries }
         ensures place { result ≡ place_of self.now.root result.epoch result.parent }
-        ensures next { (a : Archive) → Keeps self.now a
+        ensures next { (a : Archive) → KeepsArchive self.now a
             → IsNextPlace self.now.root a (next_sequence self.now.root.sequence) result }
     {
         let end = self.end();
@@ -134,14 +135,14 @@ impl Store {
         ensures { result ≡ place_of self.now.root epoch parent }
     {
         let place = self.root.epochs[epoch as usize];
-        let gen_ = if place.length == 0 {
+        let generation = if place.length == 0 {
             self.root.sequence.saturating_add(1)
         } else {
-            place.gen_
+            place.generation
         };
         NextPlace {
             epoch,
-            gen_,
+            generation,
             length: place.length,
             parent,
         }
@@ -161,14 +162,14 @@ impl Store {
         requires parent { entry.now.parent ≡ place.now.parent }
         requires ids { entry.now.ids ≡ text_ids_of entry.now.text.now }
         requires id { own_id_in entry.now.text.now ≡ Some id }
-        ensures lies { LiesIn place.now.length written.now.end result.seen }
+        ensures lies { EntryLiesIn place.now.length written.now.end result.seen }
         ensures epoch { result.epoch ≡ place.now.epoch }
         ensures number { result.number ≡ number }
         ensures kind { result.seen.kind ≡ entry.now.kind }
         ensures id { result.seen.id ≡ id }
         ensures blob { result.seen.blob ≡ blob_id_of entry.now.text.now }
         ensures content { result.seen.content ≡ content_id_of entry.now.text.now }
-        ensures stored { (a : Archive) → Keeps self.now a
+        ensures stored { (a : Archive) → KeepsArchive self.now a
             → IsNextPlace self.now.root a (next_sequence self.now.root.sequence) place.now
             → result ≡ stored_at a.entries (record {
               kind = entry.now.kind;
@@ -178,7 +179,7 @@ impl Store {
               moment = entry.now.moment;
             }) }
         // The same after any entries that end where it is written.
-        ensures after { (before : List Entry) → EndsAt before place.now
+        ensures after { (before : List Entry) → EntriesEndAt before place.now
             → result ≡ stored_at before (record {
               kind = entry.now.kind;
               number = number;
@@ -220,10 +221,10 @@ impl Store {
         requires left { self.old.root.next + numbers_by kind ≤ 2147483648 }
         requires ids { ids.now ≡ text_ids_of text.now }
         requires moment { moment ≤ last_moment }
-        requires sizes { WhereTold (HasSizes self.old) (D.content disk.old) }
+        requires sizes { WhereTold (StoreHasSizes self.old) (D.content disk.old) }
         ensures changes { ChangesStore D.content D.moment D.left_since D.faults D.reads disk.old disk.new
             self.old self.new Appends (Enters kind number text.now moment) result }
-        ensures entered { OnOk result (KeepsEntry kind number text.now self.old self.new) }
+        ensures entered { OnOk result (EntersEntry kind number text.now self.old self.new) }
     {
         let place = self.next_place();
         if place.length >= MOST {
@@ -271,9 +272,9 @@ impl Store {
         requires accepts { Accepts self.old text.now }
         requires ids { ids.now ≡ text_ids_of text.now }
         requires moment { moment ≤ last_moment }
-        requires sizes { WhereTold (HasSizes self.old) (D.content disk.old) }
+        requires sizes { WhereTold (StoreHasSizes self.old) (D.content disk.old) }
         ensures changes { ChangesStore D.content D.moment D.left_since D.faults D.reads disk.old disk.new
-            self.old self.new Appends (Adds text.now moment) result }
+            self.old self.new Appends (AddsMessage text.now moment) result }
         ensures added { OnOk result (AddsEntry self.old self.new text.now) }
     {
         let number = self.root.next;
@@ -300,9 +301,9 @@ impl Store {
         requires may { MayEnd self.old number text.now }
         requires ids { ids.now ≡ text_ids_of text.now }
         requires moment { moment ≤ last_moment }
-        requires sizes { WhereTold (HasSizes self.old) (D.content disk.old) }
+        requires sizes { WhereTold (StoreHasSizes self.old) (D.content disk.old) }
         ensures changes { ChangesStore D.content D.moment D.left_since D.faults D.reads disk.old disk.new
-            self.old self.new Appends (Ends number text.now moment) result }
+            self.old self.new Appends (EndsMessage number text.now moment) result }
         ensures ended { OnOk result (EndsEntry self.old self.new number text.now) }
     {
         let _next = self.root.next; // brings the range of the next number into the proof

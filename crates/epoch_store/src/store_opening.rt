@@ -1,7 +1,8 @@
 //! Opens an archive: syncs, reads its files, and settles the disk.
+//! Writes the disk; syncs.
 ghost use Rattle.std.specs.Prelude.{◌≡◌, ◌≢◌, ◌-◌, Err, IfOk, OnOk};
 ghost use Rattle.arch_base.specs.Counts.{Rose, RoseIf};
-ghost use Rattle.disk_model.specs.Disk.{Image, Told, WhereTold, Unchanged, LeavesOnly};
+ghost use Rattle.disk_model.specs.Disk.{Image, BothTold, WhereTold, Unchanged, LeavesOnly};
 ghost use Rattle.disk_model.specs.Sizes.{epoch_count};
 ghost use Rattle.disk_model.specs.Synced.{IsSettled};
 ghost use Rattle.arch_model.specs.Archives.{Archive};
@@ -14,13 +15,13 @@ ghost use Rattle.store_finding.specs.Listing.{AreAllNames};
 ghost use Rattle.root_change.specs.Texts.{Texts, StandsFor, OnDisk};
 ghost use Rattle.store_finding.specs.Extents.{AreNamed};
 ghost use Rattle.store_finding.specs.Files.{as_read};
-ghost use Rattle.store_finding.specs.Finding.{Finds};
+ghost use Rattle.store_finding.specs.Finding.{FindsStore};
 ghost use Rattle.store_finding.specs.Indexes.{IndexesStored};
 ghost use Rattle.store_finding.specs.Joined.{AreBefore};
 ghost use Rattle.epoch_store.specs.Promises.{OpensArchive};
 ghost use Rattle.epoch_store.specs.Settling.{FoundOn, IsSettledBy};
 ghost use Rattle.epoch_store.specs.Reads.{HasTexts};
-ghost use Rattle.epoch_store.specs.Opens.{store_of, Opens, OpensWell, SyncsBy, RefusesBefore};
+ghost use Rattle.epoch_store.specs.Opens.{store_of, OpensFiles, OpensWell, SyncsBy, RefusesBefore};
 
 use crate::laws::law_of_recovery;
 use crate::settling::sweep;
@@ -36,13 +37,13 @@ use store_finding::{
 
 /// Syncs, and reads the archive on a disk. A crash leaves what a crash before might have left.
 fn find_synced<D: Disk>(alloc: Global, disk: &mut D) -> Result<Found, OpenRefusal>
-    ensures found { WhereTold (λ k. Finds (as_read k) result) (D.content disk.old) }
+    ensures found { WhereTold (λ k. FindsStore (as_read k) result) (D.content disk.old) }
     ensures synced { SyncsBy result (D.content disk.old) (D.content disk.new) }
     ensures root { IfOk result (λ found. IsRoot found.root) }
     ensures epochs { IfOk result (λ found. AreBefore epoch_count found.entries.items) }
     ensures named { IfOk result (λ found. AreNamed found.root found.entries.items) }
     ensures indexed { IfOk result (λ found. IndexesStored found.entries.items found.index) }
-    ensures any_moment { LeavesOnly D.moment D.left_since disk.old disk.new
+    ensures crash { LeavesOnly D.moment D.left_since disk.old disk.new
         (Image (D.content disk.old)) }
     ensures cause { RoseIf (result ≡ Err OpenRefusal.DiskFault) (D.faults disk.old) (D.faults disk.new) }
 {
@@ -70,18 +71,18 @@ fn present_files<D: Disk>(alloc: Global, disk: &mut D) -> Result<FileNames, Open
 fn settle<D: Disk>(alloc: Global, disk: &mut D, slot: Slot, root: &Root) -> Result<(), OpenRefusal>
     requires size { WhereTold HasRootSize (D.content disk.old) }
     requires root { IsRoot root.now }
-    ensures any_moment { (texts : Texts)
+    ensures crash { (texts : Texts)
         → FoundOn root.now (slot_number slot) texts (D.content disk.old)
         → LeavesOnly D.moment D.left_since disk.old disk.new (StandsFor root.now texts) }
     ensures done { (texts : Texts) → FoundOn root.now (slot_number slot) texts (D.content disk.old)
         → OnOk result (OnDisk root.now (1 - slot_number slot) texts (D.content disk.new)) }
     ensures settled { OnOk result (WhereTold IsSettled (D.content disk.new)) }
-    ensures kept { OnOk result (Told (IsSettledBy root.now (slot_number slot)) (D.content disk.old)
+    ensures kept { OnOk result (BothTold (IsSettledBy root.now (slot_number slot)) (D.content disk.old)
         (D.content disk.new)) }
-    ensures between { RunsBetween D.content D.moment D.left_since disk.old disk.new }
+    ensures crash_between { RunsBetween D.content D.moment D.left_since disk.old disk.new }
     ensures well { OpensWell result }
     ensures unchanged { result ≡ Err OpenRefusal.NoMemory
-        → Told Unchanged (D.content disk.old) (D.content disk.new) }
+        → BothTold Unchanged (D.content disk.old) (D.content disk.new) }
     ensures cause { RoseIf (result ≡ Err OpenRefusal.DiskFault) (D.faults disk.old) (D.faults disk.new) }
 {
     match present_files(alloc, disk) {

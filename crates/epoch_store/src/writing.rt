@@ -1,9 +1,10 @@
 //! Writes an entry to its files, and replaces the root by the one that names it.
+//! Writes the disk; syncs.
 ghost use Rattle.std.specs.Prelude.{◌≡◌, ◌≤◌, ◌<◌, ◌+◌, ◌-◌, ◌^◌, Err, IfOk, OnOk, length};
 ghost use Rattle.arch_base.specs.Counts.{HasCause, RoseIf};
 ghost use Rattle.arch_base.specs.Moments.{last_moment};
 ghost use Rattle.disk_model.specs.Beside.{RunsBeside};
-ghost use Rattle.disk_model.specs.Disk.{Told, WhereTold, IsAtMostLength, LeavesOnly};
+ghost use Rattle.disk_model.specs.Disk.{BothTold, WhereTold, IsAtMostLength, LeavesOnly};
 ghost use Rattle.disk_model.specs.Sizes.{greatest_epoch};
 ghost use Rattle.disk_model.specs.Synced.{IsSettled};
 ghost use Rattle.mail_commits.specs.Ids.{text_ids_of};
@@ -14,11 +15,11 @@ ghost use Rattle.root_slots.specs.Spelling.{spelling};
 ghost use Rattle.root_slots.specs.Valid.{IsRoot};
 ghost use Rattle.root_change.specs.Copying.{Added};
 ghost use Rattle.root_change.specs.Names.{bounds_of};
-ghost use Rattle.root_change.specs.Parts.{Parts, IsOwn};
+ghost use Rattle.root_change.specs.Parts.{Parts, IsOwnOfParts};
 ghost use Rattle.root_change.specs.Texts.{HasPartSizes};
 ghost use Rattle.epoch_store.specs.Entering.{Entered, RecoversEntered, line_by, numbers_by, parts_with, root_after, root_with};
 ghost use Rattle.store_finding.specs.Files.{map_file_of};
-ghost use Rattle.epoch_store.specs.Commands.{GoesOn, place_of};
+ghost use Rattle.epoch_store.specs.Commands.{RootGoesOn, place_of};
 ghost use Rattle.store_planning.specs.Dropping.{SeesNoDamage};
 
 use arch_base::ObjectId;
@@ -51,7 +52,7 @@ fn next_root(root: &Root, place: &NextPlace, kind: EntryKind, end: u64) -> Root
     requires some { 0 < end }
     ensures root { result ≡ root_after root.now kind place.now end }
     ensures valid { IsRoot result }
-    ensures goes_on { GoesOn root.now result }
+    ensures goes_on { RootGoesOn root.now result }
 {
     root_fits(root);
     let numbers = numbers_of(kind);
@@ -60,7 +61,7 @@ fn next_root(root: &Root, place: &NextPlace, kind: EntryKind, end: u64) -> Root
     next.next += numbers;
     next.map.length += numbers as u64 * RECORD_SIZE as u64;
     next.epochs[place.epoch as usize] = Place {
-        gen_: place.gen_,
+        generation: place.generation,
         length: end,
     };
     next
@@ -77,9 +78,9 @@ fn write_record<D: Disk>(
     requires root { IsRoot root.now }
     requires inside { WhereTold (IsAtMostLength (map_file_of root.now) root.now.map.length)
         (D.content disk.old) }
-    ensures beside { RunsBeside D.content D.moment D.left_since (bounds_of root.now)
+    ensures crash_beside { RunsBeside D.content D.moment D.left_since (bounds_of root.now)
         disk.old disk.new }
-    ensures added { OnOk result (Told (Added (line_by kind root.now.next epoch blob)
+    ensures added { OnOk result (BothTold (Added (line_by kind root.now.next epoch blob)
         (map_file_of root.now) root.now.map.length) (D.content disk.old) (D.content disk.new)) }
     ensures cause { HasCause (D.faults disk.old) (D.faults disk.new) result }
     ensures count { D.reads disk.new ≡ D.reads disk.old }
@@ -92,7 +93,7 @@ fn write_record<D: Disk>(
                 epoch,
                 blob,
             };
-            let map = map_file(root.map.gen_);
+            let map = map_file(root.map.generation);
             append(disk, map, root.map.length, &line)
         }
     }
@@ -114,9 +115,9 @@ fn write_files<D: Disk>(
     requires sizes { WhereTold (HasPartSizes root.now) (D.content disk.old) }
     requires ids { entry.now.ids ≡ text_ids_of entry.now.text.now }
     requires moment { entry.now.moment ≤ last_moment }
-    ensures beside { RunsBeside D.content D.moment D.left_since (bounds_of root.now)
+    ensures crash_beside { RunsBeside D.content D.moment D.left_since (bounds_of root.now)
         disk.old disk.new }
-    ensures entered { OnOk result (Told (Entered root.now place.now entry.now) (D.content disk.old)
+    ensures entered { OnOk result (BothTold (Entered root.now place.now entry.now) (D.content disk.old)
         (D.content disk.new)) }
     ensures written { IfOk result (λ written. written ≡ written_of place.now.length entry.now) }
     ensures refused { result ≡ Err StoreRefusal.NoMemory → disk.new ≡ disk.old }
@@ -125,7 +126,7 @@ fn write_files<D: Disk>(
         (D.faults disk.new) }
     ensures count { D.reads disk.new ≡ D.reads disk.old }
 {
-    let epoch = epoch_file(place.epoch, place.gen_);
+    let epoch = epoch_file(place.epoch, place.generation);
     let written = append_entry(alloc, disk, epoch, place.length, entry)?;
     write_record(disk, root, entry.kind, place.epoch, written.blob)?;
     Ok(written)
@@ -151,29 +152,29 @@ pub(crate) fn write_entry<D: Disk>(
     requires ids { entry.now.ids ≡ text_ids_of entry.now.text.now }
     requires moment { entry.now.moment ≤ last_moment }
     // At each moment a crash leaves files that stand for the parts before, or for those with the entry.
-    ensures any_moment { (parts : Parts)
-        → IsOwn root.now (slot_number free) parts (D.content disk.old)
+    ensures crash { (parts : Parts)
+        → IsOwnOfParts root.now (slot_number free) parts (D.content disk.old)
         → root.now.sequence + 1 < 2 ^ 64 → LeavesOnly D.moment D.left_since disk.old disk.new
         (RecoversEntered root.now place.now entry.now parts) }
     // After `Ok` the disk is exactly that of the latter.
     ensures done { (parts : Parts)
-        → IsOwn root.now (slot_number free) parts (D.content disk.old)
-        → root.now.sequence + 1 < 2 ^ 64 → IfOk result (λ made. IsOwn made.0 (1 - slot_number free)
+        → IsOwnOfParts root.now (slot_number free) parts (D.content disk.old)
+        → root.now.sequence + 1 < 2 ^ 64 → IfOk result (λ made. IsOwnOfParts made.0 (1 - slot_number free)
         (parts_with root.now place.now entry.now parts) (D.content disk.new)) }
     ensures settled { OnOk result (WhereTold IsSettled (D.content disk.new)) }
     ensures sizes { IfOk result (λ made. WhereTold (HasPartSizes made.0) (D.content disk.new)) }
     ensures root { IfOk result (λ made. made.0 ≡ root_with root.now place.now entry.now) }
     ensures written { IfOk result (λ made. made.1 ≡ written_of place.now.length entry.now) }
     ensures valid { IfOk result (λ made. IsRoot made.0) }
-    ensures goes_on { IfOk result (λ made. GoesOn root.now made.0) }
+    ensures goes_on { IfOk result (λ made. RootGoesOn root.now made.0) }
     ensures refused { result ≡ Err StoreRefusal.NoMemory → disk.new ≡ disk.old }
     ensures undamaged { SeesNoDamage result }
     ensures cause { RoseIf (result ≡ Err StoreRefusal.DiskFault) (D.faults disk.old)
         (D.faults disk.new) }
     ensures count { D.reads disk.new ≡ D.reads disk.old }
-    ensures rooted { IfOk result (λ made. Told (HasNewRoot (slot_number free) (spelling made.0))
+    ensures rooted { IfOk result (λ made. BothTold (HasNewRoot (slot_number free) (spelling made.0))
         (D.content disk.old) (D.content disk.new)) }
-    ensures between { RunsBetween D.content D.moment D.left_since disk.old disk.new }
+    ensures crash_between { RunsBetween D.content D.moment D.left_since disk.old disk.new }
 {
     root_fits(root);
     let written = write_files(alloc, disk, root, place, entry)?;

@@ -21,7 +21,7 @@ const CONTENT: [u8; 32] =
 const FILE: FileName = FileName {
     kind: FileKind::Epoch,
     number: 0,
-    gen_: 1,
+    generation: 1,
 };
 
 /// The length of the epoch: the first message, the second, and the first deleted.

@@ -60,7 +60,7 @@ const FOUND: ObjectId = Id20([
 const EPOCH: FileName = FileName {
     kind: FileKind::Epoch,
     number: 2,
-    gen_: 1,
+    generation: 1,
 };
 
 /// An archive in memory of which one kind of call always fails. It tells nothing of what it holds.
@@ -238,7 +238,7 @@ impl Shelf for FailingKeep {
 }
 
 impl Keep for FailingKeep {
-    ghost rests = { HoldsNone };
+    ghost files_are = { HoldsNone };
 
     ghost leaves = { LeavesUntold };
 
@@ -308,7 +308,7 @@ impl Keep for FailingKeep {
         }
     }
 
-    ghost holds_rests = { λ k a no. no };
+    ghost holds_files_are = { λ k a no. no };
 
     ghost holds_left = { λ k a may no has. no };
 

@@ -5,7 +5,7 @@ use Rattle.std.specs.List.{filter, prefix_len, suffix_len, list_all}
 use Rattle.std.proofs.lemmas.List.{take_all, length-take, length-drop, length-reverse, get_or-drop, get_or-take, get_or-reverse}
 use Rattle.std.proofs.lemmas.List.Sums.{prefix_len_is, prefix_len_stops, suffix_len_is, suffix_len-take_yes, length-filter, count_by-le-length}
 use Rattle.std.proofs.lemmas.Bool.{and_parts}
-use Rattle.git_objects.specs.CleanText.{is_clean_byte, is_space, trimmed, clean, IsClean}
+use Rattle.git_objects.specs.CleanText.{is_clean_byte, is_space, trimmed, clean, IsCleanText}
 
 -- A filter that keeps all keeps the list.
 pub filter-all : (p : ℕ → Bool) (xs : List ℕ) → list_all p xs ≡ true → filter p xs ≡ xs
@@ -43,8 +43,8 @@ trimmed-ends text first last =
     rw (front, back, whole) (take_all (length text) text (omega arith))
 
 -- A text of clean bytes that neither starts nor ends with a space is clean.
-pub IsClean-from : (text : List ℕ) → list_all is_clean_byte text ≡ true → get_or text 0 0 ≢ 32 → get_or text (length text - 1) 0 ≢ 32 → IsClean text
-IsClean-from text all first last = record { same = rw (filter-all is_clean_byte text all) (trimmed-ends text first last) }
+pub IsCleanText-from : (text : List ℕ) → list_all is_clean_byte text ≡ true → get_or text 0 0 ≢ 32 → get_or text (length text - 1) 0 ≢ 32 → IsCleanText text
+IsCleanText-from text all first last = record { same = rw (filter-all is_clean_byte text all) (trimmed-ends text first last) }
 
 -- A text that trimming doesn't shorten has no space at its ends.
 trimmed-whole : (text : List ℕ) → 0 < length text → length text ≤ length (trimmed text) → (prefix_len is_space text ≡ 0) × (suffix_len is_space text ≡ 0)
@@ -79,9 +79,9 @@ no_space-last text some none e =
     omega (arith, long, ap (suffix_len is_space) whole)
 
 -- A clean text has only clean bytes, and no space at its ends.
-pub IsClean-parts : (text : List ℕ) → 0 < length text → IsClean text
+pub IsCleanText-parts : (text : List ℕ) → 0 < length text → IsCleanText text
     → (list_all is_clean_byte text ≡ true) × (get_or text 0 0 ≢ 32) × (get_or text (length text - 1) 0 ≢ 32)
-IsClean-parts text some h =
+IsCleanText-parts text some h =
     let long : length text ≤ length (filter is_clean_byte text) = omega (arith, ap length h.same, trimmed-le (filter is_clean_byte text)) in
     let all : list_all is_clean_byte text ≡ true = all-filter is_clean_byte text long in
     let same : trimmed text ≡ text = ap trimmed (sym (filter-all is_clean_byte text all)) ∙ h.same in
@@ -89,17 +89,17 @@ IsClean-parts text some h =
     (all, no_space-first text some ends.0, no_space-last text some ends.1)
 
 -- A text that starts with a space is not clean.
-pub unclean-first : (text : List ℕ) → 0 < length text → get_or text 0 0 ≡ 32 → (IsTrue false → IsClean text) × (IsClean text → IsTrue false)
-unclean-first text some e = (λ t. cc, λ h. absurd ((IsClean-parts text some h).1 e))
+pub unclean-first : (text : List ℕ) → 0 < length text → get_or text 0 0 ≡ 32 → (IsTrue false → IsCleanText text) × (IsCleanText text → IsTrue false)
+unclean-first text some e = (λ t. cc, λ h. absurd ((IsCleanText-parts text some h).1 e))
 
 -- A text that ends with a space is not clean.
-pub unclean-last : (text : List ℕ) → 0 < length text → get_or text (length text - 1) 0 ≡ 32 → (IsTrue false → IsClean text) × (IsClean text → IsTrue false)
-unclean-last text some e = (λ t. cc, λ h. absurd ((IsClean-parts text some h).2 e))
+pub unclean-last : (text : List ℕ) → 0 < length text → get_or text (length text - 1) 0 ≡ 32 → (IsTrue false → IsCleanText text) × (IsCleanText text → IsTrue false)
+unclean-last text some e = (λ t. cc, λ h. absurd ((IsCleanText-parts text some h).2 e))
 
 -- Any other text is clean if its bytes are.
 pub clean-by_bytes : (text : List ℕ) (all : Bool) → 0 < length text → get_or text 0 0 ≢ 32 → get_or text (length text - 1) 0 ≢ 32
-    → all ≡ list_all is_clean_byte text → (IsTrue all → IsClean text) × (IsClean text → IsTrue all)
-clean-by_bytes text all some first last e = (λ t. IsClean-from text (sym e ∙ t) first last, λ h. e ∙ (IsClean-parts text some h).0)
+    → all ≡ list_all is_clean_byte text → (IsTrue all → IsCleanText text) × (IsCleanText text → IsTrue all)
+clean-by_bytes text all some first last e = (λ t. IsCleanText-from text (sym e ∙ t) first last, λ h. e ∙ (IsCleanText-parts text some h).0)
 
 -- Each byte of a part passes a test that each byte of the whole passes.
 all-take : (p : ℕ → Bool) (n : ℕ) (xs : List ℕ) → list_all p xs ≡ true → list_all p (take n xs) ≡ true
@@ -154,15 +154,15 @@ trimmed-last text some e =
     cc
 
 -- A text of clean bytes without a space at its ends, if it has any byte, is clean.
-IsClean-ends : (text : List ℕ) → list_all is_clean_byte text ≡ true → (0 < length text → get_or text 0 0 ≢ 32) → (0 < length text → get_or text (length text - 1) 0 ≢ 32) → IsClean text
-IsClean-ends [] all first last = record { same = refl }
-IsClean-ends (c ∷ text) all first last = IsClean-from (c ∷ text) all (first (omega arith)) (last (omega arith))
+IsCleanText-ends : (text : List ℕ) → list_all is_clean_byte text ≡ true → (0 < length text → get_or text 0 0 ≢ 32) → (0 < length text → get_or text (length text - 1) 0 ≢ 32) → IsCleanText text
+IsCleanText-ends [] all first last = record { same = refl }
+IsCleanText-ends (c ∷ text) all first last = IsCleanText-from (c ∷ text) all (first (omega arith)) (last (omega arith))
 
 -- Cleaning makes a text clean.
-pub IsClean-clean : (text : List ℕ) → IsClean (clean text)
-IsClean-clean text =
+pub IsCleanText-clean : (text : List ℕ) → IsCleanText (clean text)
+IsCleanText-clean text =
     let kept : List ℕ = filter is_clean_byte text in
     let all : list_all is_clean_byte (clean text) ≡ true =
     all-drop is_clean_byte (prefix_len is_space kept) (take (length kept - suffix_len is_space kept) kept)
     (all-take is_clean_byte (length kept - suffix_len is_space kept) kept (all-of_filter is_clean_byte text)) in
-    IsClean-ends (clean text) all (trimmed-first kept) (trimmed-last kept)
+    IsCleanText-ends (clean text) all (trimmed-first kept) (trimmed-last kept)

@@ -2,11 +2,11 @@
 use Rattle.std.proofs.Common.{◌≡◌, ◌≢◌, ℕ, List, [], Option, sym, ap, ◌∙◌}
 use Rattle.std.specs.Prelude.{ℤ}
 use Rattle.arch_base.specs.declared.ids.Id20.{Id20}
-use Rattle.arch_base.specs.Ids.{IsId}
+use Rattle.arch_base.specs.Ids.{IsObjectId}
 use Rattle.git_objects.specs.declared.commits.Commit.{Commit}
-use Rattle.git_objects.specs.CleanText.{IsClean}
+use Rattle.git_objects.specs.CleanText.{IsCleanText}
 use Rattle.git_objects.specs.Fronts.{Lacks, Begins, Both, in_turn}
-use Rattle.git_objects.specs.Commits.{IsCommit, IsContentOf, HoldsNoCommit, IsParent, IsNumber, IsZone, commit_content, tree_line, parent_part, name_part, email_part, number_part, zone_text, committed_part, text_part}
+use Rattle.git_objects.specs.Commits.{IsCommit, IsContentOf, HoldsNoCommit, IsParent, IsNumber, IsCommitZone, commit_content, tree_line, parent_part, name_part, email_part, number_part, zone_text, committed_part, text_part}
 
 -- The four parts: ids, author, time, and the end of the content.
 abbrev ids : Id20 × Option Id20 → List ℕ → List ℕ
@@ -47,21 +47,21 @@ commit-once c tree parent name email secs zone moment subject a b d e f g h k = 
 }
 
 -- Bytes that don't start with ids are no commit.
-pub no_ids : (bytes : List ℕ) → Lacks (Both IsId IsParent) ids bytes → HoldsNoCommit bytes
+pub no_ids : (bytes : List ℕ) → Lacks (Both IsObjectId IsParent) ids bytes → HoldsNoCommit bytes
 no_ids bytes none = λ c valid is. none (c.tree, c.parent) (after_ids c) (valid.tree, valid.parent) is
 
 -- The parts that are read, and the bytes after each.
 pub record ReadIds (bytes : List ℕ) (tree : Id20) (parent : Option Id20) (rest : List ℕ) : Type 0 where
-  pub begins : Begins (Both IsId IsParent) ids bytes (tree, parent) rest
+  pub begins : Begins (Both IsObjectId IsParent) ids bytes (tree, parent) rest
 
 pub record ReadPerson (bytes name email rest : List ℕ) : Type 0 where
-  pub begins : Begins (Both IsClean IsClean) person bytes (name, email) rest
+  pub begins : Begins (Both IsCleanText IsCleanText) person bytes (name, email) rest
 
 pub record ReadTime (bytes : List ℕ) (secs : ℕ) (zone : ℤ) (rest : List ℕ) : Type 0 where
-  pub begins : Begins (Both IsNumber IsZone) time bytes (secs, zone) rest
+  pub begins : Begins (Both IsNumber IsCommitZone) time bytes (secs, zone) rest
 
 pub record ReadEnd (bytes : List ℕ) (moment : ℕ) (subject rest : List ℕ) : Type 0 where
-  pub begins : Begins (Both IsNumber IsClean) end_part bytes (moment, subject) rest
+  pub begins : Begins (Both IsNumber IsCleanText) end_part bytes (moment, subject) rest
 
 -- A commit has the ids that are read.
 ids-are : {bytes rest : List ℕ} {tree : Id20} {parent : Option Id20} (one : ReadIds bytes tree parent rest) (c : Commit) → IsCommit c → bytes ≡ commit_content c
@@ -92,18 +92,18 @@ end-are four c valid is =
     (ap (λ (p : ℕ × List ℕ). p.0) (sym same.0), ap (λ (p : ℕ × List ℕ). p.1) (sym same.0), same.1)
 
 -- Bytes without an author are no commit.
-pub no_person : (bytes rest : List ℕ) (tree : Id20) (parent : Option Id20) → ReadIds bytes tree parent rest → Lacks (Both IsClean IsClean) person rest → HoldsNoCommit bytes
+pub no_person : (bytes rest : List ℕ) (tree : Id20) (parent : Option Id20) → ReadIds bytes tree parent rest → Lacks (Both IsCleanText IsCleanText) person rest → HoldsNoCommit bytes
 no_person bytes rest tree parent one none = λ c valid is. none (c.author, c.email) (after_person c) (valid.author, valid.email) (ids-are one c valid is).2
 
 -- Bytes without a time are no commit.
 pub no_time : (bytes rest later name email : List ℕ) (tree : Id20) (parent : Option Id20) → ReadIds bytes tree parent rest → ReadPerson rest name email later
-    → Lacks (Both IsNumber IsZone) time later → HoldsNoCommit bytes
+    → Lacks (Both IsNumber IsCommitZone) time later → HoldsNoCommit bytes
 no_time bytes rest later name email tree parent one two none = λ c valid is.
     none (c.secs, c.zone) (after_time c) (valid.secs, valid.zone) (person-are two c valid (ids-are one c valid is).2).2
 
 -- Bytes without an end are no commit.
 pub no_end : (bytes rest later last name email : List ℕ) (tree : Id20) (parent : Option Id20) (secs : ℕ) (zone : ℤ) → ReadIds bytes tree parent rest → ReadPerson rest name email later
-    → ReadTime later secs zone last → Lacks (Both IsNumber IsClean) end_part last → HoldsNoCommit bytes
+    → ReadTime later secs zone last → Lacks (Both IsNumber IsCleanText) end_part last → HoldsNoCommit bytes
 no_end bytes rest later last name email tree parent secs zone one two three none = λ c valid is.
     none (c.committed, c.subject) [] (valid.committed, valid.subject) (time-are three c valid (person-are two c valid (ids-are one c valid is).2).2).2
 

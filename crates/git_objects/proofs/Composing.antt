@@ -1,7 +1,7 @@
 -- Pieces one after the other.
 use Rattle.std.proofs.Common.{◌≡◌, ◌≢◌, ℕ, List, ◌++◌, cond, Result, Ok, Err, OnOk, is_ok, sym, ap, ◌∙◌}
 use Rattle.std.proofs.lemmas.List.{append_cancel_left, append_assoc}
-use Rattle.git_objects.specs.Fronts.{Lacks, Begins, Both, in_turn, led, Appends}
+use Rattle.git_objects.specs.Fronts.{Lacks, Begins, Both, in_turn, led, AppendsPiece}
 
 -- Bytes that lack the first piece lack both.
 pub lacks-first : {A B : Type 0} (va : A → Type 0) (vb : B → Type 0) (sa : A → List ℕ → List ℕ) (sb : B → List ℕ → List ℕ) (bytes : List ℕ)
@@ -51,16 +51,16 @@ begins-led valid spell bytes word after v rest e one = record {
 }
 
 -- Two pieces appended, one after the other.
-pub appends-both : (old between new : List ℕ) (first second : List ℕ → List ℕ) → Appends old between first → Appends between new second → Appends old new (λ rest. first (second rest))
-appends-both old between new first second f s = λ rest. s rest ∙ f (second rest)
+pub appends-both : (old crash_between new : List ℕ) (first second : List ℕ → List ℕ) → AppendsPiece old crash_between first → AppendsPiece crash_between new second → AppendsPiece old new (λ rest. first (second rest))
+appends-both old crash_between new first second f s = λ rest. s rest ∙ f (second rest)
 
 -- Bytes appended.
-pub appends-bytes : (old new bytes : List ℕ) → new ≡ old ++ bytes → Appends old new (λ rest. bytes ++ rest)
+pub appends-bytes : (old new bytes : List ℕ) → new ≡ old ++ bytes → AppendsPiece old new (λ rest. bytes ++ rest)
 appends-bytes old new bytes e = λ rest. ap (λ l. l ++ rest) e ∙ append_assoc old bytes rest
 
 -- The bytes that are appended last, if that succeeds.
 pub appends-last : {T E : Type 0} (result : Result T E) (old new bytes : List ℕ) → new ≡ cond (is_ok result) (old ++ bytes) old
-    → OnOk result (Appends old new (λ rest. bytes ++ rest))
+    → OnOk result (AppendsPiece old new (λ rest. bytes ++ rest))
 appends-last (Ok t) old new bytes e = appends-bytes old new bytes e
 appends-last (Err r) old new bytes e = tt
 

@@ -3,7 +3,7 @@ use Rattle.std.proofs.Common.{◌≡◌, ◌≢◌, ◌/◌, ◌%◌, ℕ, zero,
 use Rattle.hex.specs.Hex.{encode_lower, encode_with, lower_digits, decode_sized}
 use Rattle.hex.proofs.HexLemmas.{decode_sized-encode_lower}
 use Rattle.arch_base.specs.declared.ids.Id20.{Id20}
-use Rattle.arch_base.specs.Ids.{IsId}
+use Rattle.arch_base.specs.Ids.{IsObjectId}
 use Rattle.git_objects.specs.Fronts.{Lacks, Begins, NoByte}
 use Rattle.git_objects.specs.Commits.{hex_line}
 use Rattle.git_objects.proofs.Splitting.{NoByte-at, parted-once}
@@ -67,7 +67,7 @@ pub NoByte-hex : (id : Id20) → NoByte 10 (encode_lower id.0)
 NoByte-hex id = NoByte-digits 10 lower_digits id.0 (λ e. omega (arith, e)) digits_apart
 
 -- Ids with the same digits are equal.
-pub hex-once : (a b : Id20) → IsId a → IsId b → encode_lower a.0 ≡ encode_lower b.0 → a ≡ b
+pub hex-once : (a b : Id20) → IsObjectId a → IsObjectId b → encode_lower a.0 ≡ encode_lower b.0 → a ≡ b
 hex-once a b h k e =
     let left : decode_sized (encode_lower a.0) 20 ≡ Ok a.0 = decode_sized-encode_lower a.0 20 h.len h.bytes in
     let right : decode_sized (encode_lower b.0) 20 ≡ Ok b.0 = decode_sized-encode_lower b.0 20 k.len k.bytes in
@@ -76,18 +76,18 @@ hex-once a b h k e =
     id-once a b bytes
 
 -- Bytes without a line feed don't start with an id.
-pub hex-none : (line : List ℕ) → NoByte 10 line → Lacks IsId hex_line line
+pub hex-none : (line : List ℕ) → NoByte 10 line → Lacks IsObjectId hex_line line
 hex-none line h = λ id rest valid is. NoByte-at 10 (encode_lower id.0) rest (subst (NoByte 10) is h)
 
 -- Bytes don't start with an id if the bytes before the line feed spell none.
-pub hex-other : (line digits rest : List ℕ) → NoByte 10 digits → line ≡ digits ++ 10 ∷ rest → ((id : Id20) → IsId id → digits ≢ encode_lower id.0)
-    → Lacks IsId hex_line line
+pub hex-other : (line digits rest : List ℕ) → NoByte 10 digits → line ≡ digits ++ 10 ∷ rest → ((id : Id20) → IsObjectId id → digits ≢ encode_lower id.0)
+    → Lacks IsObjectId hex_line line
 hex-other line digits rest h e none = λ id more valid is.
     none id valid (parted-once 10 digits (encode_lower id.0) rest more h (NoByte-hex id) (sym e ∙ is)).0
 
 -- Otherwise the id is the one that they spell.
-pub hex-found : (line digits rest : List ℕ) (id : Id20) → NoByte 10 digits → line ≡ digits ++ 10 ∷ rest → IsId id → digits ≡ encode_lower id.0
-    → Begins IsId hex_line line id rest
+pub hex-found : (line digits rest : List ℕ) (id : Id20) → NoByte 10 digits → line ≡ digits ++ 10 ∷ rest → IsObjectId id → digits ≡ encode_lower id.0
+    → Begins IsObjectId hex_line line id rest
 hex-found line digits rest id h e valid is = record {
   valid_one = valid;
   spelled = e ∙ ap (λ d. d ++ 10 ∷ rest) is;

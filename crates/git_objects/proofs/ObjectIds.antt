@@ -2,7 +2,7 @@
 use Rattle.std.proofs.Common.{◌≡◌, ◌<◌, ◌*◌, ℕ, zero, suc, List, [], ◌∷◌, ◌++◌, length, get_or, length-append, refl, arith}
 use Rattle.std.specs.Int.{byte_at, bytes_high_first, to_be_bytes}
 use Rattle.sha1.specs.Sha1.{sha1, digest_bytes}
-use Rattle.arch_base.specs.Ids.{IsId}
+use Rattle.arch_base.specs.Ids.{IsObjectId}
 use Rattle.git_objects.specs.Objects.{id_of}
 use mir.Syntax.{w32}
 use Rattle.std.specs.Prelude.{slice_index}
@@ -43,6 +43,6 @@ length-digest h (suc n) =
     omega (arith, length-append (digest_bytes h n) (to_be_bytes w32 (slice_index h n)), length-digest h n, four)
 
 -- The id of any bytes is valid.
-pub IsId-id_of : (text : List ℕ) → IsId (id_of text)
+pub IsObjectId-id_of : (text : List ℕ) → IsObjectId (id_of text)
 unfolding sha1
-IsId-id_of text = record { len = length-digest _ 5; bytes = λ k. AreBytes-at (sha1 text) k (AreBytes-digest _ 5) }
+IsObjectId-id_of text = record { len = length-digest _ 5; bytes = λ k. AreBytes-at (sha1 text) k (AreBytes-digest _ 5) }

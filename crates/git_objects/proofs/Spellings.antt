@@ -5,14 +5,14 @@ use Rattle.std.proofs.lemmas.Fmt.{decimal_injective}
 use Rattle.std.specs.Fmt.{decimal, digits}
 use borrow.Rule.Slice.PartMut.{put_mid}
 use Rattle.arch_base.specs.declared.ids.Id20.{Id20}
-use Rattle.arch_base.specs.Ids.{IsId}
+use Rattle.arch_base.specs.Ids.{IsObjectId}
 use Rattle.git_objects.specs.declared.entry_kind.EntryKind.{EntryKind}
 use Rattle.git_objects.specs.declared.entry_kind.EntryKind.TheVariants.{Message, Deletion}
 use Rattle.git_objects.specs.declared.kinds.Kind.{Kind}
 use Rattle.git_objects.specs.declared.kinds.Kind.TheVariants.{Blob, Tree, Commit}
 use Rattle.git_objects.specs.Objects.{GitObject, BlobOf, TreeOf, CommitOf, IsObject, HasSize, AnyKind, kind_part, kind_word, sized, sized_before, kind_of, content_of, entry_name, tree_content, spelling, tree_spelling}
 use Rattle.git_objects.specs.Fronts.{Begins}
-use Rattle.git_objects.specs.Reading.{IsFront, HasNoObject}
+use Rattle.git_objects.specs.Reading.{IsObjectFront, HasNoObject}
 use Rattle.git_objects.specs.Laws.{SpellingsStandApart}
 use Rattle.git_objects.proofs.Splitting.{parted-once}
 use Rattle.git_objects.proofs.Numbers.{NoByte-decimal}
@@ -113,15 +113,15 @@ tree-read content file id name e len first second back =
 
 -- After the mode, bytes that begin with no entry's name belong to no entry's tree.
 pub tree-unknown : (content file : List ℕ) → content ≡ codes "100644 " ++ file → ((kind : EntryKind) → get_or file 0 0 ≢ entry_name kind)
-    → (kind : EntryKind) (id : Id20) → IsId id → content ≢ tree_content kind id
+    → (kind : EntryKind) (id : Id20) → IsObjectId id → content ≢ tree_content kind id
 tree-unknown content file e none kind id valid is =
     let here : file ≡ entry_name kind ∷ 0 ∷ id.0 = cc in
     none kind (ap (λ l. get_or l 0 0) here)
 
 -- A piece between two others.
-pub piece-between : (bytes front content rest : List ℕ) → bytes ≡ front ++ (content ++ rest)
+pub piece-crash_between : (bytes front content rest : List ℕ) → bytes ≡ front ++ (content ++ rest)
     → (length content ≤ length bytes - length rest) × (content ≡ slice_range bytes (length bytes - length rest - length content) (length bytes - length rest))
-piece-between bytes front content rest e =
+piece-crash_between bytes front content rest e =
     let whole : length bytes ≡ length front + (length content + length rest) = ap length e ∙ length-append front (content ++ rest) ∙ ap (λ n. length front + n) (length-append content rest) in
     let start : length bytes - length rest - length content ≡ length front = omega arith in
     let long : length bytes - length rest - length front ≡ length content = omega arith in
@@ -131,7 +131,7 @@ piece-between bytes front content rest e =
 -- A type and a content with its size are the spelling of an object.
 pub object-front : (bytes after rest content : List ℕ) (kind : Kind) (object : GitObject) → Begins AnyKind kind_part bytes kind after
     → Begins HasSize sized_before after content rest → kind ≡ kind_of object → content ≡ content_of object → IsObject object
-    → IsFront bytes object (length bytes - length rest)
+    → IsObjectFront bytes object (length bytes - length rest)
 object-front bytes after rest content kind object first second k e valid =
     let spelled : bytes ≡ spelling object ++ rest =
     first.spelled ∙ ap (kind_part kind) (second.spelled ∙ ap (λ l. sized_before l rest) e) ∙ ap (λ l. kind_part l (sized_before (content_of object) rest)) k
@@ -155,7 +155,7 @@ object-parts bytes after rest content kind first second object more valid is =
 
 -- Bytes with the type of a tree and the content of no entry's tree spell no object.
 pub tree-none : (bytes after rest content : List ℕ) (kind : Kind) → Begins AnyKind kind_part bytes kind after → Begins HasSize sized_before after content rest → kind ≡ Tree
-    → ((entry : EntryKind) (id : Id20) → IsId id → content ≢ tree_content entry id) → HasNoObject bytes
+    → ((entry : EntryKind) (id : Id20) → IsObjectId id → content ≢ tree_content entry id) → HasNoObject bytes
 tree-none bytes after rest content kind first second k none = λ object more valid is.
     let parts = object-parts bytes after rest content kind first second object more valid is in
     no_tree object valid (sym k ∙ parts.0) parts.1 where
@@ -180,7 +180,7 @@ pub content-lent : (bytes after rest content : List ℕ) (kind : Kind) → Begin
     → (length content ≤ length bytes - length rest) × (content ≡ slice_range bytes (length bytes - length rest - length content) (length bytes - length rest))
 content-lent bytes after rest content kind first second =
     let digits_after : sized_before content rest ≡ (decimal (length content) ++ 0 ∷ []) ++ (content ++ rest) = sym (append_assoc (decimal (length content)) (0 ∷ []) (content ++ rest)) in
-    piece-between bytes (kind_word kind ++ (decimal (length content) ++ 0 ∷ [])) content rest
+    piece-crash_between bytes (kind_word kind ++ (decimal (length content) ++ 0 ∷ [])) content rest
     (first.spelled ∙ ap (kind_part kind) (second.spelled ∙ digits_after) ∙ sym (append_assoc (kind_word kind) (decimal (length content) ++ 0 ∷ []) (content ++ rest)))
 
 -- The bytes after a word and two more bytes are bytes.

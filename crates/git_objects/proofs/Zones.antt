@@ -4,10 +4,10 @@ use Rattle.std.specs.Prelude.{ℤ, pos, negsuc, ◌-ℤ◌}
 use Rattle.std.specs.Int.RustNames.{unsigned_abs}
 use Rattle.std.proofs.lemmas.Int.{ints}
 use Rattle.git_objects.specs.Fronts.{Lacks, Begins}
-use Rattle.git_objects.specs.Commits.{IsZone, IsBelow100, two_digits, zone_text, zone_sign}
+use Rattle.git_objects.specs.Commits.{IsCommitZone, IsBelow100, two_digits, zone_text, zone_sign}
 
 -- A zone's minutes are less than a day.
-pub zone-abs : (zone : ℤ) → IsZone zone → unsigned_abs zone ≤ 1439
+pub zone-abs : (zone : ℤ) → IsCommitZone zone → unsigned_abs zone ≤ 1439
 zone-abs (pos n) h = omega (arith, ints, h.high)
 zone-abs (negsuc n) h = omega (arith, ints, h.low)
 
@@ -19,14 +19,14 @@ heads : {bytes : List ℕ} {a b : ℕ} {x y : List ℕ} → bytes ≡ a ∷ x �
 heads e f = cc
 
 -- Bytes without the digits of the hour don't start with a zone.
-pub zone-hour : (bytes : List ℕ) (sign : ℕ) (after : List ℕ) → bytes ≡ sign ∷ after → Lacks IsBelow100 two_digits after → Lacks IsZone zone_text bytes
+pub zone-hour : (bytes : List ℕ) (sign : ℕ) (after : List ℕ) → bytes ≡ sign ∷ after → Lacks IsBelow100 two_digits after → Lacks IsCommitZone zone_text bytes
 zone-hour bytes sign after e none = λ zone rest valid is.
     let small : unsigned_abs zone / 60 < 100 = omega (arith, zone-abs zone valid) in
     none (unsigned_abs zone / 60) (two_digits (unsigned_abs zone % 60) rest) small (tails e is)
 
 -- Bytes without the digits of the minute don't start with a zone.
 pub zone-minute : (bytes : List ℕ) (sign : ℕ) (after : List ℕ) (hour : ℕ) (later : List ℕ) → bytes ≡ sign ∷ after
-    → Begins IsBelow100 two_digits after hour later → Lacks IsBelow100 two_digits later → Lacks IsZone zone_text bytes
+    → Begins IsBelow100 two_digits after hour later → Lacks IsBelow100 two_digits later → Lacks IsCommitZone zone_text bytes
 zone-minute bytes sign after hour later e one none = λ zone rest valid is.
     let small : unsigned_abs zone / 60 < 100 = omega (arith, zone-abs zone valid) in
     let low : unsigned_abs zone % 60 < 100 = omega arith in
@@ -44,7 +44,7 @@ west-of n some = omega (arith, ints)
 -- A zone west of UTC.
 pub zone-west_found : (bytes after : List ℕ) (hour : ℕ) (later : List ℕ) (minute : ℕ) (rest : List ℕ) (zone : ℤ) → bytes ≡ 45 ∷ after
     → Begins IsBelow100 two_digits after hour later → Begins IsBelow100 two_digits later minute rest → hour ≤ 23 → minute ≤ 59
-    → 0 < 60 * hour + minute → zone ≡ pos 0 -ℤ pos (60 * hour + minute) → Begins IsZone zone_text bytes zone rest
+    → 0 < 60 * hour + minute → zone ≡ pos 0 -ℤ pos (60 * hour + minute) → Begins IsCommitZone zone_text bytes zone rest
 zone-west_found bytes after hour later minute rest zone e one two h m some is =
     let less : ℕ = 60 * hour + minute - 1 in
     let all : 60 * hour + minute ≡ suc less = omega arith in

@@ -23,5 +23,5 @@ abbrev pub clean : List ℕ → List ℕ
 clean text = trimmed (filter is_clean_byte text)
 
 -- A clean text is one that cleaning doesn't change.
-pub record IsClean (text : List ℕ) : Type 0 where
+pub record IsCleanText (text : List ℕ) : Type 0 where
   pub same : clean text ≡ text

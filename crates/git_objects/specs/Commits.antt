@@ -5,9 +5,9 @@ use Rattle.std.specs.Fmt.{decimal}
 use Rattle.std.specs.Int.RustNames.{unsigned_abs}
 use Rattle.hex.specs.Hex.{encode_lower}
 use Rattle.arch_base.specs.declared.ids.Id20.{Id20}
-use Rattle.arch_base.specs.Ids.{IsId}
+use Rattle.arch_base.specs.Ids.{IsObjectId}
 use Rattle.git_objects.specs.declared.commits.Commit.{Commit}
-use Rattle.git_objects.specs.CleanText.{IsClean}
+use Rattle.git_objects.specs.CleanText.{IsCleanText}
 use Rattle.git_objects.specs.Fronts.{followed}
 use Rattle.git_objects.specs.Objects.{spelling, CommitOf}
 
@@ -88,14 +88,14 @@ abbrev pub commit_spelling : Commit → List ℕ
 commit_spelling c = spelling (CommitOf (commit_content c))
 
 -- A time zone less than a day away from UTC.
-pub record IsZone (zone : ℤ) : Type 0 where
+pub record IsCommitZone (zone : ℤ) : Type 0 where
   pub low : negsuc 1438 ≤ℤ zone
   pub high : zone ≤ℤ pos 1439
 
 -- An id, if there is one.
 abbrev pub IsParent : Option Id20 → Type 0
 IsParent None = Unit {0}
-IsParent (Some id) = IsId id
+IsParent (Some id) = IsObjectId id
 
 -- A number of 64 bits.
 abbrev pub IsNumber : ℕ → Type 0
@@ -104,14 +104,14 @@ IsNumber n = n < 2 ^ 64
 -- The commits that are spelled: author, address and subject are clean, the numbers have 64 bits,
 -- and the zone is valid.
 pub record IsCommit (c : Commit) : Type 0 where
-  pub tree : IsId c.tree
+  pub tree : IsObjectId c.tree
   pub parent : IsParent c.parent
-  pub author : IsClean c.author
-  pub email : IsClean c.email
+  pub author : IsCleanText c.author
+  pub email : IsCleanText c.email
   pub secs : IsNumber c.secs
-  pub zone : IsZone c.zone
+  pub zone : IsCommitZone c.zone
   pub committed : IsNumber c.committed
-  pub subject : IsClean c.subject
+  pub subject : IsCleanText c.subject
 
 -- The bytes are the content of this commit and of no other.
 pub record IsContentOf (bytes : List ℕ) (c : Commit) : Type 0 where

@@ -36,5 +36,5 @@ NoByte c [] = Unit {0}
 NoByte c (b ∷ bs) = (b ≡ c → ⊥) × NoByte c bs
 
 -- The new bytes are the old ones with a piece appended.
-abbrev pub Appends : List ℕ → List ℕ → (List ℕ → List ℕ) → Type 0
-Appends old new piece = (rest : List ℕ) → new ++ rest ≡ old ++ piece rest
+abbrev pub AppendsPiece : List ℕ → List ℕ → (List ℕ → List ℕ) → Type 0
+AppendsPiece old new piece = (rest : List ℕ) → new ++ rest ≡ old ++ piece rest

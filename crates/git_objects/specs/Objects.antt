@@ -4,7 +4,7 @@ use Rattle.std.specs.Prelude.{◌≡◌, ◌≢◌, ◌<◌, ◌^◌, ℕ, List,
 use Rattle.std.specs.Fmt.{decimal}
 use Rattle.sha1.specs.Sha1.{sha1}
 use Rattle.arch_base.specs.declared.ids.Id20.{Id20}
-use Rattle.arch_base.specs.Ids.{IsId}
+use Rattle.arch_base.specs.Ids.{IsObjectId}
 use Rattle.git_objects.specs.declared.entry_kind.EntryKind.{EntryKind}
 use Rattle.git_objects.specs.declared.entry_kind.EntryKind.TheVariants.{Message, Deletion}
 use Rattle.git_objects.specs.declared.kinds.Kind.{Kind}
@@ -30,7 +30,7 @@ HasSize content = length content < 2 ^ 64
 -- The objects that are spelled: the size of each is below 2^64.
 abbrev pub IsObject : GitObject → Type 0
 IsObject (BlobOf content) = HasSize content
-IsObject (TreeOf kind id) = IsId id
+IsObject (TreeOf kind id) = IsObjectId id
 IsObject (CommitOf content) = HasSize content
 
 -- The type of an object, and the space after it.
@@ -94,5 +94,5 @@ blob_id_of content = id_of (blob_spelling content)
 -- A content is that of the tree of an entry of this kind with this id, or that of no such tree.
 abbrev pub IsTreeContent : List ℕ → Option (EntryKind × Id20) → Type 0
 IsTreeContent content found =
-    MatchOption found ((kind : EntryKind) (id : Id20) → IsId id → content ≢ tree_content kind id)
-    (λ f. IsId f.1 × (content ≡ tree_content f.0 f.1))
+    MatchOption found ((kind : EntryKind) (id : Id20) → IsObjectId id → content ≢ tree_content kind id)
+    (λ f. IsObjectId f.1 × (content ≡ tree_content f.0 f.1))

@@ -15,7 +15,7 @@ shown (Tree kind id) = TreeOf kind id
 shown (Commit content) = CommitOf content.now
 
 -- The bytes start with the spelling of this object, which has this length.
-pub record IsFront (bytes : List ℕ) (object : GitObject) (len : ℕ) : Type 0 where
+pub record IsObjectFront (bytes : List ℕ) (object : GitObject) (len : ℕ) : Type 0 where
   pub valid : IsObject object
   pub inside : len ≤ length bytes
   pub spelled : slice_range bytes 0 len ≡ spelling object
@@ -34,8 +34,8 @@ HasNoObject bytes = (object : GitObject) (rest : List ℕ) → IsObject object
     → bytes ≢ spelling object ++ rest
 
 -- The result is this object and the length of its spelling.
-abbrev pub Finds : Option (Object × ℕ) → GitObject → Type 0
-Finds found object =
+abbrev pub FindsObject : Option (Object × ℕ) → GitObject → Type 0
+FindsObject found object =
     MatchOption found ⊥ (λ f. (shown f.0 ≡ object) × (f.1 ≡ length (spelling object)))
 
 -- The commit of the parts that a reader borrows.

@@ -1,11 +1,12 @@
 //! Clean text: the names, addresses and subjects of commits.
+//! Pure.
 ghost use Rattle.std.specs.Prelude.{◌≡◌, ◌↔◌, IsTrue};
 ghost use Rattle.std.specs.List.{list_all};
-ghost use Rattle.git_objects.specs.CleanText.{IsClean, is_clean_byte as clean_byte};
+ghost use Rattle.git_objects.specs.CleanText.{IsCleanText, is_clean_byte as clean_byte};
 
 /// Returns whether a text is clean.
 pub(crate) fn is_clean(text: &[u8]) -> bool
-    ensures { IsTrue result ↔ IsClean text.now }
+    ensures { IsTrue result ↔ IsCleanText text.now }
 {
     if text.is_empty() {
         return true;

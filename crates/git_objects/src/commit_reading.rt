@@ -1,11 +1,12 @@
 //! Reads commits.
+//! Allocates.
 ghost use Rattle.std.specs.Prelude.{◌≡◌, ◌<◌, IfOk, ◌^◌, ◌++◌, ◌∷◌, ℕ, List, Option, codes, slice_index, Some, MatchOption, false};
 ghost use Rattle.arch_base.specs.declared.ids.Id20.{Id20};
-ghost use Rattle.arch_base.specs.Ids.{IsId};
+ghost use Rattle.arch_base.specs.Ids.{IsObjectId};
 ghost use Rattle.git_objects.specs.declared.commits.Commit.{Commit as CommitRecord};
-ghost use Rattle.git_objects.specs.CleanText.{IsClean, is_clean_byte};
+ghost use Rattle.git_objects.specs.CleanText.{IsCleanText, is_clean_byte};
 ghost use Rattle.git_objects.specs.Fronts.{Lacks, Begins, Both, NoByte, in_turn, led};
-ghost use Rattle.git_objects.specs.Commits.{IsCommit, IsContentOf, HoldsNoCommit, IsParent, IsNumber, IsZone, commit_content, hex_line, tree_line, parent_line, parent_part, text_part, name_part, email_part, number_part, two_digits, zone_text, committed_part, IsBelow100};
+ghost use Rattle.git_objects.specs.Commits.{IsCommit, IsContentOf, HoldsNoCommit, IsParent, IsNumber, IsCommitZone, commit_content, hex_line, tree_line, parent_line, parent_part, text_part, name_part, email_part, number_part, two_digits, zone_text, committed_part, IsBelow100};
 ghost use Rattle.git_objects.specs.Reading.{ReadsCommit, commit_of};
 
 use crate::clean_text::is_clean;
@@ -121,8 +122,8 @@ fn read_parts(content: &[u8]) -> Option<Parts<'_>>
 /// Reads the ids of tree and parent, up to the author's name.
 fn read_ids(bytes: &[u8]) -> Option<(ObjectId, Option<ObjectId>, &[u8])>
     ensures { MatchOption result
-        (Lacks (Both IsId IsParent) (in_turn tree_line parent_part) bytes.now)
-        (λ found. Begins (Both IsId IsParent) (in_turn tree_line parent_part) bytes.now
+        (Lacks (Both IsObjectId IsParent) (in_turn tree_line parent_part) bytes.now)
+        (λ found. Begins (Both IsObjectId IsParent) (in_turn tree_line parent_part) bytes.now
         (found.0, found.1) found.2.now) }
 {
     let (tree, rest) = read_id(b"tree ", bytes)?;
@@ -144,8 +145,8 @@ fn read_parent(bytes: &[u8]) -> Option<(Option<ObjectId>, &[u8])>
 
 /// Reads the id on the line that starts with a word.
 fn read_id<'a>(word: &[u8], bytes: &'a [u8]) -> Option<(ObjectId, &'a [u8])>
-    ensures { MatchOption result (Lacks IsId (led word.now hex_line) bytes.now)
-        (λ found. Begins IsId (led word.now hex_line) bytes.now found.0 found.1.now) }
+    ensures { MatchOption result (Lacks IsObjectId (led word.now hex_line) bytes.now)
+        (λ found. Begins IsObjectId (led word.now hex_line) bytes.now found.0 found.1.now) }
 {
     let (digits, rest) = parted_at(b'\n', after(word, bytes)?)?;
     let id = id_of_hex(digits)?;
@@ -161,8 +162,8 @@ fn are_bytes(bytes: &[u8])
 /// Reads the author's name and address, up to the seconds.
 fn read_person(bytes: &[u8]) -> Option<(&[u8], &[u8], &[u8])>
     ensures { MatchOption result
-        (Lacks (Both IsClean IsClean) (in_turn name_part email_part) bytes.now)
-        (λ found. Begins (Both IsClean IsClean) (in_turn name_part email_part) bytes.now
+        (Lacks (Both IsCleanText IsCleanText) (in_turn name_part email_part) bytes.now)
+        (λ found. Begins (Both IsCleanText IsCleanText) (in_turn name_part email_part) bytes.now
         (found.0.now, found.1.now) found.2.now) }
 {
     let (name, rest) = read_name(bytes)?;
@@ -172,8 +173,8 @@ fn read_person(bytes: &[u8]) -> Option<(&[u8], &[u8], &[u8])>
 
 /// Reads a clean name, up to the address.
 fn read_name(bytes: &[u8]) -> Option<(&[u8], &[u8])>
-    ensures { MatchOption result (Lacks IsClean name_part bytes.now)
-        (λ found. Begins IsClean name_part bytes.now found.0.now found.1.now) }
+    ensures { MatchOption result (Lacks IsCleanText name_part bytes.now)
+        (λ found. Begins IsCleanText name_part bytes.now found.0.now found.1.now) }
 {
     let (front, rest) = parted_at(b'<', bytes)?;
     let name = before(b" ", front)?;
@@ -186,8 +187,8 @@ fn read_name(bytes: &[u8]) -> Option<(&[u8], &[u8])>
 /// Reads clean text, up to a byte that clean text can't hold.
 fn read_text(end: u8, bytes: &[u8]) -> Option<(&[u8], &[u8])>
     requires { is_clean_byte end ≡ false }
-    ensures { MatchOption result (Lacks IsClean (text_part end) bytes.now)
-        (λ found. Begins IsClean (text_part end) bytes.now found.0.now found.1.now) }
+    ensures { MatchOption result (Lacks IsCleanText (text_part end) bytes.now)
+        (λ found. Begins IsCleanText (text_part end) bytes.now found.0.now found.1.now) }
 {
     let (text, rest) = parted_at(end, bytes)?;
     if !is_clean(text) {
@@ -199,8 +200,8 @@ fn read_text(end: u8, bytes: &[u8]) -> Option<(&[u8], &[u8])>
 /// Reads the author's seconds and time zone.
 fn read_time(bytes: &[u8]) -> Option<(u64, i16, &[u8])>
     ensures { MatchOption result
-        (Lacks (Both IsNumber IsZone) (in_turn (number_part 32) zone_text) bytes.now)
-        (λ found. Begins (Both IsNumber IsZone) (in_turn (number_part 32) zone_text) bytes.now
+        (Lacks (Both IsNumber IsCommitZone) (in_turn (number_part 32) zone_text) bytes.now)
+        (λ found. Begins (Both IsNumber IsCommitZone) (in_turn (number_part 32) zone_text) bytes.now
         (found.0, found.1) found.2.now) }
 {
     let (secs, rest) = read_number(b' ', bytes)?;
@@ -210,8 +211,8 @@ fn read_time(bytes: &[u8]) -> Option<(u64, i16, &[u8])>
 
 /// Reads a time zone of the form `+hhmm` or `-hhmm`, other than `-0000`.
 fn read_zone(bytes: &[u8]) -> Option<(i16, &[u8])>
-    ensures { MatchOption result (Lacks IsZone zone_text bytes.now)
-        (λ found. Begins IsZone zone_text bytes.now found.0 found.1.now) }
+    ensures { MatchOption result (Lacks IsCommitZone zone_text bytes.now)
+        (λ found. Begins IsCommitZone zone_text bytes.now found.0 found.1.now) }
 {
     let (sign, rest) = bytes.split_first()?;
     let (hour, rest) = read_two_digits(rest)?;
@@ -241,8 +242,8 @@ fn read_two_digits(bytes: &[u8]) -> Option<(u8, &[u8])>
 /// Reads the moment of the commit, and the subject, which ends the content.
 fn read_end(bytes: &[u8]) -> Option<(u64, &[u8], &[u8])>
     ensures { MatchOption result
-        (Lacks (Both IsNumber IsClean) (in_turn committed_part (text_part 10)) bytes.now)
-        (λ found. Begins (Both IsNumber IsClean) (in_turn committed_part (text_part 10)) bytes.now
+        (Lacks (Both IsNumber IsCleanText) (in_turn committed_part (text_part 10)) bytes.now)
+        (λ found. Begins (Both IsNumber IsCleanText) (in_turn committed_part (text_part 10)) bytes.now
         (found.0, found.1.now) found.2.now) }
 {
     let (committed, rest) = read_committed(bytes)?;
@@ -252,8 +253,8 @@ fn read_end(bytes: &[u8]) -> Option<(u64, &[u8], &[u8])>
 
 /// Reads the subject, up to the line feed that ends its line.
 fn read_subject(bytes: &[u8]) -> Option<(&[u8], &[u8])>
-    ensures { MatchOption result (Lacks IsClean (text_part 10) bytes.now)
-        (λ found. Begins IsClean (text_part 10) bytes.now found.0.now found.1.now) }
+    ensures { MatchOption result (Lacks IsCleanText (text_part 10) bytes.now)
+        (λ found. Begins IsCleanText (text_part 10) bytes.now found.0.now found.1.now) }
 {
     read_text(b'\n', bytes)
 }

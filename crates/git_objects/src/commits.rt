@@ -1,8 +1,9 @@
 //! Commits and their spelling.
+//! Allocates.
 ghost use Rattle.std.specs.Prelude.{◌≡◌, ◌++◌, ℕ, List, [], IfOk, OnOk};
-ghost use Rattle.git_objects.specs.CleanText.{IsClean};
-ghost use Rattle.git_objects.specs.Fronts.{Appends};
-ghost use Rattle.git_objects.specs.Commits.{IsZone, hex_line, parent_line, number_part, zone_text as zone_digits, author_line, committed_part, commit_spelling, commit_content as content_of_commit};
+ghost use Rattle.git_objects.specs.CleanText.{IsCleanText};
+ghost use Rattle.git_objects.specs.Fronts.{AppendsPiece};
+ghost use Rattle.git_objects.specs.Commits.{IsCommitZone, hex_line, parent_line, number_part, zone_text as zone_digits, author_line, committed_part, commit_spelling, commit_content as content_of_commit};
 
 use arch_base::{Bytes, NoMemory, ObjectId, hex_of};
 use itoa::Buffer;
@@ -31,10 +32,10 @@ pub struct Commit {
 
 /// Returns the spelling of a commit: `commit SIZE`, NUL and its content.
 pub fn commit_bytes(alloc: Global, commit: &Commit) -> Result<Bytes, NoMemory>
-    requires author { IsClean commit.now.author }
-    requires email { IsClean commit.now.email }
-    requires subject { IsClean commit.now.subject }
-    requires zone { IsZone commit.now.zone }
+    requires author { IsCleanText commit.now.author }
+    requires email { IsCleanText commit.now.email }
+    requires subject { IsCleanText commit.now.subject }
+    requires zone { IsCommitZone commit.now.zone }
     ensures { IfOk result (λ made. made ≡ commit_spelling commit.now) }
 {
     let content = commit_content(alloc, commit)?;
@@ -60,7 +61,7 @@ fn with_room(alloc: Global, len: usize) -> Result<Bytes, NoMemory>
 
 /// Returns the content of a commit.
 fn commit_content(alloc: Global, commit: &Commit) -> Result<Bytes, NoMemory>
-    requires { IsZone commit.now.zone }
+    requires { IsCommitZone commit.now.zone }
     ensures { IfOk result (λ made. made ≡ content_of_commit commit.now) }
 {
     let mut content = with_room(alloc, CONTENT_ROOM)?;
@@ -74,7 +75,7 @@ fn commit_content(alloc: Global, commit: &Commit) -> Result<Bytes, NoMemory>
 
 /// Appends a word, the digits of an id and a line feed.
 fn push_id(into: &mut Bytes, word: &[u8], id: &ObjectId) -> Result<(), NoMemory>
-    ensures { OnOk result (Appends into.old into.new (λ rest. word.now ++ hex_line id.now rest)) }
+    ensures { OnOk result (AppendsPiece into.old into.new (λ rest. word.now ++ hex_line id.now rest)) }
 {
     into.push_slice(word)?;
     into.push_slice(&hex_of(id))?;
@@ -83,7 +84,7 @@ fn push_id(into: &mut Bytes, word: &[u8], id: &ObjectId) -> Result<(), NoMemory>
 
 /// Appends the line that names the parent, if there is one.
 fn push_parent(into: &mut Bytes, parent: &Option<ObjectId>) -> Result<(), NoMemory>
-    ensures { OnOk result (Appends into.old into.new (parent_line parent.now)) }
+    ensures { OnOk result (AppendsPiece into.old into.new (parent_line parent.now)) }
 {
     match parent {
         Some(id) => push_id(into, b"parent ", id),
@@ -93,8 +94,8 @@ fn push_parent(into: &mut Bytes, parent: &Option<ObjectId>) -> Result<(), NoMemo
 
 /// Appends the line that names the author, without its line feed.
 fn push_author(into: &mut Bytes, commit: &Commit) -> Result<(), NoMemory>
-    requires { IsZone commit.now.zone }
-    ensures { OnOk result (Appends into.old into.new
+    requires { IsCommitZone commit.now.zone }
+    ensures { OnOk result (AppendsPiece into.old into.new
         (author_line commit.now.author commit.now.email commit.now.secs commit.now.zone)) }
 {
     into.push_slice(b"author ")?;
@@ -106,7 +107,7 @@ fn push_author(into: &mut Bytes, commit: &Commit) -> Result<(), NoMemory>
 
 /// Appends the bytes between the author's time zone and the subject.
 fn push_committed(into: &mut Bytes, moment: u64) -> Result<(), NoMemory>
-    ensures { OnOk result (Appends into.old into.new (committed_part moment)) }
+    ensures { OnOk result (AppendsPiece into.old into.new (committed_part moment)) }
 {
     into.push_slice(b"\ncommitter piv2 <piv2@localhost> ")?;
     push_number(into, moment, b' ')?;
@@ -115,7 +116,7 @@ fn push_committed(into: &mut Bytes, moment: u64) -> Result<(), NoMemory>
 
 /// Appends a text, then a word.
 fn push_text(into: &mut Bytes, text: &[u8], word: &[u8]) -> Result<(), NoMemory>
-    ensures { OnOk result (Appends into.old into.new (λ rest. text.now ++ (word.now ++ rest))) }
+    ensures { OnOk result (AppendsPiece into.old into.new (λ rest. text.now ++ (word.now ++ rest))) }
 {
     into.push_slice(text)?;
     into.push_slice(word)
@@ -123,7 +124,7 @@ fn push_text(into: &mut Bytes, text: &[u8], word: &[u8]) -> Result<(), NoMemory>
 
 /// Appends the digits of a number, then a byte.
 fn push_number(into: &mut Bytes, number: u64, end: u8) -> Result<(), NoMemory>
-    ensures { OnOk result (Appends into.old into.new (number_part end number)) }
+    ensures { OnOk result (AppendsPiece into.old into.new (number_part end number)) }
 {
     let mut digits = Buffer::new();
     into.push_slice(digits.format(number).as_bytes())?;
@@ -132,7 +133,7 @@ fn push_number(into: &mut Bytes, number: u64, end: u8) -> Result<(), NoMemory>
 
 /// Returns a time zone as `+hhmm` or `-hhmm`.
 fn zone_text(zone: i16) -> [u8; 5]
-    requires { IsZone zone }
+    requires { IsCommitZone zone }
     ensures { (rest : List ℕ) → result ++ rest ≡ zone_digits zone rest }
 {
     let sign = if zone < 0 { b'-' } else { b'+' };

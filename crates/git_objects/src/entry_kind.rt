@@ -1,4 +1,5 @@
 //! The kinds of entries of an archive.
+//! Pure.
 ghost use Rattle.std.specs.Prelude.{◌≡◌, ◌≢◌, MatchOption};
 ghost use Rattle.git_objects.specs.declared.entry_kind.EntryKind.{EntryKind};
 ghost use Rattle.git_objects.specs.Objects.{entry_name};

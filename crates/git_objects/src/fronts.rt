@@ -1,4 +1,5 @@
 //! Reads from the front of bytes: words, numbers, and bytes up to the first of a kind.
+//! Pure.
 ghost use Rattle.std.specs.Prelude.{◌≡◌, ◌≢◌, ◌<◌, ◌++◌, ◌∷◌, ℕ, List, MatchOption};
 ghost use Rattle.git_objects.specs.Fronts.{Lacks, Begins, NoByte};
 ghost use Rattle.git_objects.specs.Commits.{IsNumber, number_part};

@@ -1,4 +1,5 @@
 //! The types of objects.
+//! Pure.
 ghost use Rattle.std.specs.Prelude.{MatchOption};
 ghost use Rattle.git_objects.specs.Fronts.{Lacks, Begins};
 ghost use Rattle.git_objects.specs.Objects.{AnyKind, kind_part};

@@ -1,4 +1,5 @@
 //! Git objects (git, "Git Objects"): blobs, trees of one file, and commits.
+//! Allocates.
 //!
 //! Spells objects, reads them back, and computes their ids.
 #![tactic(auto)]

@@ -1,9 +1,10 @@
 //! Objects, their ids, and their reader.
+//! Pure.
 ghost use Rattle.std.specs.Prelude.{◌≡◌, ◌++◌, ℕ, List, IfSome, IfNone, MatchOption};
-ghost use Rattle.arch_base.specs.Ids.{IsId};
+ghost use Rattle.arch_base.specs.Ids.{IsObjectId};
 ghost use Rattle.git_objects.specs.Fronts.{Lacks, Begins};
 ghost use Rattle.git_objects.specs.Objects.{GitObject, IsObject, HasSize, sized_before, spelling, blob_id_of, id_of, tree_spelling, IsTreeContent};
-ghost use Rattle.git_objects.specs.Reading.{IsFront, LendsPiece, HasNoObject, Finds, shown};
+ghost use Rattle.git_objects.specs.Reading.{IsObjectFront, LendsPiece, HasNoObject, FindsObject, shown};
 ghost use Rattle.git_objects.specs.Laws.{SpellingsStandApart};
 
 use crate::entry_kind::EntryKind;
@@ -32,7 +33,7 @@ pub enum Object<'a> {
 /// Returns the id of the blob with this content: the SHA-1 of its spelling.
 pub fn blob_id(content: &[u8]) -> ObjectId
     ensures value { result ≡ blob_id_of content.now }
-    ensures valid { IsId result }
+    ensures valid { IsObjectId result }
 {
     let mut size = Buffer::new();
     let mut hasher = Sha1::new();
@@ -46,7 +47,7 @@ pub fn blob_id(content: &[u8]) -> ObjectId
 /// Returns the id of a spelled object: the SHA-1 of the spelling.
 pub fn object_id(spelling: &[u8]) -> ObjectId
     ensures value { result ≡ id_of spelling.now }
-    ensures valid { IsId result }
+    ensures valid { IsObjectId result }
 {
     Id20(Sha1::digest(spelling))
 }
@@ -68,12 +69,12 @@ pub fn tree_bytes(kind: EntryKind, id: &ObjectId) -> [u8; 37]
 /// A blob and a commit have any content, a tree one file `m` or `d` of mode 100644. The result is
 /// `None` if the bytes start with the spelling of no object.
 pub fn read_object(bytes: &[u8]) -> Option<(Object<'_>, usize)>
-    ensures found { IfSome result (λ found. IsFront bytes.now (shown found.0) found.1) }
+    ensures found { IfSome result (λ found. IsObjectFront bytes.now (shown found.0) found.1) }
     ensures lent { IfSome result (λ found. LendsPiece bytes.now found.0 found.1) }
     ensures none { IfNone result (HasNoObject bytes.now) }
     // A spelled object is read back whatever follows it.
     ensures again { (object : GitObject) (rest : List ℕ) → IsObject object
-        → bytes.now ≡ spelling object ++ rest → Finds result object }
+        → bytes.now ≡ spelling object ++ rest → FindsObject result object }
 {
     let (kind, unread) = read_kind(bytes)?;
     let (content, rest) = read_content(unread)?;

@@ -7,8 +7,8 @@
 
 ghost use Rattle.std.specs.Prelude.{◌≡◌, IsTrue};
 ghost use Rattle.std.specs.List.{list_all};
-ghost use Rattle.git_objects.specs.CleanText.{IsClean, is_clean_byte as clean_byte};
-ghost use Rattle.git_objects.specs.Commits.{IsZone};
+ghost use Rattle.git_objects.specs.CleanText.{IsCleanText, is_clean_byte as clean_byte};
+ghost use Rattle.git_objects.specs.Commits.{IsCommitZone};
 
 mod samples;
 
@@ -143,14 +143,14 @@ fn spelled(alloc: Global, commit: &Commit) -> Result<Option<Bytes>, NoMemory> {
 
 /// Returns whether a time zone is less than a day from UTC.
 fn is_zone(zone: i16) -> bool
-    ensures { IsTrue result → IsZone zone }
+    ensures { IsTrue result → IsCommitZone zone }
 {
     zone > -1440 && zone < 1440
 }
 
 /// Returns whether a text is clean: it may be a text of a commit.
 fn is_clean(text: &[u8]) -> bool
-    ensures { IsTrue result → IsClean text.now }
+    ensures { IsTrue result → IsCleanText text.now }
 {
     if text.is_empty() {
         return true;

@@ -6,7 +6,7 @@ use Rattle.std.specs.List.{flat_map}
 use Rattle.form_urlencoded.specs.Form.{byte_serialize}
 use Rattle.std.proofs.lemmas.Bool.{eqb-true, eqb-false}
 use Rattle.std.proofs.lemmas.Fmt.{decimal_by_steps_wide}
-use Rattle.arch_base.specs.Names.{IsName}
+use Rattle.arch_base.specs.Names.{IsArchiveName}
 use Rattle.mail_reader.specs.Fields.{FieldText, fields_of, first_named}
 use Rattle.mail_reader.specs.Values.{flat_of}
 use Rattle.mime_words.specs.Decoding.{decoded}
@@ -27,12 +27,12 @@ use Rattle.html_pages.proofs.Markup.{address_none, form_none}
 framed : (title lines : List ℕ) (count : ℕ) → markup title ≡ [] → markup lines ≡ links_markup count → markup (page_of title lines) ≡ page_markup count
 framed title lines count e f =
     let head = codes "<html><head><title>" in
-    let between = codes "</title></head><body><pre>" in
+    let crash_between = codes "</title></head><body><pre>" in
     let tail = codes "</pre></body></html>\n" in
-    let front : markup ((head ++ title) ++ between) ≡ codes "<><><><><><><>" =
-    more (head ++ title) between (codes "<><><>") (codes "<><><><>") (and_none head title (codes "<><><>") refl e) refl in
-    more (((head ++ title) ++ between) ++ lines) tail (codes "<><><><><><><>" ++ links_markup count) (codes "<><><>")
-    (more ((head ++ title) ++ between) lines (codes "<><><><><><><>") (links_markup count) front f) refl
+    let front : markup ((head ++ title) ++ crash_between) ≡ codes "<><><><><><><>" =
+    more (head ++ title) crash_between (codes "<><><>") (codes "<><><><>") (and_none head title (codes "<><><>") refl e) refl in
+    more (((head ++ title) ++ crash_between) ++ lines) tail (codes "<><><><><><><>" ++ links_markup count) (codes "<><><>")
+    (more ((head ++ title) ++ crash_between) lines (codes "<><><><><><><>") (links_markup count) front f) refl
 
 -- A moment has none.
 date_none : (secs : ℕ) → markup (page_date secs) ≡ []
@@ -41,7 +41,7 @@ date_none secs =
     page_moment_none (min secs 253402300799) least
 
 -- The line of a mail has one link.
-row_one : (name : List ℕ) (row : Row) → IsName name → markup (row_line name row) ≡ link_markup
+row_one : (name : List ℕ) (row : Row) → IsArchiveName name → markup (row_line name row) ≡ link_markup
 unfolding row_line
 row_one name row h =
     let a = page_date row.date.secs in
@@ -56,7 +56,7 @@ row_one name row h =
     let last : markup (((((a ++ b) ++ c) ++ d) ++ e) ++ f) ≡ link_markup = more ((((a ++ b) ++ c) ++ d) ++ e) f (codes "<\"\">") (codes "<>") (and_none (((a ++ b) ++ c) ++ d) e (codes "<\"\">") first (title_none row.subject)) refl in
     and_none ((((((a ++ b) ++ c) ++ d) ++ e) ++ f) ++ g) (codes "\n") link_markup (and_none (((((a ++ b) ++ c) ++ d) ++ e) ++ f) g link_markup last (text_none row.from)) refl
 
-rows_links : (name : List ℕ) (rows : List Row) → IsName name → markup (flat_map (row_line name) rows) ≡ links_markup (length rows)
+rows_links : (name : List ℕ) (rows : List Row) → IsArchiveName name → markup (flat_map (row_line name) rows) ≡ links_markup (length rows)
 rows_links name [] h = refl
 rows_links name (row ∷ rows) h = more (row_line name row) (flat_map (row_line name) rows) link_markup (links_markup (length rows)) (row_one name row h) (rows_links name rows h)
 
@@ -78,7 +78,7 @@ links-append (suc m) n =
     let next : suc (m + n) ≡ suc m + n = omega arith in
     append_assoc link_markup (links_markup m) (links_markup n) ∙ ap (λ t. link_markup ++ t) (links-append m n) ∙ ap links_markup next
 
-shown_links : (name : List ℕ) (rows : List Row) (skip : ℕ) → IsName name → skip < 2 ^ 64 → (none : Bool) → eqb (length (drop 200 rows)) 0 ≡ none
+shown_links : (name : List ℕ) (rows : List Row) (skip : ℕ) → IsArchiveName name → skip < 2 ^ 64 → (none : Bool) → eqb (length (drop 200 rows)) 0 ≡ none
     → markup (flat_map (row_line name) (take 200 rows) ++ cond none [] (codes "<a href=\"?o=" ++ decimal (skip + 200) ++ codes "\">older</a>\n")) ≡ links_markup (min (length rows) 201)
 shown_links name rows skip h l true e =
     let none : length (drop 200 rows) ≡ 0 = eqb-true (length (drop 200 rows)) 0 e in
@@ -108,7 +108,7 @@ found_one text skip h =
     more (((a ++ b) ++ c) ++ d) (codes "\">older</a>\n") (codes "<\"") (codes "\"><>")
     (and_none ((a ++ b) ++ c) d (codes "<\"") (and_none (a ++ b) c (codes "<\"") (and_none a b (codes "<\"") refl (form_none text)) refl) (number_none (skip + 200) (omega arith))) refl
 
-found_links : (name text : List ℕ) (rows : List Row) (skip : ℕ) → IsName name → skip < 2 ^ 64 → (none : Bool) → eqb (length (drop 200 rows)) 0 ≡ none
+found_links : (name text : List ℕ) (rows : List Row) (skip : ℕ) → IsArchiveName name → skip < 2 ^ 64 → (none : Bool) → eqb (length (drop 200 rows)) 0 ≡ none
     → markup (flat_map (row_line name) (take 200 rows) ++ cond none [] (codes "<a href=\"?q=" ++ byte_serialize text ++ codes "&amp;o=" ++ decimal (skip + 200) ++ codes "\">older</a>\n")) ≡ links_markup (min (length rows) 201)
 found_links name text rows skip h l true e =
     let none : length (drop 200 rows) ≡ 0 = eqb-true (length (drop 200 rows)) 0 e in
@@ -147,7 +147,7 @@ fields_none text =
     let to = none-append (line (codes "To")) (line (codes "Cc") ++ (line (codes "Subject") ++ (line (codes "Date") ++ (line (codes "Message-ID") ++ [])))) (header_none text (codes "To") refl) cc_ in
     none-append (line (codes "From")) (line (codes "To") ++ (line (codes "Cc") ++ (line (codes "Subject") ++ (line (codes "Date") ++ (line (codes "Message-ID") ++ []))))) (header_none text (codes "From") refl) to
 
-links_two : (name id : List ℕ) → IsName name → markup (links_line name id) ≡ links_markup 2
+links_two : (name id : List ℕ) → IsArchiveName name → markup (links_line name id) ≡ links_markup 2
 unfolding links_line
 links_two name id h =
     let a = codes "<a href=\"" in
@@ -169,18 +169,18 @@ indent_none : (n : ℕ) → markup (replicate n 32) ≡ []
 indent_none zero = refl
 indent_none (suc n) = none-cons 32 (replicate n 32) refl (indent_none n)
 
-entry_links : (name : List ℕ) (entry : ThreadEntry) → IsName name → markup (entry_line name entry) ≡ cond (is_of_mail entry) link_markup []
+entry_links : (name : List ℕ) (entry : ThreadEntry) → IsArchiveName name → markup (entry_line name entry) ≡ cond (is_of_mail entry) link_markup []
 entry_links name (Mail row) h = row_one name row.now h
 entry_links name (Missing id) h = none-append (codes "[not found] " ++ escaped id.now) (codes "\n") (none-append (codes "[not found] ") (escaped id.now) refl (text_none id.now)) refl
 
-line_links : (name : List ℕ) (line : ThreadLine) → IsName name → markup (thread_line name line) ≡ cond (is_of_mail line.entry) link_markup []
+line_links : (name : List ℕ) (line : ThreadLine) → IsArchiveName name → markup (thread_line name line) ≡ cond (is_of_mail line.entry) link_markup []
 line_links name line h = more (indent line.depth) (entry_line name line.entry) [] (cond (is_of_mail line.entry) link_markup []) (indent_none (2 * min line.depth 40)) (entry_links name line.entry h)
 
 lines_by : (of_mail : Bool) (line : ThreadLine) (lines : List ThreadLine) (rest : List ℕ) → rest ≡ links_markup (mail_count lines) → cond of_mail link_markup [] ++ rest ≡ links_markup (length (cond of_mail (line ∷ filter (λ (each : ThreadLine). is_of_mail each.entry) lines) (filter (λ (each : ThreadLine). is_of_mail each.entry) lines)))
 lines_by true line lines rest e = ap (λ t. link_markup ++ t) e
 lines_by false line lines rest e = e
 
-lines_links : (name : List ℕ) (lines : List ThreadLine) → IsName name → markup (flat_map (thread_line name) lines) ≡ links_markup (mail_count lines)
+lines_links : (name : List ℕ) (lines : List ThreadLine) → IsArchiveName name → markup (flat_map (thread_line name) lines) ≡ links_markup (mail_count lines)
 lines_links name [] h = refl
 lines_links name (line ∷ lines) h =
     more (thread_line name line) (flat_map (thread_line name) lines) (cond (is_of_mail line.entry) link_markup []) (markup (flat_map (thread_line name) lines)) (line_links name line h) refl

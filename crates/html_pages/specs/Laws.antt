@@ -1,7 +1,7 @@
 -- Laws of pages: no tag, and no value of an attribute, comes from a mail.
 use Rattle.std.specs.Prelude.{◌≡◌, ℕ, ◌^◌, ◌<◌, min, Bool, true, false, List, [], ◌++◌, length, filter, replicate, codes}
 use Rattle.std.specs.List.{concat}
-use Rattle.arch_base.specs.Names.{IsName}
+use Rattle.arch_base.specs.Names.{IsArchiveName}
 use Rattle.mail_forms.specs.declared.row.Row.{Row}
 use Rattle.web_text.specs.Escapes.{escaped}
 use Rattle.web_text.specs.Markup.{markup}
@@ -29,22 +29,22 @@ TextMakesNoTag = (text : List ℕ) → markup (escaped text) ≡ []
 
 -- Nor has the address of a message.
 abbrev pub AddressMakesNoTag : Type 0
-AddressMakesNoTag = (name id : List ℕ) → IsName name → markup (address name id) ≡ []
+AddressMakesNoTag = (name id : List ℕ) → IsArchiveName name → markup (address name id) ≡ []
 
 -- A listing has its own tags, and a link for each row that it shows and to older ones.
 abbrev pub ListingHasItsTags : Type 0
-ListingHasItsTags = (name : List ℕ) (rows : List Row) (skip : ℕ) → IsName name → skip < 2 ^ 64
+ListingHasItsTags = (name : List ℕ) (rows : List Row) (skip : ℕ) → IsArchiveName name → skip < 2 ^ 64
     → markup (listing_of name rows skip) ≡ page_markup (min (length rows) 201)
 
 -- The page of a search has its own tags, and a link for each row that it shows and to older ones,
 -- whatever text is searched for.
 abbrev pub SearchHasItsTags : Type 0
-SearchHasItsTags = (name text : List ℕ) (rows : List Row) (skip : ℕ) → IsName name → skip < 2 ^ 64
+SearchHasItsTags = (name text : List ℕ) (rows : List Row) (skip : ℕ) → IsArchiveName name → skip < 2 ^ 64
     → markup (search_of name text rows skip) ≡ page_markup (min (length rows) 201)
 
 -- The page of a message has its own tags, and two links.
 abbrev pub MessageHasItsTags : Type 0
-MessageHasItsTags = (name text body : List ℕ) (row : Row) → IsName name
+MessageHasItsTags = (name text body : List ℕ) (row : Row) → IsArchiveName name
     → markup (message_of name row text body) ≡ page_markup 2
 
 -- The line is that of a mail.
@@ -58,5 +58,5 @@ mail_count lines = length (filter (λ (line : ThreadLine). is_of_mail line.entry
 
 -- The page of a thread has its own tags, and a link for each of its mails.
 abbrev pub ThreadHasItsTags : Type 0
-ThreadHasItsTags = (name : List ℕ) (row : Row) (lines : List ThreadLine) → IsName name
+ThreadHasItsTags = (name : List ℕ) (row : Row) (lines : List ThreadLine) → IsArchiveName name
     → markup (thread_of name row lines) ≡ page_markup (mail_count lines)

@@ -1,4 +1,5 @@
 //! Laws of pages. Each function does nothing: its contract is the law.
+//! Pure.
 ghost use Rattle.html_pages.specs.Laws.{TextMakesNoTag, AddressMakesNoTag, ListingHasItsTags, SearchHasItsTags, MessageHasItsTags, ThreadHasItsTags};
 
 /// Shows that no byte of a text in a page begins or ends a tag or the value of an attribute.

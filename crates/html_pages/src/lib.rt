@@ -1,4 +1,5 @@
 //! The pages of a list for browsers.
+//! Allocates.
 #![tactic(auto)]
 
 mod laws;

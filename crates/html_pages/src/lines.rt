@@ -1,4 +1,5 @@
 //! What several pages share: their frame, and the line of a mail.
+//! Allocates.
 ghost use Rattle.std.specs.Prelude.{◌≡◌, ◌++◌, OnOk, codes};
 ghost use Rattle.html_pages.specs.Lines.{row_line};
 

@@ -1,4 +1,5 @@
 //! The page of a message.
+//! Allocates.
 ghost use Rattle.std.specs.Prelude.{◌≡◌, ◌++◌, OnOk, IfOk, codes};
 ghost use Rattle.std.specs.List.{flat_map};
 ghost use Rattle.mail_reader.specs.Values.{flat_of};

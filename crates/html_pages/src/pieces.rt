@@ -1,4 +1,5 @@
 //! The pieces of lines: the moment and the address of a mail.
+//! Allocates.
 ghost use Rattle.std.specs.Prelude.{◌≡◌, ◌++◌, OnOk};
 ghost use Rattle.html_pages.specs.Pieces.{page_date, address};
 

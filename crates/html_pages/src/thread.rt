@@ -1,4 +1,5 @@
 //! The page of a thread.
+//! Allocates.
 ghost use Rattle.std.specs.Prelude.{◌≡◌, ◌++◌, OnOk, IfOk, codes};
 ghost use Rattle.std.specs.List.{flat_map};
 ghost use Rattle.web_text.specs.Escapes.{escaped};

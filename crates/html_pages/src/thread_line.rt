@@ -1,4 +1,5 @@
 //! The lines of a thread.
+//! Pure.
 use mail_forms::Row;
 
 /// What a line of a thread stands for.

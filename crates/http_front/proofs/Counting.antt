@@ -3,7 +3,7 @@ use Rattle.std.proofs.Common.{◌≡◌, ◌<◌, ◌≤◌, ◌+◌, ◌==◌, 
 use Rattle.std.specs.List.{list_all, sum_by}
 use Rattle.std.proofs.lemmas.Bool.Decides.{nat_tests}
 use Rattle.std.proofs.lemmas.List.Sums.{sum_by-cons}
-use Rattle.line_door.specs.Acts.{Outside, Way, Plain, Memory, Disk, Newer, Acts, StopsShort}
+use Rattle.line_door.specs.Acts.{ConnectionState, Departure, Plain, Memory, Disk, Newer, Acts, StopsShort}
 use Rattle.arch_model.specs.Archives.{Entry, Archive, text_of}
 use Rattle.arch_model.specs.Shelves.{ReadsOnce, ReadsUpTo, ReadsAhead}
 use Rattle.arch_model.specs.declared.text_refusal.TextRefusal.{TextRefusal}
@@ -14,14 +14,14 @@ use Rattle.http_heads.specs.Parameters.{path_of}
 use Rattle.http_heads.specs.Replies.{verdict_of}
 use Rattle.http_heads.specs.declared.reply.Verdict.{Verdict}
 use Rattle.http_heads.specs.declared.reply.Verdict.TheVariants.{Serve, Refuse}
-use Rattle.http_front.specs.Fronts.{Front, Whole, Long, Partial, front, head_limit}
+use Rattle.http_front.specs.Fronts.{HeadFront, Whole, Long, Partial, front, head_limit}
 use Rattle.http_front.specs.Asking.{Found, Gives, Streams, Missing, BadRange, message_found, text_found, target_found, target_reads, path_reads, path_texts}
 use Rattle.http_front.specs.Counting.{served_texts, body_texts, path_said, verdict_texts, head_texts, reads_nothing, goes_on, verdict_goes_on, asked_at, asked_from, all_asked, texts_for_bytes, bytes_read_nothing}
 use Rattle.http_front.specs.Door.{served, said_found, said_verdict, said_head}
-use Rattle.http_front.specs.Sessions.{IsHeldFor, Finds, MakesPage, IsTurnReads, unread}
-use Rattle.http_front.specs.declared.session.Turn.TheVariants.{Went, Closed}
-use Rattle.http_front.specs.declared.found.Held.{Held}
-use Rattle.http_front.specs.declared.found.Held.TheVariants as what
+use Rattle.http_front.specs.Sessions.{IsHeldFor, FindsTarget, MakesPage, PageActReads, unread}
+use Rattle.http_front.specs.declared.session.Act.TheVariants.{Went, Closed}
+use Rattle.http_front.specs.declared.found.FoundBody.{FoundBody}
+use Rattle.http_front.specs.declared.found.FoundBody.TheVariants as what
 use Rattle.http_front.proofs.Fronts.{front-shorter}
 use Rattle.http_front.specs.Reading.{asked_in}
 
@@ -119,18 +119,18 @@ is_whole_body (Streams body bytes) = false
 is_whole_body Missing = true
 is_whole_body BadRange = true
 
-whole-held : (a : Archive) (found : Found) (reads : Bool) (held : Held) → is_whole_body found ≡ true → IsHeldFor a found reads held → unread a held ≡ 0
+whole-held : (a : Archive) (found : Found) (reads : Bool) (held : FoundBody) → is_whole_body found ≡ true → IsHeldFor a found reads held → unread a held ≡ 0
 whole-held a found reads (what.Whole body bytes) whole is = refl
 whole-held a found reads what.EveryMail whole is = absurd (cc (sym whole ∙ ap is_whole_body is.0))
 whole-held a found reads (what.Mails numbers) whole is = absurd (cc (sym whole ∙ ap is_whole_body is.0))
 whole-held a found reads what.Nothing whole is = refl
 whole-held a found reads what.BadRange whole is = refl
 
-pub leaves-whole : (a : Archive) (found : Found) (reads : Bool) (result : Result Held TextRefusal) → is_whole_body found ≡ true → Finds a found reads result → IfOk result (λ held. unread a held ≤ 0)
+pub leaves-whole : (a : Archive) (found : Found) (reads : Bool) (result : Result FoundBody TextRefusal) → is_whole_body found ≡ true → FindsTarget a found reads result → IfOk result (λ held. unread a held ≤ 0)
 leaves-whole a found reads (Ok held) whole is = let none : unread a held ≡ 0 = whole-held a found reads held whole is in omega (arith, none)
 leaves-whole a found reads (Err why) whole is = tt
 
-pub leaves-page : (a : Archive) (found : Found) (held : Held) → MakesPage found (Ok held) → unread a held ≤ 0
+pub leaves-page : (a : Archive) (found : Found) (held : FoundBody) → MakesPage found (Ok held) → unread a held ≤ 0
 leaves-page a found (what.Whole body bytes) made = omega arith
 leaves-page a found what.EveryMail made = absurd made
 leaves-page a found (what.Mails numbers) made = absurd made
@@ -147,7 +147,7 @@ text-whole None = refl
 text-whole (Some text) = refl
 
 -- What is still to be read, by another bound.
-pub leaves-as : (a : Archive) (most wanted : ℕ) (result : Result Held TextRefusal) → most ≡ wanted → IfOk result (λ held. unread a held ≤ most) → IfOk result (λ held. unread a held ≤ wanted)
+pub leaves-as : (a : Archive) (most wanted : ℕ) (result : Result FoundBody TextRefusal) → most ≡ wanted → IfOk result (λ held. unread a held ≤ most) → IfOk result (λ held. unread a held ≤ wanted)
 leaves-as a most wanted result same left = subst (λ (n : ℕ). IfOk result (λ held. unread a held ≤ n)) same left
 
 -- The answered heads, one by one.
@@ -157,7 +157,7 @@ asked-enough zero m bytes some more = absurd (omega (arith, some))
 asked-enough (suc n) zero bytes some more = absurd (omega (arith, more))
 asked-enough (suc n) (suc m) bytes some more = by (front head_limit bytes) refl (λ rest less. asked-enough n m rest (omega (arith, less, some)) (omega (arith, less, more)))
   where
-    by : (f : Front) → front head_limit bytes ≡ f → ((rest : List ℕ) → length rest < length bytes → asked_from n rest ≡ asked_from m rest) → asked_at (asked_from n) f ≡ asked_at (asked_from m) f
+    by : (f : HeadFront) → front head_limit bytes ≡ f → ((rest : List ℕ) → length rest < length bytes → asked_from n rest ≡ asked_from m rest) → asked_at (asked_from n) f ≡ asked_at (asked_from m) f
     by (Whole head rest) is same =
         ap (λ (later : List (Option Asked)). asked_in head ∷ (if goes_on (asked_in head) then later else [])) (same rest (front-shorter head_limit bytes head rest is))
     by Long is same = refl
@@ -167,7 +167,7 @@ asked-head : (bytes head rest : List ℕ) → front head_limit bytes ≡ Whole h
 unfolding all_asked
 asked-head bytes head rest is =
     let less = front-shorter head_limit bytes head rest is in
-    ap (λ (f : Front). asked_at (asked_from (length bytes)) f) is
+    ap (λ (f : HeadFront). asked_at (asked_from (length bytes)) f) is
     ∙ ap (λ (later : List (Option Asked)). asked_in head ∷ (if goes_on (asked_in head) then later else [])) (asked-enough (length bytes) (suc (length rest)) rest less (omega arith))
 
 -- The texts for a head at the front, and for the bytes after it if the session continues.
@@ -178,7 +178,7 @@ texts-head a bytes head rest is =
 
 -- One head that took `n` bytes of a piece was answered.
 pub turn-reads : (a : Archive) (old piece head : List ℕ) (n : ℕ) (new : List ℕ) (goes : Bool) (before now : ℕ) → front head_limit (old ++ piece) ≡ Whole head (drop n piece) → new ≡ [] → (goes ≡ true → goes_on (asked_in head) ≡ true) → ReadsUpTo (head_texts a (asked_in head)) before now
-    → IsTurnReads a old piece (if goes then Went n else Closed) new before now
+    → PageActReads a old piece (if goes then Went n else Closed) new before now
 turn-reads a old piece head n new true before now is none stays reads =
     let cut : texts_for_bytes a (old ++ piece) ≡ head_texts a (asked_in head) + texts_for_bytes a (drop n piece) =
     texts-head a (old ++ piece) head (drop n piece) is ∙ ap (λ (t : Bool). head_texts a (asked_in head) + sum_by (head_texts a) (if t then all_asked (drop n piece) else [])) (stays refl) in
@@ -196,27 +196,27 @@ served-ends moment a sends rest (Streams body bytes) = refl
 served-ends moment a sends rest Missing = refl
 served-ends moment a sends rest BadRange = refl
 
-found-ends : (moment : ℕ) (a : Archive) (sends : Bool) (rest : List ℕ) (found : Found) (reads : Bool) (way : Way) → (said_found moment a sends true rest found reads way).next ≡ None
+found-ends : (moment : ℕ) (a : Archive) (sends : Bool) (rest : List ℕ) (found : Found) (reads : Bool) (way : Departure) → (said_found moment a sends true rest found reads way).next ≡ None
 found-ends moment a sends rest found reads Plain = served-ends moment a sends rest found
 found-ends moment a sends rest found reads Memory = refl
 found-ends moment a sends rest found true Disk = refl
 found-ends moment a sends rest found false Disk = served-ends moment a sends rest found
 found-ends moment a sends rest found reads Newer = served-ends moment a sends rest found
 
-found-open : (moment : ℕ) (a : Archive) (sends ends : Bool) (rest k : List ℕ) (found : Found) (reads : Bool) (way : Way) → (said_found moment a sends ends rest found reads way).next ≡ Some k → not ends ≡ true
+found-open : (moment : ℕ) (a : Archive) (sends ends : Bool) (rest k : List ℕ) (found : Found) (reads : Bool) (way : Departure) → (said_found moment a sends ends rest found reads way).next ≡ Some k → not ends ≡ true
 found-open moment a sends true rest k found reads way next = absurd (cc (sym (found-ends moment a sends rest found reads way) ∙ next))
 found-open moment a sends false rest k found reads way next = refl
 
-verdict-open : (moment : ℕ) (a : Archive) (asked : Asked) (rest k : List ℕ) (verdict : Verdict) (way : Way) → (said_verdict moment a asked rest verdict way).next ≡ Some k → verdict_goes_on asked verdict ≡ true
+verdict-open : (moment : ℕ) (a : Archive) (asked : Asked) (rest k : List ℕ) (verdict : Verdict) (way : Departure) → (said_verdict moment a asked rest verdict way).next ≡ Some k → verdict_goes_on asked verdict ≡ true
 verdict-open moment a asked rest k (Serve sends) way next = found-open moment a sends asked.closes rest k (target_found a asked.target) (target_reads a asked.target) way next
 verdict-open moment a asked rest k (Refuse status sends) way next = absurd (cc next)
 
-head-open : (moment : ℕ) (a : Archive) (asked : Option Asked) (rest k : List ℕ) (way : Way) → (said_head moment a asked rest way).next ≡ Some k → goes_on asked ≡ true
+head-open : (moment : ℕ) (a : Archive) (asked : Option Asked) (rest k : List ℕ) (way : Departure) → (said_head moment a asked rest way).next ≡ Some k → goes_on asked ≡ true
 head-open moment a None rest k way next = absurd (cc next)
 head-open moment a (Some asked) rest k way next = verdict-open moment a asked rest k (verdict_of (Some asked)) way next
 
-module _ (moment : ℕ) (a : Archive) (asked : Option Asked) (rest k : List ℕ) (i : Outside) (b : Archive) (j : Outside) where
-  short-closes : (way : Way) → StopsShort (said_head moment a asked rest) way i (Some k) b j → ⊥
+module _ (moment : ℕ) (a : Archive) (asked : Option Asked) (rest k : List ℕ) (i : ConnectionState) (b : Archive) (j : ConnectionState) where
+  short-closes : (way : Departure) → StopsShort (said_head moment a asked rest) way i (Some k) b j → ⊥
   short-closes Plain never = never
   short-closes Memory short = cc short.held_is
   short-closes Disk short = cc short.held_is

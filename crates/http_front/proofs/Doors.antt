@@ -1,6 +1,6 @@
 -- The laws of the door of pages.
 use Rattle.std.proofs.Common.{◌≡◌, ◌<◌, ◌⊎◌, inl, inr, ℕ, Bool, true, false, List, [], ◌∷◌, ◌++◌, length, Option, Some, None, refl, append_assoc, if◌then◌else◌}
-use Rattle.line_door.specs.Acts.{Way, Plain, Memory, Disk, Newer}
+use Rattle.line_door.specs.Acts.{Departure, Plain, Memory, Disk, Newer}
 use Rattle.line_door.specs.Making.{closes}
 use Rattle.line_door.specs.Plain.{silent}
 use Rattle.line_door.specs.Cuts.{CutDoor, DoorLaws, said_with}
@@ -11,14 +11,14 @@ use Rattle.http_heads.specs.Replies.{verdict_of}
 use Rattle.http_heads.specs.declared.reply.Status.TheVariants.{Done, BadRequest, NotFound, ServerError}
 use Rattle.http_heads.specs.declared.reply.Verdict.{Verdict}
 use Rattle.http_heads.specs.declared.reply.Verdict.TheVariants.{Serve, Refuse}
-use Rattle.http_front.specs.Fronts.{Front, Whole, Long, Partial, front, is_whole, head_limit}
+use Rattle.http_front.specs.Fronts.{HeadFront, Whole, Long, Partial, front, is_whole, head_limit}
 use Rattle.http_front.specs.Asking.{Found, Gives, Streams, Missing, BadRange, target_found, target_reads}
 use Rattle.http_front.specs.Replies.{reply, word, word_of, bad_range}
-use Rattle.http_front.specs.Door.{Says, replies, served, said_found, said_verdict, said_head, unkept, said_at, said, has_request, with_piece}
+use Rattle.http_front.specs.Door.{PageSays, replies, served, said_found, said_verdict, said_head, unkept, said_at, said, has_request, with_piece}
 use Rattle.http_front.proofs.Fronts.{Goes, Same, Over, Open, front-goes, front-shorter, not_whole}
 use Rattle.http_front.specs.Reading.{asked_in}
 
-goes-whole : (q : List ℕ) (f g : Front) → Goes q f g → is_whole f ≡ true → is_whole g ≡ true
+goes-whole : (q : List ℕ) (f g : HeadFront) → Goes q f g → is_whole f ≡ true → is_whole g ≡ true
 goes-whole q f g (Same head rest) h = refl
 goes-whole q f g Over h = refl
 goes-whole q f g (Open next) h = absurd (cc h)
@@ -34,26 +34,26 @@ served-after moment a sends ends rest q Missing = replies-after a rest q ends fa
 served-after moment a sends ends rest q BadRange = replies-after a rest q ends false _
 
 -- Where texts aren't read, the disk is as in the plain way.
-either-after : (t : Bool) (x x' y : Says) (q : List ℕ) → y ≡ said_with (with_piece q) y → x' ≡ said_with (with_piece q) x → (if t then y else x') ≡ said_with (with_piece q) (if t then y else x)
+either-after : (t : Bool) (x x' y : PageSays) (q : List ℕ) → y ≡ said_with (with_piece q) y → x' ≡ said_with (with_piece q) x → (if t then y else x') ≡ said_with (with_piece q) (if t then y else x)
 either-after true x x' y q closed is = closed
 either-after false x x' y q closed is = is
 
-found-after : (moment : ℕ) (a : Archive) (sends ends : Bool) (rest q : List ℕ) (found : Found) (reads : Bool) (way : Way) → said_found moment a sends ends (rest ++ q) found reads way ≡ said_with (with_piece q) (said_found moment a sends ends rest found reads way)
+found-after : (moment : ℕ) (a : Archive) (sends ends : Bool) (rest q : List ℕ) (found : Found) (reads : Bool) (way : Departure) → said_found moment a sends ends (rest ++ q) found reads way ≡ said_with (with_piece q) (said_found moment a sends ends rest found reads way)
 found-after moment a sends ends rest q found reads Plain = served-after moment a sends ends rest q found
 found-after moment a sends ends rest q found reads Memory = refl
 found-after moment a sends ends rest q found reads Disk =
     either-after reads (served moment a sends ends rest found) (served moment a sends ends (rest ++ q) found) (closes a (word ServerError moment sends true)) q refl (served-after moment a sends ends rest q found)
 found-after moment a sends ends rest q found reads Newer = served-after moment a sends ends rest q found
 
-verdict-after : (moment : ℕ) (a : Archive) (asked : Asked) (rest q : List ℕ) (verdict : Verdict) (way : Way) → said_verdict moment a asked (rest ++ q) verdict way ≡ said_with (with_piece q) (said_verdict moment a asked rest verdict way)
+verdict-after : (moment : ℕ) (a : Archive) (asked : Asked) (rest q : List ℕ) (verdict : Verdict) (way : Departure) → said_verdict moment a asked (rest ++ q) verdict way ≡ said_with (with_piece q) (said_verdict moment a asked rest verdict way)
 verdict-after moment a asked rest q (Serve sends) way = found-after moment a sends asked.closes rest q (target_found a asked.target) (target_reads a asked.target) way
 verdict-after moment a asked rest q (Refuse status sends) way = refl
 
-head-after : (moment : ℕ) (a : Archive) (asked : Option Asked) (rest q : List ℕ) (way : Way) → said_head moment a asked (rest ++ q) way ≡ said_with (with_piece q) (said_head moment a asked rest way)
+head-after : (moment : ℕ) (a : Archive) (asked : Option Asked) (rest q : List ℕ) (way : Departure) → said_head moment a asked (rest ++ q) way ≡ said_with (with_piece q) (said_head moment a asked rest way)
 head-after moment a None rest q way = refl
 head-after moment a (Some asked) rest q way = verdict-after moment a asked rest q (verdict_of (Some asked)) way
 
-goes-said : (moment : ℕ) (a : Archive) (bytes q : List ℕ) (way : Way) (f g : Front) → Goes q f g → is_whole f ≡ true → said_at moment a (bytes ++ q) g way ≡ said_with (with_piece q) (said_at moment a bytes f way)
+goes-said : (moment : ℕ) (a : Archive) (bytes q : List ℕ) (way : Departure) (f g : HeadFront) → Goes q f g → is_whole f ≡ true → said_at moment a (bytes ++ q) g way ≡ said_with (with_piece q) (said_at moment a bytes f way)
 goes-said moment a bytes q way f g (Same head rest) h = head-after moment a (asked_in head) rest q way
 goes-said moment a bytes q way f g Over h = refl
 goes-said moment a bytes q way f g (Open next) h = absurd (cc h)
@@ -62,7 +62,7 @@ unkept-either : (moment : ℕ) (a : Archive) (bytes more : List ℕ) → ((unkep
 unkept-either moment a bytes [] = inr refl
 unkept-either moment a bytes (byte ∷ more) = inl refl
 
-kept : (moment : ℕ) (a : Archive) (bytes : List ℕ) (way : Way) (f : Front) → f ≡ Partial → ((said_at moment a bytes f way).next ≡ None) ⊎ (said_at moment a bytes f way ≡ silent a bytes)
+kept : (moment : ℕ) (a : Archive) (bytes : List ℕ) (way : Departure) (f : HeadFront) → f ≡ Partial → ((said_at moment a bytes f way).next ≡ None) ⊎ (said_at moment a bytes f way ≡ silent a bytes)
 kept moment a bytes Plain f h = rw h (inr refl)
 kept moment a bytes Memory f h = rw h (unkept-either moment a bytes bytes)
 kept moment a bytes Disk f h = rw h (inr refl)
@@ -87,7 +87,7 @@ head-left : (moment : ℕ) (a : Archive) (asked : Option Asked) (rest k : List �
 head-left moment a None rest k e = absurd (cc e)
 head-left moment a (Some asked) rest k e = verdict-left moment a asked rest (verdict_of (Some asked)) k e
 
-shorter-at : (moment : ℕ) (a : Archive) (bytes k : List ℕ) (f : Front) → front head_limit bytes ≡ f → is_whole f ≡ true → (said_at moment a bytes f Plain).next ≡ Some k → length k < length bytes
+shorter-at : (moment : ℕ) (a : Archive) (bytes k : List ℕ) (f : HeadFront) → front head_limit bytes ≡ f → is_whole f ≡ true → (said_at moment a bytes f Plain).next ≡ Some k → length k < length bytes
 shorter-at moment a bytes k (Whole head rest) is h next =
     let same : rest ≡ k = head-left moment a (asked_in head) rest k next in
     let less = front-shorter head_limit bytes head rest is in

@@ -15,8 +15,8 @@ use Rattle.mime_parts.specs.Texts.{body_text_of}
 use Rattle.http_heads.specs.declared.reply.Body.TheVariants.{Feed}
 use Rattle.http_front.specs.Views.{is_number, one_row, shown_row, shown_text, text_at, shown_by, shown_at, shown_all}
 use Rattle.http_front.specs.Asking.{Found, Gives, feed_found}
-use Rattle.http_front.specs.Feeding.{Appends, arrival_of, later_of, latest_of}
-use Rattle.http_front.specs.Sessions.{Finds}
+use Rattle.http_front.specs.Feeding.{AppendsOrRefuses, arrival_of, later_of, latest_of}
+use Rattle.http_front.specs.Sessions.{FindsTarget}
 use Rattle.http_front.proofs.Arrivals.{latest-append}
 use Rattle.http_front.proofs.Pieces.{RowAndText, Neither, Both, row-and-text, text-none}
 
@@ -84,11 +84,11 @@ pub appends-none : (name : List ℕ) (entries : List Entry) (n : ℕ) (old : Lis
 appends-none name entries n old none = sym (append-nil old) ∙ ap (λ (ms : List Shown). old ++ entries_of name ms) (sym (shown-without entries n none))
 
 -- A live number has the entry of its text.
-pub appends-live : (name : List ℕ) (entries : List Entry) (n found : ℕ) (old new : List ℕ) (result : Result Unit TextRefusal) → found ≡ n → text_at entries n ≡ shown_text entries n → Appends (entries_of name (shown_by (shown_row entries found) (shown_text entries found))) old new result
-    → Appends (entries_of name (shown_at entries n)) old new result
+pub appends-live : (name : List ℕ) (entries : List Entry) (n found : ℕ) (old new : List ℕ) (result : Result Unit TextRefusal) → found ≡ n → text_at entries n ≡ shown_text entries n → AppendsOrRefuses (entries_of name (shown_by (shown_row entries found) (shown_text entries found))) old new result
+    → AppendsOrRefuses (entries_of name (shown_at entries n)) old new result
 appends-live name entries n found old new result same text appended =
-    subst (λ (t : Option (List ℕ)). Appends (entries_of name (shown_by (shown_row entries n) t)) old new result) (sym text)
-    (subst (λ (k : ℕ). Appends (entries_of name (shown_by (shown_row entries k) (shown_text entries k))) old new result) same appended)
+    subst (λ (t : Option (List ℕ)). AppendsOrRefuses (entries_of name (shown_by (shown_row entries n) t)) old new result) (sym text)
+    (subst (λ (k : ℕ). AppendsOrRefuses (entries_of name (shown_by (shown_row entries k) (shown_text entries k))) old new result) same appended)
 
 -- A row and its text give the entry of a number; without a row there is none.
 pub appends-read : (name : List ℕ) (row : Option Row) (text : Option (List ℕ)) (read wanted old new : List ℕ) → text ≡ Some wanted → read ≡ wanted → new ≡ old ++ entries_of name (shown_by row (Some read)) → new ≡ old ++ entries_of name (shown_by row text)
@@ -116,7 +116,7 @@ unread-undamaged entries n old new (refusal.Damaged named found) given = given
 unread-undamaged entries n old new refusal.NoMemory given = tt
 
 -- A feed was not made.
-pub finds-refused : (a : Archive) (found : Found) (why : TextRefusal) → IsUndamaged why → Finds a found true (Err why)
+pub finds-refused : (a : Archive) (found : Found) (why : TextRefusal) → IsUndamaged why → FindsTarget a found true (Err why)
 finds-refused a found refusal.DiskFault whole = refl
 finds-refused a found (refusal.Damaged named other) whole = whole
 finds-refused a found refusal.NoMemory whole = tt

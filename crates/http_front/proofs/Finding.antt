@@ -18,30 +18,30 @@ use Rattle.http_heads.specs.Parameters.{path_of}
 use Rattle.http_heads.specs.declared.reply.Body.TheVariants.{Page}
 use Rattle.http_front.specs.Views.{rows_at}
 use Rattle.http_front.specs.Asking.{Found, Gives, Missing, BadRange, message_found, text_found, feed_found, search_found, listing_found, found_of, named_found, path_found, reads_texts, path_reads, texts_for, path_texts, feed_len, rows_needed}
-use Rattle.http_front.specs.Sessions.{Finds, MakesPage}
-use Rattle.http_front.specs.declared.found.Held.{Held}
-use Rattle.http_front.specs.declared.found.Held.TheVariants as what
+use Rattle.http_front.specs.Sessions.{FindsTarget, MakesPage}
+use Rattle.http_front.specs.declared.found.FoundBody.{FoundBody}
+use Rattle.http_front.specs.declared.found.FoundBody.TheVariants as what
 
 -- A path that names something.
-pub finds-named : (a : Archive) (query asked : List ℕ) (o : Option Named) (named : Named) (result : Result Held TextRefusal) → o ≡ Some named → query ≡ asked → Finds a (named_found a query named) (reads_texts named) result → Finds a (path_found a asked o) (path_reads o) result
+pub finds-named : (a : Archive) (query asked : List ℕ) (o : Option Named) (named : Named) (result : Result FoundBody TextRefusal) → o ≡ Some named → query ≡ asked → FindsTarget a (named_found a query named) (reads_texts named) result → FindsTarget a (path_found a asked o) (path_reads o) result
 finds-named a query asked o named result is same found =
-    subst (λ (x : Option Named). Finds a (path_found a asked x) (path_reads x) result) (sym is)
-    (subst (λ (q : List ℕ). Finds a (named_found a q named) (reads_texts named) result) same found)
+    subst (λ (x : Option Named). FindsTarget a (path_found a asked x) (path_reads x) result) (sym is)
+    (subst (λ (q : List ℕ). FindsTarget a (named_found a q named) (reads_texts named) result) same found)
 
 -- A path that names nothing.
-pub finds-nothing : (a : Archive) (query : List ℕ) (o : Option Named) → o ≡ None → Finds a (path_found a query o) (path_reads o) (Ok what.Nothing)
-finds-nothing a query o is = subst (λ (x : Option Named). Finds a (path_found a query x) (path_reads x) (Ok what.Nothing)) (sym is) refl
+pub finds-nothing : (a : Archive) (query : List ℕ) (o : Option Named) → o ≡ None → FindsTarget a (path_found a query o) (path_reads o) (Ok what.Nothing)
+finds-nothing a query o is = subst (λ (x : Option Named). FindsTarget a (path_found a query x) (path_reads x) (Ok what.Nothing)) (sym is) refl
 
 -- An id of a live mail.
-pub finds-mail : (a : Archive) (o : Option ℕ) (n : ℕ) (give : ℕ → Found) (reads : Bool) (result : Result Held TextRefusal) → o ≡ Some n → Finds a (give n) reads result → Finds a (found_of o give) reads result
-finds-mail a o n give reads result is found = subst (λ (x : Option ℕ). Finds a (found_of x give) reads result) (sym is) found
+pub finds-mail : (a : Archive) (o : Option ℕ) (n : ℕ) (give : ℕ → Found) (reads : Bool) (result : Result FoundBody TextRefusal) → o ≡ Some n → FindsTarget a (give n) reads result → FindsTarget a (found_of o give) reads result
+finds-mail a o n give reads result is found = subst (λ (x : Option ℕ). FindsTarget a (found_of x give) reads result) (sym is) found
 
 -- An id of no live mail.
-pub finds-no_mail : (a : Archive) (o : Option ℕ) (give : ℕ → Found) (reads : Bool) → o ≡ None → Finds a (found_of o give) reads (Ok what.Nothing)
-finds-no_mail a o give reads is = subst (λ (x : Option ℕ). Finds a (found_of x give) reads (Ok what.Nothing)) (sym is) refl
+pub finds-no_mail : (a : Archive) (o : Option ℕ) (give : ℕ → Found) (reads : Bool) → o ≡ None → FindsTarget a (found_of o give) reads (Ok what.Nothing)
+finds-no_mail a o give reads is = subst (λ (x : Option ℕ). FindsTarget a (found_of x give) reads (Ok what.Nothing)) (sym is) refl
 
 -- A page that was made, or none.
-pub finds-page : (a : Archive) (found : Found) (reads : Bool) (held : Held) → MakesPage found (Ok held) → Finds a found reads (Ok held)
+pub finds-page : (a : Archive) (found : Found) (reads : Bool) (held : FoundBody) → MakesPage found (Ok held) → FindsTarget a found reads (Ok held)
 finds-page a found reads (what.Whole body bytes) made = made
 finds-page a found reads what.EveryMail made = absurd made
 finds-page a found reads (what.Mails numbers) made = absurd made
@@ -49,7 +49,7 @@ finds-page a found reads what.Nothing made = made
 finds-page a found reads what.BadRange made = made
 
 -- A text that is needed was not read, while an archive is held.
-pub finds-unread : (a : Archive) (found : Found) (entries : List Entry) (n : ℕ) (old new : List ℕ) (why : TextRefusal) → GivesTextIn entries n old new (Err why) → Finds a found true (Err why)
+pub finds-unread : (a : Archive) (found : Found) (entries : List Entry) (n : ℕ) (old new : List ℕ) (why : TextRefusal) → GivesTextIn entries n old new (Err why) → FindsTarget a found true (Err why)
 finds-unread a found entries n old new refusal.DiskFault given = refl
 finds-unread a found entries n old new (refusal.Damaged named other) given = given
 finds-unread a found entries n old new refusal.NoMemory given = tt
@@ -67,21 +67,21 @@ message-missing a None text is = refl
 message-missing a (Some row) text is = ap (message_found a (Some row)) (no-text text is)
 
 -- The page of a message whose text was read.
-pub finds-message : (a : Archive) (row : Option Row) (text : Option (List ℕ)) (read wanted : List ℕ) (held : Held) → text ≡ Some wanted → read ≡ wanted → MakesPage (message_found a row (Some read)) (Ok held) → Finds a (message_found a row text) true (Ok held)
+pub finds-message : (a : Archive) (row : Option Row) (text : Option (List ℕ)) (read wanted : List ℕ) (held : FoundBody) → text ≡ Some wanted → read ≡ wanted → MakesPage (message_found a row (Some read)) (Ok held) → FindsTarget a (message_found a row text) true (Ok held)
 finds-message a row text read wanted held is same made =
     finds-page a (message_found a row text) true held (subst (λ (o : Option (List ℕ)). MakesPage (message_found a row o) (Ok held)) (ap Some same ∙ sym is) made)
 
 -- A feed of the numbers that are wanted.
-pub finds-feed : (a : Archive) (numbers wanted : List ℕ) (result : Result Held TextRefusal) → numbers ≡ wanted → Finds a (feed_found a numbers) true result → Finds a (feed_found a wanted) true result
-finds-feed a numbers wanted result same found = subst (λ (ns : List ℕ). Finds a (feed_found a ns) true result) same found
+pub finds-feed : (a : Archive) (numbers wanted : List ℕ) (result : Result FoundBody TextRefusal) → numbers ≡ wanted → FindsTarget a (feed_found a numbers) true result → FindsTarget a (feed_found a wanted) true result
+finds-feed a numbers wanted result same found = subst (λ (ns : List ℕ). FindsTarget a (feed_found a ns) true result) same found
 
 -- What is asked by the parameters of a target.
-pub page-asked : (a : Archive) (asked wanted : Option (List ℕ)) (skip skipped : ℕ) (result : Result Held NoMemory) → asked ≡ wanted → skip ≡ skipped → MakesPage (listing_found a asked skip) result → MakesPage (listing_found a wanted skipped) result
+pub page-asked : (a : Archive) (asked wanted : Option (List ℕ)) (skip skipped : ℕ) (result : Result FoundBody NoMemory) → asked ≡ wanted → skip ≡ skipped → MakesPage (listing_found a asked skip) result → MakesPage (listing_found a wanted skipped) result
 page-asked a asked wanted skip skipped result is skips made =
     subst (λ (o : Option (List ℕ)). MakesPage (listing_found a o skipped) result) is (subst (λ (n : ℕ). MakesPage (listing_found a asked n) result) skips made)
 
 -- A search for a text.
-pub page-searched : (a : Archive) (asked : Option (List ℕ)) (text read : List ℕ) (skip : ℕ) (result : Result Held NoMemory) → asked ≡ Some text → read ≡ text → MakesPage (search_found a read skip (query_of read)) result → MakesPage (listing_found a asked skip) result
+pub page-searched : (a : Archive) (asked : Option (List ℕ)) (text read : List ℕ) (skip : ℕ) (result : Result FoundBody NoMemory) → asked ≡ Some text → read ≡ text → MakesPage (search_found a read skip (query_of read)) result → MakesPage (listing_found a asked skip) result
 page-searched a asked text read skip result is same made =
     subst (λ (o : Option (List ℕ)). MakesPage (listing_found a o skip) result) (sym is) (subst (λ (t : List ℕ). MakesPage (search_found a t skip (query_of t)) result) same made)
 
@@ -90,7 +90,7 @@ pub page-listed : (a : Archive) (asked : Option (List ℕ)) (skip : ℕ) (page :
 page-listed a asked skip page is made = ap (λ (o : Option (List ℕ)). listing_found a o skip) is ∙ made
 
 -- The page of a search by what the text was read as.
-pub page-read : (a : Archive) (text : List ℕ) (skip : ℕ) (query : Query) (asked : Option Query) (result : Result Held NoMemory) → asked ≡ Some query → MakesPage (search_found a text skip (Some query)) result → MakesPage (search_found a text skip asked) result
+pub page-read : (a : Archive) (text : List ℕ) (skip : ℕ) (query : Query) (asked : Option Query) (result : Result FoundBody NoMemory) → asked ≡ Some query → MakesPage (search_found a text skip (Some query)) result → MakesPage (search_found a text skip asked) result
 page-read a text skip query asked result is made = subst (λ (o : Option Query). MakesPage (search_found a text skip o) result) (sym is) made
 
 pub page-unread : (a : Archive) (text : List ℕ) (skip : ℕ) (asked : Option Query) → asked ≡ None → search_found a text skip asked ≡ BadRange

@@ -5,7 +5,7 @@ use Rattle.std.proofs.lemmas.Bool.{cases_order}
 use Rattle.std.proofs.lemmas.Bool.Decides.{nat_tests}
 use Rattle.std.proofs.lemmas.List.{length-take, take-append-le, drop-append-le}
 use Rattle.std.proofs.lemmas.Slice.Eq.{bytes_eq-Decides}
-use Rattle.http_front.specs.Fronts.{ends_here, plus_len, head_len, Front, Whole, Long, Partial, sized, front, is_whole}
+use Rattle.http_front.specs.Fronts.{ends_here, plus_len, head_len, HeadFront, Whole, Long, Partial, sized, front, is_whole}
 
 some_is : {X : Type 0} (x y : X) → Some x ≡ Some y → x ≡ y
 some_is x y e = cc
@@ -95,10 +95,10 @@ unfolding front
 front-nil limit some = sized-part limit [] some
 
 -- What is at the front stays there, and more bytes follow it.
-pub data Goes (q : List ℕ) : Front → Front → Type 0 where
+pub data Goes (q : List ℕ) : HeadFront → HeadFront → Type 0 where
   Same : (head rest : List ℕ) → Goes q (Whole head rest) (Whole head (rest ++ q))
   Over : Goes q Long Long
-  Open : (next : Front) → Goes q Partial next
+  Open : (next : HeadFront) → Goes q Partial next
 
 goes-some : (limit : ℕ) (bytes q : List ℕ) (n : ℕ) (t : Bool) → nat_le n limit ≡ t → n ≤ length bytes → Goes q (sized limit bytes (Some n)) (sized limit (bytes ++ q) (Some n))
 goes-some limit bytes q n true h within =
@@ -178,7 +178,7 @@ unfolding front
 front-shorter limit bytes head rest is = shorter-by limit bytes head rest (head_len bytes) refl is
 
 -- A front that isn't answered now is a part of a head.
-pub not_whole : (f : Front) → is_whole f ≡ false → f ≡ Partial
+pub not_whole : (f : HeadFront) → is_whole f ≡ false → f ≡ Partial
 not_whole (Whole head rest) h = absurd (cc h)
 not_whole Long h = absurd (cc h)
 not_whole Partial h = refl

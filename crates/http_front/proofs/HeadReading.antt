@@ -14,7 +14,7 @@ use Rattle.httparse.specs.Grammar.{is_token_byte, is_uri_byte, is_value_byte, Al
 use Rattle.httparse.proofs.GrammarLemmas.{print_request-append, cons-append}
 use Rattle.http_heads.specs.Heads.{IsHead, asked_of}
 use Rattle.http_heads.specs.Pieces.{pieces_of}
-use Rattle.http_front.specs.Asking.{IsReading}
+use Rattle.http_front.specs.Asking.{IsHeadReading}
 use Rattle.http_front.specs.Reading.{is_return, content, ending, is_empty, ends_before, lines_after, first_piece, field_named, field_by, fields_in, last_in, minor_of, head_by, head_from, head_in, is_field, is_valid, is_head, asked_if, asked_in}
 
 -- Bytes among which one doesn't stand.
@@ -313,7 +313,7 @@ some-asked bytes head is =
     ∙ ap (asked_if bytes) (head-read head is.reads.0)
     ∙ ap (λ (t : Bool). if t then Some (asked_of head) else None) (is-head bytes head is)
 
-pub reads-heads : IsReading asked_in
+pub reads-heads : IsHeadReading asked_in
 unfolding asked_in
 reads-heads = record {
   head = λ bytes head is. some-asked bytes head is;

@@ -8,7 +8,7 @@ use Rattle.arch_model.specs.Rows.{row_of}
 use Rattle.mail_forms.specs.Mailboxes.{mbox_of, quoted, separator}
 use Rattle.mail_reader.specs.Lines.{lines_of}
 use Rattle.mail_forms.specs.declared.row.Row.{Row}
-use Rattle.http_front.specs.Views.{is_number, one_row, shown_row, shown_text, text_at, IsNext}
+use Rattle.http_front.specs.Views.{is_number, one_row, shown_row, shown_text, text_at, IsNextLive}
 use Rattle.http_front.specs.Mailboxes.{piece_by, piece_at, mailbox_at, pieces_from, whole_mailbox}
 
 -- A number has a row exactly if it has a text, and the row tells the length of the text's piece.
@@ -82,7 +82,7 @@ skip entries low (suc gap) count none =
     ∙ ap (λ (k : ℕ). pieces_from entries k count) here
 
 -- The next live number, and the pieces after its own.
-pub pieces-next : (entries : List Entry) (low n : ℕ) → n < 4294967296 → IsNext entries low (Some n) → pieces_left entries low ≡ piece_at entries n ++ pieces_left entries (n + 1)
+pub pieces-next : (entries : List Entry) (low n : ℕ) → n < 4294967296 → IsNextLive entries low (Some n) → pieces_left entries low ≡ piece_at entries n ++ pieces_left entries (n + 1)
 unfolding pieces_left
 pieces-next entries low n small next =
     let gap : 4294967296 - low ≡ (n - low) + suc (4294967296 - (n + 1)) = omega (arith, small, next.0) in
@@ -92,7 +92,7 @@ pieces-next entries low n small next =
     ∙ ap (λ (k : ℕ). pieces_from entries k (suc (4294967296 - (n + 1)))) here
 
 -- Without one, no piece is left.
-pub pieces-none : (entries : List Entry) (low : ℕ) → IsNext entries low None → pieces_left entries low ≡ []
+pub pieces-none : (entries : List Entry) (low : ℕ) → IsNextLive entries low None → pieces_left entries low ≡ []
 unfolding pieces_left
 pieces-none entries low none =
     let size : 4294967296 - low ≡ (4294967296 - low) + 0 = omega arith in
@@ -106,12 +106,12 @@ pub mailbox-none : (entries : List Entry) (numbers : List ℕ) (i : ℕ) → len
 mailbox-none entries numbers i past = ap (mailbox_at entries) (drop_all i numbers past)
 
 -- One more piece of all: its length, and what is left.
-pub len-more : (entries : List Entry) (low n len size all : ℕ) → n < 4294967296 → IsNext entries low (Some n) → len + length (pieces_left entries low) ≡ all → size ≡ length (piece_at entries n) → (len + size) + length (pieces_left entries (n + 1)) ≡ all
+pub len-more : (entries : List Entry) (low n len size all : ℕ) → n < 4294967296 → IsNextLive entries low (Some n) → len + length (pieces_left entries low) ≡ all → size ≡ length (piece_at entries n) → (len + size) + length (pieces_left entries (n + 1)) ≡ all
 len-more entries low n len size all small next before told =
     let cut : length (pieces_left entries low) ≡ length (piece_at entries n) + length (pieces_left entries (n + 1)) = ap length (pieces-next entries low n small next) ∙ length-append (piece_at entries n) (pieces_left entries (n + 1)) in
     omega (arith, before, told, cut)
 
-pub len-none : (entries : List Entry) (low len all : ℕ) → IsNext entries low None → len + length (pieces_left entries low) ≡ all → len ≡ all
+pub len-none : (entries : List Entry) (low len all : ℕ) → IsNextLive entries low None → len + length (pieces_left entries low) ≡ all → len ≡ all
 len-none entries low len all none before = let over : length (pieces_left entries low) ≡ 0 = ap length (pieces-none entries low none) in omega (arith, before, over)
 
 -- One more piece of these numbers, and none.

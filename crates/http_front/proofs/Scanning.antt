@@ -5,7 +5,7 @@ use Rattle.std.proofs.lemmas.Bool.{eqb-true, eqb-false, ne_eqb}
 use Rattle.std.proofs.lemmas.Bool.Decides.{nat_tests}
 use Rattle.std.proofs.lemmas.List.{length-take-le, take-append-drop}
 use Rattle.http_front.specs.Fronts.{ends_here, plus_len, head_len, Whole, Long, Partial, sized, front}
-use Rattle.http_front.specs.Scans.{next_seen, scan_by, scan, seen_by, seen_after, IsHeld}
+use Rattle.http_front.specs.Scans.{next_seen, scan_by, scan, seen_by, seen_after, IsHeldHead}
 use Rattle.http_front.specs.declared.scan.Seen.{Seen}
 use Rattle.http_front.specs.declared.scan.Seen.TheVariants.{Nothing, Return, Line, LineReturn}
 use Rattle.http_front.proofs.Fronts.{len_by, head_len-cons, head_len-later, sized-whole, sized-over, sized-part, sized-long}
@@ -213,7 +213,7 @@ pub part-is : (limit : ℕ) (bytes : List ℕ) → front limit bytes ≡ Partial
 unfolding front
 part-is limit bytes e = part-of limit bytes (head_len bytes) refl e
 
-module _ (limit : ℕ) (held : List ℕ) (seen : Seen) (piece : List ℕ) (is : IsHeld limit held seen) where
+module _ (limit : ℕ) (held : List ℕ) (seen : Seen) (piece : List ℕ) (is : IsHeldHead limit held seen) where
   none : scan Nothing held ≡ None
   none = sym (head_len-is held) ∙ (part-is limit held is.part).0
 
@@ -237,7 +237,7 @@ module _ (limit : ℕ) (held : List ℕ) (seen : Seen) (piece : List ℕ) (is : 
       )
 
   -- The piece doesn't end the head, which isn't too long.
-  pub still_part : scan seen piece ≡ None → length held + length piece < limit → IsHeld limit (held ++ piece) (seen_after seen piece)
+  pub still_part : scan seen piece ≡ None → length held + length piece < limit → IsHeldHead limit (held ++ piece) (seen_after seen piece)
   unfolding front
   still_part found short = record {
     part = ap (sized limit (held ++ piece)) (joined ∙ ap (plus_len (length held)) found) ∙ sized-part limit (held ++ piece) (omega (arith, length-append held piece, short));

@@ -6,7 +6,7 @@ use Rattle.arch_base.specs.Counts.{Rose}
 use Rattle.edge_io.specs.Phrases.{Says}
 use Rattle.edge_io.specs.declared.sink.SinkFault.{SinkFault}
 use Rattle.edge_io.proofs.Wording.{plus-none, Says-then}
-use Rattle.line_door.specs.Acts.{Outside, Way, Plain, Memory, Disk, Newer, Acts, held_if}
+use Rattle.line_door.specs.Acts.{ConnectionState, Departure, Plain, Memory, Disk, Newer, Acts, held_if}
 use Rattle.line_door.specs.Making.{closes}
 use Rattle.line_door.proofs.Acting.{acts-closing, acts-words}
 use Rattle.line_door.proofs.Streaming.{acts-short, acts-cut_off}
@@ -22,14 +22,14 @@ use Rattle.http_front.specs.Door.{replies}
 use Rattle.http_front.specs.Sessions.{SaysThen, SaysStopped, said_stream, said_mailbox}
 use Rattle.http_front.specs.Views.{shown_text, text_at}
 use Rattle.http_front.specs.Mailboxes.{piece_by, piece_at}
-use Rattle.http_front.specs.Streaming.{Stops, IsAdded, IsSaid, IsLost, IsPart}
+use Rattle.http_front.specs.Streaming.{StopsStream, IsAdded, IsSaid, IsLost, StreamsPart}
 use Rattle.http_front.specs.declared.mailbox.Part.{Part}
 use Rattle.http_front.specs.declared.mailbox.Part.TheVariants as part
 use Rattle.http_front.proofs.Acting.{acts-replied}
 
 -- Of all words some were said, these are still to be said, and others are left. `begun` tells whether
 -- any were said. The disk didn't fail.
-pub record SoFar (all unsaid left : List ℕ) (begun : Bool) (i j : Outside) : Type 0 where
+pub record SoFar (all unsaid left : List ℕ) (begun : Bool) (i j : ConnectionState) : Type 0 where
   pub front : List ℕ
   pub joined : all ≡ front ++ (unsaid ++ left)
   pub says : Says front i.out i.lost j.out j.lost (Ok tt)
@@ -38,15 +38,15 @@ pub record SoFar (all unsaid left : List ℕ) (begun : Bool) (i j : Outside) : T
   pub kept : j.disk ≡ i.disk
 
 -- Nothing was said yet.
-pub sofar-none : (all unsaid left : List ℕ) (i : Outside) → all ≡ unsaid ++ left → SoFar all unsaid left false i i
+pub sofar-none : (all unsaid left : List ℕ) (i : ConnectionState) → all ≡ unsaid ++ left → SoFar all unsaid left false i i
 sofar-none all unsaid left i is = record { front = []; joined = is; says = (refl, plus-none i.out); some = λ unsent. absurd (cc unsent); none = λ unsent. refl; kept = refl }
 
-module _ (all unsaid left piece more : List ℕ) (begun : Bool) (i j : Outside) (before : SoFar all unsaid left begun i j) (is : left ≡ piece ++ more) where
+module _ (all unsaid left piece more : List ℕ) (begun : Bool) (i j : ConnectionState) (before : SoFar all unsaid left begun i j) (is : left ≡ piece ++ more) where
   -- All words, where the next piece is taken apart.
   pub parted : all ≡ before.front ++ ((unsaid ++ piece) ++ more)
   parted = before.joined ∙ ap (λ (w : List ℕ). before.front ++ (unsaid ++ w)) is ∙ ap (λ (w : List ℕ). before.front ++ w) (sym (append_assoc unsaid piece more))
 
-  sofar-added : (new : List ℕ) (k : Outside) → IsAdded piece unsaid new j k → SoFar all new more begun i k
+  sofar-added : (new : List ℕ) (k : ConnectionState) → IsAdded piece unsaid new j k → SoFar all new more begun i k
   sofar-added new k put = record {
     front = before.front;
     joined = parted ∙ ap (λ (w : List ℕ). before.front ++ (w ++ more)) (sym put.added);
@@ -56,7 +56,7 @@ module _ (all unsaid left piece more : List ℕ) (begun : Bool) (i j : Outside) 
     kept = put.disk ∙ before.kept;
   }
 
-  sofar-said : (new : List ℕ) (k : Outside) → IsSaid piece unsaid new j k → SoFar all new more true i k
+  sofar-said : (new : List ℕ) (k : ConnectionState) → IsSaid piece unsaid new j k → SoFar all new more true i k
   sofar-said new k said = record {
     front = before.front ++ (unsaid ++ piece);
     joined = parted ∙ sym (append_assoc before.front (unsaid ++ piece) more) ∙ ap (λ (w : List ℕ). (before.front ++ (unsaid ++ piece)) ++ (w ++ more)) (sym said.none);
@@ -67,13 +67,13 @@ module _ (all unsaid left piece more : List ℕ) (begun : Bool) (i j : Outside) 
   }
 
   -- The next piece is to be said after these words, or it was said with them.
-  pub sofar-put : (after : Bool) (new : List ℕ) (k : Outside) → IsPart piece begun unsaid j (part.Put after) new k → SoFar all new more after i k
+  pub sofar-put : (after : Bool) (new : List ℕ) (k : ConnectionState) → StreamsPart piece begun unsaid j (part.Put after) new k → SoFar all new more after i k
   sofar-put after new k (inl put) = subst (λ (b : Bool). SoFar all new more b i k) (sym put.0) (sofar-added new k put.1)
   sofar-put after new k (inr said) = subst (λ (b : Bool). SoFar all new more b i k) (sym said.0) (sofar-said new k said.1)
 
 module _ (moment : ℕ) (a : Archive) (ends : Bool) (rest all : List ℕ) where
   -- All was said, or the last words were lost.
-  pub streams-end : (unsaid left : List ℕ) (begun : Bool) (i j k : Outside) (goes : Bool) → SoFar all unsaid left begun i j → left ≡ [] → k.disk ≡ j.disk → SaysThen unsaid ends j.out j.lost k.out k.lost goes → Acts (said_stream moment a ends rest all) i (held_if goes rest) a k
+  pub streams-end : (unsaid left : List ℕ) (begun : Bool) (i j k : ConnectionState) (goes : Bool) → SoFar all unsaid left begun i j → left ≡ [] → k.disk ≡ j.disk → SaysThen unsaid ends j.out j.lost k.out k.lost goes → Acts (said_stream moment a ends rest all) i (held_if goes rest) a k
   streams-end unsaid left begun i j k goes before none kept said =
       let whole : all ≡ before.front ++ unsaid = before.joined ∙ ap (λ (w : List ℕ). before.front ++ (unsaid ++ w)) none ∙ ap (λ (w : List ℕ). before.front ++ w) (append-nil unsaid) in
       acts-replied (said_stream moment a ends rest all) Plain a rest ends true all i k goes refl refl (kept ∙ before.kept) (record {
@@ -82,17 +82,17 @@ module _ (moment : ℕ) (a : Archive) (ends : Bool) (rest all : List ℕ) where
         next = said.next;
       })
 
-  module _ (unsaid left piece more : List ℕ) (begun : Bool) (i j : Outside) (before : SoFar all unsaid left begun i j) (is : left ≡ piece ++ more) where
+  module _ (unsaid left piece more : List ℕ) (begun : Bool) (i j : ConnectionState) (before : SoFar all unsaid left begun i j) (is : left ≡ piece ++ more) where
     apart : all ≡ before.front ++ ((unsaid ++ piece) ++ more)
     apart = parted all unsaid left piece more begun i j before is
 
     -- A part was lost.
-    pub streams-lost : (k : Outside) → IsLost piece unsaid j k → Acts (said_stream moment a ends rest all) i None a k
+    pub streams-lost : (k : ConnectionState) → IsLost piece unsaid j k → Acts (said_stream moment a ends rest all) i None a k
     streams-lost k lost =
         acts-cut_off (said_stream moment a ends rest all) Plain (replies a rest ends true all) before.front (unsaid ++ piece) more i j k a lost.fault refl (apart ∙ sym (append_assoc before.front (unsaid ++ piece) more)) (lost.disk ∙ before.kept) (omega (arith, before.kept, lost.disk)) before.says lost.says refl
 
     -- A text wasn't read, and the reply stopped, or it was said why.
-    pub streams-stopped : (why : TextRefusal) (new : List ℕ) (k l : Outside) → Stops piece unsaid new j why k → l.disk ≡ k.disk → SaysStopped begun why moment k.out k.lost l.out l.lost → Acts (said_stream moment a ends rest all) i None a l
+    pub streams-stopped : (why : TextRefusal) (new : List ℕ) (k l : ConnectionState) → StopsStream piece unsaid new j why k → l.disk ≡ k.disk → SaysStopped begun why moment k.out k.lost l.out l.lost → Acts (said_stream moment a ends rest all) i None a l
     streams-stopped why new k l stops same said = by begun refl said
       where
         cause : (w : TextRefusal) → IsUndamaged w → ReadingWhy j.disk k.disk w → Rose i.disk l.disk ⊎ (l.disk ≡ i.disk)
@@ -131,7 +131,7 @@ said-as v w out out' end lost lost' last same outs losts sent says =
     subst (λ (x : List ℕ). Says x out lost end last sent) same (subst (λ (o : Option (List ℕ)). Says v o lost end last sent) outs (subst (λ (l : ℕ). Says v out' l end last sent) losts says))
 
 -- After a piece was put after the words that are to be said, these are said if they are long.
-pub part-long : (piece : List ℕ) (begun : Bool) (old mid new : List ℕ) (i j k : Outside) (p : Part) → mid ≡ old ++ piece → j.out ≡ i.out → j.lost ≡ i.lost → j.disk ≡ i.disk → IsPart [] begun mid j p new k → IsPart piece begun old i p new k
+pub part-long : (piece : List ℕ) (begun : Bool) (old mid new : List ℕ) (i j k : ConnectionState) (p : Part) → mid ≡ old ++ piece → j.out ≡ i.out → j.lost ≡ i.lost → j.disk ≡ i.disk → StreamsPart [] begun mid j p new k → StreamsPart piece begun old i p new k
 part-long piece begun old mid new i j k (part.Put after) put outs losts disks (inl more) =
     inl (more.0, record { added = more.1.added ∙ append-nil mid ∙ put; out = more.1.out ∙ outs; lost = more.1.lost ∙ losts; disk = more.1.disk ∙ disks })
 part-long piece begun old mid new i j k (part.Put after) put outs losts disks (inr said) =
@@ -143,44 +143,44 @@ part-long piece begun old mid new i j k part.Lost put outs losts disks lost_all 
 part-long piece begun old mid new i j k (part.Unread why) put outs losts disks never = absurd (omega (arith, never.some))
 
 -- Few words wait; many are said, or lost.
-pub long-waits : (begun : Bool) (old : List ℕ) (i : Outside) → IsPart [] begun old i (part.Put begun) old i
+pub long-waits : (begun : Bool) (old : List ℕ) (i : ConnectionState) → StreamsPart [] begun old i (part.Put begun) old i
 long-waits begun old i = inl (refl, record { added = sym (append-nil old); out = refl; lost = refl; disk = refl })
 
-pub long-said : (begun : Bool) (old new : List ℕ) (i j : Outside) → new ≡ [] → 0 < length old → Says old i.out i.lost j.out j.lost (Ok tt) → j.disk ≡ i.disk → IsPart [] begun old i (part.Put true) new j
+pub long-said : (begun : Bool) (old new : List ℕ) (i j : ConnectionState) → new ≡ [] → 0 < length old → Says old i.out i.lost j.out j.lost (Ok tt) → j.disk ≡ i.disk → StreamsPart [] begun old i (part.Put true) new j
 long-said begun old new i j none some says same =
     inr (refl, record { none = none; some = subst (λ (w : List ℕ). 0 < length w) (sym (append-nil old)) some; says = said-as old (old ++ []) i.out i.out j.out i.lost i.lost j.lost (sym (append-nil old)) refl refl (Ok tt) says; disk = same })
 
-pub long-lost : (begun : Bool) (old new : List ℕ) (i j : Outside) (fault : SinkFault) → Says old i.out i.lost j.out j.lost (Err fault) → j.disk ≡ i.disk → IsPart [] begun old i part.Lost new j
+pub long-lost : (begun : Bool) (old new : List ℕ) (i j : ConnectionState) (fault : SinkFault) → Says old i.out i.lost j.out j.lost (Err fault) → j.disk ≡ i.disk → StreamsPart [] begun old i part.Lost new j
 long-lost begun old new i j fault says same = record { fault = fault; says = said-as old (old ++ []) i.out i.out j.out i.lost i.lost j.lost (sym (append-nil old)) refl refl (Err fault) says; disk = same }
 
 -- The piece of a live number, and that of one that isn't live.
-pub part-at : (entries : List Entry) (n found : ℕ) (begun : Bool) (old : List ℕ) (i : Outside) (p : Part) (new : List ℕ) (k : Outside) → found ≡ n → text_at entries n ≡ shown_text entries n → IsPart (piece_by (shown_text entries found)) begun old i p new k → IsPart (piece_at entries n) begun old i p new k
-part-at entries n found begun old i p new k same text is = subst (λ (t : Option (List ℕ)). IsPart (piece_by t) begun old i p new k) (ap (shown_text entries) same ∙ sym text) is
+pub part-at : (entries : List Entry) (n found : ℕ) (begun : Bool) (old : List ℕ) (i : ConnectionState) (p : Part) (new : List ℕ) (k : ConnectionState) → found ≡ n → text_at entries n ≡ shown_text entries n → StreamsPart (piece_by (shown_text entries found)) begun old i p new k → StreamsPart (piece_at entries n) begun old i p new k
+part-at entries n found begun old i p new k same text is = subst (λ (t : Option (List ℕ)). StreamsPart (piece_by t) begun old i p new k) (ap (shown_text entries) same ∙ sym text) is
 
-pub part-none : (entries : List Entry) (n : ℕ) (begun : Bool) (old : List ℕ) (i : Outside) → text_at entries n ≡ None → IsPart (piece_at entries n) begun old i (part.Put begun) old i
+pub part-none : (entries : List Entry) (n : ℕ) (begun : Bool) (old : List ℕ) (i : ConnectionState) → text_at entries n ≡ None → StreamsPart (piece_at entries n) begun old i (part.Put begun) old i
 part-none entries n begun old i none = inl (refl, record { added = sym (append-nil old) ∙ ap (λ (t : Option (List ℕ)). old ++ piece_by t) (sym none); out = refl; lost = refl; disk = refl })
 
 module _ (moment : ℕ) (a : Archive) (ends : Bool) (rest bytes : List ℕ) where
   -- The reply with a mailbox file, by its words.
-  pub mailbox-sent : (words : List ℕ) (i : Outside) (held : Option (List ℕ)) (j : Outside) → words ≡ reply Done moment Mailbox bytes true ends → Acts (said_stream moment a ends rest words) i held a j → Acts (said_mailbox moment a true ends rest bytes) i held a j
+  pub mailbox-sent : (words : List ℕ) (i : ConnectionState) (held : Option (List ℕ)) (j : ConnectionState) → words ≡ reply Done moment Mailbox bytes true ends → Acts (said_stream moment a ends rest words) i held a j → Acts (said_mailbox moment a true ends rest bytes) i held a j
   mailbox-sent words i held j is acts = acts-words (said_mailbox moment a true ends rest bytes) (said_stream moment a ends rest words) i held a j same acts
     where
       plain : replies a rest ends true (reply Done moment Mailbox bytes true ends) ≡ replies a rest ends true words
       plain = ap (λ (w : List ℕ). replies a rest ends true w) (sym is)
 
-      same : (way : Way) → said_mailbox moment a true ends rest bytes way ≡ said_stream moment a ends rest words way
+      same : (way : Departure) → said_mailbox moment a true ends rest bytes way ≡ said_stream moment a ends rest words way
       same Plain = plain
       same Memory = refl
       same Disk = refl
       same Newer = plain
 
   -- The head alone.
-  pub mailbox-head : (words : List ℕ) (i j : Outside) (goes : Bool) → words ≡ reply Done moment Mailbox bytes false ends → j.disk ≡ i.disk → SaysThen words ends i.out i.lost j.out j.lost goes → Acts (said_mailbox moment a false ends rest bytes) i (held_if goes rest) a j
+  pub mailbox-head : (words : List ℕ) (i j : ConnectionState) (goes : Bool) → words ≡ reply Done moment Mailbox bytes false ends → j.disk ≡ i.disk → SaysThen words ends i.out i.lost j.out j.lost goes → Acts (said_mailbox moment a false ends rest bytes) i (held_if goes rest) a j
   mailbox-head words i j goes is kept said =
       acts-replied (said_mailbox moment a false ends rest bytes) Plain a rest ends false words i j goes (ap (λ (w : List ℕ). replies a rest ends false w) (sym is)) refl kept said
 
   -- Out of memory for the head.
-  pub mailbox-memory : (sends : Bool) (i j : Outside) (sent : Result Unit SinkFault) → j.disk ≡ i.disk → Says (word Unavailable moment sends true) i.out i.lost j.out j.lost sent → Acts (said_mailbox moment a sends ends rest bytes) i None a j
+  pub mailbox-memory : (sends : Bool) (i j : ConnectionState) (sent : Result Unit SinkFault) → j.disk ≡ i.disk → Says (word Unavailable moment sends true) i.out i.lost j.out j.lost sent → Acts (said_mailbox moment a sends ends rest bytes) i None a j
   mailbox-memory sends i j sent kept words =
       acts-closing (said_mailbox moment a sends ends rest bytes) Memory (closes a (word Unavailable moment sends true)) i j a sent refl refl kept (omega (arith, kept)) words refl
 
@@ -193,10 +193,10 @@ reply-head_words moment bytes unsaid len ends is size = is ∙ ap (λ (n : ℕ).
 
 module _ (moment : ℕ) (a : Archive) (sends ends : Bool) (rest bytes head : List ℕ) (len : ℕ) (is : head ≡ reply_head Done moment Mailbox len ends) (size : len ≡ length bytes) where
   -- After its head the reply has its body, or it is the head alone.
-  pub serves-body : (i : Outside) (held : Option (List ℕ)) (j : Outside) → sends ≡ true → Acts (said_stream moment a ends rest (head ++ bytes)) i held a j → Acts (said_mailbox moment a sends ends rest bytes) i held a j
+  pub serves-body : (i : ConnectionState) (held : Option (List ℕ)) (j : ConnectionState) → sends ≡ true → Acts (said_stream moment a ends rest (head ++ bytes)) i held a j → Acts (said_mailbox moment a sends ends rest bytes) i held a j
   serves-body i held j sent acts =
       subst (λ (b : Bool). Acts (said_mailbox moment a b ends rest bytes) i held a j) (sym sent) (mailbox-sent moment a ends rest bytes (head ++ bytes) i held j (reply-words moment bytes head len ends is size) acts)
 
-  pub serves-head : (i j : Outside) (goes : Bool) → sends ≡ false → j.disk ≡ i.disk → SaysThen head ends i.out i.lost j.out j.lost goes → Acts (said_mailbox moment a sends ends rest bytes) i (held_if goes rest) a j
+  pub serves-head : (i j : ConnectionState) (goes : Bool) → sends ≡ false → j.disk ≡ i.disk → SaysThen head ends i.out i.lost j.out j.lost goes → Acts (said_mailbox moment a sends ends rest bytes) i (held_if goes rest) a j
   serves-head i j goes alone kept said =
       subst (λ (b : Bool). Acts (said_mailbox moment a b ends rest bytes) i (held_if goes rest) a j) (sym alone) (mailbox-head moment a ends rest bytes head i j goes (reply-head_words moment bytes head len ends is size) kept said)

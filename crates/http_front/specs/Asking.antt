@@ -24,11 +24,11 @@ use Rattle.http_front.specs.Mailboxes.{mailbox_at, whole_mailbox}
 
 -- How heads are read: what a head asks, or nothing for what is no head. It is a grammar, so it is given
 -- as a function.
-abbrev pub Reading : Type 0
-Reading = List ℕ → Option Asked
+abbrev pub HeadGrammar : Type 0
+HeadGrammar = List ℕ → Option Asked
 
 -- The reading is that of the grammar.
-pub record IsReading (reading : Reading) : Type 0 where
+pub record IsHeadReading (reading : HeadGrammar) : Type 0 where
   pub head : (bytes : List ℕ) (head : RequestHead) → IsHead bytes head
       → reading bytes ≡ Some (asked_of head)
   pub none : (bytes : List ℕ) → ((head : RequestHead) → IsHead bytes head → ⊥)

@@ -8,7 +8,7 @@ use Rattle.http_heads.specs.Parameters.{path_of}
 use Rattle.http_heads.specs.Replies.{verdict_of}
 use Rattle.http_heads.specs.declared.reply.Verdict.{Verdict}
 use Rattle.http_heads.specs.declared.reply.Verdict.TheVariants.{Serve, Refuse}
-use Rattle.http_front.specs.Fronts.{Front, Whole, Long, Partial, front, head_limit}
+use Rattle.http_front.specs.Fronts.{HeadFront, Whole, Long, Partial, front, head_limit}
 use Rattle.http_front.specs.Asking.{target_reads, target_texts}
 use Rattle.http_front.specs.Threads.{thread_rows, oldest_first}
 use Rattle.http_front.specs.Views.{number_named}
@@ -69,7 +69,7 @@ goes_on None = false
 goes_on (Some asked) = verdict_goes_on asked (verdict_of (Some asked))
 
 -- What the head at the front asks, and what more heads after it ask.
-abbrev pub asked_at : (List ℕ → List (Option Asked)) → Front → List (Option Asked)
+abbrev pub asked_at : (List ℕ → List (Option Asked)) → HeadFront → List (Option Asked)
 asked_at more (Whole head rest) = asked_in head ∷ (if goes_on (asked_in head) then more rest else [])
 asked_at more Long = []
 asked_at more Partial = []

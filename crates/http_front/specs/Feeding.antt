@@ -1,4 +1,4 @@
--- Results of the code that makes a feed.
+-- Private: results of the code that makes a feed.
 use Rattle.std.specs.Prelude.{◌≡◌, ℕ, max, nat_le, List, [], ◌∷◌, ◌++◌, Option, Some, None, Result, Ok, Err, if◌then◌else◌}
 use Rattle.arch_base.specs.Moments.{last_moment}
 use Rattle.arch_model.specs.Shelves.{IsUndamaged}
@@ -7,9 +7,9 @@ use Rattle.atom_mbox.specs.declared.feeds.Shown.{Shown}
 use Rattle.mail_forms.specs.declared.row.Row.{Row}
 
 -- These words were appended, or memory ran out, or the disk failed.
-abbrev pub Appends : List ℕ → List ℕ → List ℕ → Result Unit TextRefusal → Type 0
-Appends words old new (Ok done) = new ≡ old ++ words
-Appends words old new (Err refusal) = IsUndamaged refusal
+abbrev pub AppendsOrRefuses : List ℕ → List ℕ → List ℕ → Result Unit TextRefusal → Type 0
+AppendsOrRefuses words old new (Ok done) = new ≡ old ++ words
+AppendsOrRefuses words old new (Err refusal) = IsUndamaged refusal
 
 -- When the mail of a row arrived, if that is a moment.
 abbrev pub arrival_of : Row → Option ℕ

@@ -17,18 +17,18 @@ head_len [] = None
 head_len (b ∷ bs) = if ends_here (b ∷ bs) then Some 4 else plus_len 1 (head_len bs)
 
 -- A whole head and the bytes after it; or a head that is too long; or a part of a head.
-pub data Front : Type 0 where
-  Whole : List ℕ → List ℕ → Front
-  Long : Front
-  Partial : Front
+pub data HeadFront : Type 0 where
+  Whole : List ℕ → List ℕ → HeadFront
+  Long : HeadFront
+  Partial : HeadFront
 
 -- A head has at most `limit` bytes with its empty line. `limit` bytes without one are too many.
-abbrev pub sized : ℕ → List ℕ → Option ℕ → Front
+abbrev pub sized : ℕ → List ℕ → Option ℕ → HeadFront
 sized limit bytes None = if nat_lt (length bytes) limit then Partial else Long
 sized limit bytes (Some len) = if nat_le len limit then Whole (take len bytes) (drop len bytes) else Long
 
 -- The head at the front of these bytes.
-unfoldable pub front : ℕ → List ℕ → Front
+unfoldable pub front : ℕ → List ℕ → HeadFront
 front limit bytes = sized limit bytes (head_len bytes)
 
 -- The greatest length of a head with its empty line.
@@ -36,7 +36,7 @@ abbrev pub head_limit : ℕ
 head_limit = 16384
 
 -- The front is a whole head or one that is too long, and so is answered now.
-abbrev pub is_whole : Front → Bool
+abbrev pub is_whole : HeadFront → Bool
 is_whole (Whole head rest) = true
 is_whole Long = true
 is_whole Partial = false

@@ -10,6 +10,6 @@ pub mod Replies
 pub mod Door
 pub mod Counting
 pub mod Sessions
+pub mod Laws
 pub mod Feeding
 pub mod Streaming
-pub mod Laws

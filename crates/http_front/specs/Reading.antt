@@ -5,7 +5,7 @@ use Rattle.std.specs.Str.{bytes_eq, is_utf8}
 use Rattle.httparse.specs.Grammar.{is_token, is_uri_byte, is_value_byte, LineEnd, crlf, lf, Field, RequestHead, print_request}
 use Rattle.http_heads.specs.Heads.{Asked, asked_of}
 use Rattle.http_heads.specs.Pieces.{pieces_of}
-use Rattle.http_front.specs.Asking.{Reading}
+use Rattle.http_front.specs.Asking.{HeadGrammar}
 
 -- The byte is a carriage return.
 abbrev pub is_return : ℕ → Bool
@@ -112,5 +112,5 @@ asked_if bytes (Some head) = if is_head bytes head then Some (asked_of head) els
 
 -- What the head of these bytes asks. The bytes are divided into lines, and the lines into the parts of
 -- a head, without a look at what they are. They are a head if it is valid and printed as these bytes.
-unfoldable pub asked_in : Reading
+unfoldable pub asked_in : HeadGrammar
 asked_in bytes = asked_if bytes (head_in (pieces_of 10 bytes))

@@ -38,14 +38,14 @@ seen_after seen [] = seen
 seen_after seen (b ∷ bs) = seen_by (next_seen seen b) (λ (after : Seen). seen_after after bs)
 
 -- What is held is a part of a head, and this is what is seen of its end.
-pub record IsHeld (limit : ℕ) (held : List ℕ) (seen : Seen) : Type 0 where
+pub record IsHeldHead (limit : ℕ) (held : List ℕ) (seen : Seen) : Type 0 where
   pub part : front limit held ≡ Partial
   pub mark : seen ≡ seen_after Nothing held
 
 -- How a piece continues a part of a head: the head ends within the piece, or it is too long, or it
 -- is still a part.
-abbrev pub IsAhead : ℕ → List ℕ → List ℕ → Ahead → Type 0
-IsAhead limit held piece (ahead.Head n) = (0 < n) × (n ≤ length piece) × (length held + n ≤ limit)
+abbrev pub IsHeadAhead : ℕ → List ℕ → List ℕ → Ahead → Type 0
+IsHeadAhead limit held piece (ahead.Head n) = (0 < n) × (n ≤ length piece) × (length held + n ≤ limit)
     × (front limit (held ++ piece) ≡ Whole (held ++ take n piece) (drop n piece))
-IsAhead limit held piece ahead.Long = front limit (held ++ piece) ≡ Long
-IsAhead limit held piece (ahead.More seen) = IsHeld limit (held ++ piece) seen
+IsHeadAhead limit held piece ahead.Long = front limit (held ++ piece) ≡ Long
+IsHeadAhead limit held piece (ahead.More seen) = IsHeldHead limit (held ++ piece) seen

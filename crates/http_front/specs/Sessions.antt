@@ -1,6 +1,6 @@
 -- The acts of the code are acts of a session.
 use Rattle.std.specs.Prelude.{◌≡◌, ◌<◌, ◌≤◌, ◌⊎◌, ◌&&◌, not, is_ok, ℕ, Bool, true, false, List, ◌++◌, length, take, drop, reverse, Option, Some, None, Result, Ok, Err, IfOk}
-use Rattle.line_door.specs.Acts.{Outside, Way, Acts, held_if}
+use Rattle.line_door.specs.Acts.{ConnectionState, Departure, Acts, held_if}
 use Rattle.line_door.specs.Making as door
 use Rattle.line_door.specs.Making.{in_ways}
 use Rattle.line_door.specs.Course.{talk, Fed}
@@ -19,47 +19,48 @@ use Rattle.http_front.specs.Views.{shown_row, shown_text}
 use Rattle.http_front.specs.Threads.{thread_rows, oldest_first}
 use Rattle.http_front.specs.Asking.{Found, Gives, Streams, Missing, BadRange, message_found, text_found, thread_found, feed_found, feed_len}
 use Rattle.http_front.specs.Counting.{thread_len, head_texts, texts_for_bytes, bytes_read_nothing}
-use Rattle.http_front.specs.Door.{Says as SaysAct, replies, said_found, said, said_head, said_asked, has_request}
+use Rattle.http_front.specs.Door.{PageSays as SaysAct, replies, said_found, said, said_head, said_asked, has_request}
 use Rattle.http_front.specs.Mailboxes.{mailbox_at, whole_mailbox}
 use Rattle.http_front.specs.Replies.{reply, word, word_of, damaged_line}
-use Rattle.http_front.specs.declared.session.Turn.{Turn}
-use Rattle.http_front.specs.declared.session.Turn.TheVariants.{Went, Kept, Closed}
-use Rattle.http_front.specs.declared.found.Held.{Held}
-use Rattle.http_front.specs.declared.found.Held.TheVariants as what
+use Rattle.http_front.specs.declared.session.Act.{Act}
+use Rattle.http_front.specs.declared.session.Act.TheVariants.{Went, Kept, Closed}
+use Rattle.http_front.specs.declared.found.FoundBody.{FoundBody}
+use Rattle.http_front.specs.declared.found.FoundBody.TheVariants as what
 use Rattle.http_front.specs.declared.found.Form.{Form}
 use Rattle.http_front.specs.declared.found.Form.TheVariants as form
 use Rattle.http_front.specs.Reading.{asked_in}
 
 -- One act on the bytes at the front: a request that took `n` bytes of the piece and left the session
 -- open, or the keeping of the piece, or the close.
-abbrev pub IsTurn : ℕ → Archive → List ℕ → List ℕ → Outside → Turn → List ℕ → Outside → Type 0
-IsTurn moment a old piece i (Went n) new j =
+abbrev pub IsPageAct : ℕ → Archive → List ℕ → List ℕ → ConnectionState → Act → List ℕ
+    → ConnectionState → Type 0
+IsPageAct moment a old piece i (Went n) new j =
     (has_request (old ++ piece) ≡ true)
     × Acts (said moment a (old ++ piece)) i (Some (new ++ drop n piece)) a j
-IsTurn moment a old piece i Kept new j =
+IsPageAct moment a old piece i Kept new j =
     (has_request (old ++ piece) ≡ false) × (j.disk ≡ i.disk)
     × Acts (said moment a (old ++ piece)) i (Some new) a j
-IsTurn moment a old piece i Closed new j =
+IsPageAct moment a old piece i Closed new j =
     Acts (said moment a (old ++ piece)) i None a j
 
 -- A request takes bytes of the piece.
-abbrev pub Takes : List ℕ → Turn → Type 0
-Takes piece (Went n) = (0 < n) × (n ≤ length piece)
-Takes piece Kept = Unit {0}
-Takes piece Closed = Unit {0}
+abbrev pub TakesHead : List ℕ → Act → Type 0
+TakesHead piece (Went n) = (0 < n) × (n ≤ length piece)
+TakesHead piece Kept = Unit {0}
+TakesHead piece Closed = Unit {0}
 
 -- One act reads no more than leaves enough for the bytes after it. A part of a head that is kept asks
 -- for no text, and nothing follows a close.
-abbrev pub IsTurnReads : Archive → List ℕ → List ℕ → Turn → List ℕ → ℕ → ℕ → Type 0
-IsTurnReads a old piece (Went n) new before now = ReadsAhead
+abbrev pub PageActReads : Archive → List ℕ → List ℕ → Act → List ℕ → ℕ → ℕ → Type 0
+PageActReads a old piece (Went n) new before now = ReadsAhead
     (texts_for_bytes a (old ++ piece)) (texts_for_bytes a (new ++ drop n piece)) before now
-IsTurnReads a old piece Kept new before now = now ≡ before
-IsTurnReads a old piece Closed new before now =
+PageActReads a old piece Kept new before now = now ≡ before
+PageActReads a old piece Closed new before now =
     ReadsUpTo (texts_for_bytes a (old ++ piece)) before now
 
 -- What was found under a target, as the code has it: the body, or the numbers of a mailbox file, for
 -- which texts are read.
-abbrev pub IsHeldFor : Archive → Found → Bool → Held → Type 0
+abbrev pub IsHeldFor : Archive → Found → Bool → FoundBody → Type 0
 IsHeldFor a found reads (what.Whole body bytes) = found ≡ Gives body bytes
 IsHeldFor a found reads what.EveryMail = (found ≡ Streams Mailbox (whole_mailbox a.entries))
     × (reads ≡ true)
@@ -69,14 +70,14 @@ IsHeldFor a found reads what.Nothing = found ≡ Missing
 IsHeldFor a found reads what.BadRange = found ≡ BadRange
 
 -- What stands under a target was found, or memory ran out; or the disk failed, where texts are read.
-abbrev pub Finds : Archive → Found → Bool → Result Held TextRefusal → Type 0
-Finds a found reads (Ok held) = IsHeldFor a found reads held
-Finds a found reads (Err refusal.DiskFault) = reads ≡ true
-Finds a found reads (Err (refusal.Damaged named found')) = ⊥
-Finds a found reads (Err refusal.NoMemory) = Unit {0}
+abbrev pub FindsTarget : Archive → Found → Bool → Result FoundBody TextRefusal → Type 0
+FindsTarget a found reads (Ok held) = IsHeldFor a found reads held
+FindsTarget a found reads (Err refusal.DiskFault) = reads ≡ true
+FindsTarget a found reads (Err (refusal.Damaged named found')) = ⊥
+FindsTarget a found reads (Err refusal.NoMemory) = Unit {0}
 
 -- A page was made, or there is none, or what is asked is no query; or memory ran out.
-abbrev pub MakesPage : Found → Result Held NoMemory → Type 0
+abbrev pub MakesPage : Found → Result FoundBody NoMemory → Type 0
 MakesPage found (Ok (what.Whole body bytes)) = found ≡ Gives body bytes
 MakesPage found (Ok what.Nothing) = found ≡ Missing
 MakesPage found (Ok what.BadRange) = found ≡ BadRange
@@ -105,7 +106,7 @@ form_said entries form.Mailbox o = thread_len entries o
 form_said entries other o = 0
 
 -- How many texts are still to be read for what was found, while it is said.
-abbrev pub unread : Archive → Held → ℕ
+abbrev pub unread : Archive → FoundBody → ℕ
 unread a what.EveryMail = length (live a.entries)
 unread a (what.Mails numbers) = length numbers
 unread a other = 0
@@ -119,26 +120,26 @@ form_texts form.Feed = feed_len
 form_texts form.Mailbox = 0
 
 -- A streamed reply of these words in each way: the words, or why no text was read.
-abbrev pub said_stream : ℕ → Archive → Bool → List ℕ → List ℕ → Way → SaysAct
+abbrev pub said_stream : ℕ → Archive → Bool → List ℕ → List ℕ → Departure → SaysAct
 said_stream moment a ends rest words = in_ways (replies a rest ends true words)
     (door.closes a (word Unavailable moment true true))
     (door.closes a (word ServerError moment true true))
 
 -- The reply with a mailbox file in each way.
-abbrev pub said_mailbox : ℕ → Archive → Bool → Bool → List ℕ → List ℕ → Way → SaysAct
+abbrev pub said_mailbox : ℕ → Archive → Bool → Bool → List ℕ → List ℕ → Departure → SaysAct
 said_mailbox moment a sends ends rest bytes =
     said_found moment a sends ends rest (Streams Mailbox bytes) true
 
 -- A shelf: the archives that it holds.
 module _ {S : Type 0} (holds : S → Archive → Type 0) where
   -- Whichever archive is held, this was found.
-  abbrev pub FindsIn : (Archive → Found) → (Archive → Bool) → S → Result Held TextRefusal → Type 0
+  abbrev pub FindsIn : (Archive → Found) → (Archive → Bool) → S → Result FoundBody TextRefusal → Type 0
   FindsIn found reads shelf result = (a : Archive) → holds shelf a
-      → Finds a (found a) (reads a) result
+      → FindsTarget a (found a) (reads a) result
 
   -- Whichever archive is held, at most so many texts are still to be read for what was found.
-  abbrev pub LeavesIn : (Archive → ℕ) → S → Result Held TextRefusal → Type 0
-  LeavesIn most shelf result = (a : Archive) → holds shelf a
+  abbrev pub LeavesUnreadIn : (Archive → ℕ) → S → Result FoundBody TextRefusal → Type 0
+  LeavesUnreadIn most shelf result = (a : Archive) → holds shelf a
       → IfOk result (λ held. unread a held ≤ most a)
 
   -- Whichever archive is held, a head was answered, and at most so many texts were read.
@@ -147,9 +148,9 @@ module _ {S : Type 0} (holds : S → Archive → Type 0) where
       ReadsIn holds (λ (a : Archive). head_texts a (asked_in head)) shelf before now
 
   -- Whichever archive is held, one act reads no more than leaves enough for the bytes after it.
-  abbrev pub ReadsTurn : List ℕ → List ℕ → S → Turn → List ℕ → ℕ → ℕ → Type 0
+  abbrev pub ReadsTurn : List ℕ → List ℕ → S → Act → List ℕ → ℕ → ℕ → Type 0
   ReadsTurn old piece shelf turn new before now = (a : Archive) → holds shelf a
-      → IsTurnReads a old piece turn new before now
+      → PageActReads a old piece turn new before now
 
   -- Whichever archive is held, no more texts were read than the heads that are answered ask for.
   abbrev pub ReadsBytes : List ℕ → S → ℕ → ℕ → Type 0
@@ -162,35 +163,36 @@ module _ {S : Type 0} (holds : S → Archive → Type 0) where
       → bytes_read_nothing a bytes ≡ true → now ≡ before
 
   -- Whichever archive is held and whatever follows, a head is answered.
-  abbrev pub AnswersHead : ℕ → List ℕ → S → Outside → Bool → Outside → Type 0
+  abbrev pub AnswersHead : ℕ → List ℕ → S → ConnectionState → Bool → ConnectionState → Type 0
   AnswersHead moment head shelf i goes_on j = (a : Archive) (rest : List ℕ) → holds shelf a
       → Acts (said_head moment a (asked_in head) rest) i (held_if goes_on rest) a j
 
   -- Whichever archive is held and whatever follows, a request is served.
-  abbrev pub Serves : ℕ → Asked → Bool → S → Outside → Bool → Outside → Type 0
+  abbrev pub Serves : ℕ → Asked → Bool → S → ConnectionState → Bool → ConnectionState → Type 0
   Serves moment asked sends shelf i goes_on j = (a : Archive) (rest : List ℕ) → holds shelf a
       → Acts (said_asked moment a asked sends rest) i (held_if goes_on rest) a j
 
   -- Whichever archive is held and whatever follows, the reply with a mailbox file is said.
-  abbrev pub ServesMailbox : (Archive → List ℕ) → ℕ → Bool → Bool → S → Outside → Bool → Outside
+  abbrev pub ServesMailbox : (Archive → List ℕ) → ℕ → Bool → Bool → S → ConnectionState → Bool
+      → ConnectionState
       → Type 0
   ServesMailbox bytes moment sends closes shelf i goes_on j = (a : Archive) (rest : List ℕ)
       → holds shelf a → Acts (said_mailbox moment a sends closes rest (bytes a)) i
       (held_if goes_on rest) a j
 
   -- The same by the words of the reply, of which none were said yet.
-  abbrev pub StreamsOn : (Archive → List ℕ) → ℕ → Bool → S → Outside → Bool → Outside → Type 0
+  abbrev pub StreamsOn : (Archive → List ℕ) → ℕ → Bool → S → ConnectionState → Bool → ConnectionState → Type 0
   StreamsOn words moment closes shelf i goes_on j = (a : Archive) (rest : List ℕ) → holds shelf a
       → Acts (said_stream moment a closes rest (words a)) i (held_if goes_on rest) a j
 
   -- Whichever archive is held, one act is done.
-  abbrev pub Turns : ℕ → List ℕ → List ℕ → S → Outside → Turn → List ℕ → Outside → Type 0
-  Turns moment old piece shelf i turn new j = (a : Archive) → holds shelf a
-      → IsTurn moment a old piece i turn new j
+  abbrev pub PageActs : ℕ → List ℕ → List ℕ → S → ConnectionState → Act → List ℕ → ConnectionState → Type 0
+  PageActs moment old piece shelf i turn new j = (a : Archive) → holds shelf a
+      → IsPageAct moment a old piece i turn new j
 
   -- Whichever archive is held, these bytes of a session are answered by a course.
-  abbrev pub Feeds : ℕ → List ℕ → S → Outside → Bool → List ℕ → Outside → Type 0
-  Feeds moment bytes shelf i goes_on left j = (a : Archive) → holds shelf a
+  abbrev pub AnswersPages : ℕ → List ℕ → S → ConnectionState → Bool → List ℕ → ConnectionState → Type 0
+  AnswersPages moment bytes shelf i goes_on left j = (a : Archive) → holds shelf a
       → Fed (said moment) has_request (talk (Some bytes) a i) (talk (held_if goes_on left) a j)
 
 -- The words were taken, and the session continues unless the reply closes it; or they were lost, and
@@ -210,13 +212,13 @@ SaysWhole body bytes moment sends closes out lost out' lost' goes_on =
 
 -- It was said why a text was not read, and that the connection is closed. Out of memory for the ids of
 -- a damaged text, that is said.
-abbrev pub SaysUnread : TextRefusal → ℕ → Bool → Option (List ℕ) → ℕ → Option (List ℕ) → ℕ
+abbrev pub PageSaysUnread : TextRefusal → ℕ → Bool → Option (List ℕ) → ℕ → Option (List ℕ) → ℕ
     → Result Unit SinkFault → Type 0
-SaysUnread refusal.DiskFault moment sends out lost out' lost' sent =
+PageSaysUnread refusal.DiskFault moment sends out lost out' lost' sent =
     Says (word ServerError moment sends true) out lost out' lost' sent
-SaysUnread refusal.NoMemory moment sends out lost out' lost' sent =
+PageSaysUnread refusal.NoMemory moment sends out lost out' lost' sent =
     Says (word Unavailable moment sends true) out lost out' lost' sent
-SaysUnread (refusal.Damaged named found) moment sends out lost out' lost' sent =
+PageSaysUnread (refusal.Damaged named found) moment sends out lost out' lost' sent =
     Says (word_of ServerError (damaged_line named.0 found.0) moment sends true) out lost out' lost' sent
     ⊎ Says (word Unavailable moment sends true) out lost out' lost' sent
 
@@ -225,4 +227,4 @@ abbrev pub SaysStopped : Bool → TextRefusal → ℕ → Option (List ℕ) → 
     → Type 0
 SaysStopped true refused moment out lost out' lost' = (out' ≡ out) × (lost' ≡ lost)
 SaysStopped false refused moment out lost out' lost' = (sent : Result Unit SinkFault)
-    × SaysUnread refused moment true out lost out' lost' sent
+    × PageSaysUnread refused moment true out lost out' lost' sent

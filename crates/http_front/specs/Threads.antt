@@ -44,9 +44,9 @@ abbrev pub tree_line : List ℕ → List Entry → Line → List ℕ
 tree_line name entries line = who_line name entries (indent line.depth) line.who
 
 -- What a line of a tree stands for, as a page has it.
-abbrev pub IsEntryOf : List ℕ → List Entry → Who → Option ThreadEntry → Type 0
-IsEntryOf name entries who None = (before : List ℕ) → who_line name entries before who ≡ []
-IsEntryOf name entries who (Some entry) = (before : List ℕ)
+abbrev pub IsThreadEntryOf : List ℕ → List Entry → Who → Option ThreadEntry → Type 0
+IsThreadEntryOf name entries who None = (before : List ℕ) → who_line name entries before who ≡ []
+IsThreadEntryOf name entries who (Some entry) = (before : List ℕ)
     → who_line name entries before who ≡ before ++ entry_line name entry
 
 -- The page of a thread by the lines of its tree. Its title is the subject of the row that was asked

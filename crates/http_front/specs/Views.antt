@@ -31,9 +31,9 @@ IsLive entries n (Some found) = (found ≡ n) × (text_at entries n ≡ shown_te
     × (is_some (shown_text entries n) ≡ true)
 
 -- The least live number from one on, of those that have 32 bits, or none.
-abbrev pub IsNext : List Entry → ℕ → Option ℕ → Type 0
-IsNext entries low None = (m : ℕ) → low ≤ m → text_at entries m ≡ None
-IsNext entries low (Some n) = (low ≤ n) × ((m : ℕ) → low ≤ m → m < n → text_at entries m ≡ None)
+abbrev pub IsNextLive : List Entry → ℕ → Option ℕ → Type 0
+IsNextLive entries low None = (m : ℕ) → low ≤ m → text_at entries m ≡ None
+IsNextLive entries low (Some n) = (low ≤ n) × ((m : ℕ) → low ≤ m → m < n → text_at entries m ≡ None)
     × (is_some (shown_text entries n) ≡ true)
 
 -- The live number of an id without its brackets.

@@ -1,14 +1,15 @@
 //! Answers whole heads from a shelf.
+//! Reads the disk.
 ghost use Rattle.std.specs.Prelude.{◌≡◌, ◌&&◌, not, true};
 ghost use Rattle.line_door.specs.Acts.{outside};
 ghost use Rattle.arch_base.specs.Moments.{IsMoment};
 ghost use Rattle.arch_model.specs.Next.{continues};
-ghost use Rattle.arch_model.specs.Shelves.{Stays, ReadsIn};
+ghost use Rattle.arch_model.specs.Shelves.{ShelfStays, ReadsIn};
 ghost use Rattle.http_heads.specs.Heads.{shown};
 ghost use Rattle.http_front.specs.Counting.{served_texts};
 ghost use Rattle.http_front.specs.Sessions.{AnswersHead, ReadsHead, Serves, SaysWhole};
 
-use crate::found::{Held, find_target};
+use crate::found::{FoundBody, find_target};
 use crate::mailbox::{say_every_mail, say_mails};
 use crate::replies::{push_reply, say_status, say_unread, say_words};
 use arch_base::{Bytes, NoMemory};
@@ -34,7 +35,7 @@ pub(crate) fn answer_head<S: Shelf, O: Sink>(
         (outside (O.taken out.old) (S.faults shelf.old) (O.faults out.old)) (continues result)
         (outside (O.taken out.new) (S.faults shelf.new) (O.faults out.new)) }
     ensures reads { ReadsHead S.holds head.now shelf.old (S.reads shelf.old) (S.reads shelf.new) }
-    ensures shelf { Stays S.holds S.ready S.alike S.faults shelf.old shelf.new }
+    ensures shelf { ShelfStays S.holds S.ready S.alike S.faults shelf.old shelf.new }
     ensures sink { O.alike out.old out.new }
 {
     match read_head(head) {
@@ -68,23 +69,23 @@ fn serve<S: Shelf, O: Sink>(
         (outside (O.taken out.new) (S.faults shelf.new) (O.faults out.new)) }
     ensures reads { ReadsIn S.holds (λ a. served_texts a request.now.target.now sends) shelf.old
         (S.reads shelf.old) (S.reads shelf.new) }
-    ensures shelf { Stays S.holds S.ready S.alike S.faults shelf.old shelf.new }
+    ensures shelf { ShelfStays S.holds S.ready S.alike S.faults shelf.old shelf.new }
     ensures sink { O.alike out.old out.new }
 {
     let closes = request.closes;
     match find_target(alloc, request.target, shelf) {
-        Ok(Held::Whole(body, bytes)) => {
+        Ok(FoundBody::Whole(body, bytes)) => {
             say_whole(alloc, body, bytes.as_slice(), moment, sends, closes, out)
         }
-        Ok(Held::EveryMail) => say_every_mail(alloc, moment, sends, closes, shelf, out),
-        Ok(Held::Mails(numbers)) => {
+        Ok(FoundBody::EveryMail) => say_every_mail(alloc, moment, sends, closes, shelf, out),
+        Ok(FoundBody::Mails(numbers)) => {
             say_mails(alloc, numbers.as_slice(), moment, sends, closes, shelf, out)
         }
-        Ok(Held::Nothing) => {
+        Ok(FoundBody::Nothing) => {
             let said = say_status(Status::NotFound, moment, sends, closes, out);
             next_after(said.is_ok(), closes)
         }
-        Ok(Held::BadRange) => {
+        Ok(FoundBody::BadRange) => {
             let said = say_words(Status::BadRequest, BAD_RANGE, moment, sends, closes, out);
             next_after(said.is_ok(), closes)
         }

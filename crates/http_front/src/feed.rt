@@ -1,15 +1,16 @@
 //! Feeds.
+//! Reads the disk.
 ghost use Rattle.std.specs.Prelude.{◌≡◌, ◌++◌, length, OnOk, IfSome, Some, true, is_some};
 ghost use Rattle.arch_base.specs.Moments.{IsMoment};
 ghost use Rattle.arch_model.specs.Archives.{Archive, live, text_of};
-ghost use Rattle.arch_model.specs.Shelves.{Stays, ReadCause, ReadsOnce, ReadsUpTo};
+ghost use Rattle.arch_model.specs.Shelves.{ShelfStays, ReadCause, ReadsOnce, ReadsUpTo};
 ghost use Rattle.atom_mbox.specs.Feeds.{feed_start, entries_of, updated_of};
 ghost use Rattle.http_front.specs.Views.{shown_row, shown_text, shown_at, shown_all, shown_by};
 ghost use Rattle.http_front.specs.Asking.{feed_found};
-ghost use Rattle.http_front.specs.Feeding.{Appends, arrival_of, later_of, latest_of};
+ghost use Rattle.http_front.specs.Feeding.{AppendsOrRefuses, arrival_of, later_of, latest_of};
 ghost use Rattle.http_front.specs.Sessions.{FindsIn};
 
-use crate::found::Held;
+use crate::found::FoundBody;
 use crate::listing::row_of_number;
 use crate::numbers::live_number;
 use arch_base::{Bytes, LAST_MOMENT, Name, NoMemory, last_moment_is_defined};
@@ -25,11 +26,11 @@ pub(crate) fn feed_at<S: Shelf>(
     alloc: Global,
     numbers: &[u64],
     shelf: &mut S,
-) -> Result<Held, TextRefusal>
+) -> Result<FoundBody, TextRefusal>
     requires { S.ready shelf.old ≡ true }
     ensures found { FindsIn S.holds (λ a. feed_found a numbers.now) (λ a. true) shelf.old
         result }
-    ensures shelf { Stays S.holds S.ready S.alike S.faults shelf.old shelf.new }
+    ensures shelf { ShelfStays S.holds S.ready S.alike S.faults shelf.old shelf.new }
     ensures cause { ReadCause (S.faults shelf.old) (S.faults shelf.new) result }
     ensures reads { ReadsUpTo (length numbers.now) (S.reads shelf.old) (S.reads shelf.new) }
 {
@@ -43,7 +44,7 @@ pub(crate) fn feed_at<S: Shelf>(
         Err(refusal) => return Err(refusal),
     }
     match push_feed_end(&mut made) {
-        Ok(()) => Ok(Held::Whole(Body::Feed, made)),
+        Ok(()) => Ok(FoundBody::Whole(Body::Feed, made)),
         Err(NoMemory) => Err(TextRefusal::NoMemory),
     }
 }
@@ -132,9 +133,9 @@ fn push_mails<S: Shelf>(
     into: &mut Bytes,
 ) -> Result<(), TextRefusal>
     requires { S.ready shelf.old ≡ true }
-    ensures entries { (a : Archive) → S.holds shelf.old a → Appends
+    ensures entries { (a : Archive) → S.holds shelf.old a → AppendsOrRefuses
         (entries_of a.config.name (shown_all a.entries numbers.now)) into.old into.new result }
-    ensures shelf { Stays S.holds S.ready S.alike S.faults shelf.old shelf.new }
+    ensures shelf { ShelfStays S.holds S.ready S.alike S.faults shelf.old shelf.new }
     ensures cause { ReadCause (S.faults shelf.old) (S.faults shelf.new) result }
     ensures reads { ReadsUpTo (length numbers.now) (S.reads shelf.old) (S.reads shelf.new) }
 {
@@ -157,9 +158,9 @@ fn push_mail<S: Shelf>(
     into: &mut Bytes,
 ) -> Result<(), TextRefusal>
     requires { S.ready shelf.old ≡ true }
-    ensures entry { (a : Archive) → S.holds shelf.old a → Appends
+    ensures entry { (a : Archive) → S.holds shelf.old a → AppendsOrRefuses
         (entries_of a.config.name (shown_at a.entries n)) into.old into.new result }
-    ensures shelf { Stays S.holds S.ready S.alike S.faults shelf.old shelf.new }
+    ensures shelf { ShelfStays S.holds S.ready S.alike S.faults shelf.old shelf.new }
     ensures cause { ReadCause (S.faults shelf.old) (S.faults shelf.new) result }
     ensures reads { ReadsOnce (S.reads shelf.old) (S.reads shelf.new) }
 {
@@ -181,9 +182,9 @@ fn push_live<S: Shelf>(
     requires ready { S.ready shelf.old ≡ true }
     requires live { (a : Archive) → S.holds shelf.old a
         → is_some (text_of (live a.entries) n) ≡ true }
-    ensures entry { (a : Archive) → S.holds shelf.old a → Appends (entries_of a.config.name
+    ensures entry { (a : Archive) → S.holds shelf.old a → AppendsOrRefuses (entries_of a.config.name
         (shown_by (shown_row a.entries n) (shown_text a.entries n))) into.old into.new result }
-    ensures shelf { Stays S.holds S.ready S.alike S.faults shelf.old shelf.new }
+    ensures shelf { ShelfStays S.holds S.ready S.alike S.faults shelf.old shelf.new }
     ensures cause { ReadCause (S.faults shelf.old) (S.faults shelf.new) result }
     ensures reads { ReadsOnce (S.reads shelf.old) (S.reads shelf.new) }
 {

@@ -1,13 +1,14 @@
 //! Finds what stands under the target of a request.
+//! Reads the disk.
 ghost use Rattle.std.specs.Prelude.{◌≡◌, IfOk, Some, true, take};
 ghost use Rattle.arch_model.specs.Archives.{Archive, live};
 ghost use Rattle.arch_model.specs.Listings.{listing};
-ghost use Rattle.arch_model.specs.Shelves.{Stays, ReadCause, ReadsIn};
+ghost use Rattle.arch_model.specs.Shelves.{ShelfStays, ReadCause, ReadsIn};
 ghost use Rattle.http_heads.specs.Addresses.{shown};
 ghost use Rattle.http_front.specs.Views.{number_named};
 ghost use Rattle.http_front.specs.Asking.{named_found, target_found, feed_found, found_of, feed_len, reads_texts, target_reads, texts_for, target_texts};
 ghost use Rattle.http_front.specs.Counting.{texts_said, target_said};
-ghost use Rattle.http_front.specs.Sessions.{FindsIn, LeavesIn, form_found, form_reads, form_texts, form_said};
+ghost use Rattle.http_front.specs.Sessions.{FindsIn, LeavesUnreadIn, form_found, form_reads, form_texts, form_said};
 
 use crate::feed::feed_at;
 use crate::listing::listing_at;
@@ -20,7 +21,7 @@ use std::alloc::Global;
 
 /// What stands under a target.
 #[derive(Drop)]
-pub(crate) enum Held {
+pub(crate) enum FoundBody {
     /// A body, which is said whole.
     Whole(Body, Bytes),
     /// The mailbox file of all mails.
@@ -59,21 +60,21 @@ pub(crate) fn find_target<S: Shelf>(
     alloc: Global,
     target: &[u8],
     shelf: &mut S,
-) -> Result<Held, TextRefusal>
+) -> Result<FoundBody, TextRefusal>
     requires { S.ready shelf.old ≡ true }
     ensures found { FindsIn S.holds (λ a. target_found a target.now)
         (λ a. target_reads a target.now) shelf.old result }
-    ensures shelf { Stays S.holds S.ready S.alike S.faults shelf.old shelf.new }
+    ensures shelf { ShelfStays S.holds S.ready S.alike S.faults shelf.old shelf.new }
     ensures cause { ReadCause (S.faults shelf.old) (S.faults shelf.new) result }
     ensures reads { ReadsIn S.holds (λ a. target_texts a target.now) shelf.old (S.reads shelf.old)
         (S.reads shelf.new) }
-    ensures left { LeavesIn S.holds (λ a. target_said a target.now) shelf.old result }
+    ensures left { LeavesUnreadIn S.holds (λ a. target_said a target.now) shelf.old result }
 {
     let (path, query) = split_target(target);
     match segments(alloc, path) {
         Ok(parts) => match address_of(shelf.config().name.as_slice(), parts.as_slice()) {
             Some(address) => find_address(alloc, address, query, shelf),
-            None => Ok(Held::Nothing),
+            None => Ok(FoundBody::Nothing),
         },
         Err(NoMemory) => Err(TextRefusal::NoMemory),
     }
@@ -85,15 +86,15 @@ fn find_address<S: Shelf>(
     address: Address<'_>,
     query: &[u8],
     shelf: &mut S,
-) -> Result<Held, TextRefusal>
+) -> Result<FoundBody, TextRefusal>
     requires { S.ready shelf.old ≡ true }
     ensures found { FindsIn S.holds (λ a. named_found a query.now (shown address.entry))
         (λ a. reads_texts (shown address.entry)) shelf.old result }
-    ensures shelf { Stays S.holds S.ready S.alike S.faults shelf.old shelf.new }
+    ensures shelf { ShelfStays S.holds S.ready S.alike S.faults shelf.old shelf.new }
     ensures cause { ReadCause (S.faults shelf.old) (S.faults shelf.new) result }
     ensures reads { ReadsIn S.holds (λ a. texts_for (shown address.entry)) shelf.old (S.reads shelf.old)
         (S.reads shelf.new) }
-    ensures left { LeavesIn S.holds (λ a. texts_said a (shown address.entry)) shelf.old result }
+    ensures left { LeavesUnreadIn S.holds (λ a. texts_said a (shown address.entry)) shelf.old result }
 {
     match address {
         Address::Listing => match listing_at(alloc, query, shelf) {
@@ -101,7 +102,7 @@ fn find_address<S: Shelf>(
             Err(NoMemory) => Err(TextRefusal::NoMemory),
         },
         Address::Feed => find_newest(alloc, shelf),
-        Address::Mailbox => Ok(Held::EveryMail),
+        Address::Mailbox => Ok(FoundBody::EveryMail),
         Address::Message(id) => find_mail(alloc, id, Form::Message, shelf),
         Address::Text(id) => find_mail(alloc, id, Form::Text, shelf),
         Address::Thread(id) => find_mail(alloc, id, Form::Thread, shelf),
@@ -111,15 +112,15 @@ fn find_address<S: Shelf>(
 }
 
 /// Makes the feed of the newest mails.
-fn find_newest<S: Shelf>(alloc: Global, shelf: &mut S) -> Result<Held, TextRefusal>
+fn find_newest<S: Shelf>(alloc: Global, shelf: &mut S) -> Result<FoundBody, TextRefusal>
     requires { S.ready shelf.old ≡ true }
     ensures found { FindsIn S.holds (λ a. feed_found a (take feed_len (listing (live a.entries))))
         (λ a. true) shelf.old result }
-    ensures shelf { Stays S.holds S.ready S.alike S.faults shelf.old shelf.new }
+    ensures shelf { ShelfStays S.holds S.ready S.alike S.faults shelf.old shelf.new }
     ensures cause { ReadCause (S.faults shelf.old) (S.faults shelf.new) result }
     ensures reads { ReadsIn S.holds (λ a. feed_len) shelf.old (S.reads shelf.old)
         (S.reads shelf.new) }
-    ensures left { LeavesIn S.holds (λ a. 0) shelf.old result }
+    ensures left { LeavesUnreadIn S.holds (λ a. 0) shelf.old result }
 {
     match shelf.order_page(0, FEED_LEN as u64) {
         Ok(numbers) => feed_at(alloc, numbers.as_slice(), shelf),
@@ -133,21 +134,21 @@ fn find_mail<S: Shelf>(
     id: &[u8],
     form: Form,
     shelf: &mut S,
-) -> Result<Held, TextRefusal>
+) -> Result<FoundBody, TextRefusal>
     requires { S.ready shelf.old ≡ true }
     ensures found { FindsIn S.holds
         (λ a. found_of (number_named a.entries id.now) (form_found a form))
         (λ a. form_reads form) shelf.old result }
-    ensures shelf { Stays S.holds S.ready S.alike S.faults shelf.old shelf.new }
+    ensures shelf { ShelfStays S.holds S.ready S.alike S.faults shelf.old shelf.new }
     ensures cause { ReadCause (S.faults shelf.old) (S.faults shelf.new) result }
     ensures reads { ReadsIn S.holds (λ a. form_texts form) shelf.old (S.reads shelf.old)
         (S.reads shelf.new) }
-    ensures left { LeavesIn S.holds
+    ensures left { LeavesUnreadIn S.holds
         (λ a. form_said a.entries form (number_named a.entries id.now)) shelf.old result }
 {
     match number_of(alloc, id, shelf) {
         Ok(Some(n)) => find_number(alloc, n, form, shelf),
-        Ok(None) => Ok(Held::Nothing),
+        Ok(None) => Ok(FoundBody::Nothing),
         Err(NoMemory) => Err(TextRefusal::NoMemory),
     }
 }
@@ -171,15 +172,15 @@ fn find_number<S: Shelf>(
     n: u32,
     form: Form,
     shelf: &mut S,
-) -> Result<Held, TextRefusal>
+) -> Result<FoundBody, TextRefusal>
     requires { S.ready shelf.old ≡ true }
     ensures found { FindsIn S.holds (λ a. form_found a form n) (λ a. form_reads form)
         shelf.old result }
-    ensures shelf { Stays S.holds S.ready S.alike S.faults shelf.old shelf.new }
+    ensures shelf { ShelfStays S.holds S.ready S.alike S.faults shelf.old shelf.new }
     ensures cause { ReadCause (S.faults shelf.old) (S.faults shelf.new) result }
     ensures reads { ReadsIn S.holds (λ a. form_texts form) shelf.old (S.reads shelf.old)
         (S.reads shelf.new) }
-    ensures left { LeavesIn S.holds (λ a. form_said a.entries form (Some n)) shelf.old result }
+    ensures left { LeavesUnreadIn S.holds (λ a. form_said a.entries form (Some n)) shelf.old result }
 {
     match form {
         Form::Message => message_at(alloc, n, shelf),
@@ -193,7 +194,7 @@ fn find_number<S: Shelf>(
             Err(NoMemory) => Err(TextRefusal::NoMemory),
         },
         Form::Mailbox => match oldest_of(alloc, n, shelf) {
-            Ok(numbers) => Ok(Held::Mails(numbers)),
+            Ok(numbers) => Ok(FoundBody::Mails(numbers)),
             Err(NoMemory) => Err(TextRefusal::NoMemory),
         },
     }

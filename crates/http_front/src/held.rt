@@ -1,4 +1,5 @@
 //! The part of a head that a session holds.
+//! Allocates.
 ghost use Rattle.std.specs.Prelude.{◌≡◌, ◌+◌, ◌≤◌, ◌<◌, ◌++◌, [], length, take, OnOk, OnErr};
 ghost use Rattle.http_front.specs.Fronts.{head_limit};
 

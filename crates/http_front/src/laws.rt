@@ -1,5 +1,6 @@
 //! The laws of the door of pages, which hold for every archive and all bytes.
-ghost use Rattle.http_front.specs.Asking.{IsReading};
+//! Pure.
+ghost use Rattle.http_front.specs.Asking.{IsHeadReading};
 ghost use Rattle.http_front.specs.Laws.{HttpLaws};
 ghost use Rattle.http_front.specs.Paging.{ListingIsWhole};
 ghost use Rattle.http_front.specs.Reading.{asked_in};
@@ -26,5 +27,5 @@ pub fn listing_is_whole()
 /// Shows that heads can be read: the function that divides bytes into lines and these into parts, and
 /// takes them if they are valid and printed as the bytes, reads heads as the grammar does.
 pub fn heads_are_read()
-    ensures { IsReading asked_in }
+    ensures { IsHeadReading asked_in }
 {}

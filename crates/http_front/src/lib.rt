@@ -1,4 +1,5 @@
 //! The door of pages, feeds and mailbox files: a connection over HTTP/1.1 that reads an archive.
+//! Reads the disk.
 #![tactic(auto)]
 
 mod answer;

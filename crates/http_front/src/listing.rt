@@ -1,4 +1,5 @@
 //! The page of the listing, or of a search.
+//! Allocates.
 ghost use Rattle.std.specs.Prelude.{◌≡◌, ◌++◌, IfOk, OnOk, None, true, codes, map, option_copied};
 ghost use Rattle.arch_model.specs.Archives.{Archive};
 ghost use Rattle.http_heads.specs.Parameters.{parameter as parameter_of, skipped};
@@ -6,7 +7,7 @@ ghost use Rattle.http_front.specs.Views.{one_row, row_at, rows_at};
 ghost use Rattle.http_front.specs.Asking.{Gives, listing_found};
 ghost use Rattle.http_front.specs.Sessions.{MakesPage};
 
-use crate::found::Held;
+use crate::found::FoundBody;
 use crate::search::search_at;
 use arch_base::{Bytes, NoMemory};
 use arch_model::Shelf;
@@ -19,7 +20,11 @@ use std::alloc::Global;
 pub(crate) const ROWS_NEEDED: u64 = 201;
 
 /// Returns the page of the listing, or of a search, by the parameters of its target. Reads no text.
-pub(crate) fn listing_at<S: Shelf>(alloc: Global, query: &[u8], shelf: &S) -> Result<Held, NoMemory>
+pub(crate) fn listing_at<S: Shelf>(
+    alloc: Global,
+    query: &[u8],
+    shelf: &S,
+) -> Result<FoundBody, NoMemory>
     requires { S.ready shelf.now ≡ true }
     ensures { (a : Archive) → S.holds shelf.now a → MakesPage
         (listing_found a (parameter_of (codes "q") query.now) (skipped (parameter_of (codes "o") query.now)))
@@ -36,7 +41,7 @@ fn page_by<S: Shelf>(
     asked: Option<Bytes>,
     skip: u64,
     shelf: &S,
-) -> Result<Held, NoMemory>
+) -> Result<FoundBody, NoMemory>
     requires { S.ready shelf.now ≡ true }
     ensures { (a : Archive) → S.holds shelf.now a → MakesPage (listing_found a asked skip) result }
 {
@@ -44,7 +49,7 @@ fn page_by<S: Shelf>(
         Some(text) => search_at(alloc, text.as_slice(), skip, shelf),
         None => {
             let page = listing_from(alloc, skip, shelf)?;
-            Ok(Held::Whole(Body::Page, page))
+            Ok(FoundBody::Whole(Body::Page, page))
         }
     }
 }

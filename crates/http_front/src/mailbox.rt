@@ -1,20 +1,21 @@
 //! Mailbox files, as streamed replies whose length is said first.
+//! Reads the disk.
 ghost use Rattle.std.specs.Prelude.{◌≡◌, ◌++◌, ◌<◌, ◌^◌, ℕ, [], length, true, false, is_some, IfOk, OnErr, Result};
 ghost use Rattle.line_door.specs.Acts.{outside};
 ghost use Rattle.arch_base.specs.Moments.{IsMoment};
 ghost use Rattle.arch_model.specs.Archives.{Archive, live, text_of};
 ghost use Rattle.arch_model.specs.Next.{continues};
-ghost use Rattle.arch_model.specs.Shelves.{Stays, ReadCause, ReadsOnce, ReadsUpTo, ReadsIn};
+ghost use Rattle.arch_model.specs.Shelves.{ShelfStays, ReadCause, ReadsOnce, ReadsUpTo, ReadsIn};
 ghost use Rattle.edge_io.specs.Phrases.{Says};
 ghost use Rattle.edge_io.specs.declared.sink.SinkFault.{SinkFault};
 ghost use Rattle.http_heads.specs.Replies.{reply_head};
 ghost use Rattle.http_front.specs.Views.{shown_text};
 ghost use Rattle.http_front.specs.Mailboxes.{piece_by, piece_at, mailbox_at, whole_mailbox};
 ghost use Rattle.http_front.specs.Counting.{body_texts};
-ghost use Rattle.http_front.specs.Feeding.{Appends};
+ghost use Rattle.http_front.specs.Feeding.{AppendsOrRefuses};
 ghost use Rattle.http_front.specs.Replies.{word};
 ghost use Rattle.http_front.specs.Sessions.{SaysThen, ServesMailbox, StreamsOn, SaysStopped};
-ghost use Rattle.http_front.specs.Streaming.{IsPart};
+ghost use Rattle.http_front.specs.Streaming.{StreamsPart};
 
 use crate::answer::next_after;
 use crate::listing::row_of_number;
@@ -69,7 +70,7 @@ pub(crate) fn say_every_mail<S: Shelf, O: Sink>(
         (outside (O.taken out.new) (S.faults shelf.new) (O.faults out.new)) }
     ensures reads { ReadsIn S.holds (λ a. body_texts sends (length (live a.entries))) shelf.old
         (S.reads shelf.old) (S.reads shelf.new) }
-    ensures shelf { Stays S.holds S.ready S.alike S.faults shelf.old shelf.new }
+    ensures shelf { ShelfStays S.holds S.ready S.alike S.faults shelf.old shelf.new }
     ensures sink { O.alike out.old out.new }
 {
     let len = every_len(shelf);
@@ -105,7 +106,7 @@ pub(crate) fn say_mails<S: Shelf, O: Sink>(
         (outside (O.taken out.new) (S.faults shelf.new) (O.faults out.new)) }
     ensures reads { ReadsUpTo (body_texts sends (length numbers.now)) (S.reads shelf.old)
         (S.reads shelf.new) }
-    ensures shelf { Stays S.holds S.ready S.alike S.faults shelf.old shelf.new }
+    ensures shelf { ShelfStays S.holds S.ready S.alike S.faults shelf.old shelf.new }
     ensures sink { O.alike out.old out.new }
 {
     let len = len_of(numbers, shelf);
@@ -206,7 +207,7 @@ fn say_every_piece<S: Shelf, O: Sink>(
         (outside (O.taken out.new) (S.faults shelf.new) (O.faults out.new)) }
     ensures reads { ReadsIn S.holds (λ a. length (live a.entries)) shelf.old (S.reads shelf.old)
         (S.reads shelf.new) }
-    ensures shelf { Stays S.holds S.ready S.alike S.faults shelf.old shelf.new }
+    ensures shelf { ShelfStays S.holds S.ready S.alike S.faults shelf.old shelf.new }
     ensures sink { O.alike out.old out.new }
 {
     let mut begun = false;
@@ -240,7 +241,7 @@ fn say_pieces<S: Shelf, O: Sink>(
         (outside (O.taken out.old) (S.faults shelf.old) (O.faults out.old)) (continues result)
         (outside (O.taken out.new) (S.faults shelf.new) (O.faults out.new)) }
     ensures reads { ReadsUpTo (length numbers.now) (S.reads shelf.old) (S.reads shelf.new) }
-    ensures shelf { Stays S.holds S.ready S.alike S.faults shelf.old shelf.new }
+    ensures shelf { ShelfStays S.holds S.ready S.alike S.faults shelf.old shelf.new }
     ensures sink { O.alike out.old out.new }
 {
     let mut begun = false;
@@ -264,11 +265,11 @@ fn say_part<S: Shelf, O: Sink>(
     out: &mut O,
 ) -> Part
     requires { S.ready shelf.old ≡ true }
-    ensures part { (a : Archive) → S.holds shelf.old a → IsPart (piece_at a.entries n) begun unsaid.old
+    ensures part { (a : Archive) → S.holds shelf.old a → StreamsPart (piece_at a.entries n) begun unsaid.old
         (outside (O.taken out.old) (S.faults shelf.old) (O.faults out.old)) result unsaid.new
         (outside (O.taken out.new) (S.faults shelf.new) (O.faults out.new)) }
     ensures reads { ReadsOnce (S.reads shelf.old) (S.reads shelf.new) }
-    ensures shelf { Stays S.holds S.ready S.alike S.faults shelf.old shelf.new }
+    ensures shelf { ShelfStays S.holds S.ready S.alike S.faults shelf.old shelf.new }
     ensures sink { O.alike out.old out.new }
 {
     match live_number(n, shelf) {
@@ -290,11 +291,11 @@ fn say_piece<S: Shelf, O: Sink>(
     requires live { (a : Archive) → S.holds shelf.old a
         → is_some (text_of (live a.entries) n) ≡ true }
     ensures part { (a : Archive) → S.holds shelf.old a
-        → IsPart (piece_by (shown_text a.entries n)) begun unsaid.old
+        → StreamsPart (piece_by (shown_text a.entries n)) begun unsaid.old
         (outside (O.taken out.old) (S.faults shelf.old) (O.faults out.old)) result unsaid.new
         (outside (O.taken out.new) (S.faults shelf.new) (O.faults out.new)) }
     ensures reads { ReadsOnce (S.reads shelf.old) (S.reads shelf.new) }
-    ensures shelf { Stays S.holds S.ready S.alike S.faults shelf.old shelf.new }
+    ensures shelf { ShelfStays S.holds S.ready S.alike S.faults shelf.old shelf.new }
     ensures sink { O.alike out.old out.new }
 {
     match push_piece(alloc, n, unsaid, shelf) {
@@ -305,7 +306,7 @@ fn say_piece<S: Shelf, O: Sink>(
 
 /// Says what is to be said if it is long.
 fn say_long<O: Sink>(begun: bool, unsaid: &mut Bytes, out: &mut O) -> Part
-    ensures part { (disk : ℕ) → IsPart [] begun unsaid.old
+    ensures part { (disk : ℕ) → StreamsPart [] begun unsaid.old
         (outside (O.taken out.old) disk (O.faults out.old)) result unsaid.new
         (outside (O.taken out.new) disk (O.faults out.new)) }
     ensures sink { O.alike out.old out.new }
@@ -335,10 +336,10 @@ fn push_piece<S: Shelf>(
     requires live { (a : Archive) → S.holds shelf.old a
         → is_some (text_of (live a.entries) n) ≡ true }
     ensures piece { (a : Archive) → S.holds shelf.old a
-        → Appends (piece_by (shown_text a.entries n)) into.old into.new result }
+        → AppendsOrRefuses (piece_by (shown_text a.entries n)) into.old into.new result }
     ensures refused { OnErr result (into.new ≡ into.old) }
     ensures reads { ReadsOnce (S.reads shelf.old) (S.reads shelf.new) }
-    ensures shelf { Stays S.holds S.ready S.alike S.faults shelf.old shelf.new }
+    ensures shelf { ShelfStays S.holds S.ready S.alike S.faults shelf.old shelf.new }
     ensures cause { ReadCause (S.faults shelf.old) (S.faults shelf.new) result }
 {
     let mut text = Bytes::new(alloc);

@@ -1,7 +1,8 @@
 //! The live numbers of a shelf.
+//! Pure.
 ghost use Rattle.std.specs.Prelude.{◌≡◌, ◌≤◌, ◌<◌, true, IfSome};
 ghost use Rattle.arch_model.specs.Archives.{Archive};
-ghost use Rattle.http_front.specs.Views.{IsLive, IsNext};
+ghost use Rattle.http_front.specs.Views.{IsLive, IsNextLive};
 
 use arch_model::{Shelf, is_live};
 
@@ -23,7 +24,7 @@ pub(crate) fn live_number<S: Shelf>(n: u64, shelf: &S) -> Option<u32>
 /// Returns the least live number that is at least `low`, or `None` if there is none.
 pub(crate) fn live_from<S: Shelf>(low: u64, shelf: &S) -> Option<u64>
     requires { S.ready shelf.now ≡ true }
-    ensures next { (a : Archive) → S.holds shelf.now a → IsNext a.entries low result }
+    ensures next { (a : Archive) → S.holds shelf.now a → IsNextLive a.entries low result }
     ensures later { IfSome result (λ n. (low ≤ n) × (n < 4294967296)) }
 {
     if low > u64::from(u32::MAX) {

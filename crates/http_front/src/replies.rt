@@ -1,8 +1,9 @@
 //! Writes whole replies, and the words of statuses other than 200.
+//! Allocates.
 ghost use Rattle.std.specs.Prelude.{◌≡◌, ◌≤◌, ◌+◌, ◌++◌, ℕ, length, decimal, IfOk, OnOk, true};
 ghost use Rattle.arch_base.specs.Moments.{IsMoment};
 ghost use Rattle.edge_io.specs.Phrases.{Says};
-ghost use Rattle.http_front.specs.Sessions.{SaysUnread};
+ghost use Rattle.http_front.specs.Sessions.{PageSaysUnread};
 ghost use Rattle.http_heads.specs.Dates.{reply_date};
 ghost use Rattle.http_heads.specs.Replies.{allow_line as allow, close_line as close};
 ghost use Rattle.http_front.specs.Replies.{reply, sent_body, word, word_of, status_line as line_of, damaged_line as damaged, file_line};
@@ -217,7 +218,7 @@ pub(crate) fn say_unread<O: Sink>(
     out: &mut O,
 ) -> Result<(), SinkFault>
     requires { IsMoment moment }
-    ensures said { SaysUnread refusal moment sends (O.taken out.old) (O.faults out.old)
+    ensures said { PageSaysUnread refusal moment sends (O.taken out.old) (O.faults out.old)
         (O.taken out.new) (O.faults out.new) result }
     ensures sink { O.alike out.old out.new }
 {

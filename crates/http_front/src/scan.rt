@@ -1,7 +1,8 @@
 //! The end of a head, searched byte by byte.
+//! Pure.
 ghost use Rattle.std.specs.Prelude.{◌≡◌, ℕ, Some, None};
 ghost use Rattle.http_front.specs.Fronts.{head_limit};
-ghost use Rattle.http_front.specs.Scans.{next_seen, started as started_by, scan, seen_after, IsHeld, IsAhead};
+ghost use Rattle.http_front.specs.Scans.{next_seen, started as started_by, scan, seen_after, IsHeldHead, IsHeadAhead};
 
 /// What is seen of a head's end, CR LF CR LF, at the end of a part of it.
 #[derive(Clone, Copy, Debug, PartialEq, Eq, Drop)]
@@ -44,8 +45,8 @@ pub(crate) const HEAD_LIMIT: usize = 16_384;
 ///
 /// A head has at most 16,384 bytes with its empty line. Looks at each byte of the piece at most once.
 pub(crate) fn head_in(held: &[u8], seen: Seen, piece: &[u8]) -> Ahead
-    requires { IsHeld head_limit held.now seen }
-    ensures { IsAhead head_limit held.now piece.now result }
+    requires { IsHeldHead head_limit held.now seen }
+    ensures { IsHeadAhead head_limit held.now piece.now result }
 {
     let room = HEAD_LIMIT - held.len();
     let near = piece.split_at(piece.len().min(room)).0;

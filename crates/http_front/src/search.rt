@@ -1,11 +1,12 @@
 //! The page of a search.
+//! Allocates.
 ghost use Rattle.std.specs.Prelude.{◌≡◌, Some, true};
 ghost use Rattle.arch_model.specs.Archives.{Archive};
 ghost use Rattle.query_lang.specs.Queries.{query_of};
 ghost use Rattle.http_front.specs.Asking.{search_found};
 ghost use Rattle.http_front.specs.Sessions.{MakesPage};
 
-use crate::found::Held;
+use crate::found::FoundBody;
 use crate::listing::{ROWS_NEEDED, rows_of};
 use arch_base::NoMemory;
 use arch_model::Shelf;
@@ -21,14 +22,14 @@ pub(crate) fn search_at<S: Shelf>(
     text: &[u8],
     skip: u64,
     shelf: &S,
-) -> Result<Held, NoMemory>
+) -> Result<FoundBody, NoMemory>
     requires { S.ready shelf.now ≡ true }
     ensures { (a : Archive) → S.holds shelf.now a
         → MakesPage (search_found a text.now skip (query_of text.now)) result }
 {
     match read(alloc, text) {
         Ok(query) => page_of(alloc, text, &query, skip, shelf),
-        Err(QueryRefusal::BadRange) => Ok(Held::BadRange),
+        Err(QueryRefusal::BadRange) => Ok(FoundBody::BadRange),
         Err(QueryRefusal::NoMemory) => Err(NoMemory),
     }
 }
@@ -40,7 +41,7 @@ fn page_of<S: Shelf>(
     query: &Query,
     skip: u64,
     shelf: &S,
-) -> Result<Held, NoMemory>
+) -> Result<FoundBody, NoMemory>
     requires { S.ready shelf.now ≡ true }
     ensures { (a : Archive) → S.holds shelf.now a
         → MakesPage (search_found a text.now skip (Some query.now)) result }
@@ -48,5 +49,5 @@ fn page_of<S: Shelf>(
     let found = shelf.search_page(query, skip, ROWS_NEEDED)?;
     let rows = rows_of(alloc, found.as_slice(), shelf)?;
     let page = search_page(alloc, &shelf.config().name, text, rows.as_slice(), skip)?;
-    Ok(Held::Whole(Body::Page, page))
+    Ok(FoundBody::Whole(Body::Page, page))
 }

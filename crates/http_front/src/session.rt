@@ -1,10 +1,11 @@
 //! A connection for pages: the bytes that are not answered yet, and the answer to a piece.
+//! Reads the disk.
 ghost use Rattle.std.specs.Prelude.{◌≡◌, ◌⊎◌, ◌≤◌, ◌+◌, ◌++◌, ℕ, [], length, true, if◌then◌else◌};
 ghost use Rattle.line_door.specs.Acts.{outside};
 ghost use Rattle.arch_base.specs.Moments.{IsMoment};
 ghost use Rattle.arch_model.specs.Archives.{Archive};
 ghost use Rattle.arch_model.specs.Next.{continues};
-ghost use Rattle.arch_model.specs.Shelves.{Stays};
+ghost use Rattle.arch_model.specs.Shelves.{ShelfStays};
 ghost use Rattle.http_front.specs.Fronts.{head_limit};
 
 use crate::answer::answer_head;
@@ -20,7 +21,7 @@ use std::marker::Model;
 
 /// The result of one act on the bytes at the front.
 #[derive(Clone, Copy, Drop)]
-pub(crate) enum Turn {
+pub(crate) enum Act {
     /// A request that took this many bytes of the piece was answered, and the session continues.
     Went(usize),
     /// The piece was appended to what is held.
@@ -42,18 +43,18 @@ pub struct HttpSession {
 impl Model for HttpSession {
     ghost use Rattle.std.specs.Prelude.{List, ℕ};
     ghost use Rattle.http_front.specs.Fronts.{head_limit};
-    ghost use Rattle.http_front.specs.Scans.{IsHeld};
+    ghost use Rattle.http_front.specs.Scans.{IsHeldHead};
 
     ghost Value = { List ℕ };
 
     ghost view = { λ s. s.held };
 
-    ghost invariant = { λ s. IsHeld head_limit s.held s.seen };
+    ghost invariant = { λ s. IsHeldHead head_limit s.held s.seen };
 }
 
 impl HttpSession {
-    ghost use Rattle.http_front.specs.Scans.{IsHeld};
-    ghost use Rattle.http_front.specs.Sessions.{IsTurn, Takes, AnswersHead, Turns, Feeds, ReadsHead, ReadsTurn, ReadsBytes, ReadsNothing};
+    ghost use Rattle.http_front.specs.Scans.{IsHeldHead};
+    ghost use Rattle.http_front.specs.Sessions.{IsPageAct, TakesHead, AnswersHead, PageActs, AnswersPages, ReadsHead, ReadsTurn, ReadsBytes, ReadsNothing};
 
     /// Returns a session without bytes. Nothing is said before the first request. Allocates nothing.
     pub fn open(alloc: Global) -> HttpSession
@@ -98,7 +99,7 @@ impl HttpSession {
     ) -> Next
         requires ready { S.ready shelf.old ≡ true }
         requires moment { IsMoment moment }
-        ensures fed { Feeds S.holds moment (self.old ++ piece.now) shelf.old
+        ensures fed { AnswersPages S.holds moment (self.old ++ piece.now) shelf.old
             (outside (O.taken out.old) (S.faults shelf.old) (O.faults out.old))
             (continues result) self.new
             (outside (O.taken out.new) (S.faults shelf.new) (O.faults out.new)) }
@@ -106,15 +107,15 @@ impl HttpSession {
             (S.reads shelf.new) }
         ensures unread { ReadsNothing S.holds (self.old ++ piece.now) shelf.old (S.reads shelf.old)
             (S.reads shelf.new) }
-        ensures shelf { Stays S.holds S.ready S.alike S.faults shelf.old shelf.new }
+        ensures shelf { ShelfStays S.holds S.ready S.alike S.faults shelf.old shelf.new }
         ensures sink { O.alike out.old out.new }
     {
         let mut rest = piece;
         loop {
             match self.act(rest, moment, shelf, out) {
-                Turn::Went(taken) => rest = rest.split_at(taken).1,
-                Turn::Kept => return Next::Go,
-                Turn::Closed => return Next::Close,
+                Act::Went(taken) => rest = rest.split_at(taken).1,
+                Act::Kept => return Next::Go,
+                Act::Closed => return Next::Close,
             }
         }
     }
@@ -126,23 +127,23 @@ impl HttpSession {
         moment: u64,
         shelf: &mut S,
         out: &mut O,
-    ) -> Turn
+    ) -> Act
         requires ready { S.ready shelf.old ≡ true }
         requires moment { IsMoment moment }
-        ensures turn { Turns S.holds moment self.old piece.now shelf.old
+        ensures turn { PageActs S.holds moment self.old piece.now shelf.old
             (outside (O.taken out.old) (S.faults shelf.old) (O.faults out.old)) result self.new
             (outside (O.taken out.new) (S.faults shelf.new) (O.faults out.new)) }
-        ensures takes { Takes piece.now result }
+        ensures takes { TakesHead piece.now result }
         ensures reads { ReadsTurn S.holds self.old piece.now shelf.old result self.new
             (S.reads shelf.old) (S.reads shelf.new) }
-        ensures shelf { Stays S.holds S.ready S.alike S.faults shelf.old shelf.new }
+        ensures shelf { ShelfStays S.holds S.ready S.alike S.faults shelf.old shelf.new }
         ensures sink { O.alike out.old out.new }
     {
         match head_in(self.held.as_slice(), self.seen, piece) {
             Ahead::More(seen) => self.hold(piece, seen, moment, out),
             Ahead::Long => {
                 let _ = say_status(Status::HeadTooLarge, moment, true, true, out);
-                Turn::Closed
+                Act::Closed
             }
             Ahead::Head(taken) => {
                 let last = piece.split_at(taken).0;
@@ -169,7 +170,7 @@ impl HttpSession {
         ensures empty { self.new ≡ [] }
         ensures reads { ReadsHead S.holds (self.old ++ last.now) shelf.old (S.reads shelf.old)
             (S.reads shelf.new) }
-        ensures shelf { Stays S.holds S.ready S.alike S.faults shelf.old shelf.new }
+        ensures shelf { ShelfStays S.holds S.ready S.alike S.faults shelf.old shelf.new }
         ensures sink { O.alike out.old out.new }
     {
         if self.held.len() == 0 {
@@ -184,39 +185,39 @@ impl HttpSession {
     }
 
     /// Keeps a piece that doesn't end a head. An empty piece needs no memory.
-    fn hold<O: Sink>(&mut self, piece: &[u8], seen: Seen, moment: u64, out: &mut O) -> Turn
-        requires held { IsHeld head_limit (self.old ++ piece.now) seen }
+    fn hold<O: Sink>(&mut self, piece: &[u8], seen: Seen, moment: u64, out: &mut O) -> Act
+        requires held { IsHeldHead head_limit (self.old ++ piece.now) seen }
         requires moment { IsMoment moment }
         ensures turn { (a : Archive) (disk : ℕ)
-            → IsTurn moment a self.old piece.now
+            → IsPageAct moment a self.old piece.now
             (outside (O.taken out.old) disk (O.faults out.old)) result self.new
             (outside (O.taken out.new) disk (O.faults out.new)) }
-        ensures ends { (result ≡ Turn.Kept) ⊎ (result ≡ Turn.Closed) }
+        ensures ends { (result ≡ Act.Kept) ⊎ (result ≡ Act.Closed) }
         ensures sink { O.alike out.old out.new }
     {
         if piece.is_empty() {
             self.seen = seen;
-            return Turn::Kept;
+            return Act::Kept;
         }
         match self.held.keep(piece) {
             Ok(()) => {
                 self.seen = seen;
-                Turn::Kept
+                Act::Kept
             }
             Err(NoMemory) => {
                 let _ = say_status(Status::Unavailable, moment, true, true, out);
-                Turn::Closed
+                Act::Closed
             }
         }
     }
 }
 
 /// Continues after a request that took `taken` bytes of the piece, or closes.
-fn went(taken: usize, next: Next) -> Turn
-    ensures { result ≡ (if continues next then Turn.Went taken else Turn.Closed) }
+fn went(taken: usize, next: Next) -> Act
+    ensures { result ≡ (if continues next then Act.Went taken else Act.Closed) }
 {
     match next {
-        Next::Go => Turn::Went(taken),
-        Next::Close => Turn::Closed,
+        Next::Go => Act::Went(taken),
+        Next::Close => Act::Closed,
     }
 }

@@ -1,16 +1,17 @@
 //! The thread of a mail: its mails by date, and its page.
+//! Allocates.
 ghost use Rattle.std.specs.Prelude.{◌≡◌, ◌++◌, IfOk, OnOk, Some, true, [], map, take, reverse};
 ghost use Rattle.std.specs.BTreeSet.{insert_key};
 ghost use Rattle.std.specs.List.{flat_map};
 ghost use Rattle.arch_model.specs.Archives.{Archive};
 ghost use Rattle.arch_model.specs.Listings.{date_cmp, number_beside};
 ghost use Rattle.html_pages.specs.Lines.{thread_line};
-ghost use Rattle.http_front.specs.Threads.{place_of, oldest_first, thread_rows, tree_line, IsEntryOf};
+ghost use Rattle.http_front.specs.Threads.{place_of, oldest_first, thread_rows, tree_line, IsThreadEntryOf};
 ghost use Rattle.http_front.specs.Views.{shown_row};
 ghost use Rattle.http_front.specs.Asking.{thread_found};
 ghost use Rattle.http_front.specs.Sessions.{MakesPage};
 
-use crate::found::Held;
+use crate::found::FoundBody;
 use crate::listing::rows_of;
 use arch_base::{NoMemory, Numbers};
 use arch_model::Shelf;
@@ -82,19 +83,19 @@ fn put_place(row: &Row, places: &mut BTreeSet<Place>) -> Result<(), NoMemory>
 }
 
 /// Returns the page of the thread of a number, if it has a row. Reads no text.
-pub(crate) fn thread_at<S: Shelf>(alloc: Global, n: u32, shelf: &S) -> Result<Held, NoMemory>
+pub(crate) fn thread_at<S: Shelf>(alloc: Global, n: u32, shelf: &S) -> Result<FoundBody, NoMemory>
     requires { S.ready shelf.now ≡ true }
     ensures { (a : Archive) → S.holds shelf.now a
         → MakesPage (thread_found a n (shown_row a.entries n)) result }
 {
     match shelf.row(n) {
         Some(row) => page_at(alloc, n, row, shelf),
-        None => Ok(Held::Nothing),
+        None => Ok(FoundBody::Nothing),
     }
 }
 
 /// Returns the page of the thread of a number with this row.
-fn page_at<S: Shelf>(alloc: Global, n: u32, row: &Row, shelf: &S) -> Result<Held, NoMemory>
+fn page_at<S: Shelf>(alloc: Global, n: u32, row: &Row, shelf: &S) -> Result<FoundBody, NoMemory>
     requires { S.ready shelf.now ≡ true }
     ensures { (a : Archive) → S.holds shelf.now a
         → MakesPage (thread_found a n (Some row.now)) result }
@@ -103,7 +104,7 @@ fn page_at<S: Shelf>(alloc: Global, n: u32, row: &Row, shelf: &S) -> Result<Held
     let tree = twigs.tree()?;
     let lines = lines_of(alloc, tree.as_slice(), shelf)?;
     let page = thread_page(alloc, &shelf.config().name, row, lines.as_slice())?;
-    Ok(Held::Whole(Body::Page, page))
+    Ok(FoundBody::Whole(Body::Page, page))
 }
 
 /// Returns the lines of a page by those of a tree.
@@ -150,7 +151,7 @@ fn push_line<'a, S: Shelf>(
 fn entry_of<'a, S: Shelf>(who: &'a Who, shelf: &'a S) -> Option<ThreadEntry<'a>>
     requires { S.ready shelf.now ≡ true }
     ensures { (a : Archive) → S.holds shelf.now a
-        → IsEntryOf a.config.name a.entries who.now result }
+        → IsThreadEntryOf a.config.name a.entries who.now result }
 {
     match who {
         Who::Live(n) => match shelf.row(*n) {

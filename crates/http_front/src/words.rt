@@ -1,4 +1,5 @@
 //! The words of the door of pages for what no session of it answers.
+//! Pure.
 //!
 //! Each of them closes the connection.
 ghost use Rattle.std.specs.Prelude.{◌++◌, true, codes, decimal};

@@ -1,4 +1,5 @@
 //! What a path names.
+//! Allocates.
 ghost use Rattle.std.specs.Prelude.{◌≡◌, IfOk, map, option_map};
 ghost use Rattle.percent_encoding.specs.Percent.{percent_decode as decoded};
 ghost use Rattle.http_heads.specs.Addresses.{segments_of, shown, is_ours as ours, one_segment as one, thread_form, two_segments as two, three_segments as three, named_by};

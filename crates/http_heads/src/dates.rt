@@ -1,4 +1,5 @@
 //! The dates of replies.
+//! Pure.
 ghost use Rattle.std.specs.Prelude.{◌≡◌};
 ghost use Rattle.arch_base.specs.Moments.{IsMoment};
 ghost use Rattle.http_heads.specs.Dates.{reply_date};

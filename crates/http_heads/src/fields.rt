@@ -1,4 +1,5 @@
 //! What the fields of a head say of a body and of the connection.
+//! Pure.
 ghost use Rattle.std.specs.Prelude.{◌≡◌, reverse};
 ghost use Rattle.std.specs.List.{list_any};
 ghost use Rattle.httparse.specs.Grammar.{skip_ows, trim_ows as trimmed};

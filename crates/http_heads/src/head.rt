@@ -1,4 +1,5 @@
 //! Reads the head of a request.
+//! Pure.
 ghost use Rattle.std.specs.Prelude.{◌≡◌, IfSome, Some, option_map, length, map};
 ghost use Rattle.std.specs.List.{All, list_any};
 ghost use Rattle.httparse.specs.Grammar.{RequestHead};

@@ -1,4 +1,5 @@
 //! Heads of requests and their targets, as a door of pages reads them.
+//! Allocates.
 #![tactic(auto)]
 
 mod address;

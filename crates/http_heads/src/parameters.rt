@@ -1,4 +1,5 @@
 //! The path and the parameters of a target.
+//! Allocates.
 ghost use Rattle.std.specs.Prelude.{◌≡◌, ◌≤◌, IfOk, length, option_copied};
 ghost use Rattle.std.specs.List.{prefix_len};
 ghost use Rattle.http_heads.specs.Parameters.{is_of_path, path_of, query_of, parameter as parameter_of, skipped};

@@ -1,4 +1,5 @@
 //! Pieces of bytes, between the bytes of one value.
+//! Pure.
 ghost use Rattle.std.specs.Prelude.{◌≡◌, ◌∷◌};
 ghost use Rattle.http_heads.specs.Pieces.{pieces_of, pieces_left};
 

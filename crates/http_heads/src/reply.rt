@@ -1,4 +1,5 @@
 //! What becomes of a head, and the head of a reply.
+//! Allocates.
 ghost use Rattle.std.specs.Prelude.{◌≡◌, ◌++◌, length, take, OnOk, Some, option_map};
 ghost use Rattle.arch_base.specs.Moments.{IsMoment};
 ghost use Rattle.http_heads.specs.Heads.{shown};

@@ -1,6 +1,6 @@
 -- A door whose requests are the parts of commands: a state beside what is held of a command.
 use Rattle.std.specs.Prelude.{ℕ, List, [], ◌++◌, length, Option, Some, None, Bool, true, false}
-use Rattle.line_door.specs.Acts.{Said, Way}
+use Rattle.line_door.specs.Acts.{Said, Departure}
 use Rattle.line_door.specs.Cuts.{DoorLaws}
 use Rattle.line_door.specs.Making.{closes, in_ways}
 use Rattle.line_door.specs.Plain.{silent}
@@ -27,8 +27,8 @@ state_with f None = None
 state_with f (Some state) = Some (state, f)
 
 -- The same words, where the session after them is the state with what is held.
-abbrev pub beside : {S A : Type 0} → Framing → Said S A → Said (S × Framing) A
-beside f s = record {
+abbrev pub crash_beside : {S A : Type 0} → Framing → Said S A → Said (S × Framing) A
+crash_beside f s = record {
   next = state_with f s.next;
   words = s.words;
   streamed = s.streamed;
@@ -46,21 +46,21 @@ framed_size h = length h.1.part
 -- A door: whether lines may announce octets in a state, what a whole command says in each way, what a
 -- part says that announces octets, and the words for a command that is too long and for a rest that
 -- finds no memory.
-module _ {S A : Type 0} (literals : S → Bool) (answer : A → S → List ℕ → Way → Said S A)
-    (go_on : A → S → Way → Said S A) (too_long no_memory : A → S → List ℕ) where
+module _ {S A : Type 0} (literals : S → Bool) (answer : A → S → List ℕ → Departure → Said S A)
+    (go_on : A → S → Departure → Said S A) (too_long no_memory : A → S → List ℕ) where
   -- What a rest says: it is kept, but out of memory closes the session with a word.
-  abbrev pub rest_said : A → S × Framing → Way → Said (S × Framing) A
+  abbrev pub rest_said : A → S × Framing → Departure → Said (S × Framing) A
   rest_said a h way = in_ways (silent a h) (closes a (no_memory a h.0)) (silent a h) way
 
   -- What the front of the octets says in each way. A command is all its parts.
-  abbrev pub said_at : A → S × Framing → PartFront → Way → Said (S × Framing) A
-  said_at a h (LastPart part rest) way = beside (only_rest rest) (answer a h.0 (h.1.held ++ part) way)
-  said_at a h (LiteralPart part n rest) way = beside (held_with h.1 part n rest) (go_on a h.0 way)
+  abbrev pub said_at : A → S × Framing → PartFront → Departure → Said (S × Framing) A
+  said_at a h (LastPart part rest) way = crash_beside (only_rest rest) (answer a h.0 (h.1.held ++ part) way)
+  said_at a h (LiteralPart part n rest) way = crash_beside (held_with h.1 part n rest) (go_on a h.0 way)
   said_at a h (ExcessPart rest) way = closes a (too_long a h.0)
   said_at a h OpenPart way = rest_said a h way
 
   -- What the door says.
-  abbrev pub framed_said : A → S × Framing → Way → Said (S × Framing) A
+  abbrev pub framed_said : A → S × Framing → Departure → Said (S × Framing) A
   framed_said a h way = said_at a h (front_of (literals h.0) h.1) way
 
   -- The octets start with a part that has ended, or that is too long.
@@ -70,7 +70,7 @@ module _ {S A : Type 0} (literals : S → Bool) (answer : A → S → List ℕ �
 -- However the octets of such a door are cut into pieces, it says and leaves the same, with the other
 -- laws of doors. Stated for states and archives that are numbers, and for all answers.
 abbrev pub FramedLaw : Type 0
-FramedLaw = (literals : ℕ → Bool) (answer : ℕ → ℕ → List ℕ → Way → Said ℕ ℕ)
-    (go_on : ℕ → ℕ → Way → Said ℕ ℕ) (too_long no_memory : ℕ → ℕ → List ℕ)
+FramedLaw = (literals : ℕ → Bool) (answer : ℕ → ℕ → List ℕ → Departure → Said ℕ ℕ)
+    (go_on : ℕ → ℕ → Departure → Said ℕ ℕ) (too_long no_memory : ℕ → ℕ → List ℕ)
     → DoorLaws (framed_said literals answer go_on too_long no_memory)
     (framed_request literals answer go_on too_long no_memory) framed_more framed_size

@@ -1,4 +1,4 @@
--- Private: what the functions give that find the end of a line and read what it announces.
+-- What the functions give that find the end of a line and read what it announces.
 use Rattle.std.specs.Prelude.{◌≡◌, ◌≤◌, ◌<◌, ◌+◌, ◌-◌, ℕ, min, if◌then◌else◌, nat_le, List, ◌++◌, length, take, drop, Option, Some, None, MatchOption}
 use Rattle.line_door.specs.Lines.{first_line}
 use Rattle.imap_framer.specs.Framing.{Framing}

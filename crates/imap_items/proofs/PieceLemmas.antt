@@ -6,7 +6,7 @@ use Rattle.std.proofs.lemmas.List.{take-append-drop}
 use Rattle.std.proofs.Math.Seq.{take-append_seam, drop-append_seam}
 use Rattle.memchr.specs.Find.{OccursAt, FindsNeedle}
 use Rattle.memchr.proofs.lemmas.MatchLemmas.{OccursAt-split, OccursAt-from_part}
-use Rattle.mail_reader.specs.Laws.{LiesIn}
+use Rattle.mail_reader.specs.Laws.{IsPieceOf}
 use Rattle.imap_items.specs.Searching.{starts, has_piece}
 use Rattle.imap_items.specs.Laws.{PiecesAreFound}
 
@@ -37,17 +37,17 @@ pub has-lies : (piece before after : List ℕ) → has_piece piece (before ++ (p
 has-lies piece [] after = has-start piece (piece ++ after) (starts-self piece after)
 has-lies piece (c ∷ before) after = has-later piece c (before ++ (piece ++ after)) (has-lies piece before after)
 
-front_lies : (piece text : List ℕ) → starts piece text ≡ true → LiesIn piece text
+front_lies : (piece text : List ℕ) → starts piece text ≡ true → IsPieceOf piece text
 front_lies piece text h = record { before = []; after = drop (length piece) text; is = starts-front piece text h }
 
-later_lies : (piece : List ℕ) (c : ℕ) (cs : List ℕ) → LiesIn piece cs → LiesIn piece (c ∷ cs)
+later_lies : (piece : List ℕ) (c : ℕ) (cs : List ℕ) → IsPieceOf piece cs → IsPieceOf piece (c ∷ cs)
 later_lies piece c cs l = record { before = c ∷ l.before; after = l.after; is = ap (λ t. c ∷ t) l.is }
 
-pub lies-has : (piece text : List ℕ) → has_piece piece text ≡ true → LiesIn piece text
+pub lies-has : (piece text : List ℕ) → has_piece piece text ≡ true → IsPieceOf piece text
 lies-has piece [] h = front_lies piece [] h
 lies-has piece (c ∷ cs) h = by (starts piece (c ∷ cs)) refl (lies-has piece cs)
   where
-    by : (t : Bool) → starts piece (c ∷ cs) ≡ t → (has_piece piece cs ≡ true → LiesIn piece cs) → LiesIn piece (c ∷ cs)
+    by : (t : Bool) → starts piece (c ∷ cs) ≡ t → (has_piece piece cs ≡ true → IsPieceOf piece cs) → IsPieceOf piece (c ∷ cs)
     by true e f = front_lies piece (c ∷ cs) e
     by false e f =
         let no_start : (starts piece (c ∷ cs) || has_piece piece cs) ≡ has_piece piece cs = rw e refl in
@@ -65,7 +65,7 @@ occurs-has piece text k o =
 none_has : (piece text : List ℕ) → FindsNeedle text piece 0 None → has_piece piece text ≡ true → ⊥
 none_has piece text none has = let l = lies-has piece text has in at l
   where
-    at : LiesIn piece text → ⊥
+    at : IsPieceOf piece text → ⊥
     at l =
         let long : length text ≡ length l.before + (length piece + length l.after) =
         ap length l.is ∙ length-append l.before (piece ++ l.after) ∙ ap (λ n. length l.before + n) (length-append piece l.after) in

@@ -4,7 +4,7 @@ use Rattle.std.specs.Prelude.{option_and_then}
 use Rattle.std.proofs.lemmas.List.{take-append-drop}
 use Rattle.std.proofs.lemmas.Option.{same_Some, none-some}
 use Rattle.mail_reader.specs.Bodies.{body_of}
-use Rattle.mail_reader.specs.Laws.{LiesIn, PartsLieIn, wholes}
+use Rattle.mail_reader.specs.Laws.{IsPieceOf, PartsLieIn, wholes}
 use Rattle.mail_reader.specs.Fields.{fields_of}
 use Rattle.mime_parts.specs.declared.part.Part.{Part}
 use Rattle.mime_parts.specs.declared.part.Span.{Span}
@@ -19,18 +19,18 @@ use Rattle.imap_items.specs.Sections.{PlaceText, place_of, mail_with, whole_mail
 use Rattle.imap_items.specs.Laws.{IsHeaderIn, IsMimeIn, IsSectionOf, SectionsAreSpans, is_inside, InnerMailsAgree}
 
 -- The bytes of a span are a piece of the text.
-span_lies : (text : List ℕ) (n m : ℕ) → LiesIn (take n (drop m text)) text
+span_lies : (text : List ℕ) (n m : ℕ) → IsPieceOf (take n (drop m text)) text
 span_lies text n m = record {
   before = take m text;
   after = drop n (drop m text);
   is = sym (take-append-drop m text) ∙ ap (λ t. take m text ++ t) (sym (take-append-drop n (drop m text)));
 }
 
-at_lies : (text : List ℕ) (s : Span) → LiesIn (bytes_at text s) text
+at_lies : (text : List ℕ) (s : Span) → IsPieceOf (bytes_at text s) text
 at_lies text s = span_lies text (s.end - s.start) s.start
 
 -- A piece of a piece is one.
-lies_in : (a b c : List ℕ) → LiesIn a b → LiesIn b c → LiesIn a c
+lies_in : (a b c : List ℕ) → IsPieceOf a b → IsPieceOf b c → IsPieceOf a c
 lies_in a b c x y = record {
   before = y.before ++ x.before;
   after = x.after ++ y.after;
@@ -39,13 +39,13 @@ lies_in a b c x y = record {
       ∙ sym (append_assoc y.before x.before (a ++ (x.after ++ y.after)));
 }
 
-whole_lies : (text : List ℕ) → LiesIn text text
+whole_lies : (text : List ℕ) → IsPieceOf text text
 whole_lies text = record { before = []; after = []; is = sym (append-nil text) }
 
-nothing_lies : (text : List ℕ) → LiesIn [] text
+nothing_lies : (text : List ℕ) → IsPieceOf [] text
 nothing_lies text = record { before = []; after = text; is = refl }
 
-body_lies : (bytes : List ℕ) → PartsLieIn → LiesIn (body_of bytes) bytes
+body_lies : (bytes : List ℕ) → PartsLieIn → IsPieceOf (body_of bytes) bytes
 body_lies bytes law =
     let parts = law bytes in record {
       before = wholes (fields_of bytes) ++ parts.empty_line;
@@ -55,8 +55,8 @@ body_lies bytes law =
 
 -- The header and the body of a place are pieces of the text.
 record IsPlaced (text : List ℕ) (place : PlaceText) : Type 0 where
-  header : LiesIn place.header text
-  body : LiesIn place.body text
+  header : IsPieceOf place.header text
+  body : IsPieceOf place.body text
 
 -- Whatever was found is.
 IfPlaced : List ℕ → Option PlaceText → Type 0
@@ -74,7 +74,7 @@ one_placed text false p below other h = h
 nth_placed : (text : List ℕ) (n : ℕ) (f : Forest) → IfPlaced text (nth_tree text n f)
 unfolding IfPlaced
 nth_placed text n Bare = tt
-nth_placed text n (Tree p below beside) = one_placed text (eqb n 1) p below (nth_tree text (n - 1) beside) (nth_placed text (n - 1) beside)
+nth_placed text n (Tree p below crash_beside) = one_placed text (eqb n 1) p below (nth_tree text (n - 1) crash_beside) (nth_placed text (n - 1) crash_beside)
 
 of_placed : (text : List ℕ) (n : ℕ) (shape : Shape) (p : Part) (below : Forest) → IfPlaced text (part_of text n shape p below)
 unfolding IfPlaced
@@ -85,7 +85,7 @@ of_placed text n Multipart p below = nth_placed text n below
 message_placed : (text : List ℕ) (n : ℕ) (f : Forest) → IfPlaced text (part_of_message text n f)
 unfolding IfPlaced
 message_placed text n Bare = tt
-message_placed text n (Tree p below beside) = of_placed text n p.shape p below
+message_placed text n (Tree p below crash_beside) = of_placed text n p.shape p below
 
 by_placed : (text : List ℕ) (n : ℕ) (shape : Shape) (f : Forest) → IfPlaced text (part_by text n shape f)
 unfolding IfPlaced

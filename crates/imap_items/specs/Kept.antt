@@ -42,11 +42,11 @@ abbrev pub lower_body : List ℕ → List ℕ
 lower_body text = str_to_ascii_lowercase (body_text_of text)
 
 -- The values that are kept of a name are those of its fields.
-abbrev pub IsNamed : List ℕ → NamedValues → Type 0
-IsNamed text named = named.values ≡ lower_values named.name text
+abbrev pub IsNamedField : List ℕ → NamedValues → Type 0
+IsNamedField text named = named.values ≡ lower_values named.name text
 
 -- What is kept is of this text.
-pub record IsKept (text : List ℕ) (kept : Kept) : Type 0 where
+pub record IsKeptText (text : List ℕ) (kept : Kept) : Type 0 where
   pub header : MatchOption kept.header (Unit {0}) (λ lower. lower ≡ lower_header text)
   pub body : MatchOption kept.body (Unit {0}) (λ lower. lower ≡ lower_body text)
-  pub fields : All (IsNamed text) kept.fields.items
+  pub fields : All (IsNamedField text) kept.fields.items

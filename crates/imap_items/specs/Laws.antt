@@ -1,6 +1,6 @@
 -- Laws of sections and of keys.
 use Rattle.std.specs.Prelude.{◌≡◌, ◌↔◌, ℕ, Bool, true, false, List, [], ◌∷◌, ◌++◌, Option, Some}
-use Rattle.mail_reader.specs.Laws.{LiesIn}
+use Rattle.mail_reader.specs.Laws.{IsPieceOf}
 use Rattle.mime_parts.specs.declared.part.Shape.{Shape}
 use Rattle.mime_parts.specs.declared.part.Shape.TheVariants.{Message}
 use Rattle.imap_syntax.specs.declared.items.Section.{Section}
@@ -14,23 +14,23 @@ use Rattle.imap_items.specs.Keys.{MessageText, matches_of, reads_text}
 -- The fields of a message in a text that a section has, and an empty line.
 pub record IsHeaderIn (what : SectionText) (text source : List ℕ) : Type 0 where
   pub message : List ℕ
-  pub lies : LiesIn message text
+  pub lies : IsPieceOf message text
   pub is : source ≡ header_bytes what message
 
 -- The header that tells of a part of a text, and an empty line.
 pub record IsMimeIn (text source : List ℕ) : Type 0 where
   pub header : List ℕ
-  pub lies : LiesIn header text
+  pub lies : IsPieceOf header text
   pub is : source ≡ header ++ 10 ∷ []
 
 -- The bytes of a section, by what is asked for: fields of a message in the text, the header that tells
 -- of a part, or one span of the text.
 abbrev pub IsSectionOf : SectionText → List ℕ → List ℕ → Type 0
-IsSectionOf asked.Whole text source = LiesIn source text
+IsSectionOf asked.Whole text source = IsPieceOf source text
 IsSectionOf asked.Header text source = IsHeaderIn asked.Header text source
 IsSectionOf (asked.Fields names) text source = IsHeaderIn (asked.Fields names) text source
 IsSectionOf (asked.FieldsNot names) text source = IsHeaderIn (asked.FieldsNot names) text source
-IsSectionOf asked.Text text source = LiesIn source text
+IsSectionOf asked.Text text source = IsPieceOf source text
 IsSectionOf asked.Mime text source = IsMimeIn text source
 
 -- The law of sections: each one that is there is such bytes.
@@ -63,4 +63,4 @@ UnreadTextsAreAlike = (a : MessageText) (text : List ℕ) (key : Key) → reads_
 
 -- The law of pieces: a text has another in it exactly where that is a piece of it.
 abbrev pub PiecesAreFound : Type 0
-PiecesAreFound = (piece text : List ℕ) → (has_piece piece text ≡ true) ↔ LiesIn piece text
+PiecesAreFound = (piece text : List ℕ) → (has_piece piece text ≡ true) ↔ IsPieceOf piece text

@@ -5,7 +5,7 @@ ghost use Rattle.std.specs.List.{All, list_any};
 ghost use Rattle.mail_reader.specs.Values.{flat_of};
 ghost use Rattle.imap_items.specs.Searching.{has_piece};
 ghost use Rattle.imap_items.specs.Keys.{in_field, in_body, in_text, found_in_header};
-ghost use Rattle.imap_items.specs.Kept.{lower_decoded, lower_values, lower_header, lower_body, IsKept, IsNamed};
+ghost use Rattle.imap_items.specs.Kept.{lower_decoded, lower_values, lower_header, lower_body, IsKeptText, IsNamedField};
 
 use crate::searching::{has_piece, lower};
 use arch_base::{Bytes, NoMemory, Texts};
@@ -36,7 +36,7 @@ struct NamedValues {
 impl Kept {
     /// Returns a keeper of nothing.
     pub(crate) fn new(alloc: Global, text: &[u8]) -> Kept
-        ensures { IsKept text.now result }
+        ensures { IsKeptText text.now result }
     {
         Kept {
             header: None,
@@ -52,9 +52,9 @@ impl Kept {
         text: &[u8],
         piece: &[u8],
     ) -> Result<bool, NoMemory>
-        requires { IsKept text.now self.old }
+        requires { IsKeptText text.now self.old }
         ensures found { IfOk result (λ found. found ≡ in_body piece.now text.now) }
-        ensures kept { OnOk result (IsKept text.now self.new) }
+        ensures kept { OnOk result (IsKeptText text.now self.new) }
     {
         let piece = lower(alloc, piece)?;
         if let Some(body) = &self.body {
@@ -68,9 +68,9 @@ impl Kept {
 
     /// Returns whether a text is found in the header as it is sent.
     fn in_header(&mut self, alloc: Global, text: &[u8], piece: &[u8]) -> Result<bool, NoMemory>
-        requires { IsKept text.now self.old }
+        requires { IsKeptText text.now self.old }
         ensures found { IfOk result (λ found. found ≡ found_in_header piece.now text.now) }
-        ensures kept { OnOk result (IsKept text.now self.new) }
+        ensures kept { OnOk result (IsKeptText text.now self.new) }
     {
         let piece = lower(alloc, piece)?;
         if let Some(header) = &self.header {
@@ -89,9 +89,9 @@ impl Kept {
         text: &[u8],
         piece: &[u8],
     ) -> Result<bool, NoMemory>
-        requires { IsKept text.now self.old }
+        requires { IsKeptText text.now self.old }
         ensures found { IfOk result (λ found. found ≡ in_text piece.now text.now) }
-        ensures kept { OnOk result (IsKept text.now self.new) }
+        ensures kept { OnOk result (IsKeptText text.now self.new) }
     {
         if self.in_header(alloc, text, piece)? {
             return Ok(true);
@@ -107,9 +107,9 @@ impl Kept {
         name: &[u8],
         piece: &[u8],
     ) -> Result<bool, NoMemory>
-        requires { IsKept text.now self.old }
+        requires { IsKeptText text.now self.old }
         ensures found { IfOk result (λ found. found ≡ in_field name.now piece.now text.now) }
-        ensures kept { OnOk result (IsKept text.now self.new) }
+        ensures kept { OnOk result (IsKeptText text.now self.new) }
     {
         let piece = lower(alloc, piece)?;
         if let Some(values) = values_of(self.fields.as_slice(), text, name) {
@@ -127,7 +127,7 @@ impl Kept {
 
 /// Returns the values that are kept of a name, if it was asked for before.
 fn values_of<'a>(kept: &'a [NamedValues], text: &[u8], name: &[u8]) -> Option<&'a [Bytes]>
-    requires { All (IsNamed text.now) kept.now }
+    requires { All (IsNamedField text.now) kept.now }
     ensures { IfSome result (λ values. values.now ≡ lower_values name.now text.now) }
 {
     for named in kept {

@@ -3,7 +3,7 @@
 ghost use Rattle.std.specs.Prelude.{◌≡◌, IfOk, OnOk, map};
 ghost use Rattle.std.specs.List.{list_all, list_any};
 ghost use Rattle.imap_items.specs.Keys.{message_of, matches_of, reads_text};
-ghost use Rattle.imap_items.specs.Kept.{shown_message, IsKept};
+ghost use Rattle.imap_items.specs.Kept.{shown_message, IsKeptText};
 
 use crate::days::{arrival_day, day_shown, is_day, is_day_before};
 use crate::kept::Kept;
@@ -80,9 +80,9 @@ fn matches_key(
     key: &Key,
     kept: &mut Kept,
 ) -> Result<bool, NoMemory>
-    requires { IsKept message.now.text.now kept.old }
+    requires { IsKeptText message.now.text.now kept.old }
     ensures found { IfOk result (λ found. found ≡ matches_of (shown_message message.now) key.now) }
-    ensures kept { OnOk result (IsKept message.now.text.now kept.new) }
+    ensures kept { OnOk result (IsKeptText message.now.text.now kept.new) }
 {
     match key {
         Key::All => Ok(true),
@@ -141,10 +141,10 @@ fn matches_each(
     keys: &[Key],
     kept: &mut Kept,
 ) -> Result<bool, NoMemory>
-    requires { IsKept message.now.text.now kept.old }
+    requires { IsKeptText message.now.text.now kept.old }
     ensures found { IfOk result (λ found. found
         ≡ list_all (λ b. b) (map (matches_of (shown_message message.now)) keys.now)) }
-    ensures kept { OnOk result (IsKept message.now.text.now kept.new) }
+    ensures kept { OnOk result (IsKeptText message.now.text.now kept.new) }
 {
     for key in keys {
         if !matches_key(alloc, message, key, kept)? {

@@ -1,6 +1,7 @@
-//! The items of messages that FETCH asks for, and the keys by which SEARCH finds them (RFC 3501,
-//! sections 6.4.4, 6.4.5 and 7.4.2).
+//! The items that FETCH asks for, and the keys by which SEARCH finds messages (RFC 3501).
 //! Allocates.
+//!
+//! They stand in its sections 6.4.4, 6.4.5 and 7.4.2. Allocates.
 #![tactic(auto)]
 
 mod days;

@@ -1,5 +1,6 @@
-//! Strings, envelopes and structures of messages, as replies of IMAP tell them (RFC 3501, sections 4
-//! and 7.4.2).
+//! Strings, envelopes and structures of messages in replies (RFC 3501, sections 4 and 7.4.2).
+//! Allocates.
+//!
 //! Allocates.
 #![tactic(auto)]
 

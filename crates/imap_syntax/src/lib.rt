@@ -1,6 +1,7 @@
-//! The commands of IMAP (RFC 3501, section 9, and RFC 2177), their reader, and the framer of
-//! `imap_framer`.
+//! The commands of IMAP (RFC 3501, section 9, and RFC 2177), and their reader.
 //! Allocates.
+//!
+//! The framer of `imap_framer` is passed on.
 #![tactic(auto)]
 
 mod asks;

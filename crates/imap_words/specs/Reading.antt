@@ -48,9 +48,9 @@ byte_at b [] = None
 byte_at b (c ∷ cs) = if c == b then Some cs else None
 
 -- An octet was read, if it came next.
-abbrev pub Continues : ℕ → List ℕ → List ℕ → Bool → Type 0
-Continues b old new true = byte_at b old ≡ Some new
-Continues b old new false = (byte_at b old ≡ None) × (new ≡ old)
+abbrev pub TakesByte : ℕ → List ℕ → List ℕ → Bool → Type 0
+TakesByte b old new true = byte_at b old ≡ Some new
+TakesByte b old new false = (byte_at b old ≡ None) × (new ≡ old)
 
 -- One or more octets of a kind, as many as there are.
 abbrev pub run_at : (ℕ → Bool) → List ℕ → Option (List ℕ × List ℕ)

@@ -3,7 +3,7 @@
 ghost use Rattle.std.specs.Prelude.{◌≡◌, ◌≤◌, [], ◌∷◌, length, take, drop, slice_index, MatchOption, is_some};
 ghost use Rattle.std.specs.List.{prefix_len};
 ghost use Rattle.imap_words.specs.Kinds.{is_of};
-ghost use Rattle.imap_words.specs.Reading.{ObtainsSlice, Skips, Continues, Copies, byte_at, run_at, word_of, behind_word, line_end_at, end_at};
+ghost use Rattle.imap_words.specs.Reading.{ObtainsSlice, Skips, TakesByte, Copies, byte_at, run_at, word_of, behind_word, line_end_at, end_at};
 
 use crate::kinds::{Kind, run_len};
 use crate::stop::Stop;
@@ -86,7 +86,7 @@ impl<'a> Cursor<'a> {
 
     /// Takes an octet, if it comes next, and returns whether it does.
     pub fn has(&mut self, byte: u8) -> bool
-        ensures { Continues byte self.old self.new result }
+        ensures { TakesByte byte self.old self.new result }
     {
         match self.rest {
             [] => false,

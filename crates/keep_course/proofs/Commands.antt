@@ -5,13 +5,13 @@ use Rattle.arch_base.specs.Counts.{Rose}
 use Rattle.edge_io.specs.Phrases.{Says}
 use Rattle.edge_io.specs.declared.sink.SinkFault.{SinkFault}
 use Rattle.edge_io.proofs.Wording.{plus-none}
-use Rattle.line_door.specs.Acts.{Outside, Said, Way, Plain, Memory, Disk, Newer, Acts, held_if}
+use Rattle.line_door.specs.Acts.{ConnectionState, Said, Departure, Plain, Memory, Disk, Newer, Acts, held_if}
 use Rattle.line_door.specs.Making.{says, closes}
 use Rattle.line_door.proofs.Acting.{acts-by_held, acts-closing}
 use Rattle.arch_model.specs.Archives.{Archive}
 use Rattle.arch_model.specs.Delivery.{Done}
-use Rattle.arch_model.specs.Standing.{Standing, standing, unsure, IsFound}
-use Rattle.arch_model.specs.Keeping.{Settles, StaysShut, Obeys, Doubts, StaysStale, Comes, AnswerCause, OpeningWhy}
+use Rattle.arch_model.specs.Standing.{LastKnown, standing, unsure, IsFound}
+use Rattle.arch_model.specs.Keeping.{Settles, ReopeningRefused, Obeys, Doubts, StaysStale, CommandGives, AnswerCause, OpeningWhy}
 use Rattle.arch_model.specs.declared.answer.Answer.{Answer}
 use Rattle.arch_model.specs.declared.answer.Answer.TheVariants as answer
 use Rattle.arch_model.specs.declared.opening.OpenRefusal.{OpenRefusal}
@@ -21,10 +21,10 @@ use Rattle.keep_course.specs.Answering.{newer_of, newer, said_reopening}
 
 -- A command on the archive that is held was answered, and a door's line for the answer was said. Of
 -- the door's words this is what matters: after a fault of the disk the command is in doubt.
-module _ {H : Type 0} (words : Way → Said H Standing) (h : H) (line : Answer → List ℕ) (a : Archive) (wanted : Archive → Done)
+module _ {H : Type 0} (words : Departure → Said H LastKnown) (h : H) (line : Answer → List ℕ) (a : Archive) (wanted : Archive → Done)
     (plain : words Plain ≡ says (standing (wanted a).archive None) h (line (wanted a).answer)) (memory : words Memory ≡ says (standing a None) h (line answer.NoMemory))
     (disk : words Disk ≡ says (standing a (Some (wanted a).archive)) h (line answer.DiskFault)) where
-  obeyed : (reply : Answer) (t : Standing) (i j : Outside) (sent : Result Unit SinkFault) → Obeys (standing a None) wanted reply t → j.disk ≡ i.disk → Says (line reply) i.out i.lost j.out j.lost sent → Acts words i (held_if (is_ok sent) h) t j
+  obeyed : (reply : Answer) (t : LastKnown) (i j : ConnectionState) (sent : Result Unit SinkFault) → Obeys (standing a None) wanted reply t → j.disk ≡ i.disk → Says (line reply) i.out i.lost j.out j.lost sent → Acts words i (held_if (is_ok sent) h) t j
   obeyed reply t i j sent obeys kept said =
       let found : obeys.found ≡ a = found-one a obeys.found obeys.is_found in
       let answer_is : (wanted a).answer ≡ reply = ap (λ (x : Archive). (wanted x).answer) (sym found) ∙ obeys.answer_is in
@@ -32,19 +32,19 @@ module _ {H : Type 0} (words : Way → Said H Standing) (h : H) (line : Answer �
       acts-by_held words Plain (says (standing (wanted a).archive None) h (line (wanted a).answer)) i j h t sent plain refl kept (omega (arith, kept))
       (subst (λ (r : Answer). Says (line r) i.out i.lost j.out j.lost sent) (sym answer_is) said) stands
 
-  starved : (t : Standing) (i j : Outside) (sent : Result Unit SinkFault) → StaysStale true (standing a None) t ⊎ Settles (standing a None) t → j.disk ≡ i.disk → Says (line answer.NoMemory) i.out i.lost j.out j.lost sent → Acts words i (held_if (is_ok sent) h) t j
+  starved : (t : LastKnown) (i j : ConnectionState) (sent : Result Unit SinkFault) → StaysStale true (standing a None) t ⊎ Settles (standing a None) t → j.disk ≡ i.disk → Says (line answer.NoMemory) i.out i.lost j.out j.lost sent → Acts words i (held_if (is_ok sent) h) t j
   starved t i j sent (inl stale) kept said = absurd (false≢true (sym stale.stale))
   starved t i j sent (inr settles) kept said =
       let stands : t ≡ standing a None = ap (λ (d : Option Archive). standing t.archive d) settles.sure ∙ ap (λ (x : Archive). standing x None) (found-one a t.archive settles.found) in
       acts-by_held words Memory (says (standing a None) h (line answer.NoMemory)) i j h t sent memory refl kept (omega (arith, kept)) said stands
 
-  failed : (t : Standing) (i j : Outside) (sent : Result Unit SinkFault) → StaysStale true (unsure (standing a None)) t ⊎ Doubts (standing a None) wanted t → Rose i.disk j.disk → i.disk ≤ j.disk → Says (line answer.DiskFault) i.out i.lost j.out j.lost sent → Acts words i (held_if (is_ok sent) h) t j
+  failed : (t : LastKnown) (i j : ConnectionState) (sent : Result Unit SinkFault) → StaysStale true (unsure (standing a None)) t ⊎ Doubts (standing a None) wanted t → Rose i.disk j.disk → i.disk ≤ j.disk → Says (line answer.DiskFault) i.out i.lost j.out j.lost sent → Acts words i (held_if (is_ok sent) h) t j
   failed t i j sent (inl stale) cause later said = absurd (false≢true (sym stale.stale))
   failed t i j sent (inr doubts) cause later said =
       let stands : t ≡ standing a (Some (wanted a).archive) = doubts.stands ∙ ap (λ (x : Archive). standing x (Some (wanted x).archive)) (found-one a doubts.found doubts.is_found) in
       acts-by_held words Disk (says (standing a (Some (wanted a).archive)) h (line answer.DiskFault)) i j h t sent disk refl cause later said stands
 
-  pub commanded : (reply : Answer) (t : Standing) (i j : Outside) (sent : Result Unit SinkFault) → Comes true (standing a None) wanted reply t → AnswerCause i.disk j.disk reply → i.disk ≤ j.disk → Says (line reply) i.out i.lost j.out j.lost sent
+  pub commanded : (reply : Answer) (t : LastKnown) (i j : ConnectionState) (sent : Result Unit SinkFault) → CommandGives true (standing a None) wanted reply t → AnswerCause i.disk j.disk reply → i.disk ≤ j.disk → Says (line reply) i.out i.lost j.out j.lost sent
       → Acts words i (held_if (is_ok sent) h) t j
   commanded answer.NoMemory t i j sent comes kept later said = starved t i j sent comes kept said
   commanded answer.DiskFault t i j sent comes cause later said = failed t i j sent comes cause later said
@@ -60,24 +60,24 @@ module _ {H : Type 0} (words : Way → Said H Standing) (h : H) (line : Answer �
   commanded answer.IsMirror t i j sent comes kept later said = obeyed answer.IsMirror t i j sent comes kept said
 
 -- The archive was reopened, or that was refused and a door's line for the refusal was said.
-module _ {H : Type 0} (line : OpenRefusal → List ℕ) (s : Standing) (h : H) where
-  said_nothing : (i j : Outside) → j.out ≡ i.out → j.lost ≡ i.lost → Says [] i.out i.lost j.out j.lost (Ok tt)
+module _ {H : Type 0} (line : OpenRefusal → List ℕ) (s : LastKnown) (h : H) where
+  said_nothing : (i j : ConnectionState) → j.out ≡ i.out → j.lost ≡ i.lost → Says [] i.out i.lost j.out j.lost (Ok tt)
   said_nothing i j out lost = (lost, out ∙ plus-none i.out)
 
-  settled_is : (t : Standing) (b : Archive) → t.archive ≡ b → t.doubt ≡ None → t ≡ standing b None
+  settled_is : (t : LastKnown) (b : Archive) → t.archive ≡ b → t.in_doubt ≡ None → t ≡ standing b None
   settled_is t b found sure = ap (λ (d : Option Archive). standing t.archive d) sure ∙ ap (λ (x : Archive). standing x None) found
 
-  pub reopening-found : (t : Standing) (i j : Outside) → Settles s t → j.disk ≡ i.disk → j.out ≡ i.out → j.lost ≡ i.lost → Acts (said_reopening line s h) i (Some h) t j
+  pub reopening-found : (t : LastKnown) (i j : ConnectionState) → Settles s t → j.disk ≡ i.disk → j.out ≡ i.out → j.lost ≡ i.lost → Acts (said_reopening line s h) i (Some h) t j
   reopening-found t i j settles kept out lost = by settles.found
     where
       by : IsFound s t.archive → Acts (said_reopening line s h) i (Some h) t j
       by (inl older) =
           acts-by_held (said_reopening line s h) Plain (says (standing s.archive None) h []) i j h t (Ok tt) refl refl kept (omega (arith, kept)) (said_nothing i j out lost) (settled_is t s.archive older settles.sure)
-      by (inr doubt) =
-          let is : t.archive ≡ newer s = sym (ap (newer_of s.archive) doubt) in
+      by (inr in_doubt) =
+          let is : t.archive ≡ newer s = sym (ap (newer_of s.archive) in_doubt) in
           acts-by_held (said_reopening line s h) Newer (says (standing (newer s) None) h []) i j h t (Ok tt) refl refl kept (omega (arith, kept)) (said_nothing i j out lost) (settled_is t (newer s) is settles.sure)
 
-  pub reopening-refused : (t : Standing) (why : OpenRefusal) (i j : Outside) (sent : Result Unit SinkFault) → StaysShut s why t → OpeningWhy i.disk j.disk why → i.disk ≤ j.disk → Says (line why) i.out i.lost j.out j.lost sent
+  pub reopening-refused : (t : LastKnown) (why : OpenRefusal) (i j : ConnectionState) (sent : Result Unit SinkFault) → ReopeningRefused s why t → OpeningWhy i.disk j.disk why → i.disk ≤ j.disk → Says (line why) i.out i.lost j.out j.lost sent
       → Acts (said_reopening line s h) i None t j
   reopening-refused t opening.DiskFault i j sent same cause later said = acts-closing (said_reopening line s h) Disk (closes (unsure s) (line opening.DiskFault)) i j t sent refl refl cause later said same
   reopening-refused t opening.NoMemory i j sent same cause later said = acts-closing (said_reopening line s h) Memory (closes s (line opening.NoMemory)) i j t sent refl refl cause later said same

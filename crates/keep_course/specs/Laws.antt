@@ -2,12 +2,12 @@
 -- so far, and a crash may leave any of them.
 use Rattle.std.specs.Prelude.{◌≡◌, ℕ, Bool, true, List, [], ◌∷◌, ◌++◌, Option, Some}
 use Rattle.std.specs.List.{Contains}
-use Rattle.line_door.specs.Acts.{Said, Way}
-use Rattle.line_door.specs.Course.{Talk}
+use Rattle.line_door.specs.Acts.{Said, Departure}
+use Rattle.line_door.specs.Course.{SessionState}
 use Rattle.arch_model.specs.Archives.{Archive}
-use Rattle.arch_model.specs.Standing.{Standing}
-use Rattle.arch_model.specs.Keeping.{Passes, Fits}
-use Rattle.keep_course.specs.Courses.{Course, archives_in}
+use Rattle.arch_model.specs.Standing.{LastKnown}
+use Rattle.arch_model.specs.Keeping.{CrashesLeaveOnly, MatchesKnown}
+use Rattle.keep_course.specs.Courses.{SessionRun, archives_in}
 
 -- It holds its last archive.
 abbrev pub HistoryHolds : List Archive → Archive → Type 0
@@ -27,15 +27,15 @@ HistoryLeaves start k may = (a : Archive) → Contains k a → Contains may (Som
 
 -- A crash since the start of a course leaves an archive of one of its talks, or one in doubt there.
 abbrev pub CourseLaw : Type 0
-CourseLaw = (said : Standing → ℕ → Way → Said ℕ Standing) (is_request : ℕ → Bool)
-    (old new : List Archive) (w v : Talk ℕ Standing)
-    → Fits HistoryHolds HistoryRests history_ready HistoryLeaves old w.after
-    → (course : Course HistoryLeaves said is_request old new w v)
+CourseLaw = (said : LastKnown → ℕ → Departure → Said ℕ LastKnown) (is_request : ℕ → Bool)
+    (old new : List Archive) (w v : SessionState ℕ LastKnown)
+    → MatchesKnown HistoryHolds HistoryRests history_ready HistoryLeaves old w.after
+    → (course : SessionRun HistoryLeaves said is_request old new w v)
     → HistoryLeaves old new (archives_in w (course.acts ++ v ∷ []))
 
 -- Courses in order: a crash since the first leaves an archive of a standing of one of them, where
 -- each begins with the standing that the one before left.
 abbrev pub ChainLaw : Type 0
-ChainLaw = (old mid new : List Archive) (ss : List Standing) (t : Standing) (us : List Standing)
-    → Passes HistoryLeaves old mid (ss ++ t ∷ []) → Passes HistoryLeaves mid new (t ∷ us)
-    → Passes HistoryLeaves old new (ss ++ t ∷ us)
+ChainLaw = (old mid new : List Archive) (ss : List LastKnown) (t : LastKnown) (us : List LastKnown)
+    → CrashesLeaveOnly HistoryLeaves old mid (ss ++ t ∷ []) → CrashesLeaveOnly HistoryLeaves mid new (t ∷ us)
+    → CrashesLeaveOnly HistoryLeaves old new (ss ++ t ∷ us)

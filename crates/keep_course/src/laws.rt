@@ -1,4 +1,5 @@
 //! Laws of courses over a keeper, stated at a small keeper.
+//! Pure.
 ghost use Rattle.keep_course.specs.Laws.{CourseLaw, ChainLaw};
 
 /// Shows that a crash since the start of a course over the small keeper leaves an archive of one of its

@@ -1,5 +1,7 @@
-//! What the doors over a keeper share: courses that say what a crash in them leaves, and what a
-//! command and a reopening say.
+//! What the doors over a keeper share: courses, and what a command and a reopening say.
+//! Pure.
+//!
+//! A course says what a crash in it leaves.
 #![tactic(auto)]
 
 mod laws;

@@ -8,7 +8,7 @@ use borrow.Rule.Slice.PartMut.{put_mid}
 use Rattle.line_door.specs.Clipped.{clipped_from, clipped, ClippedLaw}
 use Rattle.line_door.specs.LineLaws.{NoFeed}
 use Rattle.line_door.specs.Lines.{first_line}
-use Rattle.line_door.specs.Skipping.{Passing, Taken, Skipped, Unended, passed, skipping_front, is_ended, held_of}
+use Rattle.line_door.specs.Skipping.{SkippedLine, Taken, Skipped, Unended, passed, skipping_front, is_ended, held_of}
 use Rattle.line_door.proofs.Fronts.{first_line-joined, first_line-single, first_line-append, first_line-none, first_line-no_feed}
 use Rattle.line_door.proofs.Passages.{passed-none, passed-skipped, passed-long, passing-held, taken-from, taken-is_line, line_found}
 
@@ -125,7 +125,7 @@ clipped-unended limit bytes e = ap (skipping_front limit) (clipped-part limit by
 pub clipped-ended : (limit : ℕ) (bytes : List ℕ) → is_ended (skipping_front limit (clipped limit bytes)) ≡ is_ended (skipping_front limit bytes)
 clipped-ended limit bytes = by (skipping_front limit bytes) refl
   where
-    by : (f : Passing) → skipping_front limit bytes ≡ f → is_ended (skipping_front limit (clipped limit bytes)) ≡ is_ended (skipping_front limit bytes)
+    by : (f : SkippedLine) → skipping_front limit bytes ≡ f → is_ended (skipping_front limit (clipped limit bytes)) ≡ is_ended (skipping_front limit bytes)
     by (Taken line rest) e = ap is_ended (clipped-taken limit bytes line rest e) ∙ sym (ap is_ended e)
     by (Skipped rest) e = ap is_ended (clipped-skipped limit bytes rest e) ∙ sym (ap is_ended e)
     by Unended e = ap is_ended (clipped-unended limit bytes e) ∙ sym (ap is_ended e)

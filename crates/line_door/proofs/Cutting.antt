@@ -2,8 +2,8 @@
 use Rattle.std.proofs.Common.{◌≡◌, ◌<◌, ◌⊎◌, ℕ, zero, suc, List, [], ◌∷◌, Option, Some, None, Bool, true, false, inl, inr, refl, sym, ap, subst, ◌∙◌, append_assoc, arith}
 use Rattle.std.proofs.lemmas.Bool.{false≢true}
 use Rattle.edge_io.specs.Taken.{plus}
-use Rattle.line_door.specs.Acts.{Outside, outside, Said, Way, Plain, WayCause, SaidWhole, SaidLost, SaidShort, Sent, Acts, PlainActs}
-use Rattle.line_door.specs.Course.{Talk, talk, Step, Requests, Last, Fed, PlainStep, PlainRequests, PlainLast, PlainFed}
+use Rattle.line_door.specs.Acts.{ConnectionState, outside, Said, Departure, Plain, DepartureCause, SaidWhole, SaidLost, SaidShort, Sent, Acts, PlainActs}
+use Rattle.line_door.specs.Course.{SessionState, talk, SessionStep, Requests, Last, Fed, PlainStep, PlainRequests, PlainLast, PlainFed}
 use Rattle.line_door.specs.Plain.{silent, said_after, then_by, then_say, if_request, plain_from, plain}
 use Rattle.line_door.specs.Cuts.{more_of, said_with, CutDoor, CutLaw, PiecesLaw, CallsLaw, PlainLaw, PlainIsFed, PlainIsAct, DoorLaws}
 use Rattle.edge_io.proofs.Wording.{plus-plus, plus-none}
@@ -24,7 +24,7 @@ module _ {H A : Type 0} where
       ∙ ap (λ (w : List ℕ). record { next = (f s.after k).next; words = w; streamed = (f s.after k).streamed; after = (f s.after k).after }) (append_assoc words s.words (f s.after k).words)
       ∙ ap (said_after words) (sym (then-some s f k e))
 
-module _ {H A : Type 0} (said : A → H → Way → Said H A) (is_request : H → Bool) (more : List ℕ → H → H) (size : H → ℕ) where
+module _ {H A : Type 0} (said : A → H → Departure → Said H A) (is_request : H → Bool) (more : List ℕ → H → H) (size : H → ℕ) where
   at-request : (n : ℕ) (a : A) (h : H) → is_request h ≡ true → plain_from said is_request (suc n) a h ≡ then_say (said a h Plain) (plain_from said is_request n)
   at-request n a h e = ap (λ (b : Bool). if_request b said (plain_from said is_request n) a h) e
 
@@ -98,23 +98,23 @@ module _ {H A : Type 0} (said : A → H → Way → Said H A) (is_request : H �
 
     -- Courses.
 
-    abbrev with : List ℕ → Talk H A → Talk H A
+    abbrev with : List ℕ → SessionState H A → SessionState H A
     with q w = talk (more_of (more q) w.held) w.after w.outside
 
-    abbrev all_with : List ℕ → List (Talk H A) → List (Talk H A)
+    abbrev all_with : List ℕ → List (SessionState H A) → List (SessionState H A)
     all_with q [] = []
     all_with q (m ∷ ms) = with q m ∷ all_with q ms
 
-    whole-with : (q : List ℕ) (s : Said H A) (i : Outside) (held : Option H) (a : A) (j : Outside) → SaidWhole s i held a j → SaidWhole (said_with (more q) s) i (more_of (more q) held) a j
+    whole-with : (q : List ℕ) (s : Said H A) (i : ConnectionState) (held : Option H) (a : A) (j : ConnectionState) → SaidWhole s i held a j → SaidWhole (said_with (more q) s) i (more_of (more q) held) a j
     whole-with q s i held a j x = record { held_is = ap (more_of (more q)) x.held_is; after_is = x.after_is; out_is = x.out_is; lost_kept = x.lost_kept }
 
-    lost-with : (q : List ℕ) (s : Said H A) (i : Outside) (held : Option H) (a : A) (j : Outside) → SaidLost s i held a j → SaidLost (said_with (more q) s) i (more_of (more q) held) a j
+    lost-with : (q : List ℕ) (s : Said H A) (i : ConnectionState) (held : Option H) (a : A) (j : ConnectionState) → SaidLost s i held a j → SaidLost (said_with (more q) s) i (more_of (more q) held) a j
     lost-with q s i held a j x = record { lost_rose = x.lost_rose; held_is = ap (more_of (more q)) x.held_is; after_is = x.after_is; count = x.count; out_is = x.out_is }
 
-    short-with : (q : List ℕ) (s : Said H A) (i : Outside) (held : Option H) (a : A) (j : Outside) → SaidShort s i held a j → SaidShort (said_with (more q) s) i (more_of (more q) held) a j
+    short-with : (q : List ℕ) (s : Said H A) (i : ConnectionState) (held : Option H) (a : A) (j : ConnectionState) → SaidShort s i held a j → SaidShort (said_with (more q) s) i (more_of (more q) held) a j
     short-with q s i held a j x = record { streamed = x.streamed; held_is = ap (more_of (more q)) x.held_is; after_is = x.after_is; count = x.count; some = x.some; proper = x.proper; out_is = x.out_is }
 
-    sent-with : (q : List ℕ) (words other : Way → Said H A) (way : Way) (i : Outside) (held : Option H) (a : A) (j : Outside) → ((w : Way) → other w ≡ said_with (more q) (words w)) → Sent words way i held a j
+    sent-with : (q : List ℕ) (words other : Departure → Said H A) (way : Departure) (i : ConnectionState) (held : Option H) (a : A) (j : ConnectionState) → ((w : Departure) → other w ≡ said_with (more q) (words w)) → Sent words way i held a j
         → Sent other way i (more_of (more q) held) a j
     sent-with q words other way i held a j same (inl x) = inl (subst (λ (s : Said H A). SaidWhole s i (more_of (more q) held) a j) (sym (same way)) (whole-with q (words way) i held a j x))
     sent-with q words other way i held a j same (inr (inl x)) = inr (inl (subst (λ (s : Said H A). SaidLost s i (more_of (more q) held) a j) (sym (same way)) (lost-with q (words way) i held a j x)))
@@ -122,7 +122,7 @@ module _ {H A : Type 0} (said : A → H → Way → Said H A) (is_request : H �
         inr (inr (stops-over words other i i held (more_of (more q) held) a a j (λ short. subst (λ (s : Said H A). SaidShort s i (more_of (more q) held) a j) (sym (same Plain)) (short-with q (words Plain) i held a j short)) way x))
 
     -- A request is answered the same when more bytes follow it.
-    step-with : (q : List ℕ) (h : H) (w m : Talk H A) → is_request h ≡ true → Step said is_request h w m → Step said is_request (more q h) (with q w) (with q m)
+    step-with : (q : List ℕ) (h : H) (w m : SessionState H A) → is_request h ≡ true → SessionStep said is_request h w m → SessionStep said is_request (more q h) (with q w) (with q m)
     step-with q h w m e step = record {
       held = ap (more_of (more q)) step.held;
       acts = record {
@@ -134,19 +134,19 @@ module _ {H A : Type 0} (said : A → H → Way → Said H A) (is_request : H �
       };
     }
 
-    requests-with : (q : List ℕ) (w : Talk H A) (ms : List (Talk H A)) (m : Talk H A) → Requests said is_request w ms m → Requests said is_request (with q w) (all_with q ms) (with q m)
+    requests-with : (q : List ℕ) (w : SessionState H A) (ms : List (SessionState H A)) (m : SessionState H A) → Requests said is_request w ms m → Requests said is_request (with q w) (all_with q ms) (with q m)
     requests-with q w [] m e = ap (with q) e
     requests-with q w (x ∷ xs) m e = ((more q e.0.0, door.request_stays q e.0.0 e.0.1, step-with q e.0.0 w x e.0.1 e.0.2), requests-with q x xs m e.1)
 
     -- A step may start from another talk of the same parts.
-    step-from : (h : H) (w x m : Talk H A) → x.held ≡ w.held → x.after ≡ w.after → x.outside.out ≡ w.outside.out → x.outside.lost ≡ w.outside.lost → x.outside.disk ≡ w.outside.disk →
-        Step said is_request h w m → Step said is_request h x m
+    step-from : (h : H) (w x m : SessionState H A) → x.held ≡ w.held → x.after ≡ w.after → x.outside.out ≡ w.outside.out → x.outside.lost ≡ w.outside.lost → x.outside.disk ≡ w.outside.disk →
+        SessionStep said is_request h w m → SessionStep said is_request h x m
     step-from h w x m held after out lost disk step = record {
       held = held ∙ step.held;
       acts = subst (λ (a : A). Acts (said a h) x.outside m.held m.after m.outside) (sym after) (acts-from (said w.after h) w.outside x.outside m.held m.after m.outside out lost disk step.acts);
     }
 
-    last-from : (w x v : Talk H A) → x.held ≡ w.held → x.after ≡ w.after → x.outside.out ≡ w.outside.out → x.outside.lost ≡ w.outside.lost → x.outside.disk ≡ w.outside.disk →
+    last-from : (w x v : SessionState H A) → x.held ≡ w.held → x.after ≡ w.after → x.outside.out ≡ w.outside.out → x.outside.lost ≡ w.outside.lost → x.outside.disk ≡ w.outside.disk →
         Last said is_request w v → Last said is_request x v
     last-from w x v held after out lost disk last = record {
       before = last.before;
@@ -154,26 +154,26 @@ module _ {H A : Type 0} (said : A → H → Way → Said H A) (is_request : H �
       ends = elim last.ends [ inl none ↦ inl none | inr rest ↦ inr (rest.0, rest.1 ∙ sym disk) ];
     }
 
-    fed-from : (w x v : Talk H A) → x.held ≡ w.held → x.after ≡ w.after → x.outside.out ≡ w.outside.out → x.outside.lost ≡ w.outside.lost → x.outside.disk ≡ w.outside.disk →
-        (ms : List (Talk H A)) (m : Talk H A) → Requests said is_request w ms m → Last said is_request m v → Fed said is_request x v
-    fed-from w x v held after out lost disk [] m each last = ([], x, refl, last-from w x v held after out lost disk (subst (λ (t : Talk H A). Last said is_request t v) each last))
+    fed-from : (w x v : SessionState H A) → x.held ≡ w.held → x.after ≡ w.after → x.outside.out ≡ w.outside.out → x.outside.lost ≡ w.outside.lost → x.outside.disk ≡ w.outside.disk →
+        (ms : List (SessionState H A)) (m : SessionState H A) → Requests said is_request w ms m → Last said is_request m v → Fed said is_request x v
+    fed-from w x v held after out lost disk [] m each last = ([], x, refl, last-from w x v held after out lost disk (subst (λ (t : SessionState H A). Last said is_request t v) each last))
     fed-from w x v held after out lost disk (y ∷ ys) m each last =
         (y ∷ ys, m, ((each.0.0, each.0.1, step-from each.0.0 w x y held after out lost disk each.0.2), each.1), last)
 
     -- Requests, and then a course, are a course.
-    fed-after : (w : Talk H A) (ms : List (Talk H A)) (m v : Talk H A) → Requests said is_request w ms m → Fed said is_request m v → Fed said is_request w v
-    fed-after w [] m v each fed = subst (λ (t : Talk H A). Fed said is_request t v) each fed
+    fed-after : (w : SessionState H A) (ms : List (SessionState H A)) (m v : SessionState H A) → Requests said is_request w ms m → Fed said is_request m v → Fed said is_request w v
+    fed-after w [] m v each fed = subst (λ (t : SessionState H A). Fed said is_request t v) each fed
     fed-after w (x ∷ xs) m v each fed = let more_fed = fed-after x xs m v each.1 fed in (x ∷ more_fed.0, more_fed.1, (each.0, more_fed.2), more_fed.3)
 
     -- The act kept the rest `k`, and changed nothing else.
-    record Kept (k : H) (m v : Talk H A) : Type 0 where
+    record Kept (k : H) (m v : SessionState H A) : Type 0 where
       held : m.held ≡ Some k
       after : v.after ≡ m.after
       out : v.outside.out ≡ m.outside.out
       lost : v.outside.lost ≡ m.outside.lost
       disk : v.outside.disk ≡ m.outside.disk
 
-    kept-by : (k h : H) (m v : Talk H A) (words : Way → Said H A) (way : Way) → m.held ≡ Some h → v.outside.disk ≡ m.outside.disk → v.held ≡ Some k → ((words way).next ≡ None) ⊎ (words way ≡ silent m.after h) →
+    kept-by : (k h : H) (m v : SessionState H A) (words : Departure → Said H A) (way : Departure) → m.held ≡ Some h → v.outside.disk ≡ m.outside.disk → v.held ≡ Some k → ((words way).next ≡ None) ⊎ (words way ≡ silent m.after h) →
         Sent words way m.outside v.held v.after v.outside → Kept k m v
     kept-by k h m v words way held same kept (inl none) (inl x) = absurd (cc (kept, x.held_is, none))
     kept-by k h m v words way held same kept (inr is) (inl x) = record {
@@ -186,7 +186,7 @@ module _ {H A : Type 0} (said : A → H → Way → Said H A) (is_request : H �
     kept-by k h m v words way held same kept either (inr (inl x)) = absurd (cc (kept, x.held_is))
     kept-by k h m v words way held same kept either (inr (inr x)) = let closed = stops-closed words way m.outside v.held v.after v.outside x in absurd (cc (kept, closed))
 
-    kept-last : (k : H) (m v : Talk H A) → Last said is_request m v → v.held ≡ Some k → Kept k m v
+    kept-last : (k : H) (m v : SessionState H A) → Last said is_request m v → v.held ≡ Some k → Kept k m v
     kept-last k m v last kept = by last.ends
       where
         by : (v.held ≡ None) ⊎ ((is_request last.before ≡ false) × (v.outside.disk ≡ m.outside.disk)) → Kept k m v
@@ -215,7 +215,7 @@ module _ {H A : Type 0} (said : A → H → Way → Said H A) (is_request : H �
     -- The plain function.
 
     -- Two plain acts in order are one with the joined words.
-    plain-then : (s t : Said H A) (i j l : Outside) (held : Option H) (b c : A) (k : Option H) → PlainActs s i held b j → PlainActs t j k c l → PlainActs (said_after s.words t) i k c l
+    plain-then : (s t : Said H A) (i j l : ConnectionState) (held : Option H) (b c : A) (k : Option H) → PlainActs s i held b j → PlainActs t j k c l → PlainActs (said_after s.words t) i k c l
     plain-then s t i j l held b c k first second = record {
       disk_kept = second.disk_kept ∙ first.disk_kept;
       whole = record {
@@ -227,7 +227,7 @@ module _ {H A : Type 0} (said : A → H → Way → Said H A) (is_request : H �
     }
 
     -- The second part of such an act is a plain act from the middle on.
-    plain-second : (s t : Said H A) (i l : Outside) (c : A) (k : Option H) → PlainActs (said_after s.words t) i k c l → PlainActs t (outside (plus i.out s.words) i.disk i.lost) k c l
+    plain-second : (s t : Said H A) (i l : ConnectionState) (c : A) (k : Option H) → PlainActs (said_after s.words t) i k c l → PlainActs t (outside (plus i.out s.words) i.disk i.lost) k c l
     plain-second s t i l c k both = record {
       disk_kept = both.disk_kept;
       whole = record {
@@ -239,14 +239,14 @@ module _ {H A : Type 0} (said : A → H → Way → Said H A) (is_request : H �
     }
 
     -- A talk from which a plain course leads is open.
-    plain-open : (w : Talk H A) (ms : List (Talk H A)) (m v : Talk H A) → PlainRequests said is_request w ms m → PlainLast said is_request m v → (k : H) × (w.held ≡ Some k)
-    plain-open w [] m v each last = (last.before, subst (λ (t : Talk H A). t.held ≡ Some last.before) each last.step.held)
+    plain-open : (w : SessionState H A) (ms : List (SessionState H A)) (m v : SessionState H A) → PlainRequests said is_request w ms m → PlainLast said is_request m v → (k : H) × (w.held ≡ Some k)
+    plain-open w [] m v each last = (last.before, subst (λ (t : SessionState H A). t.held ≡ Some last.before) each last.step.held)
     plain-open w (x ∷ xs) m v each last = (each.0.0, each.0.2.held)
 
     some_is : (h k : H) (o : Option H) → o ≡ Some h → o ≡ Some k → k ≡ h
     some_is h k o e f = cc
 
-    last-plain : (n : ℕ) (h : H) (w v : Talk H A) → size h < n → w.held ≡ Some h → PlainLast said is_request w v → PlainActs (plain_from said is_request n w.after h) w.outside v.held v.after v.outside
+    last-plain : (n : ℕ) (h : H) (w v : SessionState H A) → size h < n → w.held ≡ Some h → PlainLast said is_request w v → PlainActs (plain_from said is_request n w.after h) w.outside v.held v.after v.outside
     last-plain zero h w v l held last = absurd (omega arith)
     last-plain (suc n) h w v l held last = by (is_request h) refl last.ends
       where
@@ -264,9 +264,9 @@ module _ {H A : Type 0} (said : A → H → Way → Said H A) (is_request : H �
             (sym (at-request n w.after h e ∙ then-none (said w.after h Plain) (plain_from said is_request n) (sym done.whole.held_is ∙ none))) done
         by true e (inr rest) = absurd (false≢true (sym (subst (λ (k : H). is_request k ≡ false) same rest) ∙ e))
 
-    fed-plain : (ms : List (Talk H A)) (n : ℕ) (h : H) (w m v : Talk H A) → size h < n → w.held ≡ Some h → PlainRequests said is_request w ms m → PlainLast said is_request m v →
+    fed-plain : (ms : List (SessionState H A)) (n : ℕ) (h : H) (w m v : SessionState H A) → size h < n → w.held ≡ Some h → PlainRequests said is_request w ms m → PlainLast said is_request m v →
         PlainActs (plain_from said is_request n w.after h) w.outside v.held v.after v.outside
-    fed-plain [] n h w m v l held each last = last-plain n h w v l held (subst (λ (t : Talk H A). PlainLast said is_request t v) each last)
+    fed-plain [] n h w m v l held each last = last-plain n h w v l held (subst (λ (t : SessionState H A). PlainLast said is_request t v) each last)
     fed-plain (x ∷ xs) zero h w m v l held each last = absurd (omega arith)
     fed-plain (x ∷ xs) (suc n) h w m v l held each last =
         let same : each.0.0 ≡ h = some_is h each.0.0 w.held held each.0.2.held in
@@ -281,12 +281,12 @@ module _ {H A : Type 0} (said : A → H → Way → Said H A) (is_request : H �
         (subst (λ (a : A). PlainActs (said_after (said w.after h Plain).words (plain_from said is_request n a left.0)) w.outside v.held v.after v.outside) done.whole.after_is
         (plain-then (said w.after h Plain) (plain_from said is_request n x.after left.0) w.outside x.outside v.outside x.held x.after v.after v.held done later))
 
-    only-plain : (h : H) (w v : Talk H A) → w.held ≡ Some h → PlainActs (said w.after h Plain) w.outside v.held v.after v.outside → (v.held ≡ None) ⊎ (is_request h ≡ false) → PlainFed said is_request w v
+    only-plain : (h : H) (w v : SessionState H A) → w.held ≡ Some h → PlainActs (said w.after h Plain) w.outside v.held v.after v.outside → (v.held ≡ None) ⊎ (is_request h ≡ false) → PlainFed said is_request w v
     only-plain h w v held done ends = ([], w, refl, record { before = h; step = record { held = held; acts = done }; ends = ends })
 
-    plain-fed-at : (n : ℕ) (h : H) (w v : Talk H A) → w.held ≡ Some h → PlainActs (plain_from said is_request (suc n) w.after h) w.outside v.held v.after v.outside → (b : Bool) → is_request h ≡ b → (o : Option H) →
+    plain-fed-at : (n : ℕ) (h : H) (w v : SessionState H A) → w.held ≡ Some h → PlainActs (plain_from said is_request (suc n) w.after h) w.outside v.held v.after v.outside → (b : Bool) → is_request h ≡ b → (o : Option H) →
         (said w.after h Plain).next ≡ o →
-        ((k : H) (m : Talk H A) → size k < size h → m.held ≡ Some k → PlainActs (plain_from said is_request n m.after k) m.outside v.held v.after v.outside → PlainFed said is_request m v) → PlainFed said is_request w v
+        ((k : H) (m : SessionState H A) → size k < size h → m.held ≡ Some k → PlainActs (plain_from said is_request n m.after k) m.outside v.held v.after v.outside → PlainFed said is_request m v) → PlainFed said is_request w v
     plain-fed-at n h w v held acts false e o is later =
         only-plain h w v held (subst (λ (s : Said H A). PlainActs s w.outside v.held v.after v.outside) (at-rest (suc n) w.after h e ∙ sym (door.rest_plain w.after h e)) acts) (inr e)
     plain-fed-at n h w v held acts true e None is later =
@@ -295,14 +295,14 @@ module _ {H A : Type 0} (said : A → H → Way → Said H A) (is_request : H �
         only-plain h w v held done (inl (done.whole.held_is ∙ is))
     plain-fed-at n h w v held acts true e (Some k) is later =
         let s = said w.after h Plain in
-        let m : Talk H A = talk (Some k) s.after (outside (plus w.outside.out s.words) w.outside.disk w.outside.lost) in
+        let m : SessionState H A = talk (Some k) s.after (outside (plus w.outside.out s.words) w.outside.disk w.outside.lost) in
         let both : PlainActs (said_after s.words (plain_from said is_request n s.after k)) w.outside v.held v.after v.outside = subst (λ (t : Said H A). PlainActs t w.outside v.held v.after v.outside)
         (at-request n w.after h e ∙ then-some s (plain_from said is_request n) k is) acts in
         let fed = later k m (door.shorter w.after h k e is) refl (plain-second s (plain_from said is_request n s.after k) w.outside v.outside v.after v.held both) in
         let step : PlainStep said is_request h w m = record { held = held; acts = record { disk_kept = refl; whole = record { held_is = sym is; after_is = refl; out_is = refl; lost_kept = refl } } } in
         (m ∷ fed.0, fed.1, ((h, e, step), fed.2), fed.3)
 
-    plain-fed : (n : ℕ) (h : H) (w v : Talk H A) → size h < n → w.held ≡ Some h → PlainActs (plain_from said is_request n w.after h) w.outside v.held v.after v.outside → PlainFed said is_request w v
+    plain-fed : (n : ℕ) (h : H) (w v : SessionState H A) → size h < n → w.held ≡ Some h → PlainActs (plain_from said is_request n w.after h) w.outside v.held v.after v.outside → PlainFed said is_request w v
     plain-fed zero h w v l held acts = absurd (omega arith)
     plain-fed (suc n) h w v l held acts =
         plain-fed-at n h w v held acts (is_request h) refl (said w.after h Plain).next refl (λ k m shorter open_m acts_m. plain-fed n k m v (omega arith) open_m acts_m)
@@ -315,7 +315,7 @@ module _ {H A : Type 0} (said : A → H → Way → Said H A) (is_request : H �
       λ acts. plain-fed (suc (size h)) h w v (omega arith) held acts,
     )
 
-    acts-plain : (a : A) (h : H) (i : Outside) (held : Option H) (b : A) (j : Outside) → PlainActs (said a h Plain) i held b j → Acts (said a h) i held b j
+    acts-plain : (a : A) (h : H) (i : ConnectionState) (held : Option H) (b : A) (j : ConnectionState) → PlainActs (said a h Plain) i held b j → Acts (said a h) i held b j
     acts-plain a h i held b j acts = record {
       way = Plain;
       cause = acts.disk_kept;
@@ -329,13 +329,13 @@ module _ {H A : Type 0} (said : A → H → Way → Said H A) (is_request : H �
     unfolding acts-plain
     is_act a h i held b j = (
       λ acts. (acts-plain a h i held b j acts, refl, acts.whole),
-      λ both. record { disk_kept = subst (λ (way : Way). WayCause way i.disk j.disk) both.1 both.0.cause; whole = both.2 },
+      λ both. record { disk_kept = subst (λ (way : Departure). DepartureCause way i.disk j.disk) both.1 both.0.cause; whole = both.2 },
     )
 
-    step-plain : (h : H) (w m : Talk H A) → PlainStep said is_request h w m → Step said is_request h w m
+    step-plain : (h : H) (w m : SessionState H A) → PlainStep said is_request h w m → SessionStep said is_request h w m
     step-plain h w m step = record { held = step.held; acts = acts-plain w.after h w.outside m.held m.after m.outside step.acts }
 
-    course-plain : (w : Talk H A) (ms : List (Talk H A)) (m : Talk H A) → PlainRequests said is_request w ms m → Requests said is_request w ms m
+    course-plain : (w : SessionState H A) (ms : List (SessionState H A)) (m : SessionState H A) → PlainRequests said is_request w ms m → Requests said is_request w ms m
     course-plain w [] m each = each
     course-plain w (x ∷ xs) m each = ((each.0.0, each.0.1, step-plain each.0.0 w x each.0.2), course-plain x xs m each.1)
 

@@ -4,8 +4,8 @@ use Rattle.std.specs.Prelude.{if◌then◌else◌}
 use Rattle.std.proofs.lemmas.Bool.{eqb-true, eqb-false, eq-eqb, ne_eqb, ltb-true, ltb-false, lt-ltb, le-ltb}
 use Rattle.std.proofs.lemmas.List.{length-take-le, append-nil}
 use Rattle.std.proofs.Math.Seq.{get_or-append_seam, take-append_seam}
-use Rattle.line_door.specs.Lines.{put_before, first_line, Front, Whole, Long, Partial, sized, front, is_whole, content}
-use Rattle.line_door.specs.LineLaws.{NoFeed, IsLine, LineLaw}
+use Rattle.line_door.specs.Lines.{put_before, first_line, LineFront, Whole, Long, Partial, sized, front, is_whole, content}
+use Rattle.line_door.specs.LineLaws.{NoFeed, IsFirstLine, LineLaw}
 
 -- The first line of a list, by whether its first byte is a line feed.
 abbrev cut_at : Bool → ℕ → List ℕ → Option (List ℕ × List ℕ) → Option (List ℕ × List ℕ)
@@ -233,13 +233,13 @@ front-long limit held piece n part is l before =
 pub is_whole-stays : (limit : ℕ) (xs ys : List ℕ) → is_whole (front limit xs) ≡ true → is_whole (front limit (xs ++ ys)) ≡ true
 is_whole-stays limit xs ys = by (front limit xs) refl
   where
-    by : (f : Front) → front limit xs ≡ f → is_whole f ≡ true → is_whole (front limit (xs ++ ys)) ≡ true
+    by : (f : LineFront) → front limit xs ≡ f → is_whole f ≡ true → is_whole (front limit (xs ++ ys)) ≡ true
     by (Whole line rest) e is = ap is_whole (front-goes_on limit xs ys line rest e)
     by Long e is = ap is_whole (front-stays_long limit xs ys e)
     by Partial e is = absurd (cc)
 
 -- A front that isn't whole is a part.
-pub not_whole : (f : Front) → is_whole f ≡ false → f ≡ Partial
+pub not_whole : (f : LineFront) → is_whole f ≡ false → f ≡ Partial
 not_whole (Whole line rest) e = absurd (cc)
 not_whole Long e = absurd (cc)
 not_whole Partial e = refl
@@ -270,12 +270,12 @@ first_line-no_feed [] e k l ten = omega arith
 first_line-no_feed (b ∷ bs) e zero l ten = eqb-false b 10 (none-at (eqb b 10) b bs (first_line bs) (sym (first_line-cons b bs) ∙ e)).0 ten
 first_line-no_feed (b ∷ bs) e (suc k) l ten = first_line-no_feed bs (first_line-after b bs [] e).0 k (omega arith) ten
 
-whole-is : (limit : ℕ) (bytes line rest : List ℕ) → front limit bytes ≡ Whole line rest → IsLine limit bytes line rest
+whole-is : (limit : ℕ) (bytes line rest : List ℕ) → front limit bytes ≡ Whole line rest → IsFirstLine limit bytes line rest
 whole-is limit bytes line rest e =
     let parts = sized-whole limit bytes (first_line bytes) line rest e in
     record { joined = first_line-joined bytes (line, rest) parts.0; single = first_line-single bytes (line, rest) parts.0; short = parts.1 }
 
-whole-from : (limit : ℕ) (bytes line rest : List ℕ) → IsLine limit bytes line rest → front limit bytes ≡ Whole line rest
+whole-from : (limit : ℕ) (bytes line rest : List ℕ) → IsFirstLine limit bytes line rest → front limit bytes ≡ Whole line rest
 whole-from limit bytes line rest is =
     ap (front limit) is.joined
     ∙ ap (sized limit (line ++ 10 ∷ rest)) (first_line-append line (10 ∷ rest) ([], rest) (first_line-none line is.single) refl ∙ ap (λ (x : List ℕ). found x rest) (append-nil line))

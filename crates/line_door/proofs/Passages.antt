@@ -4,7 +4,7 @@ use Rattle.std.specs.Prelude.{if◌then◌else◌}
 use Rattle.std.proofs.lemmas.Bool.{ltb-true, ltb-false, lt-ltb, le-ltb}
 use Rattle.std.proofs.lemmas.List.{length-take-le, take_all, get_or-take, append-nil}
 use Rattle.line_door.specs.Lines.{first_line}
-use Rattle.line_door.specs.LineLaws.{IsLine}
+use Rattle.line_door.specs.LineLaws.{IsFirstLine}
 use Rattle.line_door.specs.Skipping.{Taken, Skipped, Unended, passed, skipping_front, held_of, IsPassage, SkippingLaw}
 use Rattle.line_door.specs.declared.skipping.Passage.TheVariants as passage
 use Rattle.line_door.proofs.Fronts.{first_line-goes_on, first_line-joined, first_line-shorter, first_line-at, first_line-none, first_line-append, first_line-append_none, first_line-no_feed, first_line-single}
@@ -113,13 +113,13 @@ passing-held limit xs ys e = by (first_line ys) refl
         ∙ same p.0 p.1 (order (length xs) limit)
         ∙ sym (ap (passed limit) (first_line-append xs ys p e is))
 
-pub taken-from : (limit : ℕ) (bytes line rest : List ℕ) → IsLine limit bytes line rest → skipping_front limit bytes ≡ Taken line rest
+pub taken-from : (limit : ℕ) (bytes line rest : List ℕ) → IsFirstLine limit bytes line rest → skipping_front limit bytes ≡ Taken line rest
 taken-from limit bytes line rest is =
     ap (skipping_front limit) is.joined
     ∙ ap (passed limit) (first_line-append line (10 ∷ rest) ([], rest) (first_line-none line is.single) refl ∙ ap (λ (x : List ℕ). line_found x rest) (append-nil line))
     ∙ passed-short limit line rest is.short
 
-pub taken-is_line : (limit : ℕ) (bytes line rest : List ℕ) → skipping_front limit bytes ≡ Taken line rest → IsLine limit bytes line rest
+pub taken-is_line : (limit : ℕ) (bytes line rest : List ℕ) → skipping_front limit bytes ≡ Taken line rest → IsFirstLine limit bytes line rest
 taken-is_line limit bytes line rest e =
     let parts = passed-taken limit (first_line bytes) line rest e in
     record { joined = first_line-joined bytes (line, rest) parts.0; single = first_line-single bytes (line, rest) parts.0; short = parts.1 }

@@ -6,14 +6,14 @@ use Rattle.edge_io.specs.Taken.{plus}
 use Rattle.edge_io.specs.Phrases.{Says}
 use Rattle.edge_io.specs.declared.sink.SinkFault.{SinkFault}
 use Rattle.edge_io.proofs.Wording.{take-first, Says-then}
-use Rattle.line_door.specs.Acts.{Outside, Said, Way, Plain, Memory, Disk, WayCause, SaidShort, Acts}
+use Rattle.line_door.specs.Acts.{ConnectionState, Said, Departure, Plain, Memory, Disk, DepartureCause, SaidShort, Acts}
 use Rattle.line_door.proofs.Acting.{acts-by_says}
 
 lost-first : (a b : List ℕ) (out out' : Option (List ℕ)) (lost lost' : ℕ) (fault : SinkFault) → Says a out lost out' lost' (Err fault) → Says (a ++ b) out lost out' lost' (Err fault)
 lost-first a b out out' lost lost' fault p = (p.0, p.1, (min p.2.0 (length a), p.2.1 ∙ ap (plus out) (sym (take-first p.2.0 a b))))
 
 module _ {H A : Type 0} where
-  said-short : (s : Said H A) (front more : List ℕ) (i j : Outside) (a : A) → s.streamed ≡ true → s.words ≡ front ++ more → 0 < length front → 0 < length more → Says front i.out i.lost j.out j.lost (Ok tt) → a ≡ s.after → SaidShort s i None a j
+  said-short : (s : Said H A) (front more : List ℕ) (i j : ConnectionState) (a : A) → s.streamed ≡ true → s.words ≡ front ++ more → 0 < length front → 0 < length more → Says front i.out i.lost j.out j.lost (Ok tt) → a ≡ s.after → SaidShort s i None a j
   said-short s front more i j a streamed is some rest said b = record {
     streamed = streamed;
     held_is = refl;
@@ -26,7 +26,7 @@ module _ {H A : Type 0} where
 
   -- The reply stops after some of its words, since the disk failed or memory ran out, and the session is
   -- closed.
-  pub acts-short : (words : Way → Said H A) (s : Said H A) (front more : List ℕ) (i j : Outside) (a : A) → words Plain ≡ s → s.streamed ≡ true → s.words ≡ front ++ more → 0 < length front → 0 < length more →
+  pub acts-short : (words : Departure → Said H A) (s : Said H A) (front more : List ℕ) (i j : ConnectionState) (a : A) → words Plain ≡ s → s.streamed ≡ true → s.words ≡ front ++ more → 0 < length front → 0 < length more →
       Rose i.disk j.disk ⊎ (j.disk ≡ i.disk) → i.disk ≤ j.disk → Says front i.out i.lost j.out j.lost (Ok tt) → a ≡ s.after → Acts words i None a j
   acts-short words s front more i j a e streamed is some rest cause later said b = by cause
     where
@@ -38,7 +38,7 @@ module _ {H A : Type 0} where
       by (inr kept) = record { way = Memory; cause = kept; disk_later = later; lost_later = omega (arith, said.0); sent = inr (inr short) }
 
   -- A piece of the reply is lost after the words before it.
-  pub acts-cut_off : (words : Way → Said H A) (way : Way) (s : Said H A) (front piece more : List ℕ) (i j k : Outside) (a : A) (fault : SinkFault) → words way ≡ s → s.words ≡ (front ++ piece) ++ more → WayCause way i.disk k.disk →
+  pub acts-cut_off : (words : Departure → Said H A) (way : Departure) (s : Said H A) (front piece more : List ℕ) (i j k : ConnectionState) (a : A) (fault : SinkFault) → words way ≡ s → s.words ≡ (front ++ piece) ++ more → DepartureCause way i.disk k.disk →
       i.disk ≤ k.disk → Says front i.out i.lost j.out j.lost (Ok tt) → Says piece j.out j.lost k.out k.lost (Err fault) → a ≡ s.after → Acts words i None a k
   acts-cut_off words way s front piece more i j k a fault e is cause later said lost b =
       let both : Says (front ++ piece) i.out i.lost k.out k.lost (Err fault) = Says-then front piece i.out j.out k.out i.lost j.lost k.lost tt (Err fault) said lost in

@@ -8,7 +8,7 @@ abbrev pub NoFeed : List ℕ → Type 0
 NoFeed bytes = (k : ℕ) → k < length bytes → slice_index bytes k ≢ 10
 
 -- The bytes start with this line and its line feed, which have at most `limit` octets together.
-pub record IsLine (limit : ℕ) (bytes line rest : List ℕ) : Type 0 where
+pub record IsFirstLine (limit : ℕ) (bytes line rest : List ℕ) : Type 0 where
   pub joined : bytes ≡ line ++ 10 ∷ rest
   pub single : NoFeed line
   pub short : length line < limit
@@ -18,7 +18,7 @@ pub record LineLaw : Type 0 where
   -- A whole line is at the front if and only if the bytes start with one. A part is there if and
   -- only if the bytes have no line feed and are fewer than `limit`.
   pub whole : (limit : ℕ) (bytes line rest : List ℕ)
-      → front limit bytes ≡ Whole line rest ↔ IsLine limit bytes line rest
+      → front limit bytes ≡ Whole line rest ↔ IsFirstLine limit bytes line rest
   pub partial : (limit : ℕ) (bytes : List ℕ) → front limit bytes ≡ Partial ↔ NoFeed bytes
       × (length bytes < limit)
   -- More bytes leave a whole line, and a line that is too long, what it is.

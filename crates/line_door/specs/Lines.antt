@@ -13,22 +13,22 @@ first_line (b ∷ bs) = if b == 10 then Some ([], bs) else put_before b (first_l
 
 -- A whole line, without its line feed, and the bytes after it; or a line that is too long; or a
 -- part of a line.
-pub data Front : Type 0 where
-  Whole : List ℕ → List ℕ → Front
-  Long : Front
-  Partial : Front
+pub data LineFront : Type 0 where
+  Whole : List ℕ → List ℕ → LineFront
+  Long : LineFront
+  Partial : LineFront
 
 -- A line has at most `limit` octets with its line feed. `limit` octets without one are too long.
-abbrev pub sized : ℕ → List ℕ → Option (List ℕ × List ℕ) → Front
+abbrev pub sized : ℕ → List ℕ → Option (List ℕ × List ℕ) → LineFront
 sized limit bytes None = if nat_lt (length bytes) limit then Partial else Long
 sized limit bytes (Some p) = if nat_lt (length p.0) limit then Whole p.0 p.1 else Long
 
 -- The line at the front of these bytes.
-abbrev pub front : ℕ → List ℕ → Front
+abbrev pub front : ℕ → List ℕ → LineFront
 front limit bytes = sized limit bytes (first_line bytes)
 
 -- The front is a whole line or a line that is too long, and so is answered now.
-abbrev pub is_whole : Front → Bool
+abbrev pub is_whole : LineFront → Bool
 is_whole (Whole line rest) = true
 is_whole Long = true
 is_whole Partial = false

@@ -1,6 +1,6 @@
 -- What an act says, by its form: the session continues, it is closed, or the words are streamed.
 use Rattle.std.specs.Prelude.{ℕ, List, Some, None, true, false}
-use Rattle.line_door.specs.Acts.{Said, Way, Plain, Memory, Disk, Newer}
+use Rattle.line_door.specs.Acts.{Said, Departure, Plain, Memory, Disk, Newer}
 
 -- These words, and the session continues as `h`.
 abbrev pub says : {H A : Type 0} → A → H → List ℕ → Said H A
@@ -15,7 +15,7 @@ abbrev pub streams : {H A : Type 0} → A → H → List ℕ → Said H A
 streams a h words = record { next = Some h; words = words; streamed = true; after = a }
 
 -- What is said in each way of an act without a reopening, where `Newer` is the plain way.
-abbrev pub in_ways : {H A : Type 0} → Said H A → Said H A → Said H A → Way → Said H A
+abbrev pub in_ways : {H A : Type 0} → Said H A → Said H A → Said H A → Departure → Said H A
 in_ways plain memory disk Plain = plain
 in_ways plain memory disk Memory = memory
 in_ways plain memory disk Disk = disk

@@ -2,28 +2,28 @@
 -- section 3.1).
 use Rattle.std.specs.Prelude.{◌≡◌, ◌+◌, ◌<◌, ◌↔◌, ℕ, if◌then◌else◌, nat_lt, List, ◌++◌, length, take, drop, Option, Some, None, Bool, true, false}
 use Rattle.line_door.specs.Lines.{first_line}
-use Rattle.line_door.specs.LineLaws.{NoFeed, IsLine}
+use Rattle.line_door.specs.LineLaws.{NoFeed, IsFirstLine}
 use Rattle.line_door.specs.declared.skipping.Passage.{Passage}
 use Rattle.line_door.specs.declared.skipping.Passage.TheVariants as passage
 
 -- A whole line, without its line feed, and the bytes after it; or the bytes after a line that is too
 -- long; or no line feed yet.
-pub data Passing : Type 0 where
-  Taken : List ℕ → List ℕ → Passing
-  Skipped : List ℕ → Passing
-  Unended : Passing
+pub data SkippedLine : Type 0 where
+  Taken : List ℕ → List ℕ → SkippedLine
+  Skipped : List ℕ → SkippedLine
+  Unended : SkippedLine
 
 -- A line has at most `limit` octets with its line feed.
-abbrev pub passed : ℕ → Option (List ℕ × List ℕ) → Passing
+abbrev pub passed : ℕ → Option (List ℕ × List ℕ) → SkippedLine
 passed limit None = Unended
 passed limit (Some p) = if nat_lt (length p.0) limit then Taken p.0 p.1 else Skipped p.1
 
 -- The line at the front of these bytes.
-abbrev pub skipping_front : ℕ → List ℕ → Passing
+abbrev pub skipping_front : ℕ → List ℕ → SkippedLine
 skipping_front limit bytes = passed limit (first_line bytes)
 
 -- The front is a whole line, or one that is too long and has ended, and so is answered now.
-abbrev pub is_ended : Passing → Bool
+abbrev pub is_ended : SkippedLine → Bool
 is_ended (Taken line rest) = true
 is_ended (Skipped rest) = true
 is_ended Unended = false
@@ -45,7 +45,7 @@ pub record SkippingLaw : Type 0 where
   -- A whole line is at the front if and only if the bytes start with one. No line has ended if and
   -- only if there is no line feed.
   pub taken : (limit : ℕ) (bytes line rest : List ℕ)
-      → skipping_front limit bytes ≡ Taken line rest ↔ IsLine limit bytes line rest
+      → skipping_front limit bytes ≡ Taken line rest ↔ IsFirstLine limit bytes line rest
   pub unended : (limit : ℕ) (bytes : List ℕ) → skipping_front limit bytes ≡ Unended ↔ NoFeed bytes
   -- More bytes leave a line that has ended what it is.
   pub goes_on : (limit : ℕ) (bytes more line rest : List ℕ)

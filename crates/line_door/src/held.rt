@@ -1,4 +1,5 @@
 //! The part of a line that a connection holds between pieces, at a door that skips long lines.
+//! Pure.
 ghost use Rattle.std.specs.Prelude.{◌≡◌, ◌++◌};
 ghost use Rattle.line_door.specs.Clipped.{longest_line};
 ghost use Rattle.line_door.specs.Skipping.{skipping_front, Unended, held_of, IsPassage};

@@ -1,4 +1,5 @@
 //! Laws of doors, stated at a small door, and the law of the line at the front.
+//! Pure.
 ghost use Rattle.line_door.specs.Clipped.{ClippedLaw};
 ghost use Rattle.line_door.specs.Echo.{EchoCut, EchoPieces, EchoCalls, EchoPlain, EchoLifts};
 ghost use Rattle.line_door.specs.LineLaws.{LineLaw};

@@ -1,5 +1,8 @@
-//! What all doors of lines share: the acts and courses of a session, the laws of cutting its bytes
-//! into pieces, the lifting of a session to one of many, and the line at the front of its bytes.
+//! What all doors of lines share: a session's acts and courses, and the line at its front.
+//! Pure.
+//!
+//! Here are also the laws of cutting its bytes into pieces, and the lifting of a session to one of
+//! many.
 #![tactic(auto)]
 
 mod held;

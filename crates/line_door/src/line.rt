@@ -1,10 +1,11 @@
 //! The line at the front of a connection's bytes.
+//! Pure.
 //!
 //! A line ends with a line feed, and one carriage return before it is dropped. The limit includes
 //! the line's end, like the 512 octets of RFC 3977, section 3.1.
 ghost use Rattle.std.specs.Prelude.{◌≡◌};
 ghost use Rattle.line_door.specs.Lines.{front, content, Partial};
-ghost use Rattle.line_door.specs.Ahead.{IsAhead};
+ghost use Rattle.line_door.specs.Ahead.{IsLineAhead};
 
 use memchr::memchr;
 
@@ -25,7 +26,7 @@ pub enum Ahead {
 /// speaks: it reads no byte of `held`, and at most `limit` bytes of the piece.
 pub fn next_in(held: &[u8], piece: &[u8], limit: usize) -> Ahead
     requires { front limit held.now ≡ Partial }
-    ensures { IsAhead limit held.now piece.now result }
+    ensures { IsLineAhead limit held.now piece.now result }
 {
     let room = limit - held.len();
     if piece.len() < room {

@@ -1,4 +1,5 @@
 //! The line at the front of a connection's bytes, where a line that is too long is skipped.
+//! Pure.
 //!
 //! Such a line is answered once its line feed comes, and the bytes after it are read as ever. Of a
 //! part of a line only the first `limit` bytes are held, since more can't change the answer.

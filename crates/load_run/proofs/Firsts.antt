@@ -2,7 +2,7 @@
 use Rattle.std.proofs.Common.{◌≡◌, ◌⊎◌, ◌+◌, ◌<◌, ◌≤◌, ℕ, zero, suc, Bool, true, false, cond, if◌then◌else◌, List, [], ◌∷◌, length, map, refl, sym, ◌∙◌, ap, inl, inr, arith}
 use Rattle.std.specs.List.{AllByRecursion, filter}
 use Rattle.std.proofs.lemmas.Bool.Decides.{nat_tests}
-use Rattle.thread_model.specs.Threads.{Row, shares, reached}
+use Rattle.thread_model.specs.Threads.{KeyedRow, shares, reached}
 use Rattle.arch_model.specs.Archives.{Entry, Archive, live}
 use Rattle.arch_model.specs.Threading.{keyed, keys_in, thread_in}
 use Rattle.arch_model.specs.Validity.{IsArchive}
@@ -25,13 +25,13 @@ HasNumber [] m = ⊥
 HasNumber (e ∷ es) m = (e.number ≡ m) ⊎ HasNumber es m
 
 -- The first number of some rows of entries is that of an entry.
-first_step : (t : Bool) (e : Entry) (es : List Entry) (row : Row) (rows : List Row) (m : ℕ) → row.0 ≡ e.number
-    → (is_first m (map (λ (r : Row). r.0) rows) ≡ true → HasNumber es m)
-    → is_first m (map (λ (r : Row). r.0) (cond t (row ∷ rows) rows)) ≡ true → (e.number ≡ m) ⊎ HasNumber es m
+first_step : (t : Bool) (e : Entry) (es : List Entry) (row : KeyedRow) (rows : List KeyedRow) (m : ℕ) → row.0 ≡ e.number
+    → (is_first m (map (λ (r : KeyedRow). r.0) rows) ≡ true → HasNumber es m)
+    → is_first m (map (λ (r : KeyedRow). r.0) (cond t (row ∷ rows) rows)) ≡ true → (e.number ≡ m) ⊎ HasNumber es m
 first_step true e es row rows m same rest is = inl (let own : row.0 ≡ m = grind (arith, nat_tests, is) in sym same ∙ own)
 first_step false e es row rows m same rest is = inr (rest is)
 
-first_has : (pass : Row → Bool) (es : List Entry) (m : ℕ) → is_first m (map (λ (r : Row). r.0) (filter pass (keyed es))) ≡ true → HasNumber es m
+first_has : (pass : KeyedRow → Bool) (es : List Entry) (m : ℕ) → is_first m (map (λ (r : KeyedRow). r.0) (filter pass (keyed es))) ≡ true → HasNumber es m
 first_has pass [] m is = absurd (cc)
 first_has pass (e ∷ es) m is = first_step _ e es _ (filter pass (keyed es)) m refl (first_has pass es m) is
 

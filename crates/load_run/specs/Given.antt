@@ -5,15 +5,15 @@ use Rattle.load_run.specs.declared.refusal.LoadRefusal.{LoadRefusal}
 use Rattle.load_run.specs.declared.refusal.LoadRefusal.TheVariants as refusal
 
 -- The refusal is not that a file is damaged.
-abbrev pub IsUndamaged : LoadRefusal → Type 0
-IsUndamaged refusal.NoMemory = Unit {0}
-IsUndamaged refusal.DiskFault = Unit {0}
-IsUndamaged refusal.Damaged = ⊥
+abbrev pub IsUndamagedLoad : LoadRefusal → Type 0
+IsUndamagedLoad refusal.NoMemory = Unit {0}
+IsUndamagedLoad refusal.DiskFault = Unit {0}
+IsUndamagedLoad refusal.Damaged = ⊥
 
 -- The value of a call has a property. If it refused, no file is damaged.
-abbrev pub Gives : {T : Type 0} → Result T LoadRefusal → (T → Type 0) → Type 0
-Gives (Ok x) P = P x
-Gives (Err why) P = IsUndamaged why
+abbrev pub GivesUndamaged : {T : Type 0} → Result T LoadRefusal → (T → Type 0) → Type 0
+GivesUndamaged (Ok x) P = P x
+GivesUndamaged (Err why) P = IsUndamagedLoad why
 
 -- Why a call refused: the disk failed, and its count of faults rose; or the count stayed.
 abbrev pub LoadWhy : ℕ → ℕ → LoadRefusal → Type 0

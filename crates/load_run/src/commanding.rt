@@ -1,11 +1,12 @@
 //! The commands of a load run.
+//! Writes the disk; syncs.
 ghost use Rattle.std.specs.Prelude.{◌≡◌, ◌≤◌, ◌/◌, None, true, OnOk, length};
 ghost use Rattle.arch_base.specs.Moments.{last_moment};
 ghost use Rattle.arch_model.specs.Archives.{Archive, live};
 ghost use Rattle.arch_model.specs.Delivery.{applied, delivered};
-ghost use Rattle.arch_model.specs.Keeping.{Fits};
+ghost use Rattle.arch_model.specs.Keeping.{MatchesKnown};
 ghost use Rattle.arch_model.specs.Standing.{standing};
-ghost use Rattle.load_run.specs.Given.{Gives, LoadCause};
+ghost use Rattle.load_run.specs.Given.{GivesUndamaged, LoadCause};
 ghost use Rattle.load_run.specs.Mails.{mail as mail_with};
 ghost use Rattle.load_run.specs.Loads.{greatest_load, moment_of, delivered_to, removed_to, purged_to};
 
@@ -21,8 +22,9 @@ pub(crate) const FIRST_MOMENT: u64 = 1_700_000_000;
 /// Carries out a command, whatever the rules answer.
 fn obey<K: Keep>(keep: &mut K, command: &Command<'_>, moment: u64) -> Result<(), LoadRefusal>
     requires { moment ≤ last_moment }
-    ensures kept { (a : Archive) → Fits K.holds K.rests K.ready K.leaves keep.old (standing a None)
-        → Gives result (λ done. Fits K.holds K.rests K.ready K.leaves keep.new
+    ensures kept { (a : Archive) → MatchesKnown K.holds K.files_are K.ready K.leaves keep.old
+        (standing a None)
+        → GivesUndamaged result (λ done. MatchesKnown K.holds K.files_are K.ready K.leaves keep.new
         (standing (applied a command.now moment).archive None)) }
     ensures later { K.faults keep.old ≤ K.faults keep.new }
     ensures cause { LoadCause (K.faults keep.old) (K.faults keep.new) result }
@@ -43,8 +45,9 @@ pub(crate) fn deliver_all<K: Keep>(
     seed: u64,
 ) -> Result<(), LoadRefusal>
     requires { count ≤ greatest_load }
-    ensures kept { (a : Archive) → Fits K.holds K.rests K.ready K.leaves keep.old (standing a None)
-        → Gives result (λ done. Fits K.holds K.rests K.ready K.leaves keep.new
+    ensures kept { (a : Archive) → MatchesKnown K.holds K.files_are K.ready K.leaves keep.old
+        (standing a None)
+        → GivesUndamaged result (λ done. MatchesKnown K.holds K.files_are K.ready K.leaves keep.new
         (standing (delivered_to a seed count) None)) }
     ensures later { K.faults keep.old ≤ K.faults keep.new }
     ensures cause { LoadCause (K.faults keep.old) (K.faults keep.new) result }
@@ -65,8 +68,9 @@ pub(crate) fn deliver_all<K: Keep>(
 /// buffer.
 fn deliver<K: Keep>(i: u64, r: u64, mail: &mut Bytes, keep: &mut K) -> Result<(), LoadRefusal>
     requires { i ≤ greatest_load }
-    ensures kept { (a : Archive) → Fits K.holds K.rests K.ready K.leaves keep.old (standing a None)
-        → Gives result (λ done. Fits K.holds K.rests K.ready K.leaves keep.new
+    ensures kept { (a : Archive) → MatchesKnown K.holds K.files_are K.ready K.leaves keep.old
+        (standing a None)
+        → GivesUndamaged result (λ done. MatchesKnown K.holds K.files_are K.ready K.leaves keep.new
         (standing (delivered a (mail_with i r) (moment_of i)).archive None)) }
     ensures later { K.faults keep.old ≤ K.faults keep.new }
     ensures cause { LoadCause (K.faults keep.old) (K.faults keep.new) result }
@@ -82,8 +86,9 @@ fn deliver<K: Keep>(i: u64, r: u64, mail: &mut Bytes, keep: &mut K) -> Result<()
 pub(crate) fn remove_all<K: Keep>(keep: &mut K, count: u32, moment: u64) -> Result<(), LoadRefusal>
     requires few { count ≤ greatest_load }
     requires moment { moment ≤ last_moment }
-    ensures kept { (a : Archive) → Fits K.holds K.rests K.ready K.leaves keep.old (standing a None)
-        → Gives result (λ done. Fits K.holds K.rests K.ready K.leaves keep.new
+    ensures kept { (a : Archive) → MatchesKnown K.holds K.files_are K.ready K.leaves keep.old
+        (standing a None)
+        → GivesUndamaged result (λ done. MatchesKnown K.holds K.files_are K.ready K.leaves keep.new
         (standing (removed_to a moment (count / 10)) None)) }
     ensures later { K.faults keep.old ≤ K.faults keep.new }
     ensures cause { LoadCause (K.faults keep.old) (K.faults keep.new) result }
@@ -101,8 +106,9 @@ pub(crate) fn remove_all<K: Keep>(keep: &mut K, count: u32, moment: u64) -> Resu
 pub(crate) fn purge_all<K: Keep>(keep: &mut K, count: u32, moment: u64) -> Result<(), LoadRefusal>
     requires few { count ≤ greatest_load }
     requires moment { moment ≤ last_moment }
-    ensures kept { (a : Archive) → Fits K.holds K.rests K.ready K.leaves keep.old (standing a None)
-        → Gives result (λ done. Fits K.holds K.rests K.ready K.leaves keep.new
+    ensures kept { (a : Archive) → MatchesKnown K.holds K.files_are K.ready K.leaves keep.old
+        (standing a None)
+        → GivesUndamaged result (λ done. MatchesKnown K.holds K.files_are K.ready K.leaves keep.new
         (standing (purged_to a (count / 25)) None)) }
     ensures later { K.faults keep.old ≤ K.faults keep.new }
     ensures cause { LoadCause (K.faults keep.old) (K.faults keep.new) result }
@@ -118,10 +124,13 @@ pub(crate) fn purge_all<K: Keep>(keep: &mut K, count: u32, moment: u64) -> Resul
 
 /// Rebuilds what is kept beside the files, and returns the number of live messages.
 pub(crate) fn reindex<K: Keep>(keep: &mut K) -> Result<u32, LoadRefusal>
-    ensures live { (a : Archive) → Fits K.holds K.rests K.ready K.leaves keep.old (standing a None)
-        → Gives result (λ count. count ≡ length (live a.entries)) }
-    ensures kept { (a : Archive) → Fits K.holds K.rests K.ready K.leaves keep.old (standing a None)
-        → Gives result (λ count. Fits K.holds K.rests K.ready K.leaves keep.new (standing a None)) }
+    ensures live { (a : Archive) → MatchesKnown K.holds K.files_are K.ready K.leaves keep.old
+        (standing a None)
+        → GivesUndamaged result (λ count. count ≡ length (live a.entries)) }
+    ensures kept { (a : Archive) → MatchesKnown K.holds K.files_are K.ready K.leaves keep.old
+        (standing a None)
+        → GivesUndamaged result (λ count. MatchesKnown K.holds K.files_are K.ready K.leaves keep.new
+        (standing a None)) }
     ensures ready { OnOk result (K.ready keep.new ≡ true) }
     ensures later { K.faults keep.old ≤ K.faults keep.new }
     ensures cause { LoadCause (K.faults keep.old) (K.faults keep.new) result }

@@ -1,4 +1,5 @@
 //! The counts of an archive.
+//! Allocates.
 ghost use Rattle.std.specs.Prelude.{◌≡◌, ◌<◌, ◌^◌, true, length, IfOk};
 ghost use Rattle.arch_model.specs.Archives.{Archive, live as live_of};
 ghost use Rattle.arch_model.specs.Threading.{thread_in};

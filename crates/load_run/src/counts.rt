@@ -1,4 +1,5 @@
 //! What a load run counts, and its line.
+//! Allocates.
 use crate::mails::push_around;
 use arch_base::{Bytes, NoMemory};
 use std::alloc::Global;

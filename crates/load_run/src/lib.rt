@@ -1,5 +1,7 @@
-//! Fills an archive with messages that a seed determines, removes and purges some of them, and counts
-//! what is there then.
+//! Fills an archive with messages that a seed determines, and counts what is there then.
+//! Writes the disk; syncs.
+//!
+//! Some of the messages are removed or purged before they are counted.
 #![tactic(auto)]
 
 mod commanding;

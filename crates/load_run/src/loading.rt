@@ -1,11 +1,12 @@
 //! The load run.
+//! Writes the disk; syncs.
 ghost use Rattle.std.specs.Prelude.{◌≡◌, ◌≤◌, None, true, OnOk};
 ghost use Rattle.arch_model.specs.Archives.{Archive};
-ghost use Rattle.arch_model.specs.Keeping.{Fits};
+ghost use Rattle.arch_model.specs.Keeping.{MatchesKnown};
 ghost use Rattle.arch_model.specs.Standing.{standing};
 ghost use Rattle.arch_model.specs.Validity.{IsArchive};
 ghost use Rattle.load_run.specs.Counted.{counts_of};
-ghost use Rattle.load_run.specs.Given.{Gives, LoadCause};
+ghost use Rattle.load_run.specs.Given.{GivesUndamaged, LoadCause};
 ghost use Rattle.load_run.specs.Loads.{greatest_load, loaded};
 
 use crate::commanding::{FIRST_MOMENT, deliver_all, purge_all, reindex, remove_all};
@@ -43,11 +44,12 @@ pub fn load<K: Keep>(
 ) -> Result<LoadCounts, LoadRefusal>
     requires { count ≤ greatest_load }
     ensures counts { (a : Archive) → IsArchive a
-        → Fits K.holds K.rests K.ready K.leaves keep.old (standing a None)
-        → Gives result (λ counts. counts ≡ counts_of (loaded a count seed)) }
-    ensures kept { (a : Archive) → Fits K.holds K.rests K.ready K.leaves keep.old (standing a None)
-        → Gives result (λ counts.
-        Fits K.holds K.rests K.ready K.leaves keep.new (standing (loaded a count seed) None)) }
+        → MatchesKnown K.holds K.files_are K.ready K.leaves keep.old (standing a None)
+        → GivesUndamaged result (λ counts. counts ≡ counts_of (loaded a count seed)) }
+    ensures kept { (a : Archive) → MatchesKnown K.holds K.files_are K.ready K.leaves keep.old
+        (standing a None)
+        → GivesUndamaged result (λ counts.
+        MatchesKnown K.holds K.files_are K.ready K.leaves keep.new (standing (loaded a count seed) None)) }
     ensures ready { OnOk result (K.ready keep.new ≡ true) }
     ensures later { K.faults keep.old ≤ K.faults keep.new }
     ensures cause { LoadCause (K.faults keep.old) (K.faults keep.new) result }

@@ -1,4 +1,5 @@
 //! The messages of a load run, and the generator that they are drawn with.
+//! Allocates.
 ghost use Rattle.std.specs.Prelude.{◌≡◌, ◌++◌, ◌<◌, OnOk};
 ghost use Rattle.load_run.specs.Mails.{next_state as state_next, drawn as drawn_of, answered as answered_of, around, from_line, subject_line, id_line, answer_line, references_line, body_lines, mail};
 

@@ -1,4 +1,5 @@
 //! Why a load run ended early.
+//! Pure.
 use thiserror::Error;
 
 /// The reason why a load run ended early.

@@ -1,13 +1,13 @@
 -- Every value is the front of a text that is spelled from pieces.
 use Rattle.std.proofs.Common.{◌≡◌, ℕ, zero, suc, Bool, true, false, ◌==◌, List, [], ◌∷◌, ◌++◌, refl, sym, ◌∙◌, ap, subst, append_assoc}
 use Rattle.std.proofs.lemmas.Bool.{eqb-true}
-use Rattle.mail_address.specs.Grammar.{QuotedPart, Literal, Escaped, CommentInside, Empty, TextThen, EscapedThen, CommentThen, is_quoted_byte, is_comment_byte, AreQuoted, IsInside, quoted_bytes, inside_bytes, Piece, Byte, QuotedString, CommentText, spelled_pieces, ArePieces, is_outer_byte}
+use Rattle.mail_address.specs.Grammar.{QuotedPart, Literal, Escaped, CommentInside, Empty, TextThen, EscapedThen, CommentThen, is_quoted_byte, is_comment_byte, MayStandQuoted, MayStandInComment, quoted_bytes, inside_bytes, ValuePiece, Byte, QuotedString, CommentText, spelled_pieces, ArePieces, is_outer_byte}
 use Rattle.mail_address.specs.Laws.{EveryValueIsFront}
 
 -- A text that closes so many comments, and is then spelled from pieces.
 abbrev Closes : ℕ → List ℕ → Type 0
-Closes zero xs = (pieces : List Piece) × ArePieces is_outer_byte pieces × (spelled_pieces pieces ≡ xs)
-Closes (suc n) xs = (inside : CommentInside) × (ys : List ℕ) × IsInside inside × Closes n ys × (inside_bytes inside ++ 41 ∷ ys ≡ xs)
+Closes zero xs = (pieces : List ValuePiece) × ArePieces is_outer_byte pieces × (spelled_pieces pieces ≡ xs)
+Closes (suc n) xs = (inside : CommentInside) × (ys : List ℕ) × MayStandInComment inside × Closes n ys × (inside_bytes inside ++ 41 ∷ ys ≡ xs)
 
 -- A value that is the front of such a text.
 abbrev Front : ℕ → List ℕ → Type 0
@@ -15,7 +15,7 @@ Front n value = (more : List ℕ) × Closes n (value ++ more)
 
 -- A text that closes a quoted string, and is then spelled from pieces.
 abbrev Quotes : List ℕ → Type 0
-Quotes xs = (parts : List QuotedPart) × (ys : List ℕ) × AreQuoted parts × Closes zero ys × (quoted_bytes parts ++ 34 ∷ ys ≡ xs)
+Quotes xs = (parts : List QuotedPart) × (ys : List ℕ) × MayStandQuoted parts × Closes zero ys × (quoted_bytes parts ++ 34 ∷ ys ≡ xs)
 
 abbrev QuotedFront : List ℕ → Type 0
 QuotedFront value = (more : List ℕ) × Quotes (value ++ more)

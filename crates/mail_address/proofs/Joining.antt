@@ -2,7 +2,7 @@
 use Rattle.std.proofs.Common.{◌≡◌, ℕ, zero, suc, ◌<◌, true, false, List, [], ◌∷◌, ◌++◌, length, replicate, refl, ◌∙◌, ap, append_assoc, arith}
 use Rattle.std.specs.List.{All, flat_map}
 use Rattle.mail_address.specs.Words.{begins_word, spaced, without_space, joined_words}
-use Rattle.mail_address.specs.Texts.{IsWord, spread, WordsAreJoined, SpacesAreNoWords}
+use Rattle.mail_address.specs.Texts.{IsSpacelessWord, spread, WordsAreJoined, SpacesAreNoWords}
 use Rattle.mail_address.proofs.Spacing.{without_space-space}
 use Rattle.mail_address.proofs.Plain.{HasNo as Lacks}
 use Rattle.mail_address.proofs.Mailboxes.{lacks}
@@ -35,12 +35,12 @@ abbrev AllWords : List (ℕ × List ℕ) → Type 0
 AllWords [] = Unit {0}
 AllWords (part ∷ parts) = (0 < length part.1) × Lacks 32 part.1 × AllWords parts
 
-all_words : (parts : List (ℕ × List ℕ)) → All (λ (part : ℕ × List ℕ). IsWord part.1) parts → AllWords parts
+all_words : (parts : List (ℕ × List ℕ)) → All (λ (part : ℕ × List ℕ). IsSpacelessWord part.1) parts → AllWords parts
 all_words [] all = tt
 all_words (part ∷ parts) all =
     let here : 0 < length (part ∷ parts) = omega arith in
-    let tail : All (λ (p : ℕ × List ℕ). IsWord p.1) parts = λ k d h. let later : suc k < length (part ∷ parts) = omega arith in all (suc k) d later in
-    let word : IsWord part.1 = all 0 part here in
+    let tail : All (λ (p : ℕ × List ℕ). IsSpacelessWord p.1) parts = λ k d h. let later : suc k < length (part ∷ parts) = omega arith in all (suc k) d later in
+    let word : IsSpacelessWord part.1 = all 0 part here in
     (word.0, lacks 32 part.1 word.1, all_words parts tail)
 
 spaced_words : (parts : List (ℕ × List ℕ)) (end : ℕ) → AllWords parts

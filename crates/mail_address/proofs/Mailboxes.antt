@@ -15,10 +15,10 @@ use Rattle.mail_address.specs.Splits.{split_last, is_this, part_after}
 use Rattle.mail_address.specs.Words.{stays_in_name, stays_in_address, joined_words, name_text, address_text}
 use Rattle.mail_address.specs.Items.{cut, onto_item, items_of, ends_item, len_before, has_bracket, after_bracket, up_to_bracket, name_bytes, address_bytes}
 use Rattle.mail_address.specs.Addresses.{told, mailbox_in, mailbox_with, without_route, group_start}
-use Rattle.mail_address.specs.Grammar.{QuotedPart, Literal, Escaped, CommentInside, Empty, TextThen, EscapedThen, CommentThen, is_quoted_byte, AreQuoted, quoted_bytes, Piece, Byte, QuotedString, CommentText, piece_bytes, spelled_pieces, IsPiece, ArePieces, is_outer_byte}
+use Rattle.mail_address.specs.Grammar.{QuotedPart, Literal, Escaped, CommentInside, Empty, TextThen, EscapedThen, CommentThen, is_quoted_byte, MayStandQuoted, quoted_bytes, ValuePiece, Byte, QuotedString, CommentText, piece_bytes, spelled_pieces, IsPiece, ArePieces, is_outer_byte}
 use Rattle.mail_address.specs.Laws.{is_plain}
 use Rattle.mail_address.specs.Texts.{is_name_byte}
-use Rattle.mail_address.specs.Mailboxes.{quoted_said, said_in_name, said_in_address, name_said, address_said, WrittenMailbox, is_route_byte, IsRoute, HasNo, AreColonsFree, IsWritten, written, written_list, Member, One, Group, AllWritten, IsMember, AreMembers, member_bytes, member_list, mailbox_said, member_said, MembersReadBack}
+use Rattle.mail_address.specs.Mailboxes.{quoted_said, said_in_name, said_in_address, name_said, address_said, WrittenMailbox, is_route_byte, IsRoute, HasNo, AreColonsFree, IsWrittenMailbox, written, written_list, Member, One, Group, AllWritten, IsMember, AreMembers, member_bytes, member_list, mailbox_said, member_said, MembersReadBack}
 use Rattle.mail_address.proofs.Cutting.{put_before}
 use Rattle.mail_address.proofs.Seeking.{bytes_of-marked_by}
 use Rattle.mail_address.proofs.Spacing.{without_space-space}
@@ -50,7 +50,7 @@ passing : (t : Bool) → t ≡ true → not t ≡ false
 passing true e = refl
 passing false e = cc
 
-pub quiet_pieces : (p : ℕ → Bool) → p 34 ≡ true → p 40 ≡ true → (pieces : List Piece) → ArePieces p pieces → Quiet p (all_marks pieces)
+pub quiet_pieces : (p : ℕ → Bool) → p 34 ≡ true → p 40 ≡ true → (pieces : List ValuePiece) → ArePieces p pieces → Quiet p (all_marks pieces)
 quiet_pieces p quote paren [] q = tt
 quiet_pieces p quote paren (Byte b ∷ pieces) q = (passing (p b) q.0, quiet_pieces p quote paren pieces q.1)
 quiet_pieces p quote paren (QuotedString parts ∷ pieces) q = (
@@ -65,7 +65,7 @@ quiet_pieces p quote paren (CommentText inside ∷ pieces) q = (
 )
 
 -- Pieces that pass one test pass a weaker one.
-pub weaker : (p r : ℕ → Bool) → ((b : ℕ) → p b ≡ true → r b ≡ true) → (pieces : List Piece) → ArePieces p pieces → ArePieces r pieces
+pub weaker : (p r : ℕ → Bool) → ((b : ℕ) → p b ≡ true → r b ≡ true) → (pieces : List ValuePiece) → ArePieces p pieces → ArePieces r pieces
 weaker p r h [] q = tt
 weaker p r h (Byte b ∷ pieces) q = (h b q.0, weaker p r h pieces q.1)
 weaker p r h (QuotedString parts ∷ pieces) q = (q.0, weaker p r h pieces q.1)
@@ -174,20 +174,20 @@ seek_inner (m ∷ ms) ns q =
     let closes : (is_outside m.1 && m.0 == 62) ≡ false = closes_quiet m.1 m.0 q.0 in
     rw (closes, seek_inner ms ns q.1) (omega arith)
 
-pub bytes_back : (p : ℕ → Bool) → ((b : ℕ) → p b ≡ true → next_place Outside b ≡ Outside) → (pieces : List Piece) → ArePieces p pieces
+pub bytes_back : (p : ℕ → Bool) → ((b : ℕ) → p b ≡ true → next_place Outside b ≡ Outside) → (pieces : List ValuePiece) → ArePieces p pieces
     → bytes_of (all_marks pieces) ≡ spelled_pieces pieces
 bytes_back p stays pieces q =
     ap bytes_of (sym (marks_whole next_place moves p stays pieces q)) ∙ bytes_of-marked_by next_place Outside (spelled_pieces pieces)
 
-spelled_two : (ps qs : List Piece) → spelled_pieces (ps ++ qs) ≡ spelled_pieces ps ++ spelled_pieces qs
+spelled_two : (ps qs : List ValuePiece) → spelled_pieces (ps ++ qs) ≡ spelled_pieces ps ++ spelled_pieces qs
 spelled_two [] qs = refl
 spelled_two (p ∷ ps) qs = ap (λ (xs : List ℕ). piece_bytes p ++ xs) (spelled_two ps qs) ∙ sym (append_assoc (piece_bytes p) (spelled_pieces ps) (spelled_pieces qs))
 
-said_two : (said : Piece → List ℕ) (ps qs : List Piece) → flat_map said (ps ++ qs) ≡ flat_map said ps ++ flat_map said qs
+said_two : (said : ValuePiece → List ℕ) (ps qs : List ValuePiece) → flat_map said (ps ++ qs) ≡ flat_map said ps ++ flat_map said qs
 said_two said [] qs = refl
 said_two said (p ∷ ps) qs = ap (λ (xs : List ℕ). said p ++ xs) (said_two said ps qs) ∙ sym (append_assoc (said p) (flat_map said ps) (flat_map said qs))
 
-are_two : (p : ℕ → Bool) (ps qs : List Piece) → ArePieces p ps → ArePieces p qs → ArePieces p (ps ++ qs)
+are_two : (p : ℕ → Bool) (ps qs : List ValuePiece) → ArePieces p ps → ArePieces p qs → ArePieces p (ps ++ qs)
 are_two p [] qs q r = r
 are_two p (x ∷ ps) qs q r = (q.0, are_two p ps qs q.1 r)
 
@@ -209,7 +209,7 @@ drop_inside keep byte pair d (CommentThen inner more) ms =
     first ∙ ap (filter keep) (append_assoc (inside_marks (suc d) inner) ((41, Comment (suc d)) ∷ inside_marks d more) ms)
     ∙ drop_inside keep byte pair (suc d) inner ((41, Comment (suc d)) ∷ (inside_marks d more ++ ms)) ∙ last ∙ drop_inside keep byte pair d more ms
 
-name_quoted : (parts : List QuotedPart) → AreQuoted parts → (ms : List (ℕ × Place)) → bytes_of (filter keep_name (quoted_marks parts ++ ms)) ≡ quoted_said parts ++ bytes_of (filter keep_name ms)
+name_quoted : (parts : List QuotedPart) → MayStandQuoted parts → (ms : List (ℕ × Place)) → bytes_of (filter keep_name (quoted_marks parts ++ ms)) ≡ quoted_said parts ++ bytes_of (filter keep_name ms)
 name_quoted [] q ms = refl
 name_quoted (Literal b ∷ parts) q ms =
     let quote : (b == 34) ≡ false = no_quote b q.0 in
@@ -223,7 +223,7 @@ name_quoted (Literal b ∷ parts) q ms =
     no_backslash b h = grind (arith, nat_tests)
 name_quoted (Escaped b ∷ parts) q ms = ap (λ (xs : List ℕ). b ∷ xs) (name_quoted parts q ms)
 
-pub name_piece : (piece : Piece) → IsPiece is_name_byte piece → (ms : List (ℕ × Place))
+pub name_piece : (piece : ValuePiece) → IsPiece is_name_byte piece → (ms : List (ℕ × Place))
     → bytes_of (filter keep_name (piece_marks piece ++ ms)) ≡ said_in_name piece ++ bytes_of (filter keep_name ms)
 name_piece (Byte b) q ms = rw (no_quote b q, no_paren b q, no_backslash b q) refl
   where
@@ -241,11 +241,11 @@ name_piece (CommentText inside) q ms =
     ap (λ ns. bytes_of (filter keep_name ns)) (append_assoc (inside_marks 1 inside) ((41, Comment 1) ∷ []) ms)
     ∙ ap bytes_of (drop_inside keep_name (λ d b. refl) (λ d b. refl) 1 inside ((41, Comment 1) ∷ ms))
 
-name_pieces : (pieces : List Piece) → ArePieces is_name_byte pieces → bytes_of (filter keep_name (all_marks pieces)) ≡ flat_map said_in_name pieces
+name_pieces : (pieces : List ValuePiece) → ArePieces is_name_byte pieces → bytes_of (filter keep_name (all_marks pieces)) ≡ flat_map said_in_name pieces
 name_pieces [] q = refl
 name_pieces (piece ∷ pieces) q = name_piece piece q.0 (all_marks pieces) ∙ ap (λ (xs : List ℕ). said_in_name piece ++ xs) (name_pieces pieces q.1)
 
-pub name_is : (pieces : List Piece) → ArePieces is_plain pieces → name_text (spelled_pieces pieces) ≡ name_said pieces
+pub name_is : (pieces : List ValuePiece) → ArePieces is_plain pieces → name_text (spelled_pieces pieces) ≡ name_said pieces
 name_is pieces q =
     let named = weaker is_plain is_name_byte plain_name pieces q in
     ap joined_words (ap (λ ms. bytes_of (filter keep_name ms)) (marks_whole next_name_place moves_in_name is_name_byte name_stays pieces named) ∙ name_pieces pieces named)
@@ -256,7 +256,7 @@ address_quoted [] ms = refl
 address_quoted (Literal b ∷ parts) ms = ap (λ (xs : List ℕ). b ∷ xs) (address_quoted parts ms)
 address_quoted (Escaped b ∷ parts) ms = ap (λ (xs : List ℕ). 92 ∷ b ∷ xs) (address_quoted parts ms)
 
-address_piece : (piece : Piece) → IsPiece is_outer_byte piece → (ms : List (ℕ × Place))
+address_piece : (piece : ValuePiece) → IsPiece is_outer_byte piece → (ms : List (ℕ × Place))
     → bytes_of (filter keep_address (piece_marks piece ++ ms)) ≡ said_in_address piece ++ bytes_of (filter keep_address ms)
 address_piece (Byte b) q ms = rw (no_paren b q) (by (b == 32))
   where
@@ -274,37 +274,37 @@ address_piece (CommentText inside) q ms =
     ap (λ ns. bytes_of (filter keep_address ns)) (append_assoc (inside_marks 1 inside) ((41, Comment 1) ∷ []) ms)
     ∙ ap bytes_of (drop_inside keep_address (λ d b. refl) (λ d b. refl) 1 inside ((41, Comment 1) ∷ ms))
 
-address_pieces : (pieces : List Piece) → ArePieces is_outer_byte pieces → bytes_of (filter keep_address (all_marks pieces)) ≡ address_said pieces
+address_pieces : (pieces : List ValuePiece) → ArePieces is_outer_byte pieces → bytes_of (filter keep_address (all_marks pieces)) ≡ address_said pieces
 address_pieces [] q = refl
 address_pieces (piece ∷ pieces) q = address_piece piece q.0 (all_marks pieces) ∙ ap (λ (xs : List ℕ). said_in_address piece ++ xs) (address_pieces pieces q.1)
 
-pub address_is : (pieces : List Piece) → ArePieces is_outer_byte pieces → address_text (spelled_pieces pieces) ≡ address_said pieces
+pub address_is : (pieces : List ValuePiece) → ArePieces is_outer_byte pieces → address_text (spelled_pieces pieces) ≡ address_said pieces
 address_is pieces q =
     ap (λ ms. bytes_of (filter keep_address ms)) (marks_whole next_place moves is_outer_byte outer_stays pieces q) ∙ address_pieces pieces q
 
 -- A mailbox as it is in a list: pieces of a name, pieces between brackets, and what follows.
-abbrev pub line : List Piece → List Piece → List ℕ → List ℕ
+abbrev pub line : List ValuePiece → List ValuePiece → List ℕ → List ℕ
 line front inner ys = spelled_pieces front ++ 60 ∷ (spelled_pieces inner ++ 62 ∷ ys)
 
-marks_front : (front : List Piece) (ys : List ℕ) → ArePieces is_plain front → marked (spelled_pieces front ++ ys) ≡ all_marks front ++ marked ys
+marks_front : (front : List ValuePiece) (ys : List ℕ) → ArePieces is_plain front → marked (spelled_pieces front ++ ys) ≡ all_marks front ++ marked ys
 marks_front front ys q = marks_all next_place moves is_plain plain_stays front q ys
 
-pub marks_address : (inner : List Piece) (ys : List ℕ) → ArePieces is_address_byte inner → marked (spelled_pieces inner ++ ys) ≡ all_marks inner ++ marked ys
+pub marks_address : (inner : List ValuePiece) (ys : List ℕ) → ArePieces is_address_byte inner → marked (spelled_pieces inner ++ ys) ≡ all_marks inner ++ marked ys
 marks_address inner ys q = marks_all next_place moves is_address_byte address_stays inner q ys
 
-front_quiet : (g : Bool) (front : List Piece) → ArePieces is_plain front → Quiet (is_item_byte g) (all_marks front)
+front_quiet : (g : Bool) (front : List ValuePiece) → ArePieces is_plain front → Quiet (is_item_byte g) (all_marks front)
 front_quiet g front q = quiet_pieces (is_item_byte g) refl refl front (weaker is_plain (is_item_byte g) (plain_item g) front q)
 
-pub inner_quiet : (inner : List Piece) → ArePieces is_address_byte inner → Quiet is_bracket_byte (all_marks inner)
+pub inner_quiet : (inner : List ValuePiece) → ArePieces is_address_byte inner → Quiet is_bracket_byte (all_marks inner)
 inner_quiet inner q = quiet_pieces is_bracket_byte refl refl inner (weaker is_address_byte is_bracket_byte address_bracket inner q)
 
-pub cut_front : (g : Bool) (front : List Piece) (ys : List ℕ) → ArePieces is_plain front
+pub cut_front : (g : Bool) (front : List ValuePiece) (ys : List ℕ) → ArePieces is_plain front
     → cut g false (marked (spelled_pieces front ++ ys)) ≡ put_before (spelled_pieces front) (cut g false (marked ys))
 cut_front g front ys q =
     ap (cut g false) (marks_front front ys q) ∙ cut_outer g (all_marks front) (marked ys) (front_quiet g front q)
     ∙ ap (λ (xs : List ℕ). put_before xs (cut g false (marked ys))) (bytes_back is_plain plain_stays front q)
 
-pub cut_line : (g : Bool) (front inner : List Piece) (ys : List ℕ) → ArePieces is_plain front → ArePieces is_address_byte inner
+pub cut_line : (g : Bool) (front inner : List ValuePiece) (ys : List ℕ) → ArePieces is_plain front → ArePieces is_address_byte inner
     → cut g false (marked (line front inner ys)) ≡ put_before (line front inner []) (cut g false (marked ys))
 cut_line g front inner ys q r =
     let within : cut g true (marked (spelled_pieces inner ++ 62 ∷ ys)) ≡ put_before (spelled_pieces inner) (onto_item 62 (cut g false (marked ys)))
@@ -315,37 +315,37 @@ cut_line g front inner ys q r =
     ∙ put_before-line (spelled_pieces front) (spelled_pieces inner) (cut g false (marked ys))
 
 -- The parts of a mailbox, whatever follows the bracket.
-len_line : (front : List Piece) (more : List ℕ) → ArePieces is_plain front → len_before OpenBracket Outside (spelled_pieces front ++ 60 ∷ more) ≡ length (spelled_pieces front)
+len_line : (front : List ValuePiece) (more : List ℕ) → ArePieces is_plain front → len_before OpenBracket Outside (spelled_pieces front ++ 60 ∷ more) ≡ length (spelled_pieces front)
 len_line front more q =
     let found : position_or_len (is_sought OpenBracket) (marked (spelled_pieces front ++ 60 ∷ more)) ≡ length (bytes_of (all_marks front)) + 0
     = ap (position_or_len (is_sought OpenBracket)) (marks_front front (60 ∷ more) q) ∙ seek_outer false (all_marks front) (marked (60 ∷ more)) (front_quiet false front q) in
     let same : length (bytes_of (all_marks front)) ≡ length (spelled_pieces front) = ap length (bytes_back is_plain plain_stays front q) in
     omega arith
 
-has_line : (front : List Piece) (more : List ℕ) → ArePieces is_plain front → has_bracket (spelled_pieces front ++ 60 ∷ more) ≡ true
+has_line : (front : List ValuePiece) (more : List ℕ) → ArePieces is_plain front → has_bracket (spelled_pieces front ++ 60 ∷ more) ≡ true
 has_line front more q =
     let len : len_before OpenBracket Outside (spelled_pieces front ++ 60 ∷ more) ≡ length (spelled_pieces front) = len_line front more q in
     let all : length (spelled_pieces front ++ 60 ∷ more) ≡ length (spelled_pieces front) + length (60 ∷ more) = length-append (spelled_pieces front) (60 ∷ more) in
     nat_lt-true (len_before OpenBracket Outside (spelled_pieces front ++ 60 ∷ more)) (length (spelled_pieces front ++ 60 ∷ more)) (omega arith)
 
-pub name_line : (front : List Piece) (more : List ℕ) → ArePieces is_plain front → name_bytes (spelled_pieces front ++ 60 ∷ more) ≡ spelled_pieces front
+pub name_line : (front : List ValuePiece) (more : List ℕ) → ArePieces is_plain front → name_bytes (spelled_pieces front ++ 60 ∷ more) ≡ spelled_pieces front
 name_line front more q =
     let has = has_line front more q in
     let len = len_line front more q in
     rw (has, len) (take_at (spelled_pieces front) (60 ∷ more) (length (spelled_pieces front)) refl)
 
-after_line : (front : List Piece) (more : List ℕ) → ArePieces is_plain front → after_bracket (spelled_pieces front ++ 60 ∷ more) ≡ more
+after_line : (front : List ValuePiece) (more : List ℕ) → ArePieces is_plain front → after_bracket (spelled_pieces front ++ 60 ∷ more) ≡ more
 after_line front more q =
     let len = len_line front more q in
     let at : drop (length (spelled_pieces front)) (spelled_pieces front ++ (60 ∷ more)) ≡ 60 ∷ more = drop_at (spelled_pieces front) (60 ∷ more) (length (spelled_pieces front)) refl in
     rw len (sym (drop-drop 1 (length (spelled_pieces front)) (spelled_pieces front ++ (60 ∷ more))) ∙ ap (drop 1) at)
 
-pub address_line : (front : List Piece) (more : List ℕ) → ArePieces is_plain front → address_bytes (spelled_pieces front ++ 60 ∷ more) ≡ up_to_bracket more
+pub address_line : (front : List ValuePiece) (more : List ℕ) → ArePieces is_plain front → address_bytes (spelled_pieces front ++ 60 ∷ more) ≡ up_to_bracket more
 address_line front more q =
     let has = has_line front more q in
     rw has (ap up_to_bracket (after_line front more q))
 
-pub up_to_line : (inner : List Piece) (ys : List ℕ) → ArePieces is_address_byte inner → up_to_bracket (spelled_pieces inner ++ 62 ∷ ys) ≡ spelled_pieces inner
+pub up_to_line : (inner : List ValuePiece) (ys : List ℕ) → ArePieces is_address_byte inner → up_to_bracket (spelled_pieces inner ++ 62 ∷ ys) ≡ spelled_pieces inner
 up_to_line inner ys r =
     let found : position_or_len (is_sought CloseBracket) (marked (spelled_pieces inner ++ 62 ∷ ys)) ≡ length (bytes_of (all_marks inner)) + 0
     = ap (position_or_len (is_sought CloseBracket)) (marks_address inner (62 ∷ ys) r) ∙ seek_inner (all_marks inner) (marked (62 ∷ ys)) (inner_quiet inner r) in
@@ -354,7 +354,7 @@ up_to_line inner ys r =
     rw len (take_at (spelled_pieces inner) (62 ∷ ys) (length (spelled_pieces inner)) refl)
 
 -- The address between the brackets, with its route.
-abbrev addressed : WrittenMailbox → List Piece
+abbrev addressed : WrittenMailbox → List ValuePiece
 addressed m = map Byte m.route ++ (m.local_part ++ Byte 64 ∷ m.host)
 
 spelled_bytes : (xs : List ℕ) → spelled_pieces (map Byte xs) ≡ xs
@@ -403,7 +403,7 @@ route_goes route tail (inr r) free =
     let parts : split_last (is_this 58) (64 ∷ (r.domains ++ 58 ∷ tail)) ≡ Some (64 ∷ r.domains, tail) = split_last-this 58 (64 ∷ r.domains) tail refl free in
     ap without_route is ∙ ap (part_after (64 ∷ (r.domains ++ 58 ∷ tail))) parts
 
-inner_are : (m : WrittenMailbox) → IsWritten m → ArePieces is_address_byte (addressed m)
+inner_are : (m : WrittenMailbox) → IsWrittenMailbox m → ArePieces is_address_byte (addressed m)
 inner_are m w =
     are_two is_address_byte (map Byte m.route) (m.local_part ++ Byte 64 ∷ m.host) (route_are m.route w.route)
     (are_two is_address_byte m.local_part (Byte 64 ∷ m.host) (weaker is_plain is_address_byte plain_address m.local_part w.local_part) (refl, weaker is_plain is_address_byte plain_address m.host w.host))
@@ -417,7 +417,7 @@ route_none : (xs tail : List ℕ) → BeginsElse xs → without_route (xs ++ tai
 route_none [] tail h = absurd h
 route_none (b ∷ bs) tail h = rw h refl
 
-begins_else : (pieces : List Piece) → ArePieces is_plain pieces → 0 < length (address_said pieces) → BeginsElse (address_said pieces)
+begins_else : (pieces : List ValuePiece) → ArePieces is_plain pieces → 0 < length (address_said pieces) → BeginsElse (address_said pieces)
 begins_else [] q some = absurd (omega arith)
 begins_else (Byte b ∷ pieces) q some = by (b == 32) b q.0 (address_said pieces) (begins_else pieces q.1) some
   where
@@ -431,7 +431,7 @@ begins_else (Byte b ∷ pieces) q some = by (b == 32) b q.0 (address_said pieces
 begins_else (QuotedString parts ∷ pieces) q some = refl
 begins_else (CommentText inside ∷ pieces) q some = begins_else pieces q.1 some
 
-address_of : (m : WrittenMailbox) → IsWritten m → without_route (address_text (spelled_pieces (addressed m))) ≡ address_said m.local_part ++ 64 ∷ address_said m.host
+address_of : (m : WrittenMailbox) → IsWrittenMailbox m → without_route (address_text (spelled_pieces (addressed m))) ≡ address_said m.local_part ++ 64 ∷ address_said m.host
 address_of m w =
     let tail = address_said m.local_part ++ 64 ∷ address_said m.host in
     let said : address_said (addressed m) ≡ m.route ++ tail =
@@ -449,9 +449,9 @@ address_of m w =
         (has_no-append 58 (address_said m.local_part) (64 ∷ address_said m.host) (lacks 58 (address_said m.local_part) free.0) (refl, lacks 58 (address_said m.host) free.1))
 
 -- Pieces before a name that say nothing in it.
-record IsLead (lead : List Piece) : Type 0 where
+record IsLead (lead : List ValuePiece) : Type 0 where
   plain : ArePieces is_plain lead
-  silent : (pieces : List Piece) → name_said (lead ++ pieces) ≡ name_said pieces
+  silent : (pieces : List ValuePiece) → name_said (lead ++ pieces) ≡ name_said pieces
 
 no_lead : IsLead []
 no_lead = record { plain = tt; silent = λ pieces. refl }
@@ -459,7 +459,7 @@ no_lead = record { plain = tt; silent = λ pieces. refl }
 space_lead : IsLead (Byte 32 ∷ [])
 space_lead = record { plain = (refl, tt); silent = λ pieces. without_space-space (flat_map said_in_name pieces) }
 
-mailbox_line : (lead : List Piece) (m : WrittenMailbox) → IsLead lead → IsWritten m → mailbox_in (line (lead ++ m.name) (addressed m) []) ≡ mailbox_said m ∷ []
+mailbox_line : (lead : List ValuePiece) (m : WrittenMailbox) → IsLead lead → IsWrittenMailbox m → mailbox_in (line (lead ++ m.name) (addressed m) []) ≡ mailbox_said m ∷ []
 mailbox_line lead m l w =
     let front = lead ++ m.name in
     let q : ArePieces is_plain front = are_two is_plain lead m.name l.plain w.name in
@@ -472,7 +472,7 @@ mailbox_line lead m l w =
     ap (λ (xs : List ℕ). mailbox_with xs (without_route (address_text (address_bytes item)))) name ∙ ap (mailbox_with (name_said m.name)) address
     ∙ mailbox_with-at (name_said m.name) (address_said m.local_part) (address_said m.host) (lacks 64 (address_said m.host) w.no_host_at)
 
-line_is : (lead : List Piece) (m : WrittenMailbox) (ys : List ℕ) → spelled_pieces lead ++ (written m ++ ys) ≡ line (lead ++ m.name) (addressed m) ys
+line_is : (lead : List ValuePiece) (m : WrittenMailbox) (ys : List ℕ) → spelled_pieces lead ++ (written m ++ ys) ≡ line (lead ++ m.name) (addressed m) ys
 line_is lead m ys =
     let L = spelled_pieces m.local_part in
     let H = spelled_pieces m.host in
@@ -503,7 +503,7 @@ told_empty_group : (rest : List ℕ) → told true (items_of true (59 ∷ rest))
 told_empty_group rest = refl
 
 -- The mailboxes of a group, and its end.
-in_group : (lead : List Piece) → IsLead lead → (m : WrittenMailbox) (ms : List WrittenMailbox) → IsWritten m → AllWritten ms → (rest : List ℕ)
+in_group : (lead : List ValuePiece) → IsLead lead → (m : WrittenMailbox) (ms : List WrittenMailbox) → IsWrittenMailbox m → AllWritten ms → (rest : List ℕ)
     → told true (items_of true (spelled_pieces lead ++ (written_list (m ∷ ms) ++ 59 ∷ rest))) ≡ mailbox_said m ∷ (map mailbox_said ms ++ end ∷ told false (items_of false rest))
 in_group lead l m [] w all rest =
     let q : ArePieces is_plain (lead ++ m.name) = are_two is_plain lead m.name l.plain w.name in
@@ -525,7 +525,7 @@ whole_group [] all rest = told_empty_group rest
 whole_group (m ∷ ms) all rest = in_group [] no_lead m ms all.0 all.1 rest
 
 -- A group, and what follows it.
-group : (lead : List Piece) → IsLead lead → (name : List Piece) (ms : List WrittenMailbox) → ArePieces is_plain name → AllWritten ms → (rest : List ℕ)
+group : (lead : List ValuePiece) → IsLead lead → (name : List ValuePiece) (ms : List WrittenMailbox) → ArePieces is_plain name → AllWritten ms → (rest : List ℕ)
     → told false (items_of false (spelled_pieces lead ++ (member_bytes (Group name ms) ++ rest))) ≡ member_said (Group name ms) ++ told false (items_of false rest)
 group lead l name ms q all rest =
     let inside = written_list ms ++ 59 ∷ rest in
@@ -539,7 +539,7 @@ group lead l name ms q all rest =
     ∙ (λ i. record { kind = GroupStart; name = said i; mailbox = []; host = [] } ∷ (whole_group ms all rest ∙ done) i)
 
 -- Members, one after another.
-members_back : (lead : List Piece) → IsLead lead → (member : Member) (members : List Member) → IsMember member → AreMembers members
+members_back : (lead : List ValuePiece) → IsLead lead → (member : Member) (members : List Member) → IsMember member → AreMembers members
     → told false (items_of false (spelled_pieces lead ++ member_list (member ∷ members))) ≡ member_said member ++ flat_map member_said members
 members_back lead l (One m) [] w all =
     let q : ArePieces is_plain (lead ++ m.name) = are_two is_plain lead m.name l.plain w.name in

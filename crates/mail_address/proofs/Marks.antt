@@ -5,7 +5,7 @@ use Rattle.std.proofs.lemmas.Bool.Decides.{nat_tests}
 use Rattle.mail_address.specs.declared.place.Place.{Place}
 use Rattle.mail_address.specs.declared.place.Place.TheVariants.{Outside, Pair, Quoted, QuotedPair, Comment, CommentPair}
 use Rattle.mail_address.specs.Places.{next_place, next_name_place, place_after_comment, marked_by, marked, is_outside}
-use Rattle.mail_address.specs.Grammar.{QuotedPart, Literal, Escaped, CommentInside, Empty, TextThen, EscapedThen, CommentThen, is_quoted_byte, is_comment_byte, AreQuoted, IsInside, quoted_bytes, inside_bytes, Piece, Byte, QuotedString, CommentText, piece_bytes, spelled_pieces, IsPiece, ArePieces, is_outer_byte}
+use Rattle.mail_address.specs.Grammar.{QuotedPart, Literal, Escaped, CommentInside, Empty, TextThen, EscapedThen, CommentThen, is_quoted_byte, is_comment_byte, MayStandQuoted, MayStandInComment, quoted_bytes, inside_bytes, ValuePiece, Byte, QuotedString, CommentText, piece_bytes, spelled_pieces, IsPiece, ArePieces, is_outer_byte}
 use Rattle.mail_address.specs.Laws.{stands_outside, outside_flags, OutsideIsBetween}
 
 -- A step from place to place that differs only outside of quoted strings and comments.
@@ -40,12 +40,12 @@ inside_marks d (TextThen b more) = (b, Comment d) ∷ inside_marks d more
 inside_marks d (EscapedThen b more) = (92, Comment d) ∷ (b, CommentPair d) ∷ inside_marks d more
 inside_marks d (CommentThen inner more) = (40, Comment d) ∷ (inside_marks (suc d) inner ++ (41, Comment (suc d)) ∷ inside_marks d more)
 
-abbrev pub piece_marks : Piece → List (ℕ × Place)
+abbrev pub piece_marks : ValuePiece → List (ℕ × Place)
 piece_marks (Byte b) = (b, Outside) ∷ []
 piece_marks (QuotedString parts) = (34, Outside) ∷ (quoted_marks parts ++ (34, Quoted) ∷ [])
 piece_marks (CommentText inside) = (40, Outside) ∷ (inside_marks 1 inside ++ (41, Comment 1) ∷ [])
 
-abbrev pub all_marks : List Piece → List (ℕ × Place)
+abbrev pub all_marks : List ValuePiece → List (ℕ × Place)
 all_marks pieces = flat_map piece_marks pieces
 
 -- Bytes that change no place.
@@ -63,7 +63,7 @@ comment_stays d b h =
     rw (backslash, open_paren, close_paren) refl
 
 -- The inside of a quoted string up to its end.
-marks_quoted : (next : Place → ℕ → Place) → Moves next → (parts : List QuotedPart) → AreQuoted parts → (ys : List ℕ)
+marks_quoted : (next : Place → ℕ → Place) → Moves next → (parts : List QuotedPart) → MayStandQuoted parts → (ys : List ℕ)
     → marked_by next Quoted (quoted_bytes parts ++ 34 ∷ ys) ≡ quoted_marks parts ++ (34, Quoted) ∷ marked_by next Outside ys
 marks_quoted next m [] q ys = ap (λ p. (34, Quoted) ∷ marked_by next p ys) (m.inner Quoted refl 34)
 marks_quoted next m (Literal b ∷ parts) q ys =
@@ -81,7 +81,7 @@ after_deeper n =
     rw deep (ap Comment (omega arith))
 
 -- The inside of a comment up to its end.
-marks_inside : (next : Place → ℕ → Place) → Moves next → (n : ℕ) (inside : CommentInside) → IsInside inside → (ys : List ℕ)
+marks_inside : (next : Place → ℕ → Place) → Moves next → (n : ℕ) (inside : CommentInside) → MayStandInComment inside → (ys : List ℕ)
     → marked_by next (Comment (suc n)) (inside_bytes inside ++ 41 ∷ ys) ≡ inside_marks (suc n) inside ++ (41, Comment (suc n)) ∷ marked_by next (place_after_comment (suc n)) ys
 marks_inside next m n Empty q ys = ap (λ p. (41, Comment (suc n)) ∷ marked_by next p ys) (m.inner (Comment (suc n)) refl 41)
 marks_inside next m n (TextThen b more) q ys =
@@ -105,7 +105,7 @@ marks_inside next m n (CommentThen inner more) q ys =
 
 -- A piece, and pieces: after each of them nothing is open.
 pub marks_piece : (next : Place → ℕ → Place) → Moves next → (p : ℕ → Bool) → ((b : ℕ) → p b ≡ true → next Outside b ≡ Outside)
-    → (piece : Piece) → IsPiece p piece → (ys : List ℕ) → marked_by next Outside (piece_bytes piece ++ ys) ≡ piece_marks piece ++ marked_by next Outside ys
+    → (piece : ValuePiece) → IsPiece p piece → (ys : List ℕ) → marked_by next Outside (piece_bytes piece ++ ys) ≡ piece_marks piece ++ marked_by next Outside ys
 marks_piece next m p stays (Byte b) q ys = ap (λ place. (b, Outside) ∷ marked_by next place ys) (stays b q)
 marks_piece next m p stays (QuotedString parts) q ys =
     ap (λ xs. (34, Outside) ∷ marked_by next (next Outside 34) xs) (append_assoc (quoted_bytes parts) (34 ∷ []) ys)
@@ -119,7 +119,7 @@ marks_piece next m p stays (CommentText inside) q ys =
     ∙ ap (λ ms. (40, Outside) ∷ ms) (sym (append_assoc (inside_marks 1 inside) ((41, Comment 1) ∷ []) (marked_by next Outside ys)))
 
 pub marks_all : (next : Place → ℕ → Place) → Moves next → (p : ℕ → Bool) → ((b : ℕ) → p b ≡ true → next Outside b ≡ Outside)
-    → (pieces : List Piece) → ArePieces p pieces → (ys : List ℕ) → marked_by next Outside (spelled_pieces pieces ++ ys) ≡ all_marks pieces ++ marked_by next Outside ys
+    → (pieces : List ValuePiece) → ArePieces p pieces → (ys : List ℕ) → marked_by next Outside (spelled_pieces pieces ++ ys) ≡ all_marks pieces ++ marked_by next Outside ys
 marks_all next m p stays [] q ys = refl
 marks_all next m p stays (piece ∷ pieces) q ys =
     ap (marked_by next Outside) (append_assoc (piece_bytes piece) (spelled_pieces pieces) ys)
@@ -128,7 +128,7 @@ marks_all next m p stays (piece ∷ pieces) q ys =
     ∙ sym (append_assoc (piece_marks piece) (all_marks pieces) (marked_by next Outside ys))
 
 pub marks_whole : (next : Place → ℕ → Place) → Moves next → (p : ℕ → Bool) → ((b : ℕ) → p b ≡ true → next Outside b ≡ Outside)
-    → (pieces : List Piece) → ArePieces p pieces → marked_by next Outside (spelled_pieces pieces) ≡ all_marks pieces
+    → (pieces : List ValuePiece) → ArePieces p pieces → marked_by next Outside (spelled_pieces pieces) ≡ all_marks pieces
 marks_whole next m p stays pieces q =
     ap (marked_by next Outside) (sym (append-nil (spelled_pieces pieces))) ∙ marks_all next m p stays pieces q [] ∙ append-nil (all_marks pieces)
 
@@ -156,7 +156,7 @@ flags_inside d (CommentThen inner more) ms ys e =
     (flags_inside (suc d) inner ((41, Comment (suc d)) ∷ (inside_marks d more ++ ms)) (41 ∷ (inside_bytes more ++ ys)) (ap (λ fs. false ∷ fs) (flags_inside d more ms ys e)))
     ∙ ap (λ xs. false ∷ map (λ (b : ℕ). false) xs) (sym (append_assoc (inside_bytes inner) (41 ∷ inside_bytes more) ys))
 
-flags_piece : (piece : Piece) → IsPiece is_outer_byte piece → map stands_outside (piece_marks piece) ≡ outside_flags piece
+flags_piece : (piece : ValuePiece) → IsPiece is_outer_byte piece → map stands_outside (piece_marks piece) ≡ outside_flags piece
 flags_piece (Byte b) q = ap (λ t. t ∷ []) q
 flags_piece (QuotedString parts) q = ap (λ fs. false ∷ fs) (flags_quoted parts)
 flags_piece (CommentText inside) q = ap (λ fs. false ∷ fs) (flags_inside 1 inside ((41, Comment 1) ∷ []) (41 ∷ []) refl)
@@ -165,7 +165,7 @@ map_two : (f : ℕ × Place → Bool) (xs ys : List (ℕ × Place)) → map f (x
 map_two f [] ys = refl
 map_two f (x ∷ xs) ys = ap (λ fs. f x ∷ fs) (map_two f xs ys)
 
-flags_all : (pieces : List Piece) → ArePieces is_outer_byte pieces → map stands_outside (all_marks pieces) ≡ flat_map outside_flags pieces
+flags_all : (pieces : List ValuePiece) → ArePieces is_outer_byte pieces → map stands_outside (all_marks pieces) ≡ flat_map outside_flags pieces
 flags_all [] q = refl
 flags_all (piece ∷ pieces) q =
     map_two stands_outside (piece_marks piece) (all_marks pieces) ∙ (λ i. flags_piece piece q.0 i ++ flags_all pieces q.1 i)

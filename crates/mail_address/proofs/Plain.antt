@@ -15,7 +15,7 @@ use Rattle.mail_address.specs.Splits.{split_last, is_this, part_after}
 use Rattle.mail_address.specs.Words.{spoken_from, address_from, spaced, begins_word, without_space, joined_words, name_text, address_text}
 use Rattle.mail_address.specs.Items.{cut, onto_item, items_of, len_before, has_bracket, name_bytes, address_bytes, up_to_bracket, after_bracket}
 use Rattle.mail_address.specs.Addresses.{told, mailbox_in, mailbox_with, without_route}
-use Rattle.mail_address.specs.Laws.{is_plain, is_plain_letter, PlainMailbox, IsPlain, spelled, spelled_list, address_with, PlainReadBack}
+use Rattle.mail_address.specs.Laws.{is_plain, is_plain_letter, PlainMailbox, IsPlainMailbox, spelled, spelled_list, address_with, PlainReadBack}
 use Rattle.mail_address.proofs.Cutting.{put_before}
 use Rattle.mail_address.proofs.Spacing.{without_space-space}
 
@@ -261,17 +261,17 @@ mailbox_in-line name local_part host q r lacks at =
     ∙ mailbox_with-at (joined_words name) local_part host at
 
 -- The properties of a plain mailbox, with bytes before its name that don't change it.
-front_quiet : (lead : List ℕ) (m : PlainMailbox) → AllQuiet lead → IsPlain m → AllQuiet ((lead ++ m.name) ++ 32 ∷ [])
+front_quiet : (lead : List ℕ) (m : PlainMailbox) → AllQuiet lead → IsPlainMailbox m → AllQuiet ((lead ++ m.name) ++ 32 ∷ [])
 front_quiet lead m q plain =
     all_quiet-append (lead ++ m.name) (32 ∷ []) (all_quiet-append lead m.name q (all_quiet-plain m.name plain.name)) (quiet-space, tt)
 
-address_quiet : (m : PlainMailbox) → IsPlain m → AllQuiet (m.local_part ++ (64 ∷ m.host))
+address_quiet : (m : PlainMailbox) → IsPlainMailbox m → AllQuiet (m.local_part ++ (64 ∷ m.host))
 address_quiet m plain = all_quiet-append m.local_part (64 ∷ m.host) (all_quiet-letter m.local_part plain.local_part) (quiet-at, all_quiet-letter m.host plain.host)
 
-address_solid : (m : PlainMailbox) → IsPlain m → HasNo 32 (m.local_part ++ (64 ∷ m.host))
+address_solid : (m : PlainMailbox) → IsPlainMailbox m → HasNo 32 (m.local_part ++ (64 ∷ m.host))
 address_solid m plain = has_no-append 32 m.local_part (64 ∷ m.host) (no_space m.local_part plain.local_part) (refl, no_space m.host plain.host)
 
-mailbox_in-plain : (lead : List ℕ) (m : PlainMailbox) → AllQuiet lead → joined_words (lead ++ m.name) ≡ joined_words m.name → IsPlain m
+mailbox_in-plain : (lead : List ℕ) (m : PlainMailbox) → AllQuiet lead → joined_words (lead ++ m.name) ≡ joined_words m.name → IsPlainMailbox m
     → mailbox_in (line (lead ++ m.name) (m.local_part ++ (64 ∷ m.host)) []) ≡ address_with m ∷ []
 mailbox_in-plain lead m q words plain =
     mailbox_in-line (lead ++ m.name) m.local_part m.host (front_quiet lead m q plain) (address_quiet m plain) (address_solid m plain) (no_at m.host plain.host)
@@ -291,18 +291,18 @@ told-more item rest address tells = rw (append-nil item, tells) refl
 -- Each mailbox is plain.
 abbrev AllPlain : List PlainMailbox → Type 0
 AllPlain [] = Unit {0}
-AllPlain (m ∷ ms) = IsPlain m × AllPlain ms
+AllPlain (m ∷ ms) = IsPlainMailbox m × AllPlain ms
 
-all_plain : (ms : List PlainMailbox) → All IsPlain ms → AllPlain ms
+all_plain : (ms : List PlainMailbox) → All IsPlainMailbox ms → AllPlain ms
 all_plain [] all = tt
 all_plain (m ∷ ms) all =
     let here : 0 < length (m ∷ ms) = omega arith in
-    let tail : All IsPlain ms = λ k d h. let later : suc k < length (m ∷ ms) = omega arith in all (suc k) d later in
+    let tail : All IsPlainMailbox ms = λ k d h. let later : suc k < length (m ∷ ms) = omega arith in all (suc k) d later in
     (all 0 m here, all_plain ms tail)
 
 -- A list of plain mailboxes, after bytes that don't change a name.
 told-plain : (lead : List ℕ) → AllQuiet lead → ((name : List ℕ) → joined_words (lead ++ name) ≡ joined_words name)
-    → (m : PlainMailbox) (ms : List PlainMailbox) → IsPlain m → AllPlain ms
+    → (m : PlainMailbox) (ms : List PlainMailbox) → IsPlainMailbox m → AllPlain ms
     → told false (items_of false (lead ++ spelled_list (m ∷ ms))) ≡ address_with m ∷ map address_with ms
 told-plain lead q words m [] plain all =
     let address = m.local_part ++ (64 ∷ m.host) in

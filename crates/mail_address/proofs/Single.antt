@@ -16,7 +16,7 @@ use Rattle.mail_address.specs.Splits.{split_last, is_this, part_after}
 use Rattle.mail_address.specs.Words.{name_text, address_text}
 use Rattle.mail_address.specs.Items.{cut, onto_item, items_of, len_before, has_bracket, last_comment, name_bytes, address_bytes, up_to_bracket}
 use Rattle.mail_address.specs.Addresses.{told, mailbox_in, mailbox_with, without_route}
-use Rattle.mail_address.specs.Grammar.{QuotedPart, Literal, Escaped, CommentInside, Empty, TextThen, EscapedThen, CommentThen, is_comment_byte, IsInside, inside_bytes, Piece, Byte, QuotedString, CommentText, spelled_pieces, ArePieces, is_outer_byte}
+use Rattle.mail_address.specs.Grammar.{QuotedPart, Literal, Escaped, CommentInside, Empty, TextThen, EscapedThen, CommentThen, is_comment_byte, MayStandInComment, inside_bytes, ValuePiece, Byte, QuotedString, CommentText, spelled_pieces, ArePieces, is_outer_byte}
 use Rattle.mail_address.specs.Laws.{is_plain}
 use Rattle.mail_address.specs.Mailboxes.{name_said, address_said}
 use Rattle.mail_address.specs.Single.{last_inside, bare_said, is_bare_byte, BareReads, is_inner_byte, ItemReads, OpenItemReads, is_grouped_byte, GroupReads, AddressIsSplit, AloneIsMailbox, NothingIsNoMailbox}
@@ -60,7 +60,7 @@ no_end n b h = let close : (b == 41) ≡ false = grind (arith, nat_tests) in rw 
 deeper_end : (n : ℕ) → is_sought CommentEnd (41, Comment (suc (suc n))) ≡ false
 deeper_end n = let deep : nat_le (suc (suc n)) 1 ≡ false = grind (arith, nat_tests) in rw deep refl
 
-inside_ends : (n : ℕ) (inside : CommentInside) → IsInside inside → NoneOf (is_sought CommentEnd) (inside_marks (suc n) inside)
+inside_ends : (n : ℕ) (inside : CommentInside) → MayStandInComment inside → NoneOf (is_sought CommentEnd) (inside_marks (suc n) inside)
 inside_ends n Empty q = tt
 inside_ends n (TextThen b more) q = (no_end (suc n) b q.0, inside_ends n more q.1)
 inside_ends n (EscapedThen b more) q = (and_false (nat_le (suc n) 1), (refl, inside_ends n more q))
@@ -81,7 +81,7 @@ inside_back d (CommentThen inner more) ms =
     ∙ ap (λ (xs : List ℕ). 40 ∷ (inside_bytes inner ++ 41 ∷ xs)) (inside_back d more ms)
     ∙ ap (λ (xs : List ℕ). 40 ∷ xs) (sym (append_assoc (inside_bytes inner) (41 ∷ inside_bytes more) (bytes_of ms)))
 
-inside_is : (inside : CommentInside) (ms : List (ℕ × Place)) → IsInside inside
+inside_is : (inside : CommentInside) (ms : List (ℕ × Place)) → MayStandInComment inside
     → bytes_of (before_first (is_sought CommentEnd) (inside_marks 1 inside ++ (41, Comment 1) ∷ ms)) ≡ inside_bytes inside
 inside_is inside ms q =
     ap bytes_of (ends_first (inside_marks 1 inside) ms (inside_ends 0 inside q) ∙ sym (append-nil (inside_marks 1 inside)))
@@ -96,7 +96,7 @@ starts_skipped (m ∷ ms) ns others q =
     ∙ ap (λ (t : Bool). part_after (cond t (ms ++ ns) others) (split_last is_comment_start (ms ++ ns))) q.0
     ∙ starts_skipped ms ns others q.1
 
-last_is : (pieces : List Piece) (others : List (ℕ × Place)) (found : List ℕ) → ArePieces is_outer_byte pieces
+last_is : (pieces : List ValuePiece) (others : List (ℕ × Place)) (found : List ℕ) → ArePieces is_outer_byte pieces
     → bytes_of (before_first (is_sought CommentEnd) others) ≡ found
     → bytes_of (before_first (is_sought CommentEnd) (part_after others (split_last is_comment_start (all_marks pieces)))) ≡ last_inside pieces found
 last_is [] others found q e = e
@@ -123,13 +123,13 @@ last_is (CommentText inside ∷ pieces) others found q e =
     ∙ last_is pieces (within ++ rest) (inside_bytes inside) q.1 first
 
 -- An item without `<`.
-outer_marks : (pieces : List Piece) → ArePieces is_outer_byte pieces → marked (spelled_pieces pieces) ≡ all_marks pieces
+outer_marks : (pieces : List ValuePiece) → ArePieces is_outer_byte pieces → marked (spelled_pieces pieces) ≡ all_marks pieces
 outer_marks pieces q = marks_whole next_place moves is_outer_byte outer_stays pieces q
 
 nat_lt-same : (n : ℕ) → nat_lt n n ≡ false
 nat_lt-same n = grind (arith, nat_tests)
 
-has_none : (g : Bool) (pieces : List Piece) → ArePieces is_outer_byte pieces → Quiet (is_item_byte g) (all_marks pieces) → has_bracket (spelled_pieces pieces) ≡ false
+has_none : (g : Bool) (pieces : List ValuePiece) → ArePieces is_outer_byte pieces → Quiet (is_item_byte g) (all_marks pieces) → has_bracket (spelled_pieces pieces) ≡ false
 has_none g pieces q r =
     let found : position_or_len (is_sought OpenBracket) (marked (spelled_pieces pieces)) ≡ length (bytes_of (all_marks pieces)) + 0 =
     ap (position_or_len (is_sought OpenBracket)) (outer_marks pieces q ∙ sym (append-nil (all_marks pieces))) ∙ seek_outer g (all_marks pieces) [] r in
@@ -137,7 +137,7 @@ has_none g pieces q r =
     let len : len_before OpenBracket Outside (spelled_pieces pieces) ≡ length (spelled_pieces pieces) = omega arith in
     rw len (nat_lt-same (length (spelled_pieces pieces)))
 
-bare_is : (g : Bool) (pieces : List Piece) → ArePieces is_outer_byte pieces → Quiet (is_item_byte g) (all_marks pieces) → mailbox_in (spelled_pieces pieces) ≡ bare_said pieces
+bare_is : (g : Bool) (pieces : List ValuePiece) → ArePieces is_outer_byte pieces → Quiet (is_item_byte g) (all_marks pieces) → mailbox_in (spelled_pieces pieces) ≡ bare_said pieces
 bare_is g pieces q r =
     let has = has_none g pieces q r in
     let last : last_comment (spelled_pieces pieces) ≡ last_inside pieces [] =
@@ -148,7 +148,7 @@ bare_is g pieces q r =
     let said : address_text (address_bytes (spelled_pieces pieces)) ≡ address_said pieces = ap address_text address ∙ address_is pieces q in
     λ i. mailbox_with (name_text (name i)) (without_route (said i))
 
-cut_whole : (g : Bool) (pieces : List Piece) → ArePieces is_outer_byte pieces → Quiet (is_item_byte g) (all_marks pieces)
+cut_whole : (g : Bool) (pieces : List ValuePiece) → ArePieces is_outer_byte pieces → Quiet (is_item_byte g) (all_marks pieces)
     → cut g false (marked (spelled_pieces pieces)) ≡ (spelled_pieces pieces, Semicolon) ∷ []
 cut_whole g pieces q r =
     ap (cut g false) (outer_marks pieces q ∙ sym (append-nil (all_marks pieces))) ∙ cut_outer g (all_marks pieces) [] r
@@ -185,7 +185,7 @@ plain_outer b h = grind (arith, nat_tests)
 plain_bare : (b : ℕ) → is_plain b ≡ true → is_bare_byte b ≡ true
 plain_bare b h = grind (arith, nat_tests)
 
-item_is : (name inside : List Piece) (more : List ℕ) → ArePieces is_plain name → ArePieces is_inner_byte inside → up_to_bracket more ≡ spelled_pieces inside
+item_is : (name inside : List ValuePiece) (more : List ℕ) → ArePieces is_plain name → ArePieces is_inner_byte inside → up_to_bracket more ≡ spelled_pieces inside
     → mailbox_in (spelled_pieces name ++ 60 ∷ more) ≡ mailbox_with (name_said name) (without_route (address_said inside))
 item_is name inside more q r e =
     let item = spelled_pieces name ++ 60 ∷ more in
@@ -206,7 +206,7 @@ item_reads name inside rest q r s =
     ∙ ap mailbox_in joined
     ∙ item_is name inside more q r (up_to_line inside (spelled_pieces rest) inner)
 
-up_to_end : (inner : List Piece) → ArePieces is_address_byte inner → up_to_bracket (spelled_pieces inner) ≡ spelled_pieces inner
+up_to_end : (inner : List ValuePiece) → ArePieces is_address_byte inner → up_to_bracket (spelled_pieces inner) ≡ spelled_pieces inner
 up_to_end inner r =
     let found : position_or_len (is_sought CloseBracket) (marked (spelled_pieces inner)) ≡ length (bytes_of (all_marks inner)) + 0
     = ap (position_or_len (is_sought CloseBracket)) (marks_whole next_place moves is_address_byte address_stays inner r ∙ sym (append-nil (all_marks inner))) ∙ seek_inner (all_marks inner) [] (inner_quiet inner r) in
@@ -214,7 +214,7 @@ up_to_end inner r =
     let len : len_before CloseBracket Outside (spelled_pieces inner) ≡ length (spelled_pieces inner) = omega arith in
     rw len (take_all (length (spelled_pieces inner)) (spelled_pieces inner) (omega arith))
 
-cut_open : (inner : List Piece) → ArePieces is_address_byte inner → cut false true (marked (spelled_pieces inner)) ≡ (spelled_pieces inner, Semicolon) ∷ []
+cut_open : (inner : List ValuePiece) → ArePieces is_address_byte inner → cut false true (marked (spelled_pieces inner)) ≡ (spelled_pieces inner, Semicolon) ∷ []
 cut_open inner r =
     ap (cut false true) (marks_whole next_place moves is_address_byte address_stays inner r ∙ sym (append-nil (all_marks inner)))
     ∙ cut_inner false (all_marks inner) [] (inner_quiet inner r)

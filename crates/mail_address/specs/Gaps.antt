@@ -1,4 +1,4 @@
--- The text of a name, written byte by byte.
+-- Private: the text of a name, written byte by byte.
 use Rattle.std.specs.Prelude.{◌≡◌, ℕ, ◌==◌, List, [], ◌∷◌, ◌++◌, if◌then◌else◌}
 use Rattle.mail_address.specs.declared.place.Place.{Place}
 use Rattle.mail_address.specs.declared.words.Gap.{Gap}

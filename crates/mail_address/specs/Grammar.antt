@@ -24,17 +24,17 @@ abbrev pub is_comment_byte : ℕ → Bool
 is_comment_byte b = not (b == 40) && not (b == 41) && not (b == 92)
 
 -- Each byte that isn't after a backslash may be itself in a quoted string.
-abbrev pub AreQuoted : List QuotedPart → Type 0
-AreQuoted [] = Unit {0}
-AreQuoted (Literal b ∷ parts) = (is_quoted_byte b ≡ true) × AreQuoted parts
-AreQuoted (Escaped b ∷ parts) = AreQuoted parts
+abbrev pub MayStandQuoted : List QuotedPart → Type 0
+MayStandQuoted [] = Unit {0}
+MayStandQuoted (Literal b ∷ parts) = (is_quoted_byte b ≡ true) × MayStandQuoted parts
+MayStandQuoted (Escaped b ∷ parts) = MayStandQuoted parts
 
 -- Each byte that isn't after a backslash may be itself in a comment.
-abbrev pub IsInside : CommentInside → Type 0
-IsInside Empty = Unit {0}
-IsInside (TextThen b more) = (is_comment_byte b ≡ true) × IsInside more
-IsInside (EscapedThen b more) = IsInside more
-IsInside (CommentThen inner more) = IsInside inner × IsInside more
+abbrev pub MayStandInComment : CommentInside → Type 0
+MayStandInComment Empty = Unit {0}
+MayStandInComment (TextThen b more) = (is_comment_byte b ≡ true) × MayStandInComment more
+MayStandInComment (EscapedThen b more) = MayStandInComment more
+MayStandInComment (CommentThen inner more) = MayStandInComment inner × MayStandInComment more
 
 -- The bytes of these parts.
 abbrev pub quoted_bytes : List QuotedPart → List ℕ
@@ -50,29 +50,29 @@ inside_bytes (EscapedThen b more) = 92 ∷ b ∷ inside_bytes more
 inside_bytes (CommentThen inner more) = 40 ∷ (inside_bytes inner ++ 41 ∷ inside_bytes more)
 
 -- A piece of a value: a byte outside, a whole quoted string, or a whole comment.
-pub data Piece : Type 0 where
-  Byte : ℕ → Piece
-  QuotedString : List QuotedPart → Piece
-  CommentText : CommentInside → Piece
+pub data ValuePiece : Type 0 where
+  Byte : ℕ → ValuePiece
+  QuotedString : List QuotedPart → ValuePiece
+  CommentText : CommentInside → ValuePiece
 
 -- The bytes of a piece: a quoted string between `"` and `"`, a comment between `(` and `)`.
-abbrev pub piece_bytes : Piece → List ℕ
+abbrev pub piece_bytes : ValuePiece → List ℕ
 piece_bytes (Byte b) = b ∷ []
 piece_bytes (QuotedString parts) = 34 ∷ (quoted_bytes parts ++ 34 ∷ [])
 piece_bytes (CommentText inside) = 40 ∷ (inside_bytes inside ++ 41 ∷ [])
 
 -- The bytes of pieces, one after another.
-abbrev pub spelled_pieces : List Piece → List ℕ
+abbrev pub spelled_pieces : List ValuePiece → List ℕ
 spelled_pieces pieces = flat_map piece_bytes pieces
 
 -- A piece whose bytes outside of quoted strings and comments pass a test.
-abbrev pub IsPiece : (ℕ → Bool) → Piece → Type 0
+abbrev pub IsPiece : (ℕ → Bool) → ValuePiece → Type 0
 IsPiece passes (Byte b) = passes b ≡ true
-IsPiece passes (QuotedString parts) = AreQuoted parts
-IsPiece passes (CommentText inside) = IsInside inside
+IsPiece passes (QuotedString parts) = MayStandQuoted parts
+IsPiece passes (CommentText inside) = MayStandInComment inside
 
 -- Pieces whose bytes outside of quoted strings and comments pass a test.
-abbrev pub ArePieces : (ℕ → Bool) → List Piece → Type 0
+abbrev pub ArePieces : (ℕ → Bool) → List ValuePiece → Type 0
 ArePieces passes [] = Unit {0}
 ArePieces passes (piece ∷ pieces) = IsPiece passes piece × ArePieces passes pieces
 

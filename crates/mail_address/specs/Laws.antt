@@ -5,7 +5,7 @@ use Rattle.mail_address.specs.declared.place.Place.{Place}
 use Rattle.mail_address.specs.declared.address.AddressKind.TheVariants.{Mailbox}
 use Rattle.mail_address.specs.declared.address.Address.{Address}
 use Rattle.mail_address.specs.Places.{marked, is_outside}
-use Rattle.mail_address.specs.Grammar.{Piece, Byte, QuotedString, CommentText, piece_bytes, spelled_pieces, ArePieces, is_outer_byte}
+use Rattle.mail_address.specs.Grammar.{ValuePiece, Byte, QuotedString, CommentText, piece_bytes, spelled_pieces, ArePieces, is_outer_byte}
 use Rattle.mail_address.specs.Words.{joined_words}
 use Rattle.mail_address.specs.Addresses.{addresses_of}
 
@@ -18,7 +18,7 @@ abbrev pub stands_outside : ℕ × Place → Bool
 stands_outside mark = is_outside mark.1 && is_outer_byte mark.0
 
 -- For each byte of a piece, whether it is outside of quoted strings and comments.
-abbrev pub outside_flags : Piece → List Bool
+abbrev pub outside_flags : ValuePiece → List Bool
 outside_flags (Byte b) = true ∷ []
 outside_flags (QuotedString parts) = map (λ (b : ℕ). false) (piece_bytes (QuotedString parts))
 outside_flags (CommentText inside) = map (λ (b : ℕ). false) (piece_bytes (CommentText inside))
@@ -27,14 +27,14 @@ outside_flags (CommentText inside) = map (λ (b : ℕ). false) (piece_bytes (Com
 -- closed there.
 abbrev pub EveryValueIsFront : Type 0
 EveryValueIsFront =
-    (value : List ℕ) → (pieces : List Piece) × (more : List ℕ) × ArePieces is_outer_byte pieces
+    (value : List ℕ) → (pieces : List ValuePiece) × (more : List ℕ) × ArePieces is_outer_byte pieces
     × (spelled_pieces pieces ≡ value ++ more)
 
 -- What is taken as outside is just what stands outside of the quoted strings and comments that a
 -- value, or a text that it is the front of, is spelled with.
 abbrev pub OutsideIsBetween : Type 0
 OutsideIsBetween =
-    (pieces : List Piece) (value more : List ℕ) → ArePieces is_outer_byte pieces
+    (pieces : List ValuePiece) (value more : List ℕ) → ArePieces is_outer_byte pieces
     → spelled_pieces pieces ≡ value ++ more
     → map stands_outside (marked value) ≡ take (length value) (flat_map outside_flags pieces)
 
@@ -58,7 +58,7 @@ pub record PlainMailbox : Type 0 where
   pub host : List ℕ
 
 -- A mailbox of plain words, of which those of the name stand one space apart.
-pub record IsPlain (mailbox : PlainMailbox) : Type 0 where
+pub record IsPlainMailbox (mailbox : PlainMailbox) : Type 0 where
   pub name : AllPass is_plain mailbox.name
   pub words : joined_words mailbox.name ≡ mailbox.name
   pub local_part : AllPass is_plain_letter mailbox.local_part
@@ -87,5 +87,5 @@ address_with mailbox = record {
 
 -- A list of plain mailboxes is read back as they are.
 abbrev pub PlainReadBack : Type 0
-PlainReadBack = (mailboxes : List PlainMailbox) → All IsPlain mailboxes
+PlainReadBack = (mailboxes : List PlainMailbox) → All IsPlainMailbox mailboxes
     → addresses_of (spelled_list mailboxes) ≡ map address_with mailboxes

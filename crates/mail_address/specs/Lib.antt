@@ -1,6 +1,5 @@
 pub mod Places
 pub mod Words
-pub mod Gaps
 pub mod Splits
 pub mod Items
 pub mod Addresses
@@ -9,3 +8,4 @@ pub mod Laws
 pub mod Mailboxes
 pub mod Texts
 pub mod Single
+pub mod Gaps

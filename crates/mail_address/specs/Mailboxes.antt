@@ -5,7 +5,7 @@ use Rattle.mail_address.specs.declared.address.AddressKind.TheVariants.{Mailbox,
 use Rattle.mail_address.specs.declared.address.Address.{Address}
 use Rattle.mail_address.specs.Words.{joined_words}
 use Rattle.mail_address.specs.Addresses.{addresses_of}
-use Rattle.mail_address.specs.Grammar.{QuotedPart, Literal, Escaped, Piece, Byte, QuotedString, CommentText, piece_bytes, spelled_pieces, ArePieces}
+use Rattle.mail_address.specs.Grammar.{QuotedPart, Literal, Escaped, ValuePiece, Byte, QuotedString, CommentText, piece_bytes, spelled_pieces, ArePieces}
 use Rattle.mail_address.specs.Laws.{is_plain}
 
 -- What a quoted string says: its bytes, without the backslashes that quote them.
@@ -15,32 +15,32 @@ quoted_said (Literal b ∷ parts) = b ∷ quoted_said parts
 quoted_said (Escaped b ∷ parts) = b ∷ quoted_said parts
 
 -- What a piece says in a name: a comment says nothing.
-abbrev pub said_in_name : Piece → List ℕ
+abbrev pub said_in_name : ValuePiece → List ℕ
 said_in_name (Byte b) = b ∷ []
 said_in_name (QuotedString parts) = quoted_said parts
 said_in_name (CommentText inside) = []
 
 -- What a piece says in an address: a quoted string stays as it is written, and spaces are removed.
-abbrev pub said_in_address : Piece → List ℕ
+abbrev pub said_in_address : ValuePiece → List ℕ
 said_in_address (Byte b) = if b == 32 then [] else b ∷ []
 said_in_address (QuotedString parts) = piece_bytes (QuotedString parts)
 said_in_address (CommentText inside) = []
 
 -- The name that pieces say, its words one space apart.
-abbrev pub name_said : List Piece → List ℕ
+abbrev pub name_said : List ValuePiece → List ℕ
 name_said pieces = joined_words (flat_map said_in_name pieces)
 
 -- The address, or the part of it, that pieces say.
-abbrev pub address_said : List Piece → List ℕ
+abbrev pub address_said : List ValuePiece → List ℕ
 address_said pieces = flat_map said_in_address pieces
 
 -- A mailbox as it is written: its name, a route or nothing, and the pieces before and after the
 -- `@`.
 pub record WrittenMailbox : Type 0 where
-  pub name : List Piece
+  pub name : List ValuePiece
   pub route : List ℕ
-  pub local_part : List Piece
-  pub host : List Piece
+  pub local_part : List ValuePiece
+  pub host : List ValuePiece
 
 -- A byte of a route: any but `"`, `(`, `>` and a space.
 abbrev pub is_route_byte : ℕ → Bool
@@ -64,7 +64,7 @@ AreColonsFree mailbox =
     ⊎ (HasNo 58 (address_said mailbox.local_part) × HasNo 58 (address_said mailbox.host))
 
 -- A mailbox that is written with plain bytes, quoted strings and comments.
-pub record IsWritten (mailbox : WrittenMailbox) : Type 0 where
+pub record IsWrittenMailbox (mailbox : WrittenMailbox) : Type 0 where
   pub name : ArePieces is_plain mailbox.name
   pub route : (mailbox.route ≡ []) ⊎ IsRoute mailbox.route
   pub local_part : ArePieces is_plain mailbox.local_part
@@ -87,17 +87,17 @@ written_list (m ∷ next ∷ mailboxes) = written m ++ (codes ", " ++ written_li
 -- A member of a list: a mailbox, or a group with its name and mailboxes.
 pub data Member : Type 0 where
   One : WrittenMailbox → Member
-  Group : List Piece → List WrittenMailbox → Member
+  Group : List ValuePiece → List WrittenMailbox → Member
 
 -- Each mailbox is so written.
 abbrev pub AllWritten : List WrittenMailbox → Type 0
 AllWritten [] = Unit {0}
-AllWritten (m ∷ mailboxes) = IsWritten m × AllWritten mailboxes
+AllWritten (m ∷ mailboxes) = IsWrittenMailbox m × AllWritten mailboxes
 
 -- A member of mailboxes that are so written. The name of a group is of plain bytes, quoted strings
 -- and comments.
 abbrev pub IsMember : Member → Type 0
-IsMember (One m) = IsWritten m
+IsMember (One m) = IsWrittenMailbox m
 IsMember (Group name mailboxes) = ArePieces is_plain name × AllWritten mailboxes
 
 -- Each is such a member.

@@ -2,12 +2,12 @@
 use Rattle.std.specs.Prelude.{◌≡◌, ◌<◌, ℕ, Bool, ◌&&◌, not, ◌==◌, List, [], ◌∷◌, ◌++◌, length, replicate}
 use Rattle.std.specs.List.{All, flat_map}
 use Rattle.mail_address.specs.Words.{joined_words, name_text, address_text}
-use Rattle.mail_address.specs.Grammar.{Piece, piece_bytes, spelled_pieces, IsPiece, ArePieces, is_outer_byte}
+use Rattle.mail_address.specs.Grammar.{ValuePiece, piece_bytes, spelled_pieces, IsPiece, ArePieces, is_outer_byte}
 use Rattle.mail_address.specs.Mailboxes.{HasNo, said_in_name, address_said}
 
 -- A word: one byte or more, and no space.
-abbrev pub IsWord : List ℕ → Type 0
-IsWord word = (0 < length word) × HasNo 32 word
+abbrev pub IsSpacelessWord : List ℕ → Type 0
+IsSpacelessWord word = (0 < length word) × HasNo 32 word
 
 -- A word after one space and so many more.
 abbrev pub spread : ℕ × List ℕ → List ℕ
@@ -17,8 +17,8 @@ spread part = 32 ∷ (replicate part.0 32 ++ part.1)
 -- removed.
 abbrev pub WordsAreJoined : Type 0
 WordsAreJoined =
-    (first : List ℕ) (more : List (ℕ × List ℕ)) (front end : ℕ) → IsWord first
-    → All (λ (part : ℕ × List ℕ). IsWord part.1) more
+    (first : List ℕ) (more : List (ℕ × List ℕ)) (front end : ℕ) → IsSpacelessWord first
+    → All (λ (part : ℕ × List ℕ). IsSpacelessWord part.1) more
     → joined_words (replicate front 32 ++ (first ++ (flat_map spread more ++ replicate end 32)))
     ≡ first ++ flat_map (λ (part : ℕ × List ℕ). 32 ∷ part.1) more
 
@@ -28,7 +28,7 @@ SpacesAreNoWords = (n : ℕ) → joined_words (replicate n 32) ≡ []
 
 -- A part of a name: a piece, or a backslash outside and the byte that it quotes.
 pub data NamePart : Type 0 where
-  Whole : Piece → NamePart
+  Whole : ValuePiece → NamePart
   Taken : ℕ → NamePart
 
 -- A byte that is itself in a name, outside of quoted strings and comments: any but `"`, `(` and a
@@ -60,5 +60,5 @@ NameTextIsSaid =
 
 -- The text of an address is what its pieces say.
 abbrev pub AddressTextIsSaid : Type 0
-AddressTextIsSaid = (pieces : List Piece) → ArePieces is_outer_byte pieces
+AddressTextIsSaid = (pieces : List ValuePiece) → ArePieces is_outer_byte pieces
     → address_text (spelled_pieces pieces) ≡ address_said pieces

@@ -1,4 +1,5 @@
 //! Addresses, and lists of addresses.
+//! Allocates.
 
 use arch_base::{Bytes, Duplicate, NoMemory, Sequence};
 

@@ -1,4 +1,5 @@
 //! Splits an address list into items, and an item into its parts.
+//! Pure.
 ghost use Rattle.std.specs.Prelude.{◌≡◌, ◌∷◌, [], MatchOption};
 ghost use Rattle.mail_address.specs.Items.{items_of, ends_item, ending_of, is_grouped_after, is_bracketed_after, after_comment_start, last_comment as inside_of_last, name_bytes, address_bytes, IsFirstItem};
 ghost use Rattle.mail_address.specs.Places.{next_place, marked, marked_by};

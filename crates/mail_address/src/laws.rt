@@ -1,4 +1,5 @@
 //! Laws of the addresses of a list. Each function does nothing: its contract is the law.
+//! Pure.
 ghost use Rattle.mail_address.specs.Laws.{EmptyValue, EveryValueIsFront, OutsideIsBetween, PlainReadBack};
 ghost use Rattle.mail_address.specs.Mailboxes.{MembersReadBack};
 ghost use Rattle.mail_address.specs.Texts.{WordsAreJoined, SpacesAreNoWords, NameTextIsSaid, AddressTextIsSaid};

@@ -1,5 +1,7 @@
-//! Reads the address lists of mail fields such as From and To (RFC 5322, section 3.4). Every value
-//! is read: from a value that isn't an address list, what can be found is returned.
+//! Reads the address lists of mail fields such as From and To (RFC 5322, section 3.4).
+//! Allocates.
+//!
+//! Every value is read: from a value that isn't an address list, what can be found is returned.
 #![tactic(auto)]
 
 mod address;

@@ -1,5 +1,5 @@
-//! Tracks where the bytes of a structured field are: in a quoted string, in a comment, or outside of
-//! both.
+//! Tracks where bytes of a structured field are: in a quoted string, in a comment, or in neither.
+//! Pure.
 ghost use Rattle.std.specs.Prelude.{◌≡◌, ◌≤◌, ◌<◌, ◌+◌, length};
 ghost use Rattle.mail_address.specs.Places.{depth_of, next_place, next_name_place, is_outside as stands_outside, is_in_one_comment as in_one_comment, is_sought, is_comment_start};
 ghost use Rattle.mail_address.specs.Items.{len_before as count_before};

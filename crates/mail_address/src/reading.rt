@@ -1,4 +1,5 @@
 //! Reads the addresses of an address list.
+//! Allocates.
 ghost use Rattle.std.specs.Prelude.{◌≡◌, ◌++◌, ◌∷◌, [], IfOk, OnOk};
 ghost use Rattle.mail_address.specs.Addresses.{addresses_of, told_by, mailbox_in, mailbox_with, group_start, group_end, mailbox_of, host_of, without_route as without_route_of};
 ghost use Rattle.mail_address.specs.Splits.{part_after, split_last, is_this};

@@ -1,4 +1,5 @@
 //! Reads the texts of names and of addresses.
+//! Allocates.
 ghost use Rattle.std.specs.Prelude.{◌≡◌, ◌++◌, ◌∷◌, [], IfOk, OnOk, if◌then◌else◌};
 ghost use Rattle.mail_address.specs.Words.{stays_in_name as stays_in_name_at, stays_in_address as stays_in_address_at, name_text as name_text_of, address_text as address_text_of};
 ghost use Rattle.mail_address.specs.Gaps.{given, gap_after, PutsOfName};

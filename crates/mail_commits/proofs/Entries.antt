@@ -4,7 +4,7 @@ use Rattle.std.specs.Fmt.{decimal}
 use Rattle.std.specs.Prelude.{ℤ, Result, Ok, Err, IfOk}
 use Rattle.std.proofs.lemmas.Int.{ints}
 use Rattle.arch_base.specs.declared.sequence.NoMemory.{NoMemory}
-use Rattle.git_objects.specs.Commits.{IsZone, commit_spelling}
+use Rattle.git_objects.specs.Commits.{IsCommitZone, commit_spelling}
 use Rattle.arch_base.specs.declared.ids.Id20.{Id20}
 use Rattle.git_objects.specs.declared.commits.Commit.{Commit}
 use Rattle.git_objects.specs.declared.entry_kind.EntryKind.{EntryKind}
@@ -24,7 +24,7 @@ unfolding commit_of
 commit_of-made text tree parent moment author email subject written zone a e s w z = rw (z, a, e, s, w) refl
 
 -- The zone of a commit fits in 16 bits.
-pub zone_fits : (zone : ℤ) → IsZone zone → FitsSigned w16 zone
+pub zone_fits : (zone : ℤ) → IsCommitZone zone → FitsSigned w16 zone
 zone_fits zone h =
     let low = h.low in
     let high = h.high in

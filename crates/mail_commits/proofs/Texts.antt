@@ -6,9 +6,9 @@ use Rattle.std.specs.Str.{str_eq_ignore_ascii_case}
 use Rattle.std.proofs.lemmas.Option.{same_Some, none-some}
 use Rattle.std.proofs.lemmas.List.{length-drop}
 use Rattle.arch_base.specs.declared.sequence.NoMemory.{NoMemory}
-use Rattle.git_objects.specs.CleanText.{is_space, trimmed, clean, IsClean}
-use Rattle.git_objects.proofs.Cleaning.{IsClean-clean}
-use Rattle.git_objects.specs.Commits.{IsZone}
+use Rattle.git_objects.specs.CleanText.{is_space, trimmed, clean, IsCleanText}
+use Rattle.git_objects.proofs.Cleaning.{IsCleanText-clean}
+use Rattle.git_objects.specs.Commits.{IsCommitZone}
 use Rattle.mail_address.specs.declared.address.Address.{Address}
 use Rattle.mail_address.specs.Addresses.{addresses_of}
 use Rattle.mail_date.specs.declared.moment.Moment.{Moment}
@@ -35,13 +35,13 @@ pub trimmed-nothing : (text front : List ℕ) (n m : ℕ) → n ≡ prefix_len i
 trimmed-nothing text front n m e f g h = rw (sym e, sym f, sym g) (sym (drop_past n front h))
 
 -- What is between the spaces at the two ends.
-pub trimmed-between : (text front back : List ℕ) (n m : ℕ) → n ≡ prefix_len is_space text → m ≡ suffix_len is_space text → front ≡ take (length text - m) text → back ≡ drop n front
+pub trimmed-crash_between : (text front back : List ℕ) (n m : ℕ) → n ≡ prefix_len is_space text → m ≡ suffix_len is_space text → front ≡ take (length text - m) text → back ≡ drop n front
     → back ≡ trimmed text
-trimmed-between text front back n m e f g h = rw (sym e, sym f, sym g) h
+trimmed-crash_between text front back n m e f g h = rw (sym e, sym f, sym g) h
 
 -- A copy of a clean text is clean.
-pub copied-clean : (made : Result (List ℕ) NoMemory) (bytes text : List ℕ) → bytes ≡ clean text → IfOk made (λ copy. copy ≡ bytes) → IfOk made IsClean
-copied-clean (Ok copy) bytes text e h = rw (h ∙ e) (IsClean-clean text)
+pub copied-clean : (made : Result (List ℕ) NoMemory) (bytes text : List ℕ) → bytes ≡ clean text → IfOk made (λ copy. copy ≡ bytes) → IfOk made IsCleanText
+copied-clean (Ok copy) bytes text e h = rw (h ∙ e) (IsCleanText-clean text)
 copied-clean (Err refused) bytes text e h = tt
 
 -- One more field with the name.
@@ -105,6 +105,6 @@ unfolding date_fact
 date_fact-none text e = date-none (first_named (codes "Date") (fields_of text)) e
 
 -- The zone of a moment that is read is a zone of a commit.
-pub zone_of_read : (found : Option Moment) → IfSome found (λ moment. (moment.secs ≤ last_second) × IsDateZone moment.zone) → IfSome found (λ moment. IsZone moment.zone)
+pub zone_of_read : (found : Option Moment) → IfSome found (λ moment. (moment.secs ≤ last_second) × IsDateZone moment.zone) → IfSome found (λ moment. IsCommitZone moment.zone)
 zone_of_read None h = tt
 zone_of_read (Some moment) h = record { low = h.1.0; high = h.1.1 }

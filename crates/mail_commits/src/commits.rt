@@ -1,7 +1,8 @@
 //! The commit that keeps a text, and the objects of an entry.
+//! Allocates.
 ghost use Rattle.std.specs.Prelude.{◌≡◌, ◌++◌, ◌∷◌, [], length, take, decimal, codes, IfOk, OnOk, OnErr, is_ok, if◌then◌else◌};
-ghost use Rattle.git_objects.specs.CleanText.{IsClean};
-ghost use Rattle.git_objects.specs.Commits.{IsZone};
+ghost use Rattle.git_objects.specs.CleanText.{IsCleanText};
+ghost use Rattle.git_objects.specs.Commits.{IsCommitZone};
 ghost use Rattle.git_objects.specs.Objects.{blob_id_of};
 ghost use Rattle.mail_commits.specs.Commits.{commit_of};
 ghost use Rattle.mail_commits.specs.Entries.{commit_text as commit_text_of, commit_id, entry_bytes, tree_of};
@@ -27,10 +28,10 @@ pub fn entry_commit(
     moment: u64,
 ) -> Result<Commit, NoMemory>
     ensures value { IfOk result (λ made. made ≡ commit_of text.now tree.now parent moment) }
-    ensures author { IfOk result (λ made. IsClean made.author) }
-    ensures email { IfOk result (λ made. IsClean made.email) }
-    ensures subject { IfOk result (λ made. IsClean made.subject) }
-    ensures zone { IfOk result (λ made. IsZone made.zone) }
+    ensures author { IfOk result (λ made. IsCleanText made.author) }
+    ensures email { IfOk result (λ made. IsCleanText made.email) }
+    ensures subject { IfOk result (λ made. IsCleanText made.subject) }
+    ensures zone { IfOk result (λ made. IsCommitZone made.zone) }
 {
     let author = author(alloc, text)?;
     let subject = subject(alloc, text)?;

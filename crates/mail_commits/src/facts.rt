@@ -1,9 +1,10 @@
 //! What a mail says of itself: its author, its subject and its date.
+//! Allocates.
 ghost use Rattle.std.specs.Prelude.{◌≡◌, ◌++◌, ◌≤◌, length, drop, IfOk, IfSome, OnOk, codes, option_copied, Some};
 ghost use Rattle.std.specs.List.{filter, flat_map, prefix_len, suffix_len};
 ghost use Rattle.std.specs.Str.{str_eq_ignore_ascii_case};
-ghost use Rattle.git_objects.specs.CleanText.{IsClean, is_clean_byte as clean_byte, clean as clean_of, trimmed as trimmed_of, is_space as space};
-ghost use Rattle.git_objects.specs.Commits.{IsZone};
+ghost use Rattle.git_objects.specs.CleanText.{IsCleanText, is_clean_byte as clean_byte, clean as clean_of, trimmed as trimmed_of, is_space as space};
+ghost use Rattle.git_objects.specs.Commits.{IsCommitZone};
 ghost use Rattle.mail_address.specs.Addresses.{addresses_of};
 ghost use Rattle.mail_reader.specs.Fields.{fields_of};
 ghost use Rattle.mail_reader.specs.Values.{flat_of};
@@ -33,8 +34,8 @@ pub(crate) struct Signature {
 pub(crate) fn author(alloc: Global, text: &[u8]) -> Result<Signature, NoMemory>
     ensures name { IfOk result (λ made. made.name ≡ from_fact text.now) }
     ensures email { IfOk result (λ made. made.email ≡ email_fact text.now) }
-    ensures clean_name { IfOk result (λ made. IsClean made.name) }
-    ensures clean_email { IfOk result (λ made. IsClean made.email) }
+    ensures clean_name { IfOk result (λ made. IsCleanText made.name) }
+    ensures clean_email { IfOk result (λ made. IsCleanText made.email) }
 {
     let addresses = from_addresses(alloc, text)?;
     match first_mailbox(&addresses) {
@@ -50,8 +51,8 @@ pub(crate) fn author(alloc: Global, text: &[u8]) -> Result<Signature, NoMemory>
 fn author_of(alloc: Global, mailbox: &Address) -> Result<Signature, NoMemory>
     ensures name { IfOk result (λ made. made.name ≡ from_of (Some mailbox.now)) }
     ensures email { IfOk result (λ made. made.email ≡ email_of (Some mailbox.now)) }
-    ensures clean_name { IfOk result (λ made. IsClean made.name) }
-    ensures clean_email { IfOk result (λ made. IsClean made.email) }
+    ensures clean_name { IfOk result (λ made. IsCleanText made.name) }
+    ensures clean_email { IfOk result (λ made. IsCleanText made.email) }
 {
     let email = clean_address(alloc, mailbox)?;
     let name = clean_words(alloc, mailbox.name.as_slice())?;
@@ -125,7 +126,7 @@ fn first_mailbox(addresses: &Addresses) -> Option<&Address>
 /// Returns the clean address of a mailbox.
 fn clean_address(alloc: Global, mailbox: &Address) -> Result<Bytes, NoMemory>
     ensures value { IfOk result (λ made. made ≡ clean_address_of mailbox.now) }
-    ensures clean { IfOk result IsClean }
+    ensures clean { IfOk result IsCleanText }
 {
     let mut address = Bytes::new(alloc);
     address.push_slice(mailbox.mailbox.as_slice())?;
@@ -137,7 +138,7 @@ fn clean_address(alloc: Global, mailbox: &Address) -> Result<Bytes, NoMemory>
 /// Decodes the encoded words of a value, and returns the clean result.
 fn clean_words(alloc: Global, value: &[u8]) -> Result<Bytes, NoMemory>
     ensures value { IfOk result (λ made. made ≡ clean_of (decoded value.now)) }
-    ensures clean { IfOk result IsClean }
+    ensures clean { IfOk result IsCleanText }
 {
     let text = decode(alloc, value)?;
     clean(alloc, text.as_slice())
@@ -147,7 +148,7 @@ fn clean_words(alloc: Global, value: &[u8]) -> Result<Bytes, NoMemory>
 /// its two ends.
 fn clean(alloc: Global, text: &[u8]) -> Result<Bytes, NoMemory>
     ensures value { IfOk result (λ made. made ≡ clean_of text.now) }
-    ensures clean { IfOk result IsClean }
+    ensures clean { IfOk result IsCleanText }
 {
     let kept = clean_bytes(alloc, text)?;
     copied(alloc, trimmed(kept.as_slice()))
@@ -220,7 +221,7 @@ fn copied(alloc: Global, bytes: &[u8]) -> Result<Bytes, NoMemory>
 /// 3.6.5).
 pub(crate) fn subject(alloc: Global, text: &[u8]) -> Result<Bytes, NoMemory>
     ensures value { IfOk result (λ made. made ≡ clean_of (subject_fact text.now)) }
-    ensures clean { IfOk result IsClean }
+    ensures clean { IfOk result IsCleanText }
 {
     match first_value(text, b"Subject") {
         Some(value) => clean_flat(alloc, value),
@@ -231,7 +232,7 @@ pub(crate) fn subject(alloc: Global, text: &[u8]) -> Result<Bytes, NoMemory>
 /// Flattens a field's value and decodes its encoded words, and returns the clean result.
 fn clean_flat(alloc: Global, value: &[u8]) -> Result<Bytes, NoMemory>
     ensures value { IfOk result (λ made. made ≡ clean_of (decoded (flat_of value.now))) }
-    ensures clean { IfOk result IsClean }
+    ensures clean { IfOk result IsCleanText }
 {
     let value = flat(alloc, value)?;
     clean_words(alloc, value.as_slice())
@@ -241,7 +242,7 @@ fn clean_flat(alloc: Global, value: &[u8]) -> Result<Bytes, NoMemory>
 /// 3.6.1).
 fn date(text: &[u8]) -> Option<Moment>
     ensures value { result ≡ date_fact text.now }
-    ensures zone { IfSome result (λ written. IsZone written.zone) }
+    ensures zone { IfSome result (λ written. IsCommitZone written.zone) }
 {
     let value = first_value(text, b"Date")?;
     read(value)
@@ -252,7 +253,7 @@ fn date(text: &[u8]) -> Option<Moment>
 /// If its Date field spells no moment, this is the moment at which the text was taken, in UTC.
 pub(crate) fn written_at(text: &[u8], moment: u64) -> Moment
     ensures value { result ≡ written_of (date_fact text.now) moment }
-    ensures zone { IsZone result.zone }
+    ensures zone { IsCommitZone result.zone }
 {
     match date(text) {
         Some(written) => written,

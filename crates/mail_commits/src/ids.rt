@@ -1,4 +1,5 @@
 //! What a text is known by.
+//! Pure.
 ghost use Rattle.std.specs.Prelude.{◌≡◌};
 ghost use Rattle.mail_commits.specs.Ids.{text_ids_of};
 

@@ -1,4 +1,5 @@
 //! What a text says of itself, what it is known by, and the commit and the objects that keep it.
+//! Allocates.
 #![tactic(auto)]
 
 mod commits;

@@ -9,7 +9,7 @@ use Rattle.mail_date.specs.declared.moment.Moment.{Moment}
 use Rattle.mail_date.specs.declared.moment.CivilDate.{CivilDate}
 use Rattle.mail_date.specs.Dates.{last_second, seconds_of, IsValid, IsValidDay, IsMomentOf}
 use Rattle.mail_date.specs.Reading.{date_of, is_valid_day, is_valid_time, moment_from, moment_at, moment_in}
-use Rattle.mail_date.specs.Parts.{Spells}
+use Rattle.mail_date.specs.Parts.{SpellsMoment}
 use Rattle.mail_date.specs.Laws.{MomentIsSpelled}
 use Rattle.mail_date.proofs.OneLemmas.{one_spelled}
 use Rattle.mail_date.proofs.ReadLemmas.{spelled_by_date, refused_by_date, refused_without_date}
@@ -86,35 +86,35 @@ moment_at-none : (date : CivilDate) → IfNone (moment_at date) ((moment : Momen
 moment_at-none date = at_none (is_valid_day date && is_valid_time date) date refl
 
 -- The moment in a text, by its date.
-in_is : (d : Option CivilDate) (text : List ℕ) → d ≡ date_of text → IfSome (option_and_then moment_at d) (Spells text)
+in_is : (d : Option CivilDate) (text : List ℕ) → d ≡ date_of text → IfSome (option_and_then moment_at d) (SpellsMoment text)
 in_is None text e = tt
 in_is (Some date) text e = spelled_by_date (moment_at date) text date e (moment_at-is date)
 
-in_none : (d : Option CivilDate) (text : List ℕ) → d ≡ date_of text → IfNone (option_and_then moment_at d) ((moment : Moment) → Spells text moment → ⊥)
+in_none : (d : Option CivilDate) (text : List ℕ) → d ≡ date_of text → IfNone (option_and_then moment_at d) ((moment : Moment) → SpellsMoment text moment → ⊥)
 in_none None text e = refused_without_date None text e
 in_none (Some date) text e = refused_by_date (moment_at date) text date e (moment_at-none date)
 
-moment_in-is : (text : List ℕ) → IfSome (moment_in text) (Spells text)
+moment_in-is : (text : List ℕ) → IfSome (moment_in text) (SpellsMoment text)
 unfolding moment_in
 moment_in-is text = in_is (date_of text) text refl
 
-moment_in-none : (text : List ℕ) → IfNone (moment_in text) ((moment : Moment) → Spells text moment → ⊥)
+moment_in-none : (text : List ℕ) → IfNone (moment_in text) ((moment : Moment) → SpellsMoment text moment → ⊥)
 unfolding moment_in
 moment_in-none text = in_none (date_of text) text refl
 
 -- Two answers are the same if each is spelled, and is `None` only if nothing is spelled.
-same_answer : (a b : Option Moment) (text : List ℕ) → IfSome a (Spells text) → IfNone a ((moment : Moment) → Spells text moment → ⊥)
-    → IfSome b (Spells text) → IfNone b ((moment : Moment) → Spells text moment → ⊥) → a ≡ b
+same_answer : (a b : Option Moment) (text : List ℕ) → IfSome a (SpellsMoment text) → IfNone a ((moment : Moment) → SpellsMoment text moment → ⊥)
+    → IfSome b (SpellsMoment text) → IfNone b ((moment : Moment) → SpellsMoment text moment → ⊥) → a ≡ b
 same_answer None None text h k i j = refl
 same_answer None (Some m) text h k i j = absurd (k m i)
 same_answer (Some m) None text h k i j = absurd (j m h)
 same_answer (Some m) (Some n) text h k i j = ap (λ (x : Moment). Some x) (one_spelled text m n h i)
 
 -- Such an answer is the moment in the text.
-pub answer_in : (answer : Option Moment) (text : List ℕ) → IfSome answer (Spells text) → IfNone answer ((moment : Moment) → Spells text moment → ⊥) → answer ≡ moment_in text
+pub answer_in : (answer : Option Moment) (text : List ℕ) → IfSome answer (SpellsMoment text) → IfNone answer ((moment : Moment) → SpellsMoment text moment → ⊥) → answer ≡ moment_in text
 answer_in answer text h k = same_answer answer (moment_in text) text h k (moment_in-is text) (moment_in-none text)
 
-spelled_where : (a : Option Moment) (text : List ℕ) (moment : Moment) → IfSome a (Spells text) → a ≡ Some moment → Spells text moment
+spelled_where : (a : Option Moment) (text : List ℕ) (moment : Moment) → IfSome a (SpellsMoment text) → a ≡ Some moment → SpellsMoment text moment
 spelled_where None text moment h e = absurd (none-some _ e)
 spelled_where (Some m) text moment h e = rw (same_Some _ _ e) at h
 

@@ -13,7 +13,7 @@ use Rattle.mail_date.specs.Words.{is_white, is_word_byte, without_white, begins_
 use Rattle.mail_date.specs.Pieces.{number_of, day_of, month_of, year_of, clock_of, zone_of}
 use Rattle.mail_date.specs.Dates.{joined}
 use Rattle.mail_date.specs.Reading.{is_comment, date_of_words, date_of}
-use Rattle.mail_date.specs.Parts.{IsWhite, IsGap, IsWord, IsOpening, IsCommentEnding, IsEnding, DateParts}
+use Rattle.mail_date.specs.Parts.{IsWhite, IsGap, IsDateWord, IsDateOpening, IsCommentEnding, IsEnding, DateParts}
 use Rattle.mail_date.proofs.WordLemmas.{words_of-none, words_of-first, begins_word-without_white}
 
 one-more : (n : ℕ) → 1 + n ≡ suc n
@@ -43,7 +43,7 @@ record Split (text word : List ℕ) (words : List (List ℕ)) : Type 0 where
   rest : List ℕ
   whole : text ≡ lead ++ (word ++ rest)
   white : IsWhite lead
-  is_word : IsWord word
+  is_word : IsDateWord word
   after : begins_word rest ≡ false
   next : words_of rest ≡ words
 
@@ -67,24 +67,24 @@ split_word text word words e = go (prefix_len is_word_byte (without_white text))
         let cut : take len body ++ drop len body ≡ body = take-append-drop len body in
         let front : take (prefix_len is_white text) text ++ body ≡ text = take-append-drop (prefix_len is_white text) text in
         let long : length (take len body) ≡ len = length-prefix_len is_word_byte body in
-        let is_word : IsWord (take len body) = record { some = omega arith; bytes = front_passes is_word_byte body } in
+        let is_word : IsDateWord (take len body) = record { some = omega arith; bytes = front_passes is_word_byte body } in
         record {
           lead = take (prefix_len is_white text) text;
           rest = drop len body;
           whole = rw (← word_is, cut, front) refl;
           white = front_passes is_white text;
-          is_word = subst IsWord word_is is_word;
+          is_word = subst IsDateWord word_is is_word;
           after = after_word body;
           next = words_are;
         }
 
 -- The first byte of a word is a byte of a word.
-begins_word-word : (word rest : List ℕ) → IsWord word → begins_word (word ++ rest) ≡ true
+begins_word-word : (word rest : List ℕ) → IsDateWord word → begins_word (word ++ rest) ≡ true
 begins_word-word [] rest h = absurd (let some : 1 ≤ 0 = h.some in omega arith)
 begins_word-word (b ∷ bs) rest h = (and_parts _ _ h.bytes).0
 
 -- Between two words there is white space.
-gap_between : (text lead word rest : List ℕ) → text ≡ lead ++ (word ++ rest) → begins_word text ≡ false → IsWhite lead → IsWord word → IsGap lead
+gap_between : (text lead word rest : List ℕ) → text ≡ lead ++ (word ++ rest) → begins_word text ≡ false → IsWhite lead → IsDateWord word → IsGap lead
 gap_between text [] word rest e after white is_word = absurd (let bytes = begins_word-word word rest is_word in let same : begins_word text ≡ true = rw e bytes in cc)
 gap_between text (b ∷ bs) word rest e after white is_word = record { some = grind (arith); white = white }
 
@@ -137,7 +137,7 @@ not_white b h = go (is_white b) h
     go true k = cc
     go false k = refl
 
-words_of-word : (word rest : List ℕ) → IsWord word → begins_word rest ≡ false → words_of (word ++ rest) ≡ word ∷ words_of rest
+words_of-word : (word rest : List ℕ) → IsDateWord word → begins_word rest ≡ false → words_of (word ++ rest) ≡ word ∷ words_of rest
 words_of-word [] rest h after = absurd (let some : 1 ≤ 0 = h.some in omega arith)
 words_of-word (b ∷ []) rest h after =
     let parts = and_parts _ _ h.bytes in
@@ -242,7 +242,7 @@ day_word-no_day (high ∷ low ∷ []) rest n e = digit-no_day high (low ∷ rest
 day_word-no_day (a ∷ b ∷ c ∷ cs) rest n e = absurd (none-some _ e)
 
 -- The opening is skipped.
-opened : (opening day rest : List ℕ) (n : ℕ) → IsOpening opening → IsWord day → day_of day ≡ Some n → words_of (without_day (opening ++ (day ++ rest))) ≡ words_of (day ++ rest)
+opened : (opening day rest : List ℕ) (n : ℕ) → IsDateOpening opening → IsDateWord day → day_of day ≡ Some n → words_of (without_day (opening ++ (day ++ rest))) ≡ words_of (day ++ rest)
 opened opening day rest n (inl white) word e =
     let body : without_white (opening ++ (day ++ rest)) ≡ day ++ rest = without_white-gap opening (day ++ rest) white ∙ without_white-word (day ++ rest) (begins_word-word day rest word) in
     rw (body, day_word-no_day day rest n e) refl
@@ -299,7 +299,7 @@ five_words (day ∷ month ∷ year ∷ clock ∷ zone ∷ others) date e = go (i
 record Opened (text body : List ℕ) : Type 0 where
   opening : List ℕ
   whole : text ≡ opening ++ body
-  opens : (white : List ℕ) → IsWhite white → IsOpening (opening ++ white)
+  opens : (white : List ℕ) → IsWhite white → IsDateOpening (opening ++ white)
 
 white_joined : (a b : List ℕ) → IsWhite a → IsWhite b → IsWhite (a ++ b)
 white_joined a b h k = rw (list_all-append is_white a b, h, k) refl

@@ -10,11 +10,11 @@ use Rattle.mail_date.specs.declared.moment.CivilDate.{CivilDate}
 use Rattle.mail_date.specs.Words.{is_word_byte}
 use Rattle.mail_date.specs.Pieces.{number_of, day_of, month_of, year_of, clock_of, zone_of, signed, IsZone}
 use Rattle.mail_date.specs.Dates.{IsMomentOf, IsValid}
-use Rattle.mail_date.specs.Parts.{IsGap, IsWord, DateParts}
+use Rattle.mail_date.specs.Parts.{IsGap, IsDateWord, DateParts}
 use Rattle.mail_date.specs.Printed.{two_digits, four_digits, month_name, plain_day, clock_text, sign_of, zone_text, mail_text}
 use Rattle.mail_date.specs.Laws.{WrittenDateIsSpelled}
 
-word_by : (text : List ℕ) → nat_le 1 (length text) ≡ true → list_all is_word_byte text ≡ true → IsWord text
+word_by : (text : List ℕ) → nat_le 1 (length text) ≡ true → list_all is_word_byte text ≡ true → IsDateWord text
 word_by text h k = record { some = grind (arith, nat_tests); bytes = k }
 
 space : IsGap (32 ∷ [])
@@ -41,15 +41,15 @@ day_short n h =
     let sum : 0 + n ≡ n = omega arith in
     rw (test, value, sum) refl
 
-day_written : (n : ℕ) → n < 100 → (day_of (plain_day n) ≡ Some n) × IsWord (plain_day n)
+day_written : (n : ℕ) → n < 100 → (day_of (plain_day n) ≡ Some n) × IsDateWord (plain_day n)
 day_written n h = go (nat_lt n 10) refl
   where
-    go : (b : Bool) → nat_lt n 10 ≡ b → (day_of (cond b ((48 + n) ∷ []) (two_digits n)) ≡ Some n) × IsWord (cond b ((48 + n) ∷ []) (two_digits n))
+    go : (b : Bool) → nat_lt n 10 ≡ b → (day_of (cond b ((48 + n) ∷ []) (two_digits n)) ≡ Some n) × IsDateWord (cond b ((48 + n) ∷ []) (two_digits n))
     go true e = let small : n < 10 = grind (arith, nat_tests) in (day_short n small, word_by ((48 + n) ∷ []) refl (rw (digit_in_word n) refl))
     go false e = (number_written n h, word_by (two_digits n) refl (rw (digit_in_word (n / 10), digit_in_word (n % 10)) refl))
 
 -- The name of a month is read, and is a word.
-month_written : (month : ℕ) → IsInRange 1 12 month → (month_of (month_name month) ≡ Some month) × IsWord (month_name month)
+month_written : (month : ℕ) → IsInRange 1 12 month → (month_of (month_name month) ≡ Some month) × IsDateWord (month_name month)
 month_written (suc zero) h = (refl, word_by (month_name 1) refl refl)
 month_written (suc (suc zero)) h = (refl, word_by (month_name 2) refl refl)
 month_written (suc (suc (suc zero))) h = (refl, word_by (month_name 3) refl refl)
@@ -66,14 +66,14 @@ month_written zero h = absurd (omega arith)
 month_written (suc (suc (suc (suc (suc (suc (suc (suc (suc (suc (suc (suc (suc k))))))))))))) h = absurd (omega arith)
 
 -- A year of four digits is read, and is a word.
-year_written : (year : ℕ) → year ≤ 9999 → (year_of (four_digits year) ≡ Some year) × IsWord (four_digits year)
+year_written : (year : ℕ) → year ≤ 9999 → (year_of (four_digits year) ≡ Some year) × IsDateWord (four_digits year)
 year_written year h =
     let value : year / 100 * 100 + year % 100 ≡ year = omega arith in (
       rw (number_written (year / 100) (omega arith), number_written (year % 100) (omega arith), value) refl,
       word_by (four_digits year) refl (rw (digit_in_word (year / 100 / 10), digit_in_word (year / 100 % 10), digit_in_word (year % 100 / 10), digit_in_word (year % 100 % 10)) refl),
     )
 
-clock_written : (date : CivilDate) → IsValid date → (clock_of (clock_text date) ≡ Some (record { hour = date.hour; minute = date.minute; second = date.second })) × IsWord (clock_text date)
+clock_written : (date : CivilDate) → IsValid date → (clock_of (clock_text date) ≡ Some (record { hour = date.hour; minute = date.minute; second = date.second })) × IsDateWord (clock_text date)
 clock_written date h =
     let hour : date.hour ≤ 23 = h.hour in
     let minute : date.minute ≤ 59 = h.minute in
@@ -95,7 +95,7 @@ zone_small : (zone : ℤ) → IsZone zone → unsigned_abs zone < 1440
 zone_small (pos n) h = omega (arith, signed_arith)
 zone_small (negsuc n) h = omega (arith, signed_arith)
 
-zone_written : (zone : ℤ) → IsZone zone → (zone_of (zone_text zone) ≡ Some zone) × IsWord (zone_text zone)
+zone_written : (zone : ℤ) → IsZone zone → (zone_of (zone_text zone) ≡ Some zone) × IsDateWord (zone_text zone)
 zone_written zone h =
     let small = zone_small zone h in
     let n = unsigned_abs zone in

@@ -3,14 +3,14 @@ use Rattle.std.specs.Prelude.{◌≡◌, ◌↔◌, ℕ, ◌≤◌, List, Option
 use Rattle.mail_date.specs.declared.moment.Moment.{Moment}
 use Rattle.mail_date.specs.declared.moment.CivilDate.{CivilDate}
 use Rattle.mail_date.specs.Dates.{last_second}
-use Rattle.mail_date.specs.Parts.{Spells}
+use Rattle.mail_date.specs.Parts.{SpellsMoment}
 use Rattle.mail_date.specs.Pieces.{IsZone}
 use Rattle.mail_date.specs.Printed.{IsDateAt, mail_text}
 use Rattle.mail_date.specs.Reading.{moment_in}
 
 -- A text spells at most one moment.
 abbrev pub SpelledMomentIsOne : Type 0
-SpelledMomentIsOne = (text : List ℕ) (a b : Moment) → Spells text a → Spells text b → a ≡ b
+SpelledMomentIsOne = (text : List ℕ) (a b : Moment) → SpellsMoment text a → SpellsMoment text b → a ≡ b
 
 -- A clock in a moment's zone shows one date.
 abbrev pub PrintedDateIsOne : Type 0
@@ -22,7 +22,7 @@ abbrev pub WrittenDateIsSpelled : Type 0
 WrittenDateIsSpelled =
     (moment : Moment) (date : CivilDate)
     → IsDateAt moment date → moment.secs ≤ last_second → IsZone moment.zone
-    → Spells (mail_text date) moment
+    → SpellsMoment (mail_text date) moment
 
 -- If a text is such a Date, the answer is that moment.
 abbrev pub GivesWrittenMoment : List ℕ → Option Moment → Type 0
@@ -34,4 +34,4 @@ GivesWrittenMoment text answer =
 -- The moment in a text is the one that it spells, and there is none if it spells none.
 abbrev pub MomentIsSpelled : Type 0
 MomentIsSpelled = (text : List ℕ) (moment : Moment)
-    → moment_in text ≡ Some moment ↔ Spells text moment
+    → moment_in text ≡ Some moment ↔ SpellsMoment text moment

@@ -17,7 +17,7 @@ pub record IsGap (text : List ℕ) : Type 0 where
   pub white : IsWhite text
 
 -- A part itself: at least one byte, and no white space.
-pub record IsWord (text : List ℕ) : Type 0 where
+pub record IsDateWord (text : List ℕ) : Type 0 where
   pub some : 1 ≤ length text
   pub bytes : list_all is_word_byte text ≡ true
 
@@ -34,8 +34,8 @@ pub record IsDayOpening (text : List ℕ) : Type 0 where
   pub white_after : IsWhite after
 
 -- The text before the day of the month: white space or nothing, or the name of a day.
-abbrev pub IsOpening : List ℕ → Type 0
-IsOpening text = IsWhite text ⊎ IsDayOpening text
+abbrev pub IsDateOpening : List ℕ → Type 0
+IsDateOpening text = IsWhite text ⊎ IsDayOpening text
 
 -- White space, an opening parenthesis and any bytes.
 pub record IsCommentEnding (text : List ℕ) : Type 0 where
@@ -64,20 +64,20 @@ pub record DateParts (text : List ℕ) (date : CivilDate) : Type 0 where
   pub ending : List ℕ
   pub whole : text ≡ opening ++ (day ++ (after_day ++ (month ++ (after_month
       ++ (year ++ (after_year ++ (clock ++ (after_clock ++ (zone ++ ending)))))))))
-  pub opens : IsOpening opening
-  pub is_day : IsWord day
+  pub opens : IsDateOpening opening
+  pub is_day : IsDateWord day
   pub gap_after_day : IsGap after_day
-  pub is_month : IsWord month
+  pub is_month : IsDateWord month
   pub gap_after_month : IsGap after_month
-  pub is_year : IsWord year
+  pub is_year : IsDateWord year
   pub gap_after_year : IsGap after_year
-  pub is_clock : IsWord clock
+  pub is_clock : IsDateWord clock
   pub gap_after_clock : IsGap after_clock
-  pub is_zone : IsWord zone
+  pub is_zone : IsDateWord zone
   pub ends : IsEnding ending
   pub value : joined (day_of day) (month_of month) (year_of year) (clock_of clock) (zone_of zone)
       ≡ Some date
 
 -- The text spells the moment: it consists of the parts of a date that names the moment.
-abbrev pub Spells : List ℕ → Moment → Type 0
-Spells text moment = (date : CivilDate) × DateParts text date × IsMomentOf date moment
+abbrev pub SpellsMoment : List ℕ → Moment → Type 0
+SpellsMoment text moment = (date : CivilDate) × DateParts text date × IsMomentOf date moment

@@ -89,8 +89,8 @@ pub record IsShownDate (moment : Moment) (date : CivilDate) : Type 0 where
   pub other : (IsPrintable moment → ⊥) → IsDateAt (utc moment.secs) date
 
 -- The text prints the moment in its zone, with `text_of` as the form of a date.
-abbrev pub Prints : (CivilDate → List ℕ) → Moment → List ℕ → Type 0
-Prints text_of moment text = (date : CivilDate) × IsShownDate moment date × (text ≡ text_of date)
+abbrev pub PrintsDate : (CivilDate → List ℕ) → Moment → List ℕ → Type 0
+PrintsDate text_of moment text = (date : CivilDate) × IsShownDate moment date × (text ≡ text_of date)
 
 -- The text prints a moment in UTC, with `text_of` as the form of a date.
 abbrev pub PrintsUtc : (CivilDate → List ℕ) → ℕ → List ℕ → Type 0

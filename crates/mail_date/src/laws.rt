@@ -1,5 +1,7 @@
-//! Laws of the definitions that the contracts cite. Each function does nothing: its contract is the
-//! law.
+//! Laws of the definitions that the contracts cite.
+//! Pure.
+//!
+//! Each function does nothing: its contract is the law.
 ghost use Rattle.mail_date.specs.Laws.{SpelledMomentIsOne, PrintedDateIsOne, WrittenDateIsSpelled, MomentIsSpelled};
 
 /// Shows that a value spells at most one moment.

@@ -1,4 +1,5 @@
 //! Dates of mail: reads the value of a Date field, and prints moments.
+//! Pure.
 #![tactic(auto)]
 
 mod laws;

@@ -1,4 +1,5 @@
 //! Moments, and the dates that clocks show at them.
+//! Pure.
 ghost use Rattle.std.specs.Prelude.{◌≡◌, ◌<◌, ◌≤◌, ◌↔◌, IsTrue, IfSome, IfNone, pos, ◌≤ℤ◌};
 ghost use Rattle.std.specs.Int.{IsInRange};
 ghost use Rattle.jiff_core.specs.Calendar.{days_from_civil, IsEpochDay};

@@ -1,4 +1,5 @@
 //! The meaning of each word of a date.
+//! Pure.
 ghost use Rattle.std.specs.Prelude.{◌≡◌, ◌<◌, IfSome};
 ghost use Rattle.mail_date.specs.Pieces.{number_of, day_of, month_of, year_of, clock_at, clock_of, zone_of, offset_at, named_zone, IsZone};
 

@@ -1,8 +1,9 @@
 //! Prints moments for IMAP, for RFC 3339 and for pages.
+//! Pure.
 ghost use Rattle.std.specs.Prelude.{◌≡◌, ◌≤◌, ◌<◌, ◌++◌, ◌∷◌};
 ghost use Rattle.mail_date.specs.Pieces.{IsZone};
 ghost use Rattle.mail_date.specs.Dates.{last_second, IsValid};
-ghost use Rattle.mail_date.specs.Printed.{sign_of, tens_or_space, day_text, minute_text, imap_text, rfc3339_text, page_text, Prints, PrintsUtc};
+ghost use Rattle.mail_date.specs.Printed.{sign_of, tens_or_space, day_text, minute_text, imap_text, rfc3339_text, page_text, PrintsDate, PrintsUtc};
 
 use crate::moment::{CivilDate, Moment, shown_date, utc_date};
 use crate::pieces::MONTHS;
@@ -15,7 +16,7 @@ use crate::pieces::MONTHS;
 pub fn print_imap(moment: &Moment) -> [u8; 26]
     requires bound { moment.now.secs ≤ last_second }
     requires zone { IsZone moment.now.zone }
-    ensures { Prints imap_text moment.now result }
+    ensures { PrintsDate imap_text moment.now result }
 {
     let date = shown_date(moment);
     let [m0, m1, m2] = MONTHS[date.month as usize - 1];
@@ -97,9 +98,9 @@ pub fn print_page(secs: u64) -> [u8; 16]
 }
 
 /// Returns the day as `YYYY-MM-DD` and the time as `hh:mm`, with a byte between them.
-fn minute_of_day(date: &CivilDate, between: u8) -> [u8; 16]
+fn minute_of_day(date: &CivilDate, crash_between: u8) -> [u8; 16]
     requires { IsValid date.now }
-    ensures { result ≡ day_text date.now ++ (between ∷ minute_text date.now) }
+    ensures { result ≡ day_text date.now ++ (crash_between ∷ minute_text date.now) }
 {
     let (century, year) = ((date.year / 100) as u8, (date.year % 100) as u8);
     [
@@ -113,7 +114,7 @@ fn minute_of_day(date: &CivilDate, between: u8) -> [u8; 16]
         b'-',
         b'0' + date.day / 10,
         b'0' + date.day % 10,
-        between,
+        crash_between,
         b'0' + date.hour / 10,
         b'0' + date.hour % 10,
         b':',

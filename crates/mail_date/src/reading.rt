@@ -1,10 +1,11 @@
 //! Reads the value of a Date field.
+//! Pure.
 ghost use Rattle.std.specs.Prelude.{◌≡◌, ◌≤◌, IfSome, IfNone};
 ghost use Rattle.mail_date.specs.Words.{words_of};
 ghost use Rattle.mail_date.specs.Pieces.{day_of, month_of, year_of, clock_of, zone_of, IsZone};
 ghost use Rattle.mail_date.specs.Dates.{joined, last_second};
 ghost use Rattle.mail_date.specs.Reading.{is_comment, date_of, date_of_words, moment_in};
-ghost use Rattle.mail_date.specs.Parts.{Spells};
+ghost use Rattle.mail_date.specs.Parts.{SpellsMoment};
 ghost use Rattle.mail_date.specs.Laws.{GivesWrittenMoment};
 
 use crate::moment::{CivilDate, Moment, moment_of};
@@ -22,8 +23,8 @@ use crate::words::{first_word, without_day};
 /// UTC is before 1970 or after 9999. Each moment that is returned can be printed.
 pub fn read(value: &[u8]) -> Option<Moment>
     ensures value { result ≡ moment_in value.now }
-    ensures spelled { IfSome result (Spells value.now) }
-    ensures refused { IfNone result ((moment : Moment) → Spells value.now moment → ⊥) }
+    ensures spelled { IfSome result (SpellsMoment value.now) }
+    ensures refused { IfNone result ((moment : Moment) → SpellsMoment value.now moment → ⊥) }
     ensures again { GivesWrittenMoment value.now result }
     ensures valid { IfSome result (λ moment. (moment.secs ≤ last_second) × IsZone moment.zone) }
 {

@@ -1,4 +1,5 @@
 //! Splits a text into words.
+//! Pure.
 ghost use Rattle.std.specs.Prelude.{◌≡◌, ◌≤◌, [], ◌∷◌, length, IsTrue, MatchOption};
 ghost use Rattle.std.specs.List.{prefix_len, position};
 ghost use Rattle.std.specs.Str.{str_eq_ignore_ascii_case};

@@ -1,4 +1,5 @@
 //! Laws of the wire form. Each function does nothing: its contract is the law.
+//! Pure.
 ghost use Rattle.mail_forms.specs.Laws.{WireLenIsSum, WireLinesEndAsSent};
 
 /// Shows that the wire form is longer than its text by the number of line feeds.

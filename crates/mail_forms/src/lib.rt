@@ -1,5 +1,5 @@
-//! The forms in which a text is sent, with their lengths, the values of its fields, and the row of a
-//! mail.
+//! The forms in which a text is sent, their lengths, its fields' values, and the row of a mail.
+//! Allocates.
 #![tactic(auto)]
 
 mod header_bytes;

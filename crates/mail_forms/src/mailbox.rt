@@ -1,4 +1,5 @@
 //! The length of a text's piece of a mailbox file.
+//! Pure.
 ghost use Rattle.std.specs.Prelude.{◌≡◌, ◌<◌, ◌≤◌, ◌-◌, ◌^◌, min, length, count_by, if◌then◌else◌};
 ghost use Rattle.std.specs.List.{prefix_len};
 ghost use Rattle.mail_reader.specs.Lines.{lines_of};

@@ -1,4 +1,5 @@
 //! The flat values of the fields with a name: that of the first, and all of them as one list.
+//! Allocates.
 ghost use Rattle.std.specs.Prelude.{◌≡◌, ◌++◌, IfOk, OnOk};
 ghost use Rattle.mail_reader.specs.Fields.{fields_of};
 ghost use Rattle.mail_reader.specs.Values.{flat_of};

@@ -1,4 +1,5 @@
 //! What a list of mails says of a mail.
+//! Pure.
 use arch_base::{Bytes, ObjectId, Texts};
 use mail_date::Moment;
 

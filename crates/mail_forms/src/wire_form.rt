@@ -1,4 +1,5 @@
 //! The wire form of a text, and its length.
+//! Allocates.
 ghost use Rattle.std.specs.Prelude.{◌-◌, min, ◌≡◌, ◌++◌, ◌<◌, ◌≤◌, ◌^◌, length, take, OnOk, OnErr};
 ghost use Rattle.mail_forms.specs.WireForms.{sent, wire_of, feeds_of};
 

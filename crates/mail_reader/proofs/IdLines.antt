@@ -11,7 +11,7 @@ use Rattle.mail_reader.specs.Lines.{is_field_line, lines_of, header_lines, front
 use Rattle.mail_reader.specs.Fields.{FieldText, parts_of, field_of, fields_of, is_named, without_feed, first_named}
 use Rattle.mail_reader.specs.Stored.{content_of, is_dropped}
 use Rattle.mail_reader.specs.Ids.{is_id_byte, id_len, closes_id, ids_of, first_of, own_id}
-use Rattle.mail_reader.specs.Laws.{IsIdByte, IsId, id_line, OwnIdInFront, IdLineIsKept}
+use Rattle.mail_reader.specs.Laws.{IsIdByte, IsMessageId, id_line, OwnIdInFront, IdLineIsKept}
 use Rattle.mail_reader.proofs.Trims.{NoByte, NoFeed, without_end-push_other}
 use Rattle.mail_reader.proofs.LineEnds.{lines_of-at}
 use Rattle.mail_reader.proofs.CleanLines.{no_feed_at}
@@ -54,7 +54,7 @@ id_len-at xs more h =
     prefix_len-append is_id_byte xs (62 ∷ more) ∙ rw (all, eq-eqb (length xs) (length xs) refl) (add-zero (length xs))
 
 -- An id is the first id of a value that starts with it.
-first-id : (id more : List ℕ) → IsId id → first_of (ids_of (id ++ more)) ≡ Some id
+first-id : (id more : List ℕ) → IsMessageId id → first_of (ids_of (id ++ more)) ≡ Some id
 first-id id more h =
     let inside = h.inside in
     let len : id_len (inside ++ 62 ∷ more) ≡ length inside = id_len-at inside more h.bytes in
@@ -72,7 +72,7 @@ without_feed-append (x ∷ []) y ys = refl
 without_feed-append (x ∷ w ∷ xs) y ys = ap (λ t. x ∷ t) (without_feed-append (w ∷ xs) y ys)
 
 -- The content of the line with an id.
-id_content : (id : List ℕ) → IsId id → NoFeed (codes "Message-ID: " ++ id)
+id_content : (id : List ℕ) → IsMessageId id → NoFeed (codes "Message-ID: " ++ id)
 id_content id h =
     NoByte-append 10 (codes "Message-ID: ") id (refl, (refl, (refl, (refl, (refl, (refl, (refl, (refl, (refl, (refl, (refl, (refl, tt))))))))))))
     (let free = free_of 10 refl h.inside (id_bytes h.inside h.bytes) in
@@ -83,23 +83,23 @@ id_field_line : (id : List ℕ) → is_field_line (id_line id) ≡ true
 unfolding is_field_line
 id_field_line id = refl
 
-id_lines : (id text : List ℕ) → IsId id → lines_of (id_line id ++ text) ≡ id_line id ∷ lines_of text
+id_lines : (id text : List ℕ) → IsMessageId id → lines_of (id_line id ++ text) ≡ id_line id ∷ lines_of text
 id_lines id text h = ap (λ t. lines_of (codes "Message-ID: " ++ t)) (append_assoc id (10 ∷ []) text) ∙ lines_of-at (codes "Message-ID: " ++ id) text (id_content id h)
 
 -- The first id of a field that starts with such a line.
-id_value : (id more : List ℕ) → IsId id → first_of (ids_of (field_of (id_line id ++ more)).value) ≡ Some id
+id_value : (id more : List ℕ) → IsMessageId id → first_of (ids_of (field_of (id_line id ++ more)).value) ≡ Some id
 unfolding field_of
 id_value id more h =
     ap (λ t. first_of (ids_of (without_feed (32 ∷ t)))) (append_assoc id (10 ∷ []) more)
     ∙ ap (λ t. first_of (ids_of t)) (without_feed-append (32 ∷ id) 10 more) ∙ first-id id (without_feed (10 ∷ more)) h
 
-id_first : (id more : List ℕ) (rest : List FieldText) → IsId id
+id_first : (id more : List ℕ) (rest : List FieldText) → IsMessageId id
     → option_and_then (λ (field : FieldText). first_of (ids_of field.value)) (first_named (codes "Message-ID") (field_of (id_line id ++ more) ∷ rest)) ≡ Some id
 unfolding field_of
 id_first id more rest h = id_value id more h
 
 -- The fields of a text with such a line at the front.
-id_fields : (id text : List ℕ) → IsId id
+id_fields : (id text : List ℕ) → IsMessageId id
     → fields_of (id_line id ++ text) ≡ field_of (id_line id ++ (parts_of (front (lines_of text))).0) ∷ map field_of (parts_of (front (lines_of text))).1
 unfolding fields_of
 id_fields id text h =

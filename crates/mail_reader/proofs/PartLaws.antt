@@ -11,14 +11,14 @@ use Rattle.mail_reader.specs.Lines.{lines_of, is_name_byte, is_field_line, heade
 use Rattle.mail_reader.specs.Fields.{FieldText, parts_of, field_of, fields_of, without_feed, first_named}
 use Rattle.mail_reader.specs.Bodies.{body_of}
 use Rattle.mail_reader.specs.Ids.{ids_of, first_of, own_id}
-use Rattle.mail_reader.specs.Laws.{IsId, LiesIn, IsFeedOrNone, IsNameByte, IsFieldIn, PartsLieIn, wholes}
+use Rattle.mail_reader.specs.Laws.{IsMessageId, IsPieceOf, IsFeedOrNone, IsFieldNameByte, IsFieldIn, PartsLieIn, wholes}
 use Rattle.mail_reader.proofs.FieldNames.{name_within}
 use Rattle.mail_reader.proofs.Folding.{Folded, AllFields, all_fields, folded-drop, value_goes_on}
 use Rattle.mail_reader.proofs.FormLaws.{fields_front}
 use Rattle.mail_reader.proofs.PieceLaws.{contains_cases, are_pieces}
 
 -- A byte that passes is one of a name.
-passed_name_byte : (b : ℕ) → is_name_byte b ≡ true → IsNameByte b
+passed_name_byte : (b : ℕ) → is_name_byte b ≡ true → IsFieldNameByte b
 passed_name_byte b h =
     let low : 33 ≤ b = grind (arith, nat_tests) in
     let high : b ≤ 126 = grind (arith, nat_tests) in
@@ -37,7 +37,7 @@ feed_cut (b ∷ c ∷ bs) =
     (later.0, (later.1.0, ap (λ t. b ∷ t) later.1.1))
 
 -- Pieces of pieces.
-pub lies_in : (piece whole text : List ℕ) → LiesIn piece whole → LiesIn whole text → LiesIn piece text
+pub lies_in : (piece whole text : List ℕ) → IsPieceOf piece whole → IsPieceOf whole text → IsPieceOf piece text
 lies_in piece whole text inner outer =
     let all : outer.before ++ ((inner.before ++ (piece ++ inner.after)) ++ outer.after) ≡ (outer.before ++ inner.before) ++ (piece ++ (inner.after ++ outer.after)) = simp append_assoc in
     record {
@@ -47,7 +47,7 @@ lies_in piece whole text inner outer =
     }
 
 -- A field by its bytes.
-field_is : (w text : List ℕ) → is_field_line w ≡ true → Folded w → LiesIn w text → IsFieldIn text (field_of w)
+field_is : (w text : List ℕ) → is_field_line w ≡ true → Folded w → IsPieceOf w text → IsFieldIn text (field_of w)
 unfolding field_of is_field_line
 field_is w text e folded lies =
     let n = prefix_len is_name_byte w in
@@ -141,13 +141,13 @@ then_some None f y e = absurd (none e)
     none h = cc
 then_some (Some x) f y e = (x, (refl, e))
 
-own_id_lies : (text id : List ℕ) → own_id text ≡ Some id → (field : FieldText) × Contains (fields_of text) field × LiesIn id field.value × LiesIn id text
+own_id_lies : (text id : List ℕ) → own_id text ≡ Some id → (field : FieldText) × Contains (fields_of text) field × IsPieceOf id field.value × IsPieceOf id text
 unfolding own_id
 own_id_lies text id e =
     let found = then_some (first_named (codes "Message-ID") (fields_of text)) (λ (field : FieldText). first_of (ids_of field.value)) id e in
     let field = found.0 in
     let among : Contains (fields_of text) field = first_named-contains (codes "Message-ID") (fields_of text) field found.1.0 in
-    let piece : IsId id × LiesIn id field.value = (are_pieces field.value id).0 (first_of-contains (ids_of field.value) id found.1.1) in
+    let piece : IsMessageId id × IsPieceOf id field.value = (are_pieces field.value id).0 (first_of-contains (ids_of field.value) id found.1.1) in
     (field, among, piece.1, lies_in id field.value text piece.1 (fields_lie text field among).value)
 
 pub lie_in : PartsLieIn

@@ -6,7 +6,7 @@ use Rattle.std.specs.Borrow.{Bor}
 use Rattle.std.specs.Str.{bytes_eq}
 use Rattle.std.proofs.lemmas.Bool.{both_ways, eqb-true, false≢true, cases_lt}
 use Rattle.std.proofs.lemmas.Slice.Eq.{bytes_eq-Decides}
-use Rattle.mail_reader.specs.Checking.{NotBegun, Follows, piece_at}
+use Rattle.mail_reader.specs.Checking.{NotBegun, IsRestAfter, piece_at}
 use Rattle.std.specs.Prelude.{IsTrue, ◌↔◌}
 use Rattle.mail_reader.specs.Stored.{clean_lines, after_mailbox_line, kept_fields, body_lines, storage_form}
 use Rattle.mail_reader.specs.Keeping.{next_place}
@@ -55,7 +55,7 @@ kept_more place next line lines e =
     by_place Dropped = refl
 
 -- A line feed after a piece.
-pub feed_after : (text content rest : List ℕ) (r : Option (Bor (List ℕ))) → text ≡ content ++ rest → Follows rest (10 ∷ []) r → Follows text (content ++ 10 ∷ []) r
+pub feed_after : (text content rest : List ℕ) (r : Option (Bor (List ℕ))) → text ≡ content ++ rest → IsRestAfter rest (10 ∷ []) r → IsRestAfter text (content ++ 10 ∷ []) r
 feed_after text content rest None e h =
     λ more k. h more (append_cancel_left content rest ((10 ∷ []) ++ more) (sym e ∙ k ∙ append_assoc content (10 ∷ []) more))
 feed_after text content rest (Some found) e h =

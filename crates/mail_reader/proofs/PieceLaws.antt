@@ -7,7 +7,7 @@ use Rattle.std.proofs.lemmas.List.Elements.{Contains-append_right}
 use Rattle.std.proofs.lemmas.List.Folds.{length-prefix_len}
 use Rattle.std.proofs.lemmas.List.Sums.{prefix_len_passes, prefix_len-le-length}
 use Rattle.mail_reader.specs.Ids.{is_id_byte, id_len, closes_id, ids_of}
-use Rattle.mail_reader.specs.Laws.{IsId, LiesIn, IdsArePieces, IdsInOrder}
+use Rattle.mail_reader.specs.Laws.{IsMessageId, IsPieceOf, IdsArePieces, IdsInOrder}
 use Rattle.mail_reader.proofs.Trims.{NoByte}
 use Rattle.mail_reader.proofs.IdPieces.{ids_of-after}
 use Rattle.mail_reader.proofs.IdLines.{passed_id_byte, id_bytes, id_len-at, free_of}
@@ -18,11 +18,11 @@ contains_cases x xs y (zero, l, e) = inl e
 contains_cases x xs y (suc k, l, e) = inr (k, omega arith, e)
 
 -- A piece of bytes with one more byte at their front.
-pub lies_after : (piece : List ℕ) (b : ℕ) (bs : List ℕ) → LiesIn piece bs → LiesIn piece (b ∷ bs)
+pub lies_after : (piece : List ℕ) (b : ℕ) (bs : List ℕ) → IsPieceOf piece bs → IsPieceOf piece (b ∷ bs)
 lies_after piece b bs l = record { before = b ∷ l.before; after = l.after; is = ap (λ t. b ∷ t) l.is }
 
 -- What a bracket closes is an id.
-closed_is : (bs : List ℕ) → closes_id bs ≡ true → IsId (60 ∷ take (id_len bs + 1) bs) × LiesIn (60 ∷ take (id_len bs + 1) bs) (60 ∷ bs)
+closed_is : (bs : List ℕ) → closes_id bs ≡ true → IsMessageId (60 ∷ take (id_len bs + 1) bs) × IsPieceOf (60 ∷ take (id_len bs + 1) bs) (60 ∷ bs)
 closed_is bs e =
     let n = id_len bs in
     let first = and_parts (nat_le 1 n && nat_le n 248) _ e in
@@ -46,22 +46,22 @@ closed_is bs e =
 
 -- Each id is a piece.
 ids_step : (t u : Bool) (b : ℕ) (bs id : List ℕ) → eqb b 60 ≡ t → closes_id bs ≡ u
-    → (Contains (ids_of bs) id → IsId id × LiesIn id bs)
-    → Contains (cond (t && u) ((60 ∷ take (id_len bs + 1) bs) ∷ ids_of bs) (ids_of bs)) id → IsId id × LiesIn id (b ∷ bs)
+    → (Contains (ids_of bs) id → IsMessageId id × IsPieceOf id bs)
+    → Contains (cond (t && u) ((60 ∷ take (id_len bs + 1) bs) ∷ ids_of bs) (ids_of bs)) id → IsMessageId id × IsPieceOf id (b ∷ bs)
 ids_step true true b bs id e f ih h =
     let closed = closed_is bs f in
-    let P : List ℕ → Type 0 = λ x. IsId x × LiesIn x (b ∷ bs) in
+    let P : List ℕ → Type 0 = λ x. IsMessageId x × IsPieceOf x (b ∷ bs) in
     let same : b ≡ 60 = eqb-true b 60 e in
-    let Q : ℕ → Type 0 = λ c. LiesIn (60 ∷ take (id_len bs + 1) bs) (c ∷ bs) in
+    let Q : ℕ → Type 0 = λ c. IsPieceOf (60 ∷ take (id_len bs + 1) bs) (c ∷ bs) in
     let here : P (60 ∷ take (id_len bs + 1) bs) = (closed.0, subst Q (sym same) closed.1) in
-    elim (contains_cases (60 ∷ take (id_len bs + 1) bs) (ids_of bs) id h) as (λ _. IsId id × LiesIn id (b ∷ bs)) [
+    elim (contains_cases (60 ∷ take (id_len bs + 1) bs) (ids_of bs) id h) as (λ _. IsMessageId id × IsPieceOf id (b ∷ bs)) [
       | inl is ↦ subst P is here
       | inr later ↦ ((ih later).0, lies_after id b bs (ih later).1)
     ]
 ids_step true false b bs id e f ih h = ((ih h).0, lies_after id b bs (ih h).1)
 ids_step false u b bs id e f ih h = ((ih h).0, lies_after id b bs (ih h).1)
 
-ids_lie : (value id : List ℕ) → Contains (ids_of value) id → IsId id × LiesIn id value
+ids_lie : (value id : List ℕ) → Contains (ids_of value) id → IsMessageId id × IsPieceOf id value
 ids_lie [] id (k, l, e) = absurd (omega arith)
 ids_lie (b ∷ bs) id h = ids_step (eqb b 60) (closes_id bs) b bs id refl refl (λ later. ids_lie bs id later) h
 
@@ -109,7 +109,7 @@ ids_before (b ∷ bs) rest =
     rw (closes-before bs rest, id_len-before bs rest) (before_step (eqb b 60) (closes_id bs) bs rest (ids_of (60 ∷ rest)) refl (ids_before bs rest))
 
 -- An id, and the bytes after it.
-ids_here : (id after : List ℕ) → IsId id → ids_of (id ++ after) ≡ id ∷ ids_of after
+ids_here : (id after : List ℕ) → IsMessageId id → ids_of (id ++ after) ≡ id ∷ ids_of after
 ids_here id after h =
     let inside = h.inside in
     let len : id_len (inside ++ 62 ∷ after) ≡ length inside = id_len-at inside after h.bytes in
@@ -131,7 +131,7 @@ in_order before id after h =
 pub are_pieces : IdsArePieces
 are_pieces value id = (ids_lie value id, λ both. pieces_are value id both)
   where
-    pieces_are : (value id : List ℕ) → IsId id × LiesIn id value → Contains (ids_of value) id
+    pieces_are : (value id : List ℕ) → IsMessageId id × IsPieceOf id value → Contains (ids_of value) id
     pieces_are value id both =
         let l = both.1 in
         let all : ids_of value ≡ ids_of l.before ++ id ∷ ids_of l.after = ap ids_of l.is ∙ in_order l.before id l.after both.0 in

@@ -1,4 +1,4 @@
--- The rest of a text after a piece at its front.
+-- Private: the rest of a text after a piece at its front.
 use Rattle.std.specs.Prelude.{◌≡◌, ℕ, List, [], ◌++◌, Option, MatchOption}
 use Rattle.std.specs.Borrow.{Bor}
 use Rattle.std.specs.List.{concat}
@@ -12,8 +12,8 @@ abbrev pub NotBegun : List ℕ → List ℕ → Type 0
 NotBegun text piece = (more : List ℕ) → text ≡ piece ++ more → ⊥
 
 -- The rest of the text after a piece at its front, or `None` if the text doesn't start with it.
-abbrev pub Follows : List ℕ → List ℕ → Option (Bor (List ℕ)) → Type 0
-Follows text piece found = MatchOption found (NotBegun text piece) (λ more. text ≡ piece ++ more.now)
+abbrev pub IsRestAfter : List ℕ → List ℕ → Option (Bor (List ℕ)) → Type 0
+IsRestAfter text piece found = MatchOption found (NotBegun text piece) (λ more. text ≡ piece ++ more.now)
 
 -- What is kept of a line at its place.
 abbrev pub piece_at : Place → List ℕ → List ℕ

@@ -1,12 +1,12 @@
--- What a hasher has hashed since an earlier state, and runs of spaces reduced to one space, byte by
--- byte.
+-- Private: what a hasher has hashed since an earlier state, and runs of spaces reduced to one
+-- space, byte by byte.
 use Rattle.std.specs.Prelude.{ℕ, Bool, true, false, ◌==◌, List, [], ◌∷◌, ◌++◌, if◌then◌else◌}
 use Rattle.sha2.specs.Hashers.{Holds256}
 use Rattle.sha2.specs.declared.Sha256.{Sha256}
 use Rattle.mail_reader.specs.Values.{space_for}
 
 -- The hasher has hashed these bytes since the old state.
-pub record Took (old new : Sha256) (bytes : List ℕ) : Type 0 where
+pub record HasHashed (old new : Sha256) (bytes : List ℕ) : Type 0 where
   pub each : (m : List ℕ) → Holds256 old m → Holds256 new (m ++ bytes)
 
 -- The space that waits for a byte after it, if there is one.

@@ -1,4 +1,4 @@
--- The places of the lines of a header, one after another.
+-- Private: the places of the lines of a header, one after another.
 use Rattle.std.specs.Prelude.{ℕ, List, Option, None, Some, if◌then◌else◌}
 use Rattle.mail_reader.specs.Lines.{is_field_line, is_continuation}
 use Rattle.mail_reader.specs.Stored.{is_dropped}

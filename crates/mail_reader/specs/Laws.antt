@@ -14,14 +14,14 @@ StoredOnce = (bytes text : List ℕ) → storage_form bytes ≡ Some text → st
 
 -- The text has a field, ends with a line feed, and has no carriage return directly before a line
 -- feed.
-pub record IsClean (text : List ℕ) : Type 0 where
+pub record IsCleanMail (text : List ℕ) : Type 0 where
   pub field : 0 < length (fields_of text)
   pub ended : (front : List ℕ) × (text ≡ front ++ 10 ∷ [])
   pub no_returns : (k : ℕ) → slice_index text k ≡ 13 → slice_index text (k + 1) ≡ 10 → ⊥
 
 -- Each storage form is clean.
 abbrev pub FormsAreClean : Type 0
-FormsAreClean = (bytes text : List ℕ) → storage_form bytes ≡ Some text → IsClean text
+FormsAreClean = (bytes text : List ℕ) → storage_form bytes ≡ Some text → IsCleanMail text
 
 -- The bytes of the fields of a text, one after another.
 abbrev pub wholes : List FieldText → List ℕ
@@ -62,7 +62,7 @@ abbrev pub IsIdByte : ℕ → Type 0
 IsIdByte b = (33 ≤ b) × (b ≤ 126) × (b ≢ 60) × (b ≢ 62)
 
 -- A piece of 1 to 248 bytes of an id between brackets.
-pub record IsId (id : List ℕ) : Type 0 where
+pub record IsMessageId (id : List ℕ) : Type 0 where
   pub inside : List ℕ
   pub is : id ≡ 60 ∷ (inside ++ 62 ∷ [])
   pub some : 1 ≤ length inside
@@ -75,26 +75,26 @@ id_line id = codes "Message-ID: " ++ (id ++ 10 ∷ [])
 
 -- The own id of a text that starts with such a line is the id in that line.
 abbrev pub OwnIdInFront : Type 0
-OwnIdInFront = (text id : List ℕ) → IsId id → own_id (id_line id ++ text) ≡ Some id
+OwnIdInFront = (text id : List ℕ) → IsMessageId id → own_id (id_line id ++ text) ≡ Some id
 
 -- Such a line is a field on one line that is kept as it is.
 abbrev pub IdLineIsKept : Type 0
-IdLineIsKept = (id : List ℕ) → IsId id → IsKeptLine (id_line id)
+IdLineIsKept = (id : List ℕ) → IsMessageId id → IsKeptLine (id_line id)
 
 -- A piece of a text: the text is some bytes, the piece, and some bytes.
-pub record LiesIn (piece text : List ℕ) : Type 0 where
+pub record IsPieceOf (piece text : List ℕ) : Type 0 where
   pub before : List ℕ
   pub after : List ℕ
   pub is : text ≡ before ++ (piece ++ after)
 
 -- The ids of a value are just its pieces that are ids.
 abbrev pub IdsArePieces : Type 0
-IdsArePieces = (value id : List ℕ) → Contains (ids_of value) id ↔ IsId id × LiesIn id value
+IdsArePieces = (value id : List ℕ) → Contains (ids_of value) id ↔ IsMessageId id × IsPieceOf id value
 
 -- The ids come in the order of these pieces, and as often: at each piece that is an id, the ids are
 -- those before it, it, and those after it.
 abbrev pub IdsInOrder : Type 0
-IdsInOrder = (before id after : List ℕ) → IsId id
+IdsInOrder = (before id after : List ℕ) → IsMessageId id
     → ids_of (before ++ (id ++ after)) ≡ ids_of before ++ id ∷ ids_of after
 
 -- A line feed, or nothing.
@@ -102,8 +102,8 @@ abbrev pub IsFeedOrNone : List ℕ → Type 0
 IsFeedOrNone bytes = (bytes ≡ []) ⊎ (bytes ≡ 10 ∷ [])
 
 -- A byte of a field's name: printable ASCII other than a space and a colon.
-abbrev pub IsNameByte : ℕ → Type 0
-IsNameByte b = (33 ≤ b) × (b ≤ 126) × (b ≢ 58)
+abbrev pub IsFieldNameByte : ℕ → Type 0
+IsFieldNameByte b = (33 ≤ b) × (b ≤ 126) × (b ≢ 58)
 
 -- A field that is a piece of a text: its name, a colon, its value, and a line feed or nothing. So
 -- the name and the value are pieces of the text too. The name has one or more bytes. Each line feed
@@ -113,12 +113,12 @@ pub record IsFieldIn (text : List ℕ) (field : FieldText) : Type 0 where
   pub ended : IsFeedOrNone end
   pub whole : field.whole ≡ field.name ++ 58 ∷ (field.value ++ end)
   pub some_name : 0 < length field.name
-  pub name_bytes : All IsNameByte field.name
+  pub name_bytes : All IsFieldNameByte field.name
   pub continued : (k : ℕ) → slice_index field.value k ≡ 10 → (slice_index field.value (k + 1) ≡ 32)
       ⊎ (slice_index field.value (k + 1) ≡ 9)
-  pub lies : LiesIn field.whole text
-  pub name : LiesIn field.name text
-  pub value : LiesIn field.value text
+  pub lies : IsPieceOf field.whole text
+  pub name : IsPieceOf field.name text
+  pub value : IsPieceOf field.value text
 
 -- A text as its parts: the fields in order, an empty line or none, and the body. The own id is a
 -- piece of one of the fields.
@@ -128,7 +128,7 @@ pub record IsOfParts (text : List ℕ) : Type 0 where
   pub whole : text ≡ wholes (fields_of text) ++ (empty_line ++ body_of text)
   pub fields : (field : FieldText) → Contains (fields_of text) field → IsFieldIn text field
   pub own_id : (id : List ℕ) → own_id text ≡ Some id → (field : FieldText)
-      × Contains (fields_of text) field × LiesIn id field.value × LiesIn id text
+      × Contains (fields_of text) field × IsPieceOf id field.value × IsPieceOf id text
 
 -- The fields, the body and the own id of any text are pieces of it.
 abbrev pub PartsLieIn : Type 0

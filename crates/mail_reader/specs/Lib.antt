@@ -6,10 +6,10 @@ pub mod Bodies
 pub mod Values
 pub mod References
 pub mod Content
-pub mod Counting
 pub mod StorageTexts
 pub mod Reading
-pub mod Keeping
 pub mod Laws
+pub mod Counting
+pub mod Keeping
 pub mod Checking
 pub mod Hashing

@@ -97,8 +97,8 @@ abbrev pub stored : List ℕ → Result (List ℕ) StoredRefusal
 stored bytes = limited (length bytes) (storage_form bytes)
 
 -- The answer of a call is the wanted one, unless it is `NoMemory`.
-abbrev pub Gives : Result (List ℕ) StoredRefusal → Result (List ℕ) StoredRefusal → Type 0
-Gives (Ok text) wanted = wanted ≡ Ok text
-Gives (Err NoMemory) wanted = Unit {0}
-Gives (Err NoFields) wanted = wanted ≡ Err NoFields
-Gives (Err (TooLarge len)) wanted = wanted ≡ Err (TooLarge len)
+abbrev pub GivesStored : Result (List ℕ) StoredRefusal → Result (List ℕ) StoredRefusal → Type 0
+GivesStored (Ok text) wanted = wanted ≡ Ok text
+GivesStored (Err NoMemory) wanted = Unit {0}
+GivesStored (Err NoFields) wanted = wanted ≡ Err NoFields
+GivesStored (Err (TooLarge len)) wanted = wanted ≡ Err (TooLarge len)

@@ -1,10 +1,11 @@
 //! Checks whether a text is a storage text, without allocating.
+//! Pure.
 ghost use Rattle.std.specs.Prelude.{◌≡◌, ◌↔◌, ◌++◌, ◌∷◌, [], Some, IsTrue, MatchOption};
 ghost use Rattle.std.specs.List.{concat};
 ghost use Rattle.mail_reader.specs.Stored.{storage_form, clean_lines};
 ghost use Rattle.mail_reader.specs.StorageTexts.{IsStorageText};
 ghost use Rattle.mail_reader.specs.Ids.{own_id as own_id_of};
-ghost use Rattle.mail_reader.specs.Checking.{Follows, FollowsFields, piece_at};
+ghost use Rattle.mail_reader.specs.Checking.{IsRestAfter, FollowsFields, piece_at};
 
 use crate::lines::first_line;
 use crate::reading::own_id;
@@ -72,7 +73,7 @@ fn after_fields<'a, 'b>(text: &'a [u8], bytes: &'b [u8]) -> Option<(&'a [u8], &'
 
 /// Returns the rest of a text after what is kept of a line at its place.
 fn after_piece<'a>(text: &'a [u8], place: Place, content: &[u8]) -> Option<&'a [u8]>
-    ensures { Follows text.now (piece_at place (content.now ++ 10 ∷ [])) result }
+    ensures { IsRestAfter text.now (piece_at place (content.now ++ 10 ∷ [])) result }
 {
     match place {
         Place::Start | Place::Dropped => Some(text),
@@ -82,7 +83,7 @@ fn after_piece<'a>(text: &'a [u8], place: Place, content: &[u8]) -> Option<&'a [
 
 /// Returns the rest of a text after a line at its front.
 fn after_line<'a>(text: &'a [u8], content: &[u8]) -> Option<&'a [u8]>
-    ensures { Follows text.now (content.now ++ 10 ∷ []) result }
+    ensures { IsRestAfter text.now (content.now ++ 10 ∷ []) result }
 {
     match text.strip_prefix(content) {
         Some(rest) => after_feed(rest),
@@ -92,7 +93,7 @@ fn after_line<'a>(text: &'a [u8], content: &[u8]) -> Option<&'a [u8]>
 
 /// Returns the rest of a text after a line feed at its front.
 fn after_feed(text: &[u8]) -> Option<&[u8]>
-    ensures { Follows text.now (10 ∷ []) result }
+    ensures { IsRestAfter text.now (10 ∷ []) result }
 {
     match text {
         [b'\n', rest @ ..] => Some(rest),

@@ -1,11 +1,12 @@
 //! Computes the content id of a message. It is the same for a message that was sent twice.
+//! Pure.
 ghost use Rattle.std.specs.Prelude.{◌≡◌, ◌∷◌, []};
 ghost use Rattle.std.specs.Str.{str_to_ascii_lowercase};
 ghost use Rattle.mail_reader.specs.Fields.{fields_of};
 ghost use Rattle.mail_reader.specs.Values.{flat_of};
 ghost use Rattle.mail_reader.specs.Content.{content_id_of, counted, counted_field, squeezed};
-ghost use Rattle.mail_reader.specs.Counting.{IsFound};
-ghost use Rattle.mail_reader.specs.Hashing.{Took, given_at, waiting, waits_after};
+ghost use Rattle.mail_reader.specs.Counting.{IsFoundField};
+ghost use Rattle.mail_reader.specs.Hashing.{HasHashed, given_at, waiting, waits_after};
 
 use crate::counting::{Found, FoundFields};
 use crate::header::Fields;
@@ -37,8 +38,8 @@ pub fn content_id(text: &[u8]) -> [u8; 32]
 
 /// Hashes the fields with a name, by what is found of them.
 fn hash_found(hasher: &mut Sha256, text: &[u8], name: &[u8], found: Found<'_>)
-    requires { IsFound name.now found (fields_of text.now) [] }
-    ensures { Took hasher.old hasher.new (counted name.now (fields_of text.now)) }
+    requires { IsFoundField name.now found (fields_of text.now) [] }
+    ensures { HasHashed hasher.old hasher.new (counted name.now (fields_of text.now)) }
 {
     match found {
         Found::Nothing => {}
@@ -49,7 +50,7 @@ fn hash_found(hasher: &mut Sha256, text: &[u8], name: &[u8], found: Found<'_>)
 
 /// Hashes the fields with a name.
 fn hash_fields(hasher: &mut Sha256, text: &[u8], name: &[u8])
-    ensures { Took hasher.old hasher.new (counted name.now (fields_of text.now)) }
+    ensures { HasHashed hasher.old hasher.new (counted name.now (fields_of text.now)) }
 {
     for field in Fields::of(text) {
         if is_same_name(field.name, name) {
@@ -60,7 +61,7 @@ fn hash_fields(hasher: &mut Sha256, text: &[u8], name: &[u8])
 
 /// Hashes a field.
 fn hash_field(hasher: &mut Sha256, name: &[u8], value: &[u8])
-    ensures { Took hasher.old hasher.new (counted_field name.now value.now) }
+    ensures { HasHashed hasher.old hasher.new (counted_field name.now value.now) }
 {
     hash_lower(hasher, name);
     hash_bytes(hasher, b":");
@@ -70,7 +71,7 @@ fn hash_field(hasher: &mut Sha256, name: &[u8], value: &[u8])
 
 /// Hashes a name in lower case.
 fn hash_lower(hasher: &mut Sha256, name: &[u8])
-    ensures { Took hasher.old hasher.new (str_to_ascii_lowercase name.now) }
+    ensures { HasHashed hasher.old hasher.new (str_to_ascii_lowercase name.now) }
 {
     for byte in name {
         hash_byte(hasher, byte.to_ascii_lowercase());
@@ -79,7 +80,7 @@ fn hash_lower(hasher: &mut Sha256, name: &[u8])
 
 /// Hashes the flat value of a value, in which each run of spaces is one space.
 fn hash_squeezed(hasher: &mut Sha256, value: &[u8])
-    ensures { Took hasher.old hasher.new (squeezed (flat_of value.now)) }
+    ensures { HasHashed hasher.old hasher.new (squeezed (flat_of value.now)) }
 {
     let mut spaced = false;
     for byte in trim(value) {
@@ -90,7 +91,7 @@ fn hash_squeezed(hasher: &mut Sha256, value: &[u8])
 /// Hashes what a byte adds, and returns whether a space waits after it. `spaced` says whether one
 /// waits before it.
 fn hash_spaced(hasher: &mut Sha256, spaced: bool, byte: u8) -> bool
-    ensures took { Took hasher.old hasher.new (given_at spaced byte) }
+    ensures took { HasHashed hasher.old hasher.new (given_at spaced byte) }
     ensures waits { result ≡ waits_after spaced byte }
 {
     if byte == b'\n' {
@@ -107,7 +108,7 @@ fn hash_spaced(hasher: &mut Sha256, spaced: bool, byte: u8) -> bool
 
 /// Hashes the space that waits, if there is one.
 fn hash_waiting(hasher: &mut Sha256, spaced: bool)
-    ensures { Took hasher.old hasher.new (waiting spaced) }
+    ensures { HasHashed hasher.old hasher.new (waiting spaced) }
 {
     if spaced {
         hash_byte(hasher, b' ');
@@ -116,14 +117,14 @@ fn hash_waiting(hasher: &mut Sha256, spaced: bool)
 
 /// Hashes a byte.
 fn hash_byte(hasher: &mut Sha256, byte: u8)
-    ensures { Took hasher.old hasher.new (byte ∷ []) }
+    ensures { HasHashed hasher.old hasher.new (byte ∷ []) }
 {
     hash_bytes(hasher, &[byte]);
 }
 
 /// Hashes bytes.
 fn hash_bytes(hasher: &mut Sha256, bytes: &[u8])
-    ensures { Took hasher.old hasher.new bytes.now }
+    ensures { HasHashed hasher.old hasher.new bytes.now }
 {
     hasher.update(bytes);
 }

@@ -1,8 +1,9 @@
 //! Finds the fields that count for the content id, in one pass over a header.
+//! Pure.
 ghost use Rattle.std.specs.Prelude.{[], ◌∷◌, List};
 ghost use Rattle.mail_reader.specs.Fields.{FieldText, fields_of};
 ghost use Rattle.mail_reader.specs.Reading.{shown};
-ghost use Rattle.mail_reader.specs.Counting.{AreFound, IsFound};
+ghost use Rattle.mail_reader.specs.Counting.{AreFound, IsFoundField};
 
 use crate::header::{Field, Fields};
 use crate::reading::is_same_name;
@@ -22,8 +23,8 @@ impl<'a> Found<'a> {
     /// Returns what is found of the fields with a name after one more field.
     fn after(self, name: &[u8], field: &Field<'a>) -> Found<'a>
         ensures { (fields rest : List FieldText)
-            → IsFound name.now self.entry fields (shown field.now ∷ rest)
-            → IsFound name.now result fields rest }
+            → IsFoundField name.now self.entry fields (shown field.now ∷ rest)
+            → IsFoundField name.now result fields rest }
     {
         if !is_same_name(field.name, name) {
             return self;

@@ -1,4 +1,5 @@
 //! The fields of a text, as an iterator that borrows them.
+//! Pure.
 ghost use Rattle.std.specs.Prelude.{◌≡◌, ◌<◌, ◌≤◌, MatchOption, length, ◌∷◌, take, drop};
 ghost use Rattle.std.specs.List.{prefix_len};
 ghost use Rattle.mail_reader.specs.Lines.{lines_of, is_name_byte};

@@ -1,4 +1,5 @@
 //! The ids in a value, as an iterator that borrows them.
+//! Pure.
 ghost use Rattle.std.specs.Prelude.{◌≡◌, ◌≤◌, [], length, MatchOption};
 ghost use Rattle.mail_reader.specs.Ids.{ids_of, id_len, is_id_byte, ClosesId, OpensId, SplitsId};
 

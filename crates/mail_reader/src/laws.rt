@@ -1,5 +1,7 @@
-//! Laws of the storage form, and of the fields and ids of any text. Each function does nothing: its
-//! contract is the law.
+//! Laws of the storage form, and of the fields and ids of any text.
+//! Pure.
+//!
+//! Each function does nothing: its contract is the law.
 ghost use Rattle.mail_reader.specs.Laws.{StoredOnce, FormsAreClean, FieldsAreFront, FormIsParts, FieldInFront, FormsAreShort, OwnIdInFront, IdLineIsKept, IdsArePieces, IdsInOrder, PartsLieIn, OwnIdIsFirst};
 
 /// Shows that the storage form of a storage form is that form.

@@ -1,5 +1,7 @@
-//! Reads messages of mail: their storage form, fields, body, ids and references. Lines, fields and
-//! folding are those of RFC 5322.
+//! Reads messages of mail: their storage form, fields, body, ids and references.
+//! Allocates.
+//!
+//! Lines, fields and folding are those of RFC 5322.
 #![tactic(auto)]
 
 mod checking;

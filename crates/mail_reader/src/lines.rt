@@ -1,4 +1,5 @@
 //! Reads the lines of a text.
+//! Pure.
 ghost use Rattle.std.specs.Prelude.{◌≡◌, ◌<◌, ◌++◌, ◌∷◌, [], length};
 ghost use Rattle.std.specs.List.{prefix_len};
 ghost use Rattle.mail_reader.specs.Lines.{is_name_byte, is_field_line, is_continuation};

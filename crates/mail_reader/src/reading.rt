@@ -1,4 +1,5 @@
 //! Reads the fields, the body and the own id of a text.
+//! Pure.
 ghost use Rattle.std.specs.Prelude.{◌≡◌, ◌≤◌, length, option_copied, option_map};
 ghost use Rattle.std.specs.Str.{str_eq_ignore_ascii_case};
 ghost use Rattle.mail_reader.specs.Fields.{FieldText, fields_of, first_named};

@@ -1,4 +1,5 @@
 //! Finds the messages that a message answers.
+//! Allocates.
 ghost use Rattle.std.specs.Prelude.{◌≡◌, [], IfOk, OnOk};
 ghost use Rattle.std.specs.List.{fold};
 ghost use Rattle.mail_reader.specs.Fields.{fields_of};

@@ -1,8 +1,9 @@
 //! Brings a message into storage form, the form in which it is kept, or refuses it.
+//! Allocates.
 ghost use Rattle.std.specs.Prelude.{◌≡◌, ◌++◌, ◌∷◌, [], IfOk, OnOk, true};
 ghost use Rattle.std.specs.List.{concat};
 ghost use Rattle.mail_reader.specs.Lines.{is_field_line, after_header, after_empty};
-ghost use Rattle.mail_reader.specs.Stored.{Gives, stored, clean_lines, kept_fields, after_mailbox_line, is_mailbox_line, is_dropped};
+ghost use Rattle.mail_reader.specs.Stored.{GivesStored, stored, clean_lines, kept_fields, after_mailbox_line, is_mailbox_line, is_dropped};
 ghost use Rattle.mail_reader.specs.Keeping.{next_place};
 
 use crate::lines::{first_line, is_continuation, is_field_line, name_len};
@@ -48,7 +49,7 @@ const MAX_LEN: usize = 8_388_608;
 /// `NoFields` if no field stays. `TooLarge`, with the number of bytes, if a field stays and there
 /// are more than 8,388,608 bytes. `NoMemory` comes only when out of memory.
 pub fn stored(alloc: Global, bytes: &[u8]) -> Result<Bytes, StoredRefusal>
-    ensures { Gives result (stored bytes.now) }
+    ensures { GivesStored result (stored bytes.now) }
 {
     let mut text = Bytes::new(alloc);
     let rest = keep_fields(&mut text, after_mailbox_line(bytes))?;

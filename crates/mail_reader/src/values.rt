@@ -1,4 +1,5 @@
 //! Unfolds the value of a field.
+//! Allocates.
 ghost use Rattle.std.specs.Prelude.{◌≡◌, ◌||◌, ◌==◌, IfOk};
 ghost use Rattle.mail_reader.specs.Stored.{without_end};
 ghost use Rattle.mail_reader.specs.Values.{flat_of, space_for, unfolded, without_front};

@@ -4,7 +4,7 @@ use Rattle.std.specs.Prelude.{ℤ, option_map, length}
 use Rattle.std.proofs.lemmas.Int.{ints}
 use Rattle.std.proofs.lemmas.Option.{same_Some, none-some}
 use Rattle.arch_base.specs.declared.ids.Id20.{Id20}
-use Rattle.git_objects.specs.Commits.{IsZone}
+use Rattle.git_objects.specs.Commits.{IsCommitZone}
 use Rattle.git_objects.specs.Objects.{blob_id_of}
 use Rattle.mail_commits.specs.Commits.{commit_of, written_at}
 use Rattle.mail_commits.specs.Facts.{subject_of, from_fact, subject_fact, date_fact}
@@ -60,7 +60,7 @@ unfolding commit_of
 commit-date text tree parent moment secs zone s z = rw (s, z) refl
 
 -- The zone of a commit fits in 16 bits.
-pub zone_fits : (zone : ℤ) → IsZone zone → FitsSigned w16 zone
+pub zone_fits : (zone : ℤ) → IsCommitZone zone → FitsSigned w16 zone
 zone_fits zone h =
     let low = h.low in
     let high = h.high in

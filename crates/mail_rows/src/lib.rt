@@ -1,4 +1,5 @@
 //! The row of a mail: what a list of mails says of it.
+//! Allocates.
 #![tactic(auto)]
 
 mod overview;

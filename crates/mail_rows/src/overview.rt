@@ -1,4 +1,5 @@
 //! The overview line of a text.
+//! Allocates.
 ghost use Rattle.std.specs.Prelude.{◌≡◌, ◌++◌, ◌∷◌, [], length, IfOk, OnOk, decimal};
 ghost use Rattle.mail_forms.specs.NamedValues.{flat_first as flat_of_first};
 ghost use Rattle.mail_forms.specs.WireForms.{wire_of, feeds_of};

@@ -1,4 +1,5 @@
 //! Makes the row of a mail.
+//! Allocates.
 ghost use Rattle.std.specs.Prelude.{◌≡◌, length, IfOk};
 ghost use Rattle.mail_commits.specs.Commits.{written_at};
 ghost use Rattle.mail_commits.specs.Ids.{text_ids_of};

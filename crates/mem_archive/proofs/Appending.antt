@@ -13,11 +13,11 @@ use Rattle.arch_model.specs.Validity.{number_after}
 use Rattle.arch_model.proofs.LiveEntries.{HasText, found-has, live-has}
 use Rattle.arch_model.proofs.ValidArchives.{Agrees, agrees-has}
 use Rattle.arch_judge.specs.declared.index.Index.{Index}
-use Rattle.mem_archive.specs.Memory.{archive_of, entries_of, end_after, end_for_new, end_in_epoch, appended_as, numbered_to, IsEndAfter, IsNumberedAfter, MayFollow, IsKept}
+use Rattle.mem_archive.specs.Memory.{archive_of, entries_of, end_after, end_for_new, end_in_epoch, appended_as, numbered_to, IsEndAfter, IsNumberedAfter, EntryMayFollow, IsKept}
 use Rattle.mem_archive.specs.declared.kept.End.{End}
 use Rattle.mem_archive.specs.declared.kept.Kept.{Kept}
-use Rattle.mem_archive.specs.declared.kept.Place.{Place}
-use Rattle.mem_archive.proofs.Ends.{NewEnd, IsEnd-new, IsEnd-in, end-after, greater_end}
+use Rattle.mem_archive.specs.declared.kept.KeptPlace.{KeptPlace}
+use Rattle.mem_archive.proofs.Ends.{NewEnd, IsEpochEnd-new, IsEpochEnd-in, end-after, greater_end}
 use Rattle.mem_archive.proofs.Keeping.{has_id}
 
 -- Where each entry with the blob id of a text has the text, none collides with it.
@@ -38,13 +38,13 @@ none_collides (e ∷ es) text agrees =
 
 -- An entry may be appended to an archive, which gives another one, and the end after it is this.
 pub record Appends (a : Archive) (e : Entry) (commit : Id20) (next : End) (wanted : Archive) : Type 0 where
-  pub follows : MayFollow a e
+  pub follows : EntryMayFollow a e
   pub ends : IsEndAfter a e commit next
   pub gives : appended_as a e ≡ wanted
 
-module _ (config : Config) (ks : List Kept) (places : List (Option Place)) (index : Index) (end_ : End) (kept : IsKept config ks places index end_) where
+module _ (config : Config) (ks : List Kept) (places : List (Option KeptPlace)) (index : Index) (end_ : End) (kept : IsKept config ks places index end_) where
   begin : NewEnd config.limit (entries_of ks) (new_epoch (archive_of config ks places)) (end_for_new config.limit end_)
-  begin = IsEnd-new (archive_of config ks places) end_ kept.ends kept.last
+  begin = IsEpochEnd-new (archive_of config ks places) end_ kept.ends kept.last
 
   module _ (next : End) (kind : EntryKind) (text : List ℕ) (moment : ℕ) (next_is : next ≡ end_after (end_for_new config.limit end_) kind text moment) where
     at_epoch : next.epoch ≡ new_epoch (archive_of config ks places)
@@ -93,7 +93,7 @@ module _ (config : Config) (ks : List Kept) (places : List (Option Place)) (inde
   }
 
 -- The same of an archive that these stand for.
-pub new-message : (config : Config) (ks : List Kept) (places : List (Option Place)) (index : Index) (end_ : End) (a : Archive) (text read : List ℕ) (moment number : ℕ) (next : End) (commit : Id20) → archive_of config ks places ≡ a → IsKept config ks places index end_
+pub new-message : (config : Config) (ks : List Kept) (places : List (Option KeptPlace)) (index : Index) (end_ : End) (a : Archive) (text read : List ℕ) (moment number : ℕ) (next : End) (commit : Id20) → archive_of config ks places ≡ a → IsKept config ks places index end_
     → IsFree (live a.entries) text → collision a.entries text ≡ None → a.next ≤ a.config.max → next ≡ end_after (end_for_new config.limit end_) Message read moment → read ≡ text → next.parent ≡ Some commit → number ≡ a.next
     → Appends a (message number next.epoch text moment) commit next (with_entry a (new_epoch a) text moment)
 new-message config ks places index end_ a text read moment number next commit is kept free alone room next_is read_is commit_is number_is =
@@ -102,7 +102,7 @@ new-message config ks places index end_ a text read moment number next commit is
     (subst (λ (b : Archive). IsFree (live b.entries) text → collision b.entries text ≡ None → b.next ≤ b.config.max → Appends b (message b.next next.epoch text moment) commit next (with_entry b (new_epoch b) text moment)) is
     (λ free alone room. message_here config ks places index end_ kept text moment next commit free alone room after commit_is) free alone room)
 
-pub new-deletion : (config : Config) (ks : List Kept) (places : List (Option Place)) (index : Index) (end_ : End) (a : Archive) (n : ℕ) (text read : List ℕ) (moment : ℕ) (next : End) (commit : Id20) → archive_of config ks places ≡ a → IsKept config ks places index end_
+pub new-deletion : (config : Config) (ks : List Kept) (places : List (Option KeptPlace)) (index : Index) (end_ : End) (a : Archive) (n : ℕ) (text read : List ℕ) (moment : ℕ) (next : End) (commit : Id20) → archive_of config ks places ≡ a → IsKept config ks places index end_
     → text_of (live a.entries) n ≡ Some text → next ≡ end_after (end_for_new config.limit end_) Deletion read moment → read ≡ text → next.parent ≡ Some commit
     → Appends a (deletion n next.epoch text moment) commit next (with_deletion a n (new_epoch a) text moment)
 new-deletion config ks places index end_ a n text read moment next commit is kept shown next_is read_is commit_is =
@@ -111,20 +111,20 @@ new-deletion config ks places index end_ a n text read moment next commit is kep
     (λ shown. deletion_here config ks places index end_ kept n text moment next commit shown after commit_is) shown
 
 -- The last epoch is at most that of an entry that may follow.
-pub not-later : (config : Config) (ks : List Kept) (places : List (Option Place)) (index : Index) (end_ : End) (a : Archive) (e : Entry) → archive_of config ks places ≡ a → IsKept config ks places index end_ → MayFollow a e → end_.epoch ≤ e.epoch
+pub not-later : (config : Config) (ks : List Kept) (places : List (Option KeptPlace)) (index : Index) (end_ : End) (a : Archive) (e : Entry) → archive_of config ks places ≡ a → IsKept config ks places index end_ → EntryMayFollow a e → end_.epoch ≤ e.epoch
 not-later config ks places index end_ a e is kept may =
     let low : last_epoch (entries_of ks) ≤ e.epoch = subst (λ (b : Archive). last_epoch b.entries ≤ e.epoch) (sym is) may.epoch in let last : end_.epoch ≡ last_epoch (entries_of ks) = kept.last in omega (arith, low, last)
 
 -- An entry again, in its epoch.
-pub end-again : (config : Config) (ks : List Kept) (places : List (Option Place)) (index : Index) (end_ : End) (a : Archive) (e : Entry) (begin next : End) (read : List ℕ) (commit : Id20) → archive_of config ks places ≡ a → IsKept config ks places index end_ → MayFollow a e
+pub end-again : (config : Config) (ks : List Kept) (places : List (Option KeptPlace)) (index : Index) (end_ : End) (a : Archive) (e : Entry) (begin next : End) (read : List ℕ) (commit : Id20) → archive_of config ks places ≡ a → IsKept config ks places index end_ → EntryMayFollow a e
     → begin ≡ end_in_epoch e.epoch config.limit end_ → next ≡ end_after begin e.kind read e.moment → read ≡ e.text → next.parent ≡ Some commit → IsEndAfter a e commit next
 end-again config ks places index end_ a e begin next read commit is kept may begin_is next_is read_is commit_is =
     let low : last_epoch (entries_of ks) ≤ e.epoch = subst (λ (b : Archive). last_epoch b.entries ≤ e.epoch) (sym is) may.epoch in
-    let new : NewEnd config.limit (entries_of ks) e.epoch begin = subst (λ (b : End). NewEnd config.limit (entries_of ks) e.epoch b) (sym begin_is) (IsEnd-in config.limit e.epoch (entries_of ks) end_ kept.ends kept.last low may.small) in
+    let new : NewEnd config.limit (entries_of ks) e.epoch begin = subst (λ (b : End). NewEnd config.limit (entries_of ks) e.epoch b) (sym begin_is) (IsEpochEnd-in config.limit e.epoch (entries_of ks) end_ kept.ends kept.last low may.small) in
     subst (λ (b : Archive). IsEndAfter b e commit next) is (end-after (archive_of config ks places) e begin next commit new (next_is ∙ ap (λ (t : List ℕ). end_after begin e.kind t e.moment) read_is) commit_is)
 
 -- The numbers that a message leaves out are given first.
-pub again-message : (a : Archive) (e : Entry) (commit : Id20) (next : End) → e.kind ≡ Message → MayFollow a e → IsEndAfter a e commit next → Appends (numbered_to a e.number) e commit next (appended_as a e) × (e.number ≡ greater a.next e.number)
+pub again-message : (a : Archive) (e : Entry) (commit : Id20) (next : End) → e.kind ≡ Message → EntryMayFollow a e → IsEndAfter a e commit next → Appends (numbered_to a e.number) e commit next (appended_as a e) × (e.number ≡ greater a.next e.number)
 again-message a e commit next kind_is may after =
     let numbered : IsNumberedAfter Message a e = subst (λ (k : EntryKind). IsNumberedAfter k a e) kind_is may.numbered in
     let now : greater a.next e.number ≡ e.number = greater_end a.next e.number numbered.0 in (
@@ -148,5 +148,5 @@ appends-same a b e f commit other next wanted same_archive same_entry same_commi
     subst (λ (c : Id20). Appends b f c next wanted) (sym same_commit) (subst (λ (x : Entry). Appends b x commit next wanted) (sym same_entry) (subst (λ (c : Archive). Appends c e commit next wanted) (sym same_archive) appends))
 
 -- A deletion again.
-pub again-deletion : (a : Archive) (e : Entry) (commit : Id20) (next : End) → MayFollow a e → IsEndAfter a e commit next → Appends a e commit next (appended_as a e)
+pub again-deletion : (a : Archive) (e : Entry) (commit : Id20) (next : End) → EntryMayFollow a e → IsEndAfter a e commit next → Appends a e commit next (appended_as a e)
 again-deletion a e commit next may after = record { follows = may; ends = after; gives = refl }

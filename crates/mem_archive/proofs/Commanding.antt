@@ -3,8 +3,8 @@ use Rattle.std.proofs.Common.{◌≡◌, ℕ, Bool, true, List, ◌++◌, length
 use Rattle.std.specs.List.{Contains}
 use Rattle.arch_model.specs.Archives.{Archive, live, text_of}
 use Rattle.arch_model.specs.Delivery.{Done, Delivers}
-use Rattle.arch_model.specs.Standing.{Standing, standing, GivesTextIn}
-use Rattle.arch_model.specs.Keeping.{Fits, Moves, Settles, Comes, StaysReady, AnswerCause}
+use Rattle.arch_model.specs.Standing.{LastKnown, standing, GivesTextIn}
+use Rattle.arch_model.specs.Keeping.{MatchesKnown, KeeperMoves, Settles, CommandGives, StaysReady, AnswerCause}
 use Rattle.arch_model.specs.declared.answer.Answer.{Answer}
 use Rattle.arch_model.specs.declared.answer.Answer.TheVariants as answer
 
@@ -22,26 +22,26 @@ at_hand m = true
 abbrev pub Leaves : Archive → Archive → List (Option Archive) → Type 0
 Leaves start m may = Contains may (Some m)
 
-fits-itself : (m n : Archive) → n ≡ m → Fits Holds Rests at_hand Leaves n (standing m None)
+fits-itself : (m n : Archive) → n ≡ m → MatchesKnown Holds Rests at_hand Leaves n (standing m None)
 fits-itself m n same = record { settled = λ ready. (sym same, refl); exact = λ none. sym same; left = λ may has. subst (λ (x : Archive). Contains may (Some x)) (sym same) has.archive }
 
-moves-itself : (m n : Archive) (s : Standing) (a : Archive) → n ≡ a → Moves Holds Rests at_hand Leaves m s n (standing a None)
+moves-itself : (m n : Archive) (s : LastKnown) (a : Archive) → n ≡ a → KeeperMoves Holds Rests at_hand Leaves m s n (standing a None)
 moves-itself m n s a same = record { fits = fits-itself a n same; passes = λ start may has left. subst (λ (x : Archive). Contains may (Some x)) (sym same) has.1.0.archive }
 
 -- Reopening does nothing.
-pub fresh-done : (m : Archive) (s : Standing) → Fits Holds Rests at_hand Leaves m s → (t : Standing) × Moves Holds Rests at_hand Leaves m s m t × Settles s t
+pub fresh-done : (m : Archive) (s : LastKnown) → MatchesKnown Holds Rests at_hand Leaves m s → (t : LastKnown) × KeeperMoves Holds Rests at_hand Leaves m s m t × Settles s t
 fresh-done m s fits = (standing m None, moves-itself m m s m refl, record { found = inl (sym (fits.settled refl).0); sure = refl })
 
 -- Rebuilding counts the live messages.
-pub reindex-done : (m : Archive) (s : Standing) → Fits Holds Rests at_hand Leaves m s → (count : ℕ) → count ≡ length (live m.entries) → (t : Standing) × Moves Holds Rests at_hand Leaves m s m t × Settles s t × (count ≡ length (live t.archive.entries))
+pub reindex-done : (m : Archive) (s : LastKnown) → MatchesKnown Holds Rests at_hand Leaves m s → (count : ℕ) → count ≡ length (live m.entries) → (t : LastKnown) × KeeperMoves Holds Rests at_hand Leaves m s m t × Settles s t × (count ≡ length (live t.archive.entries))
 reindex-done m s fits count is = (standing m None, moves-itself m m s m refl, record { found = inl (sym (fits.settled refl).0); sure = refl }, is)
 
 -- The answer to a command is that of its keeper.
-module _ (m n : Archive) (wanted : Archive → Done) (s : Standing) (fits : Fits Holds Rests at_hand Leaves m s) where
-  obeyed : (reply : Answer) → wanted m ≡ record { archive = n; answer = reply } → Moves Holds Rests at_hand Leaves m s n (standing n None) × ((wanted m).answer ≡ reply) × (standing n None ≡ standing (wanted m).archive None)
+module _ (m n : Archive) (wanted : Archive → Done) (s : LastKnown) (fits : MatchesKnown Holds Rests at_hand Leaves m s) where
+  obeyed : (reply : Answer) → wanted m ≡ record { archive = n; answer = reply } → KeeperMoves Holds Rests at_hand Leaves m s n (standing n None) × ((wanted m).answer ≡ reply) × (standing n None ≡ standing (wanted m).archive None)
   obeyed reply is = (moves-itself m n s n refl, ap (λ (d : Done). d.answer) is, ap (λ (d : Done). standing d.archive None) (sym is))
 
-  pub command-done : (reply : Answer) → Delivers m reply n (wanted m) → (t : Standing) × Moves Holds Rests at_hand Leaves m s n t × Comes true s wanted reply t
+  pub command-done : (reply : Answer) → Delivers m reply n (wanted m) → (t : LastKnown) × KeeperMoves Holds Rests at_hand Leaves m s n t × CommandGives true s wanted reply t
   command-done answer.NoMemory same = (standing m None, moves-itself m n s m same, inr (record { found = inl (sym (fits.settled refl).0); sure = refl }))
   command-done (answer.Ok number id) is =
       let done = obeyed (answer.Ok number id) is in

@@ -10,16 +10,16 @@ use Rattle.git_objects.specs.declared.entry_kind.EntryKind.{EntryKind}
 use Rattle.git_objects.specs.declared.entry_kind.EntryKind.TheVariants.{Message, Deletion}
 use Rattle.arch_model.specs.Archives.{Archive, Entry, empty_archive, message, live, without_text, without_entries, IsFree}
 use Rattle.arch_model.specs.Delivery.{greater, last_epoch}
-use Rattle.arch_model.specs.Validity.{IsFrom, number_after, Rise, AtEachPlace, EndsLive, IdsDiffer, LiveDiffer, BlobsAgree}
+use Rattle.arch_model.specs.Validity.{NumberIsFrom, number_after, Rise, AtEachPlace, EndsLive, IdsDiffer, LiveDiffer, BlobsAgree}
 use Rattle.arch_model.proofs.LiveEntries.{live-message}
 use Rattle.arch_model.proofs.ValidArchives.{Agrees, all_weaker, none_later}
 use Rattle.arch_model.proofs.Purging.{other, kept_all, kept_rise, kept_blobs, kept_places}
 use Rattle.arch_judge.specs.declared.index.Index.{Index}
 use Rattle.arch_judge.proofs.Endings.{owner-none}
-use Rattle.mem_archive.specs.Memory.{archive_of, entry_of, entries_of, appended_as, numbered_to, HasId, IsUpTo, IsNumberedAfter, MayFollow, IsKept}
+use Rattle.mem_archive.specs.Memory.{archive_of, entry_of, entries_of, appended_as, numbered_to, HasId, IsNumberUpTo, IsNumberedAfter, EntryMayFollow, IsKept}
 use Rattle.mem_archive.specs.declared.kept.End.{End}
 use Rattle.mem_archive.specs.declared.kept.Kept.{Kept}
-use Rattle.mem_archive.specs.declared.kept.Place.{Place}
+use Rattle.mem_archive.specs.declared.kept.KeptPlace.{KeptPlace}
 use Rattle.mem_archive.proofs.Ends.{greater_end, last_epoch-push}
 use Rattle.mem_archive.proofs.Appending.{none_collides}
 use Rattle.mem_archive.proofs.Delivering.{some-of}
@@ -59,14 +59,14 @@ module _ (next : ℕ) (a : Archive) (e : Entry) (es : List Entry) (may : MayFoll
 
   numbered : (k : EntryKind) → e.kind ≡ k → IsNumberedAfter k a e
   numbered Message is = (
-    subst (λ (k : EntryKind). IsFrom k a.next e.number) is may.rise.0,
+    subst (λ (k : EntryKind). NumberIsFrom k a.next e.number) is may.rise.0,
     let less : e.number < next = may.below.0 in let room : next ≤ a.config.max + 1 = may.room in omega (arith, less, room),
     free is,
   )
   numbered Deletion is = subst (λ (k : EntryKind). EndsLive k a.entries e) is may.ends.0
 
   -- So may the first of them.
-  pub first-follows : MayFollow a e
+  pub first-follows : EntryMayFollow a e
   first-follows = record {
     epoch = may.rise.1;
     small = may.small.0;
@@ -116,7 +116,7 @@ pub record CopiedTo (a : Archive) (items : List Kept) (text : List ℕ) (i : ℕ
   pub all : made.entries ++ left_from items i text ≡ without_text a.entries text
   pub follow : MayFollowAll a.next made (left_from items i text)
 
-pub copied-start : (config : Config) (ks : List Kept) (places : List (Option Place)) (index : Index) (end_ : End) (a made : Archive) (text : List ℕ) (items : List Kept) → archive_of config ks places ≡ a → IsKept config ks places index end_ → made ≡ empty_archive config → items ≡ ks → CopiedTo a items text 0 made
+pub copied-start : (config : Config) (ks : List Kept) (places : List (Option KeptPlace)) (index : Index) (end_ : End) (a made : Archive) (text : List ℕ) (items : List Kept) → archive_of config ks places ≡ a → IsKept config ks places index end_ → made ≡ empty_archive config → items ≡ ks → CopiedTo a items text 0 made
 copied-start config ks places index end_ a made text items is kept made_is items_are =
     subst (λ (m : Archive). CopiedTo a items text 0 m) (sym made_is) (subst (λ (b : Archive). CopiedTo b items text 0 (empty_archive config)) is (subst (λ (xs : List Kept). CopiedTo (archive_of config ks places) xs text 0 (empty_archive config)) (sym items_are) (record { config_is = refl; all = refl; follow = begins })))
   where
@@ -128,7 +128,7 @@ copied-start config ks places index end_ a made text items is kept made_is items
           ends = stays.ends;
           ids = stays.ids;
           blobs = kept_blobs (other text) (entries_of ks) kept.blobs;
-          below = kept_all (other text) (λ (e : Entry). e.number < length places + 1) (entries_of ks) (all_weaker (IsUpTo (length places)) (λ (e : Entry). e.number < length places + 1) (entries_of ks) (λ e up. up.1) kept.numbered);
+          below = kept_all (other text) (λ (e : Entry). e.number < length places + 1) (entries_of ks) (all_weaker (IsNumberUpTo (length places)) (λ (e : Entry). e.number < length places + 1) (entries_of ks) (λ e up. up.1) kept.numbered);
           named = kept_all (other text) HasId (entries_of ks) kept.named;
           small = kept_all (other text) (λ (e : Entry). e.epoch ≤ 63) (entries_of ks) (all_weaker (λ (e : Entry). e.epoch ≤ last_epoch (entries_of ks)) (λ (e : Entry). e.epoch ≤ 63) (entries_of ks) (λ e before. (let high : end_.epoch ≤ 63 = kept.ends.small in let last : end_.epoch ≡ last_epoch (entries_of ks) = kept.last in omega (arith, before, high, last))) (none_later (entries_of ks)));
           low = omega arith;
@@ -147,7 +147,7 @@ module _ (a : Archive) (items : List Kept) (text : List ℕ) (i : ℕ) (made : A
     goes_on : MayFollowAll a.next made (entry_of k ∷ left_from items (i + 1) text)
     goes_on = subst (MayFollowAll a.next made) (split false test) so_far.follow
 
-    pub copied-follows : MayFollow made (entry_of k)
+    pub copied-follows : EntryMayFollow made (entry_of k)
     copied-follows = first-follows a.next made (entry_of k) (left_from items (i + 1) text) goes_on
 
     pub copied-one : CopiedTo a items text (i + 1) (appended_as made (entry_of k))

@@ -10,10 +10,10 @@ use Rattle.arch_model.proofs.LiveEntries.{live-all}
 use Rattle.arch_model.proofs.ValidArchives.{all_weaker}
 use Rattle.arch_judge.proofs.Endings.{Ascend, live-ascend}
 use Rattle.arch_judge.specs.declared.index.Index.{Index}
-use Rattle.mem_archive.specs.Memory.{archive_of, entries_of, IsKept, IsUpTo}
+use Rattle.mem_archive.specs.Memory.{archive_of, entries_of, IsKept, IsNumberUpTo}
 use Rattle.mem_archive.specs.declared.kept.End.{End}
 use Rattle.mem_archive.specs.declared.kept.Kept.{Kept}
-use Rattle.mem_archive.specs.declared.kept.Place.{Place}
+use Rattle.mem_archive.specs.declared.kept.KeptPlace.{KeptPlace}
 
 -- Entries whose numbers rise from one on and stay below another are at most as many as are between.
 few : (number next : ℕ) (es : List Entry) → number ≤ next → Ascend number es → AllByRecursion (λ (e : Entry). e.number < next) es → number + length es ≤ next
@@ -37,13 +37,13 @@ all_between (e ∷ es) next most below =
     keep_step (nat_le 0 e.number && nat_le e.number 4294967295) e (filter (is_between 0 4294967295) es) es hit (all_between es next most below.1)
 
 -- So they are counted with 32 bits.
-pub counted : (config : Config) (ks : List Kept) (places : List (Option Place)) (index : Index) (end_ : End) (a : Archive) → archive_of config ks places ≡ a → IsKept config ks places index end_ → min (live_between (live a.entries) 0 4294967295) 4294967295 ≡ length (live a.entries)
+pub counted : (config : Config) (ks : List Kept) (places : List (Option KeptPlace)) (index : Index) (end_ : End) (a : Archive) → archive_of config ks places ≡ a → IsKept config ks places index end_ → min (live_between (live a.entries) 0 4294967295) 4294967295 ≡ length (live a.entries)
 counted config ks places index end_ a is kept =
     subst (λ (b : Archive). min (live_between (live b.entries) 0 4294967295) 4294967295 ≡ length (live b.entries)) is
     (let all = all_between (live (entries_of ks)) (length places + 1) small shown in let bound = few 1 (length places + 1) (live (entries_of ks)) (omega arith) (live-ascend 1 0 (entries_of ks) kept.order) shown in omega (arith, all, bound, small))
   where
     shown : AllByRecursion (λ (e : Entry). e.number < length places + 1) (live (entries_of ks))
-    shown = live-all (λ (e : Entry). e.number < length places + 1) (entries_of ks) (all_weaker (IsUpTo (length places)) (λ (e : Entry). e.number < length places + 1) (entries_of ks) (λ e up. up.1) kept.numbered)
+    shown = live-all (λ (e : Entry). e.number < length places + 1) (entries_of ks) (all_weaker (IsNumberUpTo (length places)) (λ (e : Entry). e.number < length places + 1) (entries_of ks) (λ e up. up.1) kept.numbered)
 
     small : length places + 1 ≤ 2147483648
     small = (let most : config.max ≤ 2147483647 = kept.settings.max_high in let fewer = kept.numbers in omega (arith, most, fewer))

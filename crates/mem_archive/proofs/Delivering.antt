@@ -24,14 +24,14 @@ use Rattle.arch_model.specs.declared.answer.Answer.TheVariants as answer
 use Rattle.arch_judge.specs.declared.index.Index.{Index}
 use Rattle.mem_archive.specs.declared.kept.End.{End}
 use Rattle.mem_archive.specs.declared.kept.Kept.{Kept}
-use Rattle.mem_archive.specs.declared.kept.Place.{Place}
+use Rattle.mem_archive.specs.declared.kept.KeptPlace.{KeptPlace}
 use Rattle.mem_archive.proofs.Lines.{length-entries_of, blob_in-some}
 
 pub some-of : {X : Type 0} (o : Option X) → IsSome o → (x : X) × (o ≡ Some x)
 some-of None some = absurd (let wrong : false ≡ true = some in cc)
 some-of (Some x) some = (x, refl)
 
-module _ (config : Config) (ks : List Kept) (places : List (Option Place)) (index : Index) (end_ : End) (a : Archive) (is : archive_of config ks places ≡ a) (kept : IsKept config ks places index end_) where
+module _ (config : Config) (ks : List Kept) (places : List (Option KeptPlace)) (index : Index) (end_ : End) (a : Archive) (is : archive_of config ks places ≡ a) (kept : IsKept config ks places index end_) where
   config_is : a.config ≡ config
   config_is = sym (ap (λ (b : Archive). b.config) is)
 

@@ -9,7 +9,7 @@ use Rattle.arch_model.specs.Archives.{Entry, Archive, in_epoch}
 use Rattle.arch_model.specs.Delivery.{last_epoch, greater, takes_more, new_epoch}
 use Rattle.arch_model.specs.Epochs.{epoch_bytes, entries_bytes, last_commit}
 use Rattle.mail_commits.specs.Entries.{entry_bytes, commit_id, magic}
-use Rattle.mem_archive.specs.Memory.{IsEnd, IsEndAfter, end_for_new, end_in_epoch, end_after, front_bytes}
+use Rattle.mem_archive.specs.Memory.{IsEpochEnd, IsEndAfter, end_for_new, end_in_epoch, end_after, front_bytes}
 use Rattle.mem_archive.specs.declared.kept.End.{End}
 use Rattle.arch_model.proofs.EpochLemmas.{entries_bytes-push, last_commit-push}
 
@@ -70,8 +70,8 @@ last_epoch-push (x ∷ es) e h =
     ap (greater x.epoch) (last_epoch-push es e (omega (arith, low.1))) ∙ greater_end x.epoch e.epoch (omega (arith, low.0))
 
 -- The end after one more entry in its epoch.
-pub IsEnd-push : (limit : ℕ) (es : List Entry) (e : Entry) (end_ : End) → IsEnd limit es end_ → e.epoch ≡ end_.epoch → IsEnd limit (es ++ e ∷ []) (end_after end_ e.kind e.text e.moment)
-IsEnd-push limit es e end_ is at =
+pub IsEpochEnd-push : (limit : ℕ) (es : List Entry) (e : Entry) (end_ : End) → IsEpochEnd limit es end_ → e.epoch ≡ end_.epoch → IsEpochEnd limit (es ++ e ∷ []) (end_after end_ e.kind e.text e.moment)
+IsEpochEnd-push limit es e end_ is at =
     let here : List Entry = in_epoch es end_.epoch in
     let more : in_epoch (es ++ e ∷ []) end_.epoch ≡ here ++ e ∷ [] = in_epoch-at es e end_.epoch at in
     let added : List ℕ = front_bytes end_.parent ++ entry_bytes e.kind e.text e.moment end_.parent in
@@ -85,7 +85,7 @@ IsEnd-push limit es e end_ is at =
 
 -- The end to which a new entry is appended, and its epoch.
 abbrev pub NewEnd : ℕ → List Entry → ℕ → End → Type 0
-NewEnd limit es epoch end_ = IsEnd limit es end_ × (end_.epoch ≡ epoch) × (last_epoch es ≤ end_.epoch)
+NewEnd limit es epoch end_ = IsEpochEnd limit es end_ × (end_.epoch ≡ epoch) × (last_epoch es ≤ end_.epoch)
 
 -- A new epoch has no entry.
 new_end : (limit epoch : ℕ) (es : List Entry) → last_epoch es < epoch → epoch ≤ 63 → NewEnd limit es epoch (record { epoch = epoch; room = limit; parent = None })
@@ -100,7 +100,7 @@ new_end limit epoch es later small =
       omega (arith, later),
     )
 
-new_step : (limit len : ℕ) (es : List Entry) (end_ : End) (t u : Bool) → IsEnd limit es end_ → end_.epoch ≡ last_epoch es → t ≡ u → (t ≡ false → end_.epoch < 63)
+new_step : (limit len : ℕ) (es : List Entry) (end_ : End) (t u : Bool) → IsEpochEnd limit es end_ → end_.epoch ≡ last_epoch es → t ≡ u → (t ≡ false → end_.epoch < 63)
     → NewEnd limit es (if u then last_epoch es else last_epoch es + 1) (if t then end_ else record { epoch = end_.epoch + 1; room = limit; parent = None })
 new_step limit len es end_ true true is last same below = (is, last, omega (arith, last))
 new_step limit len es end_ true false is last same below = absurd (cc)
@@ -108,8 +108,8 @@ new_step limit len es end_ false true is last same below = absurd (cc)
 new_step limit len es end_ false false is last same below =
     subst (λ (n : ℕ). NewEnd limit es (n + 1) (record { epoch = end_.epoch + 1; room = limit; parent = None })) last (new_end limit (end_.epoch + 1) es (omega (arith, last)) (omega (arith, below refl)))
 
-pub IsEnd-new : (a : Archive) (end_ : End) → IsEnd a.config.limit a.entries end_ → end_.epoch ≡ last_epoch a.entries → NewEnd a.config.limit a.entries (new_epoch a) (end_for_new a.config.limit end_)
-IsEnd-new a end_ is last =
+pub IsEpochEnd-new : (a : Archive) (end_ : End) → IsEpochEnd a.config.limit a.entries end_ → end_.epoch ≡ last_epoch a.entries → NewEnd a.config.limit a.entries (new_epoch a) (end_for_new a.config.limit end_)
+IsEpochEnd-new a end_ is last =
     let len : ℕ = length (epoch_bytes (in_epoch a.entries (last_epoch a.entries))) in
     let room : end_.room ≡ a.config.limit - len = is.room ∙ ap (λ (k : ℕ). a.config.limit - length (epoch_bytes (in_epoch a.entries k))) last in
     let same : nat_lt 0 end_.room ≡ nat_lt len a.config.limit = grind (arith, nat_tests, room) in
@@ -120,12 +120,12 @@ IsEnd-new a end_ is last =
     below k t small closed = grind (arith, nat_tests, small, closed)
 
 -- The end to which an entry of an epoch is appended that isn't before the last one.
-in_step : (limit epoch : ℕ) (es : List Entry) (end_ : End) (t : Bool) → (end_.epoch == epoch) ≡ t → IsEnd limit es end_ → end_.epoch ≡ last_epoch es → last_epoch es ≤ epoch → epoch ≤ 63 → NewEnd limit es epoch (if t then end_ else record { epoch = epoch; room = limit; parent = None })
+in_step : (limit epoch : ℕ) (es : List Entry) (end_ : End) (t : Bool) → (end_.epoch == epoch) ≡ t → IsEpochEnd limit es end_ → end_.epoch ≡ last_epoch es → last_epoch es ≤ epoch → epoch ≤ 63 → NewEnd limit es epoch (if t then end_ else record { epoch = epoch; room = limit; parent = None })
 in_step limit epoch es end_ true test is last low small = (is, grind (arith, nat_tests, test), omega (arith, last))
 in_step limit epoch es end_ false test is last low small = new_end limit epoch es (grind (arith, nat_tests, test, last, low)) small
 
-pub IsEnd-in : (limit epoch : ℕ) (es : List Entry) (end_ : End) → IsEnd limit es end_ → end_.epoch ≡ last_epoch es → last_epoch es ≤ epoch → epoch ≤ 63 → NewEnd limit es epoch (end_in_epoch epoch limit end_)
-IsEnd-in limit epoch es end_ is last low small = in_step limit epoch es end_ (end_.epoch == epoch) refl is last low small
+pub IsEpochEnd-in : (limit epoch : ℕ) (es : List Entry) (end_ : End) → IsEpochEnd limit es end_ → end_.epoch ≡ last_epoch es → last_epoch es ≤ epoch → epoch ≤ 63 → NewEnd limit es epoch (end_in_epoch epoch limit end_)
+IsEpochEnd-in limit epoch es end_ is last low small = in_step limit epoch es end_ (end_.epoch == epoch) refl is last low small
 
 -- The end and the commit after an entry that is appended there.
 pub end-after : (a : Archive) (e : Entry) (begin next : End) (commit : Id20) → NewEnd a.config.limit a.entries e.epoch begin → next ≡ end_after begin e.kind e.text e.moment → next.parent ≡ Some commit → IsEndAfter a e commit next
@@ -133,7 +133,7 @@ end-after a e begin next commit new next_is commit_is =
     let parent : begin.parent ≡ last_commit None (in_epoch a.entries e.epoch) = new.0.parent ∙ ap (λ (n : ℕ). last_commit None (in_epoch a.entries n)) new.1 in
     let some : Some commit ≡ Some (commit_id e.kind e.text e.moment begin.parent) = sym commit_is ∙ ap (λ (n : End). n.parent) next_is in
     record {
-      ends = subst (λ (n : End). IsEnd a.config.limit (a.entries ++ e ∷ []) n) (sym next_is) (IsEnd-push a.config.limit a.entries e begin new.0 (sym new.1));
+      ends = subst (λ (n : End). IsEpochEnd a.config.limit (a.entries ++ e ∷ []) n) (sym next_is) (IsEpochEnd-push a.config.limit a.entries e begin new.0 (sym new.1));
       epoch = ap (λ (n : End). n.epoch) next_is ∙ new.1;
       commit_is = same_Some commit (commit_id e.kind e.text e.moment begin.parent) some ∙ ap (commit_id e.kind e.text e.moment) parent;
     }

@@ -8,7 +8,7 @@ use Rattle.arch_model.specs.Epochs.{epoch_bytes, last_commit}
 use Rattle.mail_commits.specs.Entries.{entry_bytes, commit_id}
 use Rattle.mem_archive.specs.Memory.{archive_of, entry_of, entries_of, front_bytes}
 use Rattle.mem_archive.specs.declared.kept.Kept.{Kept}
-use Rattle.mem_archive.specs.declared.kept.Place.{Place}
+use Rattle.mem_archive.specs.declared.kept.KeptPlace.{KeptPlace}
 use Rattle.arch_model.proofs.EpochLemmas.{last_commit-push}
 use Rattle.mem_archive.proofs.Ends.{epoch_bytes-after, in_epoch-at, in_epoch-else}
 use Rattle.mem_archive.proofs.Lines.{entries_of-push}
@@ -67,7 +67,7 @@ take-whole (x ∷ items) zero l = absurd (omega arith)
 take-whole (x ∷ items) (suc i) l = ap (λ ks. x ∷ ks) (take-whole items i (omega arith))
 
 -- All entries are appended.
-pub pushed-all : (a : Archive) (config : Config) (items : List Kept) (places : List (Option Place)) (epoch : ℕ) (old : List ℕ) (i : ℕ) (into : List ℕ) (parent : Option Id20) → archive_of config items places ≡ a → length items ≤ i → HasPushed items epoch old i into parent
+pub pushed-all : (a : Archive) (config : Config) (items : List Kept) (places : List (Option KeptPlace)) (epoch : ℕ) (old : List ℕ) (i : ℕ) (into : List ℕ) (parent : Option Id20) → archive_of config items places ≡ a → length items ≤ i → HasPushed items epoch old i into parent
     → (into ≡ old ++ epoch_bytes (in_epoch a.entries epoch)) × (is_some parent ≡ has_entry (in_epoch a.entries epoch))
 pushed-all a config items places epoch old i into parent is whole has =
     let all : of_first items i epoch ≡ in_epoch a.entries epoch = ap (λ (ks : List Kept). in_epoch (entries_of ks) epoch) (take-whole items i whole) ∙ ap (λ (b : Archive). in_epoch b.entries epoch) is in

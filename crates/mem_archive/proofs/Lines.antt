@@ -11,7 +11,7 @@ use Rattle.arch_judge.specs.declared.index.Index.{Index}
 use Rattle.mem_archive.specs.Memory.{archive_of, entry_of, entries_of, line_of, lines_of, IsKept}
 use Rattle.mem_archive.specs.declared.kept.End.{End}
 use Rattle.mem_archive.specs.declared.kept.Kept.{Kept}
-use Rattle.mem_archive.specs.declared.kept.Place.{Place}
+use Rattle.mem_archive.specs.declared.kept.KeptPlace.{KeptPlace}
 
 -- One more entry.
 pub entries_of-push : (ks : List Kept) (k : Kept) → entries_of (ks ++ k ∷ []) ≡ entries_of ks ++ entry_of k ∷ []
@@ -42,7 +42,7 @@ lines_of-past i [] h = refl
 lines_of-past zero (x ∷ ks) h = absurd (omega arith)
 lines_of-past (suc i) (x ∷ ks) h = lines_of-past i ks (omega arith)
 
-module _ (config : Config) (ks : List Kept) (places : List (Option Place)) (index : Index) (end_ : End) (a : Archive) (is : archive_of config ks places ≡ a) (kept : IsKept config ks places index end_) where
+module _ (config : Config) (ks : List Kept) (places : List (Option KeptPlace)) (index : Index) (end_ : End) (a : Archive) (is : archive_of config ks places ≡ a) (kept : IsKept config ks places index end_) where
   same_lines : (i : ℕ) → slice_get (lines_of ks) i ≡ line_at a.entries i
   same_lines i = ap (λ (ls : List EntryLine). slice_get ls i) kept.lines ∙ ap (λ (b : Archive). line_at b.entries i) is
 

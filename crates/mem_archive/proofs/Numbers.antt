@@ -12,19 +12,19 @@ use Rattle.arch_judge.specs.declared.index.Index.{Index}
 use Rattle.mem_archive.specs.Memory.{archive_of, entries_of, joined, place_in, text_in, shown_in, is_live_place, live_at, IsLeastAt, IsGreatestAt, count_from, IsKept}
 use Rattle.mem_archive.specs.declared.kept.End.{End}
 use Rattle.mem_archive.specs.declared.kept.Kept.{Kept}
-use Rattle.mem_archive.specs.declared.kept.Place.{Place}
+use Rattle.mem_archive.specs.declared.kept.KeptPlace.{KeptPlace}
 use Rattle.mem_archive.proofs.Places.{shown_is}
 
 -- The place of a number as it is read.
-pub place-zero : (places : List (Option Place)) (n : ℕ) → n ≡ 0 → None ≡ place_in places n
+pub place-zero : (places : List (Option KeptPlace)) (n : ℕ) → n ≡ 0 → None ≡ place_in places n
 place-zero places zero is = refl
 place-zero places (suc i) is = absurd (omega (arith, is))
 
-pub place-none : (places : List (Option Place)) (n : ℕ) → n ≢ 0 → length places ≤ n - 1 → None ≡ place_in places n
+pub place-none : (places : List (Option KeptPlace)) (n : ℕ) → n ≢ 0 → length places ≤ n - 1 → None ≡ place_in places n
 place-none places zero some past = refl
 place-none places (suc i) some past = sym (ap joined (slice_get_past places i (omega (arith, past))))
 
-pub place-some : (places : List (Option Place)) (n : ℕ) (p : Option Place) → n ≢ 0 → n - 1 < length places → p ≡ get_or places (n - 1) p → p ≡ place_in places n
+pub place-some : (places : List (Option KeptPlace)) (n : ℕ) (p : Option KeptPlace) → n ≢ 0 → n - 1 < length places → p ≡ get_or places (n - 1) p → p ≡ place_in places n
 place-some places zero p some less is = absurd (some refl)
 place-some places (suc i) p some less is =
     let at : suc i - 1 ≡ i = omega arith in
@@ -39,65 +39,65 @@ pub text-some : (ks : List Kept) (i : ℕ) (k : Kept) → i < length ks → k �
 text-some ks i k less is = sym (ap (option_map (λ (x : Kept). x.text)) (slice_get_read ks (length ks) i k refl less is))
 
 -- A number after the last has no place.
-pub none-after : (places : List (Option Place)) (m : ℕ) → length places < m → live_at places m ≡ false
+pub none-after : (places : List (Option KeptPlace)) (m : ℕ) → length places < m → live_at places m ≡ false
 none-after places zero past = absurd (omega (arith, past))
-none-after places (suc i) past = ap (λ (f : Option (Option Place)). is_live_place (joined f)) (slice_get_past places i (omega (arith, past)))
+none-after places (suc i) past = ap (λ (f : Option (Option KeptPlace)). is_live_place (joined f)) (slice_get_past places i (omega (arith, past)))
 
 -- The numbers from one on that were tried are not live.
-pub record TriedUp (places : List (Option Place)) (number least : ℕ) : Type 0 where
+pub record TriedUp (places : List (Option KeptPlace)) (number least : ℕ) : Type 0 where
   pub low : number ≤ least
   pub tried : (m : ℕ) → number ≤ m → m < least → live_at places m ≡ false
 
-pub up-start : (places : List (Option Place)) (number first : ℕ) → first ≡ max number 1 → TriedUp places number first
+pub up-start : (places : List (Option KeptPlace)) (number first : ℕ) → first ≡ max number 1 → TriedUp places number first
 up-start places number first is = record { low = omega (arith, is); tried = λ m at_least below. by m at_least below } where
   by : (m : ℕ) → number ≤ m → m < first → live_at places m ≡ false
   by zero at_least below = refl
   by (suc m) at_least below = absurd (omega (arith, is, at_least, below))
 
-pub up-more : (places : List (Option Place)) (number least : ℕ) → TriedUp places number least → live_at places least ≡ false → TriedUp places number (least + 1)
+pub up-more : (places : List (Option KeptPlace)) (number least : ℕ) → TriedUp places number least → live_at places least ≡ false → TriedUp places number (least + 1)
 up-more places number least up none = let low : number ≤ least = up.low in record { low = omega (arith, low); tried = λ m at_least below. by m (m == least) refl at_least below } where
   by : (m : ℕ) (t : Bool) → (m == least) ≡ t → number ≤ m → m < least + 1 → live_at places m ≡ false
   by m true test at_least below = let same : m ≡ least = grind (arith, nat_tests, test) in ap (live_at places) same ∙ none
   by m false test at_least below = let less : m < least = grind (arith, nat_tests, test, below) in up.tried m at_least less
 
-pub up-found : (places : List (Option Place)) (number least : ℕ) → TriedUp places number least → live_at places least ≡ true → IsLeastAt places number (Some least)
+pub up-found : (places : List (Option KeptPlace)) (number least : ℕ) → TriedUp places number least → live_at places least ≡ true → IsLeastAt places number (Some least)
 up-found places number least up is = (up.low, is, up.tried)
 
-pub up-none : (places : List (Option Place)) (number least : ℕ) → TriedUp places number least → length places + 1 ≤ least → IsLeastAt places number None
+pub up-none : (places : List (Option KeptPlace)) (number least : ℕ) → TriedUp places number least → length places + 1 ≤ least → IsLeastAt places number None
 up-none places number least up whole = λ m at_least. by m (nat_le least m) refl at_least where
   by : (m : ℕ) (t : Bool) → nat_le least m ≡ t → number ≤ m → live_at places m ≡ false
   by m true test at_least = let past : least ≤ m = grind (arith, nat_tests, test) in none-after places m (omega (arith, past, whole))
   by m false test at_least = let less : m < least = grind (arith, nat_tests, test) in up.tried m at_least less
 
 -- The numbers down to one that were tried are not live.
-abbrev pub TriedDown : List (Option Place) → ℕ → ℕ → Type 0
+abbrev pub TriedDown : List (Option KeptPlace) → ℕ → ℕ → Type 0
 TriedDown places number greatest = (m : ℕ) → greatest < m → m ≤ number → live_at places m ≡ false
 
-pub down-start : (places : List (Option Place)) (number most : ℕ) → most ≡ min number (length places) → TriedDown places number (most - 0)
+pub down-start : (places : List (Option KeptPlace)) (number most : ℕ) → most ≡ min number (length places) → TriedDown places number (most - 0)
 down-start places number most is = λ m above at_most. none-after places m (omega (arith, is, above, at_most))
 
-pub down-more : (places : List (Option Place)) (number most below : ℕ) → below < most → TriedDown places number (most - below) → live_at places (most - below) ≡ false → TriedDown places number (most - (below + 1))
+pub down-more : (places : List (Option KeptPlace)) (number most below : ℕ) → below < most → TriedDown places number (most - below) → live_at places (most - below) ≡ false → TriedDown places number (most - (below + 1))
 down-more places number most below less down none = λ m above at_most. by m (m == (most - below)) refl above at_most where
   by : (m : ℕ) (t : Bool) → (m == (most - below)) ≡ t → most - (below + 1) < m → m ≤ number → live_at places m ≡ false
   by m true test above at_most = let same : m ≡ most - below = grind (arith, nat_tests, test) in ap (live_at places) same ∙ none
   by m false test above at_most = let more : most - below < m = grind (arith, nat_tests, test, above, less) in down m more at_most
 
-pub down-found : (places : List (Option Place)) (number most greatest : ℕ) → most ≡ min number (length places) → greatest ≤ most → TriedDown places number greatest → live_at places greatest ≡ true → IsGreatestAt places number (Some greatest)
+pub down-found : (places : List (Option KeptPlace)) (number most greatest : ℕ) → most ≡ min number (length places) → greatest ≤ most → TriedDown places number greatest → live_at places greatest ≡ true → IsGreatestAt places number (Some greatest)
 down-found places number most greatest is low down found = (omega (arith, is, low), found, down)
 
-pub down-none : (places : List (Option Place)) (number most below : ℕ) → most ≤ below → TriedDown places number (most - below) → IsGreatestAt places number None
+pub down-none : (places : List (Option KeptPlace)) (number most below : ℕ) → most ≤ below → TriedDown places number (most - below) → IsGreatestAt places number None
 down-none places number most below whole down = λ m at_most. by m at_most where
   by : (m : ℕ) → m ≤ number → live_at places m ≡ false
   by zero at_most = refl
   by (suc m) at_most = down (suc m) (omega (arith, whole)) at_most
 
 -- So many live places were counted.
-pub record Counted (places : List (Option Place)) (low high index number count : ℕ) : Type 0 where
+pub record Counted (places : List (Option KeptPlace)) (low high index number count : ℕ) : Type 0 where
   pub number_is : number ≡ index + 1
   pub few : count ≤ index
   pub all : count + count_from number low high (drop index places) ≡ count_from 1 low high places
 
-drop-one : (places : List (Option Place)) (i : ℕ) (d : Option Place) → i < length places → drop i places ≡ get_or places i d ∷ drop (i + 1) places
+drop-one : (places : List (Option KeptPlace)) (i : ℕ) (d : Option KeptPlace) → i < length places → drop i places ≡ get_or places i d ∷ drop (i + 1) places
 drop-one places i d less = rw (add-one, drop-cons places i d) refl
 
 if_count : (t : Bool) (count rest all : ℕ) → count + (if t then suc rest else rest) ≡ all → (count + (if t then 1 else 0)) + rest ≡ all
@@ -108,16 +108,16 @@ few_if : (t : Bool) (count index : ℕ) → count ≤ index → count + (if t th
 few_if true count index few = omega (arith, few)
 few_if false count index few = omega (arith, few)
 
-pub count-start : (places : List (Option Place)) (low high : ℕ) → Counted places low high 0 1 0
+pub count-start : (places : List (Option KeptPlace)) (low high : ℕ) → Counted places low high 0 1 0
 count-start places low high = record { number_is = refl; few = omega arith; all = zero-add (count_from 1 low high places) }
 
-pub count-more : (places : List (Option Place)) (low high index number count : ℕ) (d : Option Place) (one : ℕ) → index < length places → one ≡ (if is_live_place (get_or places index d) && (nat_le low number && nat_le number high) then 1 else 0) → Counted places low high index number count
+pub count-more : (places : List (Option KeptPlace)) (low high index number count : ℕ) (d : Option KeptPlace) (one : ℕ) → index < length places → one ≡ (if is_live_place (get_or places index d) && (nat_le low number && nat_le number high) then 1 else 0) → Counted places low high index number count
     → Counted places low high (index + 1) (number + 1) (count + one)
 count-more places low high index number count d one less one_is counted =
     let t : Bool = is_live_place (get_or places index d) && (nat_le low number && nat_le number high) in
     let rest : ℕ = count_from (number + 1) low high (drop (index + 1) places) in
     let before : count + (if t then suc rest else rest) ≡ count_from 1 low high places =
-    sym (ap (λ (ps : List (Option Place)). count + count_from number low high ps) (drop-one places index d less)) ∙ counted.all in
+    sym (ap (λ (ps : List (Option KeptPlace)). count + count_from number low high ps) (drop-one places index d less)) ∙ counted.all in
     let at : number ≡ index + 1 = counted.number_is in
     record {
       number_is = omega (arith, at);
@@ -125,13 +125,13 @@ count-more places low high index number count d one less one_is counted =
       all = ap (λ (n : ℕ). count + n + rest) one_is ∙ if_count t count rest (count_from 1 low high places) before;
     }
 
-drop-all : (places : List (Option Place)) (i : ℕ) → length places ≤ i → drop i places ≡ []
+drop-all : (places : List (Option KeptPlace)) (i : ℕ) → length places ≤ i → drop i places ≡ []
 drop-all [] zero whole = refl
 drop-all [] (suc i) whole = refl
 drop-all (p ∷ places) zero whole = absurd (omega (arith, whole))
 drop-all (p ∷ places) (suc i) whole = drop-all places i (omega (arith, whole))
 
-pub count-end : (places : List (Option Place)) (low high index number count : ℕ) → length places ≤ index → Counted places low high index number count → count ≡ count_from 1 low high places
+pub count-end : (places : List (Option KeptPlace)) (low high index number count : ℕ) → length places ≤ index → Counted places low high index number count → count ≡ count_from 1 low high places
 count-end places low high index number count whole counted =
     let none : count_from number low high (drop index places) ≡ 0 = ap (count_from number low high) (drop-all places index whole) in
     let all : count + count_from number low high (drop index places) ≡ count_from 1 low high places = counted.all in
@@ -162,22 +162,22 @@ hit_count true false found rest shown is = is
 hit_count false u found rest shown is = absurd (cc)
 
 -- The places from a number on tell which of these entries there are.
-abbrev Tells : ℕ → List (Option Place) → List Entry → Type 0
+abbrev Tells : ℕ → List (Option KeptPlace) → List Entry → Type 0
 Tells n ps xs = (i : ℕ) → is_some (text_of xs (n + i)) ≡ is_live_place (joined (slice_get ps i))
 
-tells-next : (n : ℕ) (p : Option Place) (ps : List (Option Place)) (xs : List Entry) → Tells n (p ∷ ps) xs → Tells (n + 1) ps xs
+tells-next : (n : ℕ) (p : Option KeptPlace) (ps : List (Option KeptPlace)) (xs : List Entry) → Tells n (p ∷ ps) xs → Tells (n + 1) ps xs
 tells-next n p ps xs tells i = let at : n + 1 + i ≡ n + suc i = omega arith in ap (λ (m : ℕ). is_some (text_of xs m)) at ∙ tells (suc i)
 
-tells-rest : (n : ℕ) (p : Option Place) (ps : List (Option Place)) (e : Entry) (xs : List Entry) → e.number ≡ n → Tells n (p ∷ ps) (e ∷ xs) → Tells (n + 1) ps xs
+tells-rest : (n : ℕ) (p : Option KeptPlace) (ps : List (Option KeptPlace)) (e : Entry) (xs : List Entry) → e.number ≡ n → Tells n (p ∷ ps) (e ∷ xs) → Tells (n + 1) ps xs
 tells-rest n p ps e xs same tells i =
     let other : (e.number == (n + 1 + i)) ≡ false = grind (arith, nat_tests, same) in
     sym (ap (λ (t : Bool). is_some (if t then Some e.text else text_of xs (n + 1 + i))) other) ∙ tells-next n p ps (e ∷ xs) tells i
 
 -- So the places count them.
-abbrev Counts : ℕ → List (Option Place) → ℕ → ℕ → List Entry → Type 0
+abbrev Counts : ℕ → List (Option KeptPlace) → ℕ → ℕ → List Entry → Type 0
 Counts n ps low high es = Ascend n es → Tells n ps es → live_between es low high ≡ count_from n low high ps
 
-counted-places : (n : ℕ) (ps : List (Option Place)) (xs : List Entry) (low high : ℕ) → Ascend n xs → Tells n ps xs → live_between xs low high ≡ count_from n low high ps
+counted-places : (n : ℕ) (ps : List (Option KeptPlace)) (xs : List Entry) (low high : ℕ) → Ascend n xs → Tells n ps xs → live_between xs low high ≡ count_from n low high ps
 counted-places n [] [] low high ascend tells = refl
 counted-places n [] (e ∷ xs) low high ascend tells =
     let least : n ≤ e.number = ascend.0 in
@@ -207,12 +207,12 @@ counted-places n (p ∷ ps) (e ∷ xs) low high ascend tells = by (e.number == n
       skip_count (is_live_place p) (nat_le low n && nat_le n high) (live_between (e ∷ xs) low high) (count_from (n + 1) low high ps) no (same_entries ascends (tells-next n p ps (e ∷ xs) tells))
 
 -- What places tell is what the live entries of their archive tell.
-module _ (config : Config) (ks : List Kept) (places : List (Option Place)) (index : Index) (end_ : End) (a : Archive) (is : archive_of config ks places ≡ a) (kept : IsKept config ks places index end_) where
+module _ (config : Config) (ks : List Kept) (places : List (Option KeptPlace)) (index : Index) (end_ : End) (a : Archive) (is : archive_of config ks places ≡ a) (kept : IsKept config ks places index end_) where
   live_some : (t : Bool) (text : Option (List ℕ)) → is_some text ≡ true → is_some (if t then text else None) ≡ t
   live_some true text some = some
   live_some false text some = refl
 
-  place_is : (i : ℕ) (found : Option (Option Place)) → slice_get places i ≡ found → is_some (shown_in ks (joined found)) ≡ is_live_place (joined found)
+  place_is : (i : ℕ) (found : Option (Option KeptPlace)) → slice_get places i ≡ found → is_some (shown_in ks (joined found)) ≡ is_live_place (joined found)
   place_is i None there = refl
   place_is i (Some None) there = refl
   place_is i (Some (Some p)) there = let old = kept.placed i (Some p) there in live_some p.live (text_in ks p.entry) (ap is_some old.is_there)
@@ -231,19 +231,19 @@ module _ (config : Config) (ks : List Kept) (places : List (Option Place)) (inde
   none-is : (n : ℕ) → live_at places n ≡ false → text_of (live a.entries) n ≡ None
   none-is n hidden = no_text (text_of (live a.entries) n) (live-is n ∙ hidden)
 
-  pub least-is : (held : List (Option Place)) (n : ℕ) (found : Option ℕ) → held ≡ places → IsLeastAt held n found → IsLeastLive (live a.entries) n found
-  least-is held n found held_is least = by found (subst (λ (l : List (Option Place)). IsLeastAt l n found) held_is least) where
+  pub least-is : (held : List (Option KeptPlace)) (n : ℕ) (found : Option ℕ) → held ≡ places → IsLeastAt held n found → IsLeastLive (live a.entries) n found
+  least-is held n found held_is least = by found (subst (λ (l : List (Option KeptPlace)). IsLeastAt l n found) held_is least) where
     by : (f : Option ℕ) → IsLeastAt places n f → IsLeastLive (live a.entries) n f
     by None none = λ m at_least. none-is m (none m at_least)
     by (Some m) least = (least.0, live-is m ∙ least.1, λ k at_least below. none-is k (least.2 k at_least below))
 
-  pub greatest-is : (held : List (Option Place)) (n : ℕ) (found : Option ℕ) → held ≡ places → IsGreatestAt held n found → IsGreatestLive (live a.entries) n found
-  greatest-is held n found held_is greatest = by found (subst (λ (l : List (Option Place)). IsGreatestAt l n found) held_is greatest) where
+  pub greatest-is : (held : List (Option KeptPlace)) (n : ℕ) (found : Option ℕ) → held ≡ places → IsGreatestAt held n found → IsGreatestLive (live a.entries) n found
+  greatest-is held n found held_is greatest = by found (subst (λ (l : List (Option KeptPlace)). IsGreatestAt l n found) held_is greatest) where
     by : (f : Option ℕ) → IsGreatestAt places n f → IsGreatestLive (live a.entries) n f
     by None none = λ m at_most. none-is m (none m at_most)
     by (Some m) greatest = (greatest.0, live-is m ∙ greatest.1, λ k above at_most. none-is k (greatest.2 k above at_most))
 
-  pub count-is : (held : List (Option Place)) (low high count : ℕ) → held ≡ places → count ≡ count_from 1 low high held → count ≡ live_between (live a.entries) low high
+  pub count-is : (held : List (Option KeptPlace)) (low high count : ℕ) → held ≡ places → count ≡ count_from 1 low high held → count ≡ live_between (live a.entries) low high
   count-is held low high count held_is count_is =
       count_is
       ∙ ap (count_from 1 low high) held_is

@@ -10,7 +10,7 @@ use Rattle.arch_judge.specs.declared.index.Index.{Index}
 use Rattle.arch_judge.specs.declared.index.Owner.{Owner}
 use Rattle.mem_archive.specs.Memory.{archive_of, entries_of, IsKept}
 use Rattle.mem_archive.specs.declared.kept.Kept.{Kept}
-use Rattle.mem_archive.specs.declared.kept.Place.{Place}
+use Rattle.mem_archive.specs.declared.kept.KeptPlace.{KeptPlace}
 use Rattle.mem_archive.specs.declared.kept.End.{End}
 
 -- The number of an id is that of its owner.
@@ -26,7 +26,7 @@ by_owner : (found : Option Entry) (held : Option Owner) → held ≡ option_map 
 by_owner None held is = ap (option_map (λ (o : Owner). o.number)) is
 by_owner (Some e) held is = ap (option_map (λ (o : Owner). o.number)) is
 
-module _ (config : Config) (ks : List Kept) (places : List (Option Place)) (index : Index) (end_ : End) (a : Archive) (is : archive_of config ks places ≡ a) (kept : IsKept config ks places index end_) (id : List ℕ) where
+module _ (config : Config) (ks : List Kept) (places : List (Option KeptPlace)) (index : Index) (end_ : End) (a : Archive) (is : archive_of config ks places ≡ a) (kept : IsKept config ks places index end_) (id : List ℕ) where
   held : option_map (λ (o : Owner). o.number) (owner_in index.owners id) ≡ number_of_id (live a.entries) id
   held =
       by_owner (owner (live (entries_of ks)) id) (owner_in index.owners id) (kept.indexed.owners id)

@@ -8,10 +8,10 @@ use Rattle.arch_model.specs.Archives.{Archive, Entry, message, deletion, live, m
 use Rattle.arch_model.specs.Validity.{Rise}
 use Rattle.arch_model.proofs.LiveEntries.{without, live-message, live-deletion, messages-message, messages-deletion, live-all, messages-all, text-without-own, text-without-other, live-one}
 use Rattle.arch_judge.specs.declared.index.Index.{Index}
-use Rattle.mem_archive.specs.Memory.{archive_of, entry_of, entries_of, joined, place_in, text_in, shown_in, once_in, IsPlace, IsPlaceOf, ArePlaces, Hides, hidden_place, IsUpTo, IsKept}
+use Rattle.mem_archive.specs.Memory.{archive_of, entry_of, entries_of, joined, place_in, text_in, shown_in, once_in, IsPlace, IsKeptPlace, ArePlaces, Hides, hidden_place, IsNumberUpTo, IsKept}
 use Rattle.mem_archive.specs.declared.kept.End.{End}
 use Rattle.mem_archive.specs.declared.kept.Kept.{Kept}
-use Rattle.mem_archive.specs.declared.kept.Place.{Place}
+use Rattle.mem_archive.specs.declared.kept.KeptPlace.{KeptPlace}
 use Rattle.mem_archive.proofs.Lines.{entries_of-push}
 
 skip_step : (t : Bool) (text : List ℕ) (found : Option (List ℕ)) → t ≡ false → found ≡ None → (if t then Some text else found) ≡ None
@@ -19,7 +19,7 @@ skip_step true text found never none = absurd (cc)
 skip_step false text found never none = none
 
 -- A number before the first or after the last one has no text.
-pub text-out : (es : List Entry) (most n : ℕ) → AllByRecursion (IsUpTo most) es → (n ≡ 0) ⊎ (most < n) → text_of es n ≡ None
+pub text-out : (es : List Entry) (most n : ℕ) → AllByRecursion (IsNumberUpTo most) es → (n ≡ 0) ⊎ (most < n) → text_of es n ≡ None
 text-out [] most n all out = refl
 text-out (e ∷ es) most n all (inl zero_is) =
     let least : 1 ≤ e.number = all.0.0 in
@@ -31,11 +31,11 @@ text-out (e ∷ es) most n all (inr past) =
     skip_step (e.number == n) e.text (text_of es n) other (text-out es most n all.1 (inr past))
 
 -- A number that has a text is one of them.
-in_step : (t : Bool) (most n : ℕ) (e : Entry) (es : List Entry) (text : List ℕ) → (e.number == n) ≡ t → IsUpTo most e → (text_of es n ≡ Some text → (1 ≤ n) × (n < most + 1)) → (if t then Some e.text else text_of es n) ≡ Some text → (1 ≤ n) × (n < most + 1)
+in_step : (t : Bool) (most n : ℕ) (e : Entry) (es : List Entry) (text : List ℕ) → (e.number == n) ≡ t → IsNumberUpTo most e → (text_of es n ≡ Some text → (1 ≤ n) × (n < most + 1)) → (if t then Some e.text else text_of es n) ≡ Some text → (1 ≤ n) × (n < most + 1)
 in_step true most n e es text test one rest is = let same : e.number ≡ n = grind (arith, nat_tests, test) in (let least : 1 ≤ e.number = one.0 in omega (arith, same, least), let high : e.number < most + 1 = one.1 in omega (arith, same, high))
 in_step false most n e es text test one rest is = rest is
 
-pub text-in : (es : List Entry) (most n : ℕ) (text : List ℕ) → AllByRecursion (IsUpTo most) es → text_of es n ≡ Some text → (1 ≤ n) × (n < most + 1)
+pub text-in : (es : List Entry) (most n : ℕ) (text : List ℕ) → AllByRecursion (IsNumberUpTo most) es → text_of es n ≡ Some text → (1 ≤ n) × (n < most + 1)
 text-in [] most n text all is = absurd (cc)
 text-in (e ∷ es) most n text all is = in_step (e.number == n) most n e es text refl all.0 (λ more. text-in es most n text all.1 more) is
 
@@ -83,7 +83,7 @@ none_live es n None rise none is = is
 none_live es n (Some text) rise none is = absurd (let one : text_of (messages es) n ≡ Some text = (live-one 1 0 es n text rise is).is in let wrong : None ≡ Some text = sym none ∙ one in cc)
 
 -- With one more message.
-module _ (ks : List Kept) (places : List (Option Place)) (k : Kept) (epoch moment : ℕ) (text : List ℕ) (placed : ArePlaces ks places) (numbered : AllByRecursion (IsUpTo (length places)) (entries_of ks)) (is_new : entry_of k ≡ message (length places + 1) epoch text moment) where
+module _ (ks : List Kept) (places : List (Option KeptPlace)) (k : Kept) (epoch moment : ℕ) (text : List ℕ) (placed : ArePlaces ks places) (numbered : AllByRecursion (IsNumberUpTo (length places)) (entries_of ks)) (is_new : entry_of k ≡ message (length places + 1) epoch text moment) where
   abbrev new : Entry
   new = message (length places + 1) epoch text moment
 
@@ -97,7 +97,7 @@ module _ (ks : List Kept) (places : List (Option Place)) (k : Kept) (epoch momen
   more_messages = ap messages more_entries ∙ messages-message (entries_of ks) (length places + 1) epoch text moment
 
   -- The place of an older number is still right.
-  older_place : (i : ℕ) (found : Option Place) → slice_get places i ≡ Some found → IsPlaceOf (ks ++ k ∷ []) (i + 1) found
+  older_place : (i : ℕ) (found : Option KeptPlace) → slice_get places i ≡ Some found → IsKeptPlace (ks ++ k ∷ []) (i + 1) found
   older_place i found there = by found (placed i found there) where
     other : ((length places + 1) == (i + 1)) ≡ false
     other = let within : i < length places = slice_get_within places i found there in grind (arith, nat_tests, within)
@@ -105,7 +105,7 @@ module _ (ks : List Kept) (places : List (Option Place)) (k : Kept) (epoch momen
     same_once : text_of (messages (entries_of (ks ++ k ∷ []))) (i + 1) ≡ text_of (messages (entries_of ks)) (i + 1)
     same_once = ap (λ (es : List Entry). text_of es (i + 1)) more_messages ∙ text-push-other (messages (entries_of ks)) new (i + 1) other
 
-    by : (f : Option Place) → IsPlaceOf ks (i + 1) f → IsPlaceOf (ks ++ k ∷ []) (i + 1) f
+    by : (f : Option KeptPlace) → IsKeptPlace ks (i + 1) f → IsKeptPlace (ks ++ k ∷ []) (i + 1) f
     by None none = same_once ∙ none
     by (Some q) old = record {
       text = old.text;
@@ -115,7 +115,7 @@ module _ (ks : List Kept) (places : List (Option Place)) (k : Kept) (epoch momen
     }
 
   -- The new number has its place.
-  abbrev last : Place
+  abbrev last : KeptPlace
   last = record { entry = length ks; live = true }
 
   new_place : IsPlace (ks ++ k ∷ []) (length places + 1) last
@@ -126,26 +126,26 @@ module _ (ks : List Kept) (places : List (Option Place)) (k : Kept) (epoch momen
         text = text;
         is_there = text_in-last ks k ∙ ap (λ (e : Entry). Some e.text) is_new;
         once = ap (λ (es : List Entry). text_of es (length places + 1)) more_messages
-            ∙ text-push-new (messages (entries_of ks)) new (length places + 1) same (text-out (messages (entries_of ks)) (length places) (length places + 1) (messages-all (IsUpTo (length places)) (entries_of ks) numbered) (inr past));
+            ∙ text-push-new (messages (entries_of ks)) new (length places + 1) same (text-out (messages (entries_of ks)) (length places) (length places + 1) (messages-all (IsNumberUpTo (length places)) (entries_of ks) numbered) (inr past));
         shown = ap (λ (es : List Entry). text_of es (length places + 1)) more_live
-            ∙ text-push-new (live (entries_of ks)) new (length places + 1) same (text-out (live (entries_of ks)) (length places) (length places + 1) (live-all (IsUpTo (length places)) (entries_of ks) numbered) (inr past));
+            ∙ text-push-new (live (entries_of ks)) new (length places + 1) same (text-out (live (entries_of ks)) (length places) (length places + 1) (live-all (IsNumberUpTo (length places)) (entries_of ks) numbered) (inr past));
       }
 
   pub placed-message : ArePlaces (ks ++ k ∷ []) (places ++ Some last ∷ [])
   placed-message i found there = by (slice_get-push places (Some last) i found there) where
-    by : (slice_get places i ≡ Some found) ⊎ ((i ≡ length places) × (found ≡ Some last)) → IsPlaceOf (ks ++ k ∷ []) (i + 1) found
+    by : (slice_get places i ≡ Some found) ⊎ ((i ≡ length places) × (found ≡ Some last)) → IsKeptPlace (ks ++ k ∷ []) (i + 1) found
     by (inl old) = older_place i found old
-    by (inr at) = subst (λ (f : Option Place). IsPlaceOf (ks ++ k ∷ []) (i + 1) f) (sym at.1) (subst (λ (n : ℕ). IsPlace (ks ++ k ∷ []) (n + 1) last) (sym at.0) new_place)
+    by (inr at) = subst (λ (f : Option KeptPlace). IsKeptPlace (ks ++ k ∷ []) (i + 1) f) (sym at.1) (subst (λ (n : ℕ). IsPlace (ks ++ k ∷ []) (n + 1) last) (sym at.0) new_place)
 
 -- With one more number, which has no message.
-pub placed-none : (ks : List Kept) (places : List (Option Place)) → ArePlaces ks places → AllByRecursion (IsUpTo (length places)) (entries_of ks) → ArePlaces ks (places ++ None ∷ [])
+pub placed-none : (ks : List Kept) (places : List (Option KeptPlace)) → ArePlaces ks places → AllByRecursion (IsNumberUpTo (length places)) (entries_of ks) → ArePlaces ks (places ++ None ∷ [])
 placed-none ks places placed numbered i found there = by (slice_get-push places None i found there) where
-  by : (slice_get places i ≡ Some found) ⊎ ((i ≡ length places) × (found ≡ None)) → IsPlaceOf ks (i + 1) found
+  by : (slice_get places i ≡ Some found) ⊎ ((i ≡ length places) × (found ≡ None)) → IsKeptPlace ks (i + 1) found
   by (inl old) = placed i found old
-  by (inr at) = subst (λ (f : Option Place). IsPlaceOf ks (i + 1) f) (sym at.1) (let past : length places < i + 1 = omega (arith, at.0) in text-out (messages (entries_of ks)) (length places) (i + 1) (messages-all (IsUpTo (length places)) (entries_of ks) numbered) (inr past))
+  by (inr at) = subst (λ (f : Option KeptPlace). IsKeptPlace ks (i + 1) f) (sym at.1) (let past : length places < i + 1 = omega (arith, at.0) in text-out (messages (entries_of ks)) (length places) (i + 1) (messages-all (IsNumberUpTo (length places)) (entries_of ks) numbered) (inr past))
 
 -- With one more deletion.
-module _ (ks : List Kept) (old_places new_places : List (Option Place)) (k : Kept) (n epoch moment : ℕ) (text : List ℕ) (placed : ArePlaces ks old_places) (least : 1 ≤ n) (hides : Hides old_places new_places (n - 1)) (is_new : entry_of k ≡ deletion n epoch text moment) where
+module _ (ks : List Kept) (old_places new_places : List (Option KeptPlace)) (k : Kept) (n epoch moment : ℕ) (text : List ℕ) (placed : ArePlaces ks old_places) (least : 1 ≤ n) (hides : Hides old_places new_places (n - 1)) (is_new : entry_of k ≡ deletion n epoch text moment) where
   fewer_entries : entries_of (ks ++ k ∷ []) ≡ entries_of ks ++ deletion n epoch text moment ∷ []
   fewer_entries = entries_of-push ks k ∙ ap (λ (e : Entry). entries_of ks ++ e ∷ []) is_new
 
@@ -159,7 +159,7 @@ module _ (ks : List Kept) (old_places new_places : List (Option Place)) (k : Kep
   same_once i = ap (λ (es : List Entry). text_of es (i + 1)) same_messages
 
   -- The place of another number is still right.
-  other_place : (i : ℕ) (found : Option Place) → IsPlaceOf ks (i + 1) found → i + 1 ≢ n → IsPlaceOf (ks ++ k ∷ []) (i + 1) found
+  other_place : (i : ℕ) (found : Option KeptPlace) → IsKeptPlace ks (i + 1) found → i + 1 ≢ n → IsKeptPlace (ks ++ k ∷ []) (i + 1) found
   other_place i None none apart = same_once i ∙ none
   other_place i (Some q) old apart = record {
     text = old.text;
@@ -169,7 +169,7 @@ module _ (ks : List Kept) (old_places new_places : List (Option Place)) (k : Kep
   }
 
   -- That of the number itself is no longer live.
-  own_place : (i : ℕ) (found : Option Place) → IsPlaceOf ks (i + 1) found → i + 1 ≡ n → IsPlaceOf (ks ++ k ∷ []) (i + 1) (hidden_place found)
+  own_place : (i : ℕ) (found : Option KeptPlace) → IsKeptPlace ks (i + 1) found → i + 1 ≡ n → IsKeptPlace (ks ++ k ∷ []) (i + 1) (hidden_place found)
   own_place i None none same = same_once i ∙ none
   own_place i (Some p) old same = record {
     text = old.text;
@@ -183,42 +183,42 @@ module _ (ks : List Kept) (old_places new_places : List (Option Place)) (k : Kep
     within : i < length old_places
     within = let low : i < length new_places = slice_get_within new_places i q there in let size = hides.size in omega (arith, low, size)
 
-    by : (t : Bool) → ((i + 1) == n) ≡ t → IsPlaceOf (ks ++ k ∷ []) (i + 1) q
+    by : (t : Bool) → ((i + 1) == n) ≡ t → IsKeptPlace (ks ++ k ∷ []) (i + 1) q
     by true test =
         let same : i + 1 ≡ n = grind (arith, nat_tests, test) in
         let at : i ≡ n - 1 = omega (arith, same) in
-        let p : Option Place = get_or old_places i q in
+        let p : Option KeptPlace = get_or old_places i q in
         let old : slice_get old_places i ≡ Some p = slice_get-get_or old_places i q within in
         let hidden : slice_get new_places i ≡ Some (hidden_place p) = ap (slice_get new_places) at ∙ hides.here p (ap (slice_get old_places) (sym at) ∙ old) in
-        subst (λ (r : Option Place). IsPlaceOf (ks ++ k ∷ []) (i + 1) r) (same_Some (hidden_place p) q (sym hidden ∙ there)) (own_place i p (placed i p old) same)
+        subst (λ (r : Option KeptPlace). IsKeptPlace (ks ++ k ∷ []) (i + 1) r) (same_Some (hidden_place p) q (sym hidden ∙ there)) (own_place i p (placed i p old) same)
     by false test =
         let apart : i + 1 ≢ n = (λ same. (let yes : ((i + 1) == n) ≡ true = grind (arith, nat_tests, same) in let wrong : true ≡ false = sym yes ∙ test in cc)) in
         let elsewhere : i ≢ n - 1 = (λ at. apart (omega (arith, at, least))) in
         other_place i q (placed i q (sym (hides.kept i elsewhere) ∙ there)) apart
 
 -- What a number's place tells.
-module _ (config : Config) (ks : List Kept) (places : List (Option Place)) (index : Index) (end_ : End) (a : Archive) (is : archive_of config ks places ≡ a) (kept : IsKept config ks places index end_) where
+module _ (config : Config) (ks : List Kept) (places : List (Option KeptPlace)) (index : Index) (end_ : End) (a : Archive) (is : archive_of config ks places ≡ a) (kept : IsKept config ks places index end_) where
   live-out : (n : ℕ) → (n ≡ 0) ⊎ (length places < n) → text_of (live (entries_of ks)) n ≡ None
-  live-out n out = text-out (live (entries_of ks)) (length places) n (live-all (IsUpTo (length places)) (entries_of ks) kept.numbered) out
+  live-out n out = text-out (live (entries_of ks)) (length places) n (live-all (IsNumberUpTo (length places)) (entries_of ks) kept.numbered) out
 
   once-out : (n : ℕ) → (n ≡ 0) ⊎ (length places < n) → text_of (messages (entries_of ks)) n ≡ None
-  once-out n out = text-out (messages (entries_of ks)) (length places) n (messages-all (IsUpTo (length places)) (entries_of ks) kept.numbered) out
+  once-out n out = text-out (messages (entries_of ks)) (length places) n (messages-all (IsNumberUpTo (length places)) (entries_of ks) kept.numbered) out
 
   live_choice : (t : Bool) (found : Option (List ℕ)) (text : List ℕ) → found ≡ Some text → (if t then found else None) ≡ (if t then Some text else None)
   live_choice true found text is = is
   live_choice false found text is = refl
 
-  past : (ps : List (Option Place)) (j : ℕ) → slice_get ps j ≡ None → length ps ≤ j
+  past : (ps : List (Option KeptPlace)) (j : ℕ) → slice_get ps j ≡ None → length ps ≤ j
   past [] j is = omega arith
   past (p ∷ ps) zero is = absurd (cc)
   past (p ∷ ps) (suc j) is = let rest = past ps j is in omega (arith, rest)
 
-  shown_found : (i : ℕ) (found : Option (Option Place)) → slice_get places i ≡ found → shown_in ks (joined found) ≡ text_of (live (entries_of ks)) (i + 1)
+  shown_found : (i : ℕ) (found : Option (Option KeptPlace)) → slice_get places i ≡ found → shown_in ks (joined found) ≡ text_of (live (entries_of ks)) (i + 1)
   shown_found i None none = sym (live-out (i + 1) (inr (let high : length places ≤ i = past places i none in omega (arith, high))))
   shown_found i (Some None) there = sym (none_live (entries_of ks) (i + 1) (text_of (live (entries_of ks)) (i + 1)) kept.order (kept.placed i None there) refl)
   shown_found i (Some (Some p)) there = let old = kept.placed i (Some p) there in live_choice p.live (text_in ks p.entry) old.text old.is_there ∙ sym old.shown
 
-  once_found : (i : ℕ) (found : Option (Option Place)) → slice_get places i ≡ found → once_in ks (joined found) ≡ text_of (messages (entries_of ks)) (i + 1)
+  once_found : (i : ℕ) (found : Option (Option KeptPlace)) → slice_get places i ≡ found → once_in ks (joined found) ≡ text_of (messages (entries_of ks)) (i + 1)
   once_found i None none = sym (once-out (i + 1) (inr (let high : length places ≤ i = past places i none in omega (arith, high))))
   once_found i (Some None) there = sym (kept.placed i None there)
   once_found i (Some (Some p)) there = let old = kept.placed i (Some p) there in old.is_there ∙ sym old.once
@@ -232,17 +232,17 @@ module _ (config : Config) (ks : List Kept) (places : List (Option Place)) (inde
   once_at (suc i) = let same : i + 1 ≡ suc i = omega arith in once_found i (slice_get places i) refl ∙ ap (λ (m : ℕ). text_of (messages (entries_of ks)) m) same
 
   -- The text at the place of a number is the one that is shown.
-  pub shown_is : (items : List Kept) (held : List (Option Place)) (n : ℕ) (found : Option Place) → items ≡ ks → held ≡ places → found ≡ place_in held n → shown_in items found ≡ text_of (live a.entries) n
+  pub shown_is : (items : List Kept) (held : List (Option KeptPlace)) (n : ℕ) (found : Option KeptPlace) → items ≡ ks → held ≡ places → found ≡ place_in held n → shown_in items found ≡ text_of (live a.entries) n
   shown_is items held n found items_are held_are found_is =
       ap (λ (l : List Kept). shown_in l found) items_are
-      ∙ ap (shown_in ks) (found_is ∙ ap (λ (l : List (Option Place)). place_in l n) held_are)
+      ∙ ap (shown_in ks) (found_is ∙ ap (λ (l : List (Option KeptPlace)). place_in l n) held_are)
       ∙ shown_at n
       ∙ ap (λ (b : Archive). text_of (live b.entries) n) is
 
   -- Or the one that was delivered.
-  pub once_is : (items : List Kept) (held : List (Option Place)) (n : ℕ) (found : Option Place) → items ≡ ks → held ≡ places → found ≡ place_in held n → once_in items found ≡ text_of (messages a.entries) n
+  pub once_is : (items : List Kept) (held : List (Option KeptPlace)) (n : ℕ) (found : Option KeptPlace) → items ≡ ks → held ≡ places → found ≡ place_in held n → once_in items found ≡ text_of (messages a.entries) n
   once_is items held n found items_are held_are found_is =
       ap (λ (l : List Kept). once_in l found) items_are
-      ∙ ap (once_in ks) (found_is ∙ ap (λ (l : List (Option Place)). place_in l n) held_are)
+      ∙ ap (once_in ks) (found_is ∙ ap (λ (l : List (Option KeptPlace)). place_in l n) held_are)
       ∙ once_at n
       ∙ ap (λ (b : Archive). text_of (messages b.entries) n) is

@@ -15,7 +15,7 @@ use Rattle.arch_model.proofs.ValidArchives.{all_weaker}
 use Rattle.arch_judge.specs.Indexes.{HasSame}
 use Rattle.arch_judge.specs.declared.index.Index.{Index}
 use Rattle.arch_judge.proofs.Endings.{Ascend, live-ascend}
-use Rattle.arch_judge.proofs.Indexes.{IsIndex-same}
+use Rattle.arch_judge.proofs.Indexes.{IsArchiveIndex-same}
 use Rattle.overview_index.specs.Listings.{row_in}
 use Rattle.overview_index.proofs.Messages.{AllBelow, Ascends, row-is, row-number}
 use Rattle.view_set.specs.Viewed.{AreOrdered, Viewed, with_mail, without_mail, views_of, searched, AreWorded}
@@ -23,10 +23,10 @@ use Rattle.view_set.proofs.MailLists.{mails-added, mails-taken, mail-back, are-w
 use Rattle.view_set.proofs.Searching.{searched-is}
 use Rattle.arch_model.specs.Searching.{search}
 use Rattle.query_lang.specs.declared.query.Query.{Query}
-use Rattle.mem_archive.specs.Memory.{archive_of, entry_of, entries_of, IsKept, IsUpTo}
+use Rattle.mem_archive.specs.Memory.{archive_of, entry_of, entries_of, IsKept, IsNumberUpTo}
 use Rattle.mem_archive.specs.declared.kept.End.{End}
 use Rattle.mem_archive.specs.declared.kept.Kept.{Kept}
-use Rattle.mem_archive.specs.declared.kept.Place.{Place}
+use Rattle.mem_archive.specs.declared.kept.KeptPlace.{KeptPlace}
 use Rattle.mem_archive.proofs.Lines.{entries_of-push, of-kind}
 
 -- A number above those of all messages has no row.
@@ -64,12 +64,12 @@ views-deletion es more n epoch text moment old new more_is rise old_is new_is =
 
 -- The same of what is kept, with the number that was made for the message. Where it is not kept, all
 -- is as before.
-module _ (config : Config) (ks : List Kept) (places : List (Option Place)) (index : Index) (end_ : End) (a : Archive) (is : archive_of config ks places ≡ a) (kept : IsKept config ks places index end_) (views : Viewed) (views_are : views ≡ views_of (live (entries_of ks))) (number : ℕ) (number_is : number ≡ a.next) (read : List ℕ) (moment : ℕ) (mid : Viewed) (mid_is : mid ≡ with_mail views (row_of number read moment) (mail_words read)) where
+module _ (config : Config) (ks : List Kept) (places : List (Option KeptPlace)) (index : Index) (end_ : End) (a : Archive) (is : archive_of config ks places ≡ a) (kept : IsKept config ks places index end_) (views : Viewed) (views_are : views ≡ views_of (live (entries_of ks))) (number : ℕ) (number_is : number ≡ a.next) (read : List ℕ) (moment : ℕ) (mid : Viewed) (mid_is : mid ≡ with_mail views (row_of number read moment) (mail_words read)) where
   last : number ≡ length places + 1
   last = number_is ∙ ap (λ (b : Archive). b.next) (sym is)
 
   below : AllByRecursion (λ (e : Entry). e.number < number) (entries_of ks)
-  below = all_weaker (IsUpTo (length places)) (λ (e : Entry). e.number < number) (entries_of ks) (λ e up. let most = up.1 in omega (arith, most, last)) kept.numbered
+  below = all_weaker (IsNumberUpTo (length places)) (λ (e : Entry). e.number < number) (entries_of ks) (λ e up. let most = up.1 in omega (arith, most, last)) kept.numbered
 
   pub row-kept : (k : Kept) → k.kind ≡ Message → k.number ≡ number → k.moment ≡ moment → read ≡ k.text → (held : List Kept) → held ≡ ks ++ k ∷ [] → mid ≡ views_of (live (entries_of held))
   row-kept k kind_is numbered moment_is read_is held held_is =
@@ -91,10 +91,10 @@ module _ (config : Config) (ks : List Kept) (places : List (Option Place)) (inde
       ∙ ap (λ (v : Viewed). without_mail v number) mid_is
       ∙ mail-back views (row_of number read moment) (mail_words read) number (sym (row-number number read moment)) worded free
 
-  pub row-left : (held : List Kept) → held ≡ ks → (spots : List (Option Place)) → spots ≡ places → (other : Index) → HasSame index other → (new : Viewed) → new ≡ without_mail mid number → IsKept config held spots other end_ × (new ≡ views_of (live (entries_of held)))
+  pub row-left : (held : List Kept) → held ≡ ks → (spots : List (Option KeptPlace)) → spots ≡ places → (other : Index) → HasSame index other → (new : Viewed) → new ≡ without_mail mid number → IsKept config held spots other end_ × (new ≡ views_of (live (entries_of held)))
   row-left held held_is spots spots_are other same new new_is = (
     subst (λ (ks2 : List Kept). IsKept config ks2 spots other end_) (sym held_is)
-        (subst (λ (places2 : List (Option Place)). IsKept config ks places2 other end_) (sym spots_are) (record {
+        (subst (λ (places2 : List (Option KeptPlace)). IsKept config ks places2 other end_) (sym spots_are) (record {
           settings = kept.settings;
           numbers = kept.numbers;
           placed = kept.placed;
@@ -104,7 +104,7 @@ module _ (config : Config) (ks : List Kept) (places : List (Option Place)) (inde
           ids = kept.ids;
           blobs = kept.blobs;
           named = kept.named;
-          indexed = IsIndex-same (entries_of ks) index other kept.indexed same;
+          indexed = IsArchiveIndex-same (entries_of ks) index other kept.indexed same;
           lines = kept.lines;
           last = kept.last;
           ends = kept.ends;
@@ -113,22 +113,22 @@ module _ (config : Config) (ks : List Kept) (places : List (Option Place)) (inde
   )
 
 -- A search among what is kept.
-pub found-kept : (config : Config) (ks : List Kept) (places : List (Option Place)) (index : Index) (end_ : End) (a : Archive) (is : archive_of config ks places ≡ a) (kept : IsKept config ks places index end_) (query : Query) → searched query (views_of (live a.entries)) ≡ search query (live a.entries)
+pub found-kept : (config : Config) (ks : List Kept) (places : List (Option KeptPlace)) (index : Index) (end_ : End) (a : Archive) (is : archive_of config ks places ≡ a) (kept : IsKept config ks places index end_) (query : Query) → searched query (views_of (live a.entries)) ≡ search query (live a.entries)
 found-kept config ks places index end_ a is kept query =
     subst (λ (b : Archive). searched query (views_of (live b.entries)) ≡ search query (live b.entries)) is
     (searched-is query (length places + 1) (live (entries_of ks)) small (live-all (λ (e : Entry). e.number < length places + 1) (entries_of ks) below) (ascends-of 1 (live (entries_of ks)) (live-ascend 1 0 (entries_of ks) kept.order)))
   where
     below : AllByRecursion (λ (e : Entry). e.number < length places + 1) (entries_of ks)
-    below = all_weaker (IsUpTo (length places)) (λ (e : Entry). e.number < length places + 1) (entries_of ks) (λ e up. up.1) kept.numbered
+    below = all_weaker (IsNumberUpTo (length places)) (λ (e : Entry). e.number < length places + 1) (entries_of ks) (λ e up. up.1) kept.numbered
 
     small : length places + 1 ≤ 2147483648
     small = (let most : config.max ≤ 2147483647 = kept.settings.max_high in let few = kept.numbers in omega (arith, most, few))
 
 -- What is kept is in order.
-pub ordered-kept : (config : Config) (ks : List Kept) (places : List (Option Place)) (index : Index) (end_ : End) (a : Archive) → archive_of config ks places ≡ a → IsKept config ks places index end_ → AreOrdered a.entries
+pub ordered-kept : (config : Config) (ks : List Kept) (places : List (Option KeptPlace)) (index : Index) (end_ : End) (a : Archive) → archive_of config ks places ≡ a → IsKept config ks places index end_ → AreOrdered a.entries
 ordered-kept config ks places index end_ a is kept =
     subst (λ (b : Archive). AreOrdered b.entries) is (record {
       order = kept.order;
-      small = all_weaker (IsUpTo (length places)) (λ (e : Entry). e.number < 2147483648) (entries_of ks)
+      small = all_weaker (IsNumberUpTo (length places)) (λ (e : Entry). e.number < 2147483648) (entries_of ks)
           (λ e up. let most : config.max ≤ 2147483647 = kept.settings.max_high in let few = kept.numbers in let above = up.1 in omega (arith, most, few, above)) kept.numbered;
     })

@@ -1,4 +1,4 @@
--- What a crash leaves of an archive in memory: the archive.
+-- Lemmas for `impl Keep`: what a crash leaves of an archive in memory: the archive.
 use Rattle.std.specs.Prelude.{◌≡◌, true, List, Option, Some, refl}
 use Rattle.std.specs.List.{Contains}
 use Rattle.std.proofs.Common.{◌∙◌, sym, subst}

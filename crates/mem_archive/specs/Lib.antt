@@ -1,2 +1,2 @@
-pub mod Crashes
 pub mod Memory
+pub mod Crashes

@@ -18,10 +18,10 @@ use Rattle.mail_commits.specs.Entries.{commit_id, entry_bytes, magic}
 use Rattle.git_objects.specs.declared.entry_kind.EntryKind.{EntryKind}
 use Rattle.git_objects.specs.declared.entry_kind.EntryKind.TheVariants.{Message, Deletion}
 use Rattle.mem_archive.specs.declared.kept.Kept.{Kept}
-use Rattle.mem_archive.specs.declared.kept.Place.{Place}
+use Rattle.mem_archive.specs.declared.kept.KeptPlace.{KeptPlace}
 use Rattle.mem_archive.specs.declared.kept.End.{End}
 use Rattle.arch_base.specs.declared.sequence.NoMemory.{NoMemory}
-use Rattle.arch_judge.specs.Indexes.{IsIndex}
+use Rattle.arch_judge.specs.Indexes.{IsArchiveIndex}
 use Rattle.arch_judge.specs.declared.index.Index.{Index}
 use Rattle.arch_judge.specs.declared.judging.Verdict.{Verdict}
 use Rattle.arch_judge.specs.declared.judging.Verdict.TheVariants.{Take, Compare, Refuse}
@@ -59,17 +59,17 @@ lines_of [] = []
 lines_of (k ∷ ks) = line_of k ∷ lines_of ks
 
 -- The archive of kept entries, whose messages have the places of the numbers from 1 on.
-abbrev pub archive_of : Config → List Kept → List (Option Place) → Archive
+abbrev pub archive_of : Config → List Kept → List (Option KeptPlace) → Archive
 archive_of config kept places =
     record { config = config; entries = entries_of kept; next = length places + 1 }
 
 -- A place that may be there, of what may be there.
-abbrev pub joined : Option (Option Place) → Option Place
+abbrev pub joined : Option (Option KeptPlace) → Option KeptPlace
 joined None = None
 joined (Some found) = found
 
 -- The place of a number, from 1 on, if it has a message.
-abbrev pub place_in : List (Option Place) → ℕ → Option Place
+abbrev pub place_in : List (Option KeptPlace) → ℕ → Option KeptPlace
 place_in places zero = None
 place_in places (suc index) = joined (slice_get places index)
 
@@ -78,75 +78,75 @@ abbrev pub text_in : List Kept → ℕ → Option (List ℕ)
 text_in kept index = option_map (λ (k : Kept). k.text) (slice_get kept index)
 
 -- The text at a place, if it is live.
-abbrev pub shown_in : List Kept → Option Place → Option (List ℕ)
+abbrev pub shown_in : List Kept → Option KeptPlace → Option (List ℕ)
 shown_in kept None = None
 shown_in kept (Some place) = if place.live then text_in kept place.entry else None
 
 -- The text at a place, live or not.
-abbrev pub once_in : List Kept → Option Place → Option (List ℕ)
+abbrev pub once_in : List Kept → Option KeptPlace → Option (List ℕ)
 once_in kept None = None
 once_in kept (Some place) = text_in kept place.entry
 
 -- The place, if there is one, is live.
-abbrev pub is_live_place : Option Place → Bool
+abbrev pub is_live_place : Option KeptPlace → Bool
 is_live_place None = false
 is_live_place (Some place) = place.live
 
 -- The place of a number is live.
-abbrev pub live_at : List (Option Place) → ℕ → Bool
+abbrev pub live_at : List (Option KeptPlace) → ℕ → Bool
 live_at places number = is_live_place (place_in places number)
 
 -- The least number from one on whose place is live, or none.
-abbrev pub IsLeastAt : List (Option Place) → ℕ → Option ℕ → Type 0
+abbrev pub IsLeastAt : List (Option KeptPlace) → ℕ → Option ℕ → Type 0
 IsLeastAt places n None = (m : ℕ) → n ≤ m → live_at places m ≡ false
 IsLeastAt places n (Some found) = (n ≤ found) × (live_at places found ≡ true)
     × ((m : ℕ) → n ≤ m → m < found → live_at places m ≡ false)
 
 -- The greatest number up to one whose place is live, or none.
-abbrev pub IsGreatestAt : List (Option Place) → ℕ → Option ℕ → Type 0
+abbrev pub IsGreatestAt : List (Option KeptPlace) → ℕ → Option ℕ → Type 0
 IsGreatestAt places n None = (m : ℕ) → m ≤ n → live_at places m ≡ false
 IsGreatestAt places n (Some found) = (found ≤ n) × (live_at places found ≡ true)
     × ((m : ℕ) → found < m → m ≤ n → live_at places m ≡ false)
 
 -- How many of the places of the numbers from `n` on are live, of those between two numbers.
-abbrev pub count_from : ℕ → ℕ → ℕ → List (Option Place) → ℕ
+abbrev pub count_from : ℕ → ℕ → ℕ → List (Option KeptPlace) → ℕ
 count_from n low high [] = 0
 count_from n low high (found ∷ places) =
     if is_live_place found && (nat_le low n && nat_le n high) then suc (count_from (n + 1) low high places)
     else count_from (n + 1) low high places
 
 -- The place has the index of a number's message, and tells whether the number is live.
-pub record IsPlace (kept : List Kept) (number : ℕ) (place : Place) : Type 0 where
+pub record IsPlace (kept : List Kept) (number : ℕ) (place : KeptPlace) : Type 0 where
   pub text : List ℕ
   pub is_there : text_in kept place.entry ≡ Some text
   pub once : text_of (messages (entries_of kept)) number ≡ Some text
   pub shown : text_of (live (entries_of kept)) number ≡ (if place.live then Some text else None)
 
 -- A number has its place, or no message.
-abbrev pub IsPlaceOf : List Kept → ℕ → Option Place → Type 0
-IsPlaceOf kept number None = text_of (messages (entries_of kept)) number ≡ None
-IsPlaceOf kept number (Some place) = IsPlace kept number place
+abbrev pub IsKeptPlace : List Kept → ℕ → Option KeptPlace → Type 0
+IsKeptPlace kept number None = text_of (messages (entries_of kept)) number ≡ None
+IsKeptPlace kept number (Some place) = IsPlace kept number place
 
 -- Each number from 1 on has its place, or no message.
-abbrev pub ArePlaces : List Kept → List (Option Place) → Type 0
+abbrev pub ArePlaces : List Kept → List (Option KeptPlace) → Type 0
 ArePlaces kept places =
-    (i : ℕ) (found : Option Place) → slice_get places i ≡ Some found → IsPlaceOf kept (i + 1) found
+    (i : ℕ) (found : Option KeptPlace) → slice_get places i ≡ Some found → IsKeptPlace kept (i + 1) found
 
 -- The place, if there is one, no longer live.
-abbrev pub hidden_place : Option Place → Option Place
+abbrev pub hidden_place : Option KeptPlace → Option KeptPlace
 hidden_place None = None
 hidden_place (Some place) = Some (record { entry = place.entry; live = false })
 
 -- The place at an index is no longer live, and each other place stays.
-pub record Hides (old new : List (Option Place)) (at : ℕ) : Type 0 where
+pub record Hides (old new : List (Option KeptPlace)) (at : ℕ) : Type 0 where
   pub size : length new ≡ length old
-  pub here : (found : Option Place) → slice_get old at ≡ Some found
+  pub here : (found : Option KeptPlace) → slice_get old at ≡ Some found
       → slice_get new at ≡ Some (hidden_place found)
   pub kept : (i : ℕ) → i ≢ at → slice_get new i ≡ slice_get old i
 
 -- The number of an entry is at least one and at most so many.
-abbrev pub IsUpTo : ℕ → Entry → Type 0
-IsUpTo most e = (1 ≤ e.number) × (e.number < most + 1)
+abbrev pub IsNumberUpTo : ℕ → Entry → Type 0
+IsNumberUpTo most e = (1 ≤ e.number) × (e.number < most + 1)
 
 -- The text of an entry has an own id (RFC 5322, section 3.6.4).
 abbrev pub HasId : Entry → Type 0
@@ -161,7 +161,7 @@ MayKeep a (Compare text ids number) = ⊥
 MayKeep a (Refuse reply) = Unit {0}
 
 -- The end holds the room and the last commit of its epoch.
-pub record IsEnd (limit : ℕ) (entries : List Entry) (end_ : End) : Type 0 where
+pub record IsEpochEnd (limit : ℕ) (entries : List Entry) (end_ : End) : Type 0 where
   pub room : end_.room ≡ limit - length (epoch_bytes (in_epoch entries end_.epoch))
   pub parent : end_.parent ≡ last_commit None (in_epoch entries end_.epoch)
   pub small : end_.epoch ≤ greatest_epoch
@@ -170,22 +170,22 @@ pub record IsEnd (limit : ℕ) (entries : List Entry) (end_ : End) : Type 0 wher
 -- place or no message, numbers are from 1 to the last and rise, deletions end live messages, each
 -- text has an own id, live ids differ at each place, each blob id has one text, the index is that of
 -- the entries, each has the id of its commit, and the end is that of the last epoch.
-pub record IsKept (config : Config) (kept : List Kept) (places : List (Option Place)) (index : Index)
+pub record IsKept (config : Config) (kept : List Kept) (places : List (Option KeptPlace)) (index : Index)
     (end_ : End) : Type 0 where
   pub settings : IsConfig config
   pub numbers : length places ≤ config.max
   pub placed : ArePlaces kept places
-  pub numbered : AllByRecursion (IsUpTo (length places)) (entries_of kept)
+  pub numbered : AllByRecursion (IsNumberUpTo (length places)) (entries_of kept)
   pub order : Rise 1 0 (entries_of kept)
   pub deletions : AtEachPlace (λ (before : List Entry) (e : Entry). EndsLive e.kind before e) []
       (entries_of kept)
   pub ids : AtEachPlace LiveDiffer [] (entries_of kept)
   pub blobs : BlobsAgree (entries_of kept)
   pub named : AllByRecursion HasId (entries_of kept)
-  pub indexed : IsIndex (entries_of kept) index
+  pub indexed : IsArchiveIndex (entries_of kept) index
   pub lines : lines_of kept ≡ lines_after [] (entries_of kept)
   pub last : end_.epoch ≡ last_epoch (entries_of kept)
-  pub ends : IsEnd config.limit (entries_of kept) end_
+  pub ends : IsEpochEnd config.limit (entries_of kept) end_
 
 -- The bytes before those of an entry: an epoch's first bytes, if the entry has no parent.
 abbrev pub front_bytes : Option Id20 → List ℕ
@@ -215,8 +215,8 @@ end_after end_ kind text moment = record {
 }
 
 -- The new bytes start with the old ones.
-abbrev pub Grows : List ℕ → List ℕ → Type 0
-Grows old new = take (length old) new ≡ old
+abbrev pub BytesGrow : List ℕ → List ℕ → Type 0
+BytesGrow old new = take (length old) new ≡ old
 
 -- The bytes of an epoch were appended, and it is told whether it has an entry. `NoMemory` leaves
 -- the bytes unchanged.
@@ -235,7 +235,7 @@ IsNumberedAfter Deletion a e = text_of (live a.entries) e.number ≡ Some e.text
 -- An entry may be appended again, in its epoch and under its number, where a text was left out: its
 -- epoch isn't before the last one, and a message has a new number and a free own id, no other text has
 -- its blob id, and a deletion ends a live message.
-pub record MayFollow (a : Archive) (e : Entry) : Type 0 where
+pub record EntryMayFollow (a : Archive) (e : Entry) : Type 0 where
   pub epoch : last_epoch a.entries ≤ e.epoch
   pub small : e.epoch ≤ greatest_epoch
   pub named : HasId e
@@ -257,7 +257,7 @@ numbered_to a next = record { config = a.config; entries = a.entries; next = gre
 
 -- The end and the commit after an entry that is appended so.
 pub record IsEndAfter (a : Archive) (e : Entry) (commit : Id20) (end_ : End) : Type 0 where
-  pub ends : IsEnd a.config.limit (a.entries ++ e ∷ []) end_
+  pub ends : IsEpochEnd a.config.limit (a.entries ++ e ∷ []) end_
   pub epoch : end_.epoch ≡ e.epoch
   pub commit_is : commit
       ≡ commit_id e.kind e.text e.moment (last_commit None (in_epoch a.entries e.epoch))

@@ -1,9 +1,10 @@
 //! What the archive in memory keeps of each entry, and of its last epoch.
+//! Allocates.
 ghost use Rattle.std.specs.Prelude.{◌≡◌, ◌++◌, ◌≤◌, IfOk, OnOk, OnErr, is_ok, if◌then◌else◌};
 ghost use Rattle.disk_model.specs.Sizes.{greatest_epoch};
 ghost use Rattle.git_objects.specs.Objects.{blob_id_of};
 ghost use Rattle.mail_commits.specs.Entries.{commit_id, entry_bytes};
-ghost use Rattle.mem_archive.specs.Memory.{entry_of, line_of, front_bytes, end_for_new, end_by_room, end_in_epoch, end_after, Grows};
+ghost use Rattle.mem_archive.specs.Memory.{entry_of, line_of, front_bytes, end_for_new, end_by_room, end_in_epoch, end_after, BytesGrow};
 
 use arch_base::{Bytes, NoMemory, ObjectId};
 use arch_model::EntryLine;
@@ -67,7 +68,7 @@ impl Kept {
 
 /// Where the message of a number is kept. A number whose message was purged has none.
 #[derive(Clone, Copy, Drop)]
-pub(crate) struct Place {
+pub(crate) struct KeptPlace {
     /// The index of its entry.
     pub(crate) entry: usize,
     /// Whether it is live.
@@ -181,7 +182,7 @@ pub(crate) fn push_after(
     ensures id { IfOk result (λ id. id ≡ commit_id kind text.now moment parent) }
     ensures ok { OnOk result (into.new
         ≡ into.old ++ (front_bytes parent ++ entry_bytes kind text.now moment parent)) }
-    ensures err { OnErr result (Grows into.old into.new) }
+    ensures err { OnErr result (BytesGrow into.old into.new) }
 {
     push_front(parent, into)?;
     let ids = push_entry(alloc, kind, text, blob, moment, parent, into)?;

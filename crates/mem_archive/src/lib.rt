@@ -1,4 +1,5 @@
 //! A plain archive in memory that does exactly what the definitions say.
+//! Allocates.
 #![tactic(auto)]
 
 mod kept;

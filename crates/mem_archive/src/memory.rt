@@ -1,4 +1,5 @@
 //! A plain archive in memory, which does what the definitions say, call by call.
+//! Allocates.
 ghost use Rattle.std.specs.Prelude.{◌≡◌, ◌+◌, ◌++◌, ◌≤◌, false, not, take, drop, length, option_copied, IfOk, OnOk, OnErr, IsSome, Some, None};
 ghost use Rattle.std.specs.Str.{bytes_eq};
 ghost use Rattle.arch_base.specs.Configs.{IsConfig};
@@ -10,7 +11,7 @@ ghost use Rattle.arch_model.specs.Archives.{empty_archive, with_entry, with_dele
 ghost use Rattle.arch_model.specs.Delivery.{Delivers, applied, delivered, removed, purged, edited, unless_refused, is_form, collision, new_epoch};
 ghost use Rattle.arch_judge.specs.Judging.{Judges};
 ghost use Rattle.arch_model.specs.Epochs.{epoch_bytes};
-ghost use Rattle.mem_archive.specs.Memory.{GivesEpoch, Grows, MayKeep, MayFollow, IsEndAfter, entry_of, appended_as, numbered_to};
+ghost use Rattle.mem_archive.specs.Memory.{GivesEpoch, BytesGrow, MayKeep, EntryMayFollow, IsEndAfter, entry_of, appended_as, numbered_to};
 ghost use Rattle.arch_model.specs.Listings.{row_in, number_of_id, listing};
 ghost use Rattle.arch_model.specs.Shelves.{IsGreatestLive, live_between, line_at, blob_text};
 ghost use Rattle.arch_model.specs.Standing.{IsLeastLive, IsUntouched};
@@ -19,7 +20,7 @@ ghost use Rattle.arch_model.specs.Threading.{thread_in};
 ghost use Rattle.arch_model.specs.declared.answer.Answer.{Answer};
 ghost use Rattle.git_objects.specs.declared.entry_kind.EntryKind.{EntryKind};
 
-use crate::kept::{End, Kept, Place, push_after};
+use crate::kept::{End, Kept, KeptPlace, push_after};
 use crate::placing::{count_live, greatest_live, hide, least_live, once_at, place_of, shown_at};
 use arch_base::{Bytes, Config, NoMemory, Numbers, ObjectId};
 use arch_judge::{Index, Owner, Verdict, compared, judge};
@@ -37,7 +38,7 @@ pub struct MemArchive {
     alloc: Global,
     config: Config,
     kept: Vec<Kept>,
-    places: Vec<Option<Place>>,
+    places: Vec<Option<KeptPlace>>,
     index: Index,
     views: Views,
     end: End,
@@ -230,7 +231,7 @@ impl MemArchive {
         ensures found { IfOk result (λ found. found ≡ has_entry (in_epoch self.now.entries epoch)) }
         ensures ok { OnOk result (into.new
             ≡ into.old ++ epoch_bytes (in_epoch self.now.entries epoch)) }
-        ensures err { OnErr result (Grows into.old into.new) }
+        ensures err { OnErr result (BytesGrow into.old into.new) }
     {
         let mut parent = None;
         for kept in self.kept.as_slice() {
@@ -486,7 +487,7 @@ impl MemArchive {
     ///
     /// `NoMemory` may leave these numbers given.
     fn append_again(&mut self, kept: &Kept) -> Result<(), NoMemory>
-        requires { MayFollow self.old (entry_of kept.now) }
+        requires { EntryMayFollow self.old (entry_of kept.now) }
         ensures { OnOk result (self.new ≡ appended_as self.old (entry_of kept.now)) }
     {
         let begin = self.end.in_epoch(kept.epoch, self.config.limit);
@@ -509,7 +510,7 @@ impl MemArchive {
     /// `NoMemory` leaves the archive unchanged.
     fn append_message(&mut self, entry: Kept, ids: &TextIds, end: End) -> Result<(), NoMemory>
         requires ids { ids.now ≡ text_ids_of entry.text }
-        requires follows { MayFollow self.old (entry_of entry) }
+        requires follows { EntryMayFollow self.old (entry_of entry) }
         requires number { entry.number ≡ self.old.next }
         requires ends { IsEndAfter self.old (entry_of entry) entry.commit end }
         ensures ok { OnOk result (self.new ≡ appended_as self.old (entry_of entry)) }
@@ -534,7 +535,7 @@ impl MemArchive {
             return Err(NoMemory);
         }
         self.kept.push(entry)?;
-        self.places.push(Some(Place {
+        self.places.push(Some(KeptPlace {
             entry: index,
             live: true,
         }))?;
@@ -546,7 +547,7 @@ impl MemArchive {
     ///
     /// `NoMemory` leaves the archive unchanged.
     fn append_deletion(&mut self, entry: Kept, end: End) -> Result<(), NoMemory>
-        requires follows { MayFollow self.old (entry_of entry) }
+        requires follows { EntryMayFollow self.old (entry_of entry) }
         requires kind { entry.kind ≡ EntryKind.Deletion }
         requires ends { IsEndAfter self.old (entry_of entry) entry.commit end }
         ensures ok { OnOk result (self.new ≡ appended_as self.old (entry_of entry)) }

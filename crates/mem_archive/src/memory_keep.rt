@@ -1,5 +1,7 @@
-//! The archive in memory as a shelf and a keeper. It has no disk that fails, and a crash leaves it
-//! whole.
+//! The archive in memory as a shelf and a keeper.
+//! Allocates.
+//!
+//! It has no disk that fails, and a crash leaves it whole.
 ghost use Rattle.std.specs.Prelude.{◌≡◌, true, Some, refl};
 ghost use Rattle.std.specs.List.{Contains};
 ghost use Rattle.mem_archive.specs.Crashes.{held-left, same-read};
@@ -95,7 +97,7 @@ impl Shelf for MemArchive {
 }
 
 impl Keep for MemArchive {
-    ghost rests = { λ m a. a ≡ m };
+    ghost files_are = { λ m a. a ≡ m };
 
     ghost leaves = { λ start m may. Contains may (Some m) };
 
@@ -123,7 +125,7 @@ impl Keep for MemArchive {
         }
     }
 
-    ghost holds_rests = { λ m a same. same };
+    ghost holds_files_are = { λ m a same. same };
 
     ghost holds_left = { λ m a may same has. held-left m a may same has };
 

@@ -12,7 +12,7 @@ use Rattle.mime_parts.specs.declared.delimiters.LineKind.{LineKind}
 use Rattle.mime_parts.specs.declared.delimiters.LineKind.TheVariants.{Plain, Delimiter, Closing}
 use Rattle.mime_parts.specs.Delimiters.{kind_of, Cuts, cuts_by, cuts_from}
 use Rattle.mime_parts.specs.Trees.{bytes_at}
-use Rattle.mime_parts.specs.Laws.{IsPlain, AreCut, BodiesAreDivided}
+use Rattle.mime_parts.specs.Laws.{HasNoDelimiter, AreCut, BodiesAreDivided}
 use Rattle.mime_parts.proofs.Spanning.{length-bytes_at}
 use Rattle.mime_parts.proofs.Feeding.{EndsFed, AllLines, all_lines, plain_push, plain_unfed}
 
@@ -54,7 +54,7 @@ all_ended (b ∷ bs) = step (eqb b 10) refl (all_ended bs)
 record Cut (boundary text : List ℕ) (offset end : ℕ) (c : Cuts) : Type 0 where
   ordered : offset ≤ max offset c.stop
   within : max offset c.stop ≤ end
-  plain : IsPlain boundary (slice_range text offset (max offset c.stop))
+  plain : HasNoDelimiter boundary (slice_range text offset (max offset c.stop))
   parts : AreCut boundary text (max offset c.stop) end c.parts
 
 -- A line, with the line feed before it where it isn't at the offset, and what stands before both.
@@ -62,7 +62,7 @@ record Led (boundary text line : List ℕ) (offset at next : ℕ) : Type 0 where
   lead : List ℕ
   feed : (lead ≡ []) ⊎ (lead ≡ 10 ∷ [])
   joined : slice_range text (max offset (at - 1)) next ≡ lead ++ line
-  plain : IsPlain boundary (slice_range text offset (max offset (at - 1)))
+  plain : HasNoDelimiter boundary (slice_range text offset (max offset (at - 1)))
 
 cut_step : (k : LineKind) (boundary text line : List ℕ) (offset at next end : ℕ) (later : Cuts) → kind_of boundary line ≡ k
     → offset ≤ at → at ≤ next → next ≤ end → Led boundary text line offset at next
@@ -105,7 +105,7 @@ ended_rest : (line : List ℕ) (lines : List (List ℕ)) → AllEnded (line ∷ 
 ended_rest line [] e = tt
 ended_rest line (m ∷ ls) e = e.1
 
-led : (boundary text pre mid line rest : List ℕ) → text ≡ pre ++ (mid ++ (line ++ rest)) → (mid ≡ []) ⊎ EndsFed mid → IsPlain boundary mid
+led : (boundary text pre mid line rest : List ℕ) → text ≡ pre ++ (mid ++ (line ++ rest)) → (mid ≡ []) ⊎ EndsFed mid → HasNoDelimiter boundary mid
     → Led boundary text line (length pre) (length pre + length mid) ((length pre + length mid) + length line)
 led boundary text pre mid line rest e (inl none) p =
     let empty : length mid ≡ 0 = ap length none in
@@ -122,7 +122,7 @@ led boundary text pre mid line rest e (inl none) p =
           ∙ ap (slice_range text (length pre)) to
           ∙ ap (λ xs. slice_range xs (length pre) (length pre + length line)) split
           ∙ slice_mid pre line rest;
-      plain = subst (IsPlain boundary) (sym nothing) (All-nil _);
+      plain = subst (HasNoDelimiter boundary) (sym nothing) (All-nil _);
     }
 led boundary text pre mid line rest e (inr f) p =
     let size : length mid ≡ length f.before + 1 = ap length f.is ∙ length-append f.before (10 ∷ []) in
@@ -143,11 +143,11 @@ led boundary text pre mid line rest e (inr f) p =
           ∙ ap (slice_range text (length (pre ++ f.before))) to
           ∙ ap (λ xs. slice_range xs (length (pre ++ f.before)) (length (pre ++ f.before) + length (10 ∷ line))) joined
           ∙ slice_mid (pre ++ f.before) (10 ∷ line) rest;
-      plain = subst (IsPlain boundary) (sym some) (plain_unfed boundary f.before (subst (IsPlain boundary) f.is p));
+      plain = subst (HasNoDelimiter boundary) (sym some) (plain_unfed boundary f.before (subst (HasNoDelimiter boundary) f.is p));
     }
 
 cut_lines : (boundary text pre mid : List ℕ) (lines : List (List ℕ)) (after : List ℕ) (offset at : ℕ) → offset ≡ length pre → at ≡ length pre + length mid
-    → text ≡ pre ++ (mid ++ (concat lines ++ after)) → FedIf lines mid → AllEnded lines → AllLines lines → IsPlain boundary mid
+    → text ≡ pre ++ (mid ++ (concat lines ++ after)) → FedIf lines mid → AllEnded lines → AllLines lines → HasNoDelimiter boundary mid
     → Cut boundary text offset (at + length (concat lines)) (cuts_from boundary at lines)
 cut_lines boundary text pre mid [] after offset at b a e fed ended are p =
     let whole : max offset at ≡ length pre + length mid = omega arith in
@@ -157,7 +157,7 @@ cut_lines boundary text pre mid [] after offset at b a e fed ended are p =
     record {
       ordered = omega arith;
       within = omega arith;
-      plain = subst (IsPlain boundary) (sym bytes) p;
+      plain = subst (HasNoDelimiter boundary) (sym bytes) p;
       parts = inl (omega arith);
     }
 cut_lines boundary text pre mid (line ∷ lines) after offset at b a e fed ended are p =

@@ -7,7 +7,7 @@ use Rattle.mail_reader.specs.Lines.{lines_of}
 use Rattle.mail_reader.specs.Fields.{without_feed}
 use Rattle.mime_parts.specs.declared.delimiters.LineKind.TheVariants.{Plain}
 use Rattle.mime_parts.specs.Delimiters.{kind_of}
-use Rattle.mime_parts.specs.Laws.{IsPlain}
+use Rattle.mime_parts.specs.Laws.{HasNoDelimiter}
 
 -- Bytes that end with a line feed.
 pub record EndsFed (bytes : List ℕ) : Type 0 where
@@ -65,7 +65,7 @@ lines_fed (x ∷ xs) ys = step (eqb x 10) _ _ (lines_fed xs ys) (fed_some xs)
 
 -- Bytes that are empty or end with a line feed, and then a line.
 pub plain_push : (boundary mid line : List ℕ) → (mid ≡ []) ⊎ EndsFed mid → IsLine line → kind_of boundary line ≡ Plain
-    → IsPlain boundary mid → IsPlain boundary (mid ++ line)
+    → HasNoDelimiter boundary mid → HasNoDelimiter boundary (mid ++ line)
 plain_push boundary mid line (inl e) l k p =
     let is : lines_of (mid ++ line) ≡ line ∷ [] = ap (λ xs. lines_of (xs ++ line)) e ∙ l in
     All-same (λ (it : List ℕ). kind_of boundary it ≡ Plain) _ _ is (All-cons (λ (it : List ℕ). kind_of boundary it ≡ Plain) line [] k (All-nil _))
@@ -134,5 +134,5 @@ plain_front boundary (l ∷ ls) (m ∷ ms) s a =
     (plain_front boundary ls ms s.1 (All-tail (λ (it : List ℕ). kind_of boundary it ≡ Plain) m ms a))
 
 -- Bytes without the line feed at their end.
-pub plain_unfed : (boundary bytes : List ℕ) → IsPlain boundary (bytes ++ 10 ∷ []) → IsPlain boundary bytes
+pub plain_unfed : (boundary bytes : List ℕ) → HasNoDelimiter boundary (bytes ++ 10 ∷ []) → HasNoDelimiter boundary bytes
 plain_unfed boundary bytes p = plain_front boundary (lines_of bytes) (lines_of (bytes ++ 10 ∷ [])) (same_lines bytes) p

@@ -13,7 +13,7 @@ use Rattle.mime_parts.specs.Headings.{shape_of, is_digest, opaque_heading}
 use Rattle.mime_parts.specs.Delimiters.{span_of}
 use Rattle.mime_parts.specs.Dividing.{at_most}
 use Rattle.mime_parts.specs.Trees.{IsIn, bytes_at, header_span, body_span, max_count, direct_parts, heading_at, visited_parts, part_with, part_by, part_at, is_opaque, Visit, visit_all, visit_of, tree_of}
-use Rattle.mime_parts.specs.Laws.{Stands, IsBelow, IsAfter, StartsBelow, StartsBeside, whole_span, spans_at, IsFollowed, AllFollowed, TreesAreTrees}
+use Rattle.mime_parts.specs.Laws.{PartStands, IsPartBelow, IsAfter, StartsBelow, StartsBeside, whole_span, spans_at, IsFollowed, AllFollowed, TreesAreTrees}
 use Rattle.mime_parts.proofs.Spanning.{InOrder, order_le, cuts_order, AllIn, parts_len, length-bytes_at, body-in, direct_in, at_most_in, at_most_len}
 
 -- A part lies between two offsets, from a depth on.
@@ -32,7 +32,7 @@ pub record Row (text : List ℕ) (depth low high : ℕ) (ss : List Span) (ps : L
   pub ordered : low ≤ high
   pub tops : spans_at depth ps ≡ ss
   pub starts : StartsAt depth ps
-  pub stand : All (Stands text) ps
+  pub stand : All (PartStands text) ps
   pub lie : All (Lies depth low high) ps
   pub followed : AllFollowed text ps
 
@@ -45,10 +45,10 @@ first_of : (depth : ℕ) (xs ys : List Part) → StartsAt depth xs → StartsAt 
 first_of depth [] ys p q = q
 first_of depth (x ∷ xs) ys p q = p
 
-beside : (depth : ℕ) (x : Part) (later ys : List Part) → StartsBeside x later → StartsAt depth ys → depth ≤ x.depth → StartsBeside x (later ++ ys)
-beside depth x [] [] b s h = tt
-beside depth x [] (y ∷ ys) b s h = omega arith
-beside depth x (l ∷ ls) ys b s h = b
+crash_beside : (depth : ℕ) (x : Part) (later ys : List Part) → StartsBeside x later → StartsAt depth ys → depth ≤ x.depth → StartsBeside x (later ++ ys)
+crash_beside depth x [] [] b s h = tt
+crash_beside depth x [] (y ∷ ys) b s h = omega arith
+crash_beside depth x (l ∷ ls) ys b s h = b
 
 -- A part that others follow, and then a row of parts beside it.
 followed_one : (text : List ℕ) (depth mid : ℕ) (x : Part) (xs ys : List Part) → IsFollowed text x xs → depth ≤ x.depth → x.body.end ≤ mid
@@ -58,7 +58,7 @@ followed_one text depth mid x xs ys f d e a s = record {
   later = f.later ++ ys;
   split = ap (λ ps. ps ++ ys) f.split ∙ append_assoc f.below f.later ys;
   first = f.first;
-  next = beside depth x f.later ys f.next s d;
+  next = crash_beside depth x f.later ys f.next s d;
   are_below = f.are_below;
   are_after = All-append (IsAfter x) f.later ys f.are_after
       (All-weaker (λ (y : Part). mid ≤ y.header.start) (IsAfter x) (λ y h. omega arith) ys a);
@@ -92,7 +92,7 @@ row_append text depth low mid high ss ts xs ys p q =
       ordered = omega arith;
       tops = tops_append depth xs ys ∙ ap (λ all. all ++ spans_at depth ys) p.tops ∙ ap (λ all. ss ++ all) q.tops;
       starts = first_of depth xs ys p.starts q.starts;
-      stand = All-append (Stands text) xs ys p.stand q.stand;
+      stand = All-append (PartStands text) xs ys p.stand q.stand;
       lie = All-append (Lies depth low high) xs ys
           (All-weaker (Lies depth low mid) (Lies depth low high) (λ x h. record { deep = h.deep; low = h.low; high = omega (arith, h.high) }) xs p.lie)
           (All-weaker (Lies depth mid high) (Lies depth low high) (λ x h. record { deep = h.deep; low = omega (arith, h.low); high = h.high }) ys q.lie);
@@ -119,7 +119,7 @@ pub record IsAt (text : List ℕ) (depth : ℕ) (s : Span) (p : Part) : Type 0 w
   pub start : p.header.start ≡ s.start
   pub end : p.body.end ≡ s.end
   pub body_is : p.body ≡ body_span text s
-  pub stands : Stands text p
+  pub stands : PartStands text p
 
 is_with : (h : Heading) (shape : Shape) (text : List ℕ) (s : Span) (depth : ℕ) → IsIn text s → 1 ≤ depth → depth ≤ 20
     → IsAt text depth s (part_with h shape (header_span text s) (body_span text s) depth)
@@ -136,7 +136,7 @@ is_with h shape text s depth i low high =
         depth = low;
         depth_most = high;
         header = omega arith;
-        between = omega arith;
+        crash_between = omega arith;
         body = omega arith;
         within = i.within;
       };
@@ -167,19 +167,19 @@ row_node : (text : List ℕ) (depth : ℕ) (s : Span) (ss : List Span) (p : Part
 row_node text depth s ss p below a d r =
     let stands = a.stands in
     record {
-      ordered = omega (arith, a.start, a.end, stands.header, stands.between, stands.body);
+      ordered = omega (arith, a.start, a.end, stands.header, stands.crash_between, stands.body);
       tops =
           let here : eqb p.depth depth ≡ true = eq-eqb p.depth depth a.depth_is in
           let one : filter (λ (q : Part). q.depth == depth) (p ∷ below) ≡ p ∷ [] = rw here (ap (λ ps. p ∷ ps) (tops_none depth p.body.start p.body.end below r.lie)) in
           ap (map whole_span) one ∙ ap (λ t. t ∷ []) (λ i. span_of (a.start i) (a.end i));
       starts = a.depth_is;
-      stand = All-cons (Stands text) p below stands r.stand;
+      stand = All-cons (PartStands text) p below stands r.stand;
       lie = All-cons (Lies depth s.start s.end) p below
           (record { deep = omega (arith, a.depth_is); low = omega (arith, a.start); high = omega (arith, a.end) })
           (All-weaker (Lies (depth + 1) p.body.start p.body.end) (Lies depth s.start s.end)
           (λ q l. record {
             deep = omega (arith, l.deep);
-            low = omega (arith, l.low, a.start, stands.header, stands.between);
+            low = omega (arith, l.low, a.start, stands.header, stands.crash_between);
             high = omega (arith, l.high, a.end);
           }) below r.lie);
       followed = (
@@ -189,7 +189,7 @@ row_node text depth s ss p below a d r =
           split = sym (append-nil below);
           first = starts_below depth p below a.depth_is r.starts;
           next = tt;
-          are_below = All-weaker (Lies (depth + 1) p.body.start p.body.end) (IsBelow p)
+          are_below = All-weaker (Lies (depth + 1) p.body.start p.body.end) (IsPartBelow p)
               (λ q l. record { deeper = omega (arith, l.deep, a.depth_is); starts = l.low; ends = l.high }) below r.lie;
           are_after = All-nil _;
           direct = ap (λ n. spans_at (n + 1) below) a.depth_is ∙ r.tops ∙ d;

@@ -9,28 +9,28 @@ use Rattle.mime_parts.specs.declared.content_type.ContentType.{ContentType}
 use Rattle.mime_parts.specs.Lexemes.{LexemeText, TokenText, QuotedText, MarkText, lexemes_of, unescaped}
 
 -- What a lexeme adds to the parameters, and what is expected after it.
-pub record Step : Type 0 where
+pub record LexemeStep : Type 0 where
   pub added : List (List ℕ)
   pub next : Expected
 
 -- Such a step of these two parts.
-abbrev pub step : List (List ℕ) → Expected → Option Step
+abbrev pub step : List (List ℕ) → Expected → Option LexemeStep
 step added next = Some (record { added = added; next = next })
 
 -- A semicolon is the only mark after a type, a parameter or another semicolon.
-abbrev pub mark_after_pair : Mark → Option Step
+abbrev pub mark_after_pair : Mark → Option LexemeStep
 mark_after_pair Semicolon = step [] expected.Name
 mark_after_pair _ = None
 
 -- An equals sign is the only mark after the name of a parameter.
-abbrev pub mark_after_name : Mark → Option Step
+abbrev pub mark_after_name : Mark → Option LexemeStep
 mark_after_name Equals = step [] expected.Value
 mark_after_name _ = None
 
 -- After a type and after each parameter a semicolon is expected, and after the semicolon the name
 -- of a parameter, in any case. Another semicolon may be there instead. After the name `=` is
 -- expected, and then the value: a token or a quoted string. `None` for any other lexeme.
-abbrev pub step_of : Expected → LexemeText → Option Step
+abbrev pub step_of : Expected → LexemeText → Option LexemeStep
 step_of expected.Semicolon (MarkText mark) = mark_after_pair mark
 step_of expected.Name (TokenText token) = step (str_to_ascii_lowercase token ∷ []) expected.Equals
 step_of expected.Name (MarkText mark) = mark_after_pair mark
@@ -52,7 +52,7 @@ with_front front None = None
 with_front front (Some later) = Some (front ++ later)
 
 -- What a step adds, before the parameters that are read after it.
-abbrev pub after_step : Option Step → (Expected → Option (List (List ℕ))) → Option (List (List ℕ))
+abbrev pub after_step : Option LexemeStep → (Expected → Option (List (List ℕ))) → Option (List (List ℕ))
 after_step None later = None
 after_step (Some s) later = with_front s.added (later s.next)
 

@@ -11,16 +11,16 @@ use Rattle.mime_parts.specs.Trees.{IsIn, bytes_at, direct_parts, tree_of}
 
 -- The header of a part is before its body, with at most one byte between them. Both are in the
 -- text, at a depth from 1 to 20.
-pub record Stands (text : List ℕ) (p : Part) : Type 0 where
+pub record PartStands (text : List ℕ) (p : Part) : Type 0 where
   pub depth : 1 ≤ p.depth
   pub depth_most : p.depth ≤ 20
   pub header : p.header.start ≤ p.header.end
-  pub between : p.header.end ≤ p.body.start
+  pub crash_between : p.header.end ≤ p.body.start
   pub body : p.body.start ≤ p.body.end
   pub within : p.body.end ≤ length text
 
 -- The second part is in the body of the first, and deeper.
-pub record IsBelow (p q : Part) : Type 0 where
+pub record IsPartBelow (p q : Part) : Type 0 where
   pub deeper : p.depth < q.depth
   pub starts : p.body.start ≤ q.header.start
   pub ends : q.body.end ≤ p.body.end
@@ -56,7 +56,7 @@ pub record IsFollowed (text : List ℕ) (p : Part) (others : List Part) : Type 0
   pub split : others ≡ below ++ later
   pub first : StartsBelow p below
   pub next : StartsBeside p later
-  pub are_below : All (IsBelow p) below
+  pub are_below : All (IsPartBelow p) below
   pub are_after : All (IsAfter p) later
   pub direct : spans_at (p.depth + 1) below ≡ direct_parts p.shape p.params text p.body
 
@@ -81,7 +81,7 @@ pub record StartsWhole (text : List ℕ) (parts : List Part) : Type 0 where
 pub record IsTree (text : List ℕ) : Type 0 where
   pub count : length (tree_of text) ≤ 1000
   pub whole : StartsWhole text (tree_of text)
-  pub stand : All (Stands text) (tree_of text)
+  pub stand : All (PartStands text) (tree_of text)
   pub followed : AllFollowed text (tree_of text)
 
 -- The law of trees: each text has one.
@@ -89,7 +89,7 @@ abbrev pub TreesAreTrees : Type 0
 TreesAreTrees = (text : List ℕ) → IsTree text
 
 -- A line of a kind, with the line feed before it, if there is one.
-pub record IsGap (boundary : List ℕ) (kind : LineKind) (bytes : List ℕ) : Type 0 where
+pub record IsDelimiterLine (boundary : List ℕ) (kind : LineKind) (bytes : List ℕ) : Type 0 where
   pub lead : List ℕ
   pub line : List ℕ
   pub joined : bytes ≡ lead ++ line
@@ -97,23 +97,23 @@ pub record IsGap (boundary : List ℕ) (kind : LineKind) (bytes : List ℕ) : Ty
   pub feed : (lead ≡ []) ⊎ (lead ≡ 10 ∷ [])
 
 -- A closing line starts at an offset, and any bytes follow it up to the end.
-pub record Closes (boundary text : List ℕ) (at end : ℕ) : Type 0 where
+pub record HasClosingLine (boundary text : List ℕ) (at end : ℕ) : Type 0 where
   pub close : ℕ
   pub ordered : at ≤ close
   pub within : close ≤ end
-  pub gap : IsGap boundary Closing (slice_range text at close)
+  pub gap : IsDelimiterLine boundary Closing (slice_range text at close)
 
 -- No line of the bytes is a delimiter line or a closing line.
-abbrev pub IsPlain : List ℕ → List ℕ → Type 0
-IsPlain boundary bytes = All (λ (line : List ℕ). kind_of boundary line ≡ Plain) (lines_of bytes)
+abbrev pub HasNoDelimiter : List ℕ → List ℕ → Type 0
+HasNoDelimiter boundary bytes = All (λ (line : List ℕ). kind_of boundary line ≡ Plain) (lines_of bytes)
 
 -- From an offset on: each part follows a delimiter line, and nothing or a closing line follows the
 -- last part. No line of a part is a delimiter line.
 abbrev pub AreCut : List ℕ → List ℕ → ℕ → ℕ → List Span → Type 0
-AreCut boundary text at end [] = (at ≡ end) ⊎ Closes boundary text at end
+AreCut boundary text at end [] = (at ≡ end) ⊎ HasClosingLine boundary text at end
 AreCut boundary text at end (s ∷ ss) =
-    (at ≤ s.start) × (IsGap boundary Delimiter (slice_range text at s.start)
-    × ((s.start ≤ s.end) × (IsPlain boundary (bytes_at text s)
+    (at ≤ s.start) × (IsDelimiterLine boundary Delimiter (slice_range text at s.start)
+    × ((s.start ≤ s.end) × (HasNoDelimiter boundary (bytes_at text s)
     × AreCut boundary text s.end end ss)))
 
 -- The bytes of a body up to an offset are before its first delimiter line, and from there on it is
@@ -122,7 +122,7 @@ pub record IsDivided (boundary text : List ℕ) (body : Span) : Type 0 where
   pub from : ℕ
   pub ordered : body.start ≤ from
   pub within : from ≤ body.end
-  pub before : IsPlain boundary (slice_range text body.start from)
+  pub before : HasNoDelimiter boundary (slice_range text body.start from)
   pub parts : AreCut boundary text from body.end
       (cuts_from boundary body.start (lines_of (bytes_at text body))).parts
 

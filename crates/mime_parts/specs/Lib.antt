@@ -1,12 +1,12 @@
 pub mod Lexemes
 pub mod ContentTypes
-pub mod Reading
 pub mod Headings
 pub mod Delimiters
 pub mod Dividing
 pub mod Trees
-pub mod Visiting
 pub mod QuotedPrintable
 pub mod Texts
 pub mod Words
 pub mod Laws
+pub mod Reading
+pub mod Visiting

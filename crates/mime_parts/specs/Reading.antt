@@ -1,9 +1,9 @@
--- What is found at the front of a value.
+-- Private: what is found at the front of a value.
 use Rattle.std.specs.Prelude.{◌≡◌, ℕ, ◌<◌, List, [], ◌∷◌, ◌++◌, length, Option, Some, None, MatchOption, option_map}
 use Rattle.std.specs.Borrow.{Bor}
 use Rattle.mime_parts.specs.declared.params.Expected.{Expected}
 use Rattle.mime_parts.specs.declared.content_type.Front.{Front}
-use Rattle.mime_parts.specs.ContentTypes.{Step, Opening, first_token, after_slash, opening_of}
+use Rattle.mime_parts.specs.ContentTypes.{LexemeStep, Opening, first_token, after_slash, opening_of}
 use Rattle.mail_address.specs.declared.place.Place.TheVariants as place
 use Rattle.mime_parts.specs.declared.lexemes.Lexeme.{Lexeme}
 use Rattle.mime_parts.specs.declared.lexemes.Lexeme.TheVariants.{Token, Quoted, Mark}
@@ -35,9 +35,9 @@ IsFirstSaid inside found =
 
 -- A lexeme is taken: what it adds is appended, and what is then expected is the result. `None` only
 -- if it isn't what was expected.
-abbrev pub Takes : Option Step → List (List ℕ) → List (List ℕ) → Option Expected → Type 0
-Takes None old new found = found ≡ None
-Takes (Some s) old new found = (found ≡ Some s.next) × (new ≡ old ++ s.added)
+abbrev pub TakesLexeme : Option LexemeStep → List (List ℕ) → List (List ℕ) → Option Expected → Type 0
+TakesLexeme None old new found = found ≡ None
+TakesLexeme (Some s) old new found = (found ≡ Some s.next) × (new ≡ old ++ s.added)
 
 -- A token at the front of a value, and the bytes with the lexemes after it. `None` if the value
 -- doesn't start with a token.
@@ -57,5 +57,5 @@ shown_front front =
     record { major = front.major.now; minor = front.minor.now; later = lexemes_of front.rest.now }
 
 -- The front of a type was found with which a value starts, or there is none.
-abbrev pub IsFront : List ℕ → Option Front → Type 0
-IsFront value found = option_map shown_front found ≡ opening_of (lexemes_of value)
+abbrev pub IsTypeFront : List ℕ → Option Front → Type 0
+IsTypeFront value found = option_map shown_front found ≡ opening_of (lexemes_of value)

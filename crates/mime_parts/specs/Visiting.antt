@@ -1,4 +1,4 @@
--- One step of a visit: an entity is told, and its parts are the next ones.
+-- Private: one step of a visit: an entity is told, and its parts are the next ones.
 use Rattle.std.specs.Prelude.{◌≡◌, ℕ, zero, suc, ◌+◌, ◌-◌, Bool, List, [], ◌∷◌, ◌++◌, map, reverse, length}
 use Rattle.mime_parts.specs.declared.part.Span.{Span}
 use Rattle.mime_parts.specs.declared.part.Part.{Part}

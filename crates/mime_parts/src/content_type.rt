@@ -1,8 +1,9 @@
 //! Reads the type that a Content-Type field names.
+//! Allocates.
 ghost use Rattle.std.specs.Prelude.{◌≡◌, ◌<◌, length, IfOk};
 ghost use Rattle.mime_parts.specs.Lexemes.{lexemes_of};
 ghost use Rattle.mime_parts.specs.ContentTypes.{type_in, type_after, is_type, default_type, opaque_type};
-ghost use Rattle.mime_parts.specs.Reading.{IsFirstToken, IsAfterSlash, IsFront, shown_front};
+ghost use Rattle.mime_parts.specs.Reading.{IsFirstToken, IsAfterSlash, IsTypeFront, shown_front};
 
 use crate::lexemes::{Lexeme, Mark, first_lexeme};
 use crate::params::{copied, lower, read_params};
@@ -102,7 +103,7 @@ fn read_front(alloc: Global, front: Front<'_>) -> Result<Option<ContentType>, No
 
 /// Returns the names of the type at the front of a value, and the bytes after them.
 fn split_front(value: &[u8]) -> Option<Front<'_>>
-    ensures { IsFront value.now result }
+    ensures { IsTypeFront value.now result }
 {
     let (major, rest) = split_token(value)?;
     let rest = after_slash(rest)?;

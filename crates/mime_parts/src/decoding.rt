@@ -1,4 +1,5 @@
 //! Decodes parts, and shows the body of a mail as text.
+//! Allocates.
 ghost use Rattle.std.specs.Prelude.{◌≡◌, ◌++◌, IfOk, OnOk, string_bytes};
 ghost use Rattle.std.specs.Str.{encode_utf8_all};
 ghost use Rattle.std.specs.Str.Lossy.{utf8_lossy};

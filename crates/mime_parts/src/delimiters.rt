@@ -1,4 +1,5 @@
 //! Divides the body of a multipart at its delimiter lines (RFC 2046, section 5.1.1).
+//! Allocates.
 ghost use Rattle.std.specs.Prelude.{◌≡◌, ◌+◌, ◌<◌, ◌^◌, ◌∷◌, ◌++◌, ℕ, length, IfOk, OnOk};
 ghost use Rattle.std.specs.List.{list_all};
 ghost use Rattle.mail_reader.specs.Lines.{lines_of};

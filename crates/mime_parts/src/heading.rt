@@ -1,4 +1,5 @@
 //! Reads what the header of an entity says of its body.
+//! Allocates.
 ghost use Rattle.std.specs.Prelude.{◌≡◌, length, take, codes, IfOk, option_and_then};
 ghost use Rattle.std.specs.Str.{str_eq_ignore_ascii_case};
 ghost use Rattle.mail_reader.specs.Fields.{fields_of};

@@ -1,4 +1,5 @@
 //! Laws of the tree of parts, for every text. Each function does nothing: its contract is the law.
+//! Pure.
 ghost use Rattle.mime_parts.specs.Laws.{TreesAreTrees, BodiesAreDivided};
 
 /// Shows that the parts of a text are a tree: each part's body has the parts below it, and parts

@@ -1,4 +1,5 @@
 //! Splits a structured field's value into lexemes.
+//! Allocates.
 ghost use Rattle.std.specs.Prelude.{◌≡◌, ◌≤◌, ◌<◌, ◌∷◌, ◌&&◌, ◌==◌, not, false, length, slice_index, IfOk};
 ghost use Rattle.std.specs.List.{prefix_len};
 ghost use Rattle.mime_parts.specs.Lexemes.{lexemes_of, is_token_byte, is_special, is_gap, mark_of, unescaped};

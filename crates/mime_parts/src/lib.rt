@@ -1,5 +1,7 @@
-//! Divides a mail into its parts, decodes them, shows its body as text (RFC 2045 and RFC 2046), and
-//! gives its words.
+//! Divides a mail into its parts, and decodes them (RFC 2045 and RFC 2046).
+//! Allocates.
+//!
+//! It shows a mail's body as text, and gives its words.
 #![tactic(auto)]
 
 mod content_type;

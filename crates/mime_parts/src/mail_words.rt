@@ -1,4 +1,5 @@
 //! The words of a mail, by which it is searched.
+//! Allocates.
 ghost use Rattle.std.specs.Prelude.{◌≡◌, ◌++◌, IfOk, OnOk};
 ghost use Rattle.mime_parts.specs.Trees.{IsPartOf};
 ghost use Rattle.mime_parts.specs.Words.{mail_words, field_words, leaf_words, part_words, body_words};

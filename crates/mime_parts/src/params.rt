@@ -1,8 +1,9 @@
 //! Reads the parameters of a type.
+//! Allocates.
 ghost use Rattle.std.specs.Prelude.{◌≡◌, [], IfOk, if◌then◌else◌};
 ghost use Rattle.mime_parts.specs.Lexemes.{lexemes_of};
 ghost use Rattle.mime_parts.specs.ContentTypes.{params_of, step_of, end_at, param};
-ghost use Rattle.mime_parts.specs.Reading.{shown, Takes};
+ghost use Rattle.mime_parts.specs.Reading.{shown, TakesLexeme};
 ghost use Rattle.std.specs.Str.{str_to_ascii_lowercase, str_eq_ignore_ascii_case};
 
 use crate::lexemes::{Lexeme, Mark, first_lexeme, unescape};
@@ -67,7 +68,7 @@ fn push_lexeme(
     lexeme: Lexeme<'_>,
 ) -> Result<Option<Expected>, NoMemory>
     ensures { IfOk result (λ next.
-        Takes (step_of expected (shown lexeme.entry)) params.old params.new next) }
+        TakesLexeme (step_of expected (shown lexeme.entry)) params.old params.new next) }
 {
     match (expected, lexeme) {
         (Expected::Semicolon | Expected::Name, Lexeme::Mark(Mark::Semicolon)) => {

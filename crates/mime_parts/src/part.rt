@@ -1,4 +1,5 @@
 //! The parts of a mail.
+//! Pure.
 use arch_base::{Bytes, Sequence, Texts};
 
 /// A range of the bytes of a text, from `start` up to but not including `end`.

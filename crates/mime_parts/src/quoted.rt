@@ -1,4 +1,5 @@
 //! Decodes quoted-printable (RFC 2045, section 6.7).
+//! Allocates.
 ghost use Rattle.std.specs.Prelude.{◌≡◌, ◌<◌, ◌∷◌, ◌++◌, length, IfOk, OnOk};
 ghost use Rattle.mime_parts.specs.QuotedPrintable.{unquoted, line_bytes, content_bytes, decoded_escapes, trimmed};
 

@@ -1,4 +1,5 @@
 //! Visits the entities of a mail, each before its parts.
+//! Allocates.
 ghost use Rattle.std.specs.Prelude.{◌≡◌, ◌+◌, ◌-◌, ◌<◌, ◌≤◌, ◌++◌, ◌∷◌, [], false, map, reverse, length, vec_len, IfOk, OnOk};
 ghost use Rattle.std.specs.List.{All};
 ghost use Rattle.mail_reader.specs.Fields.{fields_of};

@@ -14,7 +14,7 @@ use Rattle.mime_words.specs.declared.encoding.Encoding.{Encoding}
 use Rattle.mime_words.specs.declared.encoding.Encoding.TheVariants.{Base64, Quoted}
 use Rattle.mime_words.specs.Words.{EncodedText, charset_of, is_charset_byte, is_text_byte, encoding_of, word_at, word_len, plain, pieces}
 use Rattle.mime_words.specs.Laws.{HasNoOpening, IsSpelled}
-use Rattle.mime_words.specs.Spelled.{IsName, AnyWord, any_bytes, IsNameByte, IsTextByte, IsAnyWord, BeginsNoWord, OuterPart, Stretch, Foreign, Stray, outer_text, IsNoStretch, AreOuter}
+use Rattle.mime_words.specs.Spelled.{NamesCharset, AnyWord, any_bytes, IsCharsetByte, IsTextByte, IsAnyWord, BeginsNoWord, OuterPart, Stretch, Foreign, Stray, outer_text, IsNoStretch, AreOuter}
 use Rattle.mime_words.proofs.Cutting.{pieces-no_word, pieces-text_word, plain-append}
 use Rattle.mime_words.proofs.Joining.{piece}
 use Rattle.mime_words.proofs.Plain.{no_word}
@@ -55,17 +55,17 @@ no_charset small x y z =
     by_tests : (t u v : Bool) → t ≡ false → u ≡ false → v ≡ false → cond t (Some Utf8) (cond u (Some UsAscii) (cond v (Some Latin1) None)) ≡ None
     by_tests t u v e f g = rw (e, f, g) refl
 
-unread : (name : List ℕ) → ((charset : Charset) → IsName charset name → ⊥) → charset_of name ≡ None
+unread : (name : List ℕ) → ((charset : Charset) → NamesCharset charset name → ⊥) → charset_of name ≡ None
 unread name h = no_charset (str_to_ascii_lowercase name) (h Utf8) (h UsAscii) (h Latin1)
 
 -- The tests on bytes.
-name_byte_passes : (b : ℕ) → IsNameByte b → is_charset_byte b ≡ true
+name_byte_passes : (b : ℕ) → IsCharsetByte b → is_charset_byte b ≡ true
 name_byte_passes b h = grind (arith, nat_tests)
 
 text_byte_passes : (b : ℕ) → IsTextByte b → is_text_byte b ≡ true
 text_byte_passes b h = grind (arith, nat_tests)
 
-passed_name_byte : (b : ℕ) → is_charset_byte b ≡ true → IsNameByte b
+passed_name_byte : (b : ℕ) → is_charset_byte b ≡ true → IsCharsetByte b
 passed_name_byte b h = ((λ e. both_ways (is_charset_byte b) (ap is_charset_byte e) h), (λ e. both_ways (is_charset_byte b) (ap is_charset_byte e) h))
 
 passed_text_byte : (b : ℕ) → is_text_byte b ≡ true → IsTextByte b
@@ -74,13 +74,13 @@ passed_text_byte b h =
     let high : b ≤ 126 = grind (arith, nat_tests) in
     (low, high, (λ e. both_ways (is_text_byte b) (ap is_text_byte e) h))
 
-name_passes : (name : List ℕ) → All IsNameByte name → list_all is_charset_byte name ≡ true
+name_passes : (name : List ℕ) → All IsCharsetByte name → list_all is_charset_byte name ≡ true
 name_passes name h = list_all-from_AllPass is_charset_byte name (λ k d l. name_byte_passes (get_or name k d) (h k d l))
 
 pub text_passes : (text : List ℕ) → All IsTextByte text → list_all is_text_byte text ≡ true
 text_passes text h = list_all-from_AllPass is_text_byte text (λ k d l. text_byte_passes (get_or text k d) (h k d l))
 
-passed_name : (name : List ℕ) → list_all is_charset_byte name ≡ true → All IsNameByte name
+passed_name : (name : List ℕ) → list_all is_charset_byte name ≡ true → All IsCharsetByte name
 passed_name name h = λ k d l. passed_name_byte (get_or name k d) (AllPass-from_list_all is_charset_byte name h k d l)
 
 passed_text : (text : List ℕ) → list_all is_text_byte text ≡ true → All IsTextByte text
@@ -156,7 +156,7 @@ any_len word encoding =
     omega arith
 
 -- A word of a charset that isn't read.
-pieces_foreign : (word : AnyWord) → IsAnyWord word → ((charset : Charset) → IsName charset word.name → ⊥) → (ys : List ℕ)
+pieces_foreign : (word : AnyWord) → IsAnyWord word → ((charset : Charset) → NamesCharset charset word.name → ⊥) → (ys : List ℕ)
     → pieces (any_bytes word ++ ys) ≡ plain (any_bytes word) ++ pieces ys
 pieces_foreign word w none ys =
     let at = any_found word w ys in

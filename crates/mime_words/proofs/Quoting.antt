@@ -6,7 +6,7 @@ use Rattle.std.proofs.lemmas.Bool.Decides.{nat_tests}
 use Rattle.hex.specs.Hex.{hex_digit_value}
 use Rattle.mime_words.specs.Quoted.{spelled as spelled_by, escape_or_plain, plain_byte, unquoted}
 use Rattle.mime_words.specs.Words.{is_text_byte}
-use Rattle.mime_words.specs.Spelled.{QuotedPart, Itself, Underscore, Digits, Equals, is_itself, IsDigit, BeginsWithDigits, HasNoDigits, LoneEqualsStays, AreQuoted, quoted_bytes, quoted_said}
+use Rattle.mime_words.specs.Spelled.{EncodedPart, Itself, Underscore, Digits, Equals, is_itself, IsDigit, BeginsWithDigits, HasNoDigits, LoneEqualsStays, AreEncodedParts, quoted_bytes, quoted_said}
 
 -- Q, part by part.
 unquoted-plain : (b : ℕ) (bs : List ℕ) → (b == 61) ≡ false → unquoted (b ∷ bs) ≡ plain_byte b ∷ unquoted bs
@@ -82,7 +82,7 @@ lone (x ∷ y ∷ bs) h = step (hex_digit_value x) (hex_digit_value y) refl refl
     step (Some m) None e f = refl
     step (Some m) (Some n) e f = absurd (h (m, n, digit_read x m e, digit_read y n f))
 
-pub quoted_is : (parts : List QuotedPart) → AreQuoted parts → unquoted (quoted_bytes parts) ≡ quoted_said parts
+pub quoted_is : (parts : List EncodedPart) → AreEncodedParts parts → unquoted (quoted_bytes parts) ≡ quoted_said parts
 quoted_is [] q = refl
 quoted_is (Itself b ∷ parts) q =
     unquoted-plain b (quoted_bytes parts) (itself_plain b q.0) ∙ (λ i. itself_said b q.0 i ∷ quoted_is parts q.1 i)
@@ -97,7 +97,7 @@ pub and_true : (t u : Bool) → t ≡ true → u ≡ true → (t && u) ≡ true
 and_true true u a b = b
 and_true false u a b = cc
 
-pub quoted_text : (parts : List QuotedPart) → AreQuoted parts → list_all is_text_byte (quoted_bytes parts) ≡ true
+pub quoted_text : (parts : List EncodedPart) → AreEncodedParts parts → list_all is_text_byte (quoted_bytes parts) ≡ true
 quoted_text [] q = refl
 quoted_text (Itself b ∷ parts) q = and_true (is_text_byte b) _ (itself_text b q.0) (quoted_text parts q.1)
 quoted_text (Underscore ∷ parts) q = quoted_text parts q

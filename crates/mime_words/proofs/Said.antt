@@ -10,9 +10,9 @@ use Rattle.mime_words.specs.declared.charset.Charset.{Charset}
 use Rattle.mime_words.specs.declared.charset.Charset.TheVariants.{Utf8, UsAscii, Latin1}
 use Rattle.mime_words.specs.declared.encoding.Encoding.{Encoding}
 use Rattle.mime_words.specs.declared.encoding.Encoding.TheVariants.{Base64, Quoted}
-use Rattle.mime_words.specs.Words.{EncodedText, charset_of, is_charset_byte, is_text_byte, encoding_of, word_at, word_len, bytes_of, Piece, plain, pieces}
+use Rattle.mime_words.specs.Words.{EncodedText, charset_of, is_charset_byte, is_text_byte, encoding_of, word_at, word_len, bytes_of, WordPiece, plain, pieces}
 use Rattle.mime_words.specs.Decoding.{is_blank, same_charset, before, joined, without_gaps, text_of, decoded}
-use Rattle.mime_words.specs.Spelled.{Coded, InQ, InBase64, IsCoded, coded_bytes, coded_said, IsLetter, IsName, WrittenWord, IsWord, word_bytes, spaced_word, word_said, outer_text, Run, Plain, Words, run_bytes, run_said, read_in, Before, Start, AfterText, AfterWords, AreRuns, AllWords, MayBeWords, IsNoGap, SpelledIsSaid}
+use Rattle.mime_words.specs.Spelled.{Coded, InQ, InBase64, IsCoded, coded_bytes, coded_said, IsLetter, NamesCharset, WrittenWord, IsEncodedWord, word_bytes, spaced_word, word_said, outer_text, Run, Plain, Words, run_bytes, run_said, read_in, Before, Start, AfterText, AfterWords, AreRuns, AllWords, MayBeWords, IsNoGap, SpelledIsSaid}
 use Rattle.mime_words.proofs.Cutting.{pieces-read_word}
 use Rattle.mime_words.proofs.Joining.{piece, same-true, before_same, joined_plain}
 use Rattle.mime_words.proofs.Gaps.{text_by, without_gaps-end}
@@ -54,7 +54,7 @@ named_by charset name small e some bytes is = record {
   is = ap small_charset e ∙ is;
 }
 
-named : (charset : Charset) (name : List ℕ) → IsName charset name → IsCharsetName charset name
+named : (charset : Charset) (name : List ℕ) → NamesCharset charset name → IsCharsetName charset name
 named Utf8 name e = named_by Utf8 name (codes "utf-8") e (omega arith) refl refl
 named UsAscii name e = named_by UsAscii name (codes "us-ascii") e (omega arith) refl refl
 named Latin1 name e = named_by Latin1 name (codes "iso-8859-1") e (omega arith) refl refl
@@ -62,7 +62,7 @@ named Latin1 name e = named_by Latin1 name (codes "iso-8859-1") e (omega arith) 
 abbrev shown : WrittenWord → EncodedText
 shown word = record { charset = word.name; encoding = encoding word.coded; text = coded_bytes word.coded }
 
-word_is : (charset : Charset) (word : WrittenWord) → IsWord charset word → (ys : List ℕ) → word_at (word_bytes word ++ ys) ≡ Some (shown word)
+word_is : (charset : Charset) (word : WrittenWord) → IsEncodedWord charset word → (ys : List ℕ) → word_at (word_bytes word ++ ys) ≡ Some (shown word)
 word_is charset word w ys =
     let name = named charset word.name w.name in
     let all : word_bytes word ++ ys ≡ 61 ∷ 63 ∷ (word.name ++ (63 ∷ word.letter ∷ 63 ∷ (coded_bytes word.coded ++ (63 ∷ 61 ∷ ys)))) = simp append_assoc in
@@ -84,10 +84,10 @@ word_len_is word =
     let outer : length (word.name ++ 63 ∷ word.letter ∷ 63 ∷ text) ≡ length word.name + length (63 ∷ word.letter ∷ 63 ∷ text) = length-append word.name (63 ∷ word.letter ∷ 63 ∷ text) in
     omega arith
 
-abbrev word_piece : Charset → WrittenWord → Piece
+abbrev word_piece : Charset → WrittenWord → WordPiece
 word_piece charset word = piece (Some charset) (word_said word)
 
-pieces_word : (charset : Charset) (word : WrittenWord) → IsWord charset word → (ys : List ℕ) → pieces (word_bytes word ++ ys) ≡ word_piece charset word ∷ pieces ys
+pieces_word : (charset : Charset) (word : WrittenWord) → IsEncodedWord charset word → (ys : List ℕ) → pieces (word_bytes word ++ ys) ≡ word_piece charset word ∷ pieces ys
 pieces_word charset word w ys =
     let name = named charset word.name w.name in
     let after : drop (word_len (shown word)) (word_bytes word ++ ys) ≡ ys = drop_at (word_bytes word) ys (word_len (shown word)) (word_len_is word) in
@@ -103,14 +103,14 @@ blank_spaces : (n : ℕ) → is_blank (replicate n 32) ≡ true
 blank_spaces zero = refl
 blank_spaces (suc n) = blank_spaces n
 
-pieces_spaced : (charset : Charset) (word : WrittenWord) → IsWord charset word → (ys : List ℕ)
+pieces_spaced : (charset : Charset) (word : WrittenWord) → IsEncodedWord charset word → (ys : List ℕ)
     → pieces (spaced_word word ++ ys) ≡ plain (replicate word.gap 32) ++ word_piece charset word ∷ pieces ys
 pieces_spaced charset word w ys =
     ap pieces (append_assoc (replicate word.gap 32) (word_bytes word) ys) ∙ pieces_spaces word.gap (word_bytes word ++ ys)
     ∙ ap (λ ps. plain (replicate word.gap 32) ++ ps) (pieces_word charset word w ys)
 
 -- The spaces before a word that comes after another one.
-gap_goes : (charset : Charset) (word : WrittenWord) → IsWord charset word → (ys : List ℕ)
+gap_goes : (charset : Charset) (word : WrittenWord) → IsEncodedWord charset word → (ys : List ℕ)
     → without_gaps true (pieces (spaced_word word ++ ys)) ≡ word_piece charset word ∷ without_gaps true (pieces ys)
 gap_goes charset word w ys =
     ap (without_gaps true) (pieces_spaced charset word w ys)
@@ -126,7 +126,7 @@ gaps_go charset (word ∷ words) all ys =
     ∙ ap (λ ps. word_piece charset word ∷ ps) (gaps_go charset words all.1 ys)
 
 -- Words of one charset are joined.
-join_words : (charset : Charset) (bytes : List ℕ) (words : List WrittenWord) (ps : List Piece)
+join_words : (charset : Charset) (bytes : List ℕ) (words : List WrittenWord) (ps : List WordPiece)
     → joined (piece (Some charset) bytes ∷ (map (word_piece charset) words ++ ps)) ≡ before (piece (Some charset) (bytes ++ flat_map word_said words)) (joined ps)
 join_words charset bytes [] ps = ap (λ xs. before (piece (Some charset) xs) (joined ps)) (sym (append-nil bytes))
 join_words charset bytes (word ∷ words) ps =
@@ -134,7 +134,7 @@ join_words charset bytes (word ∷ words) ps =
     ∙ before_same (Some charset) bytes (word_said word ++ flat_map word_said words) (joined ps)
 
 -- The piece that a part is.
-abbrev run_piece : Run → Piece
+abbrev run_piece : Run → WordPiece
 run_piece (Plain outer) = piece None (outer_text outer)
 run_piece (Words charset first more) = piece (Some charset) (word_said first ++ flat_map word_said more)
 
@@ -156,7 +156,7 @@ apart charset bytes (Words other first more ∷ runs) all =
     inside e = cc
 
 -- Text is apart from what follows it.
-text_piece : (text : List ℕ) (ps : List Piece) → 0 < length text → joined (plain text ++ ps) ≡ before (piece None text) (joined ps)
+text_piece : (text : List ℕ) (ps : List WordPiece) → 0 < length text → joined (plain text ++ ps) ≡ before (piece None text) (joined ps)
 text_piece [] ps l = absurd (omega arith)
 text_piece (b ∷ bs) ps l = joined_plain b bs ps
 
@@ -166,7 +166,7 @@ no_gap AfterText text next later h = refl
 no_gap (AfterWords charset) text next later h = h
 
 -- The first word of a part.
-first_goes : (after : Before) (charset : Charset) (word : WrittenWord) → MayBeWords after charset word.gap → IsWord charset word → (ys : List ℕ)
+first_goes : (after : Before) (charset : Charset) (word : WrittenWord) → MayBeWords after charset word.gap → IsEncodedWord charset word → (ys : List ℕ)
     → without_gaps (is_after after) (pieces (spaced_word word ++ ys)) ≡ word_piece charset word ∷ without_gaps true (pieces ys)
 first_goes Start charset word none w ys =
     ap (λ n. without_gaps false (pieces ((replicate n 32 ++ word_bytes word) ++ ys))) none ∙ ap (without_gaps false) (pieces_word charset word w ys)

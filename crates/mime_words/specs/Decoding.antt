@@ -5,7 +5,7 @@ use Rattle.std.specs.Str.{encode_utf8_all}
 use Rattle.std.specs.Str.Lossy.{utf8_lossy}
 use Rattle.mime_words.specs.declared.charset.Charset.{Charset}
 use Rattle.mime_words.specs.declared.charset.Charset.TheVariants.{Utf8, UsAscii, Latin1}
-use Rattle.mime_words.specs.Words.{Piece, pieces}
+use Rattle.mime_words.specs.Words.{WordPiece, pieces}
 
 -- The byte is a space.
 abbrev pub is_space : ℕ → Bool
@@ -16,21 +16,21 @@ abbrev pub is_blank : List ℕ → Bool
 is_blank bytes = list_all is_space bytes
 
 -- The piece is an encoded word.
-abbrev pub is_word : Piece → Bool
+abbrev pub is_word : WordPiece → Bool
 is_word piece = is_some piece.charset
 
 -- The piece is text outside of words, and all of it is spaces.
-abbrev pub is_gap : Piece → Bool
+abbrev pub is_gap : WordPiece → Bool
 is_gap piece = not (is_word piece) && is_blank piece.bytes
 
 -- The pieces start with spaces, or none, and then a word.
-abbrev pub reaches_word : List Piece → Bool
+abbrev pub reaches_word : List WordPiece → Bool
 reaches_word [] = false
 reaches_word (piece ∷ later) = is_word piece || (is_gap piece && reaches_word later)
 
 -- The pieces without the spaces between two words (RFC 2047, section 6.2). The flag says that a
 -- word precedes these pieces, with nothing between, or with spaces that were dropped.
-abbrev pub without_gaps : Bool → List Piece → List Piece
+abbrev pub without_gaps : Bool → List WordPiece → List WordPiece
 without_gaps after_word [] = []
 without_gaps after_word (piece ∷ later) =
     if after_word && is_gap piece && reaches_word later then without_gaps true later
@@ -47,7 +47,7 @@ same_charset _ _ = false
 
 -- A piece before others. It is joined with the first of them if both have the same charset, or both
 -- have none.
-abbrev pub before : Piece → List Piece → List Piece
+abbrev pub before : WordPiece → List WordPiece → List WordPiece
 before piece [] = piece ∷ []
 before piece (first ∷ later) =
     if same_charset piece.charset first.charset
@@ -55,7 +55,7 @@ before piece (first ∷ later) =
     else piece ∷ first ∷ later
 
 -- Neighbours of one charset are joined, so that a character may be split between them.
-abbrev pub joined : List Piece → List Piece
+abbrev pub joined : List WordPiece → List WordPiece
 joined [] = []
 joined (piece ∷ later) = before piece (joined later)
 
@@ -66,7 +66,7 @@ read_as (Some Latin1) bytes = encode_utf8_all bytes
 read_as _ bytes = utf8_lossy bytes
 
 -- The text of a piece, in UTF-8.
-abbrev pub text_of : Piece → List ℕ
+abbrev pub text_of : WordPiece → List ℕ
 text_of piece = read_as piece.charset piece.bytes
 
 -- The text of a value, in UTF-8: the value is cut into pieces, the spaces between two words are

@@ -1,4 +1,4 @@
--- The engine of the kit's base64 that symbols are decoded with.
+-- Private: the engine of the kit's base64 that symbols are decoded with.
 use Rattle.std.specs.Prelude.{◌≡◌, true}
 use Rattle.base64.specs.declared.engine.general_purpose.GeneralPurpose.{GeneralPurpose}
 use Rattle.base64.specs.declared.engine.DecodePaddingMode.TheVariants.{Indifferent}

@@ -12,11 +12,11 @@ use Rattle.mime_words.specs.Laws.{HasNoOpening, IsBase64Of}
 
 -- A part of a text in Q: a byte as it is, an underscore, `=` and the two hexadecimal digits of a
 -- byte, or `=` alone.
-pub data QuotedPart : Type 0 where
-  Itself : ℕ → QuotedPart
-  Underscore : QuotedPart
-  Digits : (high : ℕ) → (low : ℕ) → (first : ℕ) → (second : ℕ) → QuotedPart
-  Equals : QuotedPart
+pub data EncodedPart : Type 0 where
+  Itself : ℕ → EncodedPart
+  Underscore : EncodedPart
+  Digits : (high : ℕ) → (low : ℕ) → (first : ℕ) → (second : ℕ) → EncodedPart
+  Equals : EncodedPart
 
 -- A byte that is itself in Q: printable ASCII but a space, `=`, `?` and `_`.
 abbrev pub is_itself : ℕ → Bool
@@ -27,7 +27,7 @@ abbrev pub IsDigit : ℕ → ℕ → Type 0
 IsDigit n c = ((n < 10) × (c ≡ 48 + n)) ⊎ ((10 ≤ n) × (n < 16) × ((c ≡ 55 + n) ⊎ (c ≡ 87 + n)))
 
 -- The bytes of parts of a text in Q.
-abbrev pub quoted_bytes : List QuotedPart → List ℕ
+abbrev pub quoted_bytes : List EncodedPart → List ℕ
 quoted_bytes [] = []
 quoted_bytes (Itself b ∷ parts) = b ∷ quoted_bytes parts
 quoted_bytes (Underscore ∷ parts) = 95 ∷ quoted_bytes parts
@@ -40,16 +40,16 @@ BeginsWithDigits bytes = (high : ℕ) × (low : ℕ) × IsDigit high (slice_inde
     × IsDigit low (slice_index bytes 1)
 
 -- Parts of a text in Q. A lone `=` has no two digits after it.
-abbrev pub AreQuoted : List QuotedPart → Type 0
-AreQuoted [] = Unit {0}
-AreQuoted (Itself b ∷ parts) = (is_itself b ≡ true) × AreQuoted parts
-AreQuoted (Underscore ∷ parts) = AreQuoted parts
-AreQuoted (Digits high low first second ∷ parts) = IsDigit high first × IsDigit low second
-    × AreQuoted parts
-AreQuoted (Equals ∷ parts) = (BeginsWithDigits (quoted_bytes parts) → ⊥) × AreQuoted parts
+abbrev pub AreEncodedParts : List EncodedPart → Type 0
+AreEncodedParts [] = Unit {0}
+AreEncodedParts (Itself b ∷ parts) = (is_itself b ≡ true) × AreEncodedParts parts
+AreEncodedParts (Underscore ∷ parts) = AreEncodedParts parts
+AreEncodedParts (Digits high low first second ∷ parts) = IsDigit high first × IsDigit low second
+    × AreEncodedParts parts
+AreEncodedParts (Equals ∷ parts) = (BeginsWithDigits (quoted_bytes parts) → ⊥) × AreEncodedParts parts
 
 -- What such parts say: an underscore says a space.
-abbrev pub quoted_said : List QuotedPart → List ℕ
+abbrev pub quoted_said : List EncodedPart → List ℕ
 quoted_said [] = []
 quoted_said (Itself b ∷ parts) = b ∷ quoted_said parts
 quoted_said (Underscore ∷ parts) = 32 ∷ quoted_said parts
@@ -72,12 +72,12 @@ IsTextByte b = (33 ≤ b) × (b ≤ 126) × (b ≢ 63)
 
 -- The text of a word, in Q or in base64.
 pub data Coded : Type 0 where
-  InQ : List QuotedPart → Coded
+  InQ : List EncodedPart → Coded
   InBase64 : (bytes : List ℕ) → (text : List ℕ) → Coded
 
 -- A text that may stand in a word.
 abbrev pub IsCoded : Coded → Type 0
-IsCoded (InQ parts) = AreQuoted parts
+IsCoded (InQ parts) = AreEncodedParts parts
 IsCoded (InBase64 bytes text) = IsBase64Of bytes text × All IsTextByte text
 
 -- The bytes of such a text.
@@ -96,10 +96,10 @@ IsLetter (InQ parts) letter = (letter ≡ 81) ⊎ (letter ≡ 113)
 IsLetter (InBase64 bytes text) letter = (letter ≡ 66) ⊎ (letter ≡ 98)
 
 -- The name of a charset, its letters in any case.
-abbrev pub IsName : Charset → List ℕ → Type 0
-IsName Utf8 name = str_to_ascii_lowercase name ≡ codes "utf-8"
-IsName UsAscii name = str_to_ascii_lowercase name ≡ codes "us-ascii"
-IsName Latin1 name = str_to_ascii_lowercase name ≡ codes "iso-8859-1"
+abbrev pub NamesCharset : Charset → List ℕ → Type 0
+NamesCharset Utf8 name = str_to_ascii_lowercase name ≡ codes "utf-8"
+NamesCharset UsAscii name = str_to_ascii_lowercase name ≡ codes "us-ascii"
+NamesCharset Latin1 name = str_to_ascii_lowercase name ≡ codes "iso-8859-1"
 
 -- An encoded word, and the number of spaces before it.
 pub record WrittenWord : Type 0 where
@@ -109,8 +109,8 @@ pub record WrittenWord : Type 0 where
   pub coded : Coded
 
 -- A word of this charset.
-pub record IsWord (charset : Charset) (word : WrittenWord) : Type 0 where
-  pub name : IsName charset word.name
+pub record IsEncodedWord (charset : Charset) (word : WrittenWord) : Type 0 where
+  pub name : NamesCharset charset word.name
   pub letter : IsLetter word.coded word.letter
   pub coded : IsCoded word.coded
 
@@ -138,13 +138,13 @@ abbrev pub any_bytes : AnyWord → List ℕ
 any_bytes word = 61 ∷ 63 ∷ (word.name ++ 63 ∷ word.letter ∷ 63 ∷ (word.text ++ 63 ∷ 61 ∷ []))
 
 -- A byte of a charset's name: any but a space and `?`.
-abbrev pub IsNameByte : ℕ → Type 0
-IsNameByte b = (b ≢ 32) × (b ≢ 63)
+abbrev pub IsCharsetByte : ℕ → Type 0
+IsCharsetByte b = (b ≢ 32) × (b ≢ 63)
 
 -- A word of any charset: its name has one or more bytes, and its letter is B or Q in either case.
 pub record IsAnyWord (word : AnyWord) : Type 0 where
   pub some : 0 < length word.name
-  pub name : All IsNameByte word.name
+  pub name : All IsCharsetByte word.name
   pub letter : ((word.letter ≡ 66) ⊎ (word.letter ≡ 98)) ⊎ ((word.letter ≡ 81) ⊎ (word.letter ≡ 113))
   pub text : All IsTextByte word.text
 
@@ -181,7 +181,7 @@ AreOuter [] after = Unit {0}
 AreOuter (Stretch text ∷ later) after = HasNoOpening text × IsNoStretch later
     × AreOuter later after
 AreOuter (Foreign word ∷ later) after = IsAnyWord word
-    × ((charset : Charset) → IsName charset word.name → ⊥) × AreOuter later after
+    × ((charset : Charset) → NamesCharset charset word.name → ⊥) × AreOuter later after
 AreOuter (Stray ∷ later) after = BeginsNoWord (61 ∷ (outer_text later ++ after))
     × AreOuter later after
 
@@ -238,7 +238,7 @@ MayBeWords (AfterWords other) charset gap = other ≢ charset
 -- Each word is one of this charset.
 abbrev pub AllWords : Charset → List WrittenWord → Type 0
 AllWords charset [] = Unit {0}
-AllWords charset (word ∷ words) = IsWord charset word × AllWords charset words
+AllWords charset (word ∷ words) = IsEncodedWord charset word × AllWords charset words
 
 -- Parts as they may come after another: texts outside of words that are read, and words.
 abbrev pub AreRuns : Before → List Run → Type 0
@@ -248,7 +248,7 @@ AreRuns before (Plain outer ∷ later) =
     × IsNoGap before (outer_text outer) later
     × AreRuns AfterText later
 AreRuns before (Words charset first more ∷ later) =
-    MayBeWords before charset first.gap × IsWord charset first × AllWords charset more
+    MayBeWords before charset first.gap × IsEncodedWord charset first × AllWords charset more
     × AreRuns (AfterWords charset) later
 
 -- Decoding a value that is so spelled gives what its parts say: underscores are spaces, the spaces

@@ -81,33 +81,33 @@ bytes_of Quoted text = unquoted text
 
 -- A piece of a value: the bytes of a word, which are read in its charset, or bytes outside of
 -- words, which have no charset.
-pub record Piece : Type 0 where
+pub record WordPiece : Type 0 where
   pub charset : Option Charset
   pub bytes : List ℕ
 
 -- Text outside of words, one piece for each byte.
-abbrev pub plain : List ℕ → List Piece
+abbrev pub plain : List ℕ → List WordPiece
 plain text = map (λ b. record { charset = None; bytes = b ∷ [] }) text
 
 -- A word of a charset that is decoded is one piece. A word of any other charset stays as it is
 -- written.
-abbrev pub pieces_of_word : Option Charset → EncodedText → List ℕ → List Piece
+abbrev pub pieces_of_word : Option Charset → EncodedText → List ℕ → List WordPiece
 pieces_of_word None word written = plain written
 pieces_of_word (Some charset) word written =
     record { charset = Some charset; bytes = bytes_of word.encoding word.text } ∷ []
 
 -- The pieces of bytes that start with a word, or with another byte.
-abbrev pub pieces_at : Option EncodedText → List ℕ → (ℕ → List Piece) → List Piece
+abbrev pub pieces_at : Option EncodedText → List ℕ → (ℕ → List WordPiece) → List WordPiece
 pieces_at None bytes after = plain (take 1 bytes) ++ after 0
 pieces_at (Some word) bytes after = pieces_of_word (charset_of word.charset) word
     (take (word_len word) bytes) ++ after (word_len word - 1)
 
 -- The pieces of bytes, of which the first `n` belong to the word before them.
-abbrev pub pieces_from : List ℕ → ℕ → List Piece
+abbrev pub pieces_from : List ℕ → ℕ → List WordPiece
 pieces_from [] n = []
 pieces_from (b ∷ bs) zero = pieces_at (word_at (b ∷ bs)) (b ∷ bs) (λ n. pieces_from bs n)
 pieces_from (b ∷ bs) (suc n) = pieces_from bs n
 
 -- The pieces of a value. Words are found from left to right, and none starts within another.
-abbrev pub pieces : List ℕ → List Piece
+abbrev pub pieces : List ℕ → List WordPiece
 pieces value = pieces_from value 0

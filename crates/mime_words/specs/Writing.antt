@@ -1,4 +1,4 @@
--- The text that is written piece by piece, and the words at the front of a value.
+-- Private: the text that is written piece by piece, and the words at the front of a value.
 use Rattle.std.specs.Prelude.{◌≡◌, ◌<◌, ◌≤◌, ℕ, ◌&&◌, List, [], ◌∷◌, ◌++◌, length, take, drop, Option, Some, None, MatchOption, is_some, if◌then◌else◌}
 use Rattle.mime_words.specs.declared.charset.Charset.{Charset}
 use Rattle.mime_words.specs.declared.words.Word.{Word}
@@ -6,7 +6,7 @@ use Rattle.mime_words.specs.declared.words.Front.{Front}
 use Rattle.mime_words.specs.declared.words.Front.TheVariants.{Text, Decoded}
 use Rattle.mime_words.specs.declared.words.Found.{Found}
 use Rattle.mime_words.specs.declared.words.EncodedWord.{EncodedWord}
-use Rattle.mime_words.specs.Words.{EncodedText, word_len, Piece, plain, pieces, bytes_of}
+use Rattle.mime_words.specs.Words.{EncodedText, word_len, WordPiece, plain, pieces, bytes_of}
 use Rattle.mime_words.specs.Decoding.{same_charset, read_as, is_blank}
 
 -- The finished text, and bytes of one charset, or of none, that wait for more of it.
@@ -33,7 +33,7 @@ abbrev pub with_held : Written → List ℕ → Written
 with_held w bytes = record { text = w.text; charset = w.charset; held = w.held ++ bytes }
 
 -- A piece is written.
-abbrev pub with_piece : Written → Piece → Written
+abbrev pub with_piece : Written → WordPiece → Written
 with_piece w piece = with_held (turned w piece.charset) piece.bytes
 
 -- Text outside of words is written. An empty text changes nothing.
@@ -46,7 +46,7 @@ abbrev pub with_text_before : Written → List ℕ → Written
 with_text_before w text = if is_some w.charset && is_blank text then w else with_text w text
 
 -- The piece of a word.
-abbrev pub piece_of : Word → Piece
+abbrev pub piece_of : Word → WordPiece
 piece_of word = record { charset = Some word.charset; bytes = bytes_of word.encoding word.text.now }
 
 -- The encoded word with its parts as lists.
@@ -59,10 +59,10 @@ IsWordOf wanted most found = MatchOption found (wanted ≡ None) (λ word. (want
     × (word_len (shown word) ≤ most))
 
 -- The front of some bytes: text of a length, or a word that is decoded.
-abbrev pub IsFront : List ℕ → Front → Type 0
-IsFront bytes (Text len) = (0 < len) × (len ≤ length bytes)
+abbrev pub IsWordFront : List ℕ → Front → Type 0
+IsWordFront bytes (Text len) = (0 < len) × (len ≤ length bytes)
     × (pieces bytes ≡ plain (take len bytes) ++ pieces (drop len bytes))
-IsFront bytes (Decoded word len) = (0 < len) × (len ≤ length bytes)
+IsWordFront bytes (Decoded word len) = (0 < len) × (len ≤ length bytes)
     × (pieces bytes ≡ piece_of word ∷ pieces (drop len bytes))
 
 -- The first word that is decoded is found, with the text before it and the bytes after it;

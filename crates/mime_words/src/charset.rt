@@ -1,4 +1,5 @@
 //! The charsets of encoded words that are decoded.
+//! Pure.
 ghost use Rattle.std.specs.Prelude.{◌≡◌};
 ghost use Rattle.mime_words.specs.Words.{charset_of};
 ghost use Rattle.mime_words.specs.Decoding.{same_charset};

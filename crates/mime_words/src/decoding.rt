@@ -1,4 +1,5 @@
 //! Decodes a value with encoded words into text.
+//! Allocates.
 ghost use Rattle.std.specs.Prelude.{◌≡◌, ◌++◌, IfOk, OnOk, Some, string_bytes};
 ghost use Rattle.std.specs.Str.{IsUtf8, encode_utf8_all};
 ghost use Rattle.std.specs.Str.Lossy.{utf8_lossy};

@@ -1,4 +1,5 @@
 //! The encodings of encoded words.
+//! Pure.
 ghost use Rattle.std.specs.Prelude.{◌≡◌};
 ghost use Rattle.mime_words.specs.Words.{encoding_of};
 

@@ -1,4 +1,5 @@
 //! Laws of decoding, for every value. Each function does nothing: its contract is the law.
+//! Pure.
 ghost use Rattle.mime_words.specs.Laws.{ValueWithoutWords, EncodedBytes, LooseBase64, WordsAreSpelled};
 ghost use Rattle.mime_words.specs.Spelled.{LoneEqualsStays, SpelledIsSaid};
 

@@ -1,5 +1,7 @@
-//! Decodes encoded words in the values of header fields (RFC 2047), and base64 that may have other
-//! bytes in it (RFC 2045, section 6.8).
+//! Decodes encoded words in header fields (RFC 2047), and base64 (RFC 2045, section 6.8).
+//! Allocates.
+//!
+//! The base64 may have other bytes in it.
 #![tactic(auto)]
 
 mod charset;

@@ -1,4 +1,5 @@
 //! Decodes the encoding Q (RFC 2047, section 4.2).
+//! Allocates.
 ghost use Rattle.std.specs.Prelude.{◌≡◌, ◌<◌, ◌∷◌, ◌++◌, OnOk, length};
 ghost use Rattle.mime_words.specs.Quoted.{escape, plain_byte, unquoted};
 

@@ -1,4 +1,5 @@
 //! Base64 that may have other bytes in it.
+//! Allocates.
 ghost use Rattle.std.specs.Prelude.{◌≡◌, ◌≢◌, ◌++◌, ◌∷◌, [], ◌%◌, length, IfOk, OnOk, true, if◌then◌else◌};
 ghost use Rattle.std.specs.List.{list_all};
 ghost use Rattle.mime_words.specs.Base64.{is_symbol, sextets, packed, unbase64};

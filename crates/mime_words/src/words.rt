@@ -1,8 +1,9 @@
 //! Finds encoded words in a value (RFC 2047, section 2).
+//! Pure.
 ghost use Rattle.std.specs.Prelude.{◌≡◌, ◌≤◌, ◌<◌, ◌+◌, length, IfSome, option_copied};
 ghost use Rattle.std.specs.List.{prefix_len};
 ghost use Rattle.mime_words.specs.Words.{is_charset_byte, is_text_byte, after_opening, encoding_at, is_closing, closed_word, opened_word, word_at};
-ghost use Rattle.mime_words.specs.Writing.{IsFront, FindsWord, IsWordOf};
+ghost use Rattle.mime_words.specs.Writing.{IsWordFront, FindsWord, IsWordOf};
 
 use crate::charset::{Charset, charset_of};
 use crate::encoding::{Encoding, encoding_of};
@@ -53,7 +54,7 @@ pub fn first_word(value: &[u8]) -> Option<Found<'_>>
 /// Reads the front of some bytes.
 fn read_front(bytes: &[u8]) -> Front<'_>
     requires { 0 < length bytes.now }
-    ensures { IsFront bytes.now result }
+    ensures { IsWordFront bytes.now result }
 {
     let Some(word) = word_at(bytes) else {
         return Front::Text(1);

@@ -10,12 +10,12 @@ use Rattle.line_door.specs.Lines.{content, first_line, put_before}
 use Rattle.line_door.specs.Skipping.{Taken, Skipped, skipping_front}
 use Rattle.line_door.proofs.Passages.{passed-taken, passed-skipped}
 use Rattle.nntp_reader.specs.Commands.{command_of}
-use Rattle.nntp_reader.specs.Counting.{command_texts, line_texts, ended_lines, texts_for_bytes, IsTurnReads}
+use Rattle.nntp_reader.specs.Counting.{command_texts, line_texts, ended_lines, texts_for_bytes, NewsActReads}
 use Rattle.nntp_reader.specs.Dates.{year_at}
 use Rattle.nntp_reader.specs.Door.{reader}
 use Rattle.nntp_reader.specs.Numbers.{live_in, first_of}
 use Rattle.nntp_reader.specs.declared.group.Group.{Group}
-use Rattle.nntp_reader.specs.declared.session.Turn.TheVariants.{Went, Closed}
+use Rattle.nntp_reader.specs.declared.session.Act.TheVariants.{Went, Closed}
 use Rattle.nntp_reader.proofs.Walking.{range-rest}
 use Rattle.arch_model.specs.Archives.{Entry}
 
@@ -82,7 +82,7 @@ short-texts moment a line short = ap (λ (t : Bool). if t then command_texts a (
 
 -- A line that took `n` bytes of the piece was answered.
 pub line-reads : (moment : ℕ) (a : Archive) (g g' : Group) (held piece line new : List ℕ) (n : ℕ) (goes : Bool) (before now : ℕ) → skipping_front longest_line (held ++ piece) ≡ Taken line (drop n piece) → new ≡ [] → ReadsUpTo (command_texts a (command_of (year_at moment) (content line))) before now
-    → IsTurnReads moment a (reader g held) piece (if goes then Went n else Closed) (reader g' new) before now
+    → NewsActReads moment a (reader g held) piece (if goes then Went n else Closed) (reader g' new) before now
 line-reads moment a g g' held piece line new n true before now is none reads =
     let taken = passed-taken longest_line (first_line (held ++ piece)) line (drop n piece) is in
     let cut = texts-first moment a (held ++ piece) line (drop n piece) taken.0 in
@@ -94,7 +94,7 @@ line-reads moment a g g' held piece line new n false before now is none reads =
     record { later = reads.later; bound = omega (arith, cut, short-texts moment a line taken.1, reads.bound) }
 
 -- So was one that is too long.
-pub skipped-reads : (moment : ℕ) (a : Archive) (g : Group) (held piece new : List ℕ) (n : ℕ) (goes : Bool) (reads : ℕ) → skipping_front longest_line (held ++ piece) ≡ Skipped (drop n piece) → new ≡ [] → IsTurnReads moment a (reader g held) piece (if goes then Went n else Closed) (reader g new) reads reads
+pub skipped-reads : (moment : ℕ) (a : Archive) (g : Group) (held piece new : List ℕ) (n : ℕ) (goes : Bool) (reads : ℕ) → skipping_front longest_line (held ++ piece) ≡ Skipped (drop n piece) → new ≡ [] → NewsActReads moment a (reader g held) piece (if goes then Went n else Closed) (reader g new) reads reads
 skipped-reads moment a g held piece new n true reads is none =
     let skipped = passed-skipped longest_line (first_line (held ++ piece)) (drop n piece) is in
     let cut = texts-first moment a (held ++ piece) skipped.0 (drop n piece) skipped.1 in

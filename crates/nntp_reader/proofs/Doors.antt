@@ -1,13 +1,13 @@
 -- The laws of the door of readers.
 use Rattle.std.proofs.Common.{◌≡◌, ◌<◌, ◌∙◌, inr, ℕ, Bool, true, false, List, ◌++◌, length, Option, Some, None, refl, ap, append_assoc, arith}
 use Rattle.std.specs.Prelude.{if◌then◌else◌}
-use Rattle.line_door.specs.Acts.{Way, Plain, Memory, Disk, Newer}
+use Rattle.line_door.specs.Acts.{Departure, Plain, Memory, Disk, Newer}
 use Rattle.line_door.specs.Clipped.{clipped, longest_line}
 use Rattle.line_door.specs.Cuts.{CutDoor, said_with}
 use Rattle.line_door.specs.Lines.{content}
 use Rattle.line_door.specs.Making.{says}
 use Rattle.line_door.specs.Plain.{silent}
-use Rattle.line_door.specs.Skipping.{Passing, Taken, Skipped, Unended, skipping_front, is_ended}
+use Rattle.line_door.specs.Skipping.{SkippedLine, Taken, Skipped, Unended, skipping_front, is_ended}
 use Rattle.line_door.proofs.Clipping.{clipped-again, clipped-taken, clipped-skipped, clipped-ended}
 use Rattle.line_door.proofs.Cutting.{door_laws}
 use Rattle.line_door.proofs.Passages.{passing-goes_on, passing-stays_skipped, passing-shorter, passing-shorter_skipped}
@@ -20,7 +20,7 @@ use Rattle.nntp_reader.specs.Replies.{Reply, answered, reads_texts}
 use Rattle.nntp_reader.specs.declared.group.Group.{Group}
 
 -- More bytes leave a line that has ended what it is.
-ended_stays : (q bytes : List ℕ) (f : Passing) → skipping_front longest_line bytes ≡ f → is_ended f ≡ true → is_ended (skipping_front longest_line (bytes ++ q)) ≡ true
+ended_stays : (q bytes : List ℕ) (f : SkippedLine) → skipping_front longest_line bytes ≡ f → is_ended f ≡ true → is_ended (skipping_front longest_line (bytes ++ q)) ≡ true
 ended_stays q bytes (Taken line rest) is h = ap is_ended (passing-goes_on longest_line bytes q line rest is)
 ended_stays q bytes (Skipped rest) is h = ap is_ended (passing-stays_skipped longest_line bytes q rest is)
 ended_stays q bytes Unended is h = absurd (cc h)
@@ -41,23 +41,23 @@ refused_more moment a g command q rest words = by (reads_texts command)
     by true = refl
     by false = said_more a q rest (answered moment a g command)
 
-answer_more : (moment : ℕ) (a : Archive) (g : Group) (command : Command) (q rest : List ℕ) (way : Way) → said_to moment a g command (clipped longest_line (rest ++ q)) way ≡ said_with (with_piece q) (said_to moment a g command rest way)
+answer_more : (moment : ℕ) (a : Archive) (g : Group) (command : Command) (q rest : List ℕ) (way : Departure) → said_to moment a g command (clipped longest_line (rest ++ q)) way ≡ said_with (with_piece q) (said_to moment a g command rest way)
 answer_more moment a g command q rest Plain = said_more a q rest (answered moment a g command)
 answer_more moment a g command q rest Memory = refused_more moment a g command q rest _
 answer_more moment a g command q rest Disk = refused_more moment a g command q rest _
 answer_more moment a g command q rest Newer = said_more a q rest (answered moment a g command)
 
 -- A line says the same when more bytes follow it.
-line_more : (moment : ℕ) (q : List ℕ) (a : Archive) (h : Reader) (way : Way) (f : Passing) → skipping_front longest_line h.bytes ≡ f → is_ended f ≡ true → said moment a (with_piece q h) way ≡ said_with (with_piece q) (said_at moment a h f way)
+line_more : (moment : ℕ) (q : List ℕ) (a : Archive) (h : Reader) (way : Departure) (f : SkippedLine) → skipping_front longest_line h.bytes ≡ f → is_ended f ≡ true → said moment a (with_piece q h) way ≡ said_with (with_piece q) (said_at moment a h f way)
 line_more moment q a h way (Taken line rest) is ended =
-    ap (λ (f : Passing). said_at moment a (with_piece q h) f way) (clipped-taken longest_line (h.bytes ++ q) line (rest ++ q) (passing-goes_on longest_line h.bytes q line rest is))
+    ap (λ (f : SkippedLine). said_at moment a (with_piece q h) f way) (clipped-taken longest_line (h.bytes ++ q) line (rest ++ q) (passing-goes_on longest_line h.bytes q line rest is))
     ∙ answer_more moment a h.group (command_of (year_at moment) (content line)) q rest way
 line_more moment q a h way (Skipped rest) is ended =
-    ap (λ (f : Passing). said_at moment a (with_piece q h) f way) (clipped-skipped longest_line (h.bytes ++ q) (rest ++ q) (passing-stays_skipped longest_line h.bytes q rest is))
+    ap (λ (f : SkippedLine). said_at moment a (with_piece q h) f way) (clipped-skipped longest_line (h.bytes ++ q) (rest ++ q) (passing-stays_skipped longest_line h.bytes q rest is))
 line_more moment q a h way Unended is ended = absurd (cc ended)
 
 -- A part of a line is kept without a word.
-pub part_silent : (moment : ℕ) (a : Archive) (h : Reader) (way : Way) (f : Passing) → is_ended f ≡ false → said_at moment a h f way ≡ silent a h
+pub part_silent : (moment : ℕ) (a : Archive) (h : Reader) (way : Departure) (f : SkippedLine) → is_ended f ≡ false → said_at moment a h f way ≡ silent a h
 part_silent moment a h way (Taken line rest) none = absurd (cc none)
 part_silent moment a h way (Skipped rest) none = absurd (cc none)
 part_silent moment a h way Unended none = refl
@@ -67,7 +67,7 @@ left_bytes : (g : Option Group) (rest : List ℕ) (k : Reader) → reader_if g r
 left_bytes None rest k next = absurd (cc next)
 left_bytes (Some g) rest k next = let same : reader g rest ≡ k = cc in ap (λ (r : Reader). r.bytes) same
 
-line_shorter : (moment : ℕ) (a : Archive) (h k : Reader) (f : Passing) → skipping_front longest_line h.bytes ≡ f → is_ended f ≡ true → (said_at moment a h f Plain).next ≡ Some k → left k < left h
+line_shorter : (moment : ℕ) (a : Archive) (h k : Reader) (f : SkippedLine) → skipping_front longest_line h.bytes ≡ f → is_ended f ≡ true → (said_at moment a h f Plain).next ≡ Some k → left k < left h
 line_shorter moment a h k (Taken line rest) is ended next =
     let bytes = left_bytes (answered moment a h.group (command_of (year_at moment) (content line))).group rest k next in
     let less = passing-shorter longest_line h.bytes line rest is in

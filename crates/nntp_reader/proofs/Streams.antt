@@ -5,7 +5,7 @@ use Rattle.edge_io.specs.Taken.{plus}
 use Rattle.edge_io.specs.Phrases.{Says}
 use Rattle.edge_io.specs.declared.sink.SinkFault.{SinkFault}
 use Rattle.edge_io.proofs.Wording.{take-first}
-use Rattle.line_door.specs.Acts.{Outside, Said, Way, Plain, Memory, Disk, Newer, WayCause, SaidShort, Acts, held_if}
+use Rattle.line_door.specs.Acts.{ConnectionState, Said, Departure, Plain, Memory, Disk, Newer, DepartureCause, SaidShort, Acts, held_if}
 use Rattle.line_door.specs.Making.{says, streams}
 use Rattle.line_door.proofs.Acting.{acts-by_held, acts-by_says}
 use Rattle.line_door.proofs.Streaming.{acts-short}
@@ -21,14 +21,14 @@ use Rattle.nntp_reader.specs.declared.group.Group.TheVariants as group
 use Rattle.nntp_reader.specs.declared.notice.Notice.TheVariants as notice
 use Rattle.nntp_reader.specs.Headers.{field_at, field_lines, fields_block}
 use Rattle.nntp_reader.specs.Notices.{memory_line, disk_line}
-use Rattle.nntp_reader.specs.Sessions.{SaysUnread, IsValue, start_if}
+use Rattle.nntp_reader.specs.Sessions.{NewsSaysUnread, TellsValue, start_if}
 use Rattle.nntp_reader.specs.declared.field.Value.TheVariants as value
 use Rattle.nntp_reader.proofs.Replying.{Waits-ended}
 use Rattle.nntp_reader.proofs.Walking.{fields-rest, fields-none}
 use Rattle.nntp_reader.specs.declared.group.Group.{Group}
 
 -- A write that failed after the reply had to stop: what was taken is a prefix of the reply.
-module _ {H A : Type 0} (words : Way → Said H A) (s : Said H A) (front more : List ℕ) (i k : Outside) (a : A) where
+module _ {H A : Type 0} (words : Departure → Said H A) (s : Said H A) (front more : List ℕ) (i k : ConnectionState) (a : A) where
   short_of : (count : ℕ) → words Plain ≡ s → s.streamed ≡ true → s.words ≡ front ++ more → 0 < length front → 0 < length more → a ≡ s.after → k.out ≡ plus i.out (take (suc count) front) → SaidShort (words Plain) i None a k
   short_of count is streamed parts some rest after out = subst (λ (t : Said H A). SaidShort t i None a k) (sym is) (record {
     streamed = streamed;
@@ -40,7 +40,7 @@ module _ {H A : Type 0} (words : Way → Said H A) (s : Said H A) (front more : 
     out_is = out ∙ ap (plus i.out) (sym (ap (take (min (suc count) (length front))) parts ∙ take-first (suc count) front more));
   })
 
-  acts-lost_short : (way : Way) (count : ℕ) → ((w : Way) → a ≡ (words w).after) → (SaidShort (words Plain) i None a k → Acts words i None a k) → WayCause way i.disk k.disk → i.disk ≤ k.disk → i.lost ≤ k.lost → Rose i.lost k.lost
+  acts-lost_short : (way : Departure) (count : ℕ) → ((w : Departure) → a ≡ (words w).after) → (SaidShort (words Plain) i None a k → Acts words i None a k) → DepartureCause way i.disk k.disk → i.disk ≤ k.disk → i.lost ≤ k.lost → Rose i.lost k.lost
       → words Plain ≡ s → s.streamed ≡ true → s.words ≡ front ++ more → 0 < length front → 0 < length more → k.out ≡ plus i.out (take count front) → Acts words i None a k
   acts-lost_short way zero after by_short cause later lost rose is streamed parts some rest out = record {
     way = way;
@@ -53,7 +53,7 @@ module _ {H A : Type 0} (words : Way → Said H A) (s : Said H A) (front more : 
       by_short (short_of count is streamed parts some rest (after Plain ∙ ap (λ (t : Said H A). t.after) is) out)
 
   -- A streamed reply stops: what waits of it is written, or the write fails, too.
-  pub acts-stopped : (sent : Result Unit SinkFault) → ((w : Way) → a ≡ (words w).after) → words Plain ≡ s → s.streamed ≡ true → s.words ≡ front ++ more → 0 < length front → 0 < length more
+  pub acts-stopped : (sent : Result Unit SinkFault) → ((w : Departure) → a ≡ (words w).after) → words Plain ≡ s → s.streamed ≡ true → s.words ≡ front ++ more → 0 < length front → 0 < length more
       → Rose i.disk k.disk ⊎ (k.disk ≡ i.disk) → i.disk ≤ k.disk → Says front i.out i.lost k.out k.lost sent → Acts words i None a k
   acts-stopped (Ok done) after is streamed parts some rest cause later said = acts-short words s front more i k a is streamed parts some rest cause later said (after Plain ∙ ap (λ (t : Said H A). t.after) is)
   acts-stopped (Err fault) after is streamed parts some rest (inl rose) later said =
@@ -66,7 +66,7 @@ abbrev pub fields_left : List ℕ → List Entry → Bool → ℕ → ℕ → Li
 fields_left name entries begun at last = start_if (not begun) ++ (field_lines name entries at last ++ block_end)
 
 -- So many values were appended, and nothing is said before the first.
-pub record Begun (name : List ℕ) (entries : List Entry) (range : Range) (begun : Bool) (at : ℕ) (i : Outside) (waiting : List ℕ) (j : Outside) : Type 0 where
+pub record Begun (name : List ℕ) (entries : List Entry) (range : Range) (begun : Bool) (at : ℕ) (i : ConnectionState) (waiting : List ℕ) (j : ConnectionState) : Type 0 where
   pub so_far : SoFar (fields_block name entries range.first range.last) (fields_left name entries begun at range.last) [] i.out i.lost waiting j.out j.lost
   pub some : begun ≡ true → 0 < length so_far.front
   pub none : begun ≡ false → (at ≡ range.first) × (j.out ≡ i.out) × (j.lost ≡ i.lost)
@@ -85,7 +85,7 @@ left-some : (name : List ℕ) (entries : List Entry) (begun : Bool) (at last : �
 left-some name entries begun at last = omega (arith, length-append (start_if (not begun)) (field_lines name entries at last ++ block_end), length-append (field_lines name entries at last) block_end)
 
 -- No way changes the archive.
-range-after : (a : Archive) (g : Group) (name : List ℕ) (range : Range) (rest : List ℕ) (way : Way) → a ≡ (range_said a g name range rest way).after
+range-after : (a : Archive) (g : Group) (name : List ℕ) (range : Range) (rest : List ℕ) (way : Departure) → a ≡ (range_said a g name range rest way).after
 range-after a g name range rest Plain = refl
 range-after a g name range rest Memory = refl
 range-after a g name range rest Disk = refl
@@ -98,8 +98,8 @@ some-front name entries n false front some =
     omega (arith, length-append front (start_if true ++ field_at name entries n), length-append (start_if true) (field_at name entries n))
 
 -- The next value was appended.
-pub begun-said : (name : List ℕ) (entries : List Entry) (range : Range) (begun : Bool) (at n : ℕ) (i : Outside) (waiting : List ℕ) (j : Outside) (new : List ℕ) (k : Outside) → Begun name entries range begun at i waiting j → first_of (live_in entries at range.last) ≡ Some n
-    → IsValue name n begun (text_of entries n) waiting j value.Said new k → Begun name entries range true (n + 1) i new k
+pub begun-said : (name : List ℕ) (entries : List Entry) (range : Range) (begun : Bool) (at n : ℕ) (i : ConnectionState) (waiting : List ℕ) (j : ConnectionState) (new : List ℕ) (k : ConnectionState) → Begun name entries range begun at i waiting j → first_of (live_in entries at range.last) ≡ Some n
+    → TellsValue name n begun (text_of entries n) waiting j value.Said new k → Begun name entries range true (n + 1) i new k
 begun-said name entries range begun at n i waiting j new k before next said = record {
   so_far = record {
     front = before.so_far.front ++ (start_if (not begun) ++ field_at name entries n);
@@ -114,18 +114,18 @@ begun-said name entries range begun at n i waiting j new k before next said = re
 
 module _ (a : Archive) (g : Group) (name : List ℕ) (range : Range) (rest : List ℕ) where
   -- All values were said.
-  pub range-all : (i j : Outside) (sent : Result Unit SinkFault) → j.disk ≡ i.disk → Says (fields_block name (live a.entries) range.first range.last) i.out i.lost j.out j.lost sent
+  pub range-all : (i j : ConnectionState) (sent : Result Unit SinkFault) → j.disk ≡ i.disk → Says (fields_block name (live a.entries) range.first range.last) i.out i.lost j.out j.lost sent
       → Acts (range_said a g name range rest) i (held_if (is_ok sent) (reader g rest)) a j
   range-all i j sent kept said =
       acts-by_held (range_said a g name range rest) Plain (streams a (reader g rest) (fields_block name (live a.entries) range.first range.last)) i j (reader g rest) a sent refl refl kept (omega (arith, kept)) said refl
 
   -- A write failed.
-  pub range-lost : (i j : Outside) (fault : SinkFault) → j.disk ≡ i.disk → Says (fields_block name (live a.entries) range.first range.last) i.out i.lost j.out j.lost (Err fault) → Acts (range_said a g name range rest) i None a j
+  pub range-lost : (i j : ConnectionState) (fault : SinkFault) → j.disk ≡ i.disk → Says (fields_block name (live a.entries) range.first range.last) i.out i.lost j.out j.lost (Err fault) → Acts (range_said a g name range rest) i None a j
   range-lost i j fault kept said =
       acts-by_says (range_said a g name range rest) Plain (streams a (reader g rest) (fields_block name (live a.entries) range.first range.last)) i j None a (Err fault) refl kept (omega (arith, kept)) said refl refl
 
   -- A later text was not read, and the reply stops.
-  pub range-stopped : (at : ℕ) (begun : Bool) (i k : Outside) (front : List ℕ) (sent : Result Unit SinkFault) → fields_block name (live a.entries) range.first range.last ≡ front ++ fields_left name (live a.entries) begun at range.last → 0 < length front
+  pub range-stopped : (at : ℕ) (begun : Bool) (i k : ConnectionState) (front : List ℕ) (sent : Result Unit SinkFault) → fields_block name (live a.entries) range.first range.last ≡ front ++ fields_left name (live a.entries) begun at range.last → 0 < length front
       → Rose i.disk k.disk ⊎ (k.disk ≡ i.disk) → i.disk ≤ k.disk → Says front i.out i.lost k.out k.lost sent → Acts (range_said a g name range rest) i None a k
   range-stopped at begun i k front sent parts some cause later said =
       acts-stopped (range_said a g name range rest) (streams a (reader g rest) (fields_block name (live a.entries) range.first range.last)) front (fields_left name (live a.entries) begun at range.last) i k a sent
@@ -143,9 +143,9 @@ left-none name entries false at first last there next none =
     let gone : is_some (first_of (live_in entries first last)) ≡ false = ap (λ (k : ℕ). is_some (first_of (live_in entries k last))) (sym (none refl)) ∙ ap is_some next in
     absurd (cc (gone, there))
 
-module _ (a : Archive) (g : Group) (name : List ℕ) (range : Range) (rest : List ℕ) (begun : Bool) (at : ℕ) (i : Outside) (waiting : List ℕ) (j : Outside) (before : Begun name (live a.entries) range begun at i waiting j) where
+module _ (a : Archive) (g : Group) (name : List ℕ) (range : Range) (rest : List ℕ) (begun : Bool) (at : ℕ) (i : ConnectionState) (waiting : List ℕ) (j : ConnectionState) (before : Begun name (live a.entries) range begun at i waiting j) where
   -- A write failed at the next value.
-  pub begun-lost : (n : ℕ) (new : List ℕ) (k : Outside) → first_of (live_in (live a.entries) at range.last) ≡ Some n → IsValue name n begun (text_of (live a.entries) n) waiting j value.Lost new k → Acts (range_said a g name range rest) i None a k
+  pub begun-lost : (n : ℕ) (new : List ℕ) (k : ConnectionState) → first_of (live_in (live a.entries) at range.last) ≡ Some n → TellsValue name n begun (text_of (live a.entries) n) waiting j value.Lost new k → Acts (range_said a g name range rest) i None a k
   begun-lost n new k next lost =
       range-lost a g name range rest i k lost.0 (lost.1.0 ∙ before.kept)
       (sofar-lost (fields_block name (live a.entries) range.first range.last) [] i.out i.lost (fields_left name (live a.entries) begun at range.last) waiting j.out j.lost before.so_far
@@ -153,18 +153,18 @@ module _ (a : Archive) (g : Group) (name : List ℕ) (range : Range) (rest : Lis
       (left-value name (live a.entries) begun at range.last n (fields-rest name (live a.entries) at range.last n next)) lost.1.1)
 
   -- The first text was not read, and it was said why.
-  pub begun-unread : (n : ℕ) (new : List ℕ) (k : Outside) (sent : Result Unit SinkFault) → IsValue name n begun (text_of (live a.entries) n) waiting j (value.Unread sent) new k → Acts (range_said a g name range rest) i (held_if (is_ok sent) (reader g rest)) a k
-  begun-unread n new k sent unread = by (subst (λ (o : Outside). SaysUnread o sent k) still unread.2)
+  pub begun-unread : (n : ℕ) (new : List ℕ) (k : ConnectionState) (sent : Result Unit SinkFault) → TellsValue name n begun (text_of (live a.entries) n) waiting j (value.Unread sent) new k → Acts (range_said a g name range rest) i (held_if (is_ok sent) (reader g rest)) a k
+  begun-unread n new k sent unread = by (subst (λ (o : ConnectionState). NewsSaysUnread o sent k) still unread.2)
     where
       still : j ≡ i
       still = let none = before.none unread.0 in λ e. record { out = none.1 e; disk = before.kept e; lost = none.2 e }
 
-      by : SaysUnread i sent k → Acts (range_said a g name range rest) i (held_if (is_ok sent) (reader g rest)) a k
+      by : NewsSaysUnread i sent k → Acts (range_said a g name range rest) i (held_if (is_ok sent) (reader g rest)) a k
       by (inl disk) = acts-by_held (range_said a g name range rest) Disk (says a (reader g rest) disk_line) i k (reader g rest) a sent refl refl disk.0 disk.1 disk.2 refl
       by (inr memory) = acts-by_held (range_said a g name range rest) Memory (says a (reader g rest) memory_line) i k (reader g rest) a sent refl refl memory.0 (omega (arith, memory.0)) memory.1 refl
 
   -- The next text was not read after others were said, and what waits is written.
-  pub begun-short : (n : ℕ) (new : List ℕ) (k m : Outside) (sent : Result Unit SinkFault) → IsValue name n begun (text_of (live a.entries) n) waiting j value.Short new k → m.disk ≡ k.disk → Says new k.out k.lost m.out m.lost sent → Acts (range_said a g name range rest) i None a m
+  pub begun-short : (n : ℕ) (new : List ℕ) (k m : ConnectionState) (sent : Result Unit SinkFault) → TellsValue name n begun (text_of (live a.entries) n) waiting j value.Short new k → m.disk ≡ k.disk → Says new k.out k.lost m.out m.lost sent → Acts (range_said a g name range rest) i None a m
   begun-short n new k m sent short same said =
       let on : Says waiting j.out j.lost m.out m.lost sent = subst (λ (x : List ℕ). Says x j.out j.lost m.out m.lost sent) short.1
       (subst (λ (o : Option (List ℕ)). Says new o j.lost m.out m.lost sent) short.2
@@ -174,7 +174,7 @@ module _ (a : Archive) (g : Group) (name : List ℕ) (range : Range) (rest : Lis
       (Waits-flushed before.so_far.front [] waiting i.out j.out m.out i.lost j.lost m.lost tt sent before.so_far.waits on)
 
   -- All values were appended, and the reply ends.
-  pub begun-all : (k : Outside) (sent : Result Unit SinkFault) → is_some (first_of (live_in (live a.entries) range.first range.last)) ≡ true → first_of (live_in (live a.entries) at range.last) ≡ None → k.disk ≡ j.disk → Says (waiting ++ block_end) j.out j.lost k.out k.lost sent
+  pub begun-all : (k : ConnectionState) (sent : Result Unit SinkFault) → is_some (first_of (live_in (live a.entries) range.first range.last)) ≡ true → first_of (live_in (live a.entries) at range.last) ≡ None → k.disk ≡ j.disk → Says (waiting ++ block_end) j.out j.lost k.out k.lost sent
       → Acts (range_said a g name range rest) i (held_if (is_ok sent) (reader g rest)) a k
   begun-all k sent there next same said =
       range-all a g name range rest i k sent (same ∙ before.kept)
@@ -182,7 +182,7 @@ module _ (a : Archive) (g : Group) (name : List ℕ) (range : Range) (rest : Lis
       (Waits-ended before.so_far.front block_end [] waiting i.out j.out k.out i.lost j.lost k.lost tt sent before.so_far.waits said))
 
 -- HDR of a field over a range of which one is live says what the range says.
-pub range-is : (moment : ℕ) (a : Archive) (g : Group) (name : List ℕ) (range : Range) (n : ℕ) (rest : List ℕ) (way : Way) → range_start a g range ≡ Ok n
+pub range-is : (moment : ℕ) (a : Archive) (g : Group) (name : List ℕ) (range : Range) (n : ℕ) (rest : List ℕ) (way : Departure) → range_start a g range ≡ Ok n
     → said_to moment a g (Headers (Field name) (Within range)) rest way ≡ range_said a g name range rest way
 range-is moment a g name range n rest Plain is = rw is refl
 range-is moment a g name range n rest Memory is = refl

@@ -10,8 +10,8 @@ use Rattle.nntp_reader.specs.Commands as commands
 use Rattle.nntp_reader.specs.Dates.{year_at}
 use Rattle.nntp_reader.specs.Door.{Reader}
 use Rattle.nntp_reader.specs.Numbers.{live_in}
-use Rattle.nntp_reader.specs.declared.session.Turn.{Turn}
-use Rattle.nntp_reader.specs.declared.session.Turn.TheVariants.{Went, Kept, Closed}
+use Rattle.nntp_reader.specs.declared.session.Act.{Act}
+use Rattle.nntp_reader.specs.declared.session.Act.TheVariants.{Went, Kept, Closed}
 
 -- How many texts a field of articles is read from: one for each live message.
 abbrev pub field_texts : Archive → Articles → ℕ
@@ -53,12 +53,12 @@ abbrev pub texts_for_bytes : ℕ → Archive → List ℕ → ℕ
 texts_for_bytes moment a bytes = sum_by (line_texts moment a) (ended_lines bytes)
 
 -- One act reads no more than leaves enough for the bytes after it.
-abbrev pub IsTurnReads : ℕ → Archive → Reader → List ℕ → Turn → Reader → ℕ → ℕ → Type 0
-IsTurnReads moment a old piece (Went n) new before now =
+abbrev pub NewsActReads : ℕ → Archive → Reader → List ℕ → Act → Reader → ℕ → ℕ → Type 0
+NewsActReads moment a old piece (Went n) new before now =
     ReadsAhead (texts_for_bytes moment a (old.bytes ++ piece))
     (texts_for_bytes moment a (new.bytes ++ drop n piece)) before now
-IsTurnReads moment a old piece Kept new before now = now ≡ before
-IsTurnReads moment a old piece Closed new before now =
+NewsActReads moment a old piece Kept new before now = now ≡ before
+NewsActReads moment a old piece Closed new before now =
     ReadsUpTo (texts_for_bytes moment a (old.bytes ++ piece)) before now
 
 -- A shelf: the archives that it holds.

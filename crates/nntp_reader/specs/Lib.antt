@@ -11,6 +11,6 @@ pub mod Lists
 pub mod Dates
 pub mod Replies
 pub mod Door
-pub mod Sessions
 pub mod Counting
 pub mod Laws
+pub mod Sessions

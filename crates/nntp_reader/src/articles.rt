@@ -1,9 +1,10 @@
 //! What ARTICLE, HEAD, BODY, STAT, NEXT and LAST say.
+//! Reads the disk.
 ghost use Rattle.std.specs.Prelude.{◌≡◌, ◌≤◌, ℕ, List, length, true, is_ok, is_some, option_copied};
 ghost use Rattle.line_door.specs.Acts.{outside, Acts, held_if};
 ghost use Rattle.arch_model.specs.Archives.{Archive, live, text_of};
 ghost use Rattle.arch_model.specs.Overviews.{id_fact};
-ghost use Rattle.arch_model.specs.Shelves.{Stays, ReadsOnce};
+ghost use Rattle.arch_model.specs.Shelves.{ShelfStays, ReadsOnce};
 ghost use Rattle.edge_io.specs.Phrases.{Says};
 ghost use Rattle.nntp_reader.specs.Articles.{header_of, part_code, part_of as bytes_of_part, part_words, text_words, row_id, stat_words, chosen_words, group_chosen, step_words, step_after};
 ghost use Rattle.nntp_reader.specs.Choices.{choice_of, next_of, previous_of};
@@ -42,7 +43,7 @@ pub(crate) fn say_part<S: Shelf, O: Sink>(
         (outside (O.taken out.old) (S.faults shelf.old) (O.faults out.old))
         (held_if (is_ok result) (reader group.new rest)) a
         (outside (O.taken out.new) (S.faults shelf.new) (O.faults out.new)) }
-    ensures shelf { Stays S.holds S.ready S.alike S.faults shelf.old shelf.new }
+    ensures shelf { ShelfStays S.holds S.ready S.alike S.faults shelf.old shelf.new }
     ensures reads { ReadsOnce (S.reads shelf.old) (S.reads shelf.new) }
     ensures sink { O.alike out.old out.new }
 {
@@ -68,7 +69,7 @@ fn say_chosen<S: Shelf, O: Sink>(
         (text_words part chosen.shown (text_of (live a.entries) chosen.number)) chosen.after group.old
         (outside (O.taken out.old) (S.faults shelf.old) (O.faults out.old)) result group.new
         (outside (O.taken out.new) (S.faults shelf.new) (O.faults out.new)) }
-    ensures shelf { Stays S.holds S.ready S.alike S.faults shelf.old shelf.new }
+    ensures shelf { ShelfStays S.holds S.ready S.alike S.faults shelf.old shelf.new }
     ensures reads { ReadsOnce (S.reads shelf.old) (S.reads shelf.new) }
     ensures sink { O.alike out.old out.new }
 {

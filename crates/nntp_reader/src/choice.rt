@@ -1,4 +1,5 @@
 //! Finds the article that a command is about.
+//! Pure.
 ghost use Rattle.std.specs.Prelude.{◌≡◌, ◌+◌, ◌<◌, ◌≤◌, true, IfOk, IfSome, is_some};
 ghost use Rattle.arch_model.specs.Archives.{Archive, live, text_of};
 ghost use Rattle.nntp_reader.specs.Choices.{choice_of, current_of, numbered_of, identified_by, if_live as if_live_in, range_start as range_start_of, next_of, previous_of, number_or as number_or_of};

@@ -1,4 +1,5 @@
 //! The lines that are made of rows.
+//! Pure.
 ghost use Rattle.std.specs.Prelude.{◌≡◌, ◌++◌, ◌∷◌, true, Some, decimal};
 ghost use Rattle.arch_model.specs.Archives.{Archive, live};
 ghost use Rattle.arch_model.specs.Listings.{row_in};

@@ -1,9 +1,10 @@
 //! What HDR says of a field of texts.
+//! Reads the disk.
 ghost use Rattle.std.specs.Prelude.{◌≡◌, ◌++◌, ℕ, List, length, true, not, is_ok, is_some, if◌then◌else◌};
 ghost use Rattle.line_door.specs.Acts.{outside, Acts, held_if};
 ghost use Rattle.arch_model.specs.Archives.{Archive, live, text_of};
 ghost use Rattle.arch_model.specs.Next.{continues};
-ghost use Rattle.arch_model.specs.Shelves.{Stays, ReadCause, ReadsOnce, ReadsIn};
+ghost use Rattle.arch_model.specs.Shelves.{ShelfStays, ReadCause, ReadsOnce, ReadsIn};
 ghost use Rattle.edge_io.specs.Phrases.{Says};
 ghost use Rattle.wire_replies.specs.Blocks.{block_end};
 ghost use Rattle.wire_replies.specs.Waits.{Waits};
@@ -13,7 +14,7 @@ ghost use Rattle.nntp_reader.specs.Door.{reader, said_to, range_said};
 ghost use Rattle.nntp_reader.specs.Facts.{header_line};
 ghost use Rattle.nntp_reader.specs.Headers.{header_start, field_line};
 ghost use Rattle.nntp_reader.specs.Numbers.{live_in, first_of};
-ghost use Rattle.nntp_reader.specs.Sessions.{articles_of, start_if as start_if_of, ReadsValue, SaysOrNot, IsValue};
+ghost use Rattle.nntp_reader.specs.Sessions.{articles_of, start_if as start_if_of, ReadsValue, SaysOrNot, TellsValue};
 
 use crate::choice::{Chosen, choose, live_after, live_within, range_start};
 use crate::group::Group;
@@ -61,7 +62,7 @@ pub(crate) fn say_field<S: Shelf, O: Sink>(
         (outside (O.taken out.old) (S.faults shelf.old) (O.faults out.old))
         (held_if (continues result) (reader group rest)) a
         (outside (O.taken out.new) (S.faults shelf.new) (O.faults out.new)) }
-    ensures shelf { Stays S.holds S.ready S.alike S.faults shelf.old shelf.new }
+    ensures shelf { ShelfStays S.holds S.ready S.alike S.faults shelf.old shelf.new }
     ensures reads { ReadsIn S.holds (λ a. field_texts a (articles_of articles.entry)) shelf.old
         (S.reads shelf.old) (S.reads shelf.new) }
     ensures sink { O.alike out.old out.new }
@@ -94,7 +95,7 @@ fn say_single<S: Shelf, O: Sink>(
         ++ (field_line name.now chosen.shown (text_of (live a.entries) chosen.number) ++ block_end))
         group group (outside (O.taken out.old) (S.faults shelf.old) (O.faults out.old)) result group
         (outside (O.taken out.new) (S.faults shelf.new) (O.faults out.new)) }
-    ensures shelf { Stays S.holds S.ready S.alike S.faults shelf.old shelf.new }
+    ensures shelf { ShelfStays S.holds S.ready S.alike S.faults shelf.old shelf.new }
     ensures reads { ReadsOnce (S.reads shelf.old) (S.reads shelf.new) }
     ensures sink { O.alike out.old out.new }
 {
@@ -139,7 +140,7 @@ fn say_range<S: Shelf, O: Sink>(
         (outside (O.taken out.old) (S.faults shelf.old) (O.faults out.old))
         (held_if (continues result) (reader group rest)) a
         (outside (O.taken out.new) (S.faults shelf.new) (O.faults out.new)) }
-    ensures shelf { Stays S.holds S.ready S.alike S.faults shelf.old shelf.new }
+    ensures shelf { ShelfStays S.holds S.ready S.alike S.faults shelf.old shelf.new }
     ensures reads { ReadsIn S.holds (λ a. length (live_in (live a.entries) range.first range.last))
         shelf.old (S.reads shelf.old) (S.reads shelf.new) }
     ensures sink { O.alike out.old out.new }
@@ -178,10 +179,10 @@ fn push_field<S: Shelf, O: Sink>(
     requires live { (a : Archive) → S.holds shelf.old a
         → is_some (text_of (live a.entries) number) ≡ true }
     ensures value { (a : Archive) → S.holds shelf.old a
-        → IsValue name.now number begun (text_of (live a.entries) number) reply.old
+        → TellsValue name.now number begun (text_of (live a.entries) number) reply.old
         (outside (O.taken out.old) (S.faults shelf.old) (O.faults out.old)) result reply.new
         (outside (O.taken out.new) (S.faults shelf.new) (O.faults out.new)) }
-    ensures shelf { Stays S.holds S.ready S.alike S.faults shelf.old shelf.new }
+    ensures shelf { ShelfStays S.holds S.ready S.alike S.faults shelf.old shelf.new }
     ensures reads { ReadsOnce (S.reads shelf.old) (S.reads shelf.new) }
     ensures sink { O.alike out.old out.new }
 {
@@ -254,7 +255,7 @@ fn read_value<S: Shelf>(
         → is_some (text_of (live a.entries) number) ≡ true }
     ensures value { (a : Archive) → S.holds shelf.old a
         → ReadsValue name.now (text_of (live a.entries) number) result }
-    ensures shelf { Stays S.holds S.ready S.alike S.faults shelf.old shelf.new }
+    ensures shelf { ShelfStays S.holds S.ready S.alike S.faults shelf.old shelf.new }
     ensures reads { ReadsOnce (S.reads shelf.old) (S.reads shelf.new) }
     ensures cause { ReadCause (S.faults shelf.old) (S.faults shelf.new) result }
 {

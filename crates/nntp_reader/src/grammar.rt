@@ -1,4 +1,5 @@
 //! Reads commands from their lines.
+//! Pure.
 ghost use Rattle.std.specs.Prelude.{◌≡◌, not, Some, option_map};
 ghost use Rattle.std.specs.Int.{IsInRange};
 ghost use Rattle.std.specs.List.{list_all, list_any};

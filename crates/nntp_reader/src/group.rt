@@ -1,4 +1,5 @@
 //! The group of a session, and what GROUP and LISTGROUP say.
+//! Pure.
 ghost use Rattle.std.specs.Prelude.{◌≡◌, ◌++◌, true, [], Some, None};
 ghost use Rattle.arch_model.specs.Archives.{Archive, live};
 ghost use Rattle.edge_io.specs.Phrases.{Says};

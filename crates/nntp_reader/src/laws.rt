@@ -1,4 +1,5 @@
 //! The laws of the door of readers, which hold for every archive and all bytes.
+//! Pure.
 ghost use Rattle.nntp_reader.specs.Laws.{ReaderLaws};
 
 /// Shows that the replies to a reader do not depend on how the bytes are cut.

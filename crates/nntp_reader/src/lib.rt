@@ -1,4 +1,5 @@
 //! The door of readers of news (RFC 3977): a session reads one archive, as one group.
+//! Reads the disk.
 #![tactic(auto)]
 
 mod answers;

@@ -1,4 +1,5 @@
 //! What CAPABILITIES, HELP, LIST, NEWGROUPS and NEWNEWS say.
+//! Pure.
 ghost use Rattle.std.specs.Prelude.{◌≡◌, ◌++◌, [], true, option_copied, if◌then◌else◌};
 ghost use Rattle.arch_model.specs.Archives.{Archive};
 ghost use Rattle.edge_io.specs.Phrases.{Says};

@@ -1,4 +1,5 @@
 //! The moment as DATE says it, and its year.
+//! Pure.
 ghost use Rattle.std.specs.Prelude.{◌≡◌, ◌≤◌, ◌-◌, min};
 ghost use Rattle.std.specs.Int.{IsInRange};
 ghost use Rattle.arch_base.specs.Moments.{last_moment};

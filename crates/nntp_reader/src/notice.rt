@@ -1,4 +1,5 @@
 //! The replies that are one line of fixed words.
+//! Pure.
 ghost use Rattle.edge_io.specs.Phrases.{Says};
 ghost use Rattle.nntp_reader.specs.Notices.{notice_line};
 

@@ -1,4 +1,5 @@
 //! Commands as they were read, over the bytes of their line.
+//! Pure.
 use crate::verb::{Listing, Part};
 use nntp_words::Range;
 

@@ -1,4 +1,5 @@
 //! The lines of the live messages in a range.
+//! Pure.
 ghost use Rattle.std.specs.Prelude.{◌≡◌, ◌++◌, true};
 ghost use Rattle.arch_model.specs.Archives.{Archive, live};
 ghost use Rattle.edge_io.specs.Phrases.{Says};

@@ -1,4 +1,5 @@
 //! The refusals of a server that has no session to speak for it, or no open archive.
+//! Pure.
 ghost use Rattle.std.specs.Prelude.{◌++◌, ◌∷◌, codes, decimal};
 ghost use Rattle.arch_model.specs.Delivery.{file_words};
 ghost use Rattle.edge_io.specs.Phrases.{Says};

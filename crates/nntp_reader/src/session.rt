@@ -1,4 +1,5 @@
-//! A reader's connection: its group, the bytes that are not answered yet, and the answer to a piece.
+//! A reader's connection: its group, the bytes not answered yet, and the answer to a piece.
+//! Reads the disk.
 ghost use Rattle.std.specs.Prelude.{◌≡◌, ◌≤◌, ◌+◌, ◌<◌, ◌++◌, ℕ, List, [], length, Some, true, false, if◌then◌else◌};
 ghost use Rattle.arch_base.specs.Moments.{last_moment};
 ghost use Rattle.line_door.specs.Acts.{outside, Acts, held_if};
@@ -8,9 +9,9 @@ ghost use Rattle.line_door.specs.Lines.{content};
 ghost use Rattle.line_door.specs.Skipping.{skipping_front, Unended};
 ghost use Rattle.arch_model.specs.Archives.{Archive};
 ghost use Rattle.arch_model.specs.Next.{continues};
-ghost use Rattle.arch_model.specs.Shelves.{Stays, ReadsIn};
+ghost use Rattle.arch_model.specs.Shelves.{ShelfStays, ReadsIn};
 ghost use Rattle.nntp_reader.specs.Commands.{command_of};
-ghost use Rattle.nntp_reader.specs.Counting.{ReadsLines, IsTurnReads, command_texts};
+ghost use Rattle.nntp_reader.specs.Counting.{ReadsLines, NewsActReads, command_texts};
 ghost use Rattle.nntp_reader.specs.Dates.{year_at};
 ghost use Rattle.nntp_reader.specs.Door.{reader, new_reader, greeting, said, said_to, has_request, with_piece};
 
@@ -27,7 +28,7 @@ use std::marker::Model;
 
 /// The result of one act on the bytes at the front.
 #[derive(Clone, Copy, Drop)]
-pub(crate) enum Turn {
+pub(crate) enum Act {
     /// A line that took this many bytes of the piece was answered, and the session continues.
     Went(usize),
     /// The piece was kept.
@@ -56,7 +57,7 @@ impl Model for NntpSession {
 }
 
 impl NntpSession {
-    ghost use Rattle.nntp_reader.specs.Sessions.{IsTurn, Takes};
+    ghost use Rattle.nntp_reader.specs.Sessions.{IsNewsAct, TakesLine};
 
     /// Opens a session without a group, and says the greeting. Returns whether the session
     /// continues.
@@ -118,7 +119,7 @@ impl NntpSession {
             (talk (held_if (continues result) self.new) a
             (outside (O.taken out.new) (S.faults shelf.new) (O.faults out.new))) }
         ensures rest { continues result ≡ true → has_request self.new ≡ false }
-        ensures shelf { Stays S.holds S.ready S.alike S.faults shelf.old shelf.new }
+        ensures shelf { ShelfStays S.holds S.ready S.alike S.faults shelf.old shelf.new }
         ensures reads { ReadsLines S.holds moment (self.old.bytes ++ piece.now) shelf.old
             (S.reads shelf.old) (S.reads shelf.new) }
         ensures sink { O.alike out.old out.new }
@@ -126,9 +127,9 @@ impl NntpSession {
         let mut rest = piece;
         loop {
             match self.act(rest, moment, shelf, out) {
-                Turn::Went(taken) => rest = rest.split_at(taken).1,
-                Turn::Kept => return Next::Go,
-                Turn::Closed => return Next::Close,
+                Act::Went(taken) => rest = rest.split_at(taken).1,
+                Act::Kept => return Next::Go,
+                Act::Closed => return Next::Close,
             }
         }
     }
@@ -140,15 +141,15 @@ impl NntpSession {
         moment: u64,
         shelf: &mut S,
         out: &mut O,
-    ) -> Turn
+    ) -> Act
         requires ready { S.ready shelf.old ≡ true }
         requires moment { moment ≤ last_moment }
-        ensures turn { (a : Archive) → S.holds shelf.old a → IsTurn moment a self.old piece.now
+        ensures turn { (a : Archive) → S.holds shelf.old a → IsNewsAct moment a self.old piece.now
             (outside (O.taken out.old) (S.faults shelf.old) (O.faults out.old)) result self.new
             (outside (O.taken out.new) (S.faults shelf.new) (O.faults out.new)) }
-        ensures takes { Takes piece.now result self.new }
-        ensures shelf { Stays S.holds S.ready S.alike S.faults shelf.old shelf.new }
-        ensures reads { (a : Archive) → S.holds shelf.old a → IsTurnReads moment a self.old piece.now
+        ensures takes { TakesLine piece.now result self.new }
+        ensures shelf { ShelfStays S.holds S.ready S.alike S.faults shelf.old shelf.new }
+        ensures reads { (a : Archive) → S.holds shelf.old a → NewsActReads moment a self.old piece.now
             result self.new (S.reads shelf.old) (S.reads shelf.new) }
         ensures sink { O.alike out.old out.new }
     {
@@ -163,7 +164,7 @@ impl NntpSession {
             }
             Passage::More => {
                 self.held.hold(piece);
-                Turn::Kept
+                Act::Kept
             }
         }
     }
@@ -187,7 +188,7 @@ impl NntpSession {
             (held_if (continues result) (reader self.new.group rest)) a
             (outside (O.taken out.new) (S.faults shelf.new) (O.faults out.new)) }
         ensures empty { self.new.bytes ≡ [] }
-        ensures shelf { Stays S.holds S.ready S.alike S.faults shelf.old shelf.new }
+        ensures shelf { ShelfStays S.holds S.ready S.alike S.faults shelf.old shelf.new }
         ensures reads { ReadsIn S.holds (λ a. command_texts a
             (command_of (year_at moment) (content (self.old.bytes ++ line.now)))) shelf.old
             (S.reads shelf.old) (S.reads shelf.new) }
@@ -202,11 +203,11 @@ impl NntpSession {
 }
 
 /// Continues after a line that took `taken` bytes of the piece, or closes.
-fn went(taken: usize, next: Next) -> Turn
-    ensures { result ≡ (if continues next then Turn.Went taken else Turn.Closed) }
+fn went(taken: usize, next: Next) -> Act
+    ensures { result ≡ (if continues next then Act.Went taken else Act.Closed) }
 {
     match next {
-        Next::Go => Turn::Went(taken),
-        Next::Close => Turn::Closed,
+        Next::Go => Act::Went(taken),
+        Next::Close => Act::Closed,
     }
 }

@@ -1,4 +1,5 @@
 //! Says why a text was not read.
+//! Pure.
 ghost use Rattle.std.specs.Prelude.{◌++◌, ◌∷◌, codes};
 ghost use Rattle.edge_io.specs.Phrases.{Says};
 ghost use Rattle.wire_replies.specs.Blocks.{crlf_line};

@@ -1,4 +1,5 @@
 //! The keywords of commands.
+//! Pure.
 ghost use Rattle.std.specs.Prelude.{◌≡◌};
 ghost use Rattle.nntp_reader.specs.Commands.{reading_verb as reading_verb_of, group_verb as group_verb_of, session_verb as session_verb_of, verb_of, listing_named};
 

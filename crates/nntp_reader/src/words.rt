@@ -1,4 +1,5 @@
 //! Splits a line into words.
+//! Pure.
 ghost use Rattle.std.specs.Prelude.{◌≡◌, ◌≤◌, [], ◌∷◌, length, MatchOption};
 ghost use Rattle.std.specs.List.{prefix_len};
 ghost use Rattle.nntp_reader.specs.Words.{is_blank as blank, is_word_byte, without_blanks, words_of, is_keyword as keyword_is};

@@ -91,7 +91,7 @@ fn damage(kind: FileKind, number: u32, at: u64) -> OpenRefusal {
         file: FileName {
             kind,
             number,
-            gen_: 5,
+            generation: 5,
         },
         at,
     }

@@ -1,4 +1,5 @@
 //! The words of a reader's commands (RFC 3977): numbers, ranges, ids, wildmats, dates and times.
+//! Pure.
 #![tactic(auto)]
 
 mod moments;

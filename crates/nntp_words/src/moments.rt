@@ -1,4 +1,5 @@
 //! Dates and times of commands.
+//! Pure.
 ghost use Rattle.std.specs.Prelude.{◌≡◌, ◌≤◌, ◌<◌, IfSome};
 ghost use Rattle.std.specs.Int.{IsInRange};
 ghost use Rattle.nntp_words.specs.Moments.{four_digits, full_year, day_in, day_of, second_in, second_of, moment_of};

@@ -1,4 +1,5 @@
 //! Numbers, ranges and ids of articles.
+//! Pure.
 ghost use Rattle.std.specs.Prelude.{◌≡◌, ◌≤◌, length};
 ghost use Rattle.std.specs.List.{prefix_len, list_all};
 ghost use Rattle.mail_reader.specs.Ids.{is_id_byte as id_byte};

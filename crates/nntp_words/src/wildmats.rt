@@ -1,4 +1,5 @@
 //! Wildmats: lists of patterns of names.
+//! Pure.
 ghost use Rattle.std.specs.Prelude.{◌≡◌, ◌≤◌, ℕ, Bool, List, length};
 ghost use Rattle.std.specs.List.{list_any};
 ghost use Rattle.nntp_words.specs.Wildmats.{is_special as special, wildmat_matches, decided, says as says_of, pattern_matches, some_end, fits as fits_byte, fits_first, after_byte, Tells};

@@ -4,10 +4,10 @@ use Rattle.edge_io.specs.Hosts.{OthersKept}
 use Rattle.edge_io.specs.Scripts.{Arrival}
 use Rattle.edge_io.specs.declared.events.What.{What}
 use Rattle.edge_io.specs.declared.events.What.TheVariants as what
-use Rattle.arch_model.specs.Standing.{Standing}
-use Rattle.node_serve.specs.Laws.{IsBelow, AreBelow}
+use Rattle.arch_model.specs.Standing.{LastKnown}
+use Rattle.node_serve.specs.Laws.{HasConnectionBelow, AreBelow}
 use Rattle.node_serve.specs.Turns.{Turn, CameTo, TurnedBy, Turned, Served}
-use Rattle.node_serve.specs.World.{World, one_if, open_below}
+use Rattle.node_serve.specs.World.{NodeState, one_if, open_below}
 use Rattle.node_serve.specs.declared.session.Session.{Session}
 
 -- Where no session below a number changed, their count stays.
@@ -46,10 +46,10 @@ below-one (suc n) c f g less others = by (λ low. below-one n c f g low others) 
         omega (arith, rest, same)
 
 -- The count is that of the open sessions, before and after a change of one.
-step : (n c : ℕ) (w v : World) → c < n → OthersKept c w.session v.session → v.count + one_if (w.session c) ≡ w.count + one_if (v.session c) → w.count ≡ open_below n w.session → v.count ≡ open_below n v.session
+step : (n c : ℕ) (w v : NodeState) → c < n → OthersKept c w.session v.session → v.count + one_if (w.session c) ≡ w.count + one_if (v.session c) → w.count ≡ open_below n w.session → v.count ≡ open_below n v.session
 step n c w v less others count is = let both = below-one n c w.session v.session less others in omega (arith, both, count, is)
 
-turned-counts : (n : ℕ) (e : Arrival) (w : World) (passed : List Standing) (v : World) → IsBelow n e.0.what → Turned e w passed v → w.count ≡ open_below n w.session → v.count ≡ open_below n v.session
+turned-counts : (n : ℕ) (e : Arrival) (w : NodeState) (passed : List LastKnown) (v : NodeState) → HasConnectionBelow n e.0.what → Turned e w passed v → w.count ≡ open_below n w.session → v.count ≡ open_below n v.session
 turned-counts n e w passed v below turned is = by e.0.what below turned
   where
     still : ((d : ℕ) → v.session d ≡ w.session d) → v.count ≡ w.count → v.count ≡ open_below n v.session
@@ -59,15 +59,15 @@ turned-counts n e w passed v below turned is = by e.0.what below turned
     fed c None less came = still came.0.sessions came.0.count
     fed c (Some start) less came = step n c w v less came.around.sessions came.around.count is
 
-    by : (x : What) → IsBelow n x → TurnedBy x e.0.moment e.1 w passed v → v.count ≡ open_below n v.session
+    by : (x : What) → HasConnectionBelow n x → TurnedBy x e.0.moment e.1 w passed v → v.count ≡ open_below n v.session
     by (what.Opened c at) less t = step n c w v less t.0.around.sessions t.0.around.count is
     by (what.Bytes c len) less t = fed c (w.session c) less t
     by (what.Ended c) less t = let zero : one_if (v.session c) ≡ 0 = ap (λ (x : Option Session). one_if x) t.0.gone in step n c w v less t.0.sessions (let count = t.0.count in omega (arith, count, zero)) is
     by what.Quiet less t = still t.0.sessions t.0.count
     by what.Stop less t = still t.0.sessions t.0.count
 
-pub counts : (n : ℕ) (es : List Arrival) (w : World) (ts : List Turn) (v : World) → AreBelow n es → Served es w ts v → w.count ≡ open_below n w.session → v.count ≡ open_below n v.session
-counts n [] w [] v below run is = subst (λ (x : World). x.count ≡ open_below n x.session) (sym run) is
+pub counts : (n : ℕ) (es : List Arrival) (w : NodeState) (ts : List Turn) (v : NodeState) → AreBelow n es → Served es w ts v → w.count ≡ open_below n w.session → v.count ≡ open_below n v.session
+counts n [] w [] v below run is = subst (λ (x : NodeState). x.count ≡ open_below n x.session) (sym run) is
 counts n [] w (t ∷ ts) v below never is = absurd never
 counts n (e ∷ es) w [] v below never is = absurd never
 counts n (e ∷ es) w (t ∷ ts) v below run is = counts n es t.after ts v below.1 run.1 (turned-counts n e w t.passed t.after below.0 run.0 is)

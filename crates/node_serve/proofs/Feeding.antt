@@ -1,15 +1,15 @@
 -- The course of one door's session is one of the node's.
 use Rattle.std.proofs.Common.{◌≡◌, ℕ, Bool, true, false, List, [], ◌∷◌, ◌++◌, Option, Some, None, refl, sym, ap, subst, inl}
 use Rattle.std.specs.List.{Contains}
-use Rattle.line_door.specs.Acts.{Outside, Said, Way, Acts, held_if}
-use Rattle.line_door.specs.Course.{Talk, talk, Fed}
+use Rattle.line_door.specs.Acts.{ConnectionState, Said, Departure, Acts, held_if}
+use Rattle.line_door.specs.Course.{SessionState, talk, Fed}
 use Rattle.line_door.specs.Over.{held_over, said_over, talk_over, talks_over}
 use Rattle.line_door.proofs.Lifting.{requests-over, last-over}
 use Rattle.arch_model.specs.Archives.{Archive}
-use Rattle.arch_model.specs.Standing.{Standing, standing}
-use Rattle.arch_model.specs.Keeping.{Passes, Fits, Moves, OnlyRead}
+use Rattle.arch_model.specs.Standing.{LastKnown, standing}
+use Rattle.arch_model.specs.Keeping.{CrashesLeaveOnly, MatchesKnown, KeeperMoves, OnlyRead}
 use Rattle.arch_model.proofs.Keepers.{settled-is, moves-read}
-use Rattle.keep_course.specs.Courses.{afters, Course}
+use Rattle.keep_course.specs.Courses.{afters, SessionRun}
 use Rattle.keep_course.proofs.Courses.{coming-same, coming-more, coming-last, course-after, reading-course}
 use Rattle.control_door.specs.Door as control
 use Rattle.control_door.specs.Door.{Waiting, waiting}
@@ -23,20 +23,20 @@ use Rattle.node_serve.specs.declared.session.Session.{Session}
 use Rattle.node_serve.specs.declared.session.Session.TheVariants as session
 
 -- The standings of lifted talks are those of the talks.
-afters-over : {H J : Type 0} (into : H → J) (ts : List (Talk H Standing)) (v : Talk H Standing) → afters (talks_over (λ (t : Standing). t) into ts ++ talk_over (λ (t : Standing). t) into v ∷ []) ≡ afters (ts ++ v ∷ [])
+afters-over : {H J : Type 0} (into : H → J) (ts : List (SessionState H LastKnown)) (v : SessionState H LastKnown) → afters (talks_over (λ (t : LastKnown). t) into ts ++ talk_over (λ (t : LastKnown). t) into v ∷ []) ≡ afters (ts ++ v ∷ [])
 afters-over into [] v = refl
-afters-over into (t ∷ ts) v = ap (λ (ss : List Standing). t.after ∷ ss) (afters-over into ts v)
+afters-over into (t ∷ ts) v = ap (λ (ss : List LastKnown). t.after ∷ ss) (afters-over into ts v)
 
 -- A course over a keeper is one of a greater door that has its sessions among its own.
-course-over : {K H J : Type 0} (leaves : K → K → List (Option Archive) → Type 0) (into : H → J) (one : Standing → H → Way → Said H Standing) (is_one : H → Bool) (other : Standing → J → Way → Said J Standing) (is_other : J → Bool)
-    → ((s : Standing) (h : H) (way : Way) → other s (into h) way ≡ said_over (λ (t : Standing). t) into (one s h way)) → ((h : H) → is_other (into h) ≡ is_one h)
-    → (old new : K) (w v : Talk H Standing) → Course leaves one is_one old new w v → Course leaves other is_other old new (talk_over (λ (t : Standing). t) into w) (talk_over (λ (t : Standing). t) into v)
+course-over : {K H J : Type 0} (leaves : K → K → List (Option Archive) → Type 0) (into : H → J) (one : LastKnown → H → Departure → Said H LastKnown) (is_one : H → Bool) (other : LastKnown → J → Departure → Said J LastKnown) (is_other : J → Bool)
+    → ((s : LastKnown) (h : H) (way : Departure) → other s (into h) way ≡ said_over (λ (t : LastKnown). t) into (one s h way)) → ((h : H) → is_other (into h) ≡ is_one h)
+    → (old new : K) (w v : SessionState H LastKnown) → SessionRun leaves one is_one old new w v → SessionRun leaves other is_other old new (talk_over (λ (t : LastKnown). t) into w) (talk_over (λ (t : LastKnown). t) into v)
 course-over leaves into one is_one other is_other same asks old new w v course = record {
-  acts = talks_over (λ (t : Standing). t) into course.acts;
-  before = talk_over (λ (t : Standing). t) into course.before;
-  each = requests-over (λ (t : Standing). t) into one is_one other is_other same asks w course.acts course.before course.each;
-  last = last-over (λ (t : Standing). t) into one is_one other is_other same asks course.before v course.last;
-  left = subst (λ (ss : List Standing). Passes leaves old new (w.after ∷ ss)) (sym (afters-over into course.acts v)) course.left;
+  acts = talks_over (λ (t : LastKnown). t) into course.acts;
+  before = talk_over (λ (t : LastKnown). t) into course.before;
+  each = requests-over (λ (t : LastKnown). t) into one is_one other is_other same asks w course.acts course.before course.each;
+  last = last-over (λ (t : LastKnown). t) into one is_one other is_other same asks course.before v course.last;
+  left = subst (λ (ss : List LastKnown). CrashesLeaveOnly leaves old new (w.after ∷ ss)) (sym (afters-over into course.acts v)) course.left;
 }
 
 control-rest : (goes_on : Bool) (left : List ℕ) (opened : Bool) → held_if goes_on (session.Control left) ≡ rest_if (held_over AtControl (held_if goes_on (waiting left opened)))
@@ -51,10 +51,10 @@ http-rest : (goes_on : Bool) (left : List ℕ) → held_if goes_on (session.Http
 http-rest true left = refl
 http-rest false left = refl
 
-module _ {K : Type 0} (holds rests : K → Archive → Type 0) (ready : K → Bool) (leaves : K → K → List (Option Archive) → Type 0) (moment : ℕ) where
+module _ {K : Type 0} (holds files_are : K → Archive → Type 0) (ready : K → Bool) (leaves : K → K → List (Option Archive) → Type 0) (moment : ℕ) where
   -- The piece of a session at the control door.
-  pub control-fed : (bytes : List ℕ) (s : Standing) (old : K) (i : Outside) (goes_on : Bool) (left : List ℕ) (new : K) (j : Outside) → sessions.Feeds holds rests ready leaves moment bytes old i goes_on left new j → Fits holds rests ready leaves old s
-      → FedFrom holds rests ready leaves moment (AtControl (waiting bytes true)) s old i goes_on (session.Control left) new j
+  pub control-fed : (bytes : List ℕ) (s : LastKnown) (old : K) (i : ConnectionState) (goes_on : Bool) (left : List ℕ) (new : K) (j : ConnectionState) → sessions.AnswersCommands holds files_are ready leaves moment bytes old i goes_on left new j → MatchesKnown holds files_are ready leaves old s
+      → FedFrom holds files_are ready leaves moment (AtControl (waiting bytes true)) s old i goes_on (session.Control left) new j
   control-fed bytes s old i goes_on left new j feeds fits =
       let fed = feeds s fits in
       record {
@@ -66,38 +66,38 @@ module _ {K : Type 0} (holds rests : K → Archive → Type 0) (ready : K → Bo
       }
 
   -- The piece of a reader's session.
-  pub news-fed : ((k : K) (a : Archive) → holds k a → rests k a) → ((k : K) (a : Archive) (may : List (Option Archive)) → holds k a → Contains may (Some a) → leaves k k may) → (start : Reader) (s : Standing) (old : K) (i : Outside) (goes_on : Bool) (left : Reader) (new : K) (j : Outside)
-      → ((a : Archive) → holds old a → Fed (news.said moment) news.has_request (talk (Some start) a i) (talk (held_if goes_on left) a j)) → OnlyRead holds rests ready leaves old new → ready old ≡ true → Fits holds rests ready leaves old s
-      → FedFrom holds rests ready leaves moment (AtNews start) s old i goes_on (session.News left) new j
-  news-fed holds_rests holds_left start s old i goes_on left new j fed read at_hand fits =
-      let settled = settled-is holds rests ready leaves old s fits at_hand in
-      let moves = moves-read holds rests ready leaves holds_rests holds_left old new s.archive settled.1 read in
-      subst (λ (x : Standing). FedFrom holds rests ready leaves moment (AtNews start) x old i goes_on (session.News left) new j) (sym settled.0) (record {
+  pub news-fed : ((k : K) (a : Archive) → holds k a → files_are k a) → ((k : K) (a : Archive) (may : List (Option Archive)) → holds k a → Contains may (Some a) → leaves k k may) → (start : Reader) (s : LastKnown) (old : K) (i : ConnectionState) (goes_on : Bool) (left : Reader) (new : K) (j : ConnectionState)
+      → ((a : Archive) → holds old a → Fed (news.said moment) news.has_request (talk (Some start) a i) (talk (held_if goes_on left) a j)) → OnlyRead holds files_are ready leaves old new → ready old ≡ true → MatchesKnown holds files_are ready leaves old s
+      → FedFrom holds files_are ready leaves moment (AtNews start) s old i goes_on (session.News left) new j
+  news-fed holds_files_are holds_left start s old i goes_on left new j fed read at_hand fits =
+      let settled = settled-is holds files_are ready leaves old s fits at_hand in
+      let moves = moves-read holds files_are ready leaves holds_files_are holds_left old new s.archive settled.1 read in
+      subst (λ (x : LastKnown). FedFrom holds files_are ready leaves moment (AtNews start) x old i goes_on (session.News left) new j) (sym settled.0) (record {
         after = standing s.archive None;
         fits = moves.fits;
         held = held_over AtNews (held_if goes_on left);
         rest_is = news-rest goes_on left;
-        course = reading-course holds rests ready leaves AtNews (news.said moment) news.has_request (said moment) is_asked (λ a h way. refl) (λ h. refl) old new (talk (Some start) s.archive i) (talk (held_if goes_on left) s.archive j) read (fed s.archive settled.1);
+        course = reading-course holds files_are ready leaves AtNews (news.said moment) news.has_request (said moment) is_asked (λ a h way. refl) (λ h. refl) old new (talk (Some start) s.archive i) (talk (held_if goes_on left) s.archive j) read (fed s.archive settled.1);
       })
 
   -- The piece of a session at the door of pages.
-  pub http-fed : ((k : K) (a : Archive) → holds k a → rests k a) → ((k : K) (a : Archive) (may : List (Option Archive)) → holds k a → Contains may (Some a) → leaves k k may) → (start : List ℕ) (s : Standing) (old : K) (i : Outside) (goes_on : Bool) (left : List ℕ) (new : K) (j : Outside)
-      → ((a : Archive) → holds old a → Fed (pages.said moment) pages.has_request (talk (Some start) a i) (talk (held_if goes_on left) a j)) → OnlyRead holds rests ready leaves old new → ready old ≡ true → Fits holds rests ready leaves old s
-      → FedFrom holds rests ready leaves moment (AtHttp start) s old i goes_on (session.Http left) new j
-  http-fed holds_rests holds_left start s old i goes_on left new j fed read at_hand fits =
-      let settled = settled-is holds rests ready leaves old s fits at_hand in
-      let moves = moves-read holds rests ready leaves holds_rests holds_left old new s.archive settled.1 read in
-      subst (λ (x : Standing). FedFrom holds rests ready leaves moment (AtHttp start) x old i goes_on (session.Http left) new j) (sym settled.0) (record {
+  pub http-fed : ((k : K) (a : Archive) → holds k a → files_are k a) → ((k : K) (a : Archive) (may : List (Option Archive)) → holds k a → Contains may (Some a) → leaves k k may) → (start : List ℕ) (s : LastKnown) (old : K) (i : ConnectionState) (goes_on : Bool) (left : List ℕ) (new : K) (j : ConnectionState)
+      → ((a : Archive) → holds old a → Fed (pages.said moment) pages.has_request (talk (Some start) a i) (talk (held_if goes_on left) a j)) → OnlyRead holds files_are ready leaves old new → ready old ≡ true → MatchesKnown holds files_are ready leaves old s
+      → FedFrom holds files_are ready leaves moment (AtHttp start) s old i goes_on (session.Http left) new j
+  http-fed holds_files_are holds_left start s old i goes_on left new j fed read at_hand fits =
+      let settled = settled-is holds files_are ready leaves old s fits at_hand in
+      let moves = moves-read holds files_are ready leaves holds_files_are holds_left old new s.archive settled.1 read in
+      subst (λ (x : LastKnown). FedFrom holds files_are ready leaves moment (AtHttp start) x old i goes_on (session.Http left) new j) (sym settled.0) (record {
         after = standing s.archive None;
         fits = moves.fits;
         held = held_over AtHttp (held_if goes_on left);
         rest_is = http-rest goes_on left;
-        course = reading-course holds rests ready leaves AtHttp (pages.said moment) pages.has_request (said moment) is_asked (λ a h way. refl) (λ h. refl) old new (talk (Some start) s.archive i) (talk (held_if goes_on left) s.archive j) read (fed s.archive settled.1);
+        course = reading-course holds files_are ready leaves AtHttp (pages.said moment) pages.has_request (said moment) is_asked (λ a h way. refl) (λ h. refl) old new (talk (Some start) s.archive i) (talk (held_if goes_on left) s.archive j) read (fed s.archive settled.1);
       })
 
   -- A reopening, and then the piece.
-  pub fed-opened : (start : Session) (piece : List ℕ) (s t : Standing) (old mid new : K) (i j k : Outside) (goes_on : Bool) (left : Session) → Acts (said moment s (Came start piece)) i (Some (with_piece start piece)) t j → Passes leaves old mid (s ∷ t ∷ [])
-      → FedFrom holds rests ready leaves moment (with_piece start piece) t mid j goes_on left new k → FedFrom holds rests ready leaves moment (Came start piece) s old i goes_on left new k
+  pub fed-opened : (start : Session) (piece : List ℕ) (s t : LastKnown) (old mid new : K) (i j k : ConnectionState) (goes_on : Bool) (left : Session) → Acts (said moment s (Came start piece)) i (Some (with_piece start piece)) t j → CrashesLeaveOnly leaves old mid (s ∷ t ∷ [])
+      → FedFrom holds files_are ready leaves moment (with_piece start piece) t mid j goes_on left new k → FedFrom holds files_are ready leaves moment (Came start piece) s old i goes_on left new k
   fed-opened start piece s t old mid new i j k goes_on left acts passes fed = record {
     after = fed.after;
     fits = fed.fits;
@@ -108,8 +108,8 @@ module _ {K : Type 0} (holds rests : K → Archive → Type 0) (ready : K → Bo
   }
 
   -- A reopening that was refused.
-  pub fed-shut : (start : Session) (piece : List ℕ) (s t : Standing) (old new : K) (i j : Outside) (left : Session) → Acts (said moment s (Came start piece)) i None t j → Moves holds rests ready leaves old s new t
-      → FedFrom holds rests ready leaves moment (Came start piece) s old i false left new j
+  pub fed-shut : (start : Session) (piece : List ℕ) (s t : LastKnown) (old new : K) (i j : ConnectionState) (left : Session) → Acts (said moment s (Came start piece)) i None t j → KeeperMoves holds files_are ready leaves old s new t
+      → FedFrom holds files_are ready leaves moment (Came start piece) s old i false left new j
   fed-shut start piece s t old new i j left acts moves = record {
     after = t;
     fits = moves.fits;

@@ -6,7 +6,7 @@ use Rattle.std.specs.declared.cmp.Ordering.TheVariants.{Less, Equal, Greater}
 use Rattle.std.specs.BTreeMap.{BTreeMap, get_by, btree_map_len, is_at, UpdatesBy, WritesThrough}
 use Rattle.std.proofs.lemmas.Bool.Decides.{nat_tests}
 use Rattle.edge_io.specs.Hosts.{OthersKept}
-use Rattle.node_serve.specs.Nodes.{session_of, places_of, Ends, IsPlaced, IsPut}
+use Rattle.node_serve.specs.Nodes.{session_of, places_of, SessionEnds, GotSession, IsPut}
 use Rattle.node_serve.specs.World.{one_if}
 use Rattle.node_serve.specs.declared.session.Session.{Session}
 
@@ -28,7 +28,7 @@ count-one None = refl
 count-one (Some x) = refl
 
 -- A removal ends a session.
-pub ends-removed : (m n : BTreeMap ℕ Session) (c : ℕ) (r : Option Session) → r ≡ get_by (nat_cmp c) m → UpdatesBy nat_cmp (nat_cmp c) m n None → btree_map_len n + (if is_some r then 1 else 0) ≡ btree_map_len m → Ends c (places_of m.entries) (places_of n.entries)
+pub ends-removed : (m n : BTreeMap ℕ Session) (c : ℕ) (r : Option Session) → r ≡ get_by (nat_cmp c) m → UpdatesBy nat_cmp (nat_cmp c) m n None → btree_map_len n + (if is_some r then 1 else 0) ≡ btree_map_len m → SessionEnds c (places_of m.entries) (places_of n.entries)
 ends-removed m n c r is updates len = record {
   gone = updates.1;
   sessions = others-kept m n c None updates;
@@ -36,7 +36,7 @@ ends-removed m n c r is updates len = record {
 }
 
 -- An insertion finds a place.
-pub placed-inserted : (m n : BTreeMap ℕ Session) (c : ℕ) (r : Option Session) (start : Session) → session_of m.entries c ≡ None → r ≡ session_of m.entries c → UpdatesBy nat_cmp (nat_cmp c) m n (Some start) → btree_map_len n ≡ btree_map_len m + (if is_some r then 0 else 1) → IsPlaced c (places_of m.entries) (places_of n.entries)
+pub placed-inserted : (m n : BTreeMap ℕ Session) (c : ℕ) (r : Option Session) (start : Session) → session_of m.entries c ≡ None → r ≡ session_of m.entries c → UpdatesBy nat_cmp (nat_cmp c) m n (Some start) → btree_map_len n ≡ btree_map_len m + (if is_some r then 0 else 1) → GotSession c (places_of m.entries) (places_of n.entries)
 placed-inserted m n c r start none is updates len = record {
   none = none;
   first = start;

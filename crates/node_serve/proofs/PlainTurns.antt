@@ -7,36 +7,36 @@ use Rattle.edge_io.specs.Scripts.{Arrival}
 use Rattle.edge_io.specs.Taken.{plus}
 use Rattle.edge_io.specs.declared.events.What.{What}
 use Rattle.edge_io.specs.declared.events.What.TheVariants as what
-use Rattle.line_door.specs.Acts.{Outside, Said, Way, Plain, PlainActs, Acts}
-use Rattle.line_door.specs.Course.{Talk, talk, PlainRequests, PlainLast, PlainFed, PlainStep, Step, Requests, Last}
+use Rattle.line_door.specs.Acts.{ConnectionState, Said, Departure, Plain, PlainActs, Acts}
+use Rattle.line_door.specs.Course.{SessionState, talk, PlainRequests, PlainLast, PlainFed, PlainStep, SessionStep, Requests, Last}
 use Rattle.line_door.specs.Cuts.{CutDoor}
 use Rattle.keep_course.specs.Courses.{afters}
-use Rattle.arch_model.specs.Standing.{Standing}
-use Rattle.node_serve.specs.Doors.{Held, Came, rest_if, said, is_asked, said_making}
+use Rattle.arch_model.specs.Standing.{LastKnown}
+use Rattle.node_serve.specs.Doors.{SessionAtWork, Came, rest_if, said, is_asked, said_making}
 use Rattle.node_serve.specs.Laws.{PlainLaws, PlainIsServed}
-use Rattle.node_serve.specs.Plain.{size_of, piece_said, piece_passed, then_passed, passed_if, passed_from, passed_by, set_at, between_pieces, after_said, after_end, plain_piece, plain_event, plain_turn, plain_turns, last_world, IsCounted, PlainActAt, PlainFedAt, PlainCameTo, PlainTurnedBy, PlainServed}
+use Rattle.node_serve.specs.Plain.{size_of, piece_said, piece_passed, then_passed, passed_if, passed_from, passed_by, set_at, between_pieces, after_said, after_end, plain_piece, plain_event, plain_turn, plain_turns, last_world, CountsSessions, PlainActAt, PlainFedAt, PlainCameTo, PlainTurnedBy, PlainServed}
 use Rattle.node_serve.specs.Turns.{Turn, CameTo, TurnedBy, Served}
-use Rattle.node_serve.specs.World.{World, outer, Around, Same, EndedAt, outside_at, others_open, one_if, closed_if, closed_at_if, open_below}
+use Rattle.node_serve.specs.World.{NodeState, outer, Around, Same, EndedAt, outside_at, others_open, one_if, closed_if, closed_at_if, open_below}
 use Rattle.node_serve.specs.declared.session.Session.{Session}
 use Rattle.node_serve.proofs.Counting.{below-same, below-one, this-or}
 use Rattle.node_serve.proofs.NodeDoor.{node_cuts, node_laws, more_bytes}
 
 -- What stands after each act of a plain course.
-module _ {H : Type 0} (said_of : Standing → H → Way → Said H Standing) (is_request : H → Bool) (more : List ℕ → H → H) (size : H → ℕ) (door : CutDoor said_of is_request more size) where
+module _ {H : Type 0} (said_of : LastKnown → H → Departure → Said H LastKnown) (is_request : H → Bool) (more : List ℕ → H → H) (size : H → ℕ) (door : CutDoor said_of is_request more size) where
   some-is : (h k : H) (o : Option H) → o ≡ Some h → o ≡ Some k → k ≡ h
   some-is h k o e f = cc
 
-  open-now : (w : Talk H Standing) (ms : List (Talk H Standing)) (m v : Talk H Standing) → PlainRequests said_of is_request w ms m → PlainLast said_of is_request m v → (k : H) × (w.held ≡ Some k)
-  open-now w [] m v each last = (last.before, subst (λ (t : Talk H Standing). t.held ≡ Some last.before) each last.step.held)
+  open-now : (w : SessionState H LastKnown) (ms : List (SessionState H LastKnown)) (m v : SessionState H LastKnown) → PlainRequests said_of is_request w ms m → PlainLast said_of is_request m v → (k : H) × (w.held ≡ Some k)
+  open-now w [] m v each last = (last.before, subst (λ (t : SessionState H LastKnown). t.held ≡ Some last.before) each last.step.held)
   open-now w (x ∷ xs) m v each last = (each.0.0, each.0.2.held)
 
-  passed-at : (n : ℕ) (a : Standing) (h : H) (b : Bool) → is_request h ≡ b → passed_from said_of is_request (suc n) a h ≡ passed_if b (said_of a h Plain) a (passed_from said_of is_request n)
+  passed-at : (n : ℕ) (a : LastKnown) (h : H) (b : Bool) → is_request h ≡ b → passed_from said_of is_request (suc n) a h ≡ passed_if b (said_of a h Plain) a (passed_from said_of is_request n)
   passed-at n a h b e = ap (λ (t : Bool). passed_if t (said_of a h Plain) a (passed_from said_of is_request n)) e
 
-  passed-next : (n : ℕ) (s : Said H Standing) (o : Option H) → s.next ≡ o → then_passed s.next s.after (passed_from said_of is_request n) ≡ then_passed o s.after (passed_from said_of is_request n)
+  passed-next : (n : ℕ) (s : Said H LastKnown) (o : Option H) → s.next ≡ o → then_passed s.next s.after (passed_from said_of is_request n) ≡ then_passed o s.after (passed_from said_of is_request n)
   passed-next n s o e = ap (λ (p : Option H). then_passed p s.after (passed_from said_of is_request n)) e
 
-  passed-last : (n : ℕ) (h : H) (w v : Talk H Standing) → size h < n → w.held ≡ Some h → PlainLast said_of is_request w v → v.after ∷ [] ≡ passed_from said_of is_request n w.after h
+  passed-last : (n : ℕ) (h : H) (w v : SessionState H LastKnown) → size h < n → w.held ≡ Some h → PlainLast said_of is_request w v → v.after ∷ [] ≡ passed_from said_of is_request n w.after h
   passed-last zero h w v less held last = absurd (omega arith)
   passed-last (suc n) h w v less held last = by (is_request h) refl last.ends
     where
@@ -47,13 +47,13 @@ module _ {H : Type 0} (said_of : Standing → H → Way → Said H Standing) (is
       done = subst (λ (k : H). PlainActs (said_of w.after k Plain) w.outside v.held v.after v.outside) same last.step.acts
 
       by : (b : Bool) → is_request h ≡ b → (v.held ≡ None) ⊎ (is_request last.before ≡ false) → v.after ∷ [] ≡ passed_from said_of is_request (suc n) w.after h
-      by false e ends = ap (λ (a : Standing). a ∷ []) (done.whole.after_is ∙ ap (λ (s : Said H Standing). s.after) (door.rest_plain w.after h e)) ∙ sym (passed-at n w.after h false e)
-      by true e (inl none) = ap (λ (a : Standing). a ∷ []) done.whole.after_is ∙ sym (passed-next n (said_of w.after h Plain) None (sym done.whole.held_is ∙ none)) ∙ sym (passed-at n w.after h true e)
+      by false e ends = ap (λ (a : LastKnown). a ∷ []) (done.whole.after_is ∙ ap (λ (s : Said H LastKnown). s.after) (door.rest_plain w.after h e)) ∙ sym (passed-at n w.after h false e)
+      by true e (inl none) = ap (λ (a : LastKnown). a ∷ []) done.whole.after_is ∙ sym (passed-next n (said_of w.after h Plain) None (sym done.whole.held_is ∙ none)) ∙ sym (passed-at n w.after h true e)
       by true e (inr rest) = absurd (false≢true (sym (subst (λ (k : H). is_request k ≡ false) same rest) ∙ e))
 
-  passed-fed : (ms : List (Talk H Standing)) (n : ℕ) (h : H) (w m v : Talk H Standing) → size h < n → w.held ≡ Some h → PlainRequests said_of is_request w ms m → PlainLast said_of is_request m v
+  passed-fed : (ms : List (SessionState H LastKnown)) (n : ℕ) (h : H) (w m v : SessionState H LastKnown) → size h < n → w.held ≡ Some h → PlainRequests said_of is_request w ms m → PlainLast said_of is_request m v
       → afters (ms ++ v ∷ []) ≡ passed_from said_of is_request n w.after h
-  passed-fed [] n h w m v less held each last = passed-last n h w v less held (subst (λ (t : Talk H Standing). PlainLast said_of is_request t v) each last)
+  passed-fed [] n h w m v less held each last = passed-last n h w v less held (subst (λ (t : SessionState H LastKnown). PlainLast said_of is_request t v) each last)
   passed-fed (x ∷ xs) zero h w m v less held each last = absurd (omega arith)
   passed-fed (x ∷ xs) (suc n) h w m v less held each last =
       let same : each.0.0 ≡ h = some-is h each.0.0 w.held held each.0.2.held in
@@ -63,28 +63,28 @@ module _ {H : Type 0} (said_of : Standing → H → Way → Said H Standing) (is
       let next_is : (said_of w.after h Plain).next ≡ Some left.0 = sym done.whole.held_is ∙ left.1 in
       let shorter = door.shorter w.after h left.0 request next_is in
       let later : afters (xs ++ v ∷ []) ≡ passed_from said_of is_request n x.after left.0 = passed-fed xs n left.0 x m v (omega arith) left.1 each.1 last in
-      let joined : x.after ∷ afters (xs ++ v ∷ []) ≡ (said_of w.after h Plain).after ∷ passed_from said_of is_request n (said_of w.after h Plain).after left.0 = ap (λ (ss : List Standing). x.after ∷ ss) later
-      ∙ ap (λ (a : Standing). a ∷ passed_from said_of is_request n a left.0) done.whole.after_is in
+      let joined : x.after ∷ afters (xs ++ v ∷ []) ≡ (said_of w.after h Plain).after ∷ passed_from said_of is_request n (said_of w.after h Plain).after left.0 = ap (λ (ss : List LastKnown). x.after ∷ ss) later
+      ∙ ap (λ (a : LastKnown). a ∷ passed_from said_of is_request n a left.0) done.whole.after_is in
       joined ∙ sym (passed-next n (said_of w.after h Plain) (Some left.0) next_is) ∙ sym (passed-at n w.after h true request)
 
-  pub passed-by : (h : H) (w v : Talk H Standing) → w.held ≡ Some h → (fed : PlainFed said_of is_request w v) → afters (fed.0 ++ v ∷ []) ≡ passed_by said_of is_request size w.after h
+  pub passed-by : (h : H) (w v : SessionState H LastKnown) → w.held ≡ Some h → (fed : PlainFed said_of is_request w v) → afters (fed.0 ++ v ∷ []) ≡ passed_by said_of is_request size w.after h
   unfolding passed_by
   passed-by h w v held fed = passed-fed fed.0 (suc (size h)) h w fed.1 v (omega arith) held fed.2 fed.3
 
 -- A plain act is an act by the rules.
-plain-acts : {H A : Type 0} (words : Way → Said H A) (i : Outside) (held : Option H) (a : A) (j : Outside) → PlainActs (words Plain) i held a j → Acts words i held a j
+plain-acts : {H A : Type 0} (words : Departure → Said H A) (i : ConnectionState) (held : Option H) (a : A) (j : ConnectionState) → PlainActs (words Plain) i held a j → Acts words i held a j
 plain-acts words i held a j acts = record { way = Plain; cause = acts.disk_kept; disk_later = omega (arith, acts.disk_kept); lost_later = omega (arith, acts.whole.lost_kept); sent = inl acts.whole }
 
 -- A plain course is a course.
-module _ {H A : Type 0} (said_of : A → H → Way → Said H A) (is_request : H → Bool) where
-  plain-step : (h : H) (w m : Talk H A) → PlainStep said_of is_request h w m → Step said_of is_request h w m
+module _ {H A : Type 0} (said_of : A → H → Departure → Said H A) (is_request : H → Bool) where
+  plain-step : (h : H) (w m : SessionState H A) → PlainStep said_of is_request h w m → SessionStep said_of is_request h w m
   plain-step h w m step = record { held = step.held; acts = plain-acts (said_of w.after h) w.outside m.held m.after m.outside step.acts }
 
-  pub plain-each : (w : Talk H A) (ms : List (Talk H A)) (m : Talk H A) → PlainRequests said_of is_request w ms m → Requests said_of is_request w ms m
+  pub plain-each : (w : SessionState H A) (ms : List (SessionState H A)) (m : SessionState H A) → PlainRequests said_of is_request w ms m → Requests said_of is_request w ms m
   plain-each w [] m each = each
   plain-each w (x ∷ xs) m each = ((each.0.0, each.0.1, plain-step each.0.0 w x each.0.2), plain-each x xs m each.1)
 
-  pub plain-last : (w v : Talk H A) → PlainLast said_of is_request w v → Last said_of is_request w v
+  pub plain-last : (w v : SessionState H A) → PlainLast said_of is_request w v → Last said_of is_request w v
   plain-last w v last = record { before = last.before; step = plain-step last.before w v last.step; ends = elim last.ends [ inl none ↦ inl none | inr rest ↦ inr (rest, last.step.acts.disk_kept) ] }
 
 -- The value at one number, and at the others.
@@ -111,7 +111,7 @@ set-other {X} c x f d other = by (d == c) refl
     by false e = refl
 
 -- A world of these parts.
-world-is : (v : World) (a : Standing) (f : ℕ → Option Session) (n : ℕ) (t : ℕ → Option (List ℕ)) (c : ℕ → Option ℕ) (disk lost : ℕ) (e : ℕ → Option (List ℕ)) → v.standing ≡ a → ((d : ℕ) → v.session d ≡ f d) → v.count ≡ n → ((d : ℕ) → v.out.taken d ≡ t d) → ((d : ℕ) → v.out.closings d ≡ c d) → v.out.disk ≡ disk → v.out.lost ≡ lost → ((d : ℕ) → v.out.closed_at d ≡ e d)
+world-is : (v : NodeState) (a : LastKnown) (f : ℕ → Option Session) (n : ℕ) (t : ℕ → Option (List ℕ)) (c : ℕ → Option ℕ) (disk lost : ℕ) (e : ℕ → Option (List ℕ)) → v.standing ≡ a → ((d : ℕ) → v.session d ≡ f d) → v.count ≡ n → ((d : ℕ) → v.out.taken d ≡ t d) → ((d : ℕ) → v.out.closings d ≡ c d) → v.out.disk ≡ disk → v.out.lost ≡ lost → ((d : ℕ) → v.out.closed_at d ≡ e d)
     → v ≡ record { standing = a; session = f; count = n; out = outer t c disk lost e }
 world-is v a f n t c disk lost e p q r x y z l k = λ i. record {
   standing = p i;
@@ -122,7 +122,7 @@ world-is v a f n t c disk lost e p q r x y z l k = λ i. record {
 
 -- One act.
 
-acted-is : (c : ℕ) (s : Said Session Standing) (w v : World) → PlainActAt c s w v → v ≡ after_said c s w
+acted-is : (c : ℕ) (s : Said Session LastKnown) (w v : NodeState) → PlainActAt c s w v → v ≡ after_said c s w
 acted-is c s w v act =
     let whole = act.acts.whole in
     let around = act.around in
@@ -136,10 +136,10 @@ acted-is c s w v act =
     (λ d. set-by c (closed_if s.next (w.out.closings c)) w.out.closings v.out.closings d (around.closed ∙ ap (λ (x : Option Session). closed_if x (w.out.closings c)) whole.held_is) around.closings) act.acts.disk_kept whole.lost_kept
     (λ d. set-by c (closed_at_if s.next (plus (w.out.taken c) s.words) (w.out.closed_at c)) w.out.closed_at v.out.closed_at d closed_at around.closed_at_others)
 
-counted-at : (c : ℕ) (w : World) → IsCounted w → one_if (w.session c) ≤ w.count
+counted-at : (c : ℕ) (w : NodeState) → CountsSessions w → one_if (w.session c) ≤ w.count
 counted-at c w counted = let all : open_below c w.session + one_if (w.session c) ≤ w.count = counted (suc c) in omega (arith, all)
 
-around-after : (c : ℕ) (s : Said Session Standing) (w : World) → IsCounted w → Around c w (after_said c s w)
+around-after : (c : ℕ) (s : Said Session LastKnown) (w : NodeState) → CountsSessions w → Around c w (after_said c s w)
 around-after c s w counted =
     let here = set-here c s.next w.session in
     let now : one_if (set_at c s.next w.session c) ≡ one_if s.next = ap (λ (x : Option Session). one_if x) here in
@@ -156,22 +156,22 @@ around-after c s w counted =
       closed_at_others = set-other c (closed_at_if s.next said (w.out.closed_at c)) w.out.closed_at;
     }
 
-acts-after : (c : ℕ) (s : Said Session Standing) (w : World) → PlainActs s (outside_at c w.out) ((after_said c s w).session c) s.after (outside_at c (after_said c s w).out)
+acts-after : (c : ℕ) (s : Said Session LastKnown) (w : NodeState) → PlainActs s (outside_at c w.out) ((after_said c s w).session c) s.after (outside_at c (after_said c s w).out)
 acts-after c s w = record {
   disk_kept = refl;
   whole = record { held_is = set-here c s.next w.session; after_is = refl; out_is = set-here c (plus (w.out.taken c) s.words) w.out.taken; lost_kept = refl };
 }
 
-acted-at : (c : ℕ) (s : Said Session Standing) (w : World) → IsCounted w → PlainActAt c s w (after_said c s w)
+acted-at : (c : ℕ) (s : Said Session LastKnown) (w : NodeState) → CountsSessions w → PlainActAt c s w (after_said c s w)
 acted-at c s w counted = record { acts = acts-after c s w; around = around-after c s w counted }
 
 -- A piece.
 
-fed-acts : (moment c : ℕ) (start : Session) (piece : List ℕ) (w : World) (passed : List Standing) (v : World) → PlainFedAt moment c start piece w passed v → PlainActAt c (between_pieces (piece_said moment w.standing (Came start piece))) w v
+fed-acts : (moment c : ℕ) (start : Session) (piece : List ℕ) (w : NodeState) (passed : List LastKnown) (v : NodeState) → PlainFedAt moment c start piece w passed v → PlainActAt c (between_pieces (piece_said moment w.standing (Came start piece))) w v
 fed-acts moment c start piece w passed v fed =
     let laws = node_laws moment in
-    let from : Talk Held Standing = talk (Some (Came start piece)) w.standing (outside_at c w.out) in
-    let to : Talk Held Standing = talk fed.held v.standing (outside_at c v.out) in
+    let from : SessionState SessionAtWork LastKnown = talk (Some (Came start piece)) w.standing (outside_at c w.out) in
+    let to : SessionState SessionAtWork LastKnown = talk fed.held v.standing (outside_at c v.out) in
     let acts : PlainActs (piece_said moment w.standing (Came start piece)) from.outside fed.held v.standing to.outside = (laws.by_rules (Came start piece) from to refl).0 (fed.acts, fed.before, fed.each, fed.last) in
     record {
       acts = record {
@@ -181,20 +181,20 @@ fed-acts moment c start piece w passed v fed =
       around = fed.around;
     }
 
-fed-passed : (moment c : ℕ) (start : Session) (piece : List ℕ) (w : World) (passed : List Standing) (v : World) → PlainFedAt moment c start piece w passed v → passed ≡ piece_passed moment w.standing (Came start piece)
+fed-passed : (moment c : ℕ) (start : Session) (piece : List ℕ) (w : NodeState) (passed : List LastKnown) (v : NodeState) → PlainFedAt moment c start piece w passed v → passed ≡ piece_passed moment w.standing (Came start piece)
 fed-passed moment c start piece w passed v fed =
-    let from : Talk Held Standing = talk (Some (Came start piece)) w.standing (outside_at c w.out) in
-    let to : Talk Held Standing = talk fed.held v.standing (outside_at c v.out) in
+    let from : SessionState SessionAtWork LastKnown = talk (Some (Came start piece)) w.standing (outside_at c w.out) in
+    let to : SessionState SessionAtWork LastKnown = talk fed.held v.standing (outside_at c v.out) in
     fed.passed_is ∙ passed-by (said moment) is_asked more_bytes size_of (node_cuts moment) (Came start piece) from to refl (fed.acts, fed.before, fed.each, fed.last)
 
-fed-at : (moment c : ℕ) (start : Session) (piece : List ℕ) (w : World) → IsCounted w
+fed-at : (moment c : ℕ) (start : Session) (piece : List ℕ) (w : NodeState) → CountsSessions w
     → PlainFedAt moment c start piece w (piece_passed moment w.standing (Came start piece)) (after_said c (between_pieces (piece_said moment w.standing (Came start piece))) w)
 fed-at moment c start piece w counted =
     let laws = node_laws moment in
-    let s : Said Held Standing = piece_said moment w.standing (Came start piece) in
-    let v : World = after_said c (between_pieces s) w in
-    let from : Talk Held Standing = talk (Some (Came start piece)) w.standing (outside_at c w.out) in
-    let to : Talk Held Standing = talk s.next s.after (outside_at c v.out) in
+    let s : Said SessionAtWork LastKnown = piece_said moment w.standing (Came start piece) in
+    let v : NodeState = after_said c (between_pieces s) w in
+    let from : SessionState SessionAtWork LastKnown = talk (Some (Came start piece)) w.standing (outside_at c w.out) in
+    let to : SessionState SessionAtWork LastKnown = talk s.next s.after (outside_at c v.out) in
     let acts : PlainActs s from.outside s.next s.after to.outside = record {
       disk_kept = refl;
       whole = record { held_is = refl; after_is = refl; out_is = set-here c (plus (w.out.taken c) s.words) w.out.taken; lost_kept = refl };
@@ -213,48 +213,48 @@ fed-at moment c start piece w counted =
 
 -- An end, and nothing.
 
-ended-is : (c : ℕ) (w v : World) → EndedAt c w v → v ≡ after_end c w
+ended-is : (c : ℕ) (w v : NodeState) → EndedAt c w v → v ≡ after_end c w
 ended-is c w v ended =
     let count = ended.count in
     let fewer : v.count ≡ w.count - one_if (w.session c) = omega (arith, count) in
     λ i. record { standing = ended.standing i; session = λ (d : ℕ). set-by c None w.session v.session d ended.gone ended.sessions i; count = fewer i; out = ended.out i }
 
-ended-at : (c : ℕ) (w : World) → IsCounted w → EndedAt c w (after_end c w)
+ended-at : (c : ℕ) (w : NodeState) → CountsSessions w → EndedAt c w (after_end c w)
 ended-at c w counted =
     let few = counted-at c w counted in
     record { standing = refl; gone = set-here c None w.session; sessions = set-other c None w.session; count = omega (arith, few); out = refl }
 
-same-is : (w v : World) → Same w v → v ≡ w
+same-is : (w v : NodeState) → Same w v → v ≡ w
 same-is w v same = λ i. record { standing = same.standing i; session = λ (d : ℕ). same.sessions d i; count = same.count i; out = same.out i }
 
-same-at : (w : World) → Same w w
+same-at : (w : NodeState) → Same w w
 same-at w = record { standing = refl; sessions = λ d. refl; count = refl; out = refl }
 
 -- One event.
 
-came-is : (start : Option Session) (moment c : ℕ) (piece : List ℕ) (w : World) (passed : List Standing) (v : World) → PlainCameTo start moment c piece w passed v → (passed ≡ (plain_piece start moment c piece w).passed) × (v ≡ (plain_piece start moment c piece w).after)
+came-is : (start : Option Session) (moment c : ℕ) (piece : List ℕ) (w : NodeState) (passed : List LastKnown) (v : NodeState) → PlainCameTo start moment c piece w passed v → (passed ≡ (plain_piece start moment c piece w).passed) × (v ≡ (plain_piece start moment c piece w).after)
 came-is None moment c piece w passed v came = (came.1, same-is w v came.0)
 came-is (Some start) moment c piece w passed v came = (fed-passed moment c start piece w passed v came, acted-is c (between_pieces (piece_said moment w.standing (Came start piece))) w v (fed-acts moment c start piece w passed v came))
 
-event-is : (x : What) (moment : ℕ) (piece : List ℕ) (w : World) (passed : List Standing) (v : World) → PlainTurnedBy x moment piece w passed v → (passed ≡ (plain_event x moment piece w).passed) × (v ≡ (plain_event x moment piece w).after)
+event-is : (x : What) (moment : ℕ) (piece : List ℕ) (w : NodeState) (passed : List LastKnown) (v : NodeState) → PlainTurnedBy x moment piece w passed v → (passed ≡ (plain_event x moment piece w).passed) × (v ≡ (plain_event x moment piece w).after)
 event-is (what.Opened c door) moment piece w passed v t = (t.1, acted-is c (said_making moment door (others_open c w) w.standing Plain) w v t.0)
 event-is (what.Bytes c len) moment piece w passed v t = came-is (w.session c) moment c piece w passed v t
 event-is (what.Ended c) moment piece w passed v t = (t.1, ended-is c w v t.0)
 event-is what.Quiet moment piece w passed v t = (t.1, same-is w v t.0)
 event-is what.Stop moment piece w passed v t = (t.1, same-is w v t.0)
 
-came-at : (start : Option Session) (moment c : ℕ) (piece : List ℕ) (w : World) → IsCounted w → PlainCameTo start moment c piece w (plain_piece start moment c piece w).passed (plain_piece start moment c piece w).after
+came-at : (start : Option Session) (moment c : ℕ) (piece : List ℕ) (w : NodeState) → CountsSessions w → PlainCameTo start moment c piece w (plain_piece start moment c piece w).passed (plain_piece start moment c piece w).after
 came-at None moment c piece w counted = (same-at w, refl)
 came-at (Some start) moment c piece w counted = fed-at moment c start piece w counted
 
-event-at : (x : What) (moment : ℕ) (piece : List ℕ) (w : World) → IsCounted w → PlainTurnedBy x moment piece w (plain_event x moment piece w).passed (plain_event x moment piece w).after
+event-at : (x : What) (moment : ℕ) (piece : List ℕ) (w : NodeState) → CountsSessions w → PlainTurnedBy x moment piece w (plain_event x moment piece w).passed (plain_event x moment piece w).after
 event-at (what.Opened c door) moment piece w counted = (acted-at c (said_making moment door (others_open c w) w.standing Plain) w counted, refl)
 event-at (what.Bytes c len) moment piece w counted = came-at (w.session c) moment c piece w counted
 event-at (what.Ended c) moment piece w counted = (ended-at c w counted, refl)
 event-at what.Quiet moment piece w counted = (same-at w, refl)
 event-at what.Stop moment piece w counted = (same-at w, refl)
 
-came-turned : (start : Option Session) (moment c : ℕ) (piece : List ℕ) (w : World) (passed : List Standing) (v : World) → PlainCameTo start moment c piece w passed v → CameTo start moment c piece w passed v
+came-turned : (start : Option Session) (moment c : ℕ) (piece : List ℕ) (w : NodeState) (passed : List LastKnown) (v : NodeState) → PlainCameTo start moment c piece w passed v → CameTo start moment c piece w passed v
 came-turned None moment c piece w passed v came = came
 came-turned (Some start) moment c piece w passed v fed = record {
   held = fed.held;
@@ -267,7 +267,7 @@ came-turned (Some start) moment c piece w passed v fed = record {
   passed_is = fed.passed_is;
 }
 
-event-turned : (x : What) (moment : ℕ) (piece : List ℕ) (w : World) (passed : List Standing) (v : World) → PlainTurnedBy x moment piece w passed v → TurnedBy x moment piece w passed v
+event-turned : (x : What) (moment : ℕ) (piece : List ℕ) (w : NodeState) (passed : List LastKnown) (v : NodeState) → PlainTurnedBy x moment piece w passed v → TurnedBy x moment piece w passed v
 event-turned (what.Opened c door) moment piece w passed v t = (record { acts = plain-acts (said_making moment door (others_open c w) w.standing) (outside_at c w.out) (v.session c) v.standing (outside_at c v.out) t.0.acts; around = t.0.around }, t.1)
 event-turned (what.Bytes c len) moment piece w passed v t = came-turned (w.session c) moment c piece w passed v t
 event-turned (what.Ended c) moment piece w passed v t = t
@@ -276,11 +276,11 @@ event-turned what.Stop moment piece w passed v t = t
 
 -- Neither the disk nor a send fails.
 
-piece-unfailed : (start : Option Session) (moment c : ℕ) (piece : List ℕ) (w : World) → ((plain_piece start moment c piece w).after.out.disk ≡ w.out.disk) × ((plain_piece start moment c piece w).after.out.lost ≡ w.out.lost)
+piece-unfailed : (start : Option Session) (moment c : ℕ) (piece : List ℕ) (w : NodeState) → ((plain_piece start moment c piece w).after.out.disk ≡ w.out.disk) × ((plain_piece start moment c piece w).after.out.lost ≡ w.out.lost)
 piece-unfailed None moment c piece w = (refl, refl)
 piece-unfailed (Some start) moment c piece w = (refl, refl)
 
-event-unfailed : (x : What) (moment : ℕ) (piece : List ℕ) (w : World) → ((plain_event x moment piece w).after.out.disk ≡ w.out.disk) × ((plain_event x moment piece w).after.out.lost ≡ w.out.lost)
+event-unfailed : (x : What) (moment : ℕ) (piece : List ℕ) (w : NodeState) → ((plain_event x moment piece w).after.out.disk ≡ w.out.disk) × ((plain_event x moment piece w).after.out.lost ≡ w.out.lost)
 event-unfailed (what.Opened c door) moment piece w = (refl, refl)
 event-unfailed (what.Bytes c len) moment piece w = piece-unfailed (w.session c) moment c piece w
 event-unfailed (what.Ended c) moment piece w = (refl, refl)
@@ -302,7 +302,7 @@ less-or c zero = inr (omega arith)
 less-or zero (suc n) = inl (omega arith)
 less-or (suc c) (suc n) = elim (less-or c n) [ inl less ↦ inl (omega (arith, less)) | inr more ↦ inr (omega (arith, more)) ]
 
-counted-one : (c : ℕ) (w v : World) → OthersKept c w.session v.session → v.count + one_if (w.session c) ≡ w.count + one_if (v.session c) → IsCounted w → IsCounted v
+counted-one : (c : ℕ) (w v : NodeState) → OthersKept c w.session v.session → v.count + one_if (w.session c) ≡ w.count + one_if (v.session c) → CountsSessions w → CountsSessions v
 counted-one c w v others count counted n = by (less-or c n)
   where
     by : (c < n) ⊎ (n ≤ c) → open_below n v.session ≤ v.count
@@ -316,14 +316,14 @@ counted-one c w v others count counted n = by (less-or c n)
         let all : open_below c w.session + one_if (w.session c) ≤ w.count = counted (suc c) in
         omega (arith, same, grown, all, count)
 
-counted-same : (w v : World) → v ≡ w → IsCounted w → IsCounted v
-counted-same w v same counted = subst (λ (x : World). IsCounted x) (sym same) counted
+counted-same : (w v : NodeState) → v ≡ w → CountsSessions w → CountsSessions v
+counted-same w v same counted = subst (λ (x : NodeState). CountsSessions x) (sym same) counted
 
-counted-came : (start : Option Session) (moment c : ℕ) (piece : List ℕ) (w : World) (passed : List Standing) (v : World) → PlainCameTo start moment c piece w passed v → IsCounted w → IsCounted v
+counted-came : (start : Option Session) (moment c : ℕ) (piece : List ℕ) (w : NodeState) (passed : List LastKnown) (v : NodeState) → PlainCameTo start moment c piece w passed v → CountsSessions w → CountsSessions v
 counted-came None moment c piece w passed v came counted = counted-same w v (same-is w v came.0) counted
 counted-came (Some start) moment c piece w passed v fed counted = counted-one c w v fed.around.sessions fed.around.count counted
 
-counted-event : (x : What) (moment : ℕ) (piece : List ℕ) (w : World) (passed : List Standing) (v : World) → PlainTurnedBy x moment piece w passed v → IsCounted w → IsCounted v
+counted-event : (x : What) (moment : ℕ) (piece : List ℕ) (w : NodeState) (passed : List LastKnown) (v : NodeState) → PlainTurnedBy x moment piece w passed v → CountsSessions w → CountsSessions v
 counted-event (what.Opened c door) moment piece w passed v t counted = counted-one c w v t.0.around.sessions t.0.around.count counted
 counted-event (what.Bytes c len) moment piece w passed v t counted = counted-came (w.session c) moment c piece w passed v t counted
 counted-event (what.Ended c) moment piece w passed v t counted =
@@ -334,7 +334,7 @@ counted-event what.Quiet moment piece w passed v t counted = counted-same w v (s
 counted-event what.Stop moment piece w passed v t counted = counted-same w v (same-is w v t.0) counted
 
 -- A world without sessions counts none too few.
-pub none-counted : (w : World) → ((c : ℕ) → w.session c ≡ None) → IsCounted w
+pub none-counted : (w : NodeState) → ((c : ℕ) → w.session c ≡ None) → CountsSessions w
 none-counted w none n = let zero : open_below n w.session ≡ 0 = count n in omega (arith, zero)
   where
     count : (n : ℕ) → open_below n w.session ≡ 0
@@ -346,14 +346,14 @@ none-counted w none n = let zero : open_below n w.session ≡ 0 = count n in ome
 
 -- Events in order.
 
-served-made : (es : List Arrival) (w : World) → IsCounted w → PlainServed es w (plain_turns es w) (last_world w (plain_turns es w))
+served-made : (es : List Arrival) (w : NodeState) → CountsSessions w → PlainServed es w (plain_turns es w) (last_world w (plain_turns es w))
 served-made [] w counted = refl
 served-made (e ∷ es) w counted =
     let turned = event-at e.0.what e.0.moment e.1 w counted in
     let t : Turn = plain_turn e w in
     (turned, served-made es t.after (counted-event e.0.what e.0.moment e.1 w t.passed t.after turned counted))
 
-served-only : (es : List Arrival) (w : World) (ts : List Turn) (v : World) → PlainServed es w ts v → (ts ≡ plain_turns es w) × (v ≡ last_world w ts)
+served-only : (es : List Arrival) (w : NodeState) (ts : List Turn) (v : NodeState) → PlainServed es w ts v → (ts ≡ plain_turns es w) × (v ≡ last_world w ts)
 served-only [] w [] v run = (refl, run)
 served-only [] w (t ∷ ts) v never = absurd never
 served-only (e ∷ es) w [] v never = absurd never
@@ -364,21 +364,21 @@ served-only (e ∷ es) w (t ∷ ts) v run =
     let rest : ts ≡ plain_turns es (plain_turn e w).after = later.0 ∙ ap (plain_turns es) one.1 in
     (ap (λ (u : Turn). u ∷ ts) first ∙ ap (λ (us : List Turn). plain_turn e w ∷ us) rest, later.1)
 
-served-by : (es : List Arrival) (w : World) (ts : List Turn) (v : World) → PlainServed es w ts v → Served es w ts v
+served-by : (es : List Arrival) (w : NodeState) (ts : List Turn) (v : NodeState) → PlainServed es w ts v → Served es w ts v
 served-by [] w [] v run = run
 served-by [] w (t ∷ ts) v never = absurd never
 served-by (e ∷ es) w [] v never = absurd never
 served-by (e ∷ es) w (t ∷ ts) v run = (event-turned e.0.what e.0.moment e.1 w t.passed t.after run.0, served-by es t.after ts v run.1)
 
-served-unfailed : (es : List Arrival) (w : World) (ts : List Turn) (v : World) → PlainServed es w ts v → (v.out.disk ≡ w.out.disk) × (v.out.lost ≡ w.out.lost)
-served-unfailed [] w [] v run = (ap (λ (x : World). x.out.disk) run, ap (λ (x : World). x.out.lost) run)
+served-unfailed : (es : List Arrival) (w : NodeState) (ts : List Turn) (v : NodeState) → PlainServed es w ts v → (v.out.disk ≡ w.out.disk) × (v.out.lost ≡ w.out.lost)
+served-unfailed [] w [] v run = (ap (λ (x : NodeState). x.out.disk) run, ap (λ (x : NodeState). x.out.lost) run)
 served-unfailed [] w (t ∷ ts) v never = absurd never
 served-unfailed (e ∷ es) w [] v never = absurd never
 served-unfailed (e ∷ es) w (t ∷ ts) v run =
     let one = event-is e.0.what e.0.moment e.1 w t.passed t.after run.0 in
     let kept = event-unfailed e.0.what e.0.moment e.1 w in
     let later = served-unfailed es t.after ts v run.1 in
-    (later.0 ∙ ap (λ (x : World). x.out.disk) one.1 ∙ kept.0, later.1 ∙ ap (λ (x : World). x.out.lost) one.1 ∙ kept.1)
+    (later.0 ∙ ap (λ (x : NodeState). x.out.disk) one.1 ∙ kept.0, later.1 ∙ ap (λ (x : NodeState). x.out.lost) one.1 ∙ kept.1)
 
 pub plain-laws : PlainLaws
 plain-laws = record { made = served-made; only = served-only; served = served-by; unfailed = served-unfailed }

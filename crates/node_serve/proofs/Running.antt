@@ -1,6 +1,6 @@
 -- Events in order.
 use Rattle.std.proofs.Common.{◌≡◌, ◌<◌, ◌+◌, ℕ, nat_lt, Bool, true, false, List, [], ◌∷◌, ◌++◌, length, take, Option, Some, None, refl, sym, ap, subst, ◌∙◌, arith, append_assoc, length-append, inl, inr, if◌then◌else◌}
-use Rattle.edge_io.specs.Hosts.{Told, then_given, before_left}
+use Rattle.edge_io.specs.Hosts.{ToldEvents, then_given, before_left}
 use Rattle.edge_io.specs.Frames.{Outputs, outputs}
 use Rattle.edge_io.specs.Scripts.{Arrival}
 use Rattle.edge_io.specs.Hosts.{NoneLeft, GaveOne}
@@ -10,18 +10,18 @@ use Rattle.edge_io.specs.declared.events.Door.{Door}
 use Rattle.edge_io.specs.declared.events.Door.TheVariants as door
 use Rattle.edge_io.specs.declared.events.What.{What}
 use Rattle.edge_io.specs.declared.events.What.TheVariants as what
-use Rattle.line_door.specs.Acts.{Outside, Said, Way, Plain, Memory, Disk, Newer, StopsShort, Sent, Acts}
-use Rattle.line_door.specs.Course.{Talk, talk}
+use Rattle.line_door.specs.Acts.{ConnectionState, Said, Departure, Plain, Memory, Disk, Newer, StopsShort, Sent, Acts}
+use Rattle.line_door.specs.Course.{SessionState, talk}
 use Rattle.arch_model.specs.Archives.{Archive}
-use Rattle.arch_model.specs.Standing.{Standing}
-use Rattle.arch_model.specs.Keeping.{Has, HasAll, Passes, Fits}
+use Rattle.arch_model.specs.Standing.{LastKnown}
+use Rattle.arch_model.specs.Keeping.{Has, HasAll, CrashesLeaveOnly, MatchesKnown}
 use Rattle.arch_model.proofs.Keepers.{all-split}
 use Rattle.keep_course.specs.Courses.{afters}
-use Rattle.node_serve.specs.Doors.{Held, session_limit, greets, said_making}
-use Rattle.node_serve.specs.Ends.{NoStop, EndsBy, is_stop, given_after, before_all}
-use Rattle.node_serve.specs.Nodes.{Serving, Stage, stage, Along, AreAt, places_in, world_of, world_at, outputs_at, outputs_along, outputs_noted, outputs_asked, TurnsAnyway, GoesAnyway, ReadsBy, GoesReading, StepsTo, TurnsTo, Turns, TookOne, TookNone, TakesOne, RunsTo, ServesTo}
+use Rattle.node_serve.specs.Doors.{SessionAtWork, session_limit, greets, said_making}
+use Rattle.node_serve.specs.Ends.{NoStop, ServingEnds, is_stop, given_after, before_all}
+use Rattle.node_serve.specs.Nodes.{Serving, Stage, stage, Along, AreAt, places_in, world_of, world_at, outputs_at, outputs_along, outputs_noted, outputs_asked, TurnsAnyway, GoesAnyway, ReadsForEvent, GoesReading, StepsTo, TurnsTo, Turns, TookOne, TookNone, TakesOne, RunsTo, ServesTo}
 use Rattle.node_serve.specs.Turns.{Turn, CameTo, TurnedBy, Turned, Served, passed_in, outputs_of, outputs_before}
-use Rattle.node_serve.specs.World.{Outer, World, outer}
+use Rattle.node_serve.specs.World.{HostState, NodeState, outer}
 use Rattle.node_serve.specs.declared.serving.Taken.{Taken}
 use Rattle.node_serve.specs.declared.serving.Taken.TheVariants.{Went, Stops}
 use Rattle.node_serve.specs.declared.serving.ServeEnd.{ServeEnd}
@@ -30,19 +30,19 @@ use Rattle.node_serve.specs.declared.session.Session.{Session}
 use Rattle.node_serve.proofs.Turning.{crash-left}
 
 -- One event more.
-pub served-more : (es : List Arrival) (w : World) (ts : List Turn) (m : World) (e : Arrival) (passed : List Standing) (v : World) → Served es w ts m → Turned e m passed v → Served (es ++ e ∷ []) w (ts ++ record { passed = passed; after = v } ∷ []) v
-served-more [] w [] m e passed v run turned = (subst (λ (x : World). Turned e x passed v) run turned, refl)
+pub served-more : (es : List Arrival) (w : NodeState) (ts : List Turn) (m : NodeState) (e : Arrival) (passed : List LastKnown) (v : NodeState) → Served es w ts m → Turned e m passed v → Served (es ++ e ∷ []) w (ts ++ record { passed = passed; after = v } ∷ []) v
+served-more [] w [] m e passed v run turned = (subst (λ (x : NodeState). Turned e x passed v) run turned, refl)
 served-more [] w (t ∷ ts) m e passed v never turned = absurd never
 served-more (x ∷ es) w [] m e passed v never turned = absurd never
 served-more (x ∷ es) w (t ∷ ts) m e passed v run turned = (run.0, served-more es t.after ts m e passed v run.1 turned)
 
 -- What was given.
-pub given-more : (given : Told) (es : List Arrival) (e : Arrival) → given_after given (es ++ e ∷ []) ≡ then_given (given_after given es) e
+pub given-more : (given : ToldEvents) (es : List Arrival) (e : Arrival) → given_after given (es ++ e ∷ []) ≡ then_given (given_after given es) e
 given-more given [] e = refl
 given-more given (x ∷ es) e = given-more (then_given given x) es e
 
 -- What was left.
-pub left-more : (es : List Arrival) (e : Arrival) (left : Told) → before_all (es ++ e ∷ []) left ≡ before_all es (before_left e left)
+pub left-more : (es : List Arrival) (e : Arrival) (left : ToldEvents) → before_all (es ++ e ∷ []) left ≡ before_all es (before_left e left)
 left-more [] e left = refl
 left-more (x ∷ es) e left = ap (before_left x) (left-more es e left)
 
@@ -72,13 +72,13 @@ outputs-more does (e ∷ es) p [] m q never = absurd never
 outputs-more does (e ∷ es) p (x ∷ ms) m q run = ap (λ (os : List Outputs). outputs_at p ∷ os) (outputs-more does es x ms m q run.1)
 
 -- They are those of the worlds of the turns at the stages.
-outputs-before : {K : Type 0} (p : Stage K) (ms : List (Stage K)) (w : World) (ts : List Turn) → AreAt ms ts → outputs_of w ≡ outputs_at p → outputs_before w ts ≡ outputs_along p ms
+outputs-before : {K : Type 0} (p : Stage K) (ms : List (Stage K)) (w : NodeState) (ts : List Turn) → AreAt ms ts → outputs_of w ≡ outputs_at p → outputs_before w ts ≡ outputs_along p ms
 outputs-before p [] w [] at is = refl
 outputs-before p [] w (t ∷ ts) never is = absurd never
 outputs-before p (m ∷ ms) w [] never is = absurd never
 outputs-before p (m ∷ ms) w (t ∷ ts) at is = ap (λ (o : Outputs). o ∷ outputs_before t.after ts) is ∙ ap (λ (os : List Outputs). outputs_at p ∷ os) (outputs-before m ms t.after ts at.1 (ap outputs_of at.0))
 
-pub outputs-asked : {K : Type 0} (none : Bool) (p : Stage K) (ms : List (Stage K)) (q : Stage K) (w : World) (ts : List Turn) (v : World) → AreAt ms ts → outputs_of w ≡ outputs_at p → outputs_of v ≡ outputs_at q → outputs_asked none w ts v ≡ outputs_noted none p ms q
+pub outputs-asked : {K : Type 0} (none : Bool) (p : Stage K) (ms : List (Stage K)) (q : Stage K) (w : NodeState) (ts : List Turn) (v : NodeState) → AreAt ms ts → outputs_of w ≡ outputs_at p → outputs_of v ≡ outputs_at q → outputs_asked none w ts v ≡ outputs_noted none p ms q
 outputs-asked true p ms q w ts v at first last = ap (λ (os : List Outputs). os ++ outputs_of v ∷ []) (outputs-before p ms w ts at first) ∙ ap (λ (o : Outputs). outputs_along p ms ++ o ∷ []) last
 outputs-asked false p ms q w ts v at first last = outputs-before p ms w ts at first
 
@@ -88,10 +88,10 @@ append-none {X} (x ∷ xs) = ap (λ (ys : List X). x ∷ ys) (append-none xs)
 
 passed-more : (ts : List Turn) (t : Turn) → passed_in (ts ++ t ∷ []) ≡ passed_in ts ++ t.passed
 passed-more [] t = append-none t.passed
-passed-more (u ∷ ts) t = ap (λ (ss : List Standing). u.passed ++ ss) (passed-more ts t) ∙ sym (append_assoc u.passed (passed_in ts) t.passed)
+passed-more (u ∷ ts) t = ap (λ (ss : List LastKnown). u.passed ++ ss) (passed-more ts t) ∙ sym (append_assoc u.passed (passed_in ts) t.passed)
 
 -- Nothing was taken.
-pub took-nothing : {K : Type 0} (node : Serving K) (i : Outer) (given left : Told) → TookNone node i node i given given left left
+pub took-nothing : {K : Type 0} (node : Serving K) (i : HostState) (given left : ToldEvents) → TookNone node i node i given given left left
 took-nothing node i given left = record { node_kept = refl; out_kept = refl; given_kept = refl; left_kept = refl }
 
 -- The outside stays where what is told of it does.
@@ -100,16 +100,16 @@ outer-same taken taken' closings closings' disk lost lost' closed_at closed_at' 
 
 -- How the archive stands after an event, if those before it and after each of its acts are told.
 
-pub acts-after : {H A : Type 0} (words : Way → Said H A) (x : A) (i : Outside) (held : Option H) (a : A) (j : Outside) → ((way : Way) → (words way).after ≡ x) → Acts words i held a j → a ≡ x
+pub acts-after : {H A : Type 0} (words : Departure → Said H A) (x : A) (i : ConnectionState) (held : Option H) (a : A) (j : ConnectionState) → ((way : Departure) → (words way).after ≡ x) → Acts words i held a j → a ≡ x
 acts-after words x i held a j same acts = by acts.way acts.sent
   where
-    stops : (way : Way) → StopsShort words way i held a j → a ≡ x
+    stops : (way : Departure) → StopsShort words way i held a j → a ≡ x
     stops Plain never = absurd never
     stops Memory s = s.after_is ∙ same Plain
     stops Disk s = s.after_is ∙ same Plain
     stops Newer never = absurd never
 
-    by : (way : Way) → Sent words way i held a j → a ≡ x
+    by : (way : Departure) → Sent words way i held a j → a ≡ x
     by way (inl s) = s.after_is ∙ same way
     by way (inr (inl s)) = s.after_is ∙ same way
     by way (inr (inr s)) = stops way s
@@ -118,31 +118,31 @@ pick-after : {H A : Type 0} (t : Bool) (x y : Said H A) (a : A) → x.after ≡ 
 pick-after true x y a p q = p
 pick-after false x y a p q = q
 
-greets-after : (at : Door) (s : Standing) → (greets at s).after ≡ s
+greets-after : (at : Door) (s : LastKnown) → (greets at s).after ≡ s
 greets-after door.Control s = refl
 greets-after door.Http s = refl
 greets-after door.Nntp s = refl
 greets-after door.Imap s = refl
 
-pub making-after : (moment : ℕ) (at : Door) (n : ℕ) (s : Standing) (way : Way) → (said_making moment at n s way).after ≡ s
+pub making-after : (moment : ℕ) (at : Door) (n : ℕ) (s : LastKnown) (way : Departure) → (said_making moment at n s way).after ≡ s
 making-after moment at n s Plain = pick-after (nat_lt n session_limit) (greets at s) _ s (greets-after at s) refl
 making-after moment at n s Memory = pick-after (nat_lt n session_limit) _ _ s refl refl
 making-after moment at n s Disk = pick-after (nat_lt n session_limit) (greets at s) _ s (greets-after at s) refl
 making-after moment at n s Newer = pick-after (nat_lt n session_limit) (greets at s) _ s (greets-after at s) refl
 
-afters-last : (may : List (Option Archive)) (acts : List (Talk Held Standing)) (t : Talk Held Standing) → HasAll may (afters (acts ++ t ∷ [])) → Has may t.after
+afters-last : (may : List (Option Archive)) (acts : List (SessionState SessionAtWork LastKnown)) (t : SessionState SessionAtWork LastKnown) → HasAll may (afters (acts ++ t ∷ [])) → Has may t.after
 afters-last may [] t has = has.0
 afters-last may (a ∷ acts) t has = afters-last may acts t has.1
 
-pub turned-has : (may : List (Option Archive)) (e : Arrival) (w : World) (passed : List Standing) (v : World) → Turned e w passed v → Has may w.standing → HasAll may passed → Has may v.standing
+pub turned-has : (may : List (Option Archive)) (e : Arrival) (w : NodeState) (passed : List LastKnown) (v : NodeState) → Turned e w passed v → Has may w.standing → HasAll may passed → Has may v.standing
 turned-has may e w passed v turned now later = by e.0.what turned
   where
     same : v.standing ≡ w.standing → Has may v.standing
-    same is = subst (λ (s : Standing). Has may s) (sym is) now
+    same is = subst (λ (s : LastKnown). Has may s) (sym is) now
 
     fed : (c : ℕ) (start : Option Session) → CameTo start e.0.moment c e.1 w passed v → Has may v.standing
     fed c None came = same came.0.standing
-    fed c (Some start) came = afters-last may came.acts (talk came.held v.standing _) (subst (λ (ss : List Standing). HasAll may ss) came.passed_is later)
+    fed c (Some start) came = afters-last may came.acts (talk came.held v.standing _) (subst (λ (ss : List LastKnown). HasAll may ss) came.passed_is later)
 
     by : (x : What) → TurnedBy x e.0.moment e.1 w passed v → Has may v.standing
     by (what.Opened c at) t = same (acts-after _ w.standing _ _ v.standing _ (λ way. making-after _ at _ w.standing way) t.0.acts)
@@ -151,8 +151,8 @@ turned-has may e w passed v turned now later = by e.0.what turned
     by what.Quiet t = same t.0.standing
     by what.Stop t = same t.0.standing
 
-served-has : (may : List (Option Archive)) (es : List Arrival) (w : World) (ts : List Turn) (v : World) → Served es w ts v → Has may w.standing → HasAll may (passed_in ts) → Has may v.standing
-served-has may [] w [] v run now later = subst (λ (x : World). Has may x.standing) (sym run) now
+served-has : (may : List (Option Archive)) (es : List Arrival) (w : NodeState) (ts : List Turn) (v : NodeState) → Served es w ts v → Has may w.standing → HasAll may (passed_in ts) → Has may v.standing
+served-has may [] w [] v run now later = subst (λ (x : NodeState). Has may x.standing) (sym run) now
 served-has may [] w (t ∷ ts) v never now later = absurd never
 served-has may (e ∷ es) w [] v never now later = absurd never
 served-has may (e ∷ es) w (t ∷ ts) v run now later =
@@ -160,19 +160,19 @@ served-has may (e ∷ es) w (t ∷ ts) v run now later =
     served-has may es t.after ts v run.1 (turned-has may e w t.passed t.after run.0 now parts.0) parts.1
 
 -- How the archive stands after these turns.
-abbrev last-standing : Standing → List Turn → Standing
+abbrev last-standing : LastKnown → List Turn → LastKnown
 last-standing s [] = s
 last-standing s (t ∷ ts) = last-standing t.after.standing ts
 
-served-last : (es : List Arrival) (w : World) (ts : List Turn) (v : World) → Served es w ts v → v.standing ≡ last-standing w.standing ts
-served-last [] w [] v run = ap (λ (x : World). x.standing) run
+served-last : (es : List Arrival) (w : NodeState) (ts : List Turn) (v : NodeState) → Served es w ts v → v.standing ≡ last-standing w.standing ts
+served-last [] w [] v run = ap (λ (x : NodeState). x.standing) run
 served-last [] w (t ∷ ts) v never = absurd never
 served-last (e ∷ es) w [] v never = absurd never
 served-last (e ∷ es) w (t ∷ ts) v run = served-last es t.after ts v run.1
 
-module _ {K : Type 0} (holds rests : K → Archive → Type 0) (ready : K → Bool) (leaves : K → K → List (Option Archive) → Type 0) where
+module _ {K : Type 0} (holds files_are : K → Archive → Type 0) (ready : K → Bool) (leaves : K → K → List (Option Archive) → Type 0) where
   -- Before the first event.
-  pub runs-none : (s : Standing) (node : Serving K) (i : Outer) → Fits holds rests ready leaves node.keep s → RunsTo holds rests ready leaves [] s node i [] node i
+  pub runs-none : (s : LastKnown) (node : Serving K) (i : HostState) → MatchesKnown holds files_are ready leaves node.keep s → RunsTo holds files_are ready leaves [] s node i [] node i
   runs-none s node i fits = record {
     after = s;
     fits = fits;
@@ -181,25 +181,25 @@ module _ {K : Type 0} (holds rests : K → Archive → Type 0) (ready : K → Bo
     at = tt;
     steps = refl;
     passes = λ start may has since. since;
-    crash = crash-left holds rests ready leaves node.keep node.keep s [] fits (λ start may has since. since);
+    crash = crash-left holds files_are ready leaves node.keep node.keep s [] fits (λ start may has since. since);
   }
 
   -- One turn more.
-  steps-more : (ms : List (Stage K)) (ts : List Turn) (q : Stage K) (t : Turn) (s : Standing) (old mid : K) → StepsTo holds rests ready leaves old s ms ts mid → Fits holds rests ready leaves q.node.keep t.after.standing → Passes leaves mid q.node.keep (last-standing s ts ∷ t.passed)
-      → StepsTo holds rests ready leaves old s (ms ++ q ∷ []) (ts ++ t ∷ []) q.node.keep
-  steps-more [] [] q t s old mid steps fits passes = (fits, subst (λ (k : K). Passes leaves k q.node.keep (s ∷ t.passed)) steps passes, refl)
+  steps-more : (ms : List (Stage K)) (ts : List Turn) (q : Stage K) (t : Turn) (s : LastKnown) (old mid : K) → StepsTo holds files_are ready leaves old s ms ts mid → MatchesKnown holds files_are ready leaves q.node.keep t.after.standing → CrashesLeaveOnly leaves mid q.node.keep (last-standing s ts ∷ t.passed)
+      → StepsTo holds files_are ready leaves old s (ms ++ q ∷ []) (ts ++ t ∷ []) q.node.keep
+  steps-more [] [] q t s old mid steps fits passes = (fits, subst (λ (k : K). CrashesLeaveOnly leaves k q.node.keep (s ∷ t.passed)) steps passes, refl)
   steps-more [] (u ∷ ts) q t s old mid never fits passes = absurd never
   steps-more (m ∷ ms) [] q t s old mid never fits passes = absurd never
   steps-more (m ∷ ms) (u ∷ ts) q t s old mid steps fits passes = (steps.0, steps.1, steps-more ms ts q t u.after.standing m.node.keep mid steps.2 fits passes)
 
   -- One event more.
-  pub runs-more : (es : List Arrival) (e : Arrival) (s : Standing) (old mid new : Serving K) (i j k : Outer) (ms : List (Stage K)) → Fits holds rests ready leaves old.keep s → (run : RunsTo holds rests ready leaves es s old i ms mid j) → TurnsTo holds rests ready leaves e run.after mid j new k
-      → RunsTo holds rests ready leaves (es ++ e ∷ []) s old i (ms ++ stage new k ∷ []) new k
+  pub runs-more : (es : List Arrival) (e : Arrival) (s : LastKnown) (old mid new : Serving K) (i j k : HostState) (ms : List (Stage K)) → MatchesKnown holds files_are ready leaves old.keep s → (run : RunsTo holds files_are ready leaves es s old i ms mid j) → TurnsTo holds files_are ready leaves e run.after mid j new k
+      → RunsTo holds files_are ready leaves (es ++ e ∷ []) s old i (ms ++ stage new k ∷ []) new k
   runs-more es e s old mid new i j k ms fits run turn =
       let last : Turn = record { passed = turn.passed; after = world_of turn.after (places_in new) k } in
       let ts = run.turns ++ last ∷ [] in
-      let passes : Passes leaves old.keep new.keep (s ∷ passed_in ts) = λ start may has since.
-      let parts = all-split may (passed_in run.turns) turn.passed (subst (λ (ss : List Standing). HasAll may ss) (passed-more run.turns last) has.1) in
+      let passes : CrashesLeaveOnly leaves old.keep new.keep (s ∷ passed_in ts) = λ start may has since.
+      let parts = all-split may (passed_in run.turns) turn.passed (subst (λ (ss : List LastKnown). HasAll may ss) (passed-more run.turns last) has.1) in
       turn.passes start may (served-has may es (world_of s (places_in old) i) run.turns (world_of run.after (places_in mid) j) run.served has.0 parts.0, parts.1) (run.passes start may (has.0, parts.0) since) in
       record {
         after = turn.after;
@@ -208,30 +208,30 @@ module _ {K : Type 0} (holds rests : K → Archive → Type 0) (ready : K → Bo
         served = served-more es (world_of s (places_in old) i) run.turns (world_of run.after (places_in mid) j) e turn.passed (world_of turn.after (places_in new) k) run.served turn.turned;
         at = at-more ms run.turns (stage new k) last run.at refl;
         steps = steps-more ms run.turns (stage new k) last s old.keep mid.keep run.steps turn.fits
-            (subst (λ (x : Standing). Passes leaves mid.keep new.keep (x ∷ turn.passed)) (served-last es (world_of s (places_in old) i) run.turns (world_of run.after (places_in mid) j) run.served) turn.passes);
+            (subst (λ (x : LastKnown). CrashesLeaveOnly leaves mid.keep new.keep (x ∷ turn.passed)) (served-last es (world_of s (places_in old) i) run.turns (world_of run.after (places_in mid) j) run.served) turn.passes);
         passes = passes;
-        crash = crash-left holds rests ready leaves old.keep new.keep s (passed_in ts) fits passes;
+        crash = crash-left holds files_are ready leaves old.keep new.keep s (passed_in ts) fits passes;
       }
 
   module _ (reads : K → ℕ) where
     -- These events were taken, each from one stage to the next.
-    pub record Reached (arrivals : List Arrival) (old : Serving K) (i : Outer) (new : Serving K) (j : Outer) (given given' left left' : Told) (recorded recorded' : List Outputs → Type 0) : Type 0 where
+    pub record Reached (arrivals : List Arrival) (old : Serving K) (i : HostState) (new : Serving K) (j : HostState) (given given' left left' : ToldEvents) (recorded recorded' : List Outputs → Type 0) : Type 0 where
       pub given_is : given' ≡ given_after given arrivals
       pub left_is : left ≡ before_all arrivals left'
       pub stages : List (Stage K)
       pub anyway : Along GoesAnyway arrivals (stage old i) stages (stage new j)
       pub reads_few : Along (GoesReading holds ready reads) arrivals (stage old i) stages (stage new j)
       pub records : (past : List Outputs) → recorded past → recorded' (past ++ outputs_noted false (stage old i) stages (stage new j))
-      pub runs : (s : Standing) → Fits holds rests ready leaves old.keep s → RunsTo holds rests ready leaves arrivals s old i stages new j
+      pub runs : (s : LastKnown) → MatchesKnown holds files_are ready leaves old.keep s → RunsTo holds files_are ready leaves arrivals s old i stages new j
 
     -- So many were taken, and none of them was a stop.
-    pub record SoFar (n : ℕ) (old : Serving K) (i : Outer) (new : Serving K) (j : Outer) (given given' left left' : Told) (recorded recorded' : List Outputs → Type 0) : Type 0 where
+    pub record SoFar (n : ℕ) (old : Serving K) (i : HostState) (new : Serving K) (j : HostState) (given given' left left' : ToldEvents) (recorded recorded' : List Outputs → Type 0) : Type 0 where
       pub arrivals : List Arrival
       pub count : length arrivals ≡ n
       pub none : NoStop arrivals
       pub reached : Reached arrivals old i new j given given' left left' recorded recorded'
 
-    pub sofar-none : (node : Serving K) (i : Outer) (given left : Told) (recorded : List Outputs → Type 0) → SoFar 0 node i node i given given left left recorded recorded
+    pub sofar-none : (node : Serving K) (i : HostState) (given left : ToldEvents) (recorded : List Outputs → Type 0) → SoFar 0 node i node i given given left left recorded recorded
     sofar-none node i given left recorded = record {
       arrivals = [];
       count = refl;
@@ -248,10 +248,10 @@ module _ {K : Type 0} (holds rests : K → Archive → Type 0) (ready : K → Bo
     }
 
     -- One event more: what it does, and what the host noted before it.
-    reached-more : (es : List Arrival) (old mid new : Serving K) (i j k : Outer) (given given' given'' left left' left'' : Told) (recorded recorded' recorded'' : List Outputs → Type 0) (stops : Bool) → Reached es old i mid j given given' left left' recorded recorded'
-        → (took : TookOne holds rests ready leaves reads mid j new k given' given'' left' left'' recorded' recorded'' stops) → Reached (es ++ took.arrival ∷ []) old i new k given given'' left left'' recorded recorded''
+    reached-more : (es : List Arrival) (old mid new : Serving K) (i j k : HostState) (given given' given'' left left' left'' : ToldEvents) (recorded recorded' recorded'' : List Outputs → Type 0) (stops : Bool) → Reached es old i mid j given given' left left' recorded recorded'
+        → (took : TookOne holds files_are ready leaves reads mid j new k given' given'' left' left'' recorded' recorded'' stops) → Reached (es ++ took.arrival ∷ []) old i new k given given'' left left'' recorded recorded''
     reached-more es old mid new i j k given given' given'' left left' left'' recorded recorded' recorded'' stops far took = record {
-      given_is = took.given_is ∙ ap (λ (g : Told). then_given g took.arrival) far.given_is ∙ sym (given-more given es took.arrival);
+      given_is = took.given_is ∙ ap (λ (g : ToldEvents). then_given g took.arrival) far.given_is ∙ sym (given-more given es took.arrival);
       left_is = far.left_is ∙ ap (before_all es) took.left_is ∙ sym (left-more es took.arrival left'');
       stages = far.stages ++ stage new k ∷ [];
       anyway = along-more GoesAnyway es (stage old i) far.stages (stage mid j) (stage new k) took.arrival far.anyway took.anyway;
@@ -264,7 +264,7 @@ module _ {K : Type 0} (holds rests : K → Archive → Type 0) (ready : K → Bo
       runs = λ s fits. let run = far.runs s fits in runs-more es took.arrival s old mid new i j k far.stages fits run (took.turns run.after run.fits);
     }
 
-    pub sofar-more : (n : ℕ) (old mid new : Serving K) (i j k : Outer) (given given' given'' left left' left'' : Told) (recorded recorded' recorded'' : List Outputs → Type 0) → SoFar n old i mid j given given' left left' recorded recorded' → TookOne holds rests ready leaves reads mid j new k given' given'' left' left'' recorded' recorded'' false
+    pub sofar-more : (n : ℕ) (old mid new : Serving K) (i j k : HostState) (given given' given'' left left' left'' : ToldEvents) (recorded recorded' recorded'' : List Outputs → Type 0) → SoFar n old i mid j given given' left left' recorded recorded' → TookOne holds files_are ready leaves reads mid j new k given' given'' left' left'' recorded' recorded'' false
         → SoFar (n + 1) old i new k given given'' left left'' recorded recorded''
     sofar-more n old mid new i j k given given' given'' left left' left'' recorded recorded' recorded'' far took = record {
       arrivals = far.arrivals ++ took.arrival ∷ [];
@@ -274,9 +274,9 @@ module _ {K : Type 0} (holds rests : K → Archive → Type 0) (ready : K → Bo
     }
 
     -- One event of the host.
-    pub took-event : (event : Event) (into : List ℕ) (len : ℕ) (old new : Serving K) (i m j : Outer) (given given' given'' left left' left'' : Told) (recorded recorded' recorded'' : List Outputs → Type 0) → len ≡ piece_len event.what → GaveOne event into left left' given given' → m ≡ i
-        → Turns holds rests ready leaves (event, take len into) old m new j → TurnsAnyway (event, take len into) old m new j → ReadsBy holds ready reads event.moment event.what (take len into) old new → left'' ≡ left' → given'' ≡ given' → ((past : List Outputs) → recorded past → recorded' (past ++ outputs i.taken i.closings i.lost ∷ []))
-        → ((past : List Outputs) → recorded' past → recorded'' past) → TookOne holds rests ready leaves reads old i new j given given'' left left'' recorded recorded'' (is_stop event.what)
+    pub took-event : (event : Event) (into : List ℕ) (len : ℕ) (old new : Serving K) (i m j : HostState) (given given' given'' left left' left'' : ToldEvents) (recorded recorded' recorded'' : List Outputs → Type 0) → len ≡ piece_len event.what → GaveOne event into left left' given given' → m ≡ i
+        → Turns holds files_are ready leaves (event, take len into) old m new j → TurnsAnyway (event, take len into) old m new j → ReadsForEvent holds ready reads event.moment event.what (take len into) old new → left'' ≡ left' → given'' ≡ given' → ((past : List Outputs) → recorded past → recorded' (past ++ outputs i.taken i.closings i.lost ∷ []))
+        → ((past : List Outputs) → recorded' past → recorded'' past) → TookOne holds files_are ready leaves reads old i new j given given'' left left'' recorded recorded'' (is_stop event.what)
     took-event event into len old new i m j given given' given'' left left' left'' recorded recorded' recorded'' size gave out turns anyway read left_same given_same noted later =
         let piece = take (piece_len event.what) into in
         record {
@@ -284,22 +284,22 @@ module _ {K : Type 0} (holds rests : K → Archive → Type 0) (ready : K → Bo
           given_is = given_same ∙ gave.last;
           left_is = gave.first ∙ ap (before_left (event, piece)) (sym left_same);
           stop_is = refl;
-          turns = subst (λ (o : Outer). Turns holds rests ready leaves (event, piece) old o new j) out (subst (λ (n : ℕ). Turns holds rests ready leaves (event, take n into) old m new j) size turns);
-          anyway = subst (λ (o : Outer). TurnsAnyway (event, piece) old o new j) out (subst (λ (n : ℕ). TurnsAnyway (event, take n into) old m new j) size anyway);
-          reads_few = subst (λ (n : ℕ). ReadsBy holds ready reads event.moment event.what (take n into) old new) size read;
+          turns = subst (λ (o : HostState). Turns holds files_are ready leaves (event, piece) old o new j) out (subst (λ (n : ℕ). Turns holds files_are ready leaves (event, take n into) old m new j) size turns);
+          anyway = subst (λ (o : HostState). TurnsAnyway (event, piece) old o new j) out (subst (λ (n : ℕ). TurnsAnyway (event, take n into) old m new j) size anyway);
+          reads_few = subst (λ (n : ℕ). ReadsForEvent holds ready reads event.moment event.what (take n into) old new) size read;
           records = λ past is. later (past ++ outputs i.taken i.closings i.lost ∷ []) (noted past is);
         }
 
     -- It was a stop, or was none.
-    pub takes-one : (taken : Taken) (stops : Bool) (old new : Serving K) (i j : Outer) (given given' left left' : Told) (faults faults' : ℕ) (recorded recorded' : List Outputs → Type 0) → taken ≡ (if stops then Stops else Went) → TookOne holds rests ready leaves reads old i new j given given' left left' recorded recorded' stops
-        → TakesOne holds rests ready leaves reads taken old i new j given given' left left' faults faults' recorded recorded'
-    takes-one taken true old new i j given given' left left' faults faults' recorded recorded' is took = subst (λ (t : Taken). TakesOne holds rests ready leaves reads t old i new j given given' left left' faults faults' recorded recorded') (sym is) took
-    takes-one taken false old new i j given given' left left' faults faults' recorded recorded' is took = subst (λ (t : Taken). TakesOne holds rests ready leaves reads t old i new j given given' left left' faults faults' recorded recorded') (sym is) took
+    pub takes-one : (taken : Taken) (stops : Bool) (old new : Serving K) (i j : HostState) (given given' left left' : ToldEvents) (faults faults' : ℕ) (recorded recorded' : List Outputs → Type 0) → taken ≡ (if stops then Stops else Went) → TookOne holds files_are ready leaves reads old i new j given given' left left' recorded recorded' stops
+        → TakesOne holds files_are ready leaves reads taken old i new j given given' left left' faults faults' recorded recorded'
+    takes-one taken true old new i j given given' left left' faults faults' recorded recorded' is took = subst (λ (t : Taken). TakesOne holds files_are ready leaves reads t old i new j given given' left left' faults faults' recorded recorded') (sym is) took
+    takes-one taken false old new i j given given' left left' faults faults' recorded recorded' is took = subst (λ (t : Taken). TakesOne holds files_are ready leaves reads t old i new j given given' left left' faults faults' recorded recorded') (sym is) took
 
     -- The ends.
 
-    pub ends-stopped : (n turns : ℕ) → n < turns → (old mid new : Serving K) (i j k : Outer) (given given' given'' left left' left'' : Told) (faults faults' : ℕ) (recorded recorded' recorded'' : List Outputs → Type 0) → SoFar n old i mid j given given' left left' recorded recorded'
-        → TookOne holds rests ready leaves reads mid j new k given' given'' left' left'' recorded' recorded'' true → faults' ≡ faults → ServesTo holds rests ready leaves reads end.Stopped turns old i new k given given'' left left'' faults faults' recorded recorded''
+    pub ends-stopped : (n turns : ℕ) → n < turns → (old mid new : Serving K) (i j k : HostState) (given given' given'' left left' left'' : ToldEvents) (faults faults' : ℕ) (recorded recorded' recorded'' : List Outputs → Type 0) → SoFar n old i mid j given given' left left' recorded recorded'
+        → TookOne holds files_are ready leaves reads mid j new k given' given'' left' left'' recorded' recorded'' true → faults' ≡ faults → ServesTo holds files_are ready leaves reads end.Stopped turns old i new k given given'' left left'' faults faults' recorded recorded''
     ends-stopped n turns before old mid new i j k given given' given'' left left' left'' faults faults' recorded recorded' recorded'' far took kept =
         let reached = reached-more far.arrivals old mid new i j k given given' given'' left left' left'' recorded recorded' recorded'' true far.reached took in
         record {
@@ -320,7 +320,7 @@ module _ {K : Type 0} (holds rests : K → Archive → Type 0) (ready : K → Bo
         }
 
     -- Nothing more was taken.
-    reached-still : (es : List Arrival) (old mid new : Serving K) (i j k : Outer) (given given' given'' left left' left'' : Told) (recorded recorded' : List Outputs → Type 0) → Reached es old i mid j given given' left left' recorded recorded' → TookNone mid j new k given' given'' left' left'' → Reached es old i new k given given'' left left'' recorded recorded'
+    reached-still : (es : List Arrival) (old mid new : Serving K) (i j k : HostState) (given given' given'' left left' left'' : ToldEvents) (recorded recorded' : List Outputs → Type 0) → Reached es old i mid j given given' left left' recorded recorded' → TookNone mid j new k given' given'' left' left'' → Reached es old i new k given given'' left left'' recorded recorded'
     reached-still es old mid new i j k given given' given'' left left' left'' recorded recorded' far took =
         let begun : Reached es old i mid j given given'' left left'' recorded recorded' = record {
           given_is = took.given_kept ∙ far.given_is;
@@ -331,10 +331,10 @@ module _ {K : Type 0} (holds rests : K → Archive → Type 0) (ready : K → Bo
           records = far.records;
           runs = far.runs;
         } in
-        subst (λ (node : Serving K). Reached es old i node k given given'' left left'' recorded recorded') (sym took.node_kept) (subst (λ (o : Outer). Reached es old i mid o given given'' left left'' recorded recorded') (sym took.out_kept) begun)
+        subst (λ (node : Serving K). Reached es old i node k given given'' left left'' recorded recorded') (sym took.node_kept) (subst (λ (o : HostState). Reached es old i mid o given given'' left left'' recorded recorded') (sym took.out_kept) begun)
 
-    pub ends-none : (n turns : ℕ) → n < turns → (old mid new : Serving K) (i j k : Outer) (given given' given'' left left' left'' : Told) (faults faults' : ℕ) (recorded recorded' recorded'' : List Outputs → Type 0) → SoFar n old i mid j given given' left left' recorded recorded' → TookNone mid j new k given' given'' left' left'' → NoneLeft left''
-        → ((past : List Outputs) → recorded' past → recorded'' (past ++ outputs_at (stage mid j) ∷ [])) → faults' ≡ faults → ServesTo holds rests ready leaves reads end.Stopped turns old i new k given given'' left left'' faults faults' recorded recorded''
+    pub ends-none : (n turns : ℕ) → n < turns → (old mid new : Serving K) (i j k : HostState) (given given' given'' left left' left'' : ToldEvents) (faults faults' : ℕ) (recorded recorded' recorded'' : List Outputs → Type 0) → SoFar n old i mid j given given' left left' recorded recorded' → TookNone mid j new k given' given'' left' left'' → NoneLeft left''
+        → ((past : List Outputs) → recorded' past → recorded'' (past ++ outputs_at (stage mid j) ∷ [])) → faults' ≡ faults → ServesTo holds files_are ready leaves reads end.Stopped turns old i new k given given'' left left'' faults faults' recorded recorded''
     ends-none n turns before old mid new i j k given given' given'' left left' left'' faults faults' recorded recorded' recorded'' far took none noted kept =
         let reached = reached-still far.arrivals old mid new i j k given given' given'' left left' left'' recorded recorded' far.reached took in
         let before_last = outputs_along (stage old i) reached.stages in
@@ -347,13 +347,13 @@ module _ {K : Type 0} (holds rests : K → Archive → Type 0) (ready : K → Bo
           stages = reached.stages;
           anyway = reached.anyway;
           reads_few = reached.reads_few;
-          records = λ past is. subst (λ (o : Outer). recorded'' (past ++ (before_last ++ outputs o.taken o.closings o.lost ∷ []))) (sym took.out_kept)
+          records = λ past is. subst (λ (o : HostState). recorded'' (past ++ (before_last ++ outputs o.taken o.closings o.lost ∷ []))) (sym took.out_kept)
               (subst (λ (os : List Outputs). recorded'' os) (append_assoc past before_last (outputs_at (stage mid j) ∷ [])) (noted (past ++ before_last) (reached.records past is)));
           runs = reached.runs;
         }
 
     -- No memory for the first event.
-    pub ends-starved : (turns : ℕ) (node : Serving K) (i : Outer) (given left : Told) (faults : ℕ) (recorded : List Outputs → Type 0) → ServesTo holds rests ready leaves reads end.NoMemory turns node i node i given given left left faults faults recorded recorded
+    pub ends-starved : (turns : ℕ) (node : Serving K) (i : HostState) (given left : ToldEvents) (faults : ℕ) (recorded : List Outputs → Type 0) → ServesTo holds files_are ready leaves reads end.NoMemory turns node i node i given given left left faults faults recorded recorded
     ends-starved turns node i given left faults recorded = record {
       arrivals = [];
       given_is = refl;
@@ -368,8 +368,8 @@ module _ {K : Type 0} (holds rests : K → Archive → Type 0) (ready : K → Bo
     }
 
     -- The host failed, or enough was taken.
-    pub ends-early : (how : ServeEnd) (n turns : ℕ) (old mid new : Serving K) (i j k : Outer) (given given' given'' left left' left'' : Told) (faults faults' : ℕ) (recorded recorded' recorded'' : List Outputs → Type 0) → (far : SoFar n old i mid j given given' left left' recorded recorded') → TookNone mid j new k given' given'' left' left''
-        → ((past : List Outputs) → recorded' past → recorded'' past) → EndsBy how false far.arrivals turns left'' faults faults' → ServesTo holds rests ready leaves reads how turns old i new k given given'' left left'' faults faults' recorded recorded''
+    pub ends-early : (how : ServeEnd) (n turns : ℕ) (old mid new : Serving K) (i j k : HostState) (given given' given'' left left' left'' : ToldEvents) (faults faults' : ℕ) (recorded recorded' recorded'' : List Outputs → Type 0) → (far : SoFar n old i mid j given given' left left' recorded recorded') → TookNone mid j new k given' given'' left' left''
+        → ((past : List Outputs) → recorded' past → recorded'' past) → ServingEnds how false far.arrivals turns left'' faults faults' → ServesTo holds files_are ready leaves reads how turns old i new k given given'' left left'' faults faults' recorded recorded''
     ends-early how n turns old mid new i j k given given' given'' left left' left'' faults faults' recorded recorded' recorded'' far took noted ends =
         let reached = reached-still far.arrivals old mid new i j k given given' given'' left left' left'' recorded recorded' far.reached took in
         record {

@@ -9,43 +9,43 @@ use Rattle.edge_io.specs.Scripts.{Arrival}
 use Rattle.edge_io.specs.declared.events.Door.{Door}
 use Rattle.edge_io.specs.declared.events.Door.TheVariants as door
 use Rattle.edge_io.specs.declared.events.What.TheVariants as what
-use Rattle.line_door.specs.Acts.{Outside, Said, Way, Plain, Memory, Disk, Newer, SaidWhole, SaidLost, SaidShort, StopsShort, Sent, Acts, held_if}
+use Rattle.line_door.specs.Acts.{ConnectionState, Said, Departure, Plain, Memory, Disk, Newer, SaidWhole, SaidLost, SaidShort, StopsShort, Sent, Acts, held_if}
 use Rattle.line_door.specs.Course.{talk}
 use Rattle.line_door.specs.Making.{says, closes}
 use Rattle.line_door.specs.Over.{held_over, said_over}
 use Rattle.line_door.proofs.Acting.{acts-closing, acts-silent}
 use Rattle.line_door.proofs.Lifting.{acts-over}
 use Rattle.arch_model.specs.Archives.{Archive}
-use Rattle.arch_model.specs.Standing.{Standing}
-use Rattle.arch_model.specs.Keeping.{Passes, Fits}
+use Rattle.arch_model.specs.Standing.{LastKnown}
+use Rattle.arch_model.specs.Keeping.{CrashesLeaveOnly, MatchesKnown}
 use Rattle.keep_course.specs.Courses.{afters, archives_of}
 use Rattle.keep_course.proofs.Courses.{all-own}
 use Rattle.nntp_reader.specs.Door.{Reader, new_reader, greeting}
 use Rattle.nntp_reader.specs.Notices.{welcome_line}
 use Rattle.node_serve.specs.Doors.{Came, said, session_limit, busy_words, memory_words, greets, made, unmade, said_making}
-use Rattle.node_serve.specs.Nodes.{Places, serving, session_of, places_of, world_of, Refused, Makes, Ends, IsPlaced, IsPut, FedFrom, TurnsTo, TurnsStill, CameAnyway}
+use Rattle.node_serve.specs.Nodes.{OpenSessions, serving, session_of, places_of, world_of, Refused, MakesSession, SessionEnds, GotSession, IsPut, FedFrom, TurnsTo, TurnsStill, CameAnyway}
 use Rattle.node_serve.specs.Turns.{FedAt, CameTo, Turned}
-use Rattle.node_serve.specs.World.{Outer, Around, Same, EndedAt, others_open, outside_at, one_if, closed_if, closed_at_if}
+use Rattle.node_serve.specs.World.{HostState, Around, Same, EndedAt, others_open, outside_at, one_if, closed_if, closed_at_if}
 use Rattle.node_serve.specs.declared.session.Session.{Session}
 use Rattle.node_serve.specs.declared.session.Session.TheVariants as session
 
 -- How many others are open, where a connection has no session.
-others-none : (c : ℕ) (s : Standing) (p : Places) (o : Outer) → p.session c ≡ None → others_open c (world_of s p o) ≡ p.count
+others-none : (c : ℕ) (s : LastKnown) (p : OpenSessions) (o : HostState) → p.session c ≡ None → others_open c (world_of s p o) ≡ p.count
 others-none c s p o none = let zero : one_if (p.session c) ≡ 0 = ap (λ (x : Option Session). one_if x) none in omega (arith, zero)
 
 -- The making of a session, by how many others are open.
 
-made-few : (moment : ℕ) (at : Door) (n : ℕ) (s : Standing) → n < session_limit → made moment at n s ≡ greets at s
+made-few : (moment : ℕ) (at : Door) (n : ℕ) (s : LastKnown) → n < session_limit → made moment at n s ≡ greets at s
 made-few moment at n s few = let test : nat_lt n session_limit ≡ true = grind (arith, nat_tests, few) in ap (λ (t : Bool). if t then greets at s else closes s (busy_words moment at)) test
 
-made-busy : (moment : ℕ) (at : Door) (n : ℕ) (s : Standing) → session_limit ≤ n → made moment at n s ≡ closes s (busy_words moment at)
+made-busy : (moment : ℕ) (at : Door) (n : ℕ) (s : LastKnown) → session_limit ≤ n → made moment at n s ≡ closes s (busy_words moment at)
 made-busy moment at n s full = let test : nat_lt n session_limit ≡ false = grind (arith, nat_tests, full) in ap (λ (t : Bool). if t then greets at s else closes s (busy_words moment at)) test
 
-unmade-few : (moment : ℕ) (at : Door) (n : ℕ) (s : Standing) → n < session_limit → unmade moment at n s ≡ closes s (memory_words moment at)
+unmade-few : (moment : ℕ) (at : Door) (n : ℕ) (s : LastKnown) → n < session_limit → unmade moment at n s ≡ closes s (memory_words moment at)
 unmade-few moment at n s few = let test : nat_lt n session_limit ≡ true = grind (arith, nat_tests, few) in ap (λ (t : Bool). if t then closes s (memory_words moment at) else closes s (busy_words moment at)) test
 
 -- All around a connection that was refused.
-around-refused : (c : ℕ) (words : List ℕ) (s : Standing) (p : Places) (i j : Outer) → p.session c ≡ None → Refused c words i j → Around c (world_of s p i) (world_of s p j)
+around-refused : (c : ℕ) (words : List ℕ) (s : LastKnown) (p : OpenSessions) (i j : HostState) → p.session c ≡ None → Refused c words i j → Around c (world_of s p i) (world_of s p j)
 around-refused c words s p i j none refused = record {
   sessions = λ d other. refl;
   taken = refused.taken;
@@ -57,11 +57,11 @@ around-refused c words s p i j none refused = record {
 }
 
 -- A connection was closed after the last of its words was taken.
-closed-last : (c : ℕ) (i j k : Outer) → ((d : ℕ) → j.closed_at d ≡ i.closed_at d) → ((d : ℕ) → k.taken d ≡ j.taken d) → k.closed_at c ≡ closed_with (j.taken c) (j.closed_at c) → k.closed_at c ≡ closed_with (k.taken c) (i.closed_at c)
+closed-last : (c : ℕ) (i j k : HostState) → ((d : ℕ) → j.closed_at d ≡ i.closed_at d) → ((d : ℕ) → k.taken d ≡ j.taken d) → k.closed_at c ≡ closed_with (j.taken c) (j.closed_at c) → k.closed_at c ≡ closed_with (k.taken c) (i.closed_at c)
 closed-last c i j k kept same closed = closed ∙ ap (λ (t : Option (List ℕ)). closed_with t (j.closed_at c)) (sym (same c)) ∙ ap (λ (t : Option (List ℕ)). closed_with (k.taken c) t) (kept c)
 
 -- Words were written, and then the connection was closed.
-pub refused-closed : (c : ℕ) (words : List ℕ) (sent : Result Unit SinkFault) (i j k : Outer) → Says words (i.taken c) i.lost (j.taken c) j.lost sent → OthersKept c i.taken j.taken → ((d : ℕ) → j.closings d ≡ i.closings d) → ((d : ℕ) → k.taken d ≡ j.taken d) → OthersKept c j.closings k.closings
+pub refused-closed : (c : ℕ) (words : List ℕ) (sent : Result Unit SinkFault) (i j k : HostState) → Says words (i.taken c) i.lost (j.taken c) j.lost sent → OthersKept c i.taken j.taken → ((d : ℕ) → j.closings d ≡ i.closings d) → ((d : ℕ) → k.taken d ≡ j.taken d) → OthersKept c j.closings k.closings
     → k.closings c ≡ one_more (j.closings c) → k.lost ≡ j.lost → k.disk ≡ i.disk → ((d : ℕ) → j.closed_at d ≡ i.closed_at d) → OthersKept c j.closed_at k.closed_at → k.closed_at c ≡ closed_with (j.taken c) (j.closed_at c) → Refused c words i k
 refused-closed c words sent i j k said taken closings same others closed lost disk at_kept at_others at_closed = record {
   sent = sent;
@@ -75,7 +75,7 @@ refused-closed c words sent i j k said taken closings same others closed lost di
 }
 
 -- The acts of a refusal are those of the making.
-refusing : (moment : ℕ) (at : Door) (words : List ℕ) (c : ℕ) (p : Places) (i j : Outer) → p.session c ≡ None → Refused c words i j → ((s : Standing) → Acts (said_making moment at p.count s) (outside_at c i) None s (outside_at c j)) → Makes moment at c p i p j
+refusing : (moment : ℕ) (at : Door) (words : List ℕ) (c : ℕ) (p : OpenSessions) (i j : HostState) → p.session c ≡ None → Refused c words i j → ((s : LastKnown) → Acts (said_making moment at p.count s) (outside_at c i) None s (outside_at c j)) → MakesSession moment at c p i p j
 refusing moment at words c p i j none refused acts = λ s. record {
   acts = subst (λ (n : ℕ). Acts (said_making moment at n s) (outside_at c i) (p.session c) s (outside_at c j)) (sym (others-none c s p i none))
       (subst (λ (x : Option Session). Acts (said_making moment at p.count s) (outside_at c i) x s (outside_at c j)) (sym none) (acts s));
@@ -83,22 +83,22 @@ refusing moment at words c p i j none refused acts = λ s. record {
 }
 
 -- A server that is full refuses.
-pub makes-busy : (moment : ℕ) (at : Door) (c : ℕ) (p : Places) (i j : Outer) → p.session c ≡ None → session_limit ≤ p.count → Refused c (busy_words moment at) i j → Makes moment at c p i p j
+pub makes-busy : (moment : ℕ) (at : Door) (c : ℕ) (p : OpenSessions) (i j : HostState) → p.session c ≡ None → session_limit ≤ p.count → Refused c (busy_words moment at) i j → MakesSession moment at c p i p j
 makes-busy moment at c p i j none full refused = refusing moment at (busy_words moment at) c p i j none refused (λ s.
     acts-closing (said_making moment at p.count s) Plain (closes s (busy_words moment at)) (outside_at c i) (outside_at c j) s refused.sent (made-busy moment at p.count s full) refl refused.disk (omega (arith, refused.disk)) refused.said refl)
 
 -- So does one without memory.
-pub makes-starved : (moment : ℕ) (at : Door) (c : ℕ) (p : Places) (i j : Outer) → p.session c ≡ None → p.count < session_limit → Refused c (memory_words moment at) i j → Makes moment at c p i p j
+pub makes-starved : (moment : ℕ) (at : Door) (c : ℕ) (p : OpenSessions) (i j : HostState) → p.session c ≡ None → p.count < session_limit → Refused c (memory_words moment at) i j → MakesSession moment at c p i p j
 makes-starved moment at c p i j none few refused = refusing moment at (memory_words moment at) c p i j none refused (λ s.
     acts-closing (said_making moment at p.count s) Memory (closes s (memory_words moment at)) (outside_at c i) (outside_at c j) s refused.sent (unmade-few moment at p.count s few) refl refused.disk (omega (arith, refused.disk)) refused.said refl)
 
 -- And a door that isn't built.
-pub makes-unbuilt : (moment : ℕ) (at : Door) (c : ℕ) (p : Places) (i j : Outer) → ((s : Standing) → greets at s ≡ closes s (busy_words moment at)) → p.session c ≡ None → p.count < session_limit → Refused c (busy_words moment at) i j → Makes moment at c p i p j
+pub makes-unbuilt : (moment : ℕ) (at : Door) (c : ℕ) (p : OpenSessions) (i j : HostState) → ((s : LastKnown) → greets at s ≡ closes s (busy_words moment at)) → p.session c ≡ None → p.count < session_limit → Refused c (busy_words moment at) i j → MakesSession moment at c p i p j
 makes-unbuilt moment at c p i j unbuilt none few refused = refusing moment at (busy_words moment at) c p i j none refused (λ s.
     acts-closing (said_making moment at p.count s) Plain (closes s (busy_words moment at)) (outside_at c i) (outside_at c j) s refused.sent (made-few moment at p.count s few ∙ unbuilt s) refl refused.disk (omega (arith, refused.disk)) refused.said refl)
 
 -- All around a connection that got a session.
-around-placed : (c : ℕ) (start : Session) (s : Standing) (p q : Places) (i j : Outer) → p.session c ≡ None → q.session c ≡ Some start → OthersKept c p.session q.session → q.count ≡ p.count + 1 → OthersKept c i.taken j.taken → ((d : ℕ) → j.closings d ≡ i.closings d) → ((d : ℕ) → j.closed_at d ≡ i.closed_at d)
+around-placed : (c : ℕ) (start : Session) (s : LastKnown) (p q : OpenSessions) (i j : HostState) → p.session c ≡ None → q.session c ≡ Some start → OthersKept c p.session q.session → q.count ≡ p.count + 1 → OthersKept c i.taken j.taken → ((d : ℕ) → j.closings d ≡ i.closings d) → ((d : ℕ) → j.closed_at d ≡ i.closed_at d)
     → Around c (world_of s p i) (world_of s q j)
 around-placed c start s p q i j none some others count taken closings at_kept =
     let zero : one_if (p.session c) ≡ 0 = ap (λ (x : Option Session). one_if x) none in
@@ -114,7 +114,7 @@ around-placed c start s p q i j none some others count taken closings at_kept =
     }
 
 -- A door that doesn't greet makes its session without a word.
-pub makes-silent : (moment : ℕ) (at : Door) (start : Session) (c : ℕ) (p q : Places) (i : Outer) → ((s : Standing) → greets at s ≡ says s start []) → IsPlaced c p q → q.session c ≡ Some start → p.count < session_limit → Makes moment at c p i q i
+pub makes-silent : (moment : ℕ) (at : Door) (start : Session) (c : ℕ) (p q : OpenSessions) (i : HostState) → ((s : LastKnown) → greets at s ≡ says s start []) → GotSession c p q → q.session c ≡ Some start → p.count < session_limit → MakesSession moment at c p i q i
 makes-silent moment at start c p q i silent placed some few = λ s. record {
   acts = subst (λ (n : ℕ). Acts (said_making moment at n s) (outside_at c i) (q.session c) s (outside_at c i)) (sym (others-none c s p i placed.none))
       (acts-silent (said_making moment at p.count s) (says s start []) (outside_at c i) (outside_at c i) (q.session c) s (made-few moment at p.count s few ∙ silent s) refl refl refl refl some refl);
@@ -122,32 +122,32 @@ makes-silent moment at start c p q i silent placed some few = λ s. record {
 }
 
 -- An act that says the same in each way is one by the rules, where the disk's count stayed.
-acts-any : {H A : Type 0} (words other : Way → Said H A) (x : Said H A) (i : Outside) (held : Option H) (a : A) (j : Outside) → ((way : Way) → words way ≡ x) → x.streamed ≡ false → other Plain ≡ x → j.disk ≡ i.disk → Acts words i held a j → Acts other i held a j
+acts-any : {H A : Type 0} (words other : Departure → Said H A) (x : Said H A) (i : ConnectionState) (held : Option H) (a : A) (j : ConnectionState) → ((way : Departure) → words way ≡ x) → x.streamed ≡ false → other Plain ≡ x → j.disk ≡ i.disk → Acts words i held a j → Acts other i held a j
 acts-any {H} {A} words other x i held a j same whole plain kept acts = record { way = Plain; cause = kept; disk_later = acts.disk_later; lost_later = acts.lost_later; sent = by acts.way acts.sent }
   where
     short : SaidShort (words Plain) i held a j → ⊥
     short s = false≢true (sym whole ∙ ap (λ (y : Said H A). y.streamed) (sym (same Plain)) ∙ s.streamed)
 
-    stops : (way : Way) → StopsShort words way i held a j → ⊥
+    stops : (way : Departure) → StopsShort words way i held a j → ⊥
     stops Plain never = never
     stops Memory s = short s
     stops Disk s = short s
     stops Newer never = never
 
-    by : (way : Way) → Sent words way i held a j → Sent other Plain i held a j
+    by : (way : Departure) → Sent words way i held a j → Sent other Plain i held a j
     by way (inl s) = inl (subst (λ (y : Said H A). SaidWhole y i held a j) (same way ∙ sym plain) s)
     by way (inr (inl s)) = inr (inl (subst (λ (y : Said H A). SaidLost y i held a j) (same way ∙ sym plain) s))
     by way (inr (inr s)) = absurd (stops way s)
 
 -- The greeting of a reader is the making of its session.
-greeting-made : (moment n : ℕ) (s : Standing) (i j : Outside) (held : Option Reader) → n < session_limit → j.disk ≡ i.disk → Acts (greeting s.archive) i held s.archive j → Acts (said_making moment door.Nntp n s) i (held_over session.News held) s j
+greeting-made : (moment n : ℕ) (s : LastKnown) (i j : ConnectionState) (held : Option Reader) → n < session_limit → j.disk ≡ i.disk → Acts (greeting s.archive) i held s.archive j → Acts (said_making moment door.Nntp n s) i (held_over session.News held) s j
 greeting-made moment n s i j held few kept acts =
-    let lifted = acts-over (λ (x : Archive). s) session.News (greeting s.archive) (λ (way : Way). said_over (λ (x : Archive). s) session.News (greeting s.archive way)) i held s.archive j (λ way. refl) acts in
-    acts-any (λ (way : Way). said_over (λ (x : Archive). s) session.News (greeting s.archive way)) (said_making moment door.Nntp n s) (says s (session.News new_reader) welcome_line) i (held_over session.News held) s j (λ way. refl) refl (made-few moment door.Nntp n s few) kept lifted
+    let lifted = acts-over (λ (x : Archive). s) session.News (greeting s.archive) (λ (way : Departure). said_over (λ (x : Archive). s) session.News (greeting s.archive way)) i held s.archive j (λ way. refl) acts in
+    acts-any (λ (way : Departure). said_over (λ (x : Archive). s) session.News (greeting s.archive way)) (said_making moment door.Nntp n s) (says s (session.News new_reader) welcome_line) i (held_over session.News held) s j (λ way. refl) refl (made-few moment door.Nntp n s few) kept lifted
 
 -- A reader's session was made, and its greeting was sent.
-pub makes-news : (moment c : ℕ) (p q r : Places) (i j : Outer) (reader : Reader) → IsPlaced c p q → IsPut c (session.News reader) q r → p.count < session_limit → j.disk ≡ i.disk
-    → ((a : Archive) → Acts (greeting a) (outside_at c i) (Some reader) a (outside_at c j)) → OthersKept c i.taken j.taken → ((d : ℕ) → j.closings d ≡ i.closings d) → ((d : ℕ) → j.closed_at d ≡ i.closed_at d) → Makes moment door.Nntp c p i r j
+pub makes-news : (moment c : ℕ) (p q r : OpenSessions) (i j : HostState) (reader : Reader) → GotSession c p q → IsPut c (session.News reader) q r → p.count < session_limit → j.disk ≡ i.disk
+    → ((a : Archive) → Acts (greeting a) (outside_at c i) (Some reader) a (outside_at c j)) → OthersKept c i.taken j.taken → ((d : ℕ) → j.closings d ≡ i.closings d) → ((d : ℕ) → j.closed_at d ≡ i.closed_at d) → MakesSession moment door.Nntp c p i r j
 makes-news moment c p q r i j reader placed put few kept acts taken closings at_kept = λ s. record {
   acts = subst (λ (n : ℕ). Acts (said_making moment door.Nntp n s) (outside_at c i) (r.session c) s (outside_at c j)) (sym (others-none c s p i placed.none))
       (subst (λ (x : Option Session). Acts (said_making moment door.Nntp p.count s) (outside_at c i) x s (outside_at c j)) (sym put.here) (greeting-made moment p.count s (outside_at c i) (outside_at c j) (Some reader) few kept (acts s.archive)));
@@ -155,8 +155,8 @@ makes-news moment c p q r i j reader placed put few kept acts taken closings at_
 }
 
 -- Its greeting was lost, and it ended.
-pub makes-lost : (moment c : ℕ) (p q r : Places) (i j k : Outer) → IsPlaced c p q → Ends c q r → p.count < session_limit → j.disk ≡ i.disk → k.disk ≡ j.disk → k.lost ≡ j.lost → ((d : ℕ) → k.taken d ≡ j.taken d)
-    → ((a : Archive) → Acts (greeting a) (outside_at c i) None a (outside_at c j)) → OthersKept c i.taken j.taken → ((d : ℕ) → j.closings d ≡ i.closings d) → OthersKept c j.closings k.closings → k.closings c ≡ one_more (j.closings c) → ((d : ℕ) → j.closed_at d ≡ i.closed_at d) → OthersKept c j.closed_at k.closed_at → k.closed_at c ≡ closed_with (j.taken c) (j.closed_at c) → Makes moment door.Nntp c p i r k
+pub makes-lost : (moment c : ℕ) (p q r : OpenSessions) (i j k : HostState) → GotSession c p q → SessionEnds c q r → p.count < session_limit → j.disk ≡ i.disk → k.disk ≡ j.disk → k.lost ≡ j.lost → ((d : ℕ) → k.taken d ≡ j.taken d)
+    → ((a : Archive) → Acts (greeting a) (outside_at c i) None a (outside_at c j)) → OthersKept c i.taken j.taken → ((d : ℕ) → j.closings d ≡ i.closings d) → OthersKept c j.closings k.closings → k.closings c ≡ one_more (j.closings c) → ((d : ℕ) → j.closed_at d ≡ i.closed_at d) → OthersKept c j.closed_at k.closed_at → k.closed_at c ≡ closed_with (j.taken c) (j.closed_at c) → MakesSession moment door.Nntp c p i r k
 makes-lost moment c p q r i j k placed ends few kept disk lost same acts taken closings others closed at_kept at_others at_closed = λ s.
     let ended = ends in
     let zero : one_if (p.session c) ≡ 0 = ap (λ (x : Option Session). one_if x) placed.none in
@@ -164,7 +164,7 @@ makes-lost moment c p q r i j k placed ends few kept disk lost same acts taken c
     let none : one_if (r.session c) ≡ 0 = ap (λ (x : Option Session). one_if x) ended.gone in
     let out : outside_at c j ≡ outside_at c k = λ e. record { out = sym (same c) e; disk = sym disk e; lost = sym lost e } in
     let said = greeting-made moment p.count s (outside_at c i) (outside_at c j) None few kept (acts s.archive) in
-    let here = subst (λ (o : Outside). Acts (said_making moment door.Nntp p.count s) (outside_at c i) None s o) out said in
+    let here = subst (λ (o : ConnectionState). Acts (said_making moment door.Nntp p.count s) (outside_at c i) None s o) out said in
     record {
       acts = subst (λ (n : ℕ). Acts (said_making moment door.Nntp n s) (outside_at c i) (r.session c) s (outside_at c k)) (sym (others-none c s p i placed.none))
           (subst (λ (x : Option Session). Acts (said_making moment door.Nntp p.count s) (outside_at c i) x s (outside_at c k)) (sym ended.gone) here);
@@ -180,7 +180,7 @@ makes-lost moment c p q r i j k placed ends few kept disk lost same acts taken c
     }
 
 -- An open session of the connection ended first.
-pub makes-after : (moment : ℕ) (at : Door) (c : ℕ) (p q r : Places) (i j : Outer) → Ends c p q → Makes moment at c q i r j → Makes moment at c p i r j
+pub makes-after : (moment : ℕ) (at : Door) (c : ℕ) (p q r : OpenSessions) (i j : HostState) → SessionEnds c p q → MakesSession moment at c q i r j → MakesSession moment at c p i r j
 makes-after moment at c p q r i j ends makes = λ s.
     let ended = ends in
     let act = makes s in
@@ -200,30 +200,30 @@ makes-after moment at c p q r i j ends makes = λ s.
     }
 
 -- The same of lists of sessions of which one is the other.
-pub makes-unchanged : (moment : ℕ) (at : Door) (c : ℕ) (p : Places) (old new : List (ℕ × Session)) (i j : Outer) → new ≡ old → Makes moment at c p i (places_of old) j → Makes moment at c p i (places_of new) j
-makes-unchanged moment at c p old new i j same makes = subst (λ (sessions : List (ℕ × Session)). Makes moment at c p i (places_of sessions) j) (sym same) makes
+pub makes-unchanged : (moment : ℕ) (at : Door) (c : ℕ) (p : OpenSessions) (old new : List (ℕ × Session)) (i j : HostState) → new ≡ old → MakesSession moment at c p i (places_of old) j → MakesSession moment at c p i (places_of new) j
+makes-unchanged moment at c p old new i j same makes = subst (λ (sessions : List (ℕ × Session)). MakesSession moment at c p i (places_of sessions) j) (sym same) makes
 
 -- An end is one of a world.
-pub ended-world : (c : ℕ) (p q : Places) (s : Standing) (o : Outer) → Ends c p q → EndedAt c (world_of s p o) (world_of s q o)
+pub ended-world : (c : ℕ) (p q : OpenSessions) (s : LastKnown) (o : HostState) → SessionEnds c p q → EndedAt c (world_of s p o) (world_of s q o)
 ended-world c p q s o ends = record { standing = refl; gone = ends.gone; sessions = ends.sessions; count = ends.count; out = refl }
 
 -- What an event changes, whatever the keeper holds.
-module _ {K : Type 0} (arrival : Arrival) (c : ℕ) (old new : K) (p q : List (ℕ × Session)) (i j : Outer) where
+module _ {K : Type 0} (arrival : Arrival) (c : ℕ) (old new : K) (p q : List (ℕ × Session)) (i j : HostState) where
   -- No session took a piece.
   pub came-unfed : session_of p c ≡ None → TurnsStill arrival (serving old p) i (serving new q) j → CameAnyway (session_of p c) c arrival (serving old p) i (serving new q) j
   came-unfed none still = subst (λ (x : Option Session). CameAnyway x c arrival (serving old p) i (serving new q) j) (sym none) still
 
   -- One took it.
-  pub came-fed : (start : Session) → session_of p c ≡ Some start → ((s t : Standing) → Around c (world_of s (places_of p) i) (world_of t (places_of q) j)) → CameAnyway (session_of p c) c arrival (serving old p) i (serving new q) j
+  pub came-fed : (start : Session) → session_of p c ≡ Some start → ((s t : LastKnown) → Around c (world_of s (places_of p) i) (world_of t (places_of q) j)) → CameAnyway (session_of p c) c arrival (serving old p) i (serving new q) j
   came-fed start here around = subst (λ (x : Option Session). CameAnyway x c arrival (serving old p) i (serving new q) j) (sym here) around
 
 -- Turns.
-module _ {K : Type 0} (holds rests : K → Archive → Type 0) (ready : K → Bool) (leaves : K → K → List (Option Archive) → Type 0) where
-  pub crash-left : (old new : K) (s : Standing) (passed : List Standing) → Fits holds rests ready leaves old s → Passes leaves old new (s ∷ passed) → leaves old new (archives_of (s ∷ passed))
+module _ {K : Type 0} (holds files_are : K → Archive → Type 0) (ready : K → Bool) (leaves : K → K → List (Option Archive) → Type 0) where
+  pub crash-left : (old new : K) (s : LastKnown) (passed : List LastKnown) → MatchesKnown holds files_are ready leaves old s → CrashesLeaveOnly leaves old new (s ∷ passed) → leaves old new (archives_of (s ∷ passed))
   crash-left old new s passed fits passes = let own = all-own (s ∷ passed) in passes old (archives_of (s ∷ passed)) own (fits.left (archives_of (s ∷ passed)) own.0)
 
   -- A turn that leaves the keeper.
-  pub turns-still : (arrival : Arrival) (s : Standing) (k : K) (p q : List (ℕ × Session)) (i j : Outer) → Fits holds rests ready leaves k s → Turned arrival (world_of s (places_of p) i) [] (world_of s (places_of q) j) → TurnsTo holds rests ready leaves arrival s (serving k p) i (serving k q) j
+  pub turns-still : (arrival : Arrival) (s : LastKnown) (k : K) (p q : List (ℕ × Session)) (i j : HostState) → MatchesKnown holds files_are ready leaves k s → Turned arrival (world_of s (places_of p) i) [] (world_of s (places_of q) j) → TurnsTo holds files_are ready leaves arrival s (serving k p) i (serving k q) j
   turns-still arrival s k p q i j fits turned = record {
     after = s;
     fits = fits;
@@ -234,13 +234,13 @@ module _ {K : Type 0} (holds rests : K → Archive → Type 0) (ready : K → Bo
   }
 
   -- Nothing happened.
-  pub same-world : (s : Standing) (p : Places) (i : Outer) → Same (world_of s p i) (world_of s p i)
+  pub same-world : (s : LastKnown) (p : OpenSessions) (i : HostState) → Same (world_of s p i) (world_of s p i)
   same-world s p i = record { standing = refl; sessions = λ c. refl; count = refl; out = refl }
 
   -- A session took a piece.
-  pub turns-fed : (moment c len : ℕ) (piece : List ℕ) (start : Session) (s : Standing) (old new : K) (p q : List (ℕ × Session)) (i j : Outer) (goes_on : Bool) (left : Session) → session_of p c ≡ Some start → session_of q c ≡ held_if goes_on left
-      → FedFrom holds rests ready leaves moment (Came start piece) s old (outside_at c i) goes_on left new (outside_at c j) → ((t : Standing) → Around c (world_of s (places_of p) i) (world_of t (places_of q) j)) → Fits holds rests ready leaves old s
-      → TurnsTo holds rests ready leaves (record { moment = moment; what = what.Bytes c len }, piece) s (serving old p) i (serving new q) j
+  pub turns-fed : (moment c len : ℕ) (piece : List ℕ) (start : Session) (s : LastKnown) (old new : K) (p q : List (ℕ × Session)) (i j : HostState) (goes_on : Bool) (left : Session) → session_of p c ≡ Some start → session_of q c ≡ held_if goes_on left
+      → FedFrom holds files_are ready leaves moment (Came start piece) s old (outside_at c i) goes_on left new (outside_at c j) → ((t : LastKnown) → Around c (world_of s (places_of p) i) (world_of t (places_of q) j)) → MatchesKnown holds files_are ready leaves old s
+      → TurnsTo holds files_are ready leaves (record { moment = moment; what = what.Bytes c len }, piece) s (serving old p) i (serving new q) j
   turns-fed moment c len piece start s old new p q i j goes_on left here kept fed around fits =
       let passed = afters (fed.course.acts ++ talk fed.held fed.after (outside_at c j) ∷ []) in
       let at : FedAt moment c start piece (world_of s (places_of p) i) passed (world_of fed.after (places_of q) j) = record {
@@ -263,7 +263,7 @@ module _ {K : Type 0} (holds rests : K → Archive → Type 0) (ready : K → Bo
       }
 
 -- All around a session that goes on.
-pub around-went : (c : ℕ) (start left : Session) (s t : Standing) (p q : Places) (i j : Outer) → p.session c ≡ Some start → IsPut c left p q → OthersKept c i.taken j.taken → ((d : ℕ) → j.closings d ≡ i.closings d) → ((d : ℕ) → j.closed_at d ≡ i.closed_at d) → Around c (world_of s p i) (world_of t q j)
+pub around-went : (c : ℕ) (start left : Session) (s t : LastKnown) (p q : OpenSessions) (i j : HostState) → p.session c ≡ Some start → IsPut c left p q → OthersKept c i.taken j.taken → ((d : ℕ) → j.closings d ≡ i.closings d) → ((d : ℕ) → j.closed_at d ≡ i.closed_at d) → Around c (world_of s p i) (world_of t q j)
 around-went c start left s t p q i j here put taken closings at_kept =
     let one : one_if (p.session c) ≡ 1 = ap (λ (x : Option Session). one_if x) here in
     let still : one_if (q.session c) ≡ 1 = ap (λ (x : Option Session). one_if x) put.here in
@@ -278,7 +278,7 @@ around-went c start left s t p q i j here put taken closings at_kept =
     }
 
 -- All around one that ended.
-pub around-shut : (c : ℕ) (start left : Session) (s t : Standing) (p q r : Places) (i j k : Outer) → p.session c ≡ Some start → IsPut c left p q → Ends c q r → OthersKept c i.taken j.taken → ((d : ℕ) → j.closings d ≡ i.closings d) → ((d : ℕ) → k.taken d ≡ j.taken d) → OthersKept c j.closings k.closings
+pub around-shut : (c : ℕ) (start left : Session) (s t : LastKnown) (p q r : OpenSessions) (i j k : HostState) → p.session c ≡ Some start → IsPut c left p q → SessionEnds c q r → OthersKept c i.taken j.taken → ((d : ℕ) → j.closings d ≡ i.closings d) → ((d : ℕ) → k.taken d ≡ j.taken d) → OthersKept c j.closings k.closings
     → k.closings c ≡ one_more (j.closings c) → ((d : ℕ) → j.closed_at d ≡ i.closed_at d) → OthersKept c j.closed_at k.closed_at → k.closed_at c ≡ closed_with (j.taken c) (j.closed_at c) → Around c (world_of s p i) (world_of t r k)
 around-shut c start left s t p q r i j k here put ends taken closings same others closed at_kept at_others at_closed =
     let ended = ends in

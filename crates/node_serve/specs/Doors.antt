@@ -2,11 +2,11 @@
 use Rattle.std.specs.Prelude.{ℕ, Bool, true, nat_lt, List, [], ◌++◌, Option, Some, None, if◌then◌else◌}
 use Rattle.edge_io.specs.declared.events.Door.{Door}
 use Rattle.edge_io.specs.declared.events.Door.TheVariants as door
-use Rattle.line_door.specs.Acts.{Said, Way}
+use Rattle.line_door.specs.Acts.{Said, Departure}
 use Rattle.line_door.specs.Making.{says, closes, in_ways}
 use Rattle.line_door.specs.Over.{said_over}
 use Rattle.arch_model.specs.Archives.{Archive}
-use Rattle.arch_model.specs.Standing.{Standing, standing}
+use Rattle.arch_model.specs.Standing.{LastKnown, standing}
 use Rattle.arch_model.specs.declared.opening.OpenRefusal.{OpenRefusal}
 use Rattle.answer_lines.specs.Lines as lines
 use Rattle.keep_course.specs.Answering.{said_reopening}
@@ -23,27 +23,27 @@ use Rattle.node_serve.specs.declared.session.Session.TheVariants as session
 
 -- A session at work on a piece. The archive has yet to be reopened before the piece, or the door's
 -- acts are under way.
-pub data Held : Type 0 where
-  Came : Session → List ℕ → Held
-  AtControl : Waiting → Held
-  AtNews : Reader → Held
-  AtHttp : List ℕ → Held
+pub data SessionAtWork : Type 0 where
+  Came : Session → List ℕ → SessionAtWork
+  AtControl : Waiting → SessionAtWork
+  AtNews : Reader → SessionAtWork
+  AtHttp : List ℕ → SessionAtWork
 
 -- The session with a piece after its bytes, once the archive was reopened.
-abbrev pub with_piece : Session → List ℕ → Held
+abbrev pub with_piece : Session → List ℕ → SessionAtWork
 with_piece (session.Control bytes) piece = AtControl (waiting (bytes ++ piece) true)
 with_piece (session.News reader) piece = AtNews (news.with_piece piece reader)
 with_piece (session.Http bytes) piece = AtHttp (pages.with_piece piece bytes)
 
 -- The session between two pieces.
-abbrev pub rest_of : Held → Session
+abbrev pub rest_of : SessionAtWork → Session
 rest_of (Came start piece) = start
 rest_of (AtControl w) = session.Control w.bytes
 rest_of (AtNews reader) = session.News reader
 rest_of (AtHttp bytes) = session.Http bytes
 
 -- The session between two pieces, if it is open.
-abbrev pub rest_if : Option Held → Option Session
+abbrev pub rest_if : Option SessionAtWork → Option Session
 rest_if None = None
 rest_if (Some h) = Some (rest_of h)
 
@@ -57,19 +57,19 @@ unopened_words moment (session.Http bytes) why = unopened_word why moment
 -- or the one in doubt; or it is refused, and the door's word for that is said, and the connection is
 -- closed. Each request is then answered as its door does. What the head of a request for a page asks
 -- is `asked_in` of its bytes.
-abbrev pub said : ℕ → Standing → Held → Way → Said Held Standing
+abbrev pub said : ℕ → LastKnown → SessionAtWork → Departure → Said SessionAtWork LastKnown
 said moment s (Came start piece) way =
     said_reopening (unopened_words moment start) s (with_piece start piece) way
 said moment s (AtControl w) way =
-    said_over (λ (t : Standing). t) AtControl (control.said moment s w way)
+    said_over (λ (t : LastKnown). t) AtControl (control.said moment s w way)
 said moment s (AtNews reader) way =
-    said_over (λ (a : Archive). standing a s.doubt) AtNews (news.said moment s.archive reader way)
-said moment s (AtHttp bytes) way = said_over (λ (a : Archive). standing a s.doubt) AtHttp
+    said_over (λ (a : Archive). standing a s.in_doubt) AtNews (news.said moment s.archive reader way)
+said moment s (AtHttp bytes) way = said_over (λ (a : Archive). standing a s.in_doubt) AtHttp
     (pages.said moment s.archive bytes way)
 
 -- Something is to be done before a rest is kept: the archive is to be reopened, or a whole request is
 -- at the front.
-abbrev pub is_asked : Held → Bool
+abbrev pub is_asked : SessionAtWork → Bool
 is_asked (Came start piece) = true
 is_asked (AtControl w) = control.has_request w
 is_asked (AtNews reader) = news.has_request reader
@@ -95,23 +95,23 @@ memory_words moment door.Imap = []
 
 -- A new session of a door, and its greeting. The control door and the door of pages have none. A
 -- connection at a door that isn't built is closed without a word.
-abbrev pub greets : Door → Standing → Said Session Standing
+abbrev pub greets : Door → LastKnown → Said Session LastKnown
 greets door.Control s = says s (session.Control []) []
 greets door.Http s = says s (session.Http []) []
 greets door.Nntp s = says s (session.News new_reader) welcome_line
 greets door.Imap s = closes s []
 
 -- A session is made, or refused because as many others are open as there may be.
-abbrev pub made : ℕ → Door → ℕ → Standing → Said Session Standing
+abbrev pub made : ℕ → Door → ℕ → LastKnown → Said Session LastKnown
 made moment at others s =
     if nat_lt others session_limit then greets at s else closes s (busy_words moment at)
 
 -- Out of memory for a session, the door's word for that is said.
-abbrev pub unmade : ℕ → Door → ℕ → Standing → Said Session Standing
+abbrev pub unmade : ℕ → Door → ℕ → LastKnown → Said Session LastKnown
 unmade moment at others s = if nat_lt others session_limit
     then closes s (memory_words moment at) else closes s (busy_words moment at)
 
 -- What the making of a session says at a moment, by how many others are open. It reads no disk.
-abbrev pub said_making : ℕ → Door → ℕ → Standing → Way → Said Session Standing
+abbrev pub said_making : ℕ → Door → ℕ → LastKnown → Departure → Said Session LastKnown
 said_making moment at others s way = in_ways (made moment at others s) (unmade moment at others s)
     (made moment at others s) way

@@ -3,27 +3,27 @@ use Rattle.std.specs.Prelude.{◌≡◌, ◌<◌, ℕ, List, [], ◌∷◌}
 use Rattle.edge_io.specs.Scripts.{Arrival}
 use Rattle.edge_io.specs.declared.events.What.{What}
 use Rattle.edge_io.specs.declared.events.What.TheVariants as what
-use Rattle.node_serve.specs.Plain.{IsCounted, PlainServed, plain_turns, last_world}
+use Rattle.node_serve.specs.Plain.{CountsSessions, PlainServed, plain_turns, last_world}
 use Rattle.node_serve.specs.Turns.{Turn, Served}
-use Rattle.node_serve.specs.World.{World, open_below}
+use Rattle.node_serve.specs.World.{NodeState, open_below}
 
 -- The connection of an event has a number below the given one.
-abbrev pub IsBelow : ℕ → What → Type 0
-IsBelow n (what.Opened c door) = c < n
-IsBelow n (what.Bytes c len) = c < n
-IsBelow n (what.Ended c) = c < n
-IsBelow n what.Quiet = Unit {0}
-IsBelow n what.Stop = Unit {0}
+abbrev pub HasConnectionBelow : ℕ → What → Type 0
+HasConnectionBelow n (what.Opened c door) = c < n
+HasConnectionBelow n (what.Bytes c len) = c < n
+HasConnectionBelow n (what.Ended c) = c < n
+HasConnectionBelow n what.Quiet = Unit {0}
+HasConnectionBelow n what.Stop = Unit {0}
 
 -- So have those of all events.
 abbrev pub AreBelow : ℕ → List Arrival → Type 0
 AreBelow n [] = Unit {0}
-AreBelow n (e ∷ es) = IsBelow n e.0.what × AreBelow n es
+AreBelow n (e ∷ es) = HasConnectionBelow n e.0.what × AreBelow n es
 
 -- While events are served, the count of a world stays the number of connections that have an open
 -- session.
 abbrev pub CountsOpen : Type 0
-CountsOpen = (n : ℕ) (es : List Arrival) (w : World) (ts : List Turn) (v : World)
+CountsOpen = (n : ℕ) (es : List Arrival) (w : NodeState) (ts : List Turn) (v : NodeState)
     → AreBelow n es → Served es w ts v → w.count ≡ open_below n w.session
     → v.count ≡ open_below n v.session
 
@@ -31,21 +31,21 @@ CountsOpen = (n : ℕ) (es : List Arrival) (w : World) (ts : List Turn) (v : Wor
 -- act goes by the rules and all its words are taken.
 pub record PlainLaws : Type 0 where
   -- It is such a way,
-  pub made : (es : List Arrival) (w : World) → IsCounted w
+  pub made : (es : List Arrival) (w : NodeState) → CountsSessions w
       → PlainServed es w (plain_turns es w) (last_world w (plain_turns es w))
   -- and no other is.
-  pub only : (es : List Arrival) (w : World) (ts : List Turn) (v : World) → PlainServed es w ts v
+  pub only : (es : List Arrival) (w : NodeState) (ts : List Turn) (v : NodeState) → PlainServed es w ts v
       → (ts ≡ plain_turns es w) × (v ≡ last_world w ts)
   -- Such a way is one of those that the rules of all acts allow.
-  pub served : (es : List Arrival) (w : World) (ts : List Turn) (v : World) → PlainServed es w ts v
+  pub served : (es : List Arrival) (w : NodeState) (ts : List Turn) (v : NodeState) → PlainServed es w ts v
       → Served es w ts v
   -- In it the disk doesn't fail, and no send is lost.
-  pub unfailed : (es : List Arrival) (w : World) (ts : List Turn) (v : World)
+  pub unfailed : (es : List Arrival) (w : NodeState) (ts : List Turn) (v : NodeState)
       → PlainServed es w ts v → (v.out.disk ≡ w.out.disk) × (v.out.lost ≡ w.out.lost)
 
 -- So the plain function of events serves them, without a failure.
 abbrev pub PlainIsServed : Type 0
-PlainIsServed = (es : List Arrival) (w : World) → IsCounted w
+PlainIsServed = (es : List Arrival) (w : NodeState) → CountsSessions w
     → Served es w (plain_turns es w) (last_world w (plain_turns es w))
     × ((last_world w (plain_turns es w)).out.disk ≡ w.out.disk)
     × ((last_world w (plain_turns es w)).out.lost ≡ w.out.lost)

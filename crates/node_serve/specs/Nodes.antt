@@ -5,27 +5,27 @@ use Rattle.std.specs.BTreeMap.{is_at}
 use Rattle.std.specs.Map.{lookup}
 use Rattle.arch_base.specs.Counts.{Rose}
 use Rattle.edge_io.specs.Frames.{Outputs, outputs}
-use Rattle.edge_io.specs.Hosts.{Told, then_given, before_left, NoneLeft, OthersKept, one_more, closed_with}
+use Rattle.edge_io.specs.Hosts.{ToldEvents, then_given, before_left, NoneLeft, OthersKept, one_more, closed_with}
 use Rattle.edge_io.specs.Phrases.{Says}
 use Rattle.edge_io.specs.Scripts.{Arrival}
 use Rattle.edge_io.specs.declared.events.Door.{Door}
 use Rattle.edge_io.specs.declared.events.What.{What}
 use Rattle.edge_io.specs.declared.events.What.TheVariants as what
 use Rattle.edge_io.specs.declared.sink.SinkFault.{SinkFault}
-use Rattle.line_door.specs.Acts.{Outside, Way, held_if}
+use Rattle.line_door.specs.Acts.{ConnectionState, Departure, held_if}
 use Rattle.line_door.specs.Course.{talk}
 use Rattle.keep_course.specs.Answering as answering
-use Rattle.keep_course.specs.Courses.{Course, archives_of}
+use Rattle.keep_course.specs.Courses.{SessionRun, archives_of}
 use Rattle.control_door.specs.Counting.{Meets, asks_for}
 use Rattle.nntp_reader.specs.Counting.{ReadsLines}
 use Rattle.http_front.specs.Sessions.{ReadsBytes, ReadsNothing}
 use Rattle.arch_model.specs.Archives.{Archive}
-use Rattle.arch_model.specs.Keeping.{Passes, Fits}
-use Rattle.arch_model.specs.Standing.{Standing}
-use Rattle.node_serve.specs.Doors.{Held, Came, rest_if, said, is_asked, with_piece, said_making}
-use Rattle.node_serve.specs.Ends.{EndsBy, given_after, before_all, is_stop}
+use Rattle.arch_model.specs.Keeping.{CrashesLeaveOnly, MatchesKnown}
+use Rattle.arch_model.specs.Standing.{LastKnown}
+use Rattle.node_serve.specs.Doors.{SessionAtWork, Came, rest_if, said, is_asked, with_piece, said_making}
+use Rattle.node_serve.specs.Ends.{ServingEnds, given_after, before_all, is_stop}
 use Rattle.node_serve.specs.Turns.{Turn, Turned, Served, passed_in, outputs_of, outputs_before}
-use Rattle.node_serve.specs.World.{Outer, World, ActAt, Around, others_open, one_if}
+use Rattle.node_serve.specs.World.{HostState, NodeState, ActAt, Around, others_open, one_if}
 use Rattle.node_serve.specs.declared.session.Session.{Session}
 use Rattle.node_serve.specs.declared.session.Session.TheVariants as kind
 use Rattle.node_serve.specs.declared.serving.ServeEnd.{ServeEnd}
@@ -33,7 +33,7 @@ use Rattle.node_serve.specs.declared.serving.Taken.{Taken}
 use Rattle.node_serve.specs.declared.serving.Taken.TheVariants.{Went, Stops, Nothing, Fault}
 
 -- The session of each connection that has one, and how many these are.
-pub record Places : Type 0 where
+pub record OpenSessions : Type 0 where
   pub session : ℕ → Option Session
   pub count : ℕ
 
@@ -42,7 +42,7 @@ abbrev pub session_of : List (ℕ × Session) → ℕ → Option Session
 session_of sessions c = lookup (is_at (nat_cmp c)) sessions
 
 -- The sessions of such a list.
-abbrev pub places_of : List (ℕ × Session) → Places
+abbrev pub places_of : List (ℕ × Session) → OpenSessions
 places_of sessions = record { session = session_of sessions; count = length sessions }
 
 -- A keeper, and the open sessions over it, each with its connection.
@@ -55,15 +55,15 @@ abbrev pub serving : {K : Type 0} → K → List (ℕ × Session) → Serving K
 serving keep sessions = record { keep = keep; sessions = sessions }
 
 -- The open sessions of a node.
-abbrev pub places_in : {K : Type 0} → Serving K → Places
+abbrev pub places_in : {K : Type 0} → Serving K → OpenSessions
 places_in node = places_of node.sessions
 
 -- The world of open sessions and what is outside of them, where the keeper stands so.
-abbrev pub world_of : Standing → Places → Outer → World
+abbrev pub world_of : LastKnown → OpenSessions → HostState → NodeState
 world_of s p o = record { standing = s; session = p.session; count = p.count; out = o }
 
 -- A connection was refused: words of a door were written to it, and then it was closed.
-pub record Refused (c : ℕ) (words : List ℕ) (i j : Outer) : Type 0 where
+pub record Refused (c : ℕ) (words : List ℕ) (i j : HostState) : Type 0 where
   pub sent : Result Unit SinkFault
   pub said : Says words (i.taken c) i.lost (j.taken c) j.lost sent
   pub taken : OthersKept c i.taken j.taken
@@ -74,19 +74,19 @@ pub record Refused (c : ℕ) (words : List ℕ) (i j : Outer) : Type 0 where
   pub closed_at_others : OthersKept c i.closed_at j.closed_at
 
 -- A session of a door was made at a connection at a moment, or refused.
-abbrev pub Makes : ℕ → Door → ℕ → Places → Outer → Places → Outer → Type 0
-Makes moment door c p i q j = (s : Standing)
+abbrev pub MakesSession : ℕ → Door → ℕ → OpenSessions → HostState → OpenSessions → HostState → Type 0
+MakesSession moment door c p i q j = (s : LastKnown)
     → ActAt c (said_making moment door (others_open c (world_of s p i)) s) (world_of s p i)
     (world_of s q j)
 
 -- The session of a connection ended, if it had one.
-pub record Ends (c : ℕ) (p q : Places) : Type 0 where
+pub record SessionEnds (c : ℕ) (p q : OpenSessions) : Type 0 where
   pub gone : q.session c ≡ None
   pub sessions : OthersKept c p.session q.session
   pub count : q.count + one_if (p.session c) ≡ p.count
 
 -- A connection without a session got one, whichever it is.
-pub record IsPlaced (c : ℕ) (p q : Places) : Type 0 where
+pub record GotSession (c : ℕ) (p q : OpenSessions) : Type 0 where
   pub none : p.session c ≡ None
   pub first : Session
   pub some : q.session c ≡ Some first
@@ -94,7 +94,7 @@ pub record IsPlaced (c : ℕ) (p q : Places) : Type 0 where
   pub count : q.count ≡ p.count + 1
 
 -- The session of a connection is another one.
-pub record IsPut (c : ℕ) (start : Session) (p q : Places) : Type 0 where
+pub record IsPut (c : ℕ) (start : Session) (p q : OpenSessions) : Type 0 where
   pub here : q.session c ≡ Some start
   pub others : OthersKept c p.session q.session
   pub count : q.count ≡ p.count
@@ -102,56 +102,56 @@ pub record IsPut (c : ℕ) (start : Session) (p q : Places) : Type 0 where
 -- What connections had taken, how often each was closed, and how many sends were lost, each time that
 -- a host was asked for the next event and answered: before each of these turns, and at the end if it
 -- answered that none is left.
-abbrev pub outputs_asked : Bool → World → List Turn → World → List Outputs
+abbrev pub outputs_asked : Bool → NodeState → List Turn → NodeState → List Outputs
 outputs_asked true w ts v = outputs_before w ts ++ outputs_of v ∷ []
 outputs_asked false w ts v = outputs_before w ts
 
 -- Nothing happened at a host or a node.
-pub record TookNone {K : Type 0} (old : Serving K) (i : Outer) (new : Serving K) (j : Outer)
-    (given given' left left' : Told) : Type 0 where
+pub record TookNone {K : Type 0} (old : Serving K) (i : HostState) (new : Serving K) (j : HostState)
+    (given given' left left' : ToldEvents) : Type 0 where
   pub node_kept : new ≡ old
   pub out_kept : j ≡ i
   pub given_kept : given' ≡ given
   pub left_kept : left' ≡ left
 
 -- An event was taken to its end without the keeper, which stays: so it was over any archive.
-pub record TurnsStill {K : Type 0} (arrival : Arrival) (old : Serving K) (i : Outer)
-    (new : Serving K) (j : Outer) : Type 0 where
+pub record TurnsStill {K : Type 0} (arrival : Arrival) (old : Serving K) (i : HostState)
+    (new : Serving K) (j : HostState) : Type 0 where
   pub kept : new.keep ≡ old.keep
-  pub turned : (s : Standing) → Turned arrival (world_of s (places_in old) i) []
+  pub turned : (s : LastKnown) → Turned arrival (world_of s (places_in old) i) []
       (world_of s (places_in new) j)
 
 -- A piece came to a connection, and whatever the keeper answered, that is all that changed: other
 -- connections stay, this one is closed exactly where it has no session left, and the count of open
 -- sessions is right. Without a session the piece is skipped.
-abbrev pub CameAnyway : {K : Type 0} → Option Session → ℕ → Arrival → Serving K → Outer → Serving K
-    → Outer → Type 0
+abbrev pub CameAnyway : {K : Type 0} → Option Session → ℕ → Arrival → Serving K → HostState → Serving K
+    → HostState → Type 0
 CameAnyway None c arrival old i new j = TurnsStill arrival old i new j
 CameAnyway (Some start) c arrival old i new j =
-    (s t : Standing) → Around c (world_of s (places_in old) i) (world_of t (places_in new) j)
+    (s t : LastKnown) → Around c (world_of s (places_in old) i) (world_of t (places_in new) j)
 
 -- What an event changes, by what it says happened. This asks nothing of the keeper: it is so where no
 -- archive is held, too, as after a file was found damaged.
-abbrev pub AnywayBy : {K : Type 0} → What → Arrival → Serving K → Outer → Serving K → Outer → Type 0
+abbrev pub AnywayBy : {K : Type 0} → What → Arrival → Serving K → HostState → Serving K → HostState → Type 0
 AnywayBy (what.Bytes c len) arrival old i new j =
     CameAnyway ((places_in old).session c) c arrival old i new j
 AnywayBy other arrival old i new j = TurnsStill arrival old i new j
 
 -- The same of an event.
-abbrev pub TurnsAnyway : {K : Type 0} → Arrival → Serving K → Outer → Serving K → Outer → Type 0
+abbrev pub TurnsAnyway : {K : Type 0} → Arrival → Serving K → HostState → Serving K → HostState → Type 0
 TurnsAnyway arrival old i new j = AnywayBy arrival.0.what arrival old i new j
 
 -- A node and what is outside of it, between two turns.
 pub record Stage (K : Type 0) : Type 0 where
   pub node : Serving K
-  pub out : Outer
+  pub out : HostState
 
 -- The stage of these two parts.
-abbrev pub stage : {K : Type 0} → Serving K → Outer → Stage K
+abbrev pub stage : {K : Type 0} → Serving K → HostState → Stage K
 stage node out = record { node = node; out = out }
 
 -- The world at a stage, where the keeper stands so.
-abbrev pub world_at : {K : Type 0} → Standing → Stage K → World
+abbrev pub world_at : {K : Type 0} → LastKnown → Stage K → NodeState
 world_at s p = world_of s (places_in p.node) p.out
 
 -- Each of these events does this, from one stage to the next.
@@ -209,79 +209,81 @@ module _ {K : Type 0} (holds : K → Archive → Type 0) (ready : K → Bool) (r
       ready old ≡ true → ReadsAt moment start piece old new
 
   -- The same of what happened. Only a piece reads.
-  abbrev pub ReadsBy : ℕ → What → List ℕ → Serving K → Serving K → Type 0
-  ReadsBy moment (what.Bytes c len) piece old new =
+  abbrev pub ReadsForEvent : ℕ → What → List ℕ → Serving K → Serving K → Type 0
+  ReadsForEvent moment (what.Bytes c len) piece old new =
       ReadsCame moment ((places_in old).session c) piece old.keep new.keep
-  ReadsBy moment other piece old new = reads new.keep ≡ reads old.keep
+  ReadsForEvent moment other piece old new = reads new.keep ≡ reads old.keep
 
   -- The same of an event, from one stage to the next.
   abbrev pub GoesReading : Arrival → Stage K → Stage K → Type 0
-  GoesReading arrival p q = ReadsBy arrival.0.moment arrival.0.what arrival.1 p.node q.node
+  GoesReading arrival p q = ReadsForEvent arrival.0.moment arrival.0.what arrival.1 p.node q.node
 
 -- A keeper: the archives that it holds, those of which its files are exactly, whether it is ready, and
 -- what each crash since a state may have left.
-module _ {K : Type 0} (holds rests : K → Archive → Type 0) (ready : K → Bool)
+module _ {K : Type 0} (holds files_are : K → Archive → Type 0) (ready : K → Bool)
     (leaves : K → K → List (Option Archive) → Type 0) where
-  -- Whatever the keeper fits, it is reopened before a piece, or that is refused and the session's
+  -- Whatever the keeper matches, it is reopened before a piece, or that is refused and the session's
   -- door says so.
-  abbrev pub Opens : ℕ → Session → K → Outside → Bool → K → Outside → Type 0
-  Opens moment start old i goes_on new j = answering.Opens holds rests ready leaves
-      (λ (s : Standing) (piece : List ℕ) (way : Way). said moment s (Came start piece) way)
+  abbrev pub ReopensForPiece : ℕ → Session → K → ConnectionState → Bool → K → ConnectionState → Type 0
+  ReopensForPiece moment start old i goes_on new j = answering.ReopensBy holds files_are ready leaves
+      (λ (s : LastKnown) (piece : List ℕ) (way : Departure). said moment s (Came start piece) way)
       (λ (piece : List ℕ). with_piece start piece) old i goes_on new j
 
-  -- Whatever the keeper fits, a session takes a piece by a course, and the keeper fits what that
+  -- Whatever the keeper matches, a session takes a piece by a course, and the keeper matches what that
   -- leaves.
-  pub record FedFrom (moment : ℕ) (start : Held) (s : Standing) (old : K) (i : Outside)
-      (goes_on : Bool) (left : Session) (new : K) (j : Outside) : Type 0 where
-    pub after : Standing
-    pub fits : Fits holds rests ready leaves new after
-    pub held : Option Held
+  pub record FedFrom (moment : ℕ) (start : SessionAtWork) (s : LastKnown) (old : K) (i : ConnectionState)
+      (goes_on : Bool) (left : Session) (new : K) (j : ConnectionState) : Type 0 where
+    pub after : LastKnown
+    pub fits : MatchesKnown holds files_are ready leaves new after
+    pub held : Option SessionAtWork
     pub rest_is : held_if goes_on left ≡ rest_if held
-    pub course : Course leaves (said moment) is_asked old new (talk (Some start) s i)
+    pub course : SessionRun leaves (said moment) is_asked old new (talk (Some start) s i)
         (talk held after j)
 
   -- The same of a session before a piece, whose archive has yet to be reopened.
-  abbrev pub Feeds : ℕ → Session → List ℕ → K → Outside → Bool → Session → K → Outside → Type 0
-  Feeds moment start piece old i goes_on left new j = (s : Standing) → Fits holds rests ready leaves old s
+  abbrev pub AnswersPiece : ℕ → Session → List ℕ → K → ConnectionState → Bool → Session → K
+      → ConnectionState → Type 0
+  AnswersPiece moment start piece old i goes_on left new j = (s : LastKnown)
+      → MatchesKnown holds files_are ready leaves old s
       → FedFrom moment (Came start piece) s old i goes_on left new j
 
   -- A node took an event to its end. A crash since it began leaves an archive that stood before it
   -- or after one of its acts, or one that was in doubt there.
-  pub record TurnsTo (arrival : Arrival) (s : Standing) (old : Serving K) (i : Outer)
-      (new : Serving K) (j : Outer) : Type 0 where
-    pub after : Standing
-    pub fits : Fits holds rests ready leaves new.keep after
-    pub passed : List Standing
+  pub record TurnsTo (arrival : Arrival) (s : LastKnown) (old : Serving K) (i : HostState)
+      (new : Serving K) (j : HostState) : Type 0 where
+    pub after : LastKnown
+    pub fits : MatchesKnown holds files_are ready leaves new.keep after
+    pub passed : List LastKnown
     pub turned : Turned arrival (world_of s (places_in old) i) passed (world_of after (places_in new) j)
-    pub passes : Passes leaves old.keep new.keep (s ∷ passed)
+    pub passes : CrashesLeaveOnly leaves old.keep new.keep (s ∷ passed)
     pub crash : leaves old.keep new.keep (archives_of (s ∷ passed))
 
-  -- Whatever the node's keeper fits, this is so.
-  abbrev pub Turns : Arrival → Serving K → Outer → Serving K → Outer → Type 0
-  Turns arrival old i new j = (s : Standing) → Fits holds rests ready leaves old.keep s
+  -- Whatever the node's keeper matches, this is so.
+  abbrev pub Turns : Arrival → Serving K → HostState → Serving K → HostState → Type 0
+  Turns arrival old i new j = (s : LastKnown) → MatchesKnown holds files_are ready leaves old.keep s
       → TurnsTo arrival s old i new j
 
   -- A keeper went from one state to another by these turns, through these stages. After each it fits
   -- what stands then, and a crash within a turn leaves an archive that stood before it or after one of
   -- its acts, or one that was in doubt there.
-  abbrev pub StepsTo : K → Standing → List (Stage K) → List Turn → K → Type 0
+  abbrev pub StepsTo : K → LastKnown → List (Stage K) → List Turn → K → Type 0
   StepsTo old s [] [] new = new ≡ old
   StepsTo old s [] (t ∷ ts) new = ⊥
   StepsTo old s (m ∷ ms) [] new = ⊥
-  StepsTo old s (m ∷ ms) (t ∷ ts) new = Fits holds rests ready leaves m.node.keep t.after.standing
-      × Passes leaves old m.node.keep (s ∷ t.passed)
+  StepsTo old s (m ∷ ms) (t ∷ ts) new = MatchesKnown holds files_are ready leaves m.node.keep t.after.standing
+      × CrashesLeaveOnly leaves old m.node.keep (s ∷ t.passed)
       × StepsTo m.node.keep t.after.standing ms ts new
 
   -- A node took these events to their end, one after another, through these stages.
-  pub record RunsTo (arrivals : List Arrival) (s : Standing) (old : Serving K) (i : Outer)
-      (stages : List (Stage K)) (new : Serving K) (j : Outer) : Type 0 where
-    pub after : Standing
-    pub fits : Fits holds rests ready leaves new.keep after
+  pub record RunsTo (arrivals : List Arrival) (s : LastKnown) (old : Serving K) (i : HostState)
+      (stages : List (Stage K)) (new : Serving K) (j : HostState) : Type 0 where
+    pub after : LastKnown
+    pub fits : MatchesKnown holds files_are ready leaves new.keep after
     pub turns : List Turn
     pub served : Served arrivals (world_of s (places_in old) i) turns (world_of after (places_in new) j)
     pub at : AreAt stages turns
     pub steps : StepsTo old.keep s stages turns new.keep
-    pub passes : Passes leaves old.keep new.keep (s ∷ passed_in turns)
+    pub passes : CrashesLeaveOnly leaves old.keep new.keep (s ∷ passed_in turns)
     pub crash : leaves old.keep new.keep (archives_of (s ∷ passed_in turns))
 
   -- With the keeper's count of reads.
@@ -290,25 +292,25 @@ module _ {K : Type 0} (holds rests : K → Archive → Type 0) (ready : K → Bo
     -- the keeper holds, an event changes nothing of other connections, and reads no more than it asks
     -- for. The host, whose records these are, was asked before each event, when all before it had been
     -- answered, and at the end if it then answered that none is left.
-    pub record ServesTo (end : ServeEnd) (turns : ℕ) (old : Serving K) (i : Outer) (new : Serving K)
-        (j : Outer) (given given' left left' : Told) (faults faults' : ℕ)
+    pub record ServesTo (end : ServeEnd) (turns : ℕ) (old : Serving K) (i : HostState) (new : Serving K)
+        (j : HostState) (given given' left left' : ToldEvents) (faults faults' : ℕ)
         (recorded recorded' : List Outputs → Type 0) : Type 0 where
       pub arrivals : List Arrival
       pub given_is : given' ≡ given_after given arrivals
       pub left_is : left ≡ before_all arrivals left'
       pub none : Bool
-      pub ends : EndsBy end none arrivals turns left' faults faults'
+      pub ends : ServingEnds end none arrivals turns left' faults faults'
       pub stages : List (Stage K)
       pub anyway : Along GoesAnyway arrivals (stage old i) stages (stage new j)
       pub reads_few : Along (GoesReading holds ready reads) arrivals (stage old i) stages (stage new j)
       pub records : (past : List Outputs) → recorded past
           → recorded' (past ++ outputs_noted none (stage old i) stages (stage new j))
-      pub runs : (s : Standing) → Fits holds rests ready leaves old.keep s
+      pub runs : (s : LastKnown) → MatchesKnown holds files_are ready leaves old.keep s
           → RunsTo arrivals s old i stages new j
 
     -- An event was taken from the host, and to its end.
-    pub record TookOne (old : Serving K) (i : Outer) (new : Serving K) (j : Outer)
-        (given given' left left' : Told) (recorded recorded' : List Outputs → Type 0) (stops : Bool)
+    pub record TookOne (old : Serving K) (i : HostState) (new : Serving K) (j : HostState)
+        (given given' left left' : ToldEvents) (recorded recorded' : List Outputs → Type 0) (stops : Bool)
         : Type 0 where
       pub arrival : Arrival
       pub given_is : given' ≡ then_given given arrival
@@ -321,7 +323,8 @@ module _ {K : Type 0} (holds rests : K → Archive → Type 0) (ready : K → Bo
           → recorded' (past ++ outputs_at (stage old i) ∷ [])
 
     -- An event was taken, which is a stop or is none; or none is left; or the host failed.
-    abbrev pub TakesOne : Taken → Serving K → Outer → Serving K → Outer → Told → Told → Told → Told → ℕ
+    abbrev pub TakesOne : Taken → Serving K → HostState → Serving K → HostState → ToldEvents
+        → ToldEvents → ToldEvents → ToldEvents → ℕ
         → ℕ → (List Outputs → Type 0) → (List Outputs → Type 0) → Type 0
     TakesOne Went old i new j given given' left left' faults faults' recorded recorded' =
         TookOne old i new j given given' left left' recorded recorded' false

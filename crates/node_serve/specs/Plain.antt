@@ -5,34 +5,34 @@ use Rattle.edge_io.specs.Scripts.{Arrival}
 use Rattle.edge_io.specs.Taken.{plus}
 use Rattle.edge_io.specs.declared.events.What.{What}
 use Rattle.edge_io.specs.declared.events.What.TheVariants as what
-use Rattle.line_door.specs.Acts.{Said, Way, Plain, PlainActs}
-use Rattle.line_door.specs.Course.{Talk, talk, PlainRequests, PlainLast}
+use Rattle.line_door.specs.Acts.{Said, Departure, Plain, PlainActs}
+use Rattle.line_door.specs.Course.{SessionState, talk, PlainRequests, PlainLast}
 use Rattle.line_door.specs.Plain.{plain}
 use Rattle.keep_course.specs.Courses.{afters}
-use Rattle.arch_model.specs.Standing.{Standing}
+use Rattle.arch_model.specs.Standing.{LastKnown}
 use Rattle.control_door.specs.Door as control
 use Rattle.nntp_reader.specs.Door as news
 use Rattle.node_serve.specs.declared.session.Session.{Session}
-use Rattle.node_serve.specs.Doors.{Held, Came, AtControl, AtNews, AtHttp, with_piece, rest_if, said, is_asked, said_making}
+use Rattle.node_serve.specs.Doors.{SessionAtWork, Came, AtControl, AtNews, AtHttp, with_piece, rest_if, said, is_asked, said_making}
 use Rattle.node_serve.specs.Turns.{Turn}
-use Rattle.node_serve.specs.World.{World, outer, Around, Same, EndedAt, outside_at, others_open, one_if, closed_if, closed_at_if, open_below}
+use Rattle.node_serve.specs.World.{NodeState, outer, Around, Same, EndedAt, outside_at, others_open, one_if, closed_if, closed_at_if, open_below}
 
 -- The size of a session at its door. Each request that leaves it open makes it smaller.
-abbrev pub size_at_door : Held → ℕ
+abbrev pub size_at_door : SessionAtWork → ℕ
 size_at_door (Came start piece) = 0
 size_at_door (AtControl w) = control.left w
 size_at_door (AtNews reader) = news.left reader
 size_at_door (AtHttp bytes) = length bytes
 
 -- The size of a session at work, which the reopening before a piece makes smaller, too.
-abbrev pub size_of : Held → ℕ
+abbrev pub size_of : SessionAtWork → ℕ
 size_of (Came start piece) = suc (size_at_door (with_piece start piece))
 size_of (AtControl w) = control.left w
 size_of (AtNews reader) = news.left reader
 size_of (AtHttp bytes) = length bytes
 
 -- What a piece says: the answers to its whole requests in order, after which the rest is kept.
-abbrev pub piece_said : ℕ → Standing → Held → Said Held Standing
+abbrev pub piece_said : ℕ → LastKnown → SessionAtWork → Said SessionAtWork LastKnown
 piece_said moment s held = plain (said moment) is_asked size_of s held
 
 -- What stands after an act, and after those that follow it, unless it closes the session.
@@ -47,18 +47,18 @@ passed_if false s a more = a ∷ []
 
 -- What stands after each act of a piece: after each of at most `n` requests, and after the rest, unless
 -- a request closes the session.
-abbrev pub passed_from : {H A : Type 0} → (A → H → Way → Said H A) → (H → Bool) → ℕ → A → H → List A
+abbrev pub passed_from : {H A : Type 0} → (A → H → Departure → Said H A) → (H → Bool) → ℕ → A → H → List A
 passed_from said is_request zero a h = a ∷ []
 passed_from said is_request (suc n) a h =
     passed_if (is_request h) (said a h Plain) a (passed_from said is_request n)
 
 -- The same for all requests of a session, which are no more than its size.
-unfoldable pub passed_by : {H A : Type 0} → (A → H → Way → Said H A) → (H → Bool) → (H → ℕ) → A → H
+unfoldable pub passed_by : {H A : Type 0} → (A → H → Departure → Said H A) → (H → Bool) → (H → ℕ) → A → H
     → List A
 passed_by said is_request size a h = passed_from said is_request (suc (size h)) a h
 
 -- How the archive stands after each act of a piece.
-abbrev pub piece_passed : ℕ → Standing → Held → List Standing
+abbrev pub piece_passed : ℕ → LastKnown → SessionAtWork → List LastKnown
 piece_passed moment s held = passed_by (said moment) is_asked size_of s held
 
 -- The value at this number is this one, and the others stay.
@@ -66,13 +66,13 @@ abbrev pub set_at : {X : Type 0} → ℕ → X → (ℕ → X) → ℕ → X
 set_at c x f d = if d == c then x else f d
 
 -- The same words, over the sessions between two pieces.
-abbrev pub between_pieces : Said Held Standing → Said Session Standing
+abbrev pub between_pieces : Said SessionAtWork LastKnown → Said Session LastKnown
 between_pieces s =
     record { next = rest_if s.next; words = s.words; streamed = s.streamed; after = s.after }
 
 -- The world after all these words reached a connection. The connection is closed if they leave no
 -- session.
-abbrev pub after_said : ℕ → Said Session Standing → World → World
+abbrev pub after_said : ℕ → Said Session LastKnown → NodeState → NodeState
 after_said c s w = record {
   standing = s.after;
   session = set_at c s.next w.session;
@@ -84,7 +84,7 @@ after_said c s w = record {
 }
 
 -- The world after the session of a connection ended without a word, if it had one.
-abbrev pub after_end : ℕ → World → World
+abbrev pub after_end : ℕ → NodeState → NodeState
 after_end c w = record {
   standing = w.standing;
   session = set_at c None w.session;
@@ -93,18 +93,18 @@ after_end c w = record {
 }
 
 -- The turn after whose acts the archive stood so, and after which this is the world.
-abbrev pub turn_to : List Standing → World → Turn
+abbrev pub turn_to : List LastKnown → NodeState → Turn
 turn_to passed v = record { passed = passed; after = v }
 
 -- A piece that came to a session, if there is one.
-abbrev pub plain_piece : Option Session → ℕ → ℕ → List ℕ → World → Turn
+abbrev pub plain_piece : Option Session → ℕ → ℕ → List ℕ → NodeState → Turn
 plain_piece None moment c piece w = turn_to [] w
 plain_piece (Some start) moment c piece w =
     turn_to (piece_passed moment w.standing (Came start piece))
     (after_said c (between_pieces (piece_said moment w.standing (Came start piece))) w)
 
 -- What happened at a moment.
-abbrev pub plain_event : What → ℕ → List ℕ → World → Turn
+abbrev pub plain_event : What → ℕ → List ℕ → NodeState → Turn
 plain_event (what.Opened c door) moment piece w =
     turn_to [] (after_said c (said_making moment door (others_open c w) w.standing Plain) w)
 plain_event (what.Bytes c len) moment piece w = plain_piece (w.session c) moment c piece w
@@ -113,37 +113,37 @@ plain_event what.Quiet moment piece w = turn_to [] w
 plain_event what.Stop moment piece w = turn_to [] w
 
 -- One event, with its piece, by the rules.
-abbrev pub plain_turn : Arrival → World → Turn
+abbrev pub plain_turn : Arrival → NodeState → Turn
 plain_turn arrival w = plain_event arrival.0.what arrival.0.moment arrival.1 w
 
 -- These events in order, by the rules.
-abbrev pub plain_turns : List Arrival → World → List Turn
+abbrev pub plain_turns : List Arrival → NodeState → List Turn
 plain_turns [] w = []
 plain_turns (arrival ∷ arrivals) w =
     plain_turn arrival w ∷ plain_turns arrivals (plain_turn arrival w).after
 
 -- The world after these turns.
-abbrev pub last_world : World → List Turn → World
+abbrev pub last_world : NodeState → List Turn → NodeState
 last_world w [] = w
 last_world w (t ∷ ts) = last_world t.after ts
 
 -- At least as many sessions are counted as are open.
-abbrev pub IsCounted : World → Type 0
-IsCounted w = (n : ℕ) → open_below n w.session ≤ w.count
+abbrev pub CountsSessions : NodeState → Type 0
+CountsSessions w = (n : ℕ) → open_below n w.session ≤ w.count
 
 -- The relation.
 
 -- One act on a connection by the rules, all of whose words were taken.
-pub record PlainActAt (c : ℕ) (s : Said Session Standing) (w v : World) : Type 0 where
+pub record PlainActAt (c : ℕ) (s : Said Session LastKnown) (w v : NodeState) : Type 0 where
   pub acts : PlainActs s (outside_at c w.out) (v.session c) v.standing (outside_at c v.out)
   pub around : Around c w v
 
 -- A piece came to the session of a connection, and each of its acts is a plain one.
-pub record PlainFedAt (moment c : ℕ) (start : Session) (piece : List ℕ) (w : World)
-    (passed : List Standing) (v : World) : Type 0 where
-  pub held : Option Held
-  pub acts : List (Talk Held Standing)
-  pub before : Talk Held Standing
+pub record PlainFedAt (moment c : ℕ) (start : Session) (piece : List ℕ) (w : NodeState)
+    (passed : List LastKnown) (v : NodeState) : Type 0 where
+  pub held : Option SessionAtWork
+  pub acts : List (SessionState SessionAtWork LastKnown)
+  pub before : SessionState SessionAtWork LastKnown
   pub each : PlainRequests (said moment) is_asked
       (talk (Some (Came start piece)) w.standing (outside_at c w.out)) acts before
   pub last : PlainLast (said moment) is_asked before
@@ -153,12 +153,12 @@ pub record PlainFedAt (moment c : ℕ) (start : Session) (piece : List ℕ) (w :
   pub passed_is : passed ≡ afters (acts ++ talk held v.standing (outside_at c v.out) ∷ [])
 
 -- A piece came to a connection, and each of its acts is a plain one. Without a session it is skipped.
-abbrev pub PlainCameTo : Option Session → ℕ → ℕ → List ℕ → World → List Standing → World → Type 0
+abbrev pub PlainCameTo : Option Session → ℕ → ℕ → List ℕ → NodeState → List LastKnown → NodeState → Type 0
 PlainCameTo None moment c piece w passed v = Same w v × (passed ≡ [])
 PlainCameTo (Some start) moment c piece w passed v = PlainFedAt moment c start piece w passed v
 
 -- What happened at a moment, by plain acts.
-abbrev pub PlainTurnedBy : What → ℕ → List ℕ → World → List Standing → World → Type 0
+abbrev pub PlainTurnedBy : What → ℕ → List ℕ → NodeState → List LastKnown → NodeState → Type 0
 PlainTurnedBy (what.Opened c door) moment piece w passed v =
     PlainActAt c (said_making moment door (others_open c w) w.standing Plain) w v × (passed ≡ [])
 PlainTurnedBy (what.Bytes c len) moment piece w passed v =
@@ -168,12 +168,12 @@ PlainTurnedBy what.Quiet moment piece w passed v = Same w v × (passed ≡ [])
 PlainTurnedBy what.Stop moment piece w passed v = Same w v × (passed ≡ [])
 
 -- One event, each of whose acts is a plain one.
-abbrev pub PlainTurned : Arrival → World → List Standing → World → Type 0
+abbrev pub PlainTurned : Arrival → NodeState → List LastKnown → NodeState → Type 0
 PlainTurned arrival w passed v =
     PlainTurnedBy arrival.0.what arrival.0.moment arrival.1 w passed v
 
 -- These events in order, each with such a turn.
-abbrev pub PlainServed : List Arrival → World → List Turn → World → Type 0
+abbrev pub PlainServed : List Arrival → NodeState → List Turn → NodeState → Type 0
 PlainServed [] w [] v = v ≡ w
 PlainServed [] w (t ∷ ts) v = ⊥
 PlainServed (arrival ∷ arrivals) w [] v = ⊥

@@ -5,21 +5,21 @@ use Rattle.edge_io.specs.Scripts.{Arrival}
 use Rattle.edge_io.specs.Frames.{Outputs, outputs}
 use Rattle.edge_io.specs.declared.events.What.{What}
 use Rattle.edge_io.specs.declared.events.What.TheVariants as what
-use Rattle.line_door.specs.Course.{Talk, talk, Requests, Last}
+use Rattle.line_door.specs.Course.{SessionState, talk, Requests, Last}
 use Rattle.keep_course.specs.Courses.{afters}
-use Rattle.arch_model.specs.Standing.{Standing}
+use Rattle.arch_model.specs.Standing.{LastKnown}
 use Rattle.node_serve.specs.declared.session.Session.{Session}
-use Rattle.node_serve.specs.Doors.{Held, Came, rest_if, said, is_asked, said_making}
-use Rattle.node_serve.specs.World.{World, ActAt, Same, EndedAt, Around, outside_at, others_open}
+use Rattle.node_serve.specs.Doors.{SessionAtWork, Came, rest_if, said, is_asked, said_making}
+use Rattle.node_serve.specs.World.{NodeState, ActAt, Same, EndedAt, Around, outside_at, others_open}
 
 -- A piece came to the session of a connection. The archive was reopened, the whole requests were
 -- answered in order, and the rest was kept, unless an act closed the connection. Nothing else of the
 -- world changed. `passed` is how the archive stood after each act.
-pub record FedAt (moment c : ℕ) (start : Session) (piece : List ℕ) (w : World)
-    (passed : List Standing) (v : World) : Type 0 where
-  pub held : Option Held
-  pub acts : List (Talk Held Standing)
-  pub before : Talk Held Standing
+pub record FedAt (moment c : ℕ) (start : Session) (piece : List ℕ) (w : NodeState)
+    (passed : List LastKnown) (v : NodeState) : Type 0 where
+  pub held : Option SessionAtWork
+  pub acts : List (SessionState SessionAtWork LastKnown)
+  pub before : SessionState SessionAtWork LastKnown
   pub each : Requests (said moment) is_asked
       (talk (Some (Came start piece)) w.standing (outside_at c w.out)) acts before
   pub last : Last (said moment) is_asked before (talk held v.standing (outside_at c v.out))
@@ -28,13 +28,13 @@ pub record FedAt (moment c : ℕ) (start : Session) (piece : List ℕ) (w : Worl
   pub passed_is : passed ≡ afters (acts ++ talk held v.standing (outside_at c v.out) ∷ [])
 
 -- A piece came to a connection. Without a session it is skipped.
-abbrev pub CameTo : Option Session → ℕ → ℕ → List ℕ → World → List Standing → World → Type 0
+abbrev pub CameTo : Option Session → ℕ → ℕ → List ℕ → NodeState → List LastKnown → NodeState → Type 0
 CameTo None moment c piece w passed v = Same w v × (passed ≡ [])
 CameTo (Some start) moment c piece w passed v = FedAt moment c start piece w passed v
 
 -- What happened at a moment. A connection that opens ends an open session of its own without a word;
 -- then its session is made, which greets, or is refused.
-abbrev pub TurnedBy : What → ℕ → List ℕ → World → List Standing → World → Type 0
+abbrev pub TurnedBy : What → ℕ → List ℕ → NodeState → List LastKnown → NodeState → Type 0
 TurnedBy (what.Opened c door) moment piece w passed v =
     ActAt c (said_making moment door (others_open c w) w.standing) w v × (passed ≡ [])
 TurnedBy (what.Bytes c len) moment piece w passed v =
@@ -44,17 +44,17 @@ TurnedBy what.Quiet moment piece w passed v = Same w v × (passed ≡ [])
 TurnedBy what.Stop moment piece w passed v = Same w v × (passed ≡ [])
 
 -- One event, with its piece.
-abbrev pub Turned : Arrival → World → List Standing → World → Type 0
+abbrev pub Turned : Arrival → NodeState → List LastKnown → NodeState → Type 0
 Turned arrival w passed v =
     TurnedBy arrival.0.what arrival.0.moment arrival.1 w passed v
 
 -- One event of many: how the archive stood after each of its acts, and the world after it.
 pub record Turn : Type 0 where
-  pub passed : List Standing
-  pub after : World
+  pub passed : List LastKnown
+  pub after : NodeState
 
 -- These events in order, each with its turn.
-abbrev pub Served : List Arrival → World → List Turn → World → Type 0
+abbrev pub Served : List Arrival → NodeState → List Turn → NodeState → Type 0
 Served [] w [] v = v ≡ w
 Served [] w (t ∷ ts) v = ⊥
 Served (arrival ∷ arrivals) w [] v = ⊥
@@ -62,15 +62,15 @@ Served (arrival ∷ arrivals) w (t ∷ ts) v =
     Turned arrival w t.passed t.after × Served arrivals t.after ts v
 
 -- How the archive stood after each act of these turns.
-abbrev pub passed_in : List Turn → List Standing
+abbrev pub passed_in : List Turn → List LastKnown
 passed_in [] = []
 passed_in (t ∷ ts) = t.passed ++ passed_in ts
 
 -- What connections had taken, how often each was closed, and how many sends were lost, in a world.
-abbrev pub outputs_of : World → Outputs
+abbrev pub outputs_of : NodeState → Outputs
 outputs_of w = outputs w.out.taken w.out.closings w.out.lost
 
 -- The same before each of these turns.
-abbrev pub outputs_before : World → List Turn → List Outputs
+abbrev pub outputs_before : NodeState → List Turn → List Outputs
 outputs_before w [] = []
 outputs_before w (t ∷ ts) = outputs_of w ∷ outputs_before t.after ts

@@ -1,13 +1,13 @@
 -- The world of a server, and what an act on one connection may do to it.
 use Rattle.std.specs.Prelude.{◌≡◌, ◌+◌, ◌-◌, ℕ, zero, suc, List, Option, Some, None}
 use Rattle.edge_io.specs.Hosts.{OthersKept, one_more, closed_with}
-use Rattle.line_door.specs.Acts.{Outside, Said, Way, Acts, outside}
-use Rattle.arch_model.specs.Standing.{Standing}
+use Rattle.line_door.specs.Acts.{ConnectionState, Said, Departure, Acts, outside}
+use Rattle.arch_model.specs.Standing.{LastKnown}
 use Rattle.node_serve.specs.declared.session.Session.{Session}
 
 -- What connections took and how often each was closed, if that is told, the disk's count of faults,
 -- the count of lost sends, and what each connection had taken when it was last closed, if told.
-pub record Outer : Type 0 where
+pub record HostState : Type 0 where
   pub taken : ℕ → Option (List ℕ)
   pub closings : ℕ → Option ℕ
   pub disk : ℕ
@@ -15,7 +15,7 @@ pub record Outer : Type 0 where
   pub closed_at : ℕ → Option (List ℕ)
 
 -- The outside of these five parts.
-abbrev pub outer : (ℕ → Option (List ℕ)) → (ℕ → Option ℕ) → ℕ → ℕ → (ℕ → Option (List ℕ)) → Outer
+abbrev pub outer : (ℕ → Option (List ℕ)) → (ℕ → Option ℕ) → ℕ → ℕ → (ℕ → Option (List ℕ)) → HostState
 outer taken closings disk lost closed_at = record {
   taken = taken;
   closings = closings;
@@ -26,14 +26,14 @@ outer taken closings disk lost closed_at = record {
 
 -- The archive, with the one in doubt, if any; the session of each connection, if it is open; how many
 -- sessions are open; and the outside.
-pub record World : Type 0 where
-  pub standing : Standing
+pub record NodeState : Type 0 where
+  pub standing : LastKnown
   pub session : ℕ → Option Session
   pub count : ℕ
-  pub out : Outer
+  pub out : HostState
 
 -- The outside as the acts of one connection see it.
-abbrev pub outside_at : ℕ → Outer → Outside
+abbrev pub outside_at : ℕ → HostState → ConnectionState
 outside_at c o = outside (o.taken c) o.disk o.lost
 
 -- 1 for a session that is open, otherwise 0.
@@ -42,7 +42,7 @@ one_if None = 0
 one_if (Some x) = 1
 
 -- How many sessions of other connections are open.
-abbrev pub others_open : ℕ → World → ℕ
+abbrev pub others_open : ℕ → NodeState → ℕ
 others_open c w = w.count - one_if (w.session c)
 
 -- The closings of a connection, after one more if no session is left of it.
@@ -59,7 +59,7 @@ closed_at_if (Some start) taken before = before
 -- What an act on a connection leaves beside what it says there: the sessions and the outside of other
 -- connections stay, the connection is closed if no session is left of it, after all that is said
 -- there, and the count of open sessions is kept right.
-pub record Around (c : ℕ) (w v : World) : Type 0 where
+pub record Around (c : ℕ) (w v : NodeState) : Type 0 where
   pub sessions : OthersKept c w.session v.session
   pub taken : OthersKept c w.out.taken v.out.taken
   pub closings : OthersKept c w.out.closings v.out.closings
@@ -70,19 +70,19 @@ pub record Around (c : ℕ) (w v : World) : Type 0 where
   pub closed_at_others : OthersKept c w.out.closed_at v.out.closed_at
 
 -- One act on a connection, which says these words there.
-pub record ActAt (c : ℕ) (words : Way → Said Session Standing) (w v : World) : Type 0 where
+pub record ActAt (c : ℕ) (words : Departure → Said Session LastKnown) (w v : NodeState) : Type 0 where
   pub acts : Acts words (outside_at c w.out) (v.session c) v.standing (outside_at c v.out)
   pub around : Around c w v
 
 -- Nothing happened.
-pub record Same (w v : World) : Type 0 where
+pub record Same (w v : NodeState) : Type 0 where
   pub standing : v.standing ≡ w.standing
   pub sessions : (c : ℕ) → v.session c ≡ w.session c
   pub count : v.count ≡ w.count
   pub out : v.out ≡ w.out
 
 -- The session of a connection ended without a word, if it had one.
-pub record EndedAt (c : ℕ) (w v : World) : Type 0 where
+pub record EndedAt (c : ℕ) (w v : NodeState) : Type 0 where
   pub standing : v.standing ≡ w.standing
   pub gone : v.session c ≡ None
   pub sessions : OthersKept c w.session v.session

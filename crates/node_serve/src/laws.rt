@@ -1,4 +1,5 @@
 //! The law of the count of open sessions, and the laws of the plain function.
+//! Pure.
 ghost use Rattle.node_serve.specs.Laws.{CountsOpen, PlainLaws};
 
 /// Shows that the count of a world stays the number of connections that have an open session.

@@ -1,5 +1,7 @@
-//! Serves many connections from one archive: a node takes events one by one, each to its end, and
-//! keeps the sessions of all doors.
+//! Serves many connections from one archive.
+//! Writes the disk; syncs.
+//!
+//! A node takes events one by one, each to its end, and keeps the sessions of all doors.
 #![tactic(auto)]
 
 mod laws;

@@ -1,9 +1,10 @@
 //! A node: a keeper, and the sessions of all connections over it.
+//! Writes the disk; syncs.
 ghost use Rattle.std.specs.Prelude.{◌≡◌, ◌≤◌, ℕ, length, None};
 ghost use Rattle.arch_base.specs.Moments.{last_moment};
 ghost use Rattle.edge_io.specs.Events.{piece_len};
 ghost use Rattle.edge_io.specs.Hosts.{SameEvents};
-ghost use Rattle.node_serve.specs.Nodes.{Turns, TurnsAnyway, ReadsBy, places_in};
+ghost use Rattle.node_serve.specs.Nodes.{Turns, TurnsAnyway, ReadsForEvent, places_in};
 ghost use Rattle.node_serve.specs.World.{outer};
 
 use crate::places::{Sessions, admit, end, feed};
@@ -81,7 +82,7 @@ impl<K: Keep> Node<K> {
     pub fn turn<H: Host>(&mut self, event: &Event, piece: &[u8], host: &mut H)
         requires moment { event.now.moment ≤ last_moment }
         requires whole { length piece.now ≡ piece_len event.now.what }
-        ensures turned { Turns K.holds K.rests K.ready K.leaves (event.now, piece.now) self.old
+        ensures turned { Turns K.holds K.files_are K.ready K.leaves (event.now, piece.now) self.old
             (outer (H.taken host.old) (H.closings host.old) (K.faults self.old.keep)
             (H.lost host.old) (H.closed_at host.old)) self.new
             (outer (H.taken host.new) (H.closings host.new) (K.faults self.new.keep)
@@ -91,7 +92,7 @@ impl<K: Keep> Node<K> {
             (H.lost host.old) (H.closed_at host.old)) self.new
             (outer (H.taken host.new) (H.closings host.new) (K.faults self.new.keep)
             (H.lost host.new) (H.closed_at host.new)) }
-        ensures reads { ReadsBy K.holds K.ready K.reads event.now.moment event.now.what piece.now
+        ensures reads { ReadsForEvent K.holds K.ready K.reads event.now.moment event.now.what piece.now
             self.old self.new }
         ensures later { K.faults self.old.keep ≤ K.faults self.new.keep }
         ensures events { SameEvents H.left H.given H.recorded H.faults host.old host.new }

@@ -1,12 +1,13 @@
 //! The sessions of connections: how each is made, answers its pieces, and ends.
+//! Writes the disk; syncs.
 ghost use Rattle.std.specs.Prelude.{◌≡◌, ◌≤◌, ◌<◌, ℕ, [], None};
 ghost use Rattle.arch_base.specs.Moments.{last_moment};
-ghost use Rattle.arch_model.specs.Standing.{Standing};
+ghost use Rattle.arch_model.specs.Standing.{LastKnown};
 ghost use Rattle.edge_io.specs.Hosts.{SameEvents};
 ghost use Rattle.edge_io.specs.declared.events.What.TheVariants.{Bytes};
 ghost use Rattle.line_door.specs.Making.{says};
 ghost use Rattle.node_serve.specs.Doors.{session_limit, greets};
-ghost use Rattle.node_serve.specs.Nodes.{Places, Makes, Ends, IsPlaced, IsPut, Turns, TurnsAnyway, ReadsCame, places_of, serving};
+ghost use Rattle.node_serve.specs.Nodes.{OpenSessions, MakesSession, SessionEnds, GotSession, IsPut, Turns, TurnsAnyway, ReadsCame, places_of, serving};
 ghost use Rattle.node_serve.specs.World.{outer};
 
 use crate::session::{Session, feed_one};
@@ -26,7 +27,7 @@ pub(crate) type Sessions = BTreeMap<u32, Session>;
 
 /// Ends the session of a connection without a word, if it has one.
 pub(crate) fn end(conn: u32, sessions: &mut Sessions)
-    ensures { Ends conn (places_of sessions.old.entries) (places_of sessions.new.entries) }
+    ensures { SessionEnds conn (places_of sessions.old.entries) (places_of sessions.new.entries) }
 {
     let _ = sessions.remove(&conn);
 }
@@ -41,7 +42,7 @@ pub(crate) fn admit<H: Host>(
     host: &mut H,
 )
     requires moment { moment ≤ last_moment }
-    ensures made { (disk : ℕ) → Makes moment door conn (places_of sessions.old.entries)
+    ensures made { (disk : ℕ) → MakesSession moment door conn (places_of sessions.old.entries)
         (outer (H.taken host.old) (H.closings host.old) disk (H.lost host.old)
         (H.closed_at host.old))
         (places_of sessions.new.entries)
@@ -79,10 +80,10 @@ fn open_silent<H: Host>(
     host: &mut H,
 )
     requires moment { moment ≤ last_moment }
-    requires silent { (s : Standing) → greets door s ≡ says s session [] }
+    requires silent { (s : LastKnown) → greets door s ≡ says s session [] }
     requires none { (places_of sessions.old.entries).session conn ≡ None }
     requires few { (places_of sessions.old.entries).count < session_limit }
-    ensures made { (disk : ℕ) → Makes moment door conn (places_of sessions.old.entries)
+    ensures made { (disk : ℕ) → MakesSession moment door conn (places_of sessions.old.entries)
         (outer (H.taken host.old) (H.closings host.old) disk (H.lost host.old)
         (H.closed_at host.old))
         (places_of sessions.new.entries)
@@ -104,7 +105,7 @@ fn open_news<H: Host>(alloc: Global, conn: u32, moment: u64, sessions: &mut Sess
     requires moment { moment ≤ last_moment }
     requires none { (places_of sessions.old.entries).session conn ≡ None }
     requires few { (places_of sessions.old.entries).count < session_limit }
-    ensures made { (disk : ℕ) → Makes moment Door.Nntp conn (places_of sessions.old.entries)
+    ensures made { (disk : ℕ) → MakesSession moment Door.Nntp conn (places_of sessions.old.entries)
         (outer (H.taken host.old) (H.closings host.old) disk (H.lost host.old)
         (H.closed_at host.old))
         (places_of sessions.new.entries)
@@ -121,8 +122,8 @@ fn open_news<H: Host>(alloc: Global, conn: u32, moment: u64, sessions: &mut Sess
 /// Opens a session of a reader in the place of the one that a connection has, and greets. If the
 /// greeting is lost, the connection is closed and has no session.
 fn greet<H: Host>(alloc: Global, conn: u32, sessions: &mut Sessions, host: &mut H)
-    ensures made { (disk moment : ℕ) (p : Places) → IsPlaced conn p (places_of sessions.old.entries)
-        → p.count < session_limit → Makes moment Door.Nntp conn p
+    ensures made { (disk moment : ℕ) (p : OpenSessions) → GotSession conn p (places_of sessions.old.entries)
+        → p.count < session_limit → MakesSession moment Door.Nntp conn p
         (outer (H.taken host.old) (H.closings host.old) disk (H.lost host.old)
         (H.closed_at host.old))
         (places_of sessions.new.entries)
@@ -142,7 +143,7 @@ fn greet<H: Host>(alloc: Global, conn: u32, sessions: &mut Sessions, host: &mut 
 
 /// Puts a session in the place of the one that a connection has.
 fn put(conn: u32, session: Session, sessions: &mut Sessions)
-    ensures { (p : Places) → IsPlaced conn p (places_of sessions.old.entries)
+    ensures { (p : OpenSessions) → GotSession conn p (places_of sessions.old.entries)
         → IsPut conn session (places_of sessions.old.entries) (places_of sessions.new.entries) }
 {
     if let Some(place) = sessions.get_mut(&conn) {
@@ -160,7 +161,7 @@ pub(crate) fn feed<K: Keep, H: Host>(
     host: &mut H,
 )
     requires moment { moment ≤ last_moment }
-    ensures turned { (len : ℕ) → Turns K.holds K.rests K.ready K.leaves
+    ensures turned { (len : ℕ) → Turns K.holds K.files_are K.ready K.leaves
         (record { moment = moment; what = Bytes conn len }, piece.now)
         (serving keep.old sessions.old.entries)
         (outer (H.taken host.old) (H.closings host.old) (K.faults keep.old) (H.lost host.old)

@@ -1,4 +1,5 @@
 //! Serves the events of a host, one by one.
+//! Writes the disk; syncs.
 ghost use Rattle.std.specs.Prelude.{◌≡◌, ◌≤◌, length, IfOk, if◌then◌else◌};
 ghost use Rattle.edge_io.specs.Events.{piece_len as len_of};
 ghost use Rattle.node_serve.specs.Ends.{is_stop as stops};
@@ -53,7 +54,7 @@ pub fn serve<K: Keep, H: Host>(
     host: &mut H,
     turns: u64,
 ) -> ServeEnd
-    ensures served { ServesTo K.holds K.rests K.ready K.leaves K.reads result turns node.old
+    ensures served { ServesTo K.holds K.files_are K.ready K.leaves K.reads result turns node.old
         (outer (H.taken host.old) (H.closings host.old) (K.faults node.old.keep) (H.lost host.old)
         (H.closed_at host.old))
         node.new
@@ -78,7 +79,7 @@ fn serve_with<K: Keep, H: Host>(
     buffer: &mut [u8],
 ) -> ServeEnd
     requires { 1048576 ≤ length buffer.old }
-    ensures served { ServesTo K.holds K.rests K.ready K.leaves K.reads result turns node.old
+    ensures served { ServesTo K.holds K.files_are K.ready K.leaves K.reads result turns node.old
         (outer (H.taken host.old) (H.closings host.old) (K.faults node.old.keep) (H.lost host.old)
         (H.closed_at host.old))
         node.new
@@ -110,7 +111,7 @@ fn new_buffer(alloc: Global) -> Result<Vec<u8>, AllocError>
 /// Takes one event and turns it. The host fails only where that is the result.
 fn take_one<K: Keep, H: Host>(node: &mut Node<K>, host: &mut H, buffer: &mut [u8]) -> Taken
     requires { 1048576 ≤ length buffer.old }
-    ensures taken { TakesOne K.holds K.rests K.ready K.leaves K.reads result node.old
+    ensures taken { TakesOne K.holds K.files_are K.ready K.leaves K.reads result node.old
         (outer (H.taken host.old) (H.closings host.old) (K.faults node.old.keep) (H.lost host.old)
         (H.closed_at host.old))
         node.new

@@ -1,14 +1,15 @@
 //! A session of one connection, and the answer to a piece.
+//! Writes the disk; syncs.
 ghost use Rattle.std.specs.Prelude.{◌≡◌, ◌≤◌, ℕ, List, true, Result};
 ghost use Rattle.arch_base.specs.Moments.{last_moment};
-ghost use Rattle.arch_model.specs.Keeping.{Fits};
+ghost use Rattle.arch_model.specs.Keeping.{MatchesKnown};
 ghost use Rattle.arch_model.specs.Next.{continues};
-ghost use Rattle.arch_model.specs.Standing.{Standing};
+ghost use Rattle.arch_model.specs.Standing.{LastKnown};
 ghost use Rattle.edge_io.specs.Hosts.{SameElsewhere};
 ghost use Rattle.edge_io.specs.Phrases.{Says};
 ghost use Rattle.line_door.specs.Acts.{outside};
 ghost use Rattle.node_serve.specs.Doors.{unopened_words, with_piece};
-ghost use Rattle.node_serve.specs.Nodes.{Opens, Feeds, FedFrom, ReadsAt};
+ghost use Rattle.node_serve.specs.Nodes.{ReopensForPiece, AnswersPiece, FedFrom, ReadsAt};
 
 use answer_lines::say_unopened;
 use arch_model::{Keep, Next, OpenRefusal};
@@ -41,7 +42,7 @@ pub(crate) fn feed_one<K: Keep, H: Host>(
     host: &mut H,
 ) -> Next
     requires moment { moment ≤ last_moment }
-    ensures fed { Feeds K.holds K.rests K.ready K.leaves moment session.old piece.now keep.old
+    ensures fed { AnswersPiece K.holds K.files_are K.ready K.leaves moment session.old piece.now keep.old
         (outside (H.taken host.old conn) (K.faults keep.old) (H.lost host.old))
         (continues result) session.new keep.new
         (outside (H.taken host.new conn) (K.faults keep.new) (H.lost host.new)) }
@@ -67,7 +68,7 @@ fn take<K: Keep, O: Sink>(
     out: &mut O,
 ) -> Next
     requires moment { moment ≤ last_moment }
-    ensures fed { Feeds K.holds K.rests K.ready K.leaves moment session.old piece.now keep.old
+    ensures fed { AnswersPiece K.holds K.files_are K.ready K.leaves moment session.old piece.now keep.old
         (outside (O.taken out.old) (K.faults keep.old) (O.faults out.old))
         (continues result) session.new keep.new
         (outside (O.taken out.new) (K.faults keep.new) (O.faults out.new)) }
@@ -87,7 +88,7 @@ fn take<K: Keep, O: Sink>(
 /// Does nothing if no command is in doubt. If reopening is refused, writes the door's word for it.
 fn reopen<K: Keep, O: Sink>(session: &Session, moment: u64, keep: &mut K, out: &mut O) -> Next
     requires moment { moment ≤ last_moment }
-    ensures acts { Opens K.holds K.rests K.ready K.leaves moment session.now keep.old
+    ensures acts { ReopensForPiece K.holds K.files_are K.ready K.leaves moment session.now keep.old
         (outside (O.taken out.old) (K.faults keep.old) (O.faults out.old))
         (continues result) keep.new
         (outside (O.taken out.new) (K.faults keep.new) (O.faults out.new)) }
@@ -136,8 +137,8 @@ fn feed<K: Keep, O: Sink>(
 ) -> Next
     requires ready { K.ready keep.old ≡ true }
     requires moment { moment ≤ last_moment }
-    ensures fed { (s : Standing) → Fits K.holds K.rests K.ready K.leaves keep.old s
-        → FedFrom K.holds K.rests K.ready K.leaves moment (with_piece session.old piece.now) s keep.old
+    ensures fed { (s : LastKnown) → MatchesKnown K.holds K.files_are K.ready K.leaves keep.old s
+        → FedFrom K.holds K.files_are K.ready K.leaves moment (with_piece session.old piece.now) s keep.old
         (outside (O.taken out.old) (K.faults keep.old) (O.faults out.old))
         (continues result) session.new keep.new
         (outside (O.taken out.new) (K.faults keep.new) (O.faults out.new)) }

@@ -9,7 +9,7 @@ use Rattle.disk_model.specs.BigEndian.{be32, be32_length, front_is, rest_is, apa
 use Rattle.number_map.specs.declared.line.Record.{Record}
 use Rattle.number_map.specs.Records.{record_bytes, IsRecord, AreRecordsFrom}
 use Rattle.number_map.specs.Sizes.{record_length, epoch_fits}
-use Rattle.number_map.specs.Walks.{BeginsWith, IsDamaged}
+use Rattle.number_map.specs.Walks.{BeginsWithRecords, LacksRecord}
 use Rattle.number_map.specs.Laws.{RecordsDiffer, RecordsAreOne, DamageIsOne, ReadOrDamaged}
 
 -- The three parts of a record, followed by the rest.
@@ -95,7 +95,7 @@ has_record n (x ∷ xs) rest bytes (suc m) valid is below =
     record { line = other.line; valid = subst (λ (k : ℕ). IsRecord k other.line) number other.valid; is = ap (λ (b : List ℕ). take 28 b) further ∙ other.is }
 
 -- A map isn't damaged at a record that it has.
-no_damage : (lines : List Record) (bytes : List ℕ) (count at : ℕ) → BeginsWith lines bytes → (d : IsDamaged count at bytes) → length d.before < length lines → ⊥
+no_damage : (lines : List Record) (bytes : List ℕ) (count at : ℕ) → BeginsWithRecords lines bytes → (d : LacksRecord count at bytes) → length d.before < length lines → ⊥
 no_damage lines bytes count at begins d below =
     let m = length d.before in
     let rest = drop (28 * length lines) bytes in

@@ -15,7 +15,7 @@ use Rattle.number_map.specs.declared.line.Record.{Record}
 use Rattle.number_map.specs.Records.{record_bytes, AreRecordsFrom}
 use Rattle.number_map.specs.Rewriting.{PlansMap, PushesGone, RisesUpTo, is_among, map_without, none_record, record_without, records_without}
 use Rattle.number_map.specs.Sizes.{record_length, records_length}
-use Rattle.number_map.specs.Walks.{BeginsWith}
+use Rattle.number_map.specs.Walks.{BeginsWithRecords}
 use Rattle.number_map.proofs.Standing.{begins_of, stands_of}
 
 -- The first records of valid ones are valid.
@@ -33,7 +33,7 @@ records_drop n (suc k) (x ∷ xs) valid =
     subst (λ (m : ℕ). AreRecordsFrom m (drop k xs)) (sym number) (records_drop (n + 1) k xs valid.1)
 
 -- A map that starts with records starts with the first of them.
-begins_front : (k : ℕ) (lines : List Record) (bytes : List ℕ) → BeginsWith lines bytes → BeginsWith (take k lines) bytes
+begins_front : (k : ℕ) (lines : List Record) (bytes : List ℕ) → BeginsWithRecords lines bytes → BeginsWithRecords (take k lines) bytes
 begins_front k lines bytes begins =
     let rest = drop (28 * length lines) bytes in
     let front = flat_map record_bytes (take k lines) in
@@ -46,12 +46,12 @@ begins_front k lines bytes begins =
     })
 
 -- The map is at least as long as its records.
-begins_long : (lines : List Record) (bytes : List ℕ) → BeginsWith lines bytes → 28 * length lines ≤ length bytes
+begins_long : (lines : List Record) (bytes : List ℕ) → BeginsWithRecords lines bytes → 28 * length lines ≤ length bytes
 begins_long lines bytes begins =
     omega (arith, records_length 1 lines begins.valid, ap (λ (l : List ℕ). length l) begins.spelled, length-take (28 * length lines) bytes)
 
 -- The bytes of records after others.
-record_range : (k : ℕ) (lines : List Record) (bytes : List ℕ) → k ≤ length lines → BeginsWith lines bytes → range_of bytes (28 * k) (28 * (length lines - k)) ≡ flat_map record_bytes (drop k lines)
+record_range : (k : ℕ) (lines : List Record) (bytes : List ℕ) → k ≤ length lines → BeginsWithRecords lines bytes → range_of bytes (28 * k) (28 * (length lines - k)) ≡ flat_map record_bytes (drop k lines)
 record_range k lines bytes within begins =
     let rest = drop (28 * length lines) bytes in
     let front = flat_map record_bytes (take k lines) in

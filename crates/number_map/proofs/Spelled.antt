@@ -5,10 +5,10 @@ use Rattle.std.proofs.lemmas.List.{append-nil, drop_all, drop-drop, take-append-
 use Rattle.std.proofs.lemmas.Slice.{take-put_mid, drop-put_mid}
 use borrow.Rule.Slice.PartMut.{put_mid}
 use Rattle.arch_base.specs.declared.ids.Id20.{Id20}
-use Rattle.arch_base.specs.Ids.{IsId}
+use Rattle.arch_base.specs.Ids.{IsObjectId}
 use Rattle.disk_model.specs.BigEndian.{be32, be32_length, front_is}
 use Rattle.number_map.specs.declared.line.Record.{Record}
-use Rattle.number_map.specs.Records.{record_bytes, HasMessage, HasNone, IsRecord}
+use Rattle.number_map.specs.Records.{record_bytes, RecordHasMessage, RecordHasNone, IsRecord}
 use Rattle.number_map.specs.Sizes.{record_length, epoch_fits}
 use Rattle.number_map.proofs.Apart.{record_is, same_front}
 
@@ -44,20 +44,20 @@ pub none_short : (bytes : List ℕ) (line : Record) (n : ℕ) → length bytes <
 none_short bytes line n short valid is = omega (arith, short, whole_bytes n bytes line valid is)
 
 -- The record that was read is the one at the front.
-pub read_is : (n : ℕ) (x line : Record) (bytes : List ℕ) → n < 2 ^ 32 → x.number < 2 ^ 32 → x.epoch < 2 ^ 32 → IsId x.blob → record_bytes x ≡ bytes → IsRecord n line → bytes ≡ record_bytes line → x ≡ line
+pub read_is : (n : ℕ) (x line : Record) (bytes : List ℕ) → n < 2 ^ 32 → x.number < 2 ^ 32 → x.epoch < 2 ^ 32 → IsObjectId x.blob → record_bytes x ≡ bytes → IsRecord n line → bytes ≡ record_bytes line → x ≡ line
 read_is n x line bytes fits number epoch id read valid is =
     let other = valid.blob in
     let both = same_front x line [] [] id.len other.len epoch (epoch_fits n line valid) (ap (λ (l : List ℕ). l ++ []) (read ∙ is)) in
     record_is x line (both.number number (subst (λ (k : ℕ). k < 2 ^ 32) (sym valid.number) fits)) both.epoch both.blob
 
 -- The record at the front has another number.
-pub none_other : (n : ℕ) (x line : Record) (bytes : List ℕ) → n < 2 ^ 32 → x.number < 2 ^ 32 → x.epoch < 2 ^ 32 → IsId x.blob → record_bytes x ≡ bytes → (x.number ≡ n → ⊥) → IsRecord n line → bytes ≡ record_bytes line → ⊥
+pub none_other : (n : ℕ) (x line : Record) (bytes : List ℕ) → n < 2 ^ 32 → x.number < 2 ^ 32 → x.epoch < 2 ^ 32 → IsObjectId x.blob → record_bytes x ≡ bytes → (x.number ≡ n → ⊥) → IsRecord n line → bytes ≡ record_bytes line → ⊥
 none_other n x line bytes fits number epoch id read apart valid is =
     let same : x ≡ line = read_is n x line bytes fits number epoch id read valid is in
     apart (ap (λ (r : Record). r.number) same ∙ valid.number)
 
 -- The record at the front neither has a valid message nor lacks one.
-pub none_valid : (n : ℕ) (x line : Record) (bytes : List ℕ) → n < 2 ^ 32 → x.number < 2 ^ 32 → x.epoch < 2 ^ 32 → IsId x.blob → record_bytes x ≡ bytes → (HasMessage x ⊎ HasNone x → ⊥) → IsRecord n line → bytes ≡ record_bytes line → ⊥
+pub none_valid : (n : ℕ) (x line : Record) (bytes : List ℕ) → n < 2 ^ 32 → x.number < 2 ^ 32 → x.epoch < 2 ^ 32 → IsObjectId x.blob → record_bytes x ≡ bytes → (RecordHasMessage x ⊎ RecordHasNone x → ⊥) → IsRecord n line → bytes ≡ record_bytes line → ⊥
 none_valid n x line bytes fits number epoch id read bad valid is =
     let same : x ≡ line = read_is n x line bytes fits number epoch id read valid is in
-    bad (subst (λ (r : Record). HasMessage r ⊎ HasNone r) (sym same) valid.message)
+    bad (subst (λ (r : Record). RecordHasMessage r ⊎ RecordHasNone r) (sym same) valid.message)

@@ -9,18 +9,18 @@ use Rattle.disk_model.specs.declared.refusal.WalkRefusal.TheVariants.{DiskFault,
 use Rattle.number_map.specs.declared.line.Record.{Record}
 use Rattle.number_map.specs.Records.{record_bytes, IsRecord, AreRecordsFrom}
 use Rattle.number_map.specs.Sizes.{records_length}
-use Rattle.number_map.specs.Walks.{BeginsWith, IsDamaged}
-use Rattle.number_map.specs.Pieces.{Stands, IsEnough, IsNext, IsLast, ReadsNext, ReadsOn}
+use Rattle.number_map.specs.Walks.{BeginsWithRecords, LacksRecord}
+use Rattle.number_map.specs.Pieces.{RecordsStand, IsEnough, IsNextRecord, IsLast, ReadsNext, ReadsRecords}
 
 -- A map that starts with records has a rest.
-pub stands_of : (lines : List Record) (map : List ℕ) → BeginsWith lines map → Stands lines (drop (28 * length lines) map) map
+pub stands_of : (lines : List Record) (map : List ℕ) → BeginsWithRecords lines map → RecordsStand lines (drop (28 * length lines) map) map
 stands_of lines map begins = record {
   valid = begins.valid;
   spelled = sym (take-append-drop (28 * length lines) map) ∙ ap (λ (l : List ℕ). l ++ drop (28 * length lines) map) begins.spelled;
 }
 
 -- A map of records and a rest starts with the records.
-pub begins_of : (lines : List Record) (rest map : List ℕ) → Stands lines rest map → BeginsWith lines map
+pub begins_of : (lines : List Record) (rest map : List ℕ) → RecordsStand lines rest map → BeginsWithRecords lines map
 begins_of lines rest map stands = record { valid = stands.valid; spelled = front_is (28 * length lines) map (flat_map record_bytes lines) rest (records_length 1 lines stands.valid) stands.spelled }
 
 -- A valid record appended to valid ones.
@@ -31,7 +31,7 @@ valid_more n (x ∷ xs) line valid last =
     (valid.0, valid_more (n + 1) xs line valid.1 (subst (λ (k : ℕ). IsRecord k line) number last))
 
 -- One more record.
-pub one_more : (old new : List Record) (bytes after map : List ℕ) → Stands old (bytes ++ after) map → IsNext bytes old new → Stands new (drop 28 bytes ++ after) map
+pub one_more : (old new : List Record) (bytes after map : List ℕ) → RecordsStand old (bytes ++ after) map → IsNextRecord bytes old new → RecordsStand new (drop 28 bytes ++ after) map
 one_more old new bytes after map stands next =
     let line = next.line in
     let number : length old + 1 ≡ 1 + length old = omega arith in
@@ -43,10 +43,10 @@ one_more old new bytes after map stands next =
     let more : front ++ record_bytes line ≡ flat_map record_bytes (old ++ line ∷ []) = flat_map_more record_bytes [] old line in
     let is : map ≡ flat_map record_bytes (old ++ line ∷ []) ++ rest =
     stands.spelled ∙ (ap (λ (l : List ℕ). front ++ l) piece ∙ (sym (append_assoc front (record_bytes line) rest) ∙ ap (λ (l : List ℕ). l ++ rest) more)) in
-    subst (λ (l : List Record). Stands l rest map) (sym next.lines) (record { valid = valid; spelled = is })
+    subst (λ (l : List Record). RecordsStand l rest map) (sym next.lines) (record { valid = valid; spelled = is })
 
 -- So it is whatever follows.
-pub next_valid : (old new : List Record) (bytes : List ℕ) → IsNext bytes old new → AreRecordsFrom 1 old → AreRecordsFrom 1 new
+pub next_valid : (old new : List Record) (bytes : List ℕ) → IsNextRecord bytes old new → AreRecordsFrom 1 old → AreRecordsFrom 1 new
 next_valid old new bytes next valid =
     let number : length old + 1 ≡ 1 + length old = omega arith in
     subst (AreRecordsFrom 1) (sym next.lines) (valid_more 1 old next.line valid (subst (λ (k : ℕ). IsRecord k next.line) number next.valid))
@@ -59,7 +59,7 @@ front_of bytes after enough = elim enough [
 ]
 
 -- No more record.
-pub none_more : (count at : ℕ) (old new : List Record) (bytes after map : List ℕ) → length old < count → IsEnough 1 bytes after → Stands old (bytes ++ after) map → IsLast at bytes old new → IsDamaged count at map
+pub none_more : (count at : ℕ) (old new : List Record) (bytes after map : List ℕ) → length old < count → IsEnough 1 bytes after → RecordsStand old (bytes ++ after) map → IsLast at bytes old new → LacksRecord count at map
 none_more count at old new bytes after map fewer enough stands last =
     let offset : drop at map ≡ bytes ++ after =
     ap (λ (k : ℕ). drop k map) last.offset ∙ rest_is (28 * length old) map (flat_map record_bytes old) (bytes ++ after) (records_length 1 old stands.valid) stands.spelled in
@@ -71,8 +71,8 @@ pub enough_left : (wanted done : ℕ) (bytes rest after : List ℕ) → done < w
 enough_left wanted done bytes rest after below left enough = elim enough [ inl fits ↦ inl (omega (arith, below, left, fits)) | inr none ↦ inr none ]
 
 -- A piece is damaged where the map is.
-pub piece_refused : (refusal : WalkRefusal) (wanted done : ℕ) (start old new : List Record) (bytes rest map after : List ℕ) → done < wanted → length old ≡ length start + done → length rest + 28 * done ≡ length bytes → Stands old (rest ++ after) map
-    → IsEnough wanted bytes after → ReadsNext {T = Unit {0}} (Err refusal) rest old new → ReadsOn {T = Unit {0}} (Err refusal) (length start + wanted) map new
+pub piece_refused : (refusal : WalkRefusal) (wanted done : ℕ) (start old new : List Record) (bytes rest map after : List ℕ) → done < wanted → length old ≡ length start + done → length rest + 28 * done ≡ length bytes → RecordsStand old (rest ++ after) map
+    → IsEnough wanted bytes after → ReadsNext {T = Unit {0}} (Err refusal) rest old new → ReadsRecords {T = Unit {0}} (Err refusal) (length start + wanted) map new
 piece_refused DiskFault wanted done start old new bytes rest map after below count left stands enough next = absurd next
 piece_refused NoMemory wanted done start old new bytes rest map after below count left stands enough next = tt
 piece_refused (Damaged at) wanted done start old new bytes rest map after below count left stands enough next =

@@ -8,16 +8,16 @@ use Rattle.disk_model.specs.declared.refusal.WalkRefusal.{WalkRefusal}
 use Rattle.disk_model.specs.Disk.{Content, WhereTold, HasRead, bytes_of}
 use Rattle.disk_model.specs.BigEndian.{front_is}
 use Rattle.number_map.specs.declared.line.Record.{Record}
-use Rattle.number_map.specs.Walks.{BeginsWith}
-use Rattle.number_map.specs.Pieces.{Stands, IsEnough, ReadsOn}
+use Rattle.number_map.specs.Walks.{BeginsWithRecords}
+use Rattle.number_map.specs.Pieces.{RecordsStand, IsEnough, ReadsRecords}
 use Rattle.number_map.proofs.Standing.{stands_of}
 
 -- A piece that was read follows the records before it.
 record PieceStands (wanted : ℕ) (lines : List Record) (piece rest map : List ℕ) : Type 0 where
-  stands : Stands lines (piece ++ rest) map
+  stands : RecordsStand lines (piece ++ rest) map
   enough : IsEnough wanted piece rest
 
-piece_stands : (lines : List Record) (map before after : List ℕ) (offset n wanted : ℕ) → BeginsWith lines map → length before ≡ 28 * wanted → offset ≡ 28 * length lines → n ≡ min (length before) (length map - offset)
+piece_stands : (lines : List Record) (map before after : List ℕ) (offset n wanted : ℕ) → BeginsWithRecords lines map → length before ≡ 28 * wanted → offset ≡ 28 * length lines → n ≡ min (length before) (length map - offset)
     → after ≡ take n (drop offset map) ++ drop n before → PieceStands wanted lines (take n after) (drop n (drop offset map)) map
 piece_stands lines map before after offset n wanted begins room at count is =
     let rest = drop offset map in
@@ -26,15 +26,15 @@ piece_stands lines map before after offset n wanted begins room at count is =
     let whole : take n after ++ drop n rest ≡ drop (28 * length lines) map = ap (λ (l : List ℕ). l ++ drop n rest) piece ∙ (take-append-drop n rest ∙ ap (λ (k : ℕ). drop k map) at) in
     let long : length (take n after) ≡ n = ap (λ (l : List ℕ). length l) piece ∙ size in
     record {
-      stands = subst (λ (l : List ℕ). Stands lines l map) (sym whole) (stands_of lines map begins);
+      stands = subst (λ (l : List ℕ). RecordsStand lines l map) (sym whole) (stands_of lines map begins);
       enough = elim (cases_lt n (28 * wanted)) [ inl short ↦ inr (drop_all n rest (omega (arith, short, count, room, length-drop offset map))) | inr fits ↦ inl (omega (arith, fits, long)) ];
     }
 
 -- One more piece.
 pub piece_read : {T : Type 0} (result : Result T WalkRefusal) (content : Option Content) (file : FileName) (offset n wanted : ℕ) (before after : List ℕ) (lines new : List Record) → length before ≡ 28 * wanted → offset ≡ 28 * length lines
     → WhereTold (HasRead file offset n before after) content
-    → ((map rest : List ℕ) → Stands lines (take n after ++ rest) map → IsEnough wanted (take n after) rest → ReadsOn result (length lines + wanted) map new)
-    → WhereTold (λ k. BeginsWith lines (bytes_of (k file).seen) → ReadsOn result (length lines + wanted) (bytes_of (k file).seen) new) content
+    → ((map rest : List ℕ) → RecordsStand lines (take n after ++ rest) map → IsEnough wanted (take n after) rest → ReadsRecords result (length lines + wanted) map new)
+    → WhereTold (λ k. BeginsWithRecords lines (bytes_of (k file).seen) → ReadsRecords result (length lines + wanted) (bytes_of (k file).seen) new) content
 piece_read result None file offset n wanted before after lines new room at has read = tt
 piece_read result (Some k) file offset n wanted before after lines new room at has read = λ begins.
     let map = bytes_of (k file).seen in

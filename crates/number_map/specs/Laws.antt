@@ -4,7 +4,7 @@ use Rattle.std.specs.List.{flat_map}
 use Rattle.disk_model.specs.declared.refusal.WalkRefusal.TheVariants.{Damaged}
 use Rattle.number_map.specs.declared.line.Record.{Record}
 use Rattle.number_map.specs.Records.{record_bytes, AreRecordsFrom}
-use Rattle.number_map.specs.Walks.{Walks}
+use Rattle.number_map.specs.Walks.{WalksMap}
 
 -- Two lists of records with the same bytes are equal.
 abbrev pub RecordsDiffer : Type 0
@@ -13,15 +13,15 @@ RecordsDiffer = (a b : List Record) → AreRecordsFrom 1 a → AreRecordsFrom 1 
 
 -- The records read up to a number are one list.
 abbrev pub RecordsAreOne : Type 0
-RecordsAreOne = (count : ℕ) (bytes : List ℕ) (a b : List Record) → Walks count bytes (Ok a)
-    → Walks count bytes (Ok b) → a ≡ b
+RecordsAreOne = (count : ℕ) (bytes : List ℕ) (a b : List Record) → WalksMap count bytes (Ok a)
+    → WalksMap count bytes (Ok b) → a ≡ b
 
 -- A map is damaged at one offset at most.
 abbrev pub DamageIsOne : Type 0
-DamageIsOne = (count : ℕ) (bytes : List ℕ) (a b : ℕ) → Walks count bytes (Err (Damaged a))
-    → Walks count bytes (Err (Damaged b)) → a ≡ b
+DamageIsOne = (count : ℕ) (bytes : List ℕ) (a b : ℕ) → WalksMap count bytes (Err (Damaged a))
+    → WalksMap count bytes (Err (Damaged b)) → a ≡ b
 
 -- A map whose records up to a number are read isn't damaged up to that number.
 abbrev pub ReadOrDamaged : Type 0
 ReadOrDamaged = (count : ℕ) (bytes : List ℕ) (lines : List Record) (at : ℕ)
-    → Walks count bytes (Ok lines) → Walks count bytes (Err (Damaged at)) → ⊥
+    → WalksMap count bytes (Ok lines) → WalksMap count bytes (Err (Damaged at)) → ⊥

@@ -1,6 +1,6 @@
 pub mod Records
-pub mod Sizes
 pub mod Walks
-pub mod Pieces
 pub mod Laws
 pub mod Rewriting
+pub mod Sizes
+pub mod Pieces

@@ -1,4 +1,4 @@
--- Reading a map piece by piece.
+-- Private: reading a map piece by piece.
 use Rattle.std.specs.Prelude.{◌≡◌, ◌≢◌, ◌⊎◌, ◌+◌, ◌*◌, ◌≤◌, ℕ, Result, Ok, Err, List, [], ◌∷◌, ◌++◌, length, take}
 use Rattle.std.specs.List.{flat_map}
 use Rattle.disk_model.specs.declared.refusal.WalkRefusal.{WalkRefusal}
@@ -6,10 +6,10 @@ use Rattle.disk_model.specs.declared.refusal.WalkRefusal.TheVariants.{DiskFault,
 use Rattle.disk_model.specs.Sizes.{record_size}
 use Rattle.number_map.specs.declared.line.Record.{Record}
 use Rattle.number_map.specs.Records.{record_bytes, IsRecord, AreRecordsFrom}
-use Rattle.number_map.specs.Walks.{IsDamaged, BeginsWith}
+use Rattle.number_map.specs.Walks.{LacksRecord, BeginsWithRecords}
 
 -- The record of the next number was appended to the others.
-pub record IsNext (bytes : List ℕ) (old new : List Record) : Type 0 where
+pub record IsNextRecord (bytes : List ℕ) (old new : List Record) : Type 0 where
   pub line : Record
   pub valid : IsRecord (length old + 1) line
   pub spelled : take record_size bytes ≡ record_bytes line
@@ -25,13 +25,13 @@ pub record IsLast (at : ℕ) (bytes : List ℕ) (old new : List Record) : Type 0
 -- The results of reading the next number.
 abbrev pub ReadsNext : {T : Type 0} → Result T WalkRefusal → List ℕ → List Record → List Record
     → Type 0
-ReadsNext (Ok _) bytes old new = IsNext bytes old new
+ReadsNext (Ok _) bytes old new = IsNextRecord bytes old new
 ReadsNext (Err (Damaged at)) bytes old new = IsLast at bytes old new
 ReadsNext (Err DiskFault) bytes old new = ⊥
 ReadsNext (Err NoMemory) bytes old new = Unit {0}
 
 -- A map consists of these records, followed by these bytes.
-pub record Stands (lines : List Record) (rest bytes : List ℕ) : Type 0 where
+pub record RecordsStand (lines : List Record) (rest bytes : List ℕ) : Type 0 where
   pub valid : AreRecordsFrom 1 lines
   pub spelled : bytes ≡ flat_map record_bytes lines ++ rest
 
@@ -40,7 +40,7 @@ abbrev pub IsEnough : ℕ → List ℕ → List ℕ → Type 0
 IsEnough wanted bytes after = (record_size * wanted ≤ length bytes) ⊎ (after ≡ [])
 
 -- The results of reading the records up to a number.
-abbrev pub ReadsOn : {T : Type 0} → Result T WalkRefusal → ℕ → List ℕ → List Record → Type 0
-ReadsOn (Ok _) count bytes new = (length new ≡ count) × BeginsWith new bytes
-ReadsOn (Err (Damaged at)) count bytes new = IsDamaged count at bytes
-ReadsOn (Err _) count bytes new = Unit {0}
+abbrev pub ReadsRecords : {T : Type 0} → Result T WalkRefusal → ℕ → List ℕ → List Record → Type 0
+ReadsRecords (Ok _) count bytes new = (length new ≡ count) × BeginsWithRecords new bytes
+ReadsRecords (Err (Damaged at)) count bytes new = LacksRecord count at bytes
+ReadsRecords (Err _) count bytes new = Unit {0}

@@ -1,6 +1,6 @@
 -- Records of numbers, which of them are valid, and their bytes.
 use Rattle.std.specs.Prelude.{◌≡◌, ◌⊎◌, ◌+◌, ◌≤◌, ℕ, List, [], ◌∷◌, ◌++◌, replicate}
-use Rattle.arch_base.specs.Ids.{IsId}
+use Rattle.arch_base.specs.Ids.{IsObjectId}
 use Rattle.disk_model.specs.BigEndian.{be32}
 use Rattle.disk_model.specs.Sizes.{greatest_epoch}
 use Rattle.number_map.specs.declared.line.Record.{Record}
@@ -10,8 +10,8 @@ unfoldable pub record_bytes : Record → List ℕ
 record_bytes line = be32 line.number ++ be32 line.epoch ++ line.blob.0
 
 -- The number's message is in an epoch, one of 0 to 63.
-abbrev pub HasMessage : Record → Type 0
-HasMessage line = line.epoch ≤ greatest_epoch
+abbrev pub RecordHasMessage : Record → Type 0
+RecordHasMessage line = line.epoch ≤ greatest_epoch
 
 -- The epoch in the record of a number without a message.
 abbrev pub no_epoch : ℕ
@@ -22,14 +22,14 @@ abbrev pub no_blob : List ℕ
 no_blob = replicate 20 0
 
 -- The number has no message.
-abbrev pub HasNone : Record → Type 0
-HasNone line = (line.epoch ≡ no_epoch) × (line.blob.0 ≡ no_blob)
+abbrev pub RecordHasNone : Record → Type 0
+RecordHasNone line = (line.epoch ≡ no_epoch) × (line.blob.0 ≡ no_blob)
 
 -- The valid records of a number, with a message or without one.
 pub record IsRecord (n : ℕ) (line : Record) : Type 0 where
   pub number : line.number ≡ n
-  pub blob : IsId line.blob
-  pub message : HasMessage line ⊎ HasNone line
+  pub blob : IsObjectId line.blob
+  pub message : RecordHasMessage line ⊎ RecordHasNone line
 
 -- Valid records of the numbers from this one on, in order.
 abbrev pub AreRecordsFrom : ℕ → List Record → Type 0

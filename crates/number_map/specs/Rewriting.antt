@@ -12,7 +12,7 @@ use Rattle.root_change.specs.Rewriting.{Plan, IsPlan, IsPlanFrom, IsPlanWhole, p
 use Rattle.root_change.specs.Texts.{Texts}
 use Rattle.number_map.specs.declared.line.Record.{Record}
 use Rattle.number_map.specs.Records.{record_bytes, no_epoch, no_blob}
-use Rattle.number_map.specs.Walks.{BeginsWith, IsDamaged}
+use Rattle.number_map.specs.Walks.{BeginsWithRecords, LacksRecord}
 
 -- The record of a number without a message.
 abbrev pub none_record : ℕ → Record
@@ -56,18 +56,18 @@ pub record PlansMap (file : FileName) (count : ℕ) (gone : List ℕ) (plan : Pl
   pub count_is : plan_count plan ≡ record_size * count
   pub from : IsPlanFrom file plan
   pub written : (texts : Texts) (lines : List Record) → length lines ≡ count
-      → BeginsWith lines (texts file)
+      → BeginsWithRecords lines (texts file)
       → IsPlanWhole texts plan × (written_by texts plan ≡ map_without gone lines)
 
 -- The results of a rewriting: the map starts with records, and another file has them without the
 -- messages of some numbers, if it wasn't there; or the map is damaged, or memory ran out, and nothing
 -- was done; or nothing is told.
-abbrev pub Rewrites : FileName → ℕ → FileName → List ℕ → Content → Content
+abbrev pub RewritesMap : FileName → ℕ → FileName → List ℕ → Content → Content
     → Result Unit WalkRefusal → Type 0
-Rewrites from count to gone k m (Ok _) = (lines : List Record) × (length lines ≡ count)
-    × BeginsWith lines (bytes_of (k from).seen)
+RewritesMap from count to gone k m (Ok _) = (lines : List Record) × (length lines ≡ count)
+    × BeginsWithRecords lines (bytes_of (k from).seen)
     × (bytes_of (k to).seen ≡ [] → bytes_of (m to).seen ≡ map_without gone lines)
-Rewrites from count to gone k m (Err (Damaged at)) =
-    IsDamaged count at (bytes_of (k from).seen) × Unchanged k m
-Rewrites from count to gone k m (Err DiskFault) = Unit {0}
-Rewrites from count to gone k m (Err NoMemory) = Unchanged k m
+RewritesMap from count to gone k m (Err (Damaged at)) =
+    LacksRecord count at (bytes_of (k from).seen) × Unchanged k m
+RewritesMap from count to gone k m (Err DiskFault) = Unit {0}
+RewritesMap from count to gone k m (Err NoMemory) = Unchanged k m

@@ -1,4 +1,4 @@
--- The lengths of records.
+-- Lemmas for proofs: the lengths of records.
 use Rattle.std.specs.Prelude.{◌≡◌, ◌+◌, ◌*◌, ◌<◌, ◌^◌, ℕ, List, [], ◌∷◌, ◌++◌, length}
 use Rattle.std.specs.List.{flat_map}
 use Rattle.std.proofs.Common.{inl, inr, arith, length-append}

@@ -8,22 +8,22 @@ use Rattle.number_map.specs.declared.line.Record.{Record}
 use Rattle.number_map.specs.Records.{record_bytes, IsRecord, AreRecordsFrom}
 
 -- A map starts with these records, of the numbers from 1 on.
-pub record BeginsWith (lines : List Record) (bytes : List ℕ) : Type 0 where
+pub record BeginsWithRecords (lines : List Record) (bytes : List ℕ) : Type 0 where
   pub valid : AreRecordsFrom 1 lines
   pub spelled : take (record_size * length lines) bytes ≡ flat_map record_bytes lines
 
 -- A map has no valid record of some number up to the last one asked for. The offset is that of the
 -- first such number, whose record isn't whole or isn't one of that number.
-pub record IsDamaged (count at : ℕ) (bytes : List ℕ) : Type 0 where
+pub record LacksRecord (count at : ℕ) (bytes : List ℕ) : Type 0 where
   pub before : List Record
-  pub begins : BeginsWith before bytes
+  pub begins : BeginsWithRecords before bytes
   pub fewer : length before < count
   pub offset : at ≡ record_size * length before
   pub none : (line : Record) → IsRecord (length before + 1) line
       → take record_size (drop at bytes) ≢ record_bytes line
 
 -- The results of reading a map with these bytes up to a number.
-abbrev pub Walks : ℕ → List ℕ → Result (List Record) WalkRefusal → Type 0
-Walks count bytes (Ok lines) = (length lines ≡ count) × BeginsWith lines bytes
-Walks count bytes (Err (Damaged at)) = IsDamaged count at bytes
-Walks count bytes (Err _) = Unit {0}
+abbrev pub WalksMap : ℕ → List ℕ → Result (List Record) WalkRefusal → Type 0
+WalksMap count bytes (Ok lines) = (length lines ≡ count) × BeginsWithRecords lines bytes
+WalksMap count bytes (Err (Damaged at)) = LacksRecord count at bytes
+WalksMap count bytes (Err _) = Unit {0}

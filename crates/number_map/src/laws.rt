@@ -1,4 +1,5 @@
 //! Laws of records, which other crates cite.
+//! Pure.
 ghost use Rattle.number_map.specs.Laws.{RecordsDiffer, RecordsAreOne, DamageIsOne, ReadOrDamaged};
 
 /// Valid records with the same bytes are equal, and reading a map has one result.

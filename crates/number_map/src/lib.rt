@@ -1,4 +1,5 @@
 //! The map of an archive: a file with one record for each number.
+//! Writes the disk; syncs.
 //!
 //! Appends a record, reads all of them, and writes a map anew without the messages of some numbers.
 #![tactic(auto)]

@@ -1,6 +1,7 @@
 //! The record that the map has for a number.
+//! Allocates.
 ghost use Rattle.std.specs.Prelude.{◌⊎◌, ◌↔◌, IsTrue};
-ghost use Rattle.number_map.specs.Records.{HasMessage, HasNone};
+ghost use Rattle.number_map.specs.Records.{RecordHasMessage, RecordHasNone};
 
 use arch_base::{Duplicate, NoMemory, ObjectId, Sequence};
 use disk_model::LAST_EPOCH;
@@ -33,7 +34,7 @@ impl Duplicate for Record {
 
 /// Returns whether a record has a message in an epoch from 0 to 63, or none.
 pub fn is_valid(line: &Record) -> bool
-    ensures { IsTrue result ↔ (HasMessage line.now ⊎ HasNone line.now) }
+    ensures { IsTrue result ↔ (RecordHasMessage line.now ⊎ RecordHasNone line.now) }
 {
     if line.epoch <= LAST_EPOCH {
         return true;

@@ -1,8 +1,9 @@
 //! Reads records from a piece of a map.
+//! Allocates.
 ghost use Rattle.std.specs.Prelude.{◌≡◌, ◌≢◌, ◌+◌, ◌<◌, ◌≤◌, ◌^◌, ◌++◌, Err, ℕ, List, length, OnOk};
 ghost use Rattle.disk_model.specs.Sizes.{record_size};
 ghost use Rattle.number_map.specs.Records.{AreRecordsFrom};
-ghost use Rattle.number_map.specs.Pieces.{ReadsNext, Stands, IsEnough, ReadsOn};
+ghost use Rattle.number_map.specs.Pieces.{ReadsNext, RecordsStand, IsEnough, ReadsRecords};
 
 use crate::line::Records;
 use crate::reading::record_in_front;
@@ -30,9 +31,9 @@ fn read_next(bytes: &[u8], lines: &mut Records) -> Result<(), WalkRefusal>
 /// The piece has them all, or ends where the map ends.
 pub fn read_piece(bytes: &[u8], wanted: u32, lines: &mut Records) -> Result<(), WalkRefusal>
     requires { length lines.old + wanted < 2 ^ 32 }
-    ensures read { (map after : List ℕ) → Stands lines.old (bytes.now ++ after) map
+    ensures read { (map after : List ℕ) → RecordsStand lines.old (bytes.now ++ after) map
         → IsEnough wanted bytes.now after
-        → ReadsOn result (length lines.old + wanted) map lines.new }
+        → ReadsRecords result (length lines.old + wanted) map lines.new }
     ensures size { OnOk result (length lines.new ≡ length lines.old + wanted) }
     ensures valid { AreRecordsFrom 1 lines.old → OnOk result (AreRecordsFrom 1 lines.new) }
     ensures no_fault { result ≢ Err WalkRefusal.DiskFault }

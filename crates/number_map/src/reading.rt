@@ -1,6 +1,7 @@
 //! Reads records from their bytes.
+//! Pure.
 ghost use Rattle.std.specs.Prelude.{◌≡◌, ◌≢◌, ◌<◌, ◌^◌, length, take, IfSome, IfNone};
-ghost use Rattle.arch_base.specs.Ids.{IsId};
+ghost use Rattle.arch_base.specs.Ids.{IsObjectId};
 ghost use Rattle.disk_model.specs.BigEndian.{be32};
 ghost use Rattle.disk_model.specs.Sizes.{record_size};
 ghost use Rattle.number_map.specs.declared.line.Record.{Record};
@@ -24,7 +25,7 @@ fn number32(bytes: &[u8]) -> u32
 fn blob_id(bytes: &[u8]) -> ObjectId
     requires { length bytes.now ≡ 20 }
     ensures bytes { result.0 ≡ bytes.now }
-    ensures valid { IsId result }
+    ensures valid { IsObjectId result }
 {
     let mut digits = [0; 20];
     digits.copy_from_slice(bytes);
@@ -35,7 +36,7 @@ fn blob_id(bytes: &[u8]) -> ObjectId
 fn any_record(bytes: &[u8]) -> Record
     requires { length bytes.now ≡ record_size }
     ensures bytes { record_bytes result ≡ bytes.now }
-    ensures blob { IsId result.blob }
+    ensures blob { IsObjectId result.blob }
     ensures number { result.number < 2 ^ 32 }
     ensures epoch { result.epoch < 2 ^ 32 }
 {

@@ -1,12 +1,13 @@
 //! Writes a map anew, without the messages of some numbers.
+//! Writes the disk; syncs.
 ghost use Rattle.std.specs.Prelude.{◌≡◌, ◌≢◌, ◌+◌, ◌*◌, ◌<◌, Err, IfOk, OnOk, OnErr};
 ghost use Rattle.arch_base.specs.Counts.{RoseIf};
-ghost use Rattle.disk_model.specs.Beside.{Bounds, Respects, RunsBeside};
-ghost use Rattle.disk_model.specs.Disk.{Told};
-ghost use Rattle.root_change.specs.Copying.{OthersStay};
+ghost use Rattle.disk_model.specs.Beside.{Bounds, RespectsBound, RunsBeside};
+ghost use Rattle.disk_model.specs.Disk.{BothTold};
+ghost use Rattle.root_change.specs.Copying.{OtherFilesStay};
 ghost use Rattle.root_change.specs.Rewriting.{IsPlan, PushesBytes};
 ghost use Rattle.number_map.specs.Records.{record_bytes};
-ghost use Rattle.number_map.specs.Rewriting.{PlansMap, PushesGone, Rewrites, RisesUpTo, none_record};
+ghost use Rattle.number_map.specs.Rewriting.{PlansMap, PushesGone, RewritesMap, RisesUpTo, none_record};
 
 use crate::line::{NO_BLOB, NO_EPOCH, Record};
 use crate::whole::walk;
@@ -92,10 +93,10 @@ pub fn rewrite<D: Disk>(
 ) -> Result<(), WalkRefusal>
     requires apart { from ≢ to }
     requires gone { RisesUpTo 1 count gone.now }
-    ensures rewritten { Told (λ k m. Rewrites from count to gone.now k m result) (D.content disk.old)
+    ensures rewritten { BothTold (λ k m. RewritesMap from count to gone.now k m result) (D.content disk.old)
         (D.content disk.new) }
-    ensures others { Told (OthersStay to) (D.content disk.old) (D.content disk.new) }
-    ensures beside { (bounds : Bounds) → Respects (bounds to) 0
+    ensures others { BothTold (OtherFilesStay to) (D.content disk.old) (D.content disk.new) }
+    ensures crash_beside { (bounds : Bounds) → RespectsBound (bounds to) 0
         → RunsBeside D.content D.moment D.left_since bounds disk.old disk.new }
     ensures cause { RoseIf (result ≡ Err WalkRefusal.DiskFault) (D.faults disk.old) (D.faults disk.new) }
 {

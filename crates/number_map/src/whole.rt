@@ -1,11 +1,12 @@
 //! Reads a map from its front.
+//! Reads the disk.
 ghost use Rattle.std.specs.Prelude.{◌≡◌, ◌+◌, ◌*◌, ◌<◌, ◌^◌, [], Err, length, IfOk, OnOk};
 ghost use Rattle.arch_base.specs.Counts.{RoseIf};
-ghost use Rattle.disk_model.specs.Disk.{Image, Told, WhereTold, Unchanged, LeavesOnly, bytes_of};
+ghost use Rattle.disk_model.specs.Disk.{Image, BothTold, WhereTold, Unchanged, LeavesOnly, bytes_of};
 ghost use Rattle.disk_model.specs.Sizes.{record_size};
 ghost use Rattle.number_map.specs.Records.{AreRecordsFrom};
-ghost use Rattle.number_map.specs.Walks.{BeginsWith, Walks};
-ghost use Rattle.number_map.specs.Pieces.{ReadsOn};
+ghost use Rattle.number_map.specs.Walks.{BeginsWithRecords, WalksMap};
+ghost use Rattle.number_map.specs.Pieces.{ReadsRecords};
 
 use crate::line::Records;
 use crate::pieces::read_piece;
@@ -33,12 +34,12 @@ fn read_more<D: Disk>(
 ) -> Result<(), WalkRefusal>
     requires room { length room.old ≡ record_size * wanted }
     requires count { length lines.old + wanted < 2 ^ 32 }
-    ensures read { WhereTold (λ k. BeginsWith lines.old (bytes_of (k file).seen) → ReadsOn result
+    ensures read { WhereTold (λ k. BeginsWithRecords lines.old (bytes_of (k file).seen) → ReadsRecords result
         (length lines.old + wanted) (bytes_of (k file).seen) lines.new) (D.content disk.old) }
     ensures size { OnOk result (length lines.new ≡ length lines.old + wanted) }
     ensures valid { AreRecordsFrom 1 lines.old → OnOk result (AreRecordsFrom 1 lines.new) }
-    ensures same { Told Unchanged (D.content disk.old) (D.content disk.new) }
-    ensures any_moment { LeavesOnly D.moment D.left_since disk.old disk.new
+    ensures same { BothTold Unchanged (D.content disk.old) (D.content disk.new) }
+    ensures crash { LeavesOnly D.moment D.left_since disk.old disk.new
         (Image (D.content disk.old)) }
     ensures cause { RoseIf (result ≡ Err WalkRefusal.DiskFault) (D.faults disk.old) (D.faults disk.new) }
 {
@@ -60,10 +61,10 @@ fn read_all<D: Disk>(
     requires room { length room.old ≡ record_size * 2340 }
     requires none { lines.old ≡ [] }
     ensures read { WhereTold (λ k.
-        ReadsOn result count (bytes_of (k file).seen) lines.new) (D.content disk.old) }
+        ReadsRecords result count (bytes_of (k file).seen) lines.new) (D.content disk.old) }
     ensures valid { OnOk result (AreRecordsFrom 1 lines.new) }
-    ensures same { Told Unchanged (D.content disk.old) (D.content disk.new) }
-    ensures any_moment { LeavesOnly D.moment D.left_since disk.old disk.new
+    ensures same { BothTold Unchanged (D.content disk.old) (D.content disk.new) }
+    ensures crash { LeavesOnly D.moment D.left_since disk.old disk.new
         (Image (D.content disk.old)) }
     ensures cause { RoseIf (result ≡ Err WalkRefusal.DiskFault) (D.faults disk.old) (D.faults disk.new) }
 {
@@ -90,11 +91,11 @@ pub fn walk<D: Disk>(
     count: u32,
 ) -> Result<Records, WalkRefusal>
     ensures walked { WhereTold (λ k.
-        Walks count (bytes_of (k file).seen) result) (D.content disk.old) }
+        WalksMap count (bytes_of (k file).seen) result) (D.content disk.old) }
     // Also where the disk doesn't tell its content.
     ensures valid { IfOk result (AreRecordsFrom 1) }
-    ensures same { Told Unchanged (D.content disk.old) (D.content disk.new) }
-    ensures any_moment { LeavesOnly D.moment D.left_since disk.old disk.new
+    ensures same { BothTold Unchanged (D.content disk.old) (D.content disk.new) }
+    ensures crash { LeavesOnly D.moment D.left_since disk.old disk.new
         (Image (D.content disk.old)) }
     ensures cause { RoseIf (result ≡ Err WalkRefusal.DiskFault) (D.faults disk.old) (D.faults disk.new) }
 {

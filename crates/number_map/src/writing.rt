@@ -1,8 +1,9 @@
 //! Appends a record to a map.
+//! Writes the disk; syncs.
 ghost use Rattle.std.specs.Prelude.{◌≡◌, ◌+◌, ◌<◌, ◌^◌, length, OnOk, OnErr};
 ghost use Rattle.arch_base.specs.Counts.{HasCause};
-ghost use Rattle.disk_model.specs.Beside.{Bounds, Respects, RunsBeside};
-ghost use Rattle.disk_model.specs.Disk.{Told, WhereTold, OneFile, Wrote, Tore, IsAtMostLength, Elapses};
+ghost use Rattle.disk_model.specs.Beside.{Bounds, RespectsBound, RunsBeside};
+ghost use Rattle.disk_model.specs.Disk.{BothTold, WhereTold, OneFile, Wrote, Tore, IsAtMostLength, Elapses};
 ghost use Rattle.disk_model.specs.Sizes.{record_size};
 ghost use Rattle.number_map.specs.Records.{record_bytes};
 
@@ -32,13 +33,13 @@ pub fn append<D: Disk>(
 ) -> Result<(), DiskFault>
     requires inside { WhereTold (IsAtMostLength file at) (D.content disk.old) }
     requires end { at + record_size < 2 ^ 63 }
-    ensures written { OnOk result (Told (OneFile file (Wrote at (record_bytes line.now)))
+    ensures written { OnOk result (BothTold (OneFile file (Wrote at (record_bytes line.now)))
         (D.content disk.old) (D.content disk.new)) }
     ensures torn { OnErr result
-        (Told (OneFile file (Tore at record_size)) (D.content disk.old) (D.content disk.new)) }
+        (BothTold (OneFile file (Tore at record_size)) (D.content disk.old) (D.content disk.new)) }
     ensures size { length (record_bytes line.now) ≡ record_size }
     // All that is before the offset stays at each moment.
-    ensures beside { (bounds : Bounds) → Respects (bounds file) at
+    ensures crash_beside { (bounds : Bounds) → RespectsBound (bounds file) at
         → RunsBeside D.content D.moment D.left_since bounds disk.old disk.new }
     ensures time { Elapses (D.moment disk.old) (D.moment disk.new) (D.left_since disk.old)
         (D.left_since disk.new) (D.content disk.new) }

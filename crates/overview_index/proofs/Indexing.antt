@@ -8,7 +8,7 @@ use Rattle.std.specs.BTreeMap.{is_at}
 use Rattle.std.specs.Set.{remove_key}
 use Rattle.mail_forms.specs.declared.row.Row.{Row}
 use Rattle.overview_index.specs.Listings.{row_in, number_of, with_row, without, spot_of, spot_cmp}
-use Rattle.overview_index.specs.Views.{AreViews, Adds, Loses, IsSame}
+use Rattle.overview_index.specs.Views.{AreViews, AddsRow, LosesRow, IsSame}
 use Rattle.overview_index.specs.declared.spot.Spot.{Spot}
 use Rattle.overview_index.specs.declared.views.Views.{Views}
 use Rattle.overview_index.proofs.RowLists.{all-insert, all-remove, all-found, differ-insert, differ-remove, keys-insert, keys-remove, number-insert, number-remove, absent_number}
@@ -16,7 +16,7 @@ use Rattle.overview_index.proofs.Orders.{spots-insert, spots-remove, absent_spot
 
 -- One row more, whose number and id are new.
 pub views-add : (rows : List (ℕ × Row)) (old new : Views) (row : Row) (id : List ℕ) (spot : Spot) → AreViews rows old → row_in rows row.number ≡ None → number_of rows row.id ≡ None
-    → id ≡ row.id → spot ≡ spot_of row → Adds old new id spot → AreViews (with_row rows row) new
+    → id ≡ row.id → spot ≡ spot_of row → AddsRow old new id spot → AreViews (with_row rows row) new
 views-add rows old new row id spot is none free id_is spot_is adds = record {
   numbered = all-insert (λ (e : ℕ × Row). e.1.number ≡ e.0) rows row.number row none refl is.numbered;
   apart = differ-insert rows row.number row none free is.apart;
@@ -27,7 +27,7 @@ views-add rows old new row id spot is none free id_is spot_is adds = record {
 
 -- One row less.
 pub views-take : (rows : List (ℕ × Row)) (old new : Views) (n : ℕ) (row : Row) (id : List ℕ) (spot : Spot) → AreViews rows old → IsStrictlySortedBy nat_cmp (keys_of rows) → row_in rows n ≡ Some row
-    → row_in (without rows n) n ≡ None → id ≡ row.id → spot ≡ spot_of row → Loses old new id spot → AreViews (without rows n) new
+    → row_in (without rows n) n ≡ None → id ≡ row.id → spot ≡ spot_of row → LosesRow old new id spot → AreViews (without rows n) new
 views-take rows old new n row id spot is sorted found gone id_is spot_is loses =
     let number : row.number ≡ n = all-found (λ (e : ℕ × Row). e.1.number ≡ e.0) rows n row is.numbered found in
     let numbered : AllByRecursion (λ (e : ℕ × Row). e.1.number ≡ e.0) (without rows n) = all-remove (λ (e : ℕ × Row). e.1.number ≡ e.0) rows n is.numbered in

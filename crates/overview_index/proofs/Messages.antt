@@ -108,11 +108,11 @@ between_step : (t : Bool) (e : Entry) (fs : List Entry) (count : ℕ) → count 
 between_step true e fs count is = omega (arith, is)
 between_step false e fs count is = omega (arith, is)
 
-pub between-live : (es : List Entry) (low high : ℕ) → live_between (rows_of es) low high ≡ live_among es low high
-between-live [] low high = refl
-between-live (e ∷ es) low high =
+pub crash_between-live : (es : List Entry) (low high : ℕ) → live_between (rows_of es) low high ≡ live_among es low high
+crash_between-live [] low high = refl
+crash_between-live (e ∷ es) low high =
     count-cons (λ m. nat_le low m && nat_le m high) e.number (keys_of (rows_of es))
-    ∙ between_step (nat_le low e.number && nat_le e.number high) e (filter (is_between low high) es) (live_between (rows_of es) low high) (between-live es low high)
+    ∙ between_step (nat_le low e.number && nat_le e.number high) e (filter (is_between low high) es) (live_between (rows_of es) low high) (crash_between-live es low high)
 
 -- The listing.
 abbrev pub pair_of : Spot → ℕ × ℕ

@@ -17,7 +17,7 @@ use Rattle.std.proofs.lemmas.Option.{same_Some}
 use Rattle.std.proofs.lemmas.Slice.Eq.{bytes_eq-Decides}
 use Rattle.mail_forms.specs.declared.row.Row.{Row}
 use Rattle.overview_index.specs.Listings.{row_in, number_of, without}
-use Rattle.overview_index.specs.Views.{IdsDiffer}
+use Rattle.overview_index.specs.Views.{RowIdsDiffer}
 use Rattle.arch_model.proofs.Owners.{bytes_eq-refl}
 
 -- A number that isn't at the front isn't in the rest either.
@@ -170,7 +170,7 @@ all-flip [] id a = tt
 all-flip (e ∷ rows) id a = (bytes_eq-flip id e.1.id a.0, all-flip rows id a.1)
 
 -- Rows with different ids, and one more whose id is new.
-pub differ-insert : (rows : List (ℕ × Row)) (n : ℕ) (row : Row) → row_in rows n ≡ None → number_of rows row.id ≡ None → IdsDiffer rows → IdsDiffer (insert_entry nat_cmp rows n row)
+pub differ-insert : (rows : List (ℕ × Row)) (n : ℕ) (row : Row) → row_in rows n ≡ None → number_of rows row.id ≡ None → RowIdsDiffer rows → RowIdsDiffer (insert_entry nat_cmp rows n row)
 differ-insert [] n row h free d = (tt, tt)
 differ-insert (e ∷ rows) n row h free d =
     let parts = none_front (is_at (nat_cmp n) e.0) e.1 (row_in rows n) h in
@@ -178,17 +178,17 @@ differ-insert (e ∷ rows) n row h free d =
     step (nat_cmp n e.0) parts.0 (differ-insert rows n row parts.1 frees.1 d.1)
     (all-insert (λ (f : ℕ × Row). bytes_eq f.1.id e.1.id ≡ false) rows n row parts.1 frees.0 d.0)
   where
-    step : (r : Ordering) → is_eq r ≡ false → IdsDiffer (insert_entry nat_cmp rows n row) → AllByRecursion (λ (f : ℕ × Row). bytes_eq f.1.id e.1.id ≡ false) (insert_entry nat_cmp rows n row)
-        → IdsDiffer (match_ordering r ((n, row) ∷ e ∷ rows) ((e.0, row) ∷ rows) (e ∷ insert_entry nat_cmp rows n row))
+    step : (r : Ordering) → is_eq r ≡ false → RowIdsDiffer (insert_entry nat_cmp rows n row) → AllByRecursion (λ (f : ℕ × Row). bytes_eq f.1.id e.1.id ≡ false) (insert_entry nat_cmp rows n row)
+        → RowIdsDiffer (match_ordering r ((n, row) ∷ e ∷ rows) ((e.0, row) ∷ rows) (e ∷ insert_entry nat_cmp rows n row))
     step Less f ih a = (all-flip (e ∷ rows) row.id (unowned (e ∷ rows) row.id free), d)
     step Equal f ih a = absurd (cc)
     step Greater f ih a = (a, ih)
 
-pub differ-remove : (rows : List (ℕ × Row)) (n : ℕ) → IdsDiffer rows → IdsDiffer (without rows n)
+pub differ-remove : (rows : List (ℕ × Row)) (n : ℕ) → RowIdsDiffer rows → RowIdsDiffer (without rows n)
 differ-remove [] n d = tt
 differ-remove (e ∷ rows) n d = step (is_at (nat_cmp n) e.0) (differ-remove rows n d.1)
   where
-    step : (t : Bool) → IdsDiffer (without rows n) → IdsDiffer (cond t rows (e ∷ without rows n))
+    step : (t : Bool) → RowIdsDiffer (without rows n) → RowIdsDiffer (cond t rows (e ∷ without rows n))
     step true ih = d.1
     step false ih = (all-remove (λ (f : ℕ × Row). bytes_eq f.1.id e.1.id ≡ false) rows n d.0, ih)
 
@@ -216,7 +216,7 @@ number-insert (e ∷ rows) n row q h free =
     step Greater f false false a b c ih = rw b (ih ∙ rw a refl)
 
 -- The number of an id after one row less.
-pub number-remove : (rows : List (ℕ × Row)) (n : ℕ) (row : Row) (q : List ℕ) → IdsDiffer rows → row_in rows n ≡ Some row
+pub number-remove : (rows : List (ℕ × Row)) (n : ℕ) (row : Row) (q : List ℕ) → RowIdsDiffer rows → row_in rows n ≡ Some row
     → number_of (without rows n) q ≡ (if bytes_eq q row.id then None else number_of rows q)
 number-remove [] n row q d h = absurd (cc)
 number-remove (e ∷ rows) n row q d h =

@@ -1,4 +1,5 @@
 //! A row by itself on the heap.
+//! Allocates.
 ghost use Rattle.std.specs.Prelude.{◌≡◌, IfOk};
 
 use arch_base::NoMemory;
@@ -11,12 +12,12 @@ use std::marker::Model;
 /// A map keeps room for more values than it has, and moves them as it grows. So it is to hold a row's
 /// address, and not its 232 bytes.
 #[derive(Drop)]
-pub(crate) struct Held {
+pub(crate) struct HeldRow {
     row: Box<Row>,
 }
 
 // A clause sees the row.
-impl Model for Held {
+impl Model for HeldRow {
     ghost use Rattle.mail_forms.specs.declared.row.Row.{Row};
 
     ghost Value = { Row };
@@ -24,12 +25,12 @@ impl Model for Held {
     ghost view = { λ h. h.row.value };
 }
 
-impl Held {
+impl HeldRow {
     /// Puts a row on the heap. `NoMemory` drops it.
-    pub(crate) fn new(alloc: Global, row: Row) -> Result<Held, NoMemory>
+    pub(crate) fn new(alloc: Global, row: Row) -> Result<HeldRow, NoMemory>
         ensures { IfOk result (λ held. held ≡ row) }
     {
-        Ok(Held {
+        Ok(HeldRow {
             row: Box::new(alloc, row)?,
         })
     }

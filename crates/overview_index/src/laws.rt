@@ -1,4 +1,5 @@
 //! Laws of the listing. The functions do nothing: their contracts are the laws.
+//! Pure.
 ghost use Rattle.overview_index.specs.Laws.{SpotsAreInOrder, ListingIsTheArchives};
 
 /// Shows that where rows stand, as the listing has it, rises by date and number, and is where just

@@ -1,4 +1,5 @@
 //! The rows of mails by number, by id, and by date and number.
+//! Allocates.
 #![tactic(auto)]
 
 mod held;

@@ -1,8 +1,9 @@
 //! Orders rows by their dates.
+//! Allocates.
 ghost use Rattle.std.specs.Prelude.{◌≡◌, map, reverse, OnOk, IfOk, option_copied};
 ghost use Rattle.overview_index.specs.Listings.{number_at, spots, with_spot, under, row_numbered, rows_numbered, listing};
 
-use crate::held::Held;
+use crate::held::HeldRow;
 use crate::spot::Spot;
 use arch_base::{NoMemory, Numbers};
 use mail_forms::Row;
@@ -13,7 +14,7 @@ use std::collections::{BTreeMap, BTreeSet};
 #[tactic(auto, unfolding(crate::specs::Listings::listing))]
 pub(crate) fn newest_first(
     alloc: Global,
-    rows: &BTreeMap<u32, Held>,
+    rows: &BTreeMap<u32, HeldRow>,
     numbers: &[u64],
 ) -> Result<Numbers, NoMemory>
     ensures { IfOk result (λ found. found ≡ listing (rows_numbered rows.now.entries numbers.now)) }
@@ -24,7 +25,7 @@ pub(crate) fn newest_first(
 /// Returns where the rows of these numbers stand.
 fn spots_of(
     alloc: Global,
-    rows: &BTreeMap<u32, Held>,
+    rows: &BTreeMap<u32, HeldRow>,
     numbers: &[u64],
 ) -> Result<BTreeSet<Spot>, NoMemory>
     ensures { IfOk result (λ found.
@@ -40,7 +41,7 @@ fn spots_of(
 }
 
 /// Returns the row of a number. Numbers of more than 32 bits have none.
-fn row_of_number(rows: &BTreeMap<u32, Held>, n: u64) -> Option<&Row>
+fn row_of_number(rows: &BTreeMap<u32, HeldRow>, n: u64) -> Option<&Row>
     ensures { under n (option_copied result) ≡ row_numbered rows.now.entries n }
 {
     if n <= u64::from(u32::MAX) {

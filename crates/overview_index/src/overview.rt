@@ -1,8 +1,9 @@
 //! The rows of mails by number, by id, and by date and number.
+//! Allocates.
 ghost use Rattle.std.specs.Prelude.{◌≡◌, [], map, take, drop, None, IfOk, OnOk, OnErr, is_some, option_copied};
 ghost use Rattle.overview_index.specs.Listings.{row_in, number_of, number_at, with_row, without, listing, rows_numbered, live_between, IsLeastFrom, IsGreatestTo};
 
-use crate::held::Held;
+use crate::held::HeldRow;
 use crate::newest::newest_first;
 use crate::spot::Spot;
 use crate::views::Views;
@@ -19,7 +20,7 @@ use std::marker::Model;
 /// and its id once more.
 #[derive(Drop)]
 pub struct Overview {
-    rows: BTreeMap<u32, Held>,
+    rows: BTreeMap<u32, HeldRow>,
     views: Views,
     alloc: Global,
 }
@@ -60,7 +61,7 @@ impl Overview {
     {
         let (number, spot) = (row.number, Spot::of(&row));
         let id = row.id.copy()?.into_vec();
-        self.rows.insert(number, Held::new(self.alloc, row)?)?;
+        self.rows.insert(number, HeldRow::new(self.alloc, row)?)?;
         if let Err(refused) = self.views.add(id, spot) {
             let _ = self.rows.remove(&number);
             return Err(refused);

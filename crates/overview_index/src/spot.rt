@@ -1,4 +1,5 @@
 //! Where a row stands in the order of dates.
+//! Pure.
 ghost use Rattle.std.specs.Prelude.{◌≡◌};
 ghost use Rattle.overview_index.specs.Listings.{spot_of};
 

@@ -1,11 +1,12 @@
 //! The orders in which rows are found: by date and number, by number, and by id.
+//! Allocates.
 ghost use Rattle.std.specs.Prelude.{◌≡◌, [], false, OnOk, OnErr};
 ghost use Rattle.std.specs.BTreeMap.{is_at};
 ghost use Rattle.std.specs.List.{list_any};
 ghost use Rattle.std.specs.List.Sorted.{IsStrictlySortedBy};
 ghost use Rattle.std.specs.Ordering.{nat_cmp};
 ghost use Rattle.overview_index.specs.Listings.{spot_cmp};
-ghost use Rattle.overview_index.specs.Views.{Adds, AddsNumber, Loses, IsSame};
+ghost use Rattle.overview_index.specs.Views.{AddsRow, AddsNumber, LosesRow, IsSame};
 
 use crate::spot::Spot;
 use arch_base::NoMemory;
@@ -44,7 +45,7 @@ impl Views {
     pub(crate) fn add(&mut self, id: Vec<u8>, spot: Spot) -> Result<(), NoMemory>
         requires new_spot { list_any (is_at (spot_cmp spot)) self.old.dates ≡ false }
         requires new_number { list_any (is_at (nat_cmp spot.number)) self.old.numbers ≡ false }
-        ensures ok { OnOk result (Adds self.old self.new id.items spot) }
+        ensures ok { OnOk result (AddsRow self.old self.new id.items spot) }
         ensures err { OnErr result (IsSame self.old self.new) }
     {
         self.dates.insert(spot)?;
@@ -73,7 +74,7 @@ impl Views {
 
     /// Removes a row.
     pub(crate) fn remove(&mut self, id: &[u8], spot: Spot)
-        ensures loses { Loses self.old self.new id.now spot }
+        ensures loses { LosesRow self.old self.new id.now spot }
         ensures sorted { IsStrictlySortedBy nat_cmp self.old.numbers }
     {
         self.dates.remove(&spot);

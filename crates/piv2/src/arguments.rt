@@ -1,4 +1,5 @@
 //! The words of the command line, as the system hands them over.
+//! Calls the system.
 use crate::telling::{tell_cause, tell_end, tell_start};
 use arch_base::NoMemory;
 use archive_cli::{Job, print_no_memory, read_words, run};

@@ -1,4 +1,5 @@
 //! `piv2`, a mailing list archive: the words of the command line say what it does.
+//! Calls the system.
 #![tactic(auto)]
 
 mod arguments;

@@ -1,4 +1,5 @@
 //! What the program says on standard error of how it ended.
+//! Calls the system.
 use arch_base::NoMemory;
 use archive_cli::{Job, Status};
 use real_edges::Progress;

@@ -7,8 +7,8 @@ use Rattle.std.specs.List.{filter, filter_map, flat_map, cons_option}
 use Rattle.text_words.specs.Words.{words_of}
 use Rattle.query_lang.specs.Terms.{starts, after, is_plain, plain_words, prefixed_words}
 use Rattle.query_lang.specs.Dates.{range_of}
-use Rattle.query_lang.specs.Queries.{days_of, range_before, Gives}
-use Rattle.query_lang.specs.Asking.{with_terms, Asks, AsksDays}
+use Rattle.query_lang.specs.Queries.{days_of, range_before, GivesQuery}
+use Rattle.query_lang.specs.Asking.{with_terms, AddsTerm, AsksDays}
 use Rattle.query_lang.specs.declared.query.Query.{Query}
 use Rattle.query_lang.specs.declared.query.QueryRefusal.{QueryRefusal}
 use Rattle.query_lang.specs.declared.query.QueryRefusal.TheVariants.{BadRange, NoMemory}
@@ -99,16 +99,16 @@ step_bad : (q : Query) (term text : List ℕ) (ts : List (List ℕ)) → after 1
 step_bad q term text ts is bad = step_range q term text ts is ∙ ap (ranged q ts) bad
 
 -- What a call that ran out of memory leaves is free.
-abbrev free : (T : Type 0) (old : Query) (term : List ℕ) (e : QueryRefusal) (new : Query) → e ≡ NoMemory → Asks {T = T} old term (Err e) new
-free T old term e new is = subst (λ (x : QueryRefusal). Asks {T = T} old term (Err x) new) (sym is) tt
+abbrev free : (T : Type 0) (old : Query) (term : List ℕ) (e : QueryRefusal) (new : Query) → e ≡ NoMemory → AddsTerm {T = T} old term (Err e) new
+free T old term e new is = subst (λ (x : QueryRefusal). AddsTerm {T = T} old term (Err x) new) (sym is) tt
 
 pub asks_any : {T : Type 0} (old : Query) (term : List ℕ) (r : Result T QueryRefusal) (list : List (List ℕ)) → None ≡ after 115 term → None ≡ after 102 term → None ≡ after 98 term → None ≡ after 100 term → OnOk r (list ≡ old.any ++ words_of term) → IfErr r (λ e. e ≡ NoMemory)
-    → Asks old term r (record old { any = list })
+    → AddsTerm old term r (record old { any = list })
 asks_any old term (Ok x) list s f b d ok err = λ ts. step_any old term ts (sym s) (sym f) (sym b) (sym d) ∙ ap (λ (l : List (List ℕ)). with_terms (record old { any = l }) ts) (sym ok)
 asks_any {T = T} old term (Err e) list s f b d ok err = free T old term e (record old { any = list }) err
 
 -- The days of a term's range were appended, or the term is a bad range.
-pub asks_days : {T : Type 0} (old : Query) (term text : List ℕ) (r : Result T QueryRefusal) (list : List ℕ) → Some text ≡ after 100 term → AsksDays old.days text r list → Asks old term r (record old { days = list })
+pub asks_days : {T : Type 0} (old : Query) (term text : List ℕ) (r : Result T QueryRefusal) (list : List ℕ) → Some text ≡ after 100 term → AsksDays old.days text r list → AddsTerm old term r (record old { days = list })
 asks_days old term text (Ok x) list is asked = λ ts. step_days old term text asked.0 ts (sym is) asked.1 ∙ ap (λ (l : List ℕ). with_terms (record old { days = l }) ts) (sym asked.2)
 asks_days old term text (Err BadRange) list is bad = λ ts. step_bad old term text ts (sym is) bad
 asks_days old term text (Err NoMemory) list is asked = tt
@@ -118,6 +118,6 @@ pub with_terms-none : (q : Query) → with_terms q [] ≡ Some q
 with_terms-none q = rw (append-nil q.any, append-nil q.subject, append-nil q.from, append-nil q.body, append-nil q.days) refl
 
 -- A term that is refused makes the whole text no query.
-pub refused_by : (T : Type 0) (old new : Query) (term : List ℕ) (ts : List (List ℕ)) (e : QueryRefusal) (wanted : Option Query) → with_terms old (term ∷ ts) ≡ wanted → Asks {T = T} old term (Err e) new → Gives (Err e) wanted
+pub refused_by : (T : Type 0) (old new : Query) (term : List ℕ) (ts : List (List ℕ)) (e : QueryRefusal) (wanted : Option Query) → with_terms old (term ∷ ts) ≡ wanted → AddsTerm {T = T} old term (Err e) new → GivesQuery (Err e) wanted
 refused_by T old new term ts BadRange wanted is asked = sym is ∙ asked ts
 refused_by T old new term ts NoMemory wanted is asked = tt

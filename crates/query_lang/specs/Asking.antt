@@ -1,4 +1,4 @@
--- What a query asks after some of its terms.
+-- Private: what a query asks after some of its terms.
 use Rattle.std.specs.Prelude.{◌≡◌, ℕ, List, [], ◌∷◌, ◌++◌, Option, Some, None, option_map, Result, Ok, Err}
 use Rattle.std.specs.List.{filter_map}
 use Rattle.query_lang.specs.Terms.{after, plain_words, prefixed_words}
@@ -25,11 +25,11 @@ with_terms query terms =
     option_map (asked_with query terms) (days_of (filter_map (after 100) terms))
 
 -- A term was added to a query, whatever terms follow, or refused as a bad range.
-abbrev pub Asks : {T : Type 0} → Query → List ℕ → Result T QueryRefusal → Query → Type 0
-Asks old term (Ok x) new =
+abbrev pub AddsTerm : {T : Type 0} → Query → List ℕ → Result T QueryRefusal → Query → Type 0
+AddsTerm old term (Ok x) new =
     (terms : List (List ℕ)) → with_terms old (term ∷ terms) ≡ with_terms new terms
-Asks old term (Err BadRange) new = (terms : List (List ℕ)) → with_terms old (term ∷ terms) ≡ None
-Asks old term (Err NoMemory) new = Unit {0}
+AddsTerm old term (Err BadRange) new = (terms : List (List ℕ)) → with_terms old (term ∷ terms) ≡ None
+AddsTerm old term (Err NoMemory) new = Unit {0}
 
 -- The days of a range were appended, or the text spells none.
 abbrev pub AsksDays : {T : Type 0} → List ℕ → List ℕ → Result T QueryRefusal → List ℕ → Type 0

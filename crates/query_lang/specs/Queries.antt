@@ -40,7 +40,7 @@ query_of text =
     option_map (asked_by terms) (days_of (filter_map (after 100) terms))
 
 -- What was read is the query; out of memory is free.
-abbrev pub Gives : Result Query QueryRefusal → Option Query → Type 0
-Gives (Ok query) wanted = wanted ≡ Some query
-Gives (Err BadRange) wanted = wanted ≡ None
-Gives (Err NoMemory) wanted = Unit {0}
+abbrev pub GivesQuery : Result Query QueryRefusal → Option Query → Type 0
+GivesQuery (Ok query) wanted = wanted ≡ Some query
+GivesQuery (Err BadRange) wanted = wanted ≡ None
+GivesQuery (Err NoMemory) wanted = Unit {0}

@@ -1,4 +1,5 @@
 //! Days, and ranges of days.
+//! Pure.
 ghost use Rattle.std.specs.Prelude.{◌≡◌, ◌<◌, ◌≤◌, [], ◌∷◌, length, IsTrue, IfSome};
 ghost use Rattle.mail_date.specs.Pieces.{year_of};
 ghost use Rattle.query_lang.specs.Dates.{utc_day, from_1970, is_date, day_number, date_of, in_order, has_dots, range_of};

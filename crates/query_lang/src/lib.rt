@@ -1,4 +1,5 @@
 //! Queries: reads what a search asks, and says which messages match.
+//! Allocates.
 #![tactic(auto)]
 
 mod dates;

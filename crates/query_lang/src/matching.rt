@@ -1,4 +1,5 @@
 //! Which messages match a query.
+//! Pure.
 ghost use Rattle.std.specs.Prelude.{◌≡◌};
 ghost use Rattle.std.specs.List.{list_all};
 ghost use Rattle.query_lang.specs.Matching.{has_word, has_in, is_between, in_ranges, matches};

@@ -1,4 +1,5 @@
 //! Queries, and why a text is none.
+//! Allocates.
 ghost use Rattle.std.specs.Prelude.{◌≡◌};
 ghost use Rattle.query_lang.specs.declared.query.Query.{Query};
 ghost use Rattle.query_lang.specs.Queries.{nothing};

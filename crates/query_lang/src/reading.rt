@@ -1,4 +1,5 @@
 //! Reads queries.
+//! Allocates.
 //!
 //! A query is cut at spaces. A term `s:TEXT`, `f:TEXT` or `b:TEXT` asks the words of TEXT in the
 //! subject, the first From field or the text leaves, and a term `d:YYYYMMDD..YYYYMMDD` asks a day
@@ -6,8 +7,8 @@
 //! asks nothing.
 ghost use Rattle.std.specs.Prelude.{◌≡◌, ◌++◌, OnOk, IfErr};
 ghost use Rattle.text_words.specs.Words.{words_of};
-ghost use Rattle.query_lang.specs.Queries.{query_of, Gives};
-ghost use Rattle.query_lang.specs.Asking.{Asks, AsksDays};
+ghost use Rattle.query_lang.specs.Queries.{query_of, GivesQuery};
+ghost use Rattle.query_lang.specs.Asking.{AddsTerm, AsksDays};
 
 use crate::dates::range_of;
 use crate::query::{Query, QueryRefusal};
@@ -22,7 +23,7 @@ use text_words::push_words;
 /// `s:b:one` two words in the subject. A date is a day of the calendar, from 1970 on. An empty
 /// query asks nothing. `NoMemory` if an allocation fails.
 pub fn read(alloc: Global, text: &[u8]) -> Result<Query, QueryRefusal>
-    ensures { Gives result (query_of text.now) }
+    ensures { GivesQuery result (query_of text.now) }
 {
     let mut query = Query::new(alloc);
     let mut rest = text;
@@ -37,7 +38,7 @@ pub fn read(alloc: Global, text: &[u8]) -> Result<Query, QueryRefusal>
 
 /// Adds to a query what a term asks. An error may leave some of that added.
 fn ask(alloc: Global, query: &mut Query, term: &[u8]) -> Result<(), QueryRefusal>
-    ensures { Asks query.old term.now result query.new }
+    ensures { AddsTerm query.old term.now result query.new }
 {
     if let Some(text) = after(b's', term) {
         return ask_words(alloc, &mut query.subject, text);

@@ -1,3 +1,3 @@
-pub mod Nodes
 pub mod Ranks
+pub mod Nodes
 pub mod Windows

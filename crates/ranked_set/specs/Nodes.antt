@@ -1,4 +1,4 @@
--- The items of a node of a tree.
+-- Private: the items of a node of a tree.
 use Rattle.std.specs.Prelude.{◌≡◌, ◌+◌, List, [], ◌∷◌, ◌++◌, length}
 use Rattle.ranked_set.specs.declared.tree.Node.{Node}
 use Rattle.ranked_set.specs.declared.tree.Node.TheVariants.{Leaf, Fork}
@@ -19,6 +19,6 @@ left_items Leaf = []
 left_items (Fork left item len right) = left.value
 
 -- The count of the items is right.
-abbrev pub IsCounted : {T : Type 0} → Node T → Type 0
-IsCounted Leaf = Unit {0}
-IsCounted (Fork left item len right) = len ≡ length left.value + length right.value + 1
+abbrev pub CountsItems : {T : Type 0} → Node T → Type 0
+CountsItems Leaf = Unit {0}
+CountsItems (Fork left item len right) = len ≡ length left.value + length right.value + 1

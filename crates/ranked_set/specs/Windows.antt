@@ -1,4 +1,4 @@
--- Parts of lists.
+-- Private: parts of lists.
 use Rattle.std.specs.Prelude.{ℕ, ◌-◌, List, take, drop}
 use Rattle.ranked_set.specs.declared.window.Window.{Window}
 

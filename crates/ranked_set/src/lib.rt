@@ -1,4 +1,5 @@
 //! An ordered set that knows the rank of each key.
+//! Allocates.
 #![tactic(auto)]
 
 mod set;

@@ -1,10 +1,11 @@
 //! A list in a balanced tree, in which each node counts the items below it.
+//! Allocates.
 ghost use Rattle.std.specs.Prelude.{◌≡◌, ◌+◌, ◌^◌, ◌<◌, ◌≤◌, [], ◌∷◌, ◌++◌, length, reverse, slice_get, is_ok, if◌then◌else◌, IfOk, IfNone, OnOk};
 ghost use Rattle.std.specs.List.{prefix_len, insert, remove};
 ghost use Rattle.std.specs.List.Sorted.{IsStrictlySortedBy};
 ghost use Rattle.std.specs.Option.{option_to_list};
 ghost use Rattle.std.specs.Ordering.{is_lt};
-ghost use Rattle.ranked_set.specs.Nodes.{items, without_top, left_items, IsCounted};
+ghost use Rattle.ranked_set.specs.Nodes.{items, without_top, left_items, CountsItems};
 ghost use Rattle.ranked_set.specs.Windows.{seen_by};
 ghost use Rattle.ranked_set.specs.declared.tree.Node.TheVariants.{Fork};
 
@@ -37,11 +38,11 @@ impl<T> Model for Tree<T> {
 
     ghost Value = { List T };
 
-    ghost use Rattle.ranked_set.specs.Nodes.{items, IsCounted};
+    ghost use Rattle.ranked_set.specs.Nodes.{items, CountsItems};
 
     ghost view = { λ t. items t.node };
 
-    ghost invariant = { λ t. IsCounted t.node };
+    ghost invariant = { λ t. CountsItems t.node };
 
     ghost size = { length };
 
@@ -71,14 +72,14 @@ impl<T: Copy> Tree<T> {
     /// Returns the node.
     fn open(self) -> Node<T>
         ensures same { items result ≡ self }
-        ensures counted { IsCounted result }
+        ensures counted { CountsItems result }
     {
         self.node
     }
 
     /// Returns the tree of a node.
     fn close(node: Node<T>) -> Self
-        requires { IsCounted node }
+        requires { CountsItems node }
         ensures { result ≡ items node }
     {
         Tree { node }
@@ -219,7 +220,7 @@ impl<T: Ord + Copy> Tree<T> {
 /// Returns the node of one item.
 fn single<T: Copy>(alloc: Global, item: T) -> Result<Node<T>, NoMemory>
     ensures items { IfOk result (λ node. items node ≡ item ∷ []) }
-    ensures counted { IfOk result IsCounted }
+    ensures counted { IfOk result CountsItems }
 {
     let left = Box::new(alloc, Tree::new())?;
     let right = Box::new(alloc, Tree::new())?;
@@ -239,7 +240,7 @@ fn fork<T: Copy>(left: Box<Tree<T>>, item: T, right: Box<Tree<T>>) -> Node<T>
 fn rebalance<T: Copy>(node: &mut Node<T>)
     requires { length (items node.old) < 2 ^ 64 }
     ensures items { items node.new ≡ items node.old }
-    ensures counted { IsCounted node.new }
+    ensures counted { CountsItems node.new }
 {
     *node = match mem::replace(node, Node::Leaf) {
         Node::Leaf => Node::Leaf,
@@ -251,7 +252,7 @@ fn rebalance<T: Copy>(node: &mut Node<T>)
 fn remove_top<T: Copy>(node: &mut Node<T>)
     requires { length (items node.old) < 2 ^ 64 }
     ensures items { items node.new ≡ without_top node.old }
-    ensures counted { IsCounted node.new }
+    ensures counted { CountsItems node.new }
 {
     *node = match mem::replace(node, Node::Leaf) {
         Node::Leaf => Node::Leaf,
@@ -262,7 +263,7 @@ fn remove_top<T: Copy>(node: &mut Node<T>)
 /// Keeps the left side of a node alone.
 fn keep_left<T: Copy>(node: &mut Node<T>)
     ensures items { items node.new ≡ left_items node.old }
-    ensures counted { IsCounted node.new }
+    ensures counted { CountsItems node.new }
 {
     *node = match mem::replace(node, Node::Leaf) {
         Node::Leaf => Node::Leaf,
@@ -274,7 +275,7 @@ fn keep_left<T: Copy>(node: &mut Node<T>)
 fn joined<T: Copy>(mut left: Box<Tree<T>>, right: Box<Tree<T>>) -> Node<T>
     requires { length left.value + length right.value < 2 ^ 64 }
     ensures items { items result ≡ left.value ++ right.value }
-    ensures counted { IsCounted result }
+    ensures counted { CountsItems result }
 {
     match left.pop_last() {
         Some(last) => balanced(left, last, right),
@@ -287,7 +288,7 @@ fn joined<T: Copy>(mut left: Box<Tree<T>>, right: Box<Tree<T>>) -> Node<T>
 fn balanced<T: Copy>(left: Box<Tree<T>>, item: T, right: Box<Tree<T>>) -> Node<T>
     requires { length left.value + length right.value + 1 < 2 ^ 64 }
     ensures items { items result ≡ left.value ++ item ∷ right.value }
-    ensures counted { IsCounted result }
+    ensures counted { CountsItems result }
 {
     if left.len() / 3 > right.len() {
         return lean_left(left, item, right);
@@ -303,7 +304,7 @@ fn lean_left<T: Copy>(mut left: Box<Tree<T>>, item: T, right: Box<Tree<T>>) -> N
     requires some { 0 < length left.value }
     requires room { length left.value + length right.value + 1 < 2 ^ 64 }
     ensures items { items result ≡ left.value ++ item ∷ right.value }
-    ensures counted { IsCounted result }
+    ensures counted { CountsItems result }
 {
     let Node::Fork(outer, middle, _, mut inner) = mem::replace(&mut *left, Tree::new()).open()
     else {
@@ -326,7 +327,7 @@ fn lean_right<T: Copy>(left: Box<Tree<T>>, item: T, mut right: Box<Tree<T>>) -> 
     requires some { 0 < length right.value }
     requires room { length left.value + length right.value + 1 < 2 ^ 64 }
     ensures items { items result ≡ left.value ++ item ∷ right.value }
-    ensures counted { IsCounted result }
+    ensures counted { CountsItems result }
 {
     let Node::Fork(mut inner, middle, _, outer) = mem::replace(&mut *right, Tree::new()).open()
     else {

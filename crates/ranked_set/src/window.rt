@@ -1,4 +1,5 @@
 //! A part of a list: some items after some that are skipped.
+//! Allocates.
 ghost use Rattle.std.specs.Prelude.{◌≡◌, ◌++◌, [], ◌∷◌, ◌==◌, ◌||◌, nat_le, OnOk};
 ghost use Rattle.ranked_set.specs.Windows.{seen_by, after as after_items};
 

@@ -1,4 +1,4 @@
--- What a run knows of its folder.
+-- Private: what a run knows of its folder.
 use Rattle.std.specs.Prelude.{◌≡◌}
 use Rattle.real_edges.specs.declared.folder.Home.{Home}
 use Rattle.real_edges.specs.declared.folder.Home.TheVariants.{Unseen, Missing, Held}
@@ -10,7 +10,7 @@ IsSeen Missing = Unit {0}
 IsSeen (Held folder) = Unit {0}
 
 -- A folder whose lock was held is still held, by the same handle.
-abbrev pub Keeps : Home → Home → Type 0
-Keeps Unseen now = Unit {0}
-Keeps Missing now = Unit {0}
-Keeps (Held folder) now = now ≡ Held folder
+abbrev pub KeepsHandle : Home → Home → Type 0
+KeepsHandle Unseen now = Unit {0}
+KeepsHandle Missing now = Unit {0}
+KeepsHandle (Held folder) now = now ≡ Held folder

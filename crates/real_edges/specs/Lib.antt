@@ -1,4 +1,4 @@
 pub mod Counted
-pub mod Homes
 pub mod Progress
 pub mod Sockets
+pub mod Homes

@@ -1,4 +1,5 @@
 //! The reasons why a call on a folder fails, and their words.
+//! Allocates.
 use crate::names::path_in;
 use disk_model::FileName;
 use std::alloc::{AllocError, AllocFailed, Global};

@@ -1,4 +1,5 @@
 //! A client at a socket.
+//! Calls the system.
 ghost use Rattle.std.specs.Prelude.{ℕ, List};
 ghost use Rattle.real_edges.specs.Sockets.{IsHeard};
 

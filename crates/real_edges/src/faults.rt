@@ -1,4 +1,5 @@
 //! The failed calls of an edge.
+//! Allocates.
 ghost use Rattle.std.specs.Prelude.{◌≡◌, ◌≤◌};
 ghost use Rattle.arch_base.specs.Counts.{Rose};
 

@@ -1,6 +1,7 @@
 //! A folder of files that one run at a time uses, before and after it is locked.
+//! Calls the system.
 ghost use Rattle.std.specs.Prelude.{◌≤◌, length, IfOk, OnOk};
-ghost use Rattle.real_edges.specs.Homes.{IsSeen, Keeps};
+ghost use Rattle.real_edges.specs.Homes.{IsSeen, KeepsHandle};
 
 use crate::cause::{Failure, Spot};
 use crate::held_folder::HeldFolder;
@@ -177,7 +178,7 @@ impl<'a> Folder<'a> {
     /// missing.
     fn find(&mut self) -> Result<(), Failure>
         ensures seen { OnOk result (IsSeen self.new.home) }
-        ensures keeps { Keeps self.old.home self.new.home }
+        ensures keeps { KeepsHandle self.old.home self.new.home }
     {
         if let Home::Unseen = self.home {
             self.home = match self.take()? {

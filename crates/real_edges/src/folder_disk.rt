@@ -1,4 +1,5 @@
 //! A disk over a folder of the system.
+//! Calls the system.
 ghost use Rattle.std.specs.Prelude.{◌≡◌, ◌≤◌, None, IfOk};
 ghost use Rattle.arch_base.specs.Counts.{Rose};
 ghost use Rattle.disk_model.specs.Laws.{untold_fits};

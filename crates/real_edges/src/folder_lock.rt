@@ -1,4 +1,5 @@
 //! The lock on a folder, which one run at a time holds.
+//! Calls the system.
 use crate::cause::{Failure, Spot};
 use crate::progress::Progress;
 use std::fs::{self, File, TryLockError};

@@ -1,4 +1,5 @@
 //! A folder whose lock this run holds, and its open files.
+//! Calls the system.
 ghost use Rattle.std.specs.Prelude.{◌≤◌, length, IfOk};
 
 use crate::cause::{Failure, MARK, Spot, above};

@@ -1,5 +1,7 @@
-//! The edge to the system: a disk over a folder, the standard input and output, the system's clock,
-//! and sockets. Contracts don't know what these hold. Their faults are counted.
+//! The edge to the system: a disk over a folder, the standard streams, the clock, and sockets.
+//! Calls the system.
+//!
+//! Contracts don't know what these hold. Their faults are counted.
 #![tactic(auto)]
 
 mod cause;

@@ -1,4 +1,5 @@
 //! The mark that a failed sync leaves in a folder, and what the next run does about it.
+//! Calls the system.
 ghost use Rattle.std.specs.Prelude.{◌≡◌, IfOk, length};
 
 use crate::cause::{Failure, Spot, mark_in};

@@ -1,4 +1,5 @@
 //! The spelling of file names in a folder.
+//! Allocates.
 use arch_base::read_decimal;
 use disk_model::{FileKind, FileName};
 use std::alloc::{AllocError, Global};
@@ -9,9 +10,13 @@ use std::alloc::{AllocError, Global};
 /// a map and a cache of number 0, and `KIND-N.GEN` for every other file, as `epoch-N.GEN`.
 pub fn path_in(alloc: Global, folder: &str, name: FileName) -> Result<String, AllocError> {
     let word = word_of(name.kind);
-    let FileName { number, gen_, .. } = name;
+    let FileName {
+        number,
+        generation,
+        ..
+    } = name;
     match name.kind {
-        FileKind::Root if number == 0 && gen_ == 0 => format!(in alloc; "{folder}/{word}"),
+        FileKind::Root if number == 0 && generation == 0 => format!(in alloc; "{folder}/{word}"),
         FileKind::Map | FileKind::Cache if number == 0 => format!(in alloc;
             "{folder}/{word}.{gen_}"
         ),
@@ -35,40 +40,44 @@ pub fn name_of(text: &str) -> Option<FileName> {
         return Some(FileName {
             kind: FileKind::Root,
             number: 0,
-            gen_: 0,
+            generation: 0,
         });
     }
-    let (front, gen_) = text.split_once('.')?;
-    let gen_ = read_decimal(gen_.as_bytes())?;
+    let (front, generation) = text.split_once('.')?;
+    let generation = read_decimal(generation.as_bytes())?;
     match front {
         "map" => Some(FileName {
             kind: FileKind::Map,
             number: 0,
-            gen_,
+            generation,
         }),
         "cache" => Some(FileName {
             kind: FileKind::Cache,
             number: 0,
-            gen_,
+            generation,
         }),
-        _ => numbered(front, gen_),
+        _ => numbered(front, generation),
     }
 }
 
 /// Returns the name that a word with a number spells, with a generation, or `None` if it spells
 /// none.
-fn numbered(front: &str, gen_: u64) -> Option<FileName> {
+fn numbered(front: &str, generation: u64) -> Option<FileName> {
     let (word, number) = front.split_once('-')?;
     let number = read_decimal(number.as_bytes())?;
     let number = u32::try_from(number).ok()?;
-    let kind = kind_of(word, number, gen_)?;
-    Some(FileName { kind, number, gen_ })
+    let kind = kind_of(word, number, generation)?;
+    Some(FileName {
+        kind,
+        number,
+        generation,
+    })
 }
 
 /// Returns the kind of a file whose name is spelled with its number, or `None` if none is.
-fn kind_of(word: &str, number: u32, gen_: u64) -> Option<FileKind> {
+fn kind_of(word: &str, number: u32, generation: u64) -> Option<FileKind> {
     match word {
-        "root" if number != 0 || gen_ != 0 => Some(FileKind::Root),
+        "root" if number != 0 || generation != 0 => Some(FileKind::Root),
         "map" if number != 0 => Some(FileKind::Map),
         "epoch" => Some(FileKind::Epoch),
         "cache" if number != 0 => Some(FileKind::Cache),

@@ -1,4 +1,5 @@
 //! An open file that knows whether it has to be synced.
+//! Calls the system.
 ghost use Rattle.std.specs.Prelude.{◌≤◌, length, IfOk};
 
 use std::fs::File;

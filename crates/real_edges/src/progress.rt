@@ -1,4 +1,5 @@
 //! The standard error of a run: its lines, and the line of progress.
+//! Calls the system.
 use std::cell::Cell;
 use std::fmt::{self, Display};
 use std::io::{self, IsTerminal, Print};

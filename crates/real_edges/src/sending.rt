@@ -1,4 +1,5 @@
 //! Sends bytes to a socket within a bounded time.
+//! Calls the system.
 use mio::net::TcpStream;
 use mio::{Events, Interest, Poll, Token};
 use std::io::{self, ErrorKind, Write};

@@ -1,4 +1,5 @@
 //! A host over sockets.
+//! Calls the system.
 ghost use Rattle.std.specs.Prelude.{◌≡◌, ◌≤◌, None, IfOk, length};
 ghost use Rattle.arch_base.specs.Moments.{IsMoment};
 ghost use Rattle.real_edges.specs.Sockets.{MayHappen};

@@ -1,4 +1,5 @@
 //! Sockets of clients on the loopback interface, and what happens at them.
+//! Calls the system.
 ghost use Rattle.std.specs.Prelude.{ℕ, List, IfOk, IfSome, IsTrue};
 ghost use Rattle.edge_io.specs.Events.{IsDoor};
 ghost use Rattle.real_edges.specs.Sockets.{MayHappen};

@@ -1,4 +1,5 @@
 //! The standard output as a sink.
+//! Calls the system.
 ghost use Rattle.std.specs.Prelude.{◌≡◌, None, IfOk};
 
 use crate::faults::Faults;

@@ -1,4 +1,5 @@
 //! The standard input as a source.
+//! Calls the system.
 ghost use Rattle.std.specs.Prelude.{◌≡◌, None, IfOk};
 
 use crate::faults::Faults;

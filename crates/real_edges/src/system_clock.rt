@@ -1,4 +1,5 @@
 //! The system's clock as a clock of moments.
+//! Calls the system.
 ghost use Rattle.std.specs.Prelude.{◌≡◌, None, IfOk};
 ghost use Rattle.arch_base.specs.Moments.{IsMoment};
 

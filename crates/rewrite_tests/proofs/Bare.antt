@@ -37,13 +37,13 @@ bare_sizes root (Some k) bare size = record {
 }
 
 -- A root of sequence 1 without a number, a byte or an epoch is that of an archive without messages.
-pub is_bare : (root : Root) → IsConfig root.config → root.sequence ≡ 1 → root.next ≡ 1 → root.map ≡ record { gen_ = 1; length = 0 } → root.epochs ≡ replicate 64 no_place → root.cache ≡ no_place → IsBare root
+pub is_bare : (root : Root) → IsConfig root.config → root.sequence ≡ 1 → root.next ≡ 1 → root.map ≡ record { generation = 1; length = 0 } → root.epochs ≡ replicate 64 no_place → root.cache ≡ no_place → IsBare root
 is_bare root config sequence next map epochs cache = record {
   valid = record {
     config = config;
     next_least = omega (arith, next);
     next_most = omega (arith, next);
-    map_gen = (let gen : root.map.gen_ ≡ 1 = ap (λ (p : Place). p.gen_) map in omega (arith, gen, sequence));
+    map_gen = (let gen : root.map.generation ≡ 1 = ap (λ (p : Place). p.generation) map in omega (arith, gen, sequence));
     map_length = ap (λ (p : Place). p.length) map ∙ sym (ap (λ (n : ℕ). 28 * (n - 1)) next);
     epochs = subst (λ (ps : List Place). All (PlaceIsValid root.sequence) ps) (sym epochs) (All-replicate (PlaceIsValid root.sequence) 64 no_place none);
     cache = subst (PlaceIsValid root.sequence) (sym cache) none;
@@ -53,4 +53,4 @@ is_bare root config sequence next map epochs cache = record {
   epochs = epochs;
 } where
   none : PlaceIsValid root.sequence no_place
-  none = record { gen_ = omega arith; empty = λ is. refl }
+  none = record { generation = omega arith; empty = λ is. refl }

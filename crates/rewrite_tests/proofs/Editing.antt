@@ -10,7 +10,7 @@ use Rattle.arch_model.specs.Archives.{Entry, Archive, is_message, is_ended, is_i
 use Rattle.arch_base.specs.declared.ids.Id20.{Id20}
 use Rattle.store_finding.specs.declared.entries.StoredEntry.{StoredEntry}
 use Rattle.mail_reader.specs.StorageTexts.{IsStorageText}
-use Rattle.store_finding.specs.Kept.{View, Keeps, stored_after}
+use Rattle.store_finding.specs.Kept.{StoreState, KeepsArchive, stored_after}
 use Rattle.epoch_store.specs.Commands.{MayEdit, MayPurge}
 
 -- Each of these entries has another own id than a text.
@@ -48,20 +48,20 @@ found None some = absurd (let no : false ≡ true = some in cc)
 found (Some id) some = (id, refl)
 
 -- The own id of a text, and what is said of the entries of an archive.
-ids_of : (v : View) (text : List ℕ) → IsSome (own_id text) → Apart text v.entries → (a : Archive) → Keeps v a → (id : List ℕ) × (own_id text ≡ Some id) × AllByRecursion (λ (e : Entry). is_id id (own_id e.text) ≡ false) a.entries
+ids_of : (v : StoreState) (text : List ℕ) → IsSome (own_id text) → Apart text v.entries → (a : Archive) → KeepsArchive v a → (id : List ℕ) × (own_id text ≡ Some id) × AllByRecursion (λ (e : Entry). is_id id (own_id e.text) ≡ false) a.entries
 ids_of v text some apart a keeps =
     let own = found (own_id text) some in
     let all = subst (λ (es : List StoredEntry). AllByRecursion (λ (s : StoredEntry). own_id text ≢ Some s.seen.id) es) keeps.kept apart in
     (own.0, own.1, others [] a.entries own.0 (subst (λ (o : Option (List ℕ)). AllByRecursion (λ (s : StoredEntry). o ≢ Some s.seen.id) (stored_after [] a.entries)) own.1 all))
 
 -- The text is free in the archive without another one.
-free_without : (v : View) (text : List ℕ) → IsSome (own_id text) → Apart text v.entries → (a : Archive) → Keeps v a → (old : List ℕ) → IsFree (live (without_text a.entries old)) text
+free_without : (v : StoreState) (text : List ℕ) → IsSome (own_id text) → Apart text v.entries → (a : Archive) → KeepsArchive v a → (old : List ℕ) → IsFree (live (without_text a.entries old)) text
 free_without v text some apart a keeps old =
     let ids = ids_of v text some apart a keeps in
     (ids.0, ids.1, none_owns (without_text a.entries old) ids.0 (some_stay (λ (e : Entry). is_id ids.0 (own_id e.text) ≡ false) a.entries old ids.2))
 
 -- The edit may be done.
-pub editable : (v : View) (number : ℕ) (blob : Id20) (text : List ℕ) → MayPurge v number blob → v.root.next ≤ v.root.config.max → IsStorageText text → Apart text v.entries → MayEdit v number blob text
+pub editable : (v : StoreState) (number : ℕ) (blob : Id20) (text : List ℕ) → MayPurge v number blob → v.root.next ≤ v.root.config.max → IsStorageText text → Apart text v.entries → MayEdit v number blob text
 editable v number blob text purge left storage apart = record { purge = purge; number_left = left; storage = storage; id = λ a n old keeps shown is. free_without v text storage.id apart a keeps old }
 
 pub of_two : (text : List ℕ) (es : List StoredEntry) (e f : StoredEntry) → length es < 3 → e ≡ get_or es 0 e → f ≡ get_or es 1 f → own_id text ≢ Some e.seen.id → own_id text ≢ Some f.seen.id → Apart text es

@@ -15,7 +15,7 @@ pub record IsBare (root : Root) : Type 0 where
   pub epochs : root.epochs ≡ replicate epoch_count no_place
 
 -- A plan writes some bytes to the first epoch anew.
-pub record IsFirst (plan : Plan) : Type 0 where
+pub record IsFirstPlan (plan : Plan) : Type 0 where
   pub valid : IsPlan plan
   pub bytes : List ℕ
   pub plan_is : plan ≡ with_bytes (no_plan kind.Epoch 0 target.Anew) bytes

@@ -13,14 +13,14 @@ use std::test::Fail;
 const EPOCH: FileName = FileName {
     kind: FileKind::Epoch,
     number: 0,
-    gen_: 2,
+    generation: 2,
 };
 
 /// The file to which it is written anew.
 const ANEW: FileName = FileName {
     kind: FileKind::Epoch,
     number: 0,
-    gen_: 4,
+    generation: 4,
 };
 
 /// The bytes of an epoch that has the second mail alone, whose commit then has no parent.

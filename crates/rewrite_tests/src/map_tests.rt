@@ -13,14 +13,14 @@ use std::test::Fail;
 const MAP: FileName = FileName {
     kind: FileKind::Map,
     number: 0,
-    gen_: 1,
+    generation: 1,
 };
 
 /// The file to which it is written anew.
 const ANEW: FileName = FileName {
     kind: FileKind::Map,
     number: 0,
-    gen_: 4,
+    generation: 4,
 };
 
 /// The records of two messages in the first epoch.

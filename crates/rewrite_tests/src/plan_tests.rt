@@ -5,7 +5,7 @@ ghost use Rattle.disk_model.specs.Disk.{WhereTold};
 ghost use Rattle.root_slots.specs.Valid.{IsRoot};
 ghost use Rattle.root_change.specs.Texts.{HasSizes};
 ghost use Rattle.root_change.specs.Rewriting.{MapFits, MayCarryAll};
-ghost use Rattle.rewrite_tests.specs.Bare.{IsBare, IsFirst};
+ghost use Rattle.rewrite_tests.specs.Bare.{IsBare, IsFirstPlan};
 
 use arch_base::{Config, Name, NoMemory};
 use disk_model::{Disk, DiskFault, EPOCHS, FileKind, FileName};
@@ -19,21 +19,21 @@ use std::test::Fail;
 pub(crate) const ROOT: FileName = FileName {
     kind: FileKind::Root,
     number: 0,
-    gen_: 0,
+    generation: 0,
 };
 
 /// The file of an epoch.
 const EPOCH: FileName = FileName {
     kind: FileKind::Epoch,
     number: 5,
-    gen_: 3,
+    generation: 3,
 };
 
 /// The file of the first epoch after the plan was carried out.
 const WRITTEN: FileName = FileName {
     kind: FileKind::Epoch,
     number: 0,
-    gen_: 2,
+    generation: 2,
 };
 
 /// The sources of a plan of bytes, a range, and bytes again.
@@ -99,15 +99,24 @@ pub(crate) fn bare() -> Option<Root>
         config,
         sequence: 1,
         next: 1,
-        map: Place { gen_: 1, length: 0 },
-        epochs: [Place { gen_: 0, length: 0 }; EPOCHS as usize],
-        cache: Place { gen_: 0, length: 0 },
+        map: Place {
+            generation: 1,
+            length: 0,
+        },
+        epochs: [Place {
+            generation: 0,
+            length: 0,
+        }; EPOCHS as usize],
+        cache: Place {
+            generation: 0,
+            length: 0,
+        },
     })
 }
 
 /// Plans five bytes of the first epoch.
 fn first(alloc: Global) -> Result<PartPlan, NoMemory>
-    ensures { IfOk result IsFirst }
+    ensures { IfOk result IsFirstPlan }
 {
     let mut plan = PartPlan::new(alloc, FileKind::Epoch, 0, Target::Anew);
     plan.push_bytes(b"abcde")?;
@@ -136,7 +145,10 @@ pub(crate) fn carry_out<D: Disk>(
 
 /// Returns whether a root is the second one, and names five bytes of the first epoch.
 fn is_second(root: &Root) -> bool {
-    let place = Place { gen_: 2, length: 5 };
+    let place = Place {
+        generation: 2,
+        length: 5,
+    };
     root.sequence == 2 && root.next == 1 && root.epochs[0] == place && root.map.length == 0
 }
 

@@ -3,7 +3,7 @@ ghost use Rattle.std.specs.Prelude.{◌≡◌, ◌≢◌, Some, IsTrue};
 ghost use Rattle.disk_model.specs.Disk.{WhereTold};
 ghost use Rattle.git_objects.specs.declared.entry_kind.EntryKind.TheVariants.{Message};
 ghost use Rattle.mail_reader.specs.Ids.{own_id as own_id_in};
-ghost use Rattle.epoch_store.specs.Commands.{HasSizes, MayEdit, MayPurge};
+ghost use Rattle.epoch_store.specs.Commands.{StoreHasSizes, MayEdit, MayPurge};
 
 use crate::entries_tests::{ALONE_COMMIT, put_two};
 use crate::map_tests::BYTES;
@@ -25,14 +25,14 @@ use store_finding::StoredEntry;
 const MAP: FileName = FileName {
     kind: FileKind::Map,
     number: 0,
-    gen_: 1,
+    generation: 1,
 };
 
 /// The map after a purge or an edit.
 const MAP_ANEW: FileName = FileName {
     kind: FileKind::Map,
     number: 0,
-    gen_: 4,
+    generation: 4,
 };
 
 /// The bytes of the root file that aren't 0: a root of sequence 3 in the first slot, with two numbers
@@ -90,11 +90,11 @@ fn filled(alloc: Global) -> Result<MemDisk, StoreRefusal> {
 }
 
 /// Returns the file of the first epoch of a generation.
-fn first_epoch(gen_: u64) -> FileName {
+fn first_epoch(generation: u64) -> FileName {
     FileName {
         kind: FileKind::Epoch,
         number: 0,
-        gen_,
+        generation,
     }
 }
 
@@ -153,7 +153,7 @@ fn may_edit(store: &Store, blob: &ObjectId, text: &[u8]) -> bool
 
 /// Purges the first of two messages.
 fn purge_first<D: Disk>(alloc: Global, disk: &mut D, store: &mut Store) -> Result<(), StoreRefusal>
-    requires sizes { WhereTold (HasSizes store.old) (D.content disk.old) }
+    requires sizes { WhereTold (StoreHasSizes store.old) (D.content disk.old) }
 {
     let blob = blob_id(FIRST);
     if !may_purge(store, &blob) {
@@ -164,7 +164,7 @@ fn purge_first<D: Disk>(alloc: Global, disk: &mut D, store: &mut Store) -> Resul
 
 /// Edits the first of two messages to the third mail.
 fn edit_first<D: Disk>(alloc: Global, disk: &mut D, store: &mut Store) -> Result<(), StoreRefusal>
-    requires sizes { WhereTold (HasSizes store.old) (D.content disk.old) }
+    requires sizes { WhereTold (StoreHasSizes store.old) (D.content disk.old) }
 {
     let blob = blob_id(FIRST);
     if !may_edit(store, &blob, THIRD) {

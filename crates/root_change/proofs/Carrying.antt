@@ -3,7 +3,7 @@ use Rattle.std.specs.Prelude.{◌≡◌, ℕ, ◌-◌, List, Option, Some, None,
 use Rattle.std.specs.Result.{IsErrAnd}
 use Rattle.std.proofs.Common.{◌∙◌, sym, ap, subst, inl, inr, arith}
 use Rattle.arch_base.specs.Counts.{Rose, HasCause, RoseIf}
-use Rattle.disk_model.specs.Disk.{Content, File, Files, LeavesOnly, Told, WhereTold, bytes_of}
+use Rattle.disk_model.specs.Disk.{Content, File, Files, LeavesOnly, BothTold, WhereTold, bytes_of}
 use Rattle.disk_model.specs.Beside.{RunsBeside}
 use Rattle.disk_model.specs.Moments.{weaker}
 use Rattle.disk_model.specs.Tells.{told_then}
@@ -15,10 +15,10 @@ use Rattle.root_slots.specs.Valid.{IsRoot, RootFits}
 use Rattle.root_change.specs.declared.rewriting.RewriteRefusal.{RewriteRefusal}
 use Rattle.root_change.specs.declared.rewriting.RewriteRefusal.TheVariants.{DiskFault, Short}
 use Rattle.root_change.specs.Names.{bounds_of}
-use Rattle.root_change.specs.Parts.{Parts, texts_of, IsOwn}
+use Rattle.root_change.specs.Parts.{Parts, texts_of, IsOwnOfParts}
 use Rattle.root_change.specs.Replacing.{ToReplace, StandsForEither}
 use Rattle.root_change.specs.Rewriting.{Plan, CarriesOut, IfShort, IsFailed, IsPlannedPart, IsRootAfter, IsShort, MayCarryAll, RecoversPlanned, rewritten}
-use Rattle.root_change.specs.Parts.{RecoversBy}
+use Rattle.root_change.specs.Parts.{RecoversPartsBy}
 use Rattle.root_change.specs.Texts.{Texts, OnDisk}
 use Rattle.root_change.specs.Writing.{WritesPlans}
 use Rattle.root_change.proofs.Changes.{writing_by, changing_by, to_replace, changed}
@@ -61,10 +61,10 @@ not_short None = tt
 not_short (Some k) = λ short. short
 
 module _ {D : Type 0} (content : D → Option Content) (moment : D → ℕ) (left_since : D → ℕ → Files → Type 0) (faults : D → ℕ) (disk d : D) (old : Root) (free : ℕ) (plans : List Plan) (number : ℕ) where
-  failed_now : (refusal : RewriteRefusal) → ((parts : Parts) → IsOwn old free parts (content disk) → LeavesOnly moment left_since disk d (RecoversPlanned old plans number parts)) → RunsBeside content moment left_since (bounds_of old) disk d → WhereTold (λ (c : Content). IsShort {T = Root} (Err refusal) → ⊥) (content disk)
+  failed_now : (refusal : RewriteRefusal) → ((parts : Parts) → IsOwnOfParts old free parts (content disk) → LeavesOnly moment left_since disk d (RecoversPlanned old plans number parts)) → RunsBeside content moment left_since (bounds_of old) disk d → WhereTold (λ (c : Content). IsShort {T = Root} (Err refusal) → ⊥) (content disk)
       → IfShort {T = Root} (Err refusal) (IsPlannedPart old plans) → RoseIf (IsFailed {T = Root} (Err refusal)) (faults disk) (faults d) → CarriesOut content moment left_since faults disk d old free plans number (Err refusal)
   failed_now refusal leaves run whole told rose = record {
-    any_moment = leaves;
+    crash = leaves;
     done = λ parts own. tt;
     whole = whole;
     short = told;
@@ -74,8 +74,8 @@ module _ {D : Type 0} (content : D → Option Content) (moment : D → ℕ) (lef
     sizes = tt;
     cause = rose;
     rooted = tt;
-    between = beside_between content moment left_since old disk d run;
-    beside = λ short. run;
+    crash_between = beside_between content moment left_since old disk d run;
+    crash_beside = λ short. run;
   }
 
   -- The plans weren't carried out: what a crash leaves stands for the old parts.
@@ -85,15 +85,15 @@ module _ {D : Type 0} (content : D → Option Content) (moment : D → ℕ) (lef
   writing_failed new (Err r) refusal is run whole told rose =
       subst (λ (x : RewriteRefusal). CarriesOut content moment left_since faults disk d old free plans number (Err x)) (sym is)
       (failed_now refusal
-      (λ parts own. weaker moment left_since disk d (RecoversBy old parts) (RecoversPlanned old plans number parts) (writing_by free old new parts (rewritten old plans parts) content moment left_since disk d own run) (λ image stands. inl stands))
+      (λ parts own. weaker moment left_since disk d (RecoversPartsBy old parts) (RecoversPlanned old plans number parts) (writing_by free old new parts (rewritten old plans parts) content moment left_since disk d own run) (λ image stands. inl stands))
       run (whole_as refusal (content disk) whole) (short_handed {T = Root} (IsPlannedPart old plans) (IsPlannedPart old plans) (Err refusal) refusal (λ file at part. part) refl told) (rose_as refusal (faults disk) (faults d) rose))
 
   -- The disk failed while the root was replaced.
-  pub replacing_failed : (result : Result Root RewriteRefusal) → IsErrAnd result (λ r. r ≡ DiskFault) → ((parts : Parts) → IsOwn old free parts (content disk) → LeavesOnly moment left_since disk d (RecoversPlanned old plans number parts)) → RoseIf (Unit {0}) (faults disk) (faults d) → RunsBetween content moment left_since disk d
+  pub replacing_failed : (result : Result Root RewriteRefusal) → IsErrAnd result (λ r. r ≡ DiskFault) → ((parts : Parts) → IsOwnOfParts old free parts (content disk) → LeavesOnly moment left_since disk d (RecoversPlanned old plans number parts)) → RoseIf (Unit {0}) (faults disk) (faults d) → RunsBetween content moment left_since disk d
       → CarriesOut content moment left_since faults disk d old free plans number result
-  replacing_failed (Ok made) is leaves rose between = absurd is
-  replacing_failed (Err r) is leaves rose between = subst (λ (x : RewriteRefusal). CarriesOut content moment left_since faults disk d old free plans number (Err x)) (sym is) (record {
-    any_moment = leaves;
+  replacing_failed (Ok made) is leaves rose crash_between = absurd is
+  replacing_failed (Err r) is leaves rose crash_between = subst (λ (x : RewriteRefusal). CarriesOut content moment left_since faults disk d old free plans number (Err x)) (sym is) (record {
+    crash = leaves;
     done = λ parts own. tt;
     whole = not_short (content disk);
     short = tt;
@@ -103,8 +103,8 @@ module _ {D : Type 0} (content : D → Option Content) (moment : D → ℕ) (lef
     sizes = tt;
     cause = rose;
     rooted = tt;
-    between = between;
-    beside = λ short. absurd short;
+    crash_between = crash_between;
+    crash_beside = λ short. absurd short;
   })
 
 -- The bytes of the root file between its gates and its bodies, while plans are carried out and the root is replaced.
@@ -113,14 +113,14 @@ planned_between content moment left_since old disk d1 d2 run replaces =
     joined_between content moment left_since disk d1 d2 (beside_between content moment left_since old disk d1 run) (beside_went old (content disk) (content d1) run.told) replaces
 
 -- No plan is written to the root file, so it has only the new root then.
-pub planned_rooted : (old new : Root) (plans : List Plan) (free : ℕ) (body : List ℕ) (k m o : Option Content) → MayCarryAll old plans → Told (WritesPlans old new plans) k m → Told (HasNewRoot free body) m o → Told (HasNewRoot free body) k o
+pub planned_rooted : (old new : Root) (plans : List Plan) (free : ℕ) (body : List ℕ) (k m o : Option Content) → MayCarryAll old plans → BothTold (WritesPlans old new plans) k m → BothTold (HasNewRoot free body) m o → BothTold (HasNewRoot free body) k o
 planned_rooted old new plans free body k m o may wrote rooted =
     told_then (WritesPlans old new plans) (HasNewRoot free body) (HasNewRoot free body) k m o
     (λ a b c is told one two. two ∙ ap (λ (f : File). Some (with_root free body (bytes_of f))) (one.others root_name (λ i plan here same. part_isnt_root new plan.kind plan.number (may.each i plan here).part (sym same))))
     wrote rooted
 
 -- Plans were carried out, and the root is replaced.
-module _ (old new : Root) (plans : List Plan) (number : ℕ) (valid : IsRoot old) (fits : RootFits old) (may : MayCarryAll old plans) (after : IsRootAfter old plans number new) (new_valid : IsRoot new) (new_fits : RootFits new) (free : ℕ) {D : Type 0} (content : D → Option Content) (moment : D → ℕ) (left_since : D → ℕ → Files → Type 0) (disk d1 d2 : D) (run : RunsBeside content moment left_since (bounds_of old) disk d1) (wrote : Told (WritesPlans old new plans) (content disk) (content d1)) (parts : Parts) (own : IsOwn old free parts (content disk)) where
+module _ (old new : Root) (plans : List Plan) (number : ℕ) (valid : IsRoot old) (fits : RootFits old) (may : MayCarryAll old plans) (after : IsRootAfter old plans number new) (new_valid : IsRoot new) (new_fits : RootFits new) (free : ℕ) {D : Type 0} (content : D → Option Content) (moment : D → ℕ) (left_since : D → ℕ → Files → Type 0) (disk d1 d2 : D) (run : RunsBeside content moment left_since (bounds_of old) disk d1) (wrote : BothTold (WritesPlans old new plans) (content disk) (content d1)) (parts : Parts) (own : IsOwnOfParts old free parts (content disk)) where
   abbrev next : Parts
   next = rewritten old plans parts
 
@@ -137,7 +137,7 @@ module _ (old new : Root) (plans : List Plan) (number : ℕ) (valid : IsRoot old
       (λ image either. elim either [ inl stands ↦ inl stands | inr stands ↦ inr (new, after, stands) ])
 
   -- What the disk is then.
-  pub planned_done : ((texts nexts : Texts) → ToReplace free old texts new nexts (content d1) → OnDisk new (1 - free) nexts (content d2)) → IsOwn new (1 - free) next (content d2)
+  pub planned_done : ((texts nexts : Texts) → ToReplace free old texts new nexts (content d1) → OnDisk new (1 - free) nexts (content d2)) → IsOwnOfParts new (1 - free) next (content d2)
   planned_done done =
       let k = content disk in
       let m = content d1 in

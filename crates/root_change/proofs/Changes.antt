@@ -3,7 +3,7 @@ use Rattle.std.specs.Prelude.{◌≡◌, ◌⊎◌, ◌-◌, ℕ, Bool, true, fa
 use Rattle.std.proofs.Common.{◌∙◌, ap, subst, inl, inr, arith}
 use Rattle.std.proofs.lemmas.Grind.{common_steps}
 use Rattle.disk_model.specs.declared.name.FileName.{FileName}
-use Rattle.disk_model.specs.Disk.{Files, Content, Told, WhereTold, LeavesOnly, overlay}
+use Rattle.disk_model.specs.Disk.{Files, Content, BothTold, WhereTold, LeavesOnly, overlay}
 use Rattle.disk_model.specs.Moments.{weaker, joined}
 use Rattle.root_slots.specs.declared.root.Root.{Root}
 use Rattle.root_slots.specs.RootName.{root_name}
@@ -14,8 +14,8 @@ use Rattle.root_change.specs.Names.{place_of, names_file, named_end, bounds_of, 
 use Rattle.root_change.specs.Texts.{Texts, StandsFor, IsOn, OnDisk, Measures}
 use Rattle.root_change.specs.Leaving.{ready_has}
 use Rattle.root_change.specs.Replacing.{ToReplace, IsToReplace, StandsForEither}
-use Rattle.root_change.specs.Parts.{Parts, texts_of, PartsFit, RecoversBy, IsOwn}
-use Rattle.root_change.specs.Changing.{ReadsAs, Becomes}
+use Rattle.root_change.specs.Parts.{Parts, texts_of, PartsFit, RecoversPartsBy, IsOwnOfParts}
+use Rattle.root_change.specs.Changing.{ReadsAsTexts, BecomesRoot}
 use Rattle.root_change.proofs.Drops.{true_or_false}
 use Rattle.root_change.proofs.Phases.{front_kept, stands_beside}
 
@@ -38,7 +38,7 @@ pub overlay_end : (text bytes : List ℕ) → overlay (length text) bytes text �
 overlay_end text bytes = grind (arith, common_steps)
 
 -- What was written beside the texts of the old root makes the disk ready for the new one.
-replaceable_now : (free : ℕ) (old : Root) (texts so_far : Texts) (new : Root) (next : Texts) (k m : Content) → IsOn old free texts k → Measures old texts → WentBeside (bounds_of old) k m → ReadsAs old so_far m → Becomes old so_far new next → IsToReplace free old texts new next m
+replaceable_now : (free : ℕ) (old : Root) (texts so_far : Texts) (new : Root) (next : Texts) (k m : Content) → IsOn old free texts k → Measures old texts → WentBeside (bounds_of old) k m → ReadsAsTexts old so_far m → BecomesRoot old so_far new next → IsToReplace free old texts new next m
 replaceable_now free old texts so_far new next k m on measures went reads becomes = record {
   roots = λ file fits. on.roots file (went.each root_name file fits);
   later = becomes.later;
@@ -54,43 +54,43 @@ replaceable_now free old texts so_far new next k m on measures went reads become
       ];
 }
 
-pub replaceable : (free : ℕ) (old : Root) (texts so_far : Texts) (new : Root) (next : Texts) (k m : Option Content) → OnDisk old free texts k → Measures old texts → Told (WentBeside (bounds_of old)) k m → WhereTold (ReadsAs old so_far) m → Becomes old so_far new next → ToReplace free old texts new next m
+pub replaceable : (free : ℕ) (old : Root) (texts so_far : Texts) (new : Root) (next : Texts) (k m : Option Content) → OnDisk old free texts k → Measures old texts → BothTold (WentBeside (bounds_of old)) k m → WhereTold (ReadsAsTexts old so_far) m → BecomesRoot old so_far new next → ToReplace free old texts new next m
 replaceable free old texts so_far new next None m on measures went reads becomes = absurd on
 replaceable free old texts so_far new next (Some k) None on measures went reads becomes = absurd went
 replaceable free old texts so_far new next (Some k) (Some m) on measures went reads becomes = replaceable_now free old texts so_far new next k m on measures went reads becomes
 
 -- While files are written beside the texts of a root, they stand for these.
 pub writing : (free : ℕ) (root : Root) (texts : Texts) (k : Option Content) (image : Files) → OnDisk root free texts k → Measures root texts → Beside (bounds_of root) k image → StandsFor root texts image
-writing free root texts None image on measures beside = absurd on
-writing free root texts (Some k) image on measures beside = stands_beside root texts k image measures (λ file fits. ready_has free (spelling root) file (on.roots file fits)) on.fronts beside
+writing free root texts None image on measures crash_beside = absurd on
+writing free root texts (Some k) image on measures crash_beside = stands_beside root texts k image measures (λ file fits. ready_has free (spelling root) file (on.roots file fits)) on.fronts crash_beside
 
 -- A command that writes beside the texts of its root and replaces the root then.
-module _ (free : ℕ) (old new : Root) (parts next : Parts) {D : Type 0} (content : D → Option Content) (moment : D → ℕ) (left_since : D → ℕ → Files → Type 0) (disk d1 : D) (own : IsOwn old free parts (content disk)) (run : RunsBeside content moment left_since (bounds_of old) disk d1) where
+module _ (free : ℕ) (old new : Root) (parts next : Parts) {D : Type 0} (content : D → Option Content) (moment : D → ℕ) (left_since : D → ℕ → Files → Type 0) (disk d1 : D) (own : IsOwnOfParts old free parts (content disk)) (run : RunsBeside content moment left_since (bounds_of old) disk d1) where
   -- Files that stand for the old texts stand for the old parts.
-  old_parts : (image : Files) → StandsFor old (texts_of old parts) image → RecoversBy old parts image
+  old_parts : (image : Files) → StandsFor old (texts_of old parts) image → RecoversPartsBy old parts image
   old_parts image stands = record { valid = own.valid; fits = own.fits; long = own.long; stands = stands }
 
   -- What a crash leaves before the root is replaced.
-  pub writing_by : LeavesOnly moment left_since disk d1 (RecoversBy old parts)
-  writing_by = weaker moment left_since disk d1 (Beside (bounds_of old) (content disk)) (RecoversBy old parts) run.moments (λ image beside. old_parts image (writing free old (texts_of old parts) (content disk) image own.on (parts_measure old parts own.long) beside))
+  pub writing_by : LeavesOnly moment left_since disk d1 (RecoversPartsBy old parts)
+  writing_by = weaker moment left_since disk d1 (Beside (bounds_of old) (content disk)) (RecoversPartsBy old parts) run.moments (λ image crash_beside. old_parts image (writing free old (texts_of old parts) (content disk) image own.on (parts_measure old parts own.long) crash_beside))
 
-  module _ (so_far : Texts) (reads : WhereTold (ReadsAs old so_far) (content d1)) (becomes : Becomes old so_far new (texts_of new next)) (valid : IsRoot new) (fits : RootFits new) (long : PartsFit new next) where
+  module _ (so_far : Texts) (reads : WhereTold (ReadsAsTexts old so_far) (content d1)) (becomes : BecomesRoot old so_far new (texts_of new next)) (valid : IsRoot new) (fits : RootFits new) (long : PartsFit new next) where
     -- What the replacement requires.
     pub to_replace : ToReplace free old (texts_of old parts) new (texts_of new next) (content d1)
     to_replace = replaceable free old (texts_of old parts) so_far new (texts_of new next) (content disk) (content d1) own.on (parts_measure old parts own.long) run.told reads becomes
 
     -- What a crash leaves while it is replaced: the parts by their own root.
     abbrev pub ByEither : Files → Type 0
-    ByEither image = RecoversBy old parts image ⊎ RecoversBy new next image
+    ByEither image = RecoversPartsBy old parts image ⊎ RecoversPartsBy new next image
 
     pub changing_by : (d2 : D) → ((texts nexts : Texts) → ToReplace free old texts new nexts (content d1) → LeavesOnly moment left_since d1 d2 (StandsForEither old texts new nexts)) → LeavesOnly moment left_since disk d2 ByEither
     changing_by d2 replaces =
-        joined moment left_since disk d1 d2 (RecoversBy old parts) (StandsForEither old (texts_of old parts) new (texts_of new next)) ByEither writing_by (replaces (texts_of old parts) (texts_of new next) to_replace) (λ image stands. inl stands)
+        joined moment left_since disk d1 d2 (RecoversPartsBy old parts) (StandsForEither old (texts_of old parts) new (texts_of new next)) ByEither writing_by (replaces (texts_of old parts) (texts_of new next) to_replace) (λ image stands. inl stands)
         (λ image either. elim either [
           | inl stands ↦ inl (old_parts image stands)
           | inr stands ↦ inr (record { valid = valid; fits = fits; long = long; stands = stands })
         ])
 
     -- What the disk is then.
-    pub changed : (d2 : D) → OnDisk new (1 - free) (texts_of new next) (content d2) → IsOwn new (1 - free) next (content d2)
+    pub changed : (d2 : D) → OnDisk new (1 - free) (texts_of new next) (content d2) → IsOwnOfParts new (1 - free) next (content d2)
     changed d2 on = record { valid = valid; fits = fits; long = long; on = on }

@@ -3,8 +3,8 @@ use Rattle.std.specs.Prelude.{◌≡◌, ◌≢◌, ℕ, ◌+◌, ◌<◌, ◌�
 use Rattle.std.proofs.Common.{◌∙◌, sym, ap, subst, arith, length-append, length-take, length-drop}
 use Rattle.std.proofs.lemmas.List.{append-nil, append_assoc, nil_from_length, take-append-drop, take-take, drop-take, drop-drop, drop_all}
 use Rattle.disk_model.specs.declared.name.FileName.{FileName}
-use Rattle.disk_model.specs.Disk.{File, Kept, Content, Told, WhereTold, OneFile, Unchanged, Wrote, HasRead, IsAtMostLength, bytes_of, overlay}
-use Rattle.disk_model.specs.Beside.{Respects}
+use Rattle.disk_model.specs.Disk.{File, Kept, Content, BothTold, WhereTold, OneFile, Unchanged, Wrote, HasRead, IsAtMostLength, bytes_of, overlay}
+use Rattle.disk_model.specs.Beside.{RespectsBound}
 use Rattle.disk_model.specs.Tells.{told_then, told_where}
 use Rattle.root_change.specs.Copying.{range_of, file_range, HasRange, Added, Put, Copied}
 use Rattle.root_change.proofs.Sizes.{overlay_least}
@@ -100,7 +100,7 @@ window_copied file offset count to end_ n before after k l m some size most read
     }
 
 -- The same, of a disk that may tell its content.
-pub window_told : (file : FileName) (offset count : ℕ) (to : FileName) (end_ n : ℕ) (before after : List ℕ) (k l m : Option Content) → 0 < count → length before ≡ count → count ≤ n → WhereTold (HasRead file offset n before after) k → Told Unchanged k l → WhereTold (IsAtMostLength to end_) k → Told (OneFile to (Wrote end_ after)) l m → Told (Copied file offset count to end_) k m
+pub window_told : (file : FileName) (offset count : ℕ) (to : FileName) (end_ n : ℕ) (before after : List ℕ) (k l m : Option Content) → 0 < count → length before ≡ count → count ≤ n → WhereTold (HasRead file offset n before after) k → BothTold Unchanged k l → WhereTold (IsAtMostLength to end_) k → BothTold (OneFile to (Wrote end_ after)) l m → BothTold (Copied file offset count to end_) k m
 window_told file offset count to end_ n before after None None None some size most read same inside one = tt
 window_told file offset count to end_ n before after None None (Some m) some size most read same inside one = absurd one
 window_told file offset count to end_ n before after None (Some l) m some size most read same inside one = absurd same
@@ -113,34 +113,34 @@ pub window_full : (file : FileName) (offset count n : ℕ) (before after : List 
 window_full file offset count n before after None size read has = absurd has
 window_full file offset count n before after (Some k) size read has = (let is = read.count in omega (arith, is, size, has))
 
-pub next_told : (file : FileName) (offset done count : ℕ) (to : FileName) (end_ at next : ℕ) (k m o : Option Content) → file ≢ to → at ≡ offset + done → next ≡ end_ + done → Told (Copied file offset done to end_) k m → Told (Copied file at count to next) m o → Told (Copied file offset (done + count) to end_) k o
+pub next_told : (file : FileName) (offset done count : ℕ) (to : FileName) (end_ at next : ℕ) (k m o : Option Content) → file ≢ to → at ≡ offset + done → next ≡ end_ + done → BothTold (Copied file offset done to end_) k m → BothTold (Copied file at count to next) m o → BothTold (Copied file offset (done + count) to end_) k o
 next_told file offset done count to end_ at next k m o apart at_is next_is first second =
     told_then (Copied file offset done to end_) (Copied file at count to next) (Copied file offset (done + count) to end_) k m o (λ a b d is told one two. copied_next file offset done count to end_ at next a b d apart at_is next_is one two) first second
 
 -- Nothing was copied yet.
-pub first_copied : (file : FileName) (offset : ℕ) (to : FileName) (end_ : ℕ) (k : Option Content) → WhereTold (IsAtMostLength to end_) k → Told (Copied file offset 0 to end_) k k
+pub first_copied : (file : FileName) (offset : ℕ) (to : FileName) (end_ : ℕ) (k : Option Content) → WhereTold (IsAtMostLength to end_) k → BothTold (Copied file offset 0 to end_) k k
 first_copied file offset to end_ None inside = tt
 first_copied file offset to end_ (Some k) inside = record { added = none_added to end_ k inside; full = refl }
 
 -- The offset after the bytes is within the file.
-pub copied_inside : (file : FileName) (offset count : ℕ) (to : FileName) (end_ next : ℕ) (k m : Option Content) → next ≡ end_ + count → Told (Copied file offset count to end_) k m → WhereTold (IsAtMostLength to next) m
+pub copied_inside : (file : FileName) (offset count : ℕ) (to : FileName) (end_ next : ℕ) (k m : Option Content) → next ≡ end_ + count → BothTold (Copied file offset count to end_) k m → WhereTold (IsAtMostLength to next) m
 copied_inside file offset count to end_ next None None next_is told = tt
 copied_inside file offset count to end_ next None (Some m) next_is told = absurd told
 copied_inside file offset count to end_ next (Some k) None next_is told = absurd told
 copied_inside file offset count to end_ next (Some k) (Some m) next_is told = (let reached = told.added.reaches in let full = told.full in omega (arith, reached, full, next_is))
 
 -- The rest of a whole range is whole.
-pub range_left : (file : FileName) (offset done count all at : ℕ) (to : FileName) (end_ : ℕ) (k m : Option Content) → file ≢ to → at ≡ offset + done → done + count ≤ all → Told (Copied file offset done to end_) k m → HasRange file offset all k → HasRange file at count m
+pub range_left : (file : FileName) (offset done count all at : ℕ) (to : FileName) (end_ : ℕ) (k m : Option Content) → file ≢ to → at ≡ offset + done → done + count ≤ all → BothTold (Copied file offset done to end_) k m → HasRange file offset all k → HasRange file at count m
 range_left file offset done count all at to end_ None m apart at_is most told has = absurd has
 range_left file offset done count all at to end_ (Some k) None apart at_is most told has = absurd told
 range_left file offset done count all at to end_ (Some k) (Some m) apart at_is most told has =
     subst (λ (f : File). at + count ≤ length (bytes_of f)) (sym (told.added.others file apart)) (omega (arith, at_is, most, has))
 
 -- An offset after one that respects a bound respects it too.
-pub respects_more : (bound : Option ℕ) (at next : ℕ) → at ≤ next → Respects bound at → Respects bound next
+pub respects_more : (bound : Option ℕ) (at next : ℕ) → at ≤ next → RespectsBound bound at → RespectsBound bound next
 respects_more None at next more far = absurd far
 respects_more (Some n) at next more far = omega (arith, more, far)
 
 -- An offset within a file is within it after a call that changes nothing.
-pub inside_still : (name : FileName) (at : ℕ) (k m : Option Content) → WhereTold (IsAtMostLength name at) k → Told Unchanged k m → WhereTold (IsAtMostLength name at) m
+pub inside_still : (name : FileName) (at : ℕ) (k m : Option Content) → WhereTold (IsAtMostLength name at) k → BothTold Unchanged k m → WhereTold (IsAtMostLength name at) m
 inside_still name at k m inside same = told_where Unchanged (IsAtMostLength name at) (IsAtMostLength name at) k m (λ a b old_is new_is kept long. subst (λ (it : Kept). at ≤ length (bytes_of it.seen)) (sym (kept name)) long) same inside

@@ -6,13 +6,13 @@ use Rattle.std.proofs.lemmas.Bool.Decides.{nat_tests}
 use Rattle.disk_model.specs.declared.name.FileKind.{FileKind}
 use Rattle.disk_model.specs.declared.name.FileKind.TheVariants as kind
 use Rattle.disk_model.specs.declared.name.FileName.{FileName}
-use Rattle.disk_model.specs.Disk.{File, Kept, Content, Told, OneFile, Removed, Synced, Within, exact}
+use Rattle.disk_model.specs.Disk.{File, Kept, Content, BothTold, OneFile, Removed, Synced, Within, exact}
 use Rattle.disk_model.specs.Images.{same_or_other}
 use Rattle.root_slots.specs.declared.root.Root.{Root}
 use Rattle.root_slots.specs.RootName.{root_name}
 use Rattle.root_slots.specs.Valid.{no_place}
 use Rattle.disk_model.specs.Tells.{told_weaker, told_then}
-use Rattle.disk_model.specs.Beside.{Respects}
+use Rattle.disk_model.specs.Beside.{RespectsBound}
 use Rattle.root_change.specs.Names.{map_name, epoch_name, cache_name, place_of, has_place, named_by, names_file, bounds_of, other_bound, named_none}
 use Rattle.root_change.specs.Replacing.{drops, Dropped, IsDropped, IsOne, IsEpochBelow, IsAny}
 
@@ -51,7 +51,7 @@ true_or_false false = inr refl
 
 -- The name of these parts.
 abbrev pub named : FileKind → ℕ → ℕ → FileName
-named k n g = record { kind = k; number = n; gen_ = g }
+named k n g = record { kind = k; number = n; generation = g }
 
 -- The files of each kind that a root names.
 pub named_root : (root : Root) (n g : ℕ) → named_by root kind.Root n g ≡ true → named kind.Root n g ≡ root_name
@@ -59,44 +59,44 @@ named_root root n g is =
     let tests = both (n == 0) (g == 0) is in
     ap (λ (m : ℕ). named kind.Root m g) (is_same n 0 tests.0) ∙ ap (λ (h : ℕ). named kind.Root 0 h) (is_same g 0 tests.1)
 
-pub named_map : (root : Root) (n g : ℕ) → named_by root kind.Map n g ≡ true → named kind.Map n g ≡ map_name root.map.gen_
+pub named_map : (root : Root) (n g : ℕ) → named_by root kind.Map n g ≡ true → named kind.Map n g ≡ map_name root.map.generation
 named_map root n g is =
-    let tests = both (n == 0) (g == root.map.gen_) is in
-    ap (λ (m : ℕ). named kind.Map m g) (is_same n 0 tests.0) ∙ ap map_name (is_same g root.map.gen_ tests.1)
+    let tests = both (n == 0) (g == root.map.generation) is in
+    ap (λ (m : ℕ). named kind.Map m g) (is_same n 0 tests.0) ∙ ap map_name (is_same g root.map.generation tests.1)
 
-pub named_cache : (root : Root) (n g : ℕ) → named_by root kind.Cache n g ≡ true → named kind.Cache n g ≡ cache_name root.cache.gen_
+pub named_cache : (root : Root) (n g : ℕ) → named_by root kind.Cache n g ≡ true → named kind.Cache n g ≡ cache_name root.cache.generation
 named_cache root n g is =
     let tests = both (n == 0) (has_place root.cache g) is in
-    let place = both (nat_lt 0 root.cache.length) (root.cache.gen_ == g) tests.1 in
-    ap (λ (m : ℕ). named kind.Cache m g) (is_same n 0 tests.0) ∙ ap cache_name (sym (is_same root.cache.gen_ g place.1))
+    let place = both (nat_lt 0 root.cache.length) (root.cache.generation == g) tests.1 in
+    ap (λ (m : ℕ). named kind.Cache m g) (is_same n 0 tests.0) ∙ ap cache_name (sym (is_same root.cache.generation g place.1))
 
 pub named_number : (root : Root) (n g : ℕ) → named_by root kind.Epoch n g ≡ true → n < 64
 named_number root n g is = is_less n 64 (both (nat_lt n 64) (has_place (get_or root.epochs n no_place) g) is).0
 
-pub named_epoch : (root : Root) (n g : ℕ) → named_by root kind.Epoch n g ≡ true → g ≡ (get_or root.epochs n no_place).gen_
+pub named_epoch : (root : Root) (n g : ℕ) → named_by root kind.Epoch n g ≡ true → g ≡ (get_or root.epochs n no_place).generation
 named_epoch root n g is =
     let place = get_or root.epochs n no_place in
     let tests = both (nat_lt n 64) (has_place place g) is in
-    sym (is_same place.gen_ g (both (nat_lt 0 place.length) (place.gen_ == g) tests.1).1)
+    sym (is_same place.generation g (both (nat_lt 0 place.length) (place.generation == g) tests.1).1)
 
 -- An epoch whose file a root names has bytes.
 pub named_bytes : (root : Root) (n g : ℕ) → named_by root kind.Epoch n g ≡ true → 0 < (place_of root kind.Epoch n).length
 named_bytes root n g is =
     let place = place_of root kind.Epoch n in
-    is_less 0 place.length (both (nat_lt 0 place.length) (place.gen_ == g) (both (nat_lt n 64) (has_place place g) is).1).0
+    is_less 0 place.length (both (nat_lt 0 place.length) (place.generation == g) (both (nat_lt n 64) (has_place place g) is).1).0
 
 -- A file that isn't named is no root file.
 pub unnamed_apart : (root : Root) (name : FileName) → names_file root name ≡ false → name ≢ root_name
 unnamed_apart root name isnt same = not_both (names_file root name) (ap (names_file root) same) isnt
 
 -- A file that isn't named may be removed.
-pub unnamed_bound : (root : Root) (name : FileName) → names_file root name ≡ false → Respects (bounds_of root name) 0
+pub unnamed_bound : (root : Root) (name : FileName) → names_file root name ≡ false → RespectsBound (bounds_of root name) 0
 unnamed_bound root name isnt =
-    subst (λ (b : Option ℕ). Respects b 0) (sym (other_bound root name (unnamed_apart root name isnt) ∙ ap (λ (n : ℕ). Some n) (named_none root name isnt))) (let least : 0 ≤ 0 = omega arith in least)
+    subst (λ (b : Option ℕ). RespectsBound b 0) (sym (other_bound root name (unnamed_apart root name isnt) ∙ ap (λ (n : ℕ). Some n) (named_none root name isnt))) (let least : 0 ≤ 0 = omega arith in least)
 
 module _ (old new : Root) where
   -- A file that is to be dropped may be removed.
-  pub dropped_bound : (name : FileName) → drops old new name ≡ true → Respects (bounds_of new name) 0
+  pub dropped_bound : (name : FileName) → drops old new name ≡ true → RespectsBound (bounds_of new name) 0
   dropped_bound name is = unnamed_bound new name (one_alone (names_file old name) (names_file new name) is).1
 
   -- Nothing is removed.
@@ -104,7 +104,7 @@ module _ (old new : Root) where
   dropped_none which k none = record { gone = λ name is there. absurd (none name is there); kept = λ name is. refl; none_made = λ name gone. gone }
 
   -- A file that isn't to be dropped stays.
-  pub stays_there : (name : FileName) (k : Option Content) → drops old new name ≡ false → Told (Dropped (IsOne name) old new) k k
+  pub stays_there : (name : FileName) (k : Option Content) → drops old new name ≡ false → BothTold (Dropped (IsOne name) old new) k k
   stays_there name None isnt = tt
   stays_there name (Some k) isnt = dropped_none (IsOne name) k (λ other same there. not_both (drops old new name) (subst (λ (n : FileName). drops old new n ≡ true) same there) isnt)
 
@@ -120,7 +120,7 @@ module _ (old new : Root) where
         ];
   }
 
-  pub removed_there : (name : FileName) (k m : Option Content) → drops old new name ≡ true → Told (OneFile name Removed) k m → Told (Dropped (IsOne name) old new) k m
+  pub removed_there : (name : FileName) (k m : Option Content) → drops old new name ≡ true → BothTold (OneFile name Removed) k m → BothTold (Dropped (IsOne name) old new) k m
   removed_there name k m there told = told_weaker (OneFile name Removed) (Dropped (IsOne name) old new) k m (λ a b is new_is one. removed_one name a b there one) told
 
   -- Removals one after the other.
@@ -135,47 +135,47 @@ module _ (old new : Root) where
     none_made = λ name none. second.none_made name (first.none_made name none);
   }
 
-  both_told : (P Q R : FileName → Type 0) (k m o : Option Content) → ((name : FileName) → drops old new name ≡ true → R name → P name ⊎ Q name) → Told (Dropped P old new) k m → Told (Dropped Q old new) m o → Told (Dropped R old new) k o
+  both_told : (P Q R : FileName → Type 0) (k m o : Option Content) → ((name : FileName) → drops old new name ≡ true → R name → P name ⊎ Q name) → BothTold (Dropped P old new) k m → BothTold (Dropped Q old new) m o → BothTold (Dropped R old new) k o
   both_told P Q R k m o step first second = told_then (Dropped P old new) (Dropped Q old new) (Dropped R old new) k m o (λ a b c is mid_is one two. dropped_then P Q R step a b c one two) first second
 
   -- Before the first epoch.
-  pub none_dropped : (k : Option Content) → Told (Dropped (IsEpochBelow 0) old new) k k
+  pub none_dropped : (k : Option Content) → BothTold (Dropped (IsEpochBelow 0) old new) k k
   none_dropped None = tt
   none_dropped (Some k) = dropped_none (IsEpochBelow 0) k (λ name which there. absurd (let below = which.1 in omega (arith, below)))
 
   -- One more epoch.
-  pub epoch_dropped : (e : ℕ) (k m o : Option Content) → Told (Dropped (IsEpochBelow e) old new) k m → Told (Dropped (IsOne (epoch_name e (get_or old.epochs e no_place).gen_)) old new) m o → Told (Dropped (IsEpochBelow (e + 1)) old new) k o
-  epoch_dropped e k m o first second = both_told (IsEpochBelow e) (IsOne (epoch_name e (get_or old.epochs e no_place).gen_)) (IsEpochBelow (e + 1)) k m o step first second where
-    step : (name : FileName) → drops old new name ≡ true → IsEpochBelow (e + 1) name → IsEpochBelow e name ⊎ IsOne (epoch_name e (get_or old.epochs e no_place).gen_) name
+  pub epoch_dropped : (e : ℕ) (k m o : Option Content) → BothTold (Dropped (IsEpochBelow e) old new) k m → BothTold (Dropped (IsOne (epoch_name e (get_or old.epochs e no_place).generation)) old new) m o → BothTold (Dropped (IsEpochBelow (e + 1)) old new) k o
+  epoch_dropped e k m o first second = both_told (IsEpochBelow e) (IsOne (epoch_name e (get_or old.epochs e no_place).generation)) (IsEpochBelow (e + 1)) k m o step first second where
+    step : (name : FileName) → drops old new name ≡ true → IsEpochBelow (e + 1) name → IsEpochBelow e name ⊎ IsOne (epoch_name e (get_or old.epochs e no_place).generation) name
     step name there which =
         elim (cases_lt name.number e) [
           | inl low ↦ inl (which.0, low)
           | inr high ↦
               let below = which.1 in
               let number : name.number ≡ e = omega (arith, high, below) in
-              let is : named_by old kind.Epoch name.number name.gen_ ≡ true = subst (λ (k : FileKind). named_by old k name.number name.gen_ ≡ true) which.0 (one_alone (names_file old name) (names_file new name) there).0 in
-              let gen_is : name.gen_ ≡ (get_or old.epochs e no_place).gen_ = named_epoch old name.number name.gen_ is ∙ ap (λ (n : ℕ). (get_or old.epochs n no_place).gen_) number in
-              inr (ap (λ (k : FileKind). named k name.number name.gen_) which.0 ∙ (ap (λ (n : ℕ). named kind.Epoch n name.gen_) number ∙ ap (named kind.Epoch e) gen_is))
+              let is : named_by old kind.Epoch name.number name.generation ≡ true = subst (λ (k : FileKind). named_by old k name.number name.generation ≡ true) which.0 (one_alone (names_file old name) (names_file new name) there).0 in
+              let gen_is : name.generation ≡ (get_or old.epochs e no_place).generation = named_epoch old name.number name.generation is ∙ ap (λ (n : ℕ). (get_or old.epochs n no_place).generation) number in
+              inr (ap (λ (k : FileKind). named k name.number name.generation) which.0 ∙ (ap (λ (n : ℕ). named kind.Epoch n name.generation) number ∙ ap (named kind.Epoch e) gen_is))
         ]
 
   -- Beside the root file a root names the map, the cache, and epochs.
-  which_file : (k : FileKind) (n g : ℕ) → named_by old k n g ≡ true → named_by new k n g ≡ false → IsOne (map_name old.map.gen_) (named k n g) ⊎ (IsOne (cache_name old.cache.gen_) (named k n g) ⊎ IsEpochBelow 64 (named k n g))
+  which_file : (k : FileKind) (n g : ℕ) → named_by old k n g ≡ true → named_by new k n g ≡ false → IsOne (map_name old.map.generation) (named k n g) ⊎ (IsOne (cache_name old.cache.generation) (named k n g) ⊎ IsEpochBelow 64 (named k n g))
   which_file kind.Root n g is isnt = absurd (not_both (named_by new kind.Root n g) (ap (names_file new) (named_root old n g is)) isnt)
   which_file kind.Map n g is isnt = inl (named_map old n g is)
   which_file kind.Epoch n g is isnt = inr (inr (refl, named_number old n g is))
   which_file kind.Cache n g is isnt = inr (inl (named_cache old n g is))
 
   -- All of them are removed.
-  pub all_dropped : (k l m o : Option Content) → Told (Dropped (IsOne (map_name old.map.gen_)) old new) k l → Told (Dropped (IsOne (cache_name old.cache.gen_)) old new) l m → Told (Dropped (IsEpochBelow 64) old new) m o → Told (Dropped IsAny old new) k o
+  pub all_dropped : (k l m o : Option Content) → BothTold (Dropped (IsOne (map_name old.map.generation)) old new) k l → BothTold (Dropped (IsOne (cache_name old.cache.generation)) old new) l m → BothTold (Dropped (IsEpochBelow 64) old new) m o → BothTold (Dropped IsAny old new) k o
   all_dropped k l m o map cache epochs =
-      let Two : FileName → Type 0 = λ name. IsOne (cache_name old.cache.gen_) name ⊎ IsEpochBelow 64 name in
-      both_told (IsOne (map_name old.map.gen_)) Two IsAny k l o
-      (λ name there any. let tests = one_alone (names_file old name) (names_file new name) there in which_file name.kind name.number name.gen_ tests.0 tests.1)
+      let Two : FileName → Type 0 = λ name. IsOne (cache_name old.cache.generation) name ⊎ IsEpochBelow 64 name in
+      both_told (IsOne (map_name old.map.generation)) Two IsAny k l o
+      (λ name there any. let tests = one_alone (names_file old name) (names_file new name) there in which_file name.kind name.number name.generation tests.0 tests.1)
       map
-      (both_told (IsOne (cache_name old.cache.gen_)) (IsEpochBelow 64) Two l m o (λ name there two. two) cache epochs)
+      (both_told (IsOne (cache_name old.cache.generation)) (IsEpochBelow 64) Two l m o (λ name there two. two) cache epochs)
 
   -- And then synced.
-  pub dropped_synced : (k m o : Option Content) → Told (Dropped IsAny old new) k m → Told Synced m o → Told (IsDropped old new) k o
+  pub dropped_synced : (k m o : Option Content) → BothTold (Dropped IsAny old new) k m → BothTold Synced m o → BothTold (IsDropped old new) k o
   dropped_synced k m o = told_then (Dropped IsAny old new) Synced (IsDropped old new) k m o (λ a b c it mid one two. record {
     dropped = record {
       gone = λ name any there. two.seen name ∙ one.gone name any there;

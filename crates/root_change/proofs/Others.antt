@@ -2,38 +2,38 @@
 use Rattle.std.specs.Prelude.{ℕ, List, length, Option, Some, None, Result, Ok, Err, OnOk, OnErr, refl}
 use Rattle.std.proofs.Common.{◌∙◌, ap}
 use Rattle.disk_model.specs.declared.name.FileName.{FileName}
-use Rattle.disk_model.specs.Disk.{Files, Kept, Content, Image, LeavesOnly, Told, OneFile, Unchanged, Wrote, Tore}
+use Rattle.disk_model.specs.Disk.{Files, Kept, Content, Image, LeavesOnly, BothTold, OneFile, Unchanged, Wrote, Tore}
 use Rattle.disk_model.specs.Beside.{Bounds, Beside, RunsBeside}
 use Rattle.disk_model.specs.BesideLaws.{beside_now, unchanged_told}
 use Rattle.disk_model.specs.Moments.{weaker}
 use Rattle.disk_model.specs.Tells.{told_weaker, told_then}
-use Rattle.root_change.specs.Copying.{OthersStay}
+use Rattle.root_change.specs.Copying.{OtherFilesStay}
 
 -- No call was made.
-pub others_first : (to : FileName) (k : Option Content) → Told (OthersStay to) k k
+pub others_first : (to : FileName) (k : Option Content) → BothTold (OtherFilesStay to) k k
 others_first to None = tt
 others_first to (Some k) = λ name apart. refl
 
 -- A call that changes nothing.
-pub others_unchanged : (to : FileName) (k m : Option Content) → Told Unchanged k m → Told (OthersStay to) k m
-others_unchanged to k m same = told_weaker Unchanged (OthersStay to) k m (λ a b is told kept name apart. ap (λ (it : Kept). it.seen) (kept name)) same
+pub others_unchanged : (to : FileName) (k m : Option Content) → BothTold Unchanged k m → BothTold (OtherFilesStay to) k m
+others_unchanged to k m same = told_weaker Unchanged (OtherFilesStay to) k m (λ a b is told kept name apart. ap (λ (it : Kept). it.seen) (kept name)) same
 
 -- A write, whatever it returns.
-pub others_wrote : {T E : Type 0} (result : Result T E) (to : FileName) (at : ℕ) (bytes : List ℕ) (k m : Option Content) → OnOk result (Told (OneFile to (Wrote at bytes)) k m) → OnErr result (Told (OneFile to (Tore at (length bytes))) k m) → Told (OthersStay to) k m
-others_wrote (Ok v) to at bytes k m ok err = told_weaker (OneFile to (Wrote at bytes)) (OthersStay to) k m (λ a b is told one name apart. ap (λ (it : Kept). it.seen) (one.elsewhere name apart)) ok
-others_wrote (Err e) to at bytes k m ok err = told_weaker (OneFile to (Tore at (length bytes))) (OthersStay to) k m (λ a b is told one name apart. ap (λ (it : Kept). it.seen) (one.elsewhere name apart)) err
+pub others_wrote : {T E : Type 0} (result : Result T E) (to : FileName) (at : ℕ) (bytes : List ℕ) (k m : Option Content) → OnOk result (BothTold (OneFile to (Wrote at bytes)) k m) → OnErr result (BothTold (OneFile to (Tore at (length bytes))) k m) → BothTold (OtherFilesStay to) k m
+others_wrote (Ok v) to at bytes k m ok err = told_weaker (OneFile to (Wrote at bytes)) (OtherFilesStay to) k m (λ a b is told one name apart. ap (λ (it : Kept). it.seen) (one.elsewhere name apart)) ok
+others_wrote (Err e) to at bytes k m ok err = told_weaker (OneFile to (Tore at (length bytes))) (OtherFilesStay to) k m (λ a b is told one name apart. ap (λ (it : Kept). it.seen) (one.elsewhere name apart)) err
 
 -- Two calls, one after the other.
-pub others_then : (to : FileName) (k m o : Option Content) → Told (OthersStay to) k m → Told (OthersStay to) m o → Told (OthersStay to) k o
+pub others_then : (to : FileName) (k m o : Option Content) → BothTold (OtherFilesStay to) k m → BothTold (OtherFilesStay to) m o → BothTold (OtherFilesStay to) k o
 others_then to k m o first second =
-    told_then (OthersStay to) (OthersStay to) (OthersStay to) k m o (λ a b d is told one two name apart. two name apart ∙ one name apart) first second
+    told_then (OtherFilesStay to) (OtherFilesStay to) (OtherFilesStay to) k m o (λ a b d is told one two name apart. two name apart ∙ one name apart) first second
 
-unchanged_first : (k : Option Content) → Told Unchanged k k
+unchanged_first : (k : Option Content) → BothTold Unchanged k k
 unchanged_first None = tt
 unchanged_first (Some k) = λ name. refl
 
 -- A run that changes nothing stays up to any bounds.
-pub run_looked : {D : Type 0} (content : D → Option Content) (moment : D → ℕ) (left_since : D → ℕ → Files → Type 0) (bounds : Bounds) (old new : D) → LeavesOnly moment left_since old new (Image (content old)) → Told Unchanged (content old) (content new) → RunsBeside content moment left_since bounds old new
+pub run_looked : {D : Type 0} (content : D → Option Content) (moment : D → ℕ) (left_since : D → ℕ → Files → Type 0) (bounds : Bounds) (old new : D) → LeavesOnly moment left_since old new (Image (content old)) → BothTold Unchanged (content old) (content new) → RunsBeside content moment left_since bounds old new
 run_looked content moment left_since bounds old new moments same = record {
   moments = weaker moment left_since old new (Image (content old)) (Beside bounds (content old)) moments (λ image left. beside_now bounds (content old) (content old) image (unchanged_told bounds (content old) (content old) (unchanged_first (content old))) left);
   told = unchanged_told bounds (content old) (content new) same;

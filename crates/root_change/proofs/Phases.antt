@@ -4,8 +4,8 @@ use Rattle.std.specs.Prelude.{◌≡◌, ◌≢◌, ℕ, ◌-◌, ◌<◌, ◌�
 use Rattle.std.proofs.Common.{◌∙◌, sym, ap, subst, inl, inr, arith, take_all}
 use Rattle.std.proofs.lemmas.List.{nil_from_length}
 use Rattle.disk_model.specs.declared.name.FileName.{FileName}
-use Rattle.disk_model.specs.Disk.{File, Files, Sure, Content, Image, Told, WhereTold, Synced, Fits, ReadsFit, Elapses, LeavesOnly, bytes_of, exact, overlay}
-use Rattle.disk_model.specs.Laws.{FrontOrigin, Fits-Within, Fits-exact, overlay-size}
+use Rattle.disk_model.specs.Disk.{File, Files, Survival, Content, Image, BothTold, WhereTold, Synced, MaySurvive, ReadsFit, Elapses, LeavesOnly, bytes_of, exact, overlay}
+use Rattle.disk_model.specs.Laws.{FrontOrigin, MaySurvive-Within, MaySurvive-exact, overlay-size}
 use Rattle.disk_model.specs.Synced.{IsSettled}
 use Rattle.disk_model.specs.Moments.{started, goes_on, joined, weaker}
 use Rattle.root_slots.specs.declared.root.Root.{Root}
@@ -39,7 +39,7 @@ fronts_none [] file none = record { long = omega arith; front = refl }
 fronts_none (b ∷ bs) file none = absurd (omega (arith, none))
 
 -- A file that stays up to the end of its text starts with it.
-pub front_kept : (text : List ℕ) (end_ : ℕ) (s : Sure) (file : File) → length text ≡ end_ → ((f : File) → Fits s f → Fronts text f) → FrontOrigin end_ s file → Fronts text file
+pub front_kept : (text : List ℕ) (end_ : ℕ) (s : Survival) (file : File) → length text ≡ end_ → ((f : File) → MaySurvive s f → Fronts text f) → FrontOrigin end_ s file → Fronts text file
 front_kept text end_ s file size each front =
     let was = each front.file front.fits in
     let long = was.long in
@@ -50,21 +50,21 @@ front_kept text end_ s file size each front =
     }
 
 -- While files change after the ends of a root's texts, they stand for the texts.
-pub stands_beside : (root : Root) (texts : Texts) (k : Content) (image : Files) → Measures root texts → ((file : File) → Fits (k root_name).sure file → IfThere (HasRoot (spelling root)) file) → EachFronts texts k → AreBeside (bounds_of root) k image → StandsFor root texts image
-stands_beside root texts k image measures roots fronts beside = record {
-  current = roots (image root_name) (beside.each root_name);
+pub stands_beside : (root : Root) (texts : Texts) (k : Content) (image : Files) → Measures root texts → ((file : File) → MaySurvive (k root_name).sure file → IfThere (HasRoot (spelling root)) file) → EachFronts texts k → AreBeside (bounds_of root) k image → StandsFor root texts image
+stands_beside root texts k image measures roots fronts crash_beside = record {
+  current = roots (image root_name) (crash_beside.each root_name);
   fronts = λ name apart.
       front_kept (texts name) (named_end root name) (k name).sure (image name) (measures name apart) (fronts name apart)
-      (subst (λ (b : Option ℕ). StaysUpTo b (k name).sure (image name)) (other_bound root name apart) (beside.each name));
+      (subst (λ (b : Option ℕ). StaysUpTo b (k name).sure (image name)) (other_bound root name apart) (crash_beside.each name));
 }
 
 -- What a crash leaves after a sync.
-pub synced_file : (k m : Content) (name : FileName) (file : File) → Synced k m → Fits (m name).sure file → file ≡ (k name).seen
-synced_file k m name file synced fits = Fits-exact (k name).seen file (Fits-Within (m name).sure (exact (k name).seen) file (synced.crash name) fits)
+pub synced_file : (k m : Content) (name : FileName) (file : File) → Synced k m → MaySurvive (m name).sure file → file ≡ (k name).seen
+synced_file k m name file synced fits = MaySurvive-exact (k name).seen file (MaySurvive-Within (m name).sure (exact (k name).seen) file (synced.crash name) fits)
 
 -- What a crash leaves of a settled disk.
-pub settled_file : (k : Content) (name : FileName) (file : File) → IsSettled k → Fits (k name).sure file → file ≡ (k name).seen
-settled_file k name file settled fits = Fits-exact (k name).seen file (Fits-Within (k name).sure (exact (k name).seen) file (settled name) fits)
+pub settled_file : (k : Content) (name : FileName) (file : File) → IsSettled k → MaySurvive (k name).sure file → file ≡ (k name).seen
+settled_file k name file settled fits = MaySurvive-exact (k name).seen file (MaySurvive-Within (k name).sure (exact (k name).seen) file (settled name) fits)
 
 -- What the replacement makes of the files as reads give them.
 record Replaced (slot : ℕ) (body : List ℕ) (old new : Root) (k p : Content) : Type 0 where
@@ -75,13 +75,13 @@ record Replaced (slot : ℕ) (body : List ℕ) (old new : Root) (k p : Content) 
   settled : IsSettled p
 
 -- What is told of a disk by two clauses.
-told_both : (P Q : Content → Content → Type 0) (k m : Option Content) → Told P k m → Told Q k m → Told (λ a b. P a b × Q a b) k m
+told_both : (P Q : Content → Content → Type 0) (k m : Option Content) → BothTold P k m → BothTold Q k m → BothTold (λ a b. P a b × Q a b) k m
 told_both P Q None None p q = tt
 told_both P Q None (Some m) p q = absurd p
 told_both P Q (Some k) None p q = absurd p
 told_both P Q (Some k) (Some m) p q = (p, q)
 
-replaced_told : (slot : ℕ) (body : List ℕ) (old new : Root) (k m n p : Option Content) → Told Synced k m → Told (HasNewRoot slot body) m n → Told IsCommitted m n → Told (IsDropped old new) n p → Told (Replaced slot body old new) k p
+replaced_told : (slot : ℕ) (body : List ℕ) (old new : Root) (k m n p : Option Content) → BothTold Synced k m → BothTold (HasNewRoot slot body) m n → BothTold IsCommitted m n → BothTold (IsDropped old new) n p → BothTold (Replaced slot body old new) k p
 replaced_told slot body old new k m n p synced written committed dropped =
     let Root : Content → Content → Type 0 = HasNewRoot slot body in
     let Commits : Content → Content → Type 0 = λ a b. Root a b × IsCommitted a b in
@@ -97,7 +97,7 @@ replaced_told slot body old new k m n p synced written committed dropped =
     dropped
 
 -- What each root file has that a crash leaves it still has once files were dropped.
-dropped_root : (P : List ℕ → Type 0) (old new : Root) (k m : Option Content) → ReadsFit k → Told (IsDropped old new) k m → EachRoot P k → EachRoot P m
+dropped_root : (P : List ℕ → Type 0) (old new : Root) (k m : Option Content) → ReadsFit k → BothTold (IsDropped old new) k m → EachRoot P k → EachRoot P m
 dropped_root P old new None m fit dropped roots = absurd roots
 dropped_root P old new (Some k) None fit dropped roots = absurd dropped
 dropped_root P old new (Some k) (Some m) fit dropped roots = λ file fits. subst (λ (f : File). IfThere P f) (sym (settled_file m root_name file dropped.settled fits ∙ dropped.dropped.kept root_name refl)) (roots (k root_name).seen (fit k refl root_name))
@@ -119,17 +119,17 @@ module _ (free : ℕ) (old : Root) (texts : Texts) (new : Root) (next : Texts) w
 
   -- During the commit.
   committing : (k m : Content) (image : Files) → ReadsFit (Some k) → IsToReplace free old texts new next k → Synced k m → OldOrNew (spelling old) (spelling new) m image → StandsForEither old texts new next image
-  committing k m image fit todo synced between = elim between.root [
+  committing k m image fit todo synced crash_between = elim crash_between.root [
     | inl was ↦ inl (record { current = was; fronts = λ name apart. subst (Fronts (texts name)) (sym (as_before name apart)) (todo.fronts name apart (k name).seen (fit k refl name)) })
     | inr will ↦ inr (record { current = will; fronts = λ name apart. subst (Fronts (next name)) (sym (as_before name apart)) (next_fronts k todo name apart) })
   ] where
     as_before : (name : FileName) → name ≢ root_name → image name ≡ (k name).seen
-    as_before name apart = synced_file k m name (image name) synced (between.elsewhere name apart)
+    as_before name apart = synced_file k m name (image name) synced (crash_between.elsewhere name apart)
 
   -- While files are dropped.
   dropping : (k m n : Content) (image : Files) → IsToReplace free old texts new next k → Synced k m → IsCommitted m n → EachRoot (Current free (spelling new)) (Some n) → AreBeside (bounds_of new) n image → StandsFor new next image
-  dropping k m n image todo synced committed roots beside =
-      stands_beside new next n image todo.measures (λ file fits. current_has free (spelling new) file (roots file fits)) fronts beside where
+  dropping k m n image todo synced committed roots crash_beside =
+      stands_beside new next n image todo.measures (λ file fits. current_has free (spelling new) file (roots file fits)) fronts crash_beside where
         fronts : EachFronts next n
         fronts name apart file fits =
             let is : file ≡ (k name).seen = settled_file n name file committed.settled fits ∙ (committed.elsewhere name apart ∙ synced.seen name) in
@@ -166,29 +166,29 @@ module _ (free : ℕ) (old : Root) (texts : Texts) (new : Root) (next : Texts) w
   later_told None todo = absurd todo
   later_told (Some k) todo = todo.later
 
-  ready_told : (k m : Option Content) → ReadsFit k → ToReplace free old texts new next k → Told Synced k m → EachRoot (Ready free (spelling old)) m
+  ready_told : (k m : Option Content) → ReadsFit k → ToReplace free old texts new next k → BothTold Synced k m → EachRoot (Ready free (spelling old)) m
   ready_told None m fit todo synced = absurd todo
   ready_told (Some k) None fit todo synced = absurd synced
   ready_told (Some k) (Some m) fit todo synced = λ file fits. subst (λ (f : File). IfThere (Ready free (spelling old)) f) (sym (synced_file k m root_name file synced fits)) (todo.roots (k root_name).seen (fit k refl root_name))
 
-  committing_told : (k m : Option Content) (image : Files) → ReadsFit k → ToReplace free old texts new next k → Told Synced k m → IsOldOrNew (spelling old) (spelling new) m image → StandsForEither old texts new next image
-  committing_told None m image fit todo synced between = absurd todo
-  committing_told (Some k) None image fit todo synced between = absurd synced
-  committing_told (Some k) (Some m) image fit todo synced between = committing k m image fit todo synced between
+  committing_told : (k m : Option Content) (image : Files) → ReadsFit k → ToReplace free old texts new next k → BothTold Synced k m → IsOldOrNew (spelling old) (spelling new) m image → StandsForEither old texts new next image
+  committing_told None m image fit todo synced crash_between = absurd todo
+  committing_told (Some k) None image fit todo synced crash_between = absurd synced
+  committing_told (Some k) (Some m) image fit todo synced crash_between = committing k m image fit todo synced crash_between
 
-  dropping_told : (k m n : Option Content) (image : Files) → ToReplace free old texts new next k → Told Synced k m → Told IsCommitted m n → EachRoot (Current free (spelling new)) n → Beside (bounds_of new) n image → StandsForEither old texts new next image
-  dropping_told None m n image todo synced committed roots beside = absurd todo
-  dropping_told (Some k) None n image todo synced committed roots beside = absurd synced
-  dropping_told (Some k) (Some m) None image todo synced committed roots beside = absurd committed
-  dropping_told (Some k) (Some m) (Some n) image todo synced committed roots beside = inr (dropping k m n image todo synced committed roots beside)
+  dropping_told : (k m n : Option Content) (image : Files) → ToReplace free old texts new next k → BothTold Synced k m → BothTold IsCommitted m n → EachRoot (Current free (spelling new)) n → Beside (bounds_of new) n image → StandsForEither old texts new next image
+  dropping_told None m n image todo synced committed roots crash_beside = absurd todo
+  dropping_told (Some k) None n image todo synced committed roots crash_beside = absurd synced
+  dropping_told (Some k) (Some m) None image todo synced committed roots crash_beside = absurd committed
+  dropping_told (Some k) (Some m) (Some n) image todo synced committed roots crash_beside = inr (dropping k m n image todo synced committed roots crash_beside)
 
-  done_told : (k p : Option Content) → ReadsFit p → ToReplace free old texts new next k → Told (Replaced free (spelling new) old new) k p → EachRoot (Ready (1 - free) (spelling new)) p → OnDisk new (1 - free) next p
+  done_told : (k p : Option Content) → ReadsFit p → ToReplace free old texts new next k → BothTold (Replaced free (spelling new) old new) k p → EachRoot (Ready (1 - free) (spelling new)) p → OnDisk new (1 - free) next p
   done_told None p fit todo was ready = absurd todo
   done_told (Some k) None fit todo was ready = absurd ready
   done_told (Some k) (Some p) fit todo was ready = done k p todo was fit ready
 
   -- What a crash leaves at each moment of these phases, and what the disk is then, by the clauses of their calls.
-  module _ {D : Type 0} (content : D → Option Content) (moment : D → ℕ) (left_since : D → ℕ → Files → Type 0) (reads_fit : (d : D) → ReadsFit (content d)) (disk d1 d2 : D) (todo : ToReplace free old texts new next (content disk)) (synced : Told Synced (content disk) (content d1)) where
+  module _ {D : Type 0} (content : D → Option Content) (moment : D → ℕ) (left_since : D → ℕ → Files → Type 0) (reads_fit : (d : D) → ReadsFit (content d)) (disk d1 d2 : D) (todo : ToReplace free old texts new next (content disk)) (synced : BothTold Synced (content disk) (content d1)) where
     -- What a clause of the commit promises, over whichever root it is asked of.
     abbrev pub Promised : (List ℕ → Type 0) → Type 0
     Promised P = (body : List ℕ) → EachRoot (Ready free body) (content d1) → sequence_of body < new.sequence → P body
@@ -203,12 +203,12 @@ module _ (free : ℕ) (old : Root) (texts : Texts) (new : Root) (next : Texts) w
           (kept_promise (λ body. LeavesOnly moment left_since d1 d2 (IsOldOrNew body (spelling new) (content d1))) commits)
           (λ image. before_told (content disk) image todo) (λ image. committing_told (content disk) (content d1) image (reads_fit disk) todo synced)
 
-      pub drops_leave : (d3 : D) → Told IsCommitted (content d1) (content d2) → Promised (λ body. EachRoot (Current free (spelling new)) (content d2)) → RunsBeside content moment left_since (bounds_of new) d2 d3 → LeavesOnly moment left_since disk d3 (StandsForEither old texts new next)
+      pub drops_leave : (d3 : D) → BothTold IsCommitted (content d1) (content d2) → Promised (λ body. EachRoot (Current free (spelling new)) (content d2)) → RunsBeside content moment left_since (bounds_of new) d2 d3 → LeavesOnly moment left_since disk d3 (StandsForEither old texts new next)
       drops_leave d3 committed roots run =
           joined moment left_since disk d2 d3 (StandsForEither old texts new next) (Beside (bounds_of new) (content d2)) (StandsForEither old texts new next) commit_leaves run.moments (λ image stands. stands)
           (λ image. dropping_told (content disk) (content d1) (content d2) image todo synced committed (kept_promise (λ body. EachRoot (Current free (spelling new)) (content d2)) roots))
 
-    pub done_on : (d3 : D) → Promised (λ body. EachRoot (Ready (1 - free) (spelling new)) (content d2)) → Told (HasNewRoot free (spelling new)) (content d1) (content d2) → Told IsCommitted (content d1) (content d2) → Told (IsDropped old new) (content d2) (content d3) → OnDisk new (1 - free) next (content d3)
+    pub done_on : (d3 : D) → Promised (λ body. EachRoot (Ready (1 - free) (spelling new)) (content d2)) → BothTold (HasNewRoot free (spelling new)) (content d1) (content d2) → BothTold IsCommitted (content d1) (content d2) → BothTold (IsDropped old new) (content d2) (content d3) → OnDisk new (1 - free) next (content d3)
     done_on d3 ready written committed dropped =
         done_told (content disk) (content d3) (reads_fit d3) todo (replaced_told free (spelling new) old new (content disk) (content d1) (content d2) (content d3) synced written committed dropped)
         (dropped_root (Ready (1 - free) (spelling new)) old new (content d2) (content d3) (reads_fit d2) dropped (kept_promise (λ body. EachRoot (Ready (1 - free) (spelling new)) (content d2)) ready))
@@ -220,14 +220,14 @@ root_size_stays slot body file in_range whole size =
     overlay-size slot (1 ∷ []) (overlay (body_offset slot) body file) (omega (arith, filled, size, in_range)) ∙ (filled ∙ size)
 
 -- In the end the files that the new root names read as before, and the root file is that of the commit.
-pub kept_told : (slot : ℕ) (body : List ℕ) (old new : Root) (k m n p : Option Content) → slot < 2 → length body ≡ 1536 → WhereTold HasRootSize k → Told Synced k m → Told (HasNewRoot slot body) m n → Told IsCommitted m n → Told (IsDropped old new) n p → Told (KeepsNamed new) k p
+pub kept_told : (slot : ℕ) (body : List ℕ) (old new : Root) (k m n p : Option Content) → slot < 2 → length body ≡ 1536 → WhereTold HasRootSize k → BothTold Synced k m → BothTold (HasNewRoot slot body) m n → BothTold IsCommitted m n → BothTold (IsDropped old new) n p → BothTold (KeepsNamed new) k p
 kept_told slot body old new k m n p in_range whole size synced written committed dropped =
     told_weaker (Replaced slot body old new) (KeepsNamed new) k p (λ a b it is was. record {
       root_file = ap (λ (f : File). length (bytes_of f)) was.root ∙ root_size_stays slot body (bytes_of (a root_name).seen) in_range whole (subst (WhereTold HasRootSize) it size);
       named = was.kept;
     }) (replaced_told slot body old new k m n p synced written committed dropped)
 
-pub rooted_told : (slot : ℕ) (body : List ℕ) (old new : Root) (k m n p : Option Content) → Told Synced k m → Told (HasNewRoot slot body) m n → Told IsCommitted m n → Told (IsDropped old new) n p → Told (HasNewRoot slot body) k p
+pub rooted_told : (slot : ℕ) (body : List ℕ) (old new : Root) (k m n p : Option Content) → BothTold Synced k m → BothTold (HasNewRoot slot body) m n → BothTold IsCommitted m n → BothTold (IsDropped old new) n p → BothTold (HasNewRoot slot body) k p
 rooted_told slot body old new k m n p synced written committed dropped =
     told_weaker (Replaced slot body old new) (HasNewRoot slot body) k p (λ a b it is was. was.root) (replaced_told slot body old new k m n p synced written committed dropped)
 
@@ -235,10 +235,10 @@ rooted_told slot body old new k m n p synced written committed dropped =
 pub beside_between : {D : Type 0} (content : D → Option Content) (moment : D → ℕ) (left_since : D → ℕ → Files → Type 0) (root : Root) (old new : D) → RunsBeside content moment left_since (bounds_of root) old new → RunsBetween content moment left_since old new
 beside_between content moment left_since root old new run = weaker moment left_since old new (Beside (bounds_of root) (content old)) (BetweenStays (content old)) run.moments (λ image. stays (content old) image) where
   stays : (k : Option Content) (image : Files) → Beside (bounds_of root) k image → BetweenStays k image
-  stays None image beside = tt
-  stays (Some k) image beside = record { from = image root_name; fits = beside.each root_name; same = refl }
+  stays None image crash_beside = tt
+  stays (Some k) image crash_beside = record { from = image root_name; fits = crash_beside.each root_name; same = refl }
 
-pub beside_went : (root : Root) (k m : Option Content) → Told (WentBeside (bounds_of root)) k m → Told WentBetween k m
+pub beside_went : (root : Root) (k m : Option Content) → BothTold (WentBeside (bounds_of root)) k m → BothTold WentBetween k m
 beside_went root k m went = told_weaker (WentBeside (bounds_of root)) WentBetween k m (λ a b is told one file fits. record { from = file; fits = one.each root_name file fits; same = refl }) went
 
 -- What a crash leaves while a disk is synced.
@@ -247,11 +247,11 @@ pub sync_leaves : {D : Type 0} (content : D → Option Content) (moment : D → 
 sync_leaves content moment left_since disk d1 now time earlier = goes_on moment left_since disk disk d1 (Image (content disk)) (content d1) (started moment left_since disk (Image (content disk)) now) time earlier
 
 -- The same while the root is replaced, call by call.
-module _ {D : Type 0} (content : D → Option Content) (moment : D → ℕ) (left_since : D → ℕ → Files → Type 0) (reads_fit : (d : D) → ReadsFit (content d)) (disk d1 d2 : D) (looks : LeavesOnly moment left_since disk d1 (Image (content disk))) (synced : Told Synced (content disk) (content d1)) (commits : RunsBetween content moment left_since d1 d2) where
+module _ {D : Type 0} (content : D → Option Content) (moment : D → ℕ) (left_since : D → ℕ → Files → Type 0) (reads_fit : (d : D) → ReadsFit (content d)) (disk d1 d2 : D) (looks : LeavesOnly moment left_since disk d1 (Image (content disk))) (synced : BothTold Synced (content disk) (content d1)) (commits : RunsBetween content moment left_since d1 d2) where
   pub commit_between : RunsBetween content moment left_since disk d2
   commit_between = joined_between content moment left_since disk d1 d2 (looks_between content moment left_since disk d1 looks) (went_synced (content disk) (content d1) (reads_fit disk) synced) commits
 
-  pub drops_between : (slot : ℕ) (body : List ℕ) (new : Root) (d3 : D) → slot < 2 → WhereTold HasRootSize (content disk) → length body ≡ 1536 → Told (HasNewRoot slot body) (content d1) (content d2) → Told IsCommitted (content d1) (content d2) → RunsBeside content moment left_since (bounds_of new) d2 d3 → RunsBetween content moment left_since disk d3
+  pub drops_between : (slot : ℕ) (body : List ℕ) (new : Root) (d3 : D) → slot < 2 → WhereTold HasRootSize (content disk) → length body ≡ 1536 → BothTold (HasNewRoot slot body) (content d1) (content d2) → BothTold IsCommitted (content d1) (content d2) → RunsBeside content moment left_since (bounds_of new) d2 d3 → RunsBetween content moment left_since disk d3
   drops_between slot body new d3 low size whole root committed run =
       joined_between content moment left_since disk d2 d3 commit_between
       (went_then (content disk) (content d1) (content d2) (went_synced (content disk) (content d1) (reads_fit disk) synced) (went_committed slot body (content d1) (content d2) low whole (reads_fit d1) size1 root committed))
@@ -271,5 +271,5 @@ module _ (root : Root) (k m : Content) (same : KeepsNamed root k m) (long : HasL
         ];
   }
 
-pub kept_sizes : (root : Root) (k m : Option Content) → WhereTold (HasLengths root) k → Told (KeepsNamed root) k m → WhereTold (HasSizes root) m
+pub kept_sizes : (root : Root) (k m : Option Content) → WhereTold (HasLengths root) k → BothTold (KeepsNamed root) k m → WhereTold (HasSizes root) m
 kept_sizes root k m long same = told_where (KeepsNamed root) (HasLengths root) (HasSizes root) k m (λ a b is new_is kept_ was. kept_long root a b kept_ was) same long

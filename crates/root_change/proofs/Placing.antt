@@ -99,21 +99,21 @@ module _ (old : Root) (number : ℕ) where
 -- The `Place` of a part after its plan is valid.
 anew_valid : (next count : ℕ) → PlaceIsValid next (place_anew next count)
 anew_valid next count = elim (cases_lt 0 count) [
-  | inl some ↦ subst (PlaceIsValid next) (sym (ap (λ (b : Bool). made b) (less_test 0 count some))) (record { gen_ = omega arith; empty = λ none. absurd (omega (arith, none, some)) })
-  | inr none ↦ subst (PlaceIsValid next) (sym (ap (λ (b : Bool). made b) (least_test 0 count none))) (record { gen_ = omega arith; empty = λ empty. refl })
+  | inl some ↦ subst (PlaceIsValid next) (sym (ap (λ (b : Bool). made b) (less_test 0 count some))) (record { generation = omega arith; empty = λ none. absurd (omega (arith, none, some)) })
+  | inr none ↦ subst (PlaceIsValid next) (sym (ap (λ (b : Bool). made b) (least_test 0 count none))) (record { generation = omega arith; empty = λ empty. refl })
 ] where
   made : Bool → Place
-  made b = if b then record { gen_ = next; length = count } else no_place
+  made b = if b then record { generation = next; length = count } else no_place
 
 behind_valid : (sequence : ℕ) (place : Place) (count : ℕ) → PlaceIsValid sequence place → PlaceIsValid (sequence + 1) (place_behind (sequence + 1) place count)
 behind_valid sequence place count valid = elim (cases_lt 0 place.length) [
   | inl some ↦
-      let old = valid.gen_ in
-      subst (PlaceIsValid (sequence + 1)) (sym (ap (λ (b : Bool). made b) (less_test 0 place.length some))) (record { gen_ = omega (arith, old); empty = λ none. absurd (omega (arith, none, some)) })
+      let old = valid.generation in
+      subst (PlaceIsValid (sequence + 1)) (sym (ap (λ (b : Bool). made b) (less_test 0 place.length some))) (record { generation = omega (arith, old); empty = λ none. absurd (omega (arith, none, some)) })
   | inr none ↦ subst (PlaceIsValid (sequence + 1)) (sym (ap (λ (b : Bool). made b) (least_test 0 place.length none))) (anew_valid (sequence + 1) count)
 ] where
   made : Bool → Place
-  made b = if b then record { gen_ = place.gen_; length = place.length + count } else place_anew (sequence + 1) count
+  made b = if b then record { generation = place.generation; length = place.length + count } else place_anew (sequence + 1) count
 
 by_valid : (sequence : ℕ) (target : Target) (place : Place) (count : ℕ) → PlaceIsValid sequence place → PlaceIsValid (sequence + 1) (place_by (sequence + 1) target place count)
 by_valid sequence Anew place count valid = anew_valid (sequence + 1) count
@@ -123,11 +123,11 @@ planned_valid : (sequence : ℕ) (plan : Option Plan) (place : Place) → PlaceI
 planned_valid sequence None place valid = later_place sequence (sequence + 1) place (omega arith) valid
 planned_valid sequence (Some plan) place valid = by_valid sequence plan.target place (plan_count plan) valid
 
-map_gen : (sequence : ℕ) (target : Target) (place : Place) (count : ℕ) → place.gen_ ≤ sequence → (map_by (sequence + 1) target place count).gen_ ≤ sequence + 1
+map_gen : (sequence : ℕ) (target : Target) (place : Place) (count : ℕ) → place.generation ≤ sequence → (map_by (sequence + 1) target place count).generation ≤ sequence + 1
 map_gen sequence Anew place count old = omega arith
 map_gen sequence Behind place count old = omega (arith, old)
 
-map_gen_planned : (sequence : ℕ) (plan : Option Plan) (place : Place) → place.gen_ ≤ sequence → (map_planned (sequence + 1) plan place).gen_ ≤ sequence + 1
+map_gen_planned : (sequence : ℕ) (plan : Option Plan) (place : Place) → place.generation ≤ sequence → (map_planned (sequence + 1) plan place).generation ≤ sequence + 1
 map_gen_planned sequence None place old = omega (arith, old)
 map_gen_planned sequence (Some plan) place old = map_gen sequence plan.target place (plan_count plan) old
 
@@ -136,7 +136,7 @@ pub after_is_root : (old : Root) (plans : List Plan) (number : ℕ) (new : Root)
 after_is_root old plans number new valid fits least most map_fits after =
     let next_is = after.next in
     let sequence_is = after.sequence in
-    let gen_is = ap (λ (p : Place). p.gen_) after.map in
+    let gen_is = ap (λ (p : Place). p.generation) after.map in
     let length_is = ap (λ (p : Place). p.length) after.map in
     let gen_most = map_gen_planned old.sequence (plan_of plans kind.Map 0) old.map valid.map_gen in
     let size = after.count in
@@ -151,5 +151,5 @@ after_is_root old plans number new valid fits least most map_fits after =
           let low : e < 64 = omega (arith, size, below) in
           subst (λ (s : ℕ). PlaceIsValid s (get_or new.epochs e no_place)) (sym sequence_is)
           (subst (PlaceIsValid (old.sequence + 1)) (sym (after.epochs e low)) (planned_valid old.sequence (plan_of plans kind.Epoch e) (get_or old.epochs e no_place) (valid.epochs e no_place (omega (arith, was, low))))));
-      cache = subst (PlaceIsValid new.sequence) (sym after.cache) (record { gen_ = omega arith; empty = λ none. refl });
+      cache = subst (PlaceIsValid new.sequence) (sym after.cache) (record { generation = omega arith; empty = λ none. refl });
     }

@@ -8,7 +8,7 @@ use Rattle.disk_model.specs.declared.name.FileName.{FileName}
 use Rattle.disk_model.specs.Disk.{Content, bytes_of}
 use Rattle.root_change.specs.declared.sources.Source.{Source}
 use Rattle.root_change.specs.declared.sources.Source.TheVariants.{Bytes, Range}
-use Rattle.root_change.specs.Gathering.{source_count, source_bytes, gathered, IsSource, AreSources, HasSource, HasSources, PutSources}
+use Rattle.root_change.specs.Gathering.{source_count, source_bytes, gathered, IsSourceFor, AreSources, HasSource, HasSources, PutSources}
 use Rattle.root_change.specs.Rewriting.{Plan, IsPlan, IsPlanFrom, IsPlanWhole, IsWholeIn, MayBeSource, IsSourceFrom, source_text, gathered_text, plan_count, with_bytes, with_range, written_by}
 use Rattle.root_change.specs.Texts.{Texts}
 
@@ -69,7 +69,7 @@ pub from_with_range : (from : FileName) (plan : Plan) (offset count : ℕ) → I
 from_with_range from plan offset count own = each_more (IsSourceFrom from) plan.sources (Range (record { file = from; offset = offset; count = count })) own refl
 
 -- The sources of such a plan may go to another file.
-source_to : (from to : FileName) (bytes : List ℕ) (source : Source) → from ≢ to → IsSourceFrom from source → MayBeSource bytes source → IsSource to source
+source_to : (from to : FileName) (bytes : List ℕ) (source : Source) → from ≢ to → IsSourceFrom from source → MayBeSource bytes source → IsSourceFor to source
 source_to from to bytes (Bytes offset count) apart own may = tt
 source_to from to bytes (Range range) apart own may = (λ is. apart (sym own ∙ is), omega (arith, may))
 

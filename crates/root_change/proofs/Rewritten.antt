@@ -7,7 +7,7 @@ use Rattle.std.proofs.lemmas.Option.{same_Some}
 use Rattle.disk_model.specs.declared.name.FileKind.{FileKind}
 use Rattle.disk_model.specs.declared.name.FileKind.TheVariants as kind
 use Rattle.disk_model.specs.declared.name.FileName.{FileName}
-use Rattle.disk_model.specs.Disk.{File, Content, Told, WhereTold, bytes_of}
+use Rattle.disk_model.specs.Disk.{File, Content, BothTold, WhereTold, bytes_of}
 use Rattle.disk_model.specs.Images.{same_or_other}
 use Rattle.root_slots.specs.declared.root.Place.{Place}
 use Rattle.root_slots.specs.declared.root.Root.{Root}
@@ -16,8 +16,8 @@ use Rattle.root_slots.specs.Sizes.{sequence-spelling}
 use Rattle.root_slots.specs.Valid.{IsRoot, RootFits, no_place}
 use Rattle.root_change.specs.declared.plan.Target.{Target}
 use Rattle.root_change.specs.declared.plan.Target.TheVariants.{Anew, Behind}
-use Rattle.root_change.specs.Changing.{ReadsAs, Becomes}
-use Rattle.root_change.specs.Gathering.{gathered, AreSources, IsSource}
+use Rattle.root_change.specs.Changing.{ReadsAsTexts, BecomesRoot}
+use Rattle.root_change.specs.Gathering.{gathered, AreSources, IsSourceFor}
 use Rattle.root_change.specs.Names.{place_of, has_place, named_by, names_file, named_end, named_none, named_some}
 use Rattle.root_change.specs.Parts.{Parts, texts_of, PartsFit}
 use Rattle.root_change.specs.Rewriting.{Plan, IsPartToPlan, IsRootAfter, MayCarryAll, bytes_by, file_by, map_by, map_planned, place_anew, place_by, place_planned, plan_count, plan_of, planned, rewritten, written_by}
@@ -39,15 +39,15 @@ there_or_none None = inr refl
 there_or_none (Some p) = inl (p, refl)
 
 -- The `Place` of an epoch written anew.
-anew_some : (next count : ℕ) → 0 < count → place_anew next count ≡ record { gen_ = next; length = count }
+anew_some : (next count : ℕ) → 0 < count → place_anew next count ≡ record { generation = next; length = count }
 anew_some next count some = ap (λ (b : Bool). made b) (less_test 0 count some) where
   made : Bool → Place
-  made b = if b then record { gen_ = next; length = count } else no_place
+  made b = if b then record { generation = next; length = count } else no_place
 
 anew_none : (next count : ℕ) → count ≡ 0 → place_anew next count ≡ no_place
 anew_none next count none = ap (λ (b : Bool). made b) (least_test 0 count (none_at_most count 0 none)) where
   made : Bool → Place
-  made b = if b then record { gen_ = next; length = count } else no_place
+  made b = if b then record { generation = next; length = count } else no_place
 
 -- What is written in place of no bytes, or after none.
 first_bytes : (target : Target) (before written : List ℕ) → (target ≡ Behind → length before ≡ 0) → bytes_by target before written ≡ written
@@ -62,16 +62,16 @@ module _ (old new : Root) (plans : List Plan) (number : ℕ) (valid : IsRoot old
   next_ = old.sequence + 1
 
   -- The generations of the old root.
-  old_gen : (k : FileKind) (n : ℕ) → IsPartToPlan k n → (place_of old k n).gen_ ≤ old.sequence
+  old_gen : (k : FileKind) (n : ℕ) → IsPartToPlan k n → (place_of old k n).generation ≤ old.sequence
   old_gen kind.Root n part = absurd part
-  old_gen kind.Map n part = subst (λ (m : ℕ). (place_of old kind.Map m).gen_ ≤ old.sequence) (sym part) valid.map_gen
-  old_gen kind.Epoch n part = (valid.epochs n no_place (let size = fits.count in omega (arith, size, part))).gen_
+  old_gen kind.Map n part = subst (λ (m : ℕ). (place_of old kind.Map m).generation ≤ old.sequence) (sym part) valid.map_gen
+  old_gen kind.Epoch n part = (valid.epochs n no_place (let size = fits.count in omega (arith, size, part))).generation
   old_gen kind.Cache n part = absurd part
 
   -- A root that names a file of a part has its generation.
-  named_gen : (root : Root) (k : FileKind) (n g : ℕ) → IsPartToPlan k n → named_by root k n g ≡ true → g ≡ (place_of root k n).gen_
+  named_gen : (root : Root) (k : FileKind) (n g : ℕ) → IsPartToPlan k n → named_by root k n g ≡ true → g ≡ (place_of root k n).generation
   named_gen root kind.Root n g part is = absurd part
-  named_gen root kind.Map n g part is = ap (λ (f : FileName). f.gen_) (named_map root n g is) ∙ subst (λ (m : ℕ). root.map.gen_ ≡ (place_of root kind.Map m).gen_) (sym part) refl
+  named_gen root kind.Map n g part is = ap (λ (f : FileName). f.generation) (named_map root n g is) ∙ subst (λ (m : ℕ). root.map.generation ≡ (place_of root kind.Map m).generation) (sym part) refl
   named_gen root kind.Epoch n g part is = named_epoch root n g is
   named_gen root kind.Cache n g part is = absurd part
 
@@ -106,7 +106,7 @@ module _ (old new : Root) (plans : List Plan) (number : ℕ) (valid : IsRoot old
 
   -- Its file is one of the next generation, or goes on, or there is nothing to write.
   record IsFresh (k : FileKind) (n : ℕ) (target : Target) (count : ℕ) : Type 0 where
-    gen_is : (place_of new k n).gen_ ≡ old.sequence + 1
+    gen_is : (place_of new k n).generation ≡ old.sequence + 1
     length_is : (place_of new k n).length ≡ count
     before : target ≡ Behind → (place_of old k n).length ≡ 0
 
@@ -128,7 +128,7 @@ module _ (old new : Root) (plans : List Plan) (number : ℕ) (valid : IsRoot old
   anew_goes n target count is before = elim (cases_lt 0 count) [
     | inl some ↦
         let there = is ∙ anew_some next_ count some in
-        inl (record { gen_is = ap (λ (p : Place). p.gen_) there; length_is = ap (λ (p : Place). p.length) there; before = before })
+        inl (record { gen_is = ap (λ (p : Place). p.generation) there; length_is = ap (λ (p : Place). p.length) there; before = before })
     | inr least ↦
         let none : count ≡ 0 = omega (arith, least) in
         inr (inr (record { kind_is = refl; length_is = ap (λ (p : Place). p.length) (is ∙ anew_none next_ count none); count_is = none; before = before }))
@@ -138,21 +138,21 @@ module _ (old new : Root) (plans : List Plan) (number : ℕ) (valid : IsRoot old
   epoch_goes n Anew count below is = anew_goes n Anew count is (λ wrong. absurd cc)
   epoch_goes n Behind count below is = elim (cases_lt 0 (place_of old kind.Epoch n).length) [
     | inl some ↦
-        let there : place_of new kind.Epoch n ≡ record { gen_ = (place_of old kind.Epoch n).gen_; length = (place_of old kind.Epoch n).length + count } = is ∙ ap (λ (b : Bool). made b) (less_test 0 (place_of old kind.Epoch n).length some) in
-        inr (inl (record { target_is = refl; length_is = ap (λ (p : Place). p.length) there; was_named = epoch_is_named old n (place_of new kind.Epoch n).gen_ below some (sym (ap (λ (p : Place). p.gen_) there)) }))
+        let there : place_of new kind.Epoch n ≡ record { generation = (place_of old kind.Epoch n).generation; length = (place_of old kind.Epoch n).length + count } = is ∙ ap (λ (b : Bool). made b) (less_test 0 (place_of old kind.Epoch n).length some) in
+        inr (inl (record { target_is = refl; length_is = ap (λ (p : Place). p.length) there; was_named = epoch_is_named old n (place_of new kind.Epoch n).generation below some (sym (ap (λ (p : Place). p.generation) there)) }))
     | inr least ↦ anew_goes n Behind count (is ∙ ap (λ (b : Bool). made b) (least_test 0 (place_of old kind.Epoch n).length least)) (λ behind. omega (arith, least))
   ] where
     made : Bool → Place
-    made b = if b then record { gen_ = (place_of old kind.Epoch n).gen_; length = (place_of old kind.Epoch n).length + count } else place_anew next_ count
+    made b = if b then record { generation = (place_of old kind.Epoch n).generation; length = (place_of old kind.Epoch n).length + count } else place_anew next_ count
 
   map_goes : (n : ℕ) (target : Target) (count : ℕ) → n ≡ 0 → place_of new kind.Map n ≡ map_by next_ target (place_of old kind.Map n) count → Goes kind.Map n target count
-  map_goes n Anew count part is = inl (record { gen_is = ap (λ (p : Place). p.gen_) is; length_is = ap (λ (p : Place). p.length) is; before = λ wrong. absurd cc })
+  map_goes n Anew count part is = inl (record { gen_is = ap (λ (p : Place). p.generation) is; length_is = ap (λ (p : Place). p.length) is; before = λ wrong. absurd cc })
   map_goes n Behind count part is =
-      let same : new.map.gen_ ≡ old.map.gen_ = subst (λ (m : ℕ). (place_of new kind.Map m).gen_ ≡ (place_of old kind.Map m).gen_) part (ap (λ (p : Place). p.gen_) is) in
+      let same : new.map.generation ≡ old.map.generation = subst (λ (m : ℕ). (place_of new kind.Map m).generation ≡ (place_of old kind.Map m).generation) part (ap (λ (p : Place). p.generation) is) in
       inr (inl (record {
         target_is = refl;
         length_is = ap (λ (p : Place). p.length) is;
-        was_named = subst (λ (m : ℕ). names_file old (file_by new kind.Map m) ≡ true) (sym part) (map_is_named old new.map.gen_ same);
+        was_named = subst (λ (m : ℕ). names_file old (file_by new kind.Map m) ≡ true) (sym part) (map_is_named old new.map.generation same);
       }))
 
   part_goes : (k : FileKind) (n : ℕ) (plan : Plan) → IsPartToPlan k n → plan_of plans k n ≡ Some plan → Goes k n plan.target (plan_count plan)
@@ -164,28 +164,28 @@ module _ (old new : Root) (plans : List Plan) (number : ℕ) (valid : IsRoot old
   -- Each file that the new root names is that of a part.
   named_part : (k : FileKind) (n g : ℕ) → named k n g ≢ root_name → named_by new k n g ≡ true → IsPartToPlan k n
   named_part kind.Root n g apart is = absurd (apart (named_root new n g is))
-  named_part kind.Map n g apart is = is_same n 0 (both (n == 0) (g == new.map.gen_) is).0
+  named_part kind.Map n g apart is = is_same n 0 (both (n == 0) (g == new.map.generation) is).0
   named_part kind.Epoch n g apart is = named_number new n g is
   named_part kind.Cache n g apart is = absurd (not_both (has_place new.cache g) (both (n == 0) (has_place new.cache g) is).1 (ap (λ (p : Place). has_place p g) after.cache))
 
   named_file : (name : FileName) → IsPartToPlan name.kind name.number → names_file new name ≡ true → name ≡ file_by new name.kind name.number
-  named_file name part is = ap (named name.kind name.number) (named_gen new name.kind name.number name.gen_ part is)
+  named_file name part is = ap (named name.kind name.number) (named_gen new name.kind name.number name.generation part is)
 
   -- Both roots name a part's file if its `Place` stays.
   named_same : (k : FileKind) (n g : ℕ) → IsPartToPlan k n → place_of new k n ≡ place_of old k n → named_by new k n g ≡ named_by old k n g
   named_same kind.Root n g part same = absurd part
   named_same kind.Map n g part same =
       let at_0 : new.map ≡ old.map = subst (λ (m : ℕ). place_of new kind.Map m ≡ place_of old kind.Map m) part same in
-      ap (λ (p : Place). n == 0 && g == p.gen_) at_0
+      ap (λ (p : Place). n == 0 && g == p.generation) at_0
   named_same kind.Epoch n g part same = ap (λ (p : Place). nat_lt n 64 && has_place p g) same
   named_same kind.Cache n g part same = absurd part
 
   -- The new root names the file of the map, and that of an epoch with bytes.
   file_named : (k : FileKind) (n : ℕ) → IsPartToPlan k n → names_file new (file_by new k n) ≡ false → (k ≡ kind.Epoch) × ((place_of new k n).length ≡ 0)
   file_named kind.Root n part isnt = absurd part
-  file_named kind.Map n part isnt = absurd (not_both (names_file new (file_by new kind.Map n)) (subst (λ (m : ℕ). names_file new (file_by new kind.Map m) ≡ true) (sym part) (map_is_named new new.map.gen_ refl)) isnt)
+  file_named kind.Map n part isnt = absurd (not_both (names_file new (file_by new kind.Map n)) (subst (λ (m : ℕ). names_file new (file_by new kind.Map m) ≡ true) (sym part) (map_is_named new new.map.generation refl)) isnt)
   file_named kind.Epoch n part isnt = elim (cases_lt 0 (place_of new kind.Epoch n).length) [
-    | inl some ↦ absurd (not_both (names_file new (file_by new kind.Epoch n)) (epoch_is_named new n (place_of new kind.Epoch n).gen_ part some refl) isnt)
+    | inl some ↦ absurd (not_both (names_file new (file_by new kind.Epoch n)) (epoch_is_named new n (place_of new kind.Epoch n).generation part some refl) isnt)
     | inr least ↦ (refl, omega (arith, least))
   ]
   file_named kind.Cache n part isnt = absurd part
@@ -207,14 +207,14 @@ module _ (old new : Root) (plans : List Plan) (number : ℕ) (valid : IsRoot old
     goes = part_goes plan.kind plan.number plan plan_part (plan_of_each plans i plan may.apart here)
 
     -- The plan may be written there.
-    fresh_sources : (place_of new plan.kind plan.number).gen_ ≡ old.sequence + 1 → AreSources to plan.sources
+    fresh_sources : (place_of new plan.kind plan.number).generation ≡ old.sequence + 1 → AreSources to plan.sources
     fresh_sources gen_is =
         sources_to (file_by old plan.kind plan.number) to plan
-        (λ same. absurd (let gens = ap (λ (f : FileName). f.gen_) same in let low = old_gen plan.kind plan.number plan_part in omega (arith, gen_is, gens, low)))
+        (λ same. absurd (let gens = ap (λ (f : FileName). f.generation) same in let low = old_gen plan.kind plan.number plan_part in omega (arith, gen_is, gens, low)))
         (may.each i plan here).comes (may.each i plan here).valid
 
     byte_sources : plan.target ≡ Behind → AreSources to plan.sources
-    byte_sources behind = λ j source is. let bytes = (may.each i plan here).bytes_only behind j source is in subst (IsSource to) (sym bytes.2) tt
+    byte_sources behind = λ j source is. let bytes = (may.each i plan here).bytes_only behind j source is in subst (IsSourceFor to) (sym bytes.2) tt
 
     may_write : MayWrite old plan to
     may_write = record {
@@ -230,7 +230,7 @@ module _ (old new : Root) (plans : List Plan) (number : ℕ) (valid : IsRoot old
       short = λ some.
           let few = (may.each i plan here).valid.short in
           elim goes [
-            | inl fresh ↦ (let end_ = named_none old to (fresh_unnamed plan.kind plan.number to.gen_ plan_part fresh.gen_is) in omega (arith, end_, few))
+            | inl fresh ↦ (let end_ = named_none old to (fresh_unnamed plan.kind plan.number to.generation plan_part fresh.gen_is) in omega (arith, end_, few))
             | inr rest ↦ elim rest [
               | inl on ↦ (let most = end_at_most old to in let room = (may.each i plan here).room on.target_is in omega (arith, most, room, few))
               | inr none ↦ absurd (let count_is = none.count_is in omega (arith, some, count_is))
@@ -289,7 +289,7 @@ module _ (old new : Root) (plans : List Plan) (number : ℕ) (valid : IsRoot old
   long_now : (k m : Content) → HasPartSizes old k → WritesPlans old new plans k m → HasLengths new m
   long_now k m sizes wrote name apart = elim (true_or_false (names_file new name)) [
     | inl is ↦
-        let part = named_part name.kind name.number name.gen_ apart is in
+        let part = named_part name.kind name.number name.generation apart is in
         elim (there_or_none (plan_of plans name.kind name.number)) [
           | inl some ↦
               let one = found plans name.kind name.number some.0 some.1 in
@@ -297,7 +297,7 @@ module _ (old new : Root) (plans : List Plan) (number : ℕ) (valid : IsRoot old
               subst (λ (f : FileName). named_end new f ≤ length (bytes_of (m f).seen)) (sym same) (at_plan one.index some.0 one.here (subst (λ (f : FileName). names_file new f ≡ true) same is))
           | inr none ↦
               let same = place_kept name.kind name.number part none in
-              let was : names_file old name ≡ true = sym (named_same name.kind name.number name.gen_ part same) ∙ is in
+              let was : names_file old name ≡ true = sym (named_same name.kind name.number name.generation part same) ∙ is in
               let now_end = named_some new name is in
               let was_end = named_some old name was in
               let size = ap (λ (p : Place). p.length) same in
@@ -309,7 +309,7 @@ module _ (old new : Root) (plans : List Plan) (number : ℕ) (valid : IsRoot old
     at_plan : (i : ℕ) (plan : Plan) (here : slice_get plans i ≡ Some plan) → names_file new (file_by new plan.kind plan.number) ≡ true → named_end new (file_by new plan.kind plan.number) ≤ length (bytes_of (m (file_by new plan.kind plan.number)).seen)
     at_plan i plan here is = (let most = ends i plan here is in let reached = (wrote.each i plan here).reaches in omega (arith, most, reached))
 
-  pub long_told : (k m : Option Content) → WhereTold (HasPartSizes old) k → Told (WritesPlans old new plans) k m → WhereTold (HasLengths new) m
+  pub long_told : (k m : Option Content) → WhereTold (HasPartSizes old) k → BothTold (WritesPlans old new plans) k m → WhereTold (HasLengths new) m
   long_told None None sizes wrote = tt
   long_told None (Some m) sizes wrote = absurd wrote
   long_told (Some k) None sizes wrote = absurd wrote
@@ -433,13 +433,13 @@ module _ (old new : Root) (plans : List Plan) (number : ℕ) (valid : IsRoot old
           let was = long plan.kind plan.number in
           file_reads i plan here ∙ (elim (goes i plan here) [
             | inl fresh ↦
-                ap (λ (l : List ℕ). l ++ written) (text_unnamed old parts file (fresh_unnamed plan.kind plan.number file.gen_ part fresh.gen_is))
+                ap (λ (l : List ℕ). l ++ written) (text_unnamed old parts file (fresh_unnamed plan.kind plan.number file.generation part fresh.gen_is))
                 ∙ sym (first_bytes plan.target before written (λ behind. was ∙ fresh.before behind))
             | inr rest ↦ elim rest [
               | inl on_ ↦ ap (λ (l : List ℕ). l ++ written) (text_named old parts file on_.was_named) ∙ sym (more_bytes plan.target before written on_.target_is)
               | inr none ↦
                   let size = none.length_is in
-                  let there = named_bytes new plan.number file.gen_ (subst (λ (l : FileKind). named_by new l plan.number file.gen_ ≡ true) none.kind_is is) in
+                  let there = named_bytes new plan.number file.generation (subst (λ (l : FileKind). named_by new l plan.number file.generation ≡ true) none.kind_is is) in
                   let size_ : (place_of new kind.Epoch plan.number).length ≡ 0 = subst (λ (l : FileKind). (place_of new l plan.number).length ≡ 0) none.kind_is size in
                   absurd (omega (arith, there, size_))
             ]
@@ -449,7 +449,7 @@ module _ (old new : Root) (plans : List Plan) (number : ℕ) (valid : IsRoot old
       abbrev read_now : Texts
       read_now name = bytes_of (m name).seen
 
-      reads_now : ReadsAs old read_now m
+      reads_now : ReadsAsTexts old read_now m
       reads_now = record {
         bytes = λ name apart. refl;
         no_other = λ name isnt none. elim (which_file name) [
@@ -468,12 +468,12 @@ module _ (old new : Root) (plans : List Plan) (number : ℕ) (valid : IsRoot old
         ];
       }
 
-      becomes_now : Becomes old read_now new (texts_of new next)
+      becomes_now : BecomesRoot old read_now new (texts_of new next)
       becomes_now = record {
         later = (let is = sequence-spelling old fits.sequence in let next_is_ = after.sequence in omega (arith, is, next_is_));
         measures = parts_measure new next next_fit;
         named = λ name apart is.
-            let part = named_part name.kind name.number name.gen_ apart is in
+            let part = named_part name.kind name.number name.generation apart is in
             elim (there_or_none (plan_of plans name.kind name.number)) [
               | inl some ↦
                   let plan = some.0 in
@@ -484,7 +484,7 @@ module _ (old new : Root) (plans : List Plan) (number : ℕ) (valid : IsRoot old
                   (plan_reads one.index plan one.here now ∙ sym (text_named new next (file_by new plan.kind plan.number) now))
               | inr none ↦
                   let same = place_kept name.kind name.number part none in
-                  let was : names_file old name ≡ true = sym (named_same name.kind name.number name.gen_ part same) ∙ is in
+                  let was : names_file old name ≡ true = sym (named_same name.kind name.number name.generation part same) ∙ is in
                   ap bytes_of (wrote.others name (no_file name none))
                   ∙ (on.exact.ends name apart ∙ (text_named old parts name was ∙ (sym (next_kept name.kind name.number part none) ∙ sym (text_named new next name is))))
             ];
@@ -513,17 +513,17 @@ module _ (old new : Root) (plans : List Plan) (number : ℕ) (valid : IsRoot old
     reading None name = []
     reading (Some m) name = bytes_of (m name).seen
 
-    pub reads_told : (free : ℕ) (k m : Option Content) → OnDisk old free texts k → Told (WritesPlans old new plans) k m → WhereTold (ReadsAs old (reading m)) m
+    pub reads_told : (free : ℕ) (k m : Option Content) → OnDisk old free texts k → BothTold (WritesPlans old new plans) k m → WhereTold (ReadsAsTexts old (reading m)) m
     reads_told free None m on wrote = absurd on
     reads_told free (Some k) None on wrote = tt
     reads_told free (Some k) (Some m) on wrote = reads_now free k m on wrote
 
-    pub becomes_told : (free : ℕ) (k m : Option Content) → OnDisk old free texts k → Told (WritesPlans old new plans) k m → Becomes old (reading m) new (texts_of new next)
+    pub becomes_told : (free : ℕ) (k m : Option Content) → OnDisk old free texts k → BothTold (WritesPlans old new plans) k m → BecomesRoot old (reading m) new (texts_of new next)
     becomes_told free None m on wrote = absurd on
     becomes_told free (Some k) None on wrote = absurd wrote
     becomes_told free (Some k) (Some m) on wrote = becomes_now free k m on wrote
 
-    pub fit_told : (free : ℕ) (k m : Option Content) → OnDisk old free texts k → Told (WritesPlans old new plans) k m → PartsFit new next
+    pub fit_told : (free : ℕ) (k m : Option Content) → OnDisk old free texts k → BothTold (WritesPlans old new plans) k m → PartsFit new next
     fit_told free None m on wrote = absurd on
     fit_told free (Some k) None on wrote = absurd wrote
     fit_told free (Some k) (Some m) on wrote = next_fit free k m on wrote

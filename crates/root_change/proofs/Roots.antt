@@ -46,4 +46,4 @@ set_elsewhere places e place n apart = get_or-set_other places e n place no_plac
 
 -- A valid place stays valid for a later sequence.
 pub later_place : (m n : ℕ) (place : Place) → m ≤ n → PlaceIsValid m place → PlaceIsValid n place
-later_place m n place less valid = record { gen_ = (let g = valid.gen_ in omega (arith, g, less)); empty = valid.empty }
+later_place m n place less valid = record { generation = (let g = valid.generation in omega (arith, g, less)); empty = valid.empty }

@@ -2,13 +2,13 @@
 use Rattle.std.specs.Prelude.{◌≢◌, ℕ, ◌+◌, ◌≤◌, Bool, true, false, if◌then◌else◌, List, length, Option, Some, None}
 use Rattle.std.proofs.Common.{◌∙◌, sym, ap, subst, inl, inr, arith}
 use Rattle.disk_model.specs.declared.name.FileName.{FileName}
-use Rattle.disk_model.specs.Disk.{File, Kept, Content, Told, WhereTold, OneFile, Wrote, IsAtMostLength, bytes_of, overlay}
+use Rattle.disk_model.specs.Disk.{File, Kept, Content, BothTold, WhereTold, OneFile, Wrote, IsAtMostLength, bytes_of, overlay}
 use Rattle.disk_model.specs.Images.{same_or_other}
 use Rattle.disk_model.specs.Laws.{overlay_length}
 use Rattle.root_slots.specs.declared.root.Root.{Root}
 use Rattle.root_slots.specs.RootName.{root_name}
 use Rattle.disk_model.specs.Tells.{told_where}
-use Rattle.disk_model.specs.Beside.{Respects}
+use Rattle.disk_model.specs.Beside.{RespectsBound}
 use Rattle.root_change.specs.Names.{place_of, names_file, named_end, bounds_of, other_bound}
 use Rattle.root_change.specs.Texts.{HasSizes}
 
@@ -18,8 +18,8 @@ end_inside root name None other sizes = tt
 end_inside root name (Some k) other sizes = sizes.lengths name other
 
 -- The end respects the bound of the root.
-pub end_respects : (root : Root) (name : FileName) → name ≢ root_name → Respects (bounds_of root name) (named_end root name)
-end_respects root name other = subst (λ (b : Option ℕ). Respects b (named_end root name)) (sym (other_bound root name other)) (let least : named_end root name ≤ named_end root name = omega arith in least)
+pub end_respects : (root : Root) (name : FileName) → name ≢ root_name → RespectsBound (bounds_of root name) (named_end root name)
+end_respects root name other = subst (λ (b : Option ℕ). RespectsBound b (named_end root name)) (sym (other_bound root name other)) (let least : named_end root name ≤ named_end root name = omega arith in least)
 
 -- No more bytes count of a file than its part has.
 pub end_at_most : (root : Root) (name : FileName) → named_end root name ≤ (place_of root name.kind name.number).length
@@ -47,5 +47,5 @@ still_long root name bytes k m other wrote sizes = record {
       let size = ap (λ (f : File). length (bytes_of f)) wrote.here.seen ∙ overlay_length (named_end root name) bytes (bytes_of (k name).seen) in
       omega (arith, was, size)
 
-pub sizes_stay : (root : Root) (name : FileName) (bytes : List ℕ) (k m : Option Content) → name ≢ root_name → WhereTold (HasSizes root) k → Told (OneFile name (Wrote (named_end root name) bytes)) k m → WhereTold (HasSizes root) m
+pub sizes_stay : (root : Root) (name : FileName) (bytes : List ℕ) (k m : Option Content) → name ≢ root_name → WhereTold (HasSizes root) k → BothTold (OneFile name (Wrote (named_end root name) bytes)) k m → WhereTold (HasSizes root) m
 sizes_stay root name bytes k m other sizes wrote = told_where (OneFile name (Wrote (named_end root name) bytes)) (HasSizes root) (HasSizes root) k m (λ a b is new_is one was. still_long root name bytes a b other one was) wrote sizes

@@ -8,7 +8,7 @@ use Rattle.std.proofs.lemmas.Option.{same_Some, slice_get-get_or}
 use Rattle.disk_model.specs.declared.name.FileKind.{FileKind}
 use Rattle.disk_model.specs.declared.name.FileKind.TheVariants as kind
 use Rattle.disk_model.specs.declared.name.FileName.{FileName}
-use Rattle.disk_model.specs.Disk.{File, Files, Kept, Content, Told, WhereTold, OneFile, Unchanged, CutTo, Removed, Synced, ReadsFit, IsLength, IsAtMostLength, bytes_of, cut_file}
+use Rattle.disk_model.specs.Disk.{File, Files, Kept, Content, BothTold, WhereTold, OneFile, Unchanged, CutTo, Removed, Synced, ReadsFit, IsLength, IsAtMostLength, bytes_of, cut_file}
 use Rattle.disk_model.specs.Tells.{told_weaker, told_then, told_where}
 use Rattle.disk_model.specs.Beside.{Beside}
 use Rattle.disk_model.specs.Images.{same_or_other}
@@ -28,7 +28,7 @@ use Rattle.root_change.proofs.Roots.{none_at_most, same_at_most, at_most_then}
 
 -- The name of the root file, and any other one.
 pub is_root_file : (root : Root) (name : FileName) → is_root_name name ≡ true → name ≡ root_name
-is_root_file root name is = by name.kind name.number name.gen_ is where
+is_root_file root name is = by name.kind name.number name.generation is where
   by : (k : FileKind) (n g : ℕ) → root_by k n g ≡ true → named k n g ≡ root_name
   by kind.Root n g test = named_root root n g test
   by kind.Map n g test = absurd (not_both false test refl)
@@ -81,17 +81,17 @@ after_same name n k l m same one = record {
 }
 
 -- The same, of a disk that may tell its content.
-pub short_told : (name : FileName) (size n : ℕ) (k m : Option Content) → size ≤ n → WhereTold (IsLength name size) k → Told Unchanged k m → Told (OneFile name (Trimmed n)) k m
+pub short_told : (name : FileName) (size n : ℕ) (k m : Option Content) → size ≤ n → WhereTold (IsLength name size) k → BothTold Unchanged k m → BothTold (OneFile name (Trimmed n)) k m
 short_told name size n None None less is same = tt
 short_told name size n None (Some m) less is same = absurd same
 short_told name size n (Some k) None less is same = absurd same
 short_told name size n (Some k) (Some m) less is same = stays_short name n k m (omega (arith, less, is)) same
 
-pub trimmed_told : (name : FileName) (n : ℕ) (k l m : Option Content) → Told Unchanged k l → Told (OneFile name (CutTo n)) l m → Told (OneFile name (Trimmed n)) k m
+pub trimmed_told : (name : FileName) (n : ℕ) (k l m : Option Content) → BothTold Unchanged k l → BothTold (OneFile name (CutTo n)) l m → BothTold (OneFile name (Trimmed n)) k m
 trimmed_told name n k l m same cut = told_then Unchanged (OneFile name (CutTo n)) (OneFile name (Trimmed n)) k l m (λ a b d is told one two. after_same name n a b d one (cut_short name n b d two)) same cut
 
 -- A file that is longer may be cut.
-pub inside_told : (name : FileName) (size n : ℕ) (k m : Option Content) → n ≤ size → WhereTold (IsLength name size) k → Told Unchanged k m → WhereTold (IsAtMostLength name n) m
+pub inside_told : (name : FileName) (size n : ℕ) (k m : Option Content) → n ≤ size → WhereTold (IsLength name size) k → BothTold Unchanged k m → WhereTold (IsAtMostLength name n) m
 inside_told name size n k m less is same = told_where Unchanged (IsLength name size) (IsAtMostLength name n) k m (λ a b old_is new_is kept long. subst (λ (it : Kept). n ≤ length (bytes_of it.seen)) (sym (kept name)) (omega (arith, less, long))) same is
 
 module _ (root : Root) where
@@ -171,27 +171,27 @@ module _ (root : Root) where
     empty = ap (λ (file : File). length (bytes_of file)) removed.here.seen
 
   -- The same, of a disk that may tell its content.
-  pub removed_tidied : (name : FileName) (k m : Option Content) → names_file root name ≡ false → Told (OneFile name Removed) k m → Told (Tidied (IsOne name) root) k m
+  pub removed_tidied : (name : FileName) (k m : Option Content) → names_file root name ≡ false → BothTold (OneFile name Removed) k m → BothTold (Tidied (IsOne name) root) k m
   removed_tidied name k m isnt told = told_weaker (OneFile name Removed) (Tidied (IsOne name) root) k m (λ a b is new_is one. removed_one name a b isnt one) told
 
-  pub trimmed_tidied : (name : FileName) (k m : Option Content) → names_file root name ≡ true → name ≢ root_name → Told (OneFile name (Trimmed (named_end root name))) k m → Told (Tidied (IsOne name) root) k m
+  pub trimmed_tidied : (name : FileName) (k m : Option Content) → names_file root name ≡ true → name ≢ root_name → BothTold (OneFile name (Trimmed (named_end root name))) k m → BothTold (Tidied (IsOne name) root) k m
   trimmed_tidied name k m is is_file told = told_weaker (OneFile name (Trimmed (named_end root name))) (Tidied (IsOne name) root) k m (λ a b old_is new_is one. tidied_one name a b is_file (λ isnt. absurd (not_both (names_file root name) is isnt)) one) told
 
   -- The root file was left alone.
-  pub root_tidied : (name : FileName) (k : Option Content) → name ≡ root_name → Told (Tidied (IsOne name) root) k k
+  pub root_tidied : (name : FileName) (k : Option Content) → name ≡ root_name → BothTold (Tidied (IsOne name) root) k k
   root_tidied name None is = tt
   root_tidied name (Some k) is = tidied_none (IsOne name) k k (λ other. refl)
       (λ other same isnt. not_both true refl (sym (ap (names_file root) (same ∙ is)) ∙ isnt))
       (λ other same apart. apart (same ∙ is))
 
   -- The first of a list of files.
-  pub none_tidied : (names : List FileName) (k : Option Content) → Told (Tidied (IsAmong names 0) root) k k
+  pub none_tidied : (names : List FileName) (k : Option Content) → BothTold (Tidied (IsAmong names 0) root) k k
   none_tidied names None = tt
   none_tidied names (Some k) = tidied_none (IsAmong names 0) k k (λ name. refl) (λ name among isnt. none among) (λ name among apart. none among) where
     none : {name : FileName} → IsAmong names 0 name → ⊥
     none among = let below = among.1 in absurd (omega (arith, below))
 
-  pub more_tidied : (names : List FileName) (i : ℕ) (name : FileName) (k m o : Option Content) → slice_get names i ≡ Some name → Told (Tidied (IsAmong names i) root) k m → Told (Tidied (IsOne name) root) m o → Told (Tidied (IsAmong names (i + 1)) root) k o
+  pub more_tidied : (names : List FileName) (i : ℕ) (name : FileName) (k m o : Option Content) → slice_get names i ≡ Some name → BothTold (Tidied (IsAmong names i) root) k m → BothTold (Tidied (IsOne name) root) m o → BothTold (Tidied (IsAmong names (i + 1)) root) k o
   more_tidied names i name k m o is first second =
       told_then (Tidied (IsAmong names i) root) (Tidied (IsOne name) root) (Tidied (IsAmong names (i + 1)) root) k m o (λ a b d old_is told one two. tidied_then (IsAmong names i) (IsOne name) (IsAmong names (i + 1)) step a b d one two) first second where
         step : (other : FileName) → IsAmong names (i + 1) other → IsAmong names i other ⊎ IsOne name other
@@ -203,15 +203,15 @@ module _ (root : Root) where
               inr (same_Some other name (sym among.2 ∙ (ap (slice_get names) index ∙ is)))
         ]
 
-  pub all_tidied : (names : List FileName) (k m : Option Content) → Told (Tidied (IsAmong names (length names)) root) k m → Told (Tidied (Contains names) root) k m
+  pub all_tidied : (names : List FileName) (k m : Option Content) → BothTold (Tidied (IsAmong names (length names)) root) k m → BothTold (Tidied (Contains names) root) k m
   all_tidied names k m told = told_weaker (Tidied (IsAmong names (length names)) root) (Tidied (Contains names) root) k m
       (λ a b is new_is tidied. tidied_then (IsAmong names (length names)) (λ name. ⊥) (Contains names) (λ name has. inl (has.0, has.1, slice_get-get_or names has.0 name has.1 ∙ ap (λ (n : FileName). Some n) has.2)) a b b tidied
       (tidied_none (λ name. ⊥) b b (λ name. refl) (λ name none isnt. none) (λ name none apart. none))) told
 
   -- While files are tidied, they stand for the texts.
   pub tidying_stands : (free : ℕ) (texts : Texts) (names : List FileName) (k : Option Content) (image : Files) → ToTidy root free texts names k → Beside (bounds_of root) k image → StandsFor root texts image
-  tidying_stands free texts names None image todo beside = absurd todo
-  tidying_stands free texts names (Some k) image todo beside = stands_beside root texts k image todo.measures (λ file fits. ready_has free (spelling root) file (todo.roots file fits)) todo.fronts beside
+  tidying_stands free texts names None image todo crash_beside = absurd todo
+  tidying_stands free texts names (Some k) image todo crash_beside = stands_beside root texts k image todo.measures (λ file fits. ready_has free (spelling root) file (todo.roots file fits)) todo.fronts crash_beside
 
   -- A file is there or missing.
   there_or_not : (file : File) → IsSome file ⊎ (file ≡ None)
@@ -257,12 +257,12 @@ module _ (root : Root) where
     }
 
   -- In the end, of a disk that may tell its content.
-  pub tidy_told : (free : ℕ) (texts : Texts) (names : List FileName) (k m o : Option Content) → ReadsFit k → ToTidy root free texts names k → Told (Tidied (Contains names) root) k m → Told Synced m o → OnDisk root free texts o
+  pub tidy_told : (free : ℕ) (texts : Texts) (names : List FileName) (k m o : Option Content) → ReadsFit k → ToTidy root free texts names k → BothTold (Tidied (Contains names) root) k m → BothTold Synced m o → OnDisk root free texts o
   tidy_told free texts names None m o fit todo tidied synced = absurd todo
   tidy_told free texts names (Some k) None o fit todo tidied synced = absurd tidied
   tidy_told free texts names (Some k) (Some m) None fit todo tidied synced = absurd synced
   tidy_told free texts names (Some k) (Some m) (Some o) fit todo tidied synced = tidy_now free texts names k m o todo tidied synced fit
 
   -- A sync after it leaves the files tidied.
-  pub synced_told : (which : FileName → Type 0) (k m o : Option Content) → Told (Tidied which root) k m → Told Synced m o → Told (Tidied which root) k o
+  pub synced_told : (which : FileName → Type 0) (k m o : Option Content) → BothTold (Tidied which root) k m → BothTold Synced m o → BothTold (Tidied which root) k o
   synced_told which k m o tidied synced = told_then (Tidied which root) Synced (Tidied which root) k m o (λ a b d is told one two. tidied_then which (λ name. ⊥) which (λ name it. inl it) a b d one (tidied_none (λ name. ⊥) b d two.seen (λ name none isnt. none) (λ name none apart. none))) tidied synced

@@ -8,7 +8,7 @@ use Rattle.std.proofs.lemmas.List.Sums.{sum_by-cons}
 use Rattle.disk_model.specs.declared.name.FileKind.{FileKind}
 use Rattle.disk_model.specs.declared.name.FileKind.TheVariants as kind
 use Rattle.disk_model.specs.declared.name.FileName.{FileName}
-use Rattle.disk_model.specs.Disk.{File, Content, Told, WhereTold, IsAtMostLength, bytes_of}
+use Rattle.disk_model.specs.Disk.{File, Content, BothTold, WhereTold, IsAtMostLength, bytes_of}
 use Rattle.disk_model.specs.Images.{same_or_other}
 use Rattle.disk_model.specs.Name.{kind_index}
 use Rattle.disk_model.specs.Tells.{told_weaker, told_then, told_where}
@@ -21,9 +21,9 @@ use Rattle.root_change.specs.declared.sources.Source.{Source}
 use Rattle.root_change.specs.declared.sources.Source.TheVariants.{Bytes, Range}
 use Rattle.root_change.specs.Gathering.{source_count, source_bytes, gathered, HasSource, PutSources}
 use Rattle.root_change.specs.Names.{named_end, place_of}
-use Rattle.root_change.specs.Rewriting.{Plan, IfShort, IsPartOf, IsPartToPlan, IsPlanFrom, IsShort, IsSourceFrom, IsWithin, MayBeSource, MayCarry, MayCarryAll, file_by, plan_count}
+use Rattle.root_change.specs.Rewriting.{Plan, IfShort, IsPartOfPlan, IsPartToPlan, IsPlanFrom, IsShort, IsSourceFrom, SourceIsWithin, MayBeSource, MayCarry, MayCarryAll, file_by, plan_count}
 use Rattle.root_change.specs.Texts.{HasPartSizes}
-use Rattle.root_change.specs.Writing.{HasPlan, Writes, WritesAlone, WritesPlans}
+use Rattle.root_change.specs.Writing.{HasPlan, WritesSources, WritesAlone, WritesPlans}
 use Rattle.root_change.proofs.Drops.{not_both}
 use Rattle.root_change.proofs.Gathers.{one_more}
 use Rattle.root_change.proofs.Grown.{epoch_isnt_root}
@@ -36,7 +36,7 @@ pub file_of_part : (root : Root) (k j : FileKind) (n m : ℕ) (file : FileName) 
 file_of_part root k j n m file is kind_is number_is = is ∙ (ap (λ (i : FileKind). file_by root i m) kind_is ∙ ap (λ (i : ℕ). file_by root k i) number_is)
 
 -- The file of a plan's part, and its bytes that count, where kind and number were asked.
-pub part_asked : (root : Root) (plan : Plan) (k : FileKind) (n : ℕ) (file : FileName) (place : Place) → k ≡ plan.kind → n ≡ plan.number → file ≡ file_by root k n → place ≡ place_of root k n → IsPartOf root plan file place.length
+pub part_asked : (root : Root) (plan : Plan) (k : FileKind) (n : ℕ) (file : FileName) (place : Place) → k ≡ plan.kind → n ≡ plan.number → file ≡ file_by root k n → place ≡ place_of root k n → IsPartOfPlan root plan file place.length
 part_asked root plan k n file place kind_is number_is file_is place_is = record {
   file_is = file_of_part root plan.kind k plan.number n file file_is kind_is number_is;
   at_is = ap (λ (p : Place). p.length) (place_is ∙ (ap (λ (j : FileKind). place_of root j n) kind_is ∙ ap (λ (m : ℕ). place_of root plan.kind m) number_is));
@@ -76,7 +76,7 @@ module _ (root : Root) (plan : Plan) (to : FileName) (other : to ≢ root_name) 
     nothing : gathered plan.bytes k plan.sources ≡ []
     nothing = gathered_none plan.bytes k plan.sources none
 
-  pub none_written : (k : Option Content) → plan_count plan ≡ 0 → WhereTold (HasPartSizes root) k → Told (WritesAlone root plan to) k k
+  pub none_written : (k : Option Content) → plan_count plan ≡ 0 → WhereTold (HasPartSizes root) k → BothTold (WritesAlone root plan to) k k
   none_written None none sizes = tt
   none_written (Some k) none sizes = none_written_now k none sizes
 
@@ -92,10 +92,10 @@ module _ (root : Root) (plan : Plan) (to : FileName) (other : to ≢ root_name) 
     others = put.added.others;
   }
 
-  pub put_written : (end_ : ℕ) (k m : Option Content) → end_ ≡ named_end root to → Told (PutSources plan.bytes plan.sources to end_) k m → Told (WritesAlone root plan to) k m
+  pub put_written : (end_ : ℕ) (k m : Option Content) → end_ ≡ named_end root to → BothTold (PutSources plan.bytes plan.sources to end_) k m → BothTold (WritesAlone root plan to) k m
   put_written end_ k m is put =
       told_weaker (PutSources plan.bytes plan.sources to (named_end root to)) (WritesAlone root plan to) k m (λ a b was now one. put_written_now a b one)
-      (subst (λ (n : ℕ). Told (PutSources plan.bytes plan.sources to n) k m) is put)
+      (subst (λ (n : ℕ). BothTold (PutSources plan.bytes plan.sources to n) k m) is put)
 
   -- The files are as long as the root says still.
   still_long : (k m : Content) → WritesAlone root plan to k m → HasPartSizes root k → HasPartSizes root m
@@ -107,21 +107,21 @@ module _ (root : Root) (plan : Plan) (to : FileName) (other : to ≢ root_name) 
     ];
   }
 
-  pub sizes_still : (k m : Option Content) → Told (WritesAlone root plan to) k m → WhereTold (HasPartSizes root) k → WhereTold (HasPartSizes root) m
+  pub sizes_still : (k m : Option Content) → BothTold (WritesAlone root plan to) k m → WhereTold (HasPartSizes root) k → WhereTold (HasPartSizes root) m
   sizes_still k m one sizes = told_where (WritesAlone root plan to) (HasPartSizes root) (HasPartSizes root) k m (λ a b was now. still_long a b) one sizes
 
 -- The file of a part that may be planned is neither the root file nor a cache.
 pub part_isnt_root : (root : Root) (k : FileKind) (n : ℕ) → IsPartToPlan k n → file_by root k n ≢ root_name
 part_isnt_root root kind.Root n part = absurd part
 part_isnt_root root kind.Map n part = λ is. let wrong : kind_index kind.Map ≡ kind_index root_name.kind = ap (λ (f : FileName). kind_index f.kind) is in absurd (omega (arith, wrong))
-part_isnt_root root kind.Epoch n part = epoch_isnt_root n (place_of root kind.Epoch n).gen_
+part_isnt_root root kind.Epoch n part = epoch_isnt_root n (place_of root kind.Epoch n).generation
 part_isnt_root root kind.Cache n part = absurd part
 
 pub part_no_cache : (k : FileKind) (n : ℕ) → IsPartToPlan k n → k ≢ kind.Cache
 part_no_cache k n part is = subst (λ (j : FileKind). IsPartToPlan j n) is part
 
 -- A file that reads as before has what a plan wrote there.
-writes_still : (root : Root) (plan : Plan) (to : FileName) (k m o : Content) → Writes root plan to k m → (o to).seen ≡ (m to).seen → Writes root plan to k o
+writes_still : (root : Root) (plan : Plan) (to : FileName) (k m o : Content) → WritesSources root plan to k m → (o to).seen ≡ (m to).seen → WritesSources root plan to k o
 writes_still root plan to k m o one same = record {
   there = λ ends. ap bytes_of same ∙ one.there ends;
   reaches = subst (λ (f : File). named_end root to + plan_count plan ≤ length (bytes_of f)) (sym same) one.reaches;
@@ -130,7 +130,7 @@ writes_still root plan to k m o one same = record {
 }
 
 -- A plan wrote what its sources had before, if they and the file are as they were.
-writes_from : (root : Root) (plan : Plan) (to : FileName) (k m o : Content) → Writes root plan to m o → (m to).seen ≡ (k to).seen → gathered plan.bytes m plan.sources ≡ gathered plan.bytes k plan.sources → Writes root plan to k o
+writes_from : (root : Root) (plan : Plan) (to : FileName) (k m o : Content) → WritesSources root plan to m o → (m to).seen ≡ (k to).seen → gathered plan.bytes m plan.sources ≡ gathered plan.bytes k plan.sources → WritesSources root plan to k o
 writes_from root plan to k m o one same had = record {
   there = λ ends. one.there (ap (λ (f : File). length (bytes_of f)) same ∙ ends) ∙ (ap (λ (f : File). bytes_of f ++ gathered plan.bytes m plan.sources) same ∙ ap (λ (l : List ℕ). bytes_of (k to).seen ++ l) had);
   reaches = one.reaches;
@@ -145,7 +145,7 @@ same_gathered file plan k m same from =
     ∙ sym (gathered_own file plan.bytes k (λ (name : FileName). bytes_of (k name).seen) plan.sources refl from)
 
 -- Each source of a plan is whole where files are as long as the root says.
-source_there : (root : Root) (k : FileKind) (n : ℕ) (bytes : List ℕ) (m : Content) (source : Source) → IsPartToPlan k n → HasPartSizes root m → MayBeSource bytes source → IsSourceFrom (file_by root k n) source → IsWithin root source → HasSource bytes (Some m) source
+source_there : (root : Root) (k : FileKind) (n : ℕ) (bytes : List ℕ) (m : Content) (source : Source) → IsPartToPlan k n → HasPartSizes root m → MayBeSource bytes source → IsSourceFrom (file_by root k n) source → SourceIsWithin root source → HasSource bytes (Some m) source
 source_there root k n bytes m (Bytes offset count) part sizes may from within = may
 source_there root k n bytes m (Range range) part sizes may from within =
     let long = subst (λ (f : FileName). named_end root f ≤ length (bytes_of (m f).seen)) (sym from) (sizes.lengths (file_by root k n) (part_isnt_root root k n part) (part_no_cache k n part)) in
@@ -156,7 +156,7 @@ sources_there root plan m may sizes = λ i s is. source_there root plan.kind pla
 
 module _ (old new : Root) (plans : List Plan) (may : MayCarryAll old plans) where
   -- Before the first plan.
-  pub first_written : (k : Option Content) → Told (WritesPlans old new (take 0 plans)) k k
+  pub first_written : (k : Option Content) → BothTold (WritesPlans old new (take 0 plans)) k k
   first_written None = tt
   first_written (Some k) = record {
     each = λ i plan here. absurd (let wrong : None ≡ Some plan = here in cc);
@@ -176,7 +176,7 @@ module _ (old new : Root) (plans : List Plan) (may : MayCarryAll old plans) wher
     -- One more plan.
     next_written_now : (k m o : Content) → WritesPlans old new (take i plans) k m → WritesAlone old plan to m o → WritesPlans old new (take (i + 1) plans) k o
     next_written_now k m o before one = subst (λ (ps : List Plan). WritesPlans old new ps k o) (sym (one_more plans i plan here)) (record {
-      each = each_more (λ (p : Plan). Writes old p (file_by new p.kind p.number) k o) (take i plans) plan
+      each = each_more (λ (p : Plan). WritesSources old p (file_by new p.kind p.number) k o) (take i plans) plan
           (λ j p there. writes_still old p (file_by new p.kind p.number) k m o (before.each j p there) (one.others (file_by new p.kind p.number) (λ same. apart_before j p there to refl refl (sym same))))
           (writes_from old plan to k m o one.writes (before.others to (λ j p there. apart_before j p there to refl refl))
           (same_gathered source plan k m (before.others source (λ j p there. apart_before j p there source refl refl)) (may.each i plan here).comes));
@@ -187,12 +187,12 @@ module _ (old new : Root) (plans : List Plan) (may : MayCarryAll old plans) wher
       source : FileName
       source = file_by old plan.kind plan.number
 
-    pub next_written : (k m o : Option Content) → Told (WritesPlans old new (take i plans)) k m → Told (WritesAlone old plan to) m o → Told (WritesPlans old new (take (i + 1) plans)) k o
+    pub next_written : (k m o : Option Content) → BothTold (WritesPlans old new (take i plans)) k m → BothTold (WritesAlone old plan to) m o → BothTold (WritesPlans old new (take (i + 1) plans)) k o
     next_written k m o before one =
         told_then (WritesPlans old new (take i plans)) (WritesAlone old plan to) (WritesPlans old new (take (i + 1) plans)) k m o (λ a b d is told first second. next_written_now a b d first second) before one
 
     -- No source of the next plan is short.
-    pub never_short : (k m : Option Content) (IsSo : Type 0) → Told (WritesPlans old new (take i plans)) k m → WhereTold (HasPartSizes old) m → (HasPlan m plan → IsSo → ⊥) → WhereTold (λ (c : Content). IsSo → ⊥) k
+    pub never_short : (k m : Option Content) (IsSo : Type 0) → BothTold (WritesPlans old new (take i plans)) k m → WhereTold (HasPartSizes old) m → (HasPlan m plan → IsSo → ⊥) → WhereTold (λ (c : Content). IsSo → ⊥) k
     never_short None m IsSo before sizes whole = tt
     never_short (Some k) None IsSo before sizes whole = absurd before
     never_short (Some k) (Some m) IsSo before sizes whole = whole (sources_there old plan m (may.each i plan here) sizes)

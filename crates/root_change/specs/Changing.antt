@@ -1,4 +1,4 @@
--- What is written for a next root beside the texts of the current one.
+-- Private: what is written for a next root beside the texts of the current one.
 use Rattle.std.specs.Prelude.{◌≡◌, ◌≢◌, ◌⊎◌, ◌<◌, ◌==◌, ℕ, true, false, if◌then◌else◌, List, [], ◌++◌, None}
 use Rattle.disk_model.specs.declared.name.FileKind.TheVariants as kind
 use Rattle.disk_model.specs.declared.name.FileName.{FileName}
@@ -13,14 +13,14 @@ use Rattle.root_change.specs.Parts.{Parts}
 
 -- Files read as texts, of which some may be written for a root to come. A file without a text is
 -- missing, unless the current root names it.
-pub record ReadsAs (root : Root) (texts : Texts) (k : Content) : Type 0 where
+pub record ReadsAsTexts (root : Root) (texts : Texts) (k : Content) : Type 0 where
   pub bytes : (name : FileName) → name ≢ root_name → bytes_of (k name).seen ≡ texts name
   pub no_other : (name : FileName) → names_file root name ≡ false → texts name ≡ []
       → (k name).seen ≡ None
 
 -- Texts that were written beside those of a root are those of a later one: what it names is there,
 -- and there is no other text but of files that the old root names.
-pub record Becomes (old : Root) (texts : Texts) (new : Root) (next : Texts) : Type 0 where
+pub record BecomesRoot (old : Root) (texts : Texts) (new : Root) (next : Texts) : Type 0 where
   pub later : sequence_of (spelling old) < new.sequence
   pub measures : Measures new next
   pub named : (name : FileName) → name ≢ root_name → names_file new name ≡ true

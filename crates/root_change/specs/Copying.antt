@@ -17,8 +17,8 @@ HasRange file offset count None = ⊥
 HasRange file offset count (Some k) = offset + count ≤ length (bytes_of (k file).seen)
 
 -- Files other than this one read as before.
-abbrev pub OthersStay : FileName → Content → Content → Type 0
-OthersStay to k m = (name : FileName) → name ≢ to → (m name).seen ≡ (k name).seen
+abbrev pub OtherFilesStay : FileName → Content → Content → Type 0
+OtherFilesStay to k m = (name : FileName) → name ≢ to → (m name).seen ≡ (k name).seen
 
 -- A file that ended at an offset has these bytes after it, and one that went on has at least as
 -- many. Without bytes it is as it was. No other file reads otherwise.

@@ -22,14 +22,14 @@ abbrev pub gathered : List ℕ → Content → List Source → List ℕ
 gathered bytes k sources = flat_map (source_bytes bytes k) sources
 
 -- A source for a file: bytes, or a range of another file that ends below 2^64.
-abbrev pub IsSource : FileName → Source → Type 0
-IsSource to (Bytes offset count) = Unit {0}
-IsSource to (Range range) = (range.file ≢ to) × (range.offset + range.count < 2 ^ 64)
+abbrev pub IsSourceFor : FileName → Source → Type 0
+IsSourceFor to (Bytes offset count) = Unit {0}
+IsSourceFor to (Range range) = (range.file ≢ to) × (range.offset + range.count < 2 ^ 64)
 
 -- Each of them is one.
 abbrev pub AreSources : FileName → List Source → Type 0
 AreSources to sources = (i : ℕ) (source : Source) → slice_get sources i ≡ Some source
-    → IsSource to source
+    → IsSourceFor to source
 
 -- A source is whole.
 abbrev pub HasSource : List ℕ → Option Content → Source → Type 0

@@ -1,4 +1,4 @@
--- What a crash leaves of a disk that is exactly that of texts.
+-- Lemmas for proofs: what a crash leaves of a disk that is exactly that of texts.
 use Rattle.std.specs.Prelude.{◌-◌, ℕ, List, Some, None}
 use Rattle.disk_model.specs.Disk.{File, Files, Content, Image}
 use Rattle.root_slots.specs.declared.root.Root.{Root}

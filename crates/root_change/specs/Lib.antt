@@ -1,11 +1,11 @@
 pub mod Names
 pub mod Texts
-pub mod Leaving
 pub mod Replacing
 pub mod Parts
-pub mod Changing
 pub mod Tidying
 pub mod Copying
 pub mod Gathering
 pub mod Rewriting
+pub mod Leaving
+pub mod Changing
 pub mod Writing

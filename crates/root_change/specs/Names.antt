@@ -16,15 +16,15 @@ use Rattle.disk_model.specs.Beside.{Bounds}
 
 -- The file of a map of a generation.
 abbrev pub map_name : ℕ → FileName
-map_name gen_ = record { kind = kind.Map; number = 0; gen_ = gen_ }
+map_name generation = record { kind = kind.Map; number = 0; generation = generation }
 
 -- The file of an epoch of a generation.
 abbrev pub epoch_name : ℕ → ℕ → FileName
-epoch_name e gen_ = record { kind = kind.Epoch; number = e; gen_ = gen_ }
+epoch_name e generation = record { kind = kind.Epoch; number = e; generation = generation }
 
 -- The file of a cache of a generation.
 abbrev pub cache_name : ℕ → FileName
-cache_name gen_ = record { kind = kind.Cache; number = 0; gen_ = gen_ }
+cache_name generation = record { kind = kind.Cache; number = 0; generation = generation }
 
 -- The `Place` that a root has for a part of an archive: the map, an epoch, or the cache. Other
 -- parts have none.
@@ -36,29 +36,29 @@ place_of root kind.Cache number = if number == 0 then root.cache else no_place
 
 -- A `Place` has bytes and this generation.
 abbrev pub has_place : Place → ℕ → Bool
-has_place place gen_ = nat_lt 0 place.length && place.gen_ == gen_
+has_place place generation = nat_lt 0 place.length && place.generation == generation
 
 -- Whether a root names a file, by the parts of its name: the root file itself; the map's, also
 -- without bytes; that of an epoch or a cache that has bytes.
 abbrev pub named_by : Root → FileKind → ℕ → ℕ → Bool
-named_by root kind.Root number gen_ = number == 0 && gen_ == 0
-named_by root kind.Map number gen_ = number == 0 && gen_ == root.map.gen_
-named_by root kind.Epoch number gen_ =
-    nat_lt number epoch_count && has_place (get_or root.epochs number no_place) gen_
-named_by root kind.Cache number gen_ = number == 0 && has_place root.cache gen_
+named_by root kind.Root number generation = number == 0 && generation == 0
+named_by root kind.Map number generation = number == 0 && generation == root.map.generation
+named_by root kind.Epoch number generation =
+    nat_lt number epoch_count && has_place (get_or root.epochs number no_place) generation
+named_by root kind.Cache number generation = number == 0 && has_place root.cache generation
 
 -- Whether a root names a file.
 abbrev pub names_file : Root → FileName → Bool
-names_file root name = named_by root name.kind name.number name.gen_
+names_file root name = named_by root name.kind name.number name.generation
 
 -- Whether a name is that of the root file, by the parts of the name.
 abbrev pub root_by : FileKind → ℕ → ℕ → Bool
-root_by kind.Root number gen_ = number == 0 && gen_ == 0
-root_by _ number gen_ = false
+root_by kind.Root number generation = number == 0 && generation == 0
+root_by _ number generation = false
 
 -- Whether a name is that of the root file.
 abbrev pub is_root_name : FileName → Bool
-is_root_name name = root_by name.kind name.number name.gen_
+is_root_name name = root_by name.kind name.number name.generation
 
 -- The number of bytes of a file that count by a root, 0 for a file that it doesn't name.
 abbrev pub named_end : Root → FileName → ℕ

@@ -22,7 +22,7 @@ PartsFit root parts = (kind : FileKind) (number : ℕ)
     → length (parts kind number) ≡ (place_of root kind number).length
 
 -- Files stand for parts by a root that names them.
-pub record RecoversBy (root : Root) (parts : Parts) (image : Files) : Type 0 where
+pub record RecoversPartsBy (root : Root) (parts : Parts) (image : Files) : Type 0 where
   pub valid : IsRoot root
   pub fits : RootFits root
   pub long : PartsFit root parts
@@ -30,7 +30,7 @@ pub record RecoversBy (root : Root) (parts : Parts) (image : Files) : Type 0 whe
 
 -- A disk is exactly that of parts by a root that names them, and this slot is ready for the next
 -- root.
-pub record IsOwn (root : Root) (free : ℕ) (parts : Parts) (content : Option Content) : Type 0 where
+pub record IsOwnOfParts (root : Root) (free : ℕ) (parts : Parts) (content : Option Content) : Type 0 where
   pub valid : IsRoot root
   pub fits : RootFits root
   pub long : PartsFit root parts

@@ -6,7 +6,7 @@ use Rattle.disk_model.specs.declared.name.FileKind.{FileKind}
 use Rattle.disk_model.specs.declared.name.FileKind.TheVariants as kind
 use Rattle.disk_model.specs.declared.name.FileName.{FileName}
 use Rattle.disk_model.specs.Beside.{RunsBeside}
-use Rattle.disk_model.specs.Disk.{Files, Content, Told, WhereTold, LeavesOnly}
+use Rattle.disk_model.specs.Disk.{Files, Content, BothTold, WhereTold, LeavesOnly}
 use Rattle.disk_model.specs.Sizes.{epoch_count, record_size}
 use Rattle.disk_model.specs.Synced.{IsSettled}
 use Rattle.root_slots.specs.declared.root.Place.{Place}
@@ -25,7 +25,7 @@ use Rattle.root_change.specs.Copying.{range_of}
 use Rattle.root_change.specs.Gathering.{source_count}
 use Rattle.root_change.specs.Names.{bounds_of, place_of, named_end}
 use Rattle.root_change.specs.Texts.{Texts, HasSizes}
-use Rattle.root_change.specs.Parts.{Parts, texts_of, RecoversBy, IsOwn}
+use Rattle.root_change.specs.Parts.{Parts, texts_of, RecoversPartsBy, IsOwnOfParts}
 
 -- What a command writes of a part: whether in place of its bytes or after them, and the sources, one
 -- after the other. Sources that are bytes are ranges of these.
@@ -152,12 +152,12 @@ rewritten root plans parts = replanned (texts_of root parts) plans parts
 
 -- The `Place` of an epoch that is written anew with so many bytes, by the next sequence.
 abbrev pub place_anew : ℕ → ℕ → Place
-place_anew next count = if nat_lt 0 count then record { gen_ = next; length = count } else no_place
+place_anew next count = if nat_lt 0 count then record { generation = next; length = count } else no_place
 
 -- The `Place` of a part with so many bytes more: in its file, or in a new one if it has none.
 abbrev pub place_behind : ℕ → Place → ℕ → Place
 place_behind next place count =
-    if nat_lt 0 place.length then record { gen_ = place.gen_; length = place.length + count }
+    if nat_lt 0 place.length then record { generation = place.generation; length = place.length + count }
     else place_anew next count
 
 -- The `Place` of an epoch after its plan.
@@ -172,8 +172,8 @@ place_planned next (Some plan) place = place_by next plan.target place (plan_cou
 
 -- The `Place` of the map after its plan. A map without bytes is named, too.
 abbrev pub map_by : ℕ → Target → Place → ℕ → Place
-map_by next Anew place count = record { gen_ = next; length = count }
-map_by next Behind place count = record { gen_ = place.gen_; length = place.length + count }
+map_by next Anew place count = record { generation = next; length = count }
+map_by next Behind place count = record { generation = place.generation; length = place.length + count }
 
 -- The same, if there is a plan. Otherwise it stays.
 abbrev pub map_planned : ℕ → Option Plan → Place → Place
@@ -200,12 +200,12 @@ IsPartToPlan _ number = ⊥
 -- The file of a part by a root.
 abbrev pub file_by : Root → FileKind → ℕ → FileName
 file_by root kind_ number =
-    record { kind = kind_; number = number; gen_ = (place_of root kind_ number).gen_ }
+    record { kind = kind_; number = number; generation = (place_of root kind_ number).generation }
 
 -- A source that is a range lies in the bytes that count of its file by a root.
-abbrev pub IsWithin : Root → Source → Type 0
-IsWithin root (Bytes offset count) = Unit {0}
-IsWithin root (Range range) = range.offset + range.count ≤ named_end root range.file
+abbrev pub SourceIsWithin : Root → Source → Type 0
+SourceIsWithin root (Bytes offset count) = Unit {0}
+SourceIsWithin root (Range range) = range.offset + range.count ≤ named_end root range.file
 
 -- A plan may be carried out: it is one of a part that may be planned, and its ranges lie in the bytes
 -- that count of the part's file by the root. What it appends to is shorter than 2^62 bytes, and gets
@@ -215,7 +215,7 @@ pub record MayCarry (root : Root) (plan : Plan) : Type 0 where
   pub valid : IsPlan plan
   pub comes : IsPlanFrom (file_by root plan.kind plan.number) plan
   pub within : (i : ℕ) (source : Source) → slice_get plan.sources i ≡ Some source
-      → IsWithin root source
+      → SourceIsWithin root source
   pub room : plan.target ≡ Behind → (place_of root plan.kind plan.number).length < 2 ^ 62
   pub bytes_only : plan.target ≡ Behind → (i : ℕ) (source : Source)
       → slice_get plan.sources i ≡ Some source → (offset count : ℕ) × (source ≡ Bytes offset count)
@@ -247,7 +247,7 @@ IfShort (Err (Short file at)) P = P file at
 IfShort _ P = Unit {0}
 
 -- The file of a plan's part by a root, and how many of its bytes count there.
-pub record IsPartOf (root : Root) (plan : Plan) (file : FileName) (at : ℕ) : Type 0 where
+pub record IsPartOfPlan (root : Root) (plan : Plan) (file : FileName) (at : ℕ) : Type 0 where
   pub file_is : file ≡ file_by root plan.kind plan.number
   pub at_is : at ≡ (place_of root plan.kind plan.number).length
 
@@ -256,7 +256,7 @@ pub record IsPlannedPart (root : Root) (plans : List Plan) (file : FileName) (at
   pub index : ℕ
   pub plan : Plan
   pub there : slice_get plans index ≡ Some plan
-  pub part : IsPartOf root plan file at
+  pub part : IsPartOfPlan root plan file at
 
 -- The disk failed.
 abbrev pub IsFailed : {T : Type 0} → Result T RewriteRefusal → Type 0
@@ -265,9 +265,9 @@ IsFailed _ = ⊥
 
 -- Files stand for parts by the old root, or for those after plans by the root after them.
 abbrev pub RecoversPlanned : Root → List Plan → ℕ → Parts → Files → Type 0
-RecoversPlanned root plans number parts image = RecoversBy root parts image
+RecoversPlanned root plans number parts image = RecoversPartsBy root parts image
     ⊎ ((made : Root) × IsRootAfter root plans number made
-    × RecoversBy made (rewritten root plans parts) image)
+    × RecoversPartsBy made (rewritten root plans parts) image)
 
 -- What carrying out plans promises. At each moment a crash leaves files that stand for the old parts
 -- or for those after the plans. After `Ok` the disk is exactly that of the latter by the root that is
@@ -278,10 +278,10 @@ RecoversPlanned root plans number parts image = RecoversBy root parts image
 pub record CarriesOut {D : Type 0} (content : D → Option Content) (moment : D → ℕ)
     (left_since : D → ℕ → Files → Type 0) (faults : D → ℕ) (old new : D) (root : Root) (free : ℕ)
     (plans : List Plan) (number : ℕ) (result : Result Root RewriteRefusal) : Type 0 where
-  pub any_moment : (parts : Parts) → IsOwn root free parts (content old)
+  pub crash : (parts : Parts) → IsOwnOfParts root free parts (content old)
       → LeavesOnly moment left_since old new (RecoversPlanned root plans number parts)
-  pub done : (parts : Parts) → IsOwn root free parts (content old)
-      → IfOk result (λ made. IsOwn made (1 - free) (rewritten root plans parts) (content new))
+  pub done : (parts : Parts) → IsOwnOfParts root free parts (content old)
+      → IfOk result (λ made. IsOwnOfParts made (1 - free) (rewritten root plans parts) (content new))
   pub whole : WhereTold (λ (k : Content). IsShort result → ⊥) (content old)
   pub short : IfShort result (IsPlannedPart root plans)
   pub settled : OnOk result (WhereTold IsSettled (content new))
@@ -290,7 +290,7 @@ pub record CarriesOut {D : Type 0} (content : D → Option Content) (moment : D 
   pub sizes : IfOk result (λ made. WhereTold (HasSizes made) (content new))
   pub cause : RoseIf (IsFailed result) (faults old) (faults new)
   -- The root file has that root in the slot, whose gate is open, and is otherwise as it was.
-  pub rooted : IfOk result (λ made. Told (HasNewRoot free (spelling made)) (content old) (content new))
+  pub rooted : IfOk result (λ made. BothTold (HasNewRoot free (spelling made)) (content old) (content new))
   -- At each moment its bytes between the gates and the bodies are as before.
-  pub between : RunsBetween content moment left_since old new
-  pub beside : IsShort result → RunsBeside content moment left_since (bounds_of root) old new
+  pub crash_between : RunsBetween content moment left_since old new
+  pub crash_beside : IsShort result → RunsBeside content moment left_since (bounds_of root) old new

@@ -2,7 +2,7 @@
 use Rattle.std.specs.Prelude.{◌≡◌, ◌≢◌, ℕ, ◌≤◌, true, false, List, length, take, Option, Some, None}
 use Rattle.disk_model.specs.declared.name.FileKind.TheVariants as kind
 use Rattle.disk_model.specs.declared.name.FileName.{FileName}
-use Rattle.disk_model.specs.Disk.{File, Files, Content, Fits, bytes_of}
+use Rattle.disk_model.specs.Disk.{File, Files, Content, MaySurvive, bytes_of}
 use Rattle.root_slots.specs.declared.root.Root.{Root}
 use Rattle.root_slots.specs.RootName.{root_name}
 use Rattle.root_slots.specs.Each.{IfThere, EachRoot}
@@ -44,7 +44,7 @@ Measures root texts = (name : FileName) → name ≢ root_name
 
 -- Each file that a crash may leave starts with its text.
 abbrev pub EachFronts : Texts → Content → Type 0
-EachFronts texts k = (name : FileName) → name ≢ root_name → (file : File) → Fits (k name).sure file
+EachFronts texts k = (name : FileName) → name ≢ root_name → (file : File) → MaySurvive (k name).sure file
     → Fronts (texts name) file
 
 -- A disk is exactly that of texts by a root, and this slot is ready for the next root: a crash

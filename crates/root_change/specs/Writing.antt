@@ -1,4 +1,4 @@
--- What carrying out plans leaves in the files, before the root is replaced.
+-- Private: what carrying out plans leaves in the files, before the root is replaced.
 use Rattle.std.specs.Prelude.{◌≡◌, ◌≢◌, ℕ, ◌+◌, ◌<◌, ◌≤◌, ◌^◌, List, [], ◌++◌, length, get_or, slice_get, Option, Some}
 use Rattle.disk_model.specs.declared.name.FileKind.TheVariants as kind
 use Rattle.disk_model.specs.declared.name.FileName.{FileName}
@@ -25,7 +25,7 @@ MayWriteAll old new plans = (i : ℕ) (plan : Plan) → slice_get plans i ≡ So
     → MayWrite old plan (file_by new plan.kind plan.number)
 
 -- The bytes of a plan's sources were added to a file, after what counts there by a root.
-pub record Writes (root : Root) (plan : Plan) (to : FileName) (k m : Content) : Type 0 where
+pub record WritesSources (root : Root) (plan : Plan) (to : FileName) (k m : Content) : Type 0 where
   pub there : length (bytes_of (k to).seen) ≡ named_end root to → bytes_of (m to).seen
       ≡ bytes_of (k to).seen ++ gathered plan.bytes k plan.sources
   pub reaches : named_end root to + plan_count plan ≤ length (bytes_of (m to).seen)
@@ -34,14 +34,14 @@ pub record Writes (root : Root) (plan : Plan) (to : FileName) (k m : Content) : 
 
 -- The same, and no other file reads otherwise.
 pub record WritesAlone (root : Root) (plan : Plan) (to : FileName) (k m : Content) : Type 0 where
-  pub writes : Writes root plan to k m
+  pub writes : WritesSources root plan to k m
   pub others : (name : FileName) → name ≢ to → (m name).seen ≡ (k name).seen
 
 -- Plans were carried out: to the file of each one's part by the new root the bytes of its sources
 -- were added, as they read before. Each other file reads as before.
 pub record WritesPlans (old new : Root) (plans : List Plan) (k m : Content) : Type 0 where
   pub each : (i : ℕ) (plan : Plan) → slice_get plans i ≡ Some plan
-      → Writes old plan (file_by new plan.kind plan.number) k m
+      → WritesSources old plan (file_by new plan.kind plan.number) k m
   pub others : (name : FileName) → ((i : ℕ) (plan : Plan) → slice_get plans i ≡ Some plan
       → name ≢ file_by new plan.kind plan.number) → (m name).seen ≡ (k name).seen
 

@@ -1,7 +1,8 @@
 //! Appends bytes to a file beside all that a root names.
+//! Writes the disk; syncs.
 ghost use Rattle.std.specs.Prelude.{◌≡◌, ◌≢◌, ◌+◌, ◌^◌, ◌<◌, OnOk, length};
 ghost use Rattle.arch_base.specs.Counts.{HasCause};
-ghost use Rattle.disk_model.specs.Disk.{Told, WhereTold, OneFile, Wrote};
+ghost use Rattle.disk_model.specs.Disk.{BothTold, WhereTold, OneFile, Wrote};
 ghost use Rattle.root_slots.specs.RootName.{root_name};
 ghost use Rattle.disk_model.specs.Beside.{RunsBeside};
 ghost use Rattle.root_change.specs.Names.{named_end, bounds_of};
@@ -33,9 +34,9 @@ pub fn append<D: Disk>(
     requires other { name ≢ root_name }
     requires sizes { WhereTold (HasSizes root.now) (D.content disk.old) }
     requires end { named_end root.now name + length bytes.now < 2 ^ 63 }
-    ensures beside { RunsBeside D.content D.moment D.left_since (bounds_of root.now)
+    ensures crash_beside { RunsBeside D.content D.moment D.left_since (bounds_of root.now)
         disk.old disk.new }
-    ensures wrote { OnOk result (Told (OneFile name (Wrote (named_end root.now name) bytes.now))
+    ensures wrote { OnOk result (BothTold (OneFile name (Wrote (named_end root.now name) bytes.now))
         (D.content disk.old) (D.content disk.new)) }
     ensures sizes { OnOk result (WhereTold (HasSizes root.now) (D.content disk.new)) }
     ensures cause { HasCause (D.faults disk.old) (D.faults disk.new) result }

@@ -1,9 +1,10 @@
 //! Copies ranges of files into another file, without memory.
+//! Writes the disk; syncs.
 ghost use Rattle.std.specs.Prelude.{◌≡◌, ◌≢◌, ◌+◌, ◌-◌, ◌^◌, ◌<◌, ◌≤◌, min, true, length, IfOk};
 ghost use Rattle.arch_base.specs.Counts.{HasCause};
-ghost use Rattle.disk_model.specs.Beside.{Bounds, Respects, RunsBeside};
-ghost use Rattle.disk_model.specs.Disk.{Told, WhereTold, IsAtMostLength};
-ghost use Rattle.root_change.specs.Copying.{Copied, HasRange, OthersStay};
+ghost use Rattle.disk_model.specs.Beside.{Bounds, RespectsBound, RunsBeside};
+ghost use Rattle.disk_model.specs.Disk.{BothTold, WhereTold, IsAtMostLength};
+ghost use Rattle.root_change.specs.Copying.{Copied, HasRange, OtherFilesStay};
 
 use disk_model::{Disk, DiskFault, FileName};
 
@@ -51,14 +52,14 @@ fn copy_window<D: Disk>(
     requires window { length window.old ≡ range.count }
     requires inside { WhereTold (IsAtMostLength to end) (D.content disk.old) }
     requires end { end + range.count < 2 ^ 63 }
-    ensures beside { (bounds : Bounds) → Respects (bounds to) end
+    ensures crash_beside { (bounds : Bounds) → RespectsBound (bounds to) end
         → RunsBeside D.content D.moment D.left_since bounds disk.old disk.new }
     ensures copied { IfOk result (λ whole. whole ≡ true
-        → Told (Copied range.file range.offset range.count to end) (D.content disk.old)
+        → BothTold (Copied range.file range.offset range.count to end) (D.content disk.old)
         (D.content disk.new)) }
     ensures whole { HasRange range.file range.offset range.count (D.content disk.old)
         → IfOk result (λ whole. whole ≡ true) }
-    ensures others { Told (OthersStay to) (D.content disk.old) (D.content disk.new) }
+    ensures others { BothTold (OtherFilesStay to) (D.content disk.old) (D.content disk.new) }
     ensures fewest { D.reads disk.old ≤ D.reads disk.new }
     ensures cause { HasCause (D.faults disk.old) (D.faults disk.new) result }
 {
@@ -85,14 +86,14 @@ pub fn copy_range<D: Disk>(
     requires inside { WhereTold (IsAtMostLength to end) (D.content disk.old) }
     requires end { end + range.count < 2 ^ 63 }
     // All that is before the offset stays at each moment, whatever the call returns.
-    ensures beside { (bounds : Bounds) → Respects (bounds to) end
+    ensures crash_beside { (bounds : Bounds) → RespectsBound (bounds to) end
         → RunsBeside D.content D.moment D.left_since bounds disk.old disk.new }
     ensures copied { IfOk result (λ whole. whole ≡ true
-        → Told (Copied range.file range.offset range.count to end) (D.content disk.old)
+        → BothTold (Copied range.file range.offset range.count to end) (D.content disk.old)
         (D.content disk.new)) }
     ensures whole { HasRange range.file range.offset range.count (D.content disk.old)
         → IfOk result (λ whole. whole ≡ true) }
-    ensures others { Told (OthersStay to) (D.content disk.old) (D.content disk.new) }
+    ensures others { BothTold (OtherFilesStay to) (D.content disk.old) (D.content disk.new) }
     ensures fewest { D.reads disk.old ≤ D.reads disk.new }
     ensures cause { HasCause (D.faults disk.old) (D.faults disk.new) result }
 {

@@ -11,14 +11,14 @@ use std::test::Fail;
 const LONG: FileName = FileName {
     kind: FileKind::Epoch,
     number: 5,
-    gen_: 1,
+    generation: 1,
 };
 
 /// A file that a range is copied to.
 const COPY: FileName = FileName {
     kind: FileKind::Map,
     number: 0,
-    gen_: 9,
+    generation: 9,
 };
 
 /// Writes a tail after the bytes of an epoch, and a file that the root doesn't name.

@@ -1,5 +1,7 @@
-//! Replaces the root of an archive and its files in one step: a crash leaves the old root with its
-//! files, or the new one with its own.
+//! Replaces the root of an archive and its files in one step.
+//! Writes the disk; syncs.
+//!
+//! A crash leaves the old root with its files, or the new one with its own.
 #![tactic(auto)]
 
 mod appending;

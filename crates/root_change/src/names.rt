@@ -1,4 +1,5 @@
 //! The files that a root names.
+//! Pure.
 ghost use Rattle.std.specs.Prelude.{◌≡◌, get_or};
 ghost use Rattle.root_slots.specs.Valid.{no_place};
 ghost use Rattle.root_change.specs.Names.{map_name, epoch_name, cache_name, place_of, has_place, names_file};
@@ -7,43 +8,43 @@ use disk_model::{EPOCHS, FileKind, FileName};
 use root_slots::{Place, Root};
 
 /// Returns the name of the file of a map of a generation.
-pub fn map_file(gen_: u64) -> FileName
-    ensures { result ≡ map_name gen_ }
+pub fn map_file(generation: u64) -> FileName
+    ensures { result ≡ map_name generation }
 {
     FileName {
         kind: FileKind::Map,
         number: 0,
-        gen_,
+        generation,
     }
 }
 
 /// Returns the name of the file of an epoch of a generation.
-pub fn epoch_file(epoch: u32, gen_: u64) -> FileName
-    ensures { result ≡ epoch_name epoch gen_ }
+pub fn epoch_file(epoch: u32, generation: u64) -> FileName
+    ensures { result ≡ epoch_name epoch generation }
 {
     FileName {
         kind: FileKind::Epoch,
         number: epoch,
-        gen_,
+        generation,
     }
 }
 
 /// Returns the name of the file of a cache of a generation.
-pub fn cache_file(gen_: u64) -> FileName
-    ensures { result ≡ cache_name gen_ }
+pub fn cache_file(generation: u64) -> FileName
+    ensures { result ≡ cache_name generation }
 {
     FileName {
         kind: FileKind::Cache,
         number: 0,
-        gen_,
+        generation,
     }
 }
 
 /// Returns whether a `Place` has bytes and this generation.
-fn is_place(place: Place, gen_: u64) -> bool
-    ensures { result ≡ has_place place gen_ }
+fn is_place(place: Place, generation: u64) -> bool
+    ensures { result ≡ has_place place generation }
 {
-    place.length > 0 && place.gen_ == gen_
+    place.length > 0 && place.generation == generation
 }
 
 /// Returns whether a root names a file.
@@ -53,11 +54,11 @@ pub fn is_named(root: &Root, name: FileName) -> bool
     ensures { result ≡ names_file root.now name }
 {
     match name.kind {
-        FileKind::Root => name.number == 0 && name.gen_ == 0,
-        FileKind::Map => name.number == 0 && name.gen_ == root.map.gen_,
-        FileKind::Cache => name.number == 0 && is_place(root.cache, name.gen_),
+        FileKind::Root => name.number == 0 && name.generation == 0,
+        FileKind::Map => name.number == 0 && name.generation == root.map.generation,
+        FileKind::Cache => name.number == 0 && is_place(root.cache, name.generation),
         FileKind::Epoch => {
-            name.number < EPOCHS && is_place(root.epochs[name.number as usize], name.gen_)
+            name.number < EPOCHS && is_place(root.epochs[name.number as usize], name.generation)
         }
     }
 }
@@ -70,7 +71,10 @@ pub fn epoch_place(root: &Root, epoch: u32) -> Place
 {
     match root.epochs.get(epoch as usize) {
         Some(place) => *place,
-        None => Place { gen_: 0, length: 0 },
+        None => Place {
+            generation: 0,
+            length: 0,
+        },
     }
 }
 
@@ -84,6 +88,9 @@ pub fn place_at(root: &Root, kind: FileKind, number: u32) -> Place
         FileKind::Epoch => epoch_place(root, number),
         FileKind::Map if number == 0 => root.map,
         FileKind::Cache if number == 0 => root.cache,
-        _ => Place { gen_: 0, length: 0 },
+        _ => Place {
+            generation: 0,
+            length: 0,
+        },
     }
 }

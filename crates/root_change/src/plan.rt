@@ -1,4 +1,5 @@
 //! What a command writes of a part of an archive.
+//! Allocates.
 ghost use Rattle.std.specs.Prelude.{◌≡◌, ◌+◌, ◌^◌, ◌<◌, IfOk, OnOk, OnErr};
 ghost use Rattle.root_change.specs.Rewriting.{IsPlan, no_plan, plan_count, with_bytes, with_range};
 

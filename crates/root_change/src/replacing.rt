@@ -1,7 +1,8 @@
 //! Replaces the current root, and removes the files that only the old one names.
+//! Writes the disk; syncs.
 ghost use Rattle.std.specs.Prelude.{◌≡◌, ◌-◌, ◌<◌, OnOk};
 ghost use Rattle.arch_base.specs.Counts.{HasCause};
-ghost use Rattle.disk_model.specs.Disk.{Told, WhereTold, LeavesOnly};
+ghost use Rattle.disk_model.specs.Disk.{BothTold, WhereTold, LeavesOnly};
 ghost use Rattle.disk_model.specs.Sizes.{epoch_count};
 ghost use Rattle.disk_model.specs.Synced.{IsSettled};
 ghost use Rattle.root_slots.specs.Between.{RunsBetween};
@@ -26,9 +27,9 @@ fn is_dropped(name: FileName, old: &Root, new: &Root) -> bool
 
 /// Removes a file if the old root names it and the new one doesn't.
 fn drop_file<D: Disk>(disk: &mut D, name: FileName, old: &Root, new: &Root) -> Result<(), DiskFault>
-    ensures beside { RunsBeside D.content D.moment D.left_since (bounds_of new.now)
+    ensures crash_beside { RunsBeside D.content D.moment D.left_since (bounds_of new.now)
         disk.old disk.new }
-    ensures dropped { OnOk result (Told (Dropped (IsOne name) old.now new.now) (D.content disk.old)
+    ensures dropped { OnOk result (BothTold (Dropped (IsOne name) old.now new.now) (D.content disk.old)
         (D.content disk.new)) }
     ensures cause { HasCause (D.faults disk.old) (D.faults disk.new) result }
     ensures count { D.reads disk.new ≡ D.reads disk.old }
@@ -41,40 +42,40 @@ fn drop_file<D: Disk>(disk: &mut D, name: FileName, old: &Root, new: &Root) -> R
 
 /// Removes the files of the epochs that the old root names and the new one doesn't.
 fn drop_epochs<D: Disk>(disk: &mut D, old: &Root, new: &Root) -> Result<(), DiskFault>
-    ensures beside { RunsBeside D.content D.moment D.left_since (bounds_of new.now)
+    ensures crash_beside { RunsBeside D.content D.moment D.left_since (bounds_of new.now)
         disk.old disk.new }
-    ensures dropped { OnOk result (Told (Dropped (IsEpochBelow epoch_count) old.now new.now)
+    ensures dropped { OnOk result (BothTold (Dropped (IsEpochBelow epoch_count) old.now new.now)
         (D.content disk.old) (D.content disk.new)) }
     ensures cause { HasCause (D.faults disk.old) (D.faults disk.new) result }
     ensures count { D.reads disk.new ≡ D.reads disk.old }
 {
     for epoch in 0..EPOCHS {
         let place = epoch_place(old, epoch);
-        drop_file(disk, epoch_file(epoch, place.gen_), old, new)?;
+        drop_file(disk, epoch_file(epoch, place.generation), old, new)?;
     }
     Ok(())
 }
 
 /// Removes the files that the old root names and the new one doesn't.
 fn drop_files<D: Disk>(disk: &mut D, old: &Root, new: &Root) -> Result<(), DiskFault>
-    ensures beside { RunsBeside D.content D.moment D.left_since (bounds_of new.now)
+    ensures crash_beside { RunsBeside D.content D.moment D.left_since (bounds_of new.now)
         disk.old disk.new }
     ensures dropped { OnOk result
-        (Told (Dropped IsAny old.now new.now) (D.content disk.old) (D.content disk.new)) }
+        (BothTold (Dropped IsAny old.now new.now) (D.content disk.old) (D.content disk.new)) }
     ensures cause { HasCause (D.faults disk.old) (D.faults disk.new) result }
     ensures count { D.reads disk.new ≡ D.reads disk.old }
 {
-    drop_file(disk, map_file(old.map.gen_), old, new)?;
-    drop_file(disk, cache_file(old.cache.gen_), old, new)?;
+    drop_file(disk, map_file(old.map.generation), old, new)?;
+    drop_file(disk, cache_file(old.cache.generation), old, new)?;
     drop_epochs(disk, old, new)
 }
 
 /// Removes the files that the old root names and the new one doesn't, and syncs.
 fn drop_old<D: Disk>(disk: &mut D, old: &Root, new: &Root) -> Result<(), DiskFault>
-    ensures beside { RunsBeside D.content D.moment D.left_since (bounds_of new.now)
+    ensures crash_beside { RunsBeside D.content D.moment D.left_since (bounds_of new.now)
         disk.old disk.new }
     ensures dropped { OnOk result
-        (Told (IsDropped old.now new.now) (D.content disk.old) (D.content disk.new)) }
+        (BothTold (IsDropped old.now new.now) (D.content disk.old) (D.content disk.new)) }
     ensures settled { OnOk result (WhereTold IsSettled (D.content disk.new)) }
     ensures cause { HasCause (D.faults disk.old) (D.faults disk.new) result }
     ensures count { D.reads disk.new ≡ D.reads disk.old }
@@ -96,7 +97,7 @@ pub fn replace_root<D: Disk>(
     requires size { WhereTold HasRootSize (D.content disk.old) }
     requires root { IsRoot new.now }
     // At each moment a crash leaves files that stand for the old texts or for the next ones.
-    ensures any_moment { (texts next : Texts)
+    ensures crash { (texts next : Texts)
         → ToReplace (slot_number slot) old.now texts new.now next (D.content disk.old)
         → LeavesOnly D.moment D.left_since disk.old disk.new
         (StandsForEither old.now texts new.now next) }
@@ -108,12 +109,12 @@ pub fn replace_root<D: Disk>(
     ensures settled { OnOk result (WhereTold IsSettled (D.content disk.new)) }
     // The files that the new root names read as before, whatever the disk held.
     ensures kept { OnOk result
-        (Told (KeepsNamed new.now) (D.content disk.old) (D.content disk.new)) }
+        (BothTold (KeepsNamed new.now) (D.content disk.old) (D.content disk.new)) }
     // The root file has the new root in the slot, whose gate is open, and is otherwise as it was.
-    ensures rooted { OnOk result (Told (HasNewRoot (slot_number slot) (spelling new.now))
+    ensures rooted { OnOk result (BothTold (HasNewRoot (slot_number slot) (spelling new.now))
         (D.content disk.old) (D.content disk.new)) }
     // At each moment its bytes between the gates and the bodies are as before.
-    ensures between { RunsBetween D.content D.moment D.left_since disk.old disk.new }
+    ensures crash_between { RunsBetween D.content D.moment D.left_since disk.old disk.new }
     ensures cause { HasCause (D.faults disk.old) (D.faults disk.new) result }
     ensures count { D.reads disk.new ≡ D.reads disk.old }
 {

@@ -1,14 +1,15 @@
 //! Carries out plans, and replaces the root by the one that names what they wrote.
+//! Writes the disk; syncs.
 ghost use Rattle.std.specs.Prelude.{◌≡◌, ◌+◌, ◌^◌, ◌<◌, ◌≤◌, IfOk, OnOk, length};
 ghost use Rattle.arch_base.specs.Counts.{RoseIf};
 ghost use Rattle.disk_model.specs.Beside.{RunsBeside};
-ghost use Rattle.disk_model.specs.Disk.{Told, WhereTold};
+ghost use Rattle.disk_model.specs.Disk.{BothTold, WhereTold};
 ghost use Rattle.disk_model.specs.Sizes.{epoch_count};
 ghost use Rattle.root_slots.specs.Slots.{slot_number};
 ghost use Rattle.root_slots.specs.Valid.{IsRoot};
 ghost use Rattle.root_change.specs.Names.{bounds_of, place_of};
 ghost use Rattle.root_change.specs.Texts.{HasPartSizes};
-ghost use Rattle.root_change.specs.Rewriting.{CarriesOut, IfShort, IsFailed, IsPartOf, IsPartToPlan, IsPlannedPart, IsRootAfter, IsShort, MapFits, MayCarryAll, file_by, map_by, place_by, plan_count};
+ghost use Rattle.root_change.specs.Rewriting.{CarriesOut, IfShort, IsFailed, IsPartOfPlan, IsPartToPlan, IsPlannedPart, IsRootAfter, IsShort, MapFits, MayCarryAll, file_by, map_by, place_by, plan_count};
 ghost use Rattle.root_change.specs.declared.plan.Target.{Target};
 ghost use Rattle.root_change.specs.Writing.{HasPlan, MayWrite, MayWriteAll, SetsPlace, WritesAlone, WritesPlans};
 
@@ -55,12 +56,15 @@ fn epoch_after(place: Place, target: Target, count: u64, next: u64) -> Place
 {
     match target {
         Target::Behind if place.length > 0 => Place {
-            gen_: place.gen_,
+            generation: place.generation,
             length: place.length + count,
         },
-        _ if count == 0 => Place { gen_: 0, length: 0 },
+        _ if count == 0 => Place {
+            generation: 0,
+            length: 0,
+        },
         _ => Place {
-            gen_: next,
+            generation: next,
             length: count,
         },
     }
@@ -73,11 +77,11 @@ fn map_after(place: Place, target: Target, count: u64, next: u64) -> Place
 {
     match target {
         Target::Anew => Place {
-            gen_: next,
+            generation: next,
             length: count,
         },
         Target::Behind => Place {
-            gen_: place.gen_,
+            generation: place.generation,
             length: place.length + count,
         },
     }
@@ -118,7 +122,10 @@ fn root_after(old: &Root, plans: &[PartPlan], number: u32) -> Root
     let mut new = old.copy();
     new.sequence = next;
     new.next = number;
-    new.cache = Place { gen_: 0, length: 0 };
+    new.cache = Place {
+        generation: 0,
+        length: 0,
+    };
     for plan in plans {
         set_place(&mut new, plan, next);
     }
@@ -132,7 +139,7 @@ fn file_of(root: &Root, kind: FileKind, number: u32) -> FileName
     FileName {
         kind,
         number,
-        gen_: place_at(root, kind, number).gen_,
+        generation: place_at(root, kind, number).generation,
     }
 }
 
@@ -148,13 +155,13 @@ fn write_plan<D: Disk>(
 ) -> Result<(), RewriteRefusal>
     requires to { MayWrite root.now plan.now to }
     requires sizes { WhereTold (HasPartSizes root.now) (D.content disk.old) }
-    ensures beside { RunsBeside D.content D.moment D.left_since (bounds_of root.now)
+    ensures crash_beside { RunsBeside D.content D.moment D.left_since (bounds_of root.now)
         disk.old disk.new }
     ensures written { OnOk result
-        (Told (WritesAlone root.now plan.now to) (D.content disk.old) (D.content disk.new)) }
+        (BothTold (WritesAlone root.now plan.now to) (D.content disk.old) (D.content disk.new)) }
     ensures sizes { OnOk result (WhereTold (HasPartSizes root.now) (D.content disk.new)) }
     ensures whole { HasPlan (D.content disk.old) plan.now → IsShort result → ⊥ }
-    ensures short { IfShort result (IsPartOf root.now plan.now) }
+    ensures short { IfShort result (IsPartOfPlan root.now plan.now) }
     ensures fewest { D.reads disk.old ≤ D.reads disk.new }
     ensures cause { RoseIf (IsFailed result) (D.faults disk.old) (D.faults disk.new) }
 {
@@ -185,10 +192,10 @@ fn write_plans<D: Disk>(
     requires plans { MayCarryAll old.now plans.now }
     requires files { MayWriteAll old.now new.now plans.now }
     requires sizes { WhereTold (HasPartSizes old.now) (D.content disk.old) }
-    ensures beside { RunsBeside D.content D.moment D.left_since (bounds_of old.now)
+    ensures crash_beside { RunsBeside D.content D.moment D.left_since (bounds_of old.now)
         disk.old disk.new }
     ensures written { OnOk result
-        (Told (WritesPlans old.now new.now plans.now) (D.content disk.old) (D.content disk.new)) }
+        (BothTold (WritesPlans old.now new.now plans.now) (D.content disk.old) (D.content disk.new)) }
     ensures sizes { OnOk result (WhereTold (HasPartSizes old.now) (D.content disk.new)) }
     ensures whole { WhereTold (λ k. IsShort result → ⊥) (D.content disk.old) }
     ensures short { IfShort result (IsPlannedPart old.now plans.now) }

@@ -1,11 +1,12 @@
 //! Puts bytes and ranges of files after one another into a file, without memory.
+//! Writes the disk; syncs.
 ghost use Rattle.std.specs.Prelude.{◌≡◌, ◌+◌, ◌^◌, ◌<◌, ◌≤◌, true, length, IfOk};
 ghost use Rattle.std.specs.List.{sum_by};
 ghost use Rattle.arch_base.specs.Counts.{HasCause};
-ghost use Rattle.disk_model.specs.Beside.{Bounds, Respects, RunsBeside};
-ghost use Rattle.disk_model.specs.Disk.{Told, WhereTold, IsAtMostLength};
-ghost use Rattle.root_change.specs.Copying.{range_of, OthersStay, Put};
-ghost use Rattle.root_change.specs.Gathering.{source_count, IsSource, AreSources, HasSource, HasSources, PutSource, PutSources};
+ghost use Rattle.disk_model.specs.Beside.{Bounds, RespectsBound, RunsBeside};
+ghost use Rattle.disk_model.specs.Disk.{BothTold, WhereTold, IsAtMostLength};
+ghost use Rattle.root_change.specs.Copying.{range_of, OtherFilesStay, Put};
+ghost use Rattle.root_change.specs.Gathering.{source_count, IsSourceFor, AreSources, HasSource, HasSources, PutSource, PutSources};
 
 use crate::copying::{FileRange, copy_range};
 use disk_model::{Disk, DiskFault, FileName};
@@ -47,12 +48,12 @@ fn put_bytes<D: Disk>(
 ) -> Result<bool, DiskFault>
     requires inside { WhereTold (IsAtMostLength to end) (D.content disk.old) }
     requires end { end + count < 2 ^ 63 }
-    ensures beside { (bounds : Bounds) → Respects (bounds to) end
+    ensures crash_beside { (bounds : Bounds) → RespectsBound (bounds to) end
         → RunsBeside D.content D.moment D.left_since bounds disk.old disk.new }
-    ensures put { IfOk result (λ whole. whole ≡ true → Told (Put (range_of bytes.now offset count)
+    ensures put { IfOk result (λ whole. whole ≡ true → BothTold (Put (range_of bytes.now offset count)
         count to end) (D.content disk.old) (D.content disk.new)) }
     ensures whole { offset + count ≤ length bytes.now → IfOk result (λ whole. whole ≡ true) }
-    ensures others { Told (OthersStay to) (D.content disk.old) (D.content disk.new) }
+    ensures others { BothTold (OtherFilesStay to) (D.content disk.old) (D.content disk.new) }
     ensures fewest { D.reads disk.old ≤ D.reads disk.new }
     ensures cause { HasCause (D.faults disk.old) (D.faults disk.new) result }
 {
@@ -78,16 +79,16 @@ fn put_source<D: Disk>(
     to: FileName,
     end: u64,
 ) -> Result<bool, DiskFault>
-    requires source { IsSource to source }
+    requires source { IsSourceFor to source }
     requires inside { WhereTold (IsAtMostLength to end) (D.content disk.old) }
     requires end { end + source_count source < 2 ^ 63 }
-    ensures beside { (bounds : Bounds) → Respects (bounds to) end
+    ensures crash_beside { (bounds : Bounds) → RespectsBound (bounds to) end
         → RunsBeside D.content D.moment D.left_since bounds disk.old disk.new }
-    ensures put { IfOk result (λ whole. whole ≡ true → Told (PutSource bytes.now source to end)
+    ensures put { IfOk result (λ whole. whole ≡ true → BothTold (PutSource bytes.now source to end)
         (D.content disk.old) (D.content disk.new)) }
     ensures whole { HasSource bytes.now (D.content disk.old) source
         → IfOk result (λ whole. whole ≡ true) }
-    ensures others { Told (OthersStay to) (D.content disk.old) (D.content disk.new) }
+    ensures others { BothTold (OtherFilesStay to) (D.content disk.old) (D.content disk.new) }
     ensures fewest { D.reads disk.old ≤ D.reads disk.new }
     ensures cause { HasCause (D.faults disk.old) (D.faults disk.new) result }
 {
@@ -112,14 +113,14 @@ pub fn put_sources<D: Disk>(
     requires inside { WhereTold (IsAtMostLength to end) (D.content disk.old) }
     requires end { end + sum_by source_count sources.now < 2 ^ 63 }
     // All that is before the offset stays at each moment, whatever the call returns.
-    ensures beside { (bounds : Bounds) → Respects (bounds to) end
+    ensures crash_beside { (bounds : Bounds) → RespectsBound (bounds to) end
         → RunsBeside D.content D.moment D.left_since bounds disk.old disk.new }
     ensures put { IfOk result (λ whole. whole ≡ true
-        → Told (PutSources bytes.now sources.now to end) (D.content disk.old)
+        → BothTold (PutSources bytes.now sources.now to end) (D.content disk.old)
         (D.content disk.new)) }
     ensures whole { HasSources bytes.now (D.content disk.old) sources.now
         → IfOk result (λ whole. whole ≡ true) }
-    ensures others { Told (OthersStay to) (D.content disk.old) (D.content disk.new) }
+    ensures others { BothTold (OtherFilesStay to) (D.content disk.old) (D.content disk.new) }
     ensures fewest { D.reads disk.old ≤ D.reads disk.new }
     ensures cause { HasCause (D.faults disk.old) (D.faults disk.new) result }
 {

@@ -12,7 +12,7 @@ use std::test::Fail;
 pub(crate) const ROOT: FileName = FileName {
     kind: FileKind::Root,
     number: 0,
-    gen_: 0,
+    generation: 0,
 };
 
 /// The bytes of the root file that aren't 0: a root of sequence 2 in slot 0, with the first number

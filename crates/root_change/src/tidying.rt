@@ -1,9 +1,10 @@
 //! Brings the files of a disk to what a root names.
+//! Writes the disk; syncs.
 ghost use Rattle.std.specs.Prelude.{◌≡◌, ℕ, OnOk};
 ghost use Rattle.std.specs.List.{Contains};
 ghost use Rattle.arch_base.specs.Counts.{HasCause};
-ghost use Rattle.disk_model.specs.Beside.{Bounds, Respects, RunsBeside};
-ghost use Rattle.disk_model.specs.Disk.{Told, WhereTold, OneFile, LeavesOnly};
+ghost use Rattle.disk_model.specs.Beside.{Bounds, RespectsBound, RunsBeside};
+ghost use Rattle.disk_model.specs.Disk.{BothTold, WhereTold, OneFile, LeavesOnly};
 ghost use Rattle.disk_model.specs.Synced.{IsSettled};
 ghost use Rattle.root_change.specs.Names.{is_root_name, bounds_of};
 ghost use Rattle.root_change.specs.Texts.{Texts, StandsFor, OnDisk};
@@ -20,17 +21,17 @@ fn is_root(name: FileName) -> bool
     ensures { result ≡ is_root_name name }
 {
     match name.kind {
-        FileKind::Root => name.number == 0 && name.gen_ == 0,
+        FileKind::Root => name.number == 0 && name.generation == 0,
         _ => false,
     }
 }
 
 /// Cuts a file to a length if it is longer, and otherwise leaves it alone.
 fn trim<D: Disk>(disk: &mut D, name: FileName, length: u64) -> Result<(), DiskFault>
-    ensures beside { (bounds : Bounds) → Respects (bounds name) length
+    ensures crash_beside { (bounds : Bounds) → RespectsBound (bounds name) length
         → RunsBeside D.content D.moment D.left_since bounds disk.old disk.new }
     ensures trimmed { OnOk result
-        (Told (OneFile name (Trimmed length)) (D.content disk.old) (D.content disk.new)) }
+        (BothTold (OneFile name (Trimmed length)) (D.content disk.old) (D.content disk.new)) }
     ensures cause { HasCause (D.faults disk.old) (D.faults disk.new) result }
     ensures count { D.reads disk.new ≡ D.reads disk.old }
 {
@@ -45,10 +46,10 @@ fn trim<D: Disk>(disk: &mut D, name: FileName, length: u64) -> Result<(), DiskFa
 ///
 /// The root file stays as it is.
 fn tidy_file<D: Disk>(disk: &mut D, root: &Root, name: FileName) -> Result<(), DiskFault>
-    ensures beside { RunsBeside D.content D.moment D.left_since (bounds_of root.now)
+    ensures crash_beside { RunsBeside D.content D.moment D.left_since (bounds_of root.now)
         disk.old disk.new }
     ensures tidied { OnOk result
-        (Told (Tidied (IsOne name) root.now) (D.content disk.old) (D.content disk.new)) }
+        (BothTold (Tidied (IsOne name) root.now) (D.content disk.old) (D.content disk.new)) }
     ensures cause { HasCause (D.faults disk.old) (D.faults disk.new) result }
     ensures count { D.reads disk.new ≡ D.reads disk.old }
 {
@@ -64,9 +65,9 @@ fn tidy_file<D: Disk>(disk: &mut D, root: &Root, name: FileName) -> Result<(), D
 
 /// Removes the listed files that a root doesn't name, and cuts the others to the bytes that count.
 fn tidy_files<D: Disk>(disk: &mut D, root: &Root, names: &[FileName]) -> Result<(), DiskFault>
-    ensures beside { RunsBeside D.content D.moment D.left_since (bounds_of root.now)
+    ensures crash_beside { RunsBeside D.content D.moment D.left_since (bounds_of root.now)
         disk.old disk.new }
-    ensures tidied { OnOk result (Told (Tidied (Contains names.now) root.now)
+    ensures tidied { OnOk result (BothTold (Tidied (Contains names.now) root.now)
         (D.content disk.old) (D.content disk.new)) }
     ensures cause { HasCause (D.faults disk.old) (D.faults disk.new) result }
     ensures count { D.reads disk.new ≡ D.reads disk.old }
@@ -82,7 +83,7 @@ fn tidy_files<D: Disk>(disk: &mut D, root: &Root, names: &[FileName]) -> Result<
 /// `names` are the names of all files. Allocates nothing.
 pub fn tidy<D: Disk>(disk: &mut D, root: &Root, names: &[FileName]) -> Result<(), DiskFault>
     // At each moment a crash leaves files that stand for the same texts.
-    ensures any_moment { (free : ℕ) (texts : Texts)
+    ensures crash { (free : ℕ) (texts : Texts)
         → ToTidy root.now free texts names.now (D.content disk.old)
         → LeavesOnly D.moment D.left_since disk.old disk.new (StandsFor root.now texts) }
     // After `Ok` the disk is exactly theirs.
@@ -92,11 +93,11 @@ pub fn tidy<D: Disk>(disk: &mut D, root: &Root, names: &[FileName]) -> Result<()
     // Then all that reads give is on the disk, whatever it held before.
     ensures settled { OnOk result (WhereTold IsSettled (D.content disk.new)) }
     // And the listed files are tidied: all bytes that count stay.
-    ensures tidied { OnOk result (Told (Tidied (Contains names.now) root.now)
+    ensures tidied { OnOk result (BothTold (Tidied (Contains names.now) root.now)
         (D.content disk.old) (D.content disk.new)) }
     // At each moment the root file is as a crash before might have left it, and so are the bytes
     // that count.
-    ensures beside { RunsBeside D.content D.moment D.left_since (bounds_of root.now)
+    ensures crash_beside { RunsBeside D.content D.moment D.left_since (bounds_of root.now)
         disk.old disk.new }
     ensures cause { HasCause (D.faults disk.old) (D.faults disk.new) result }
     ensures count { D.reads disk.new ≡ D.reads disk.old }

@@ -3,7 +3,7 @@ use Rattle.std.specs.Prelude.{◌≡◌, ◌<◌, ℕ, nat_eq, List, [], ◌∷�
 use Rattle.std.specs.List.{flat_map}
 use Rattle.std.proofs.Common.{◌∙◌, sym, ap, arith, append_assoc}
 use Rattle.arch_base.specs.declared.config.Config.{Config}
-use Rattle.arch_base.specs.Names.{IsName}
+use Rattle.arch_base.specs.Names.{IsArchiveName}
 use Rattle.arch_base.specs.Configs.{IsConfig}
 use Rattle.root_slots.specs.declared.root.Place.{Place}
 use Rattle.disk_model.specs.BigEndian.{be64, rest_is, apart64, apart32}
@@ -17,9 +17,9 @@ use Rattle.root_slots.proofs.Reading.{place_parts, place_is, name_parts, config_
 apart_place : (p q : Place) (x y : List ℕ) → PlaceFits p → PlaceFits q → place_bytes p ++ x ≡ place_bytes q ++ y → (p ≡ q) × (x ≡ y)
 apart_place p q x y a b is =
     let parts = sym (place_parts (place_bytes p ++ x) x p refl) ∙ place_parts (place_bytes p ++ x) y q is in
-    let gens = apart64 p.gen_ q.gen_ (be64 p.length ++ x) (be64 q.length ++ y) a.gen_ b.gen_ parts in
+    let gens = apart64 p.generation q.generation (be64 p.length ++ x) (be64 q.length ++ y) a.generation b.generation parts in
     let lengths = apart64 p.length q.length x y a.length b.length gens.1 in
-    (place_is p.gen_ p.length q gens.0 lengths.0, lengths.1)
+    (place_is p.generation p.length q gens.0 lengths.0, lengths.1)
 
 -- Bytes that start with equally many places.
 apart_places : (ps qs : List Place) (x y : List ℕ) → length ps ≡ length qs → ((i : ℕ) → i < length ps → PlaceFits (get_or ps i no_place)) → ((i : ℕ) → i < length qs → PlaceFits (get_or qs i no_place))
@@ -34,7 +34,7 @@ apart_places (p ∷ ps) (q ∷ qs) x y count a b is =
     (λ i. first.0 i ∷ others.0 i, others.1)
 
 -- Bytes that start with names.
-apart_name : (m n x y : List ℕ) → IsName m → IsName n → name_bytes m ++ x ≡ name_bytes n ++ y → (m ≡ n) × (x ≡ y)
+apart_name : (m n x y : List ℕ) → IsArchiveName m → IsArchiveName n → name_bytes m ++ x ≡ name_bytes n ++ y → (m ≡ n) × (x ≡ y)
 apart_name m n x y a b is =
     let bytes = name_bytes m ++ x in
     let left = name_parts bytes x m a refl in
@@ -43,7 +43,7 @@ apart_name m n x y a b is =
     (sym left.itself ∙ (ap (λ (k : ℕ). take k (drop 1 (take 65 bytes))) size ∙ right.itself), sym left.after ∙ right.after)
 
 -- Bytes that start with settings.
-apart_config : (c d : Config) (x y : List ℕ) → IsName c.name → IsName d.name → IsConfig c → IsConfig d → config_bytes c ++ x ≡ config_bytes d ++ y → (c ≡ d) × (x ≡ y)
+apart_config : (c d : Config) (x y : List ℕ) → IsArchiveName c.name → IsArchiveName d.name → IsConfig c → IsConfig d → config_bytes c ++ x ≡ config_bytes d ++ y → (c ≡ d) × (x ≡ y)
 apart_config c d x y named named2 a b is =
     let bytes = config_bytes c ++ x in
     let left = config_parts bytes x c refl in

@@ -1,16 +1,16 @@
 -- A commit on a disk: what a crash leaves during each write, and what holds after all three.
 use Rattle.std.specs.Prelude.{◌≡◌, ◌⊎◌, ℕ, ◌-◌, ◌<◌, ◌^◌, Option, Some, None, List, [], ◌∷◌, length, refl}
 use Rattle.std.proofs.Common.{◌∙◌, ap, sym, subst, inl, inr, arith}
-use Rattle.disk_model.specs.Disk.{File, Files, Content, Told, WhereTold, ReadsFit, bytes_of, overlay}
-use Rattle.disk_model.specs.Synced.{Writing, IsWritten}
+use Rattle.disk_model.specs.Disk.{File, Files, Content, BothTold, WhereTold, ReadsFit, bytes_of, overlay}
+use Rattle.disk_model.specs.Synced.{WritingLeaves, IsWritten}
 use Rattle.disk_model.specs.Tells.{told_then, told_weaker}
 use Rattle.root_slots.specs.declared.root.Root.{Root}
 use Rattle.root_slots.specs.RootName.{root_name}
-use Rattle.root_slots.specs.Between.{BetweenStays, between}
+use Rattle.root_slots.specs.Between.{BetweenStays, crash_between}
 use Rattle.root_slots.specs.Each.{IfThere, EachRoot, settled_file}
 use Rattle.root_slots.specs.Spelling.{spelling}
 use Rattle.root_slots.specs.Sizes.{sequence-spelling}
-use Rattle.root_slots.specs.Slots.{HasRootSize, body_offset, sequence_of, HasRoot, Current, Ready, IsOldOrNew, OthersStay, HasNewRoot, IsCommitted, with_root, shut_in, AreBoth, IsInCommit}
+use Rattle.root_slots.specs.Slots.{HasRootSize, body_offset, sequence_of, HasRoot, Current, Ready, IsOldOrNew, OthersStayInImage, HasNewRoot, IsCommitted, with_root, shut_in, AreBoth, IsInCommit}
 use Rattle.root_slots.proofs.Phases.{shut_between, old_or_new, new_current, other_ready, between_commit}
 use Rattle.root_slots.proofs.Torn.{Comes, comes_writing, comes_written, size_stays}
 
@@ -24,23 +24,23 @@ committed_then at bytes k l m first last = record { elsewhere = λ other apart. 
 
 module _ (slot : ℕ) (body : List ℕ) (low : slot < 2) where
   -- What a crash leaves during each of the three writes.
-  pub during_shut : (k : Option Content) (image : Files) → ReadsFit k → WhereTold HasRootSize k → Writing root_name slot 1 k image → Comes (IsInCommit slot body) k image
+  pub during_shut : (k : Option Content) (image : Files) → ReadsFit k → WhereTold HasRootSize k → WritingLeaves root_name slot 1 k image → Comes (IsInCommit slot body) k image
   during_shut k image fit size = comes_writing (IsInCommit slot body) slot 1 k image fit size (omega arith) (omega arith) (λ a b same. inl same)
 
-  pub during_fill : (k l : Option Content) (image : Files) → ReadsFit k → ReadsFit l → WhereTold HasRootSize k → Told (IsWritten root_name slot (0 ∷ [])) k l → Writing root_name (body_offset slot) 1536 l image → Comes (IsInCommit slot body) k image
+  pub during_fill : (k l : Option Content) (image : Files) → ReadsFit k → ReadsFit l → WhereTold HasRootSize k → BothTold (IsWritten root_name slot (0 ∷ [])) k l → WritingLeaves root_name (body_offset slot) 1536 l image → Comes (IsInCommit slot body) k image
   during_fill k l image fit fit1 size shut writing =
       comes_written _ (IsInCommit slot body) slot (0 ∷ []) k l image fit size (λ a b long same. inr (inl (long, same))) shut
       (comes_writing _ (body_offset slot) 1536 l image fit1 (size_stays slot (0 ∷ []) k l (omega arith) shut size) (omega arith) (omega arith) (λ a b same. same) writing)
 
   -- All other files are as before.
-  pub others_kept : (k l m n : Option Content) → Told (IsWritten root_name slot (0 ∷ [])) k l → Told (IsWritten root_name (body_offset slot) body) l m → Told (IsWritten root_name slot (1 ∷ [])) m n → Told IsCommitted k n
+  pub others_kept : (k l m n : Option Content) → BothTold (IsWritten root_name slot (0 ∷ [])) k l → BothTold (IsWritten root_name (body_offset slot) body) l m → BothTold (IsWritten root_name slot (1 ∷ [])) m n → BothTold IsCommitted k n
   others_kept k l m n shut filled raised =
       told_then IsCommitted (IsWritten root_name slot (1 ∷ [])) IsCommitted k m n (λ x y z is told. committed_then slot (1 ∷ []) x y z)
       (told_then IsCommitted (IsWritten root_name (body_offset slot) body) IsCommitted k l m (λ x y z is told. committed_then (body_offset slot) body x y z) (told_weaker (IsWritten root_name slot (0 ∷ [])) IsCommitted k l (λ x y is also first. record { elsewhere = first.elsewhere; settled = first.settled }) shut) filled)
       raised
 
   module _ (whole : length body ≡ 1536) where
-    pub during_raise : (k l m : Option Content) (image : Files) → ReadsFit k → ReadsFit l → ReadsFit m → WhereTold HasRootSize k → Told (IsWritten root_name slot (0 ∷ [])) k l → Told (IsWritten root_name (body_offset slot) body) l m → Writing root_name slot 1 m image → Comes (IsInCommit slot body) k image
+    pub during_raise : (k l m : Option Content) (image : Files) → ReadsFit k → ReadsFit l → ReadsFit m → WhereTold HasRootSize k → BothTold (IsWritten root_name slot (0 ∷ [])) k l → BothTold (IsWritten root_name (body_offset slot) body) l m → WritingLeaves root_name slot 1 m image → Comes (IsInCommit slot body) k image
     during_raise k l m image fit fit1 fit2 size shut filled writing =
         let size1 = size_stays slot (0 ∷ []) k l (omega arith) shut size in
         comes_written _ (IsInCommit slot body) slot (0 ∷ []) k l image fit size (λ a b long same. inr (inr (long, whole, same))) shut
@@ -48,7 +48,7 @@ module _ (slot : ℕ) (body : List ℕ) (low : slot < 2) where
         (comes_writing _ slot 1 m image fit2 (size_stays (body_offset slot) body l m (omega (arith, whole)) filled size1) (omega arith) (omega arith) (λ a b same. same) writing))
 
     -- The root file after all three, and the rest of the disk.
-    pub has_new_root : (k l m n : Option Content) → WhereTold HasRootSize k → Told (IsWritten root_name slot (0 ∷ [])) k l → Told (IsWritten root_name (body_offset slot) body) l m → Told (IsWritten root_name slot (1 ∷ [])) m n → Told (HasNewRoot slot body) k n
+    pub has_new_root : (k l m n : Option Content) → WhereTold HasRootSize k → BothTold (IsWritten root_name slot (0 ∷ [])) k l → BothTold (IsWritten root_name (body_offset slot) body) l m → BothTold (IsWritten root_name slot (1 ∷ [])) m n → BothTold (HasNewRoot slot body) k n
     has_new_root k l m n size shut filled raised =
         let Filled : Content → Content → Type 0 = λ x z. (z root_name).seen ≡ Some (overlay (body_offset slot) body (shut_in slot (bytes_of (x root_name).seen))) in
         told_then Filled (IsWritten root_name slot (1 ∷ [])) (HasNewRoot slot body) k m n
@@ -70,14 +70,14 @@ module _ (slot : ℕ) (body : List ℕ) (low : slot < 2) where
   pub to_between : (k : Option Content) (image : Files) → Comes (IsInCommit slot body) k image → BetweenStays k image
   to_between None image comes = tt
   to_between (Some k) image comes = record { from = comes.file; fits = comes.fits; same = both comes.file (image root_name) comes.by } where
-    both : (file after : File) → AreBoth (IsInCommit slot body) file after → between (bytes_of after) ≡ between (bytes_of file)
+    both : (file after : File) → AreBoth (IsInCommit slot body) file after → crash_between (bytes_of after) ≡ crash_between (bytes_of file)
     both None None by = refl
     both None (Some b) by = absurd by
     both (Some a) None by = absurd by
     both (Some a) (Some b) by = between_commit slot body a b low by
 
   -- What holds after the commit of each root file that is ready for it.
-  pub each_new : (P Q : List ℕ → Type 0) (k m : Option Content) → ReadsFit k → ((a : List ℕ) → P a → Q (with_root slot body a)) → EachRoot P k → Told (HasNewRoot slot body) k m → Told IsCommitted k m → EachRoot Q m
+  pub each_new : (P Q : List ℕ → Type 0) (k m : Option Content) → ReadsFit k → ((a : List ℕ) → P a → Q (with_root slot body a)) → EachRoot P k → BothTold (HasNewRoot slot body) k m → BothTold IsCommitted k m → EachRoot Q m
   each_new P Q None m fit step each root committed = absurd each
   each_new P Q (Some k) None fit step each root committed = absurd root
   each_new P Q (Some k) (Some m) fit step each root committed = λ file fits.
@@ -87,6 +87,6 @@ module _ (slot : ℕ) (body : List ℕ) (low : slot < 2) where
         of_seen (Some seen) holds = step seen holds
 
 -- Other files are as a crash before might have left them.
-pub to_others : (P : List ℕ → List ℕ → Type 0) (k : Option Content) (image : Files) → Comes P k image → OthersStay k image
+pub to_others : (P : List ℕ → List ℕ → Type 0) (k : Option Content) (image : Files) → Comes P k image → OthersStayInImage k image
 to_others P None image comes = tt
 to_others P (Some k) image comes = comes.elsewhere

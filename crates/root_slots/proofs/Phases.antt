@@ -5,7 +5,7 @@ use Rattle.std.proofs.lemmas.Bool.{cases_eq, cases_lt}
 use Rattle.std.proofs.lemmas.Grind.{common_steps}
 use Rattle.disk_model.specs.Disk.{overlay}
 use Rattle.disk_model.specs.Laws.{SameOutside, in_or_out, overlay-torn, overlay-size, overlay-inside, overlay_kept, overlay_length}
-use Rattle.root_slots.specs.Between.{between, between_torn, between_overlay}
+use Rattle.root_slots.specs.Between.{crash_between, between_torn, between_overlay}
 use Rattle.root_slots.specs.Each.{part_stays}
 use Rattle.root_slots.specs.Slots.{gate, body_offset, body_at, sequence_of, Precedes, Current, HasRoot, Ready, with_root, shut_in, IsInCommit}
 
@@ -186,7 +186,7 @@ module _ (slot : ℕ) (old body : List ℕ) (low : slot < 2) (newer : sequence_o
       }
 
 -- At each moment of a commit the bytes between the gates and the bodies are as before.
-pub between_commit : (slot : ℕ) (body a b : List ℕ) → slot < 2 → IsInCommit slot body a b → between b ≡ between a
+pub between_commit : (slot : ℕ) (body a b : List ℕ) → slot < 2 → IsInCommit slot body a b → crash_between b ≡ crash_between a
 between_commit slot body a b low (inl first) = between_torn slot 1 a b (inr (omega arith)) first
 between_commit slot body a b low (inr (inl second)) =
     let size = second.0 in

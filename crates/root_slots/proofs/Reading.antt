@@ -5,7 +5,7 @@ use Rattle.std.proofs.Common.{◌∙◌, sym, ap, subst, arith, append_assoc, ad
 use Rattle.std.proofs.lemmas.List.{take_more_set}
 use Rattle.std.proofs.Math.Seq.{take-append_seam, take-suc, drop-cons}
 use Rattle.arch_base.specs.declared.config.Config.{Config}
-use Rattle.arch_base.specs.Names.{IsName}
+use Rattle.arch_base.specs.Names.{IsArchiveName}
 use Rattle.root_slots.specs.declared.root.Place.{Place}
 use Rattle.root_slots.specs.declared.root.Root.{Root}
 use Rattle.disk_model.specs.BigEndian.{be32, be64, front_is, rest_is}
@@ -19,13 +19,13 @@ six_parts a b c d e f rest =
     append_assoc (a ++ b ++ c ++ d ++ e) f rest ∙ (append_assoc (a ++ b ++ c ++ d) e (f ++ rest) ∙ (append_assoc (a ++ b ++ c) d (e ++ (f ++ rest)) ∙ (append_assoc (a ++ b) c (d ++ (e ++ (f ++ rest))) ∙ append_assoc a b (c ++ (d ++ (e ++ (f ++ rest)))))))
 
 -- The two numbers of a place.
-pub place_parts : (bytes rest : List ℕ) (p : Place) → bytes ≡ place_bytes p ++ rest → bytes ≡ be64 p.gen_ ++ (be64 p.length ++ rest)
+pub place_parts : (bytes rest : List ℕ) (p : Place) → bytes ≡ place_bytes p ++ rest → bytes ≡ be64 p.generation ++ (be64 p.length ++ rest)
 unfolding place_bytes
-place_parts bytes rest p is = is ∙ append_assoc (be64 p.gen_) (be64 p.length) rest
+place_parts bytes rest p is = is ∙ append_assoc (be64 p.generation) (be64 p.length) rest
 
 -- A place of two numbers.
-pub place_is : (gen_ long : ℕ) (p : Place) → gen_ ≡ p.gen_ → long ≡ p.length → record { gen_ = gen_; length = long } ≡ p
-place_is gen_ long p a b = λ i. record { gen_ = a i; length = b i }
+pub place_is : (generation long : ℕ) (p : Place) → generation ≡ p.generation → long ≡ p.length → record { generation = generation; length = long } ≡ p
+place_is generation long p a b = λ i. record { generation = a i; length = b i }
 
 -- The parts of a name.
 pub record NameParts (bytes rest text : List ℕ) : Type 0 where
@@ -34,7 +34,7 @@ pub record NameParts (bytes rest text : List ℕ) : Type 0 where
   pub after : drop 65 bytes ≡ rest
 
 -- A name is its length, its text and zeros.
-pub name_parts : (bytes rest text : List ℕ) → IsName text → bytes ≡ name_bytes text ++ rest → NameParts bytes rest text
+pub name_parts : (bytes rest text : List ℕ) → IsArchiveName text → bytes ≡ name_bytes text ++ rest → NameParts bytes rest text
 unfolding name_bytes
 name_parts bytes rest text valid is =
     let front : take 65 bytes ≡ name_bytes text = front_is 65 bytes (name_bytes text) rest (name_length text valid) is in
@@ -77,8 +77,8 @@ pub none_isnt : {A : Type 0} (found : Option A) (x : A) → found ≡ None → f
 none_isnt found x a b = subst (λ (o : Option _). HasValue o) (sym b ∙ a) tt
 
 -- A name that is found.
-pub found_is : (found : Option (List ℕ)) (given text : List ℕ) → given ≡ text → IsName text → IfSome found (λ name. (name ≡ given) × IsName given) → IfNone found (IsName given → ⊥) → found ≡ Some text
-found_is None given text is valid some none = absurd (none (subst IsName (sym is) valid))
+pub found_is : (found : Option (List ℕ)) (given text : List ℕ) → given ≡ text → IsArchiveName text → IfSome found (λ name. (name ≡ given) × IsArchiveName given) → IfNone found (IsArchiveName given → ⊥) → found ≡ Some text
+found_is None given text is valid some none = absurd (none (subst IsArchiveName (sym is) valid))
 found_is (Some name) given text is valid some none = ap (λ (t : List ℕ). Some t) (some.0 ∙ is)
 
 -- The text after its length.

@@ -2,16 +2,16 @@
 use Rattle.std.specs.Prelude.{◌≡◌, ◌<◌, ℕ, ◌+◌, Option, Some, None, List, [], ◌∷◌, ◌++◌, length, get_or, drop, replicate, refl}
 use Rattle.std.proofs.Common.{◌∙◌, ap, subst, inl, inr, arith}
 use Rattle.std.proofs.lemmas.List.{append-nil, drop_all, replicate-append-replicate}
-use Rattle.disk_model.specs.Disk.{File, Files, Kept, Content, Sure, Image, Told, WhereTold, OneFile, Fits, Within, exact, bytes_of, overlay, write_sure, remove_sure, IsAtMostLength, ReadsFit}
-use Rattle.disk_model.specs.Laws.{Fits-Within}
-use Rattle.disk_model.specs.Synced.{Writing, IsWritten}
+use Rattle.disk_model.specs.Disk.{File, Files, Kept, Content, Survival, Image, BothTold, WhereTold, OneFile, MaySurvive, Within, exact, bytes_of, overlay, write_sure, remove_sure, IsAtMostLength, ReadsFit}
+use Rattle.disk_model.specs.Laws.{MaySurvive-Within}
+use Rattle.disk_model.specs.Synced.{WritingLeaves, IsWritten}
 use Rattle.disk_model.specs.Tells.{told_then}
 use Rattle.root_slots.specs.RootName.{root_name}
 use Rattle.root_slots.specs.Each.{elsewhere_before}
-use Rattle.root_slots.specs.Slots.{IsShutFile, EachShut, LeavesShut, OthersStay, IsBegun, IsCleared, RootBecomes, StillShut}
+use Rattle.root_slots.specs.Slots.{IsShutFile, EachShut, LeavesShut, OthersStayInImage, IsBegun, IsCleared, RootBecomes, StillShut}
 
 -- What may be left while the file is removed.
-still_shut : (s : Sure) (file : File) → ((f : File) → Fits s f → IsShutFile f) → Fits (remove_sure s) file → IsShutFile file
+still_shut : (s : Survival) (file : File) → ((f : File) → MaySurvive s f → IsShutFile f) → MaySurvive (remove_sure s) file → IsShutFile file
 still_shut s None each fits = tt
 still_shut s (Some bytes) each fits = each (Some bytes) (record { there = fits.there; no_shorter = fits.no_shorter; no_longer = fits.no_longer; outside = fits.outside })
 
@@ -21,17 +21,17 @@ shut_at_start None image left = tt
 shut_at_start (Some k) image left = record { root = λ each. each (image root_name) (left root_name); elsewhere = λ other apart. left other }
 
 -- After it was removed, or a removal failed.
-pub shut_removed : (P : Kept → Kept → Type 0) (k m : Option Content) (image : Files) → ((a b : Kept) → P a b → Within b.sure (remove_sure a.sure)) → Told (OneFile root_name P) k m → Image m image → StillShut k image
+pub shut_removed : (P : Kept → Kept → Type 0) (k m : Option Content) (image : Files) → ((a b : Kept) → P a b → Within b.sure (remove_sure a.sure)) → BothTold (OneFile root_name P) k m → Image m image → StillShut k image
 shut_removed P None m image crash told left = tt
 shut_removed P (Some k) None image crash told left = absurd told
 shut_removed P (Some k) (Some m) image crash told left = record {
-  root = λ each. still_shut (k root_name).sure (image root_name) each (Fits-Within (m root_name).sure (remove_sure (k root_name).sure) (image root_name) (crash (k root_name) (m root_name) told.here) (left root_name));
-  elsewhere = λ other apart. subst (λ (kept : Kept). Fits kept.sure (image other)) (told.elsewhere other apart) (left other);
+  root = λ each. still_shut (k root_name).sure (image root_name) each (MaySurvive-Within (m root_name).sure (remove_sure (k root_name).sure) (image root_name) (crash (k root_name) (m root_name) told.here) (left root_name));
+  elsewhere = λ other apart. subst (λ (kept : Kept). MaySurvive kept.sure (image other)) (told.elsewhere other apart) (left other);
 }
 
 -- What may be left while zeros are written.
 abbrev ZerosShut : File → ℕ → ℕ → Type 0
-ZerosShut seen at n = (s : Sure) (file : File) → Within s (exact seen) → Fits (write_sure at n seen s) file → IsShutFile file
+ZerosShut seen at n = (s : Survival) (file : File) → Within s (exact seen) → MaySurvive (write_sure at n seen s) file → IsShutFile file
 
 pub first_zeros : ZerosShut None 0 2
 first_zeros s None small fits = tt
@@ -47,18 +47,18 @@ other_zeros s (Some bytes) small fits =
     inr (λ opened. (let zero = zero_at 0 (omega arith) in absurd (omega (arith, zero, opened))), λ opened. (let zero = zero_at 1 (omega arith) in absurd (omega (arith, zero, opened))))
 
 -- No slot is open while zeros are written.
-pub shut_writing : (seen : File) (at n : ℕ) (k m : Option Content) (image : Files) → ZerosShut seen at n → ReadsFit k → Told (RootBecomes seen) k m → Writing root_name at n m image → StillShut k image
+pub shut_writing : (seen : File) (at n : ℕ) (k m : Option Content) (image : Files) → ZerosShut seen at n → ReadsFit k → BothTold (RootBecomes seen) k m → WritingLeaves root_name at n m image → StillShut k image
 shut_writing seen at n None m image zeros fit became writing = tt
 shut_writing seen at n (Some k) None image zeros fit became writing = absurd became
 shut_writing seen at n (Some k) (Some m) image zeros fit became writing = record {
   root = λ each.
       zeros (m root_name).sure (image root_name) (subst (λ (f : File). Within (m root_name).sure (exact f)) became.root (became.settled root_name))
-      (subst (λ (f : File). Fits (write_sure at n f (m root_name).sure) (image root_name)) became.root writing.here);
+      (subst (λ (f : File). MaySurvive (write_sure at n f (m root_name).sure) (image root_name)) became.root writing.here);
   elsewhere = λ other apart. elsewhere_before k m image fit became.settled became.elsewhere other apart (writing.elsewhere other apart);
 }
 
 -- After a write.
-pub became : (seen : File) (at : ℕ) (bytes : List ℕ) (k m n : Option Content) → Told (RootBecomes seen) k m → Told (IsWritten root_name at bytes) m n → Told (RootBecomes (Some (overlay at bytes (bytes_of seen)))) k n
+pub became : (seen : File) (at : ℕ) (bytes : List ℕ) (k m n : Option Content) → BothTold (RootBecomes seen) k m → BothTold (IsWritten root_name at bytes) m n → BothTold (RootBecomes (Some (overlay at bytes (bytes_of seen)))) k n
 became seen at bytes k m n =
     told_then (RootBecomes seen) (IsWritten root_name at bytes) (RootBecomes (Some (overlay at bytes (bytes_of seen)))) k m n
     (λ x y z is told first last. record {
@@ -68,7 +68,7 @@ became seen at bytes k m n =
     })
 
 -- The two zeros.
-pub two_zeros : (k m : Option Content) → Told (RootBecomes (Some (0 ∷ 0 ∷ []))) k m → WhereTold (IsAtMostLength root_name 2) m
+pub two_zeros : (k m : Option Content) → BothTold (RootBecomes (Some (0 ∷ 0 ∷ []))) k m → WhereTold (IsAtMostLength root_name 2) m
 two_zeros k None became = tt
 two_zeros None (Some m) became = absurd became
 two_zeros (Some k) (Some m) became = rw became.root (omega arith)
@@ -80,15 +80,15 @@ zeros_over n =
     ap (λ (rest : List ℕ). (0 ∷ 0 ∷ []) ++ replicate n 0 ++ rest) past ∙ (append-nil ((0 ∷ 0 ∷ []) ++ replicate n 0) ∙ replicate-append-replicate 2 n 0)
 
 -- The state at the end.
-pub begun : (k m n : Option Content) → Told (RootBecomes (Some (0 ∷ 0 ∷ []))) k m → Told (IsWritten root_name 2 (replicate 4094 0)) m n → Told IsBegun k n
+pub begun : (k m n : Option Content) → BothTold (RootBecomes (Some (0 ∷ 0 ∷ []))) k m → BothTold (IsWritten root_name 2 (replicate 4094 0)) m n → BothTold IsBegun k n
 begun k m n first last =
-    subst (λ (zeros : List ℕ). Told (RootBecomes (Some zeros)) k n) (zeros_over 4094) (became (Some (0 ∷ 0 ∷ [])) 2 (replicate 4094 0) k m n first last)
+    subst (λ (zeros : List ℕ). BothTold (RootBecomes (Some zeros)) k n) (zeros_over 4094) (became (Some (0 ∷ 0 ∷ [])) 2 (replicate 4094 0) k m n first last)
 
 -- No slot is open if none was, and other files stay.
 pub to_shut : (k : Option Content) (image : Files) → EachShut k → StillShut k image → LeavesShut k image
 to_shut None image each still = tt
 to_shut (Some k) image each still = record { root = still.root each; elsewhere = still.elsewhere }
 
-pub to_others : (k : Option Content) (image : Files) → StillShut k image → OthersStay k image
+pub to_others : (k : Option Content) (image : Files) → StillShut k image → OthersStayInImage k image
 to_others None image still = tt
 to_others (Some k) image still = still.elsewhere

@@ -4,8 +4,8 @@ use Rattle.std.proofs.Common.{◌∙◌, sym, subst, inl, inr, arith, length-tak
 use Rattle.std.proofs.lemmas.Grind.{same_number_lists}
 use Rattle.std.proofs.lemmas.List.{get_or-take, get_or-drop}
 use Rattle.disk_model.specs.declared.name.FileName.{FileName}
-use Rattle.disk_model.specs.Disk.{File, Files, Content, Told, Fits, exact, bytes_of, overlay, ReadsFit}
-use Rattle.disk_model.specs.Laws.{SameOutside, TornFile, Fits-exact, Fits-Within}
+use Rattle.disk_model.specs.Disk.{File, Files, Content, BothTold, MaySurvive, exact, bytes_of, overlay, ReadsFit}
+use Rattle.disk_model.specs.Laws.{SameOutside, TornFile, MaySurvive-exact, MaySurvive-Within}
 use Rattle.disk_model.specs.Synced.{IsSettled, IsWriting, IsWritten, writing_inside}
 use Rattle.root_slots.specs.RootName.{root_name}
 
@@ -17,7 +17,7 @@ IfThere P (Some bytes) = P bytes
 -- The disk tells its content, and each root file that a crash may leave has the property.
 abbrev pub EachRoot : (List ℕ → Type 0) → Option Content → Type 0
 EachRoot P None = ⊥
-EachRoot P (Some k) = (file : File) → Fits (k root_name).sure file → IfThere P file
+EachRoot P (Some k) = (file : File) → MaySurvive (k root_name).sure file → IfThere P file
 
 -- A part outside the range of a write stays.
 pub part_stays : (at n : ℕ) (old new : List ℕ) (from count : ℕ) → SameOutside at n old new → (from
@@ -45,9 +45,9 @@ over_torn P Q at n step (Some a) (Some b) holds torn = step a b holds torn
 
 -- A crash leaves a file of a settled disk as it reads.
 pub settled_file : (k : Content) (name : FileName) (file : File) → IsSettled k
-    → Fits (k name).sure file → file ≡ (k name).seen
-settled_file k name file settled fits = Fits-exact (k name).seen file
-    (Fits-Within (k name).sure (exact (k name).seen) file (settled name) fits)
+    → MaySurvive (k name).sure file → file ≡ (k name).seen
+settled_file k name file settled fits = MaySurvive-exact (k name).seen file
+    (MaySurvive-Within (k name).sure (exact (k name).seen) file (settled name) fits)
 
 -- What the root file has during a write inside it.
 pub each_writing : (P Q : List ℕ → Type 0) (at n : ℕ) (k : Content) (image : Files)
@@ -61,7 +61,7 @@ each_writing P Q at n k image fit inside some each step writing =
 -- What the root file has after a write inside it that is synced.
 pub each_written : (P Q : List ℕ → Type 0) (at : ℕ) (bytes : List ℕ) (old new : Option Content)
     → ReadsFit old → EachRoot P old → ((a : List ℕ) → P a → Q (overlay at bytes a))
-    → Told (IsWritten root_name at bytes) old new → EachRoot Q new
+    → BothTold (IsWritten root_name at bytes) old new → EachRoot Q new
 each_written P Q at bytes None new fit each step written = absurd each
 each_written P Q at bytes (Some k) None fit each step written = absurd written
 each_written P Q at bytes (Some k) (Some m) fit each step written = λ file fits.
@@ -76,8 +76,8 @@ each_written P Q at bytes (Some k) (Some m) fit each step written = λ file fits
 -- before it might have.
 pub elsewhere_before : (k m : Content) (image : Files) → ReadsFit (Some k) → IsSettled m
     → ((other : FileName) → other ≢ root_name → (m other).seen ≡ (k other).seen)
-    → (other : FileName) → other ≢ root_name → Fits (m other).sure (image other)
-    → Fits (k other).sure (image other)
+    → (other : FileName) → other ≢ root_name → MaySurvive (m other).sure (image other)
+    → MaySurvive (k other).sure (image other)
 elsewhere_before k m image fit settled same other apart fits =
     let is = settled_file m other (image other) settled fits ∙ same other apart in
-    subst (λ (f : File). Fits (k other).sure f) (sym is) (fit k refl other)
+    subst (λ (f : File). MaySurvive (k other).sure f) (sym is) (fit k refl other)

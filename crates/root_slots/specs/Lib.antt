@@ -3,6 +3,6 @@ pub mod Spelling
 pub mod Valid
 pub mod Each
 pub mod Slots
-pub mod Sizes
 pub mod Between
 pub mod Laws
+pub mod Sizes

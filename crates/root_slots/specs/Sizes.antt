@@ -1,11 +1,11 @@
--- The lengths of the parts of a root, and where its sequence is.
+-- Lemmas for proofs: the lengths of the parts of a root, and where its sequence is.
 use Rattle.std.specs.Prelude.{◌≡◌, ◌<◌, ◌≤◌, ◌^◌, ◌*◌, ℕ, List, [], ◌∷◌, ◌++◌, length, replicate, ◌-◌}
 use Rattle.std.specs.List.{flat_map}
 use Rattle.std.proofs.Common.{arith, length-append}
 use Rattle.std.proofs.lemmas.List.{length-replicate}
 use Rattle.std.proofs.lemmas.Nat.{from_be_bytes-to_be_bytes_8}
 use Rattle.arch_base.specs.declared.config.Config.{Config}
-use Rattle.arch_base.specs.Names.{IsName}
+use Rattle.arch_base.specs.Names.{IsArchiveName}
 use Rattle.root_slots.specs.declared.root.Place.{Place}
 use Rattle.root_slots.specs.declared.root.Root.{Root}
 use Rattle.disk_model.specs.Sizes.{epoch_count}
@@ -18,9 +18,9 @@ pub place_length : (p : Place) → length (place_bytes p) ≡ 16
 unfolding place_bytes
 place_length p = omega (
   arith,
-  length-append (be64 p.gen_)
+  length-append (be64 p.generation)
       (be64 p.length),
-  be64_length p.gen_,
+  be64_length p.generation,
   be64_length p.length,
 )
 
@@ -36,7 +36,7 @@ places_length (p ∷ ps) = omega (
 )
 
 -- A name takes 65 bytes.
-pub name_length : (name : List ℕ) → IsName name → length (name_bytes name) ≡ 65
+pub name_length : (name : List ℕ) → IsArchiveName name → length (name_bytes name) ≡ 65
 unfolding name_bytes
 name_length name valid =
     let short = valid.short in
@@ -50,7 +50,7 @@ name_length name valid =
     )
 
 -- The format and the settings take 87 bytes.
-pub config_length : (c : Config) → IsName c.name → length (config_bytes c) ≡ 87
+pub config_length : (c : Config) → IsArchiveName c.name → length (config_bytes c) ≡ 87
 unfolding config_bytes
 config_length c valid =
     let a = (1 ∷ flag c.mirror ∷ []) ++ name_bytes c.name in
@@ -75,7 +75,7 @@ config_length c valid =
     )
 
 -- The fields take 1,155 bytes.
-pub fields_length : (r : Root) → IsName r.config.name → length r.epochs ≡ epoch_count
+pub fields_length : (r : Root) → IsArchiveName r.config.name → length r.epochs ≡ epoch_count
     → length (fields r) ≡ 1155
 unfolding fields
 fields_length r valid count =
@@ -103,7 +103,7 @@ fields_length r valid count =
     )
 
 -- A spelling takes 1,536 bytes.
-pub spelling_length : (r : Root) → IsName r.config.name → length r.epochs ≡ epoch_count
+pub spelling_length : (r : Root) → IsArchiveName r.config.name → length r.epochs ≡ epoch_count
     → length (spelling r) ≡ body_size
 unfolding spelling
 spelling_length r valid count = let size = fields_length r valid count in

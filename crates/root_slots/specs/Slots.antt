@@ -3,7 +3,7 @@ use Rattle.std.specs.Prelude.{◌≡◌, ◌≢◌, ◌⊎◌, Bool, true, false
 use Rattle.std.specs.Int.{from_be_bytes, w64}
 use Rattle.std.proofs.Common.{arith}
 use Rattle.disk_model.specs.declared.name.FileName.{FileName}
-use Rattle.disk_model.specs.Disk.{File, Files, Content, Fits, WhereTold, bytes_of, overlay}
+use Rattle.disk_model.specs.Disk.{File, Files, Content, MaySurvive, WhereTold, bytes_of, overlay}
 use Rattle.disk_model.specs.Laws.{SameOutside}
 use Rattle.disk_model.specs.Synced.{IsSettled}
 use Rattle.root_slots.specs.declared.root.Root.{Root}
@@ -43,12 +43,12 @@ HasRootSize k = length (bytes_of (k root_name).seen) ≡ root_size
 
 -- All other files are as a crash before might have left them.
 abbrev pub Elsewhere : Content → Files → Type 0
-Elsewhere k image = (other : FileName) → other ≢ root_name → Fits (k other).sure (image other)
+Elsewhere k image = (other : FileName) → other ≢ root_name → MaySurvive (k other).sure (image other)
 
 -- The same, if the disk tells its content.
-abbrev pub OthersStay : Option Content → Files → Type 0
-OthersStay None image = Unit {0}
-OthersStay (Some k) image = Elsewhere k image
+abbrev pub OthersStayInImage : Option Content → Files → Type 0
+OthersStayInImage None image = Unit {0}
+OthersStayInImage (Some k) image = Elsewhere k image
 
 -- The gate of a slot: 1 is open, any other byte is shut.
 abbrev pub gate : List ℕ → ℕ → ℕ
@@ -138,7 +138,7 @@ AreBoth P (Some old) None = ⊥
 -- files are as such a crash might have left them.
 pub record ComesBy (P : List ℕ → List ℕ → Type 0) (k : Content) (image : Files) : Type 0 where
   pub file : File
-  pub fits : Fits (k root_name).sure file
+  pub fits : MaySurvive (k root_name).sure file
   pub by : AreBoth P file (image root_name)
   pub elsewhere : Elsewhere k image
 
@@ -156,19 +156,19 @@ abbrev pub IsShut : List ℕ → Type 0
 IsShut file = (length file ≢ root_size) ⊎ ((gate file 0 ≢ 1) × (gate file 1 ≢ 1))
 
 -- The body of the current slot spells no root; the offset is that of the body.
-pub record IsDamaged (at : ℕ) (file : List ℕ) : Type 0 where
+pub record SpellsNoRoot (at : ℕ) (file : List ℕ) : Type 0 where
   pub slot : ℕ
   pub current : Current slot (body_at file slot) file
   pub offset : at ≡ body_offset slot
   pub none : (r : Root) → RootFits r → IsRoot r → body_at file slot ≢ spelling r
 
 -- The results of reading a root file with these bytes.
-abbrev pub Answers : List ℕ → Result (Option (Slot × Root)) RootRefusal → Type 0
-Answers file (Ok None) = IsShut file
-Answers file (Ok (Some found)) = Current (slot_number found.0) (spelling found.1) file
+abbrev pub ReadsRootFile : List ℕ → Result (Option (Slot × Root)) RootRefusal → Type 0
+ReadsRootFile file (Ok None) = IsShut file
+ReadsRootFile file (Ok (Some found)) = Current (slot_number found.0) (spelling found.1) file
     × IsRoot found.1
-Answers file (Err (Damaged at)) = IsDamaged at file
-Answers file (Err DiskFault) = Unit {0}
+ReadsRootFile file (Err (Damaged at)) = SpellsNoRoot at file
+ReadsRootFile file (Err DiskFault) = Unit {0}
 
 -- A current root that is spelled in the file is the one read, unless the disk failed.
 abbrev pub ReadsBack : List ℕ → Result (Option (Slot × Root)) RootRefusal → Type 0
@@ -186,7 +186,7 @@ IsShutFile (Some bytes) = IsShut bytes
 -- No crash leaves an open slot.
 abbrev pub EachShut : Option Content → Type 0
 EachShut None = Unit {0}
-EachShut (Some k) = (file : File) → Fits (k root_name).sure file → IsShutFile file
+EachShut (Some k) = (file : File) → MaySurvive (k root_name).sure file → IsShutFile file
 
 -- No slot is open, and all other files are as a crash before might have left them.
 pub record StaysShut (k : Content) (image : Files) : Type 0 where

@@ -12,7 +12,7 @@ body_size = 1536
 
 -- A file's generation, then its length.
 unfoldable pub place_bytes : Place → List ℕ
-place_bytes p = be64 p.gen_ ++ be64 p.length
+place_bytes p = be64 p.generation ++ be64 p.length
 
 -- 1 for yes, 0 for no.
 abbrev pub flag : Bool → ℕ

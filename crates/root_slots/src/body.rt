@@ -1,4 +1,5 @@
 //! The bytes of a root.
+//! Pure.
 ghost use Rattle.std.specs.Prelude.{◌≡◌, ◌+◌, ◌-◌, ◌≤◌, [], ◌++◌, List, ℕ, length, replicate};
 ghost use Rattle.std.specs.List.{flat_map};
 ghost use Rattle.disk_model.specs.BigEndian.{be32, be64};
@@ -89,7 +90,7 @@ impl Body {
         ensures bytes { self.new ≡ self.old ++ place_bytes place.now }
         ensures size { length self.new ≡ length self.old + 16 }
     {
-        self.push_u64(place.gen_);
+        self.push_u64(place.generation);
         self.push_u64(place.length);
     }
 

@@ -1,13 +1,14 @@
 //! Reads the current root of a root file.
+//! Pure.
 ghost use Rattle.std.specs.Prelude.{◌≡◌, ◌≢◌, ◌↔◌, ◌<◌, Ok, Err, Some, length, IsTrue, IfOk, IfSome, IfNone};
 ghost use Rattle.arch_base.specs.Counts.{RoseIf, HasCause};
 ghost use Rattle.arch_base.specs.Configs.{IsConfig};
-ghost use Rattle.disk_model.specs.Disk.{Image, Told, WhereTold, Unchanged, LeavesOnly, bytes_of};
+ghost use Rattle.disk_model.specs.Disk.{Image, BothTold, WhereTold, Unchanged, LeavesOnly, bytes_of};
 ghost use Rattle.root_slots.specs.declared.root.Root.{Root};
 ghost use Rattle.root_slots.specs.RootName.{root_name};
 ghost use Rattle.root_slots.specs.Spelling.{body_size, spelling};
 ghost use Rattle.root_slots.specs.Valid.{RootFits, PlaceIsValid, IsRoot};
-ghost use Rattle.root_slots.specs.Slots.{root_size, slot_number, gate, body_at, sequence_of, Current, Answers, ReadsBack, AreRootBytes};
+ghost use Rattle.root_slots.specs.Slots.{root_size, slot_number, gate, body_at, sequence_of, Current, ReadsRootFile, ReadsBack, AreRootBytes};
 
 use crate::body::spell;
 use crate::parts::{number64, root_of};
@@ -35,7 +36,7 @@ fn config_is_valid(config: &Config) -> bool
 fn place_is_valid(place: &Place, sequence: u64) -> bool
     ensures { IsTrue result ↔ PlaceIsValid sequence place.now }
 {
-    place.gen_ <= sequence && (place.length != 0 || place.gen_ == 0)
+    place.generation <= sequence && (place.length != 0 || place.generation == 0)
 }
 
 /// Returns whether each field of a root is in its range.
@@ -46,7 +47,7 @@ pub fn is_valid(root: &Root) -> bool
     if !config_is_valid(&root.config) || root.next < 1 || root.next > 2_147_483_648 {
         return false;
     }
-    if root.map.gen_ > sequence
+    if root.map.generation > sequence
         || root.map.length != RECORD_SIZE as u64 * (u64::from(root.next) - 1)
     {
         return false;
@@ -108,7 +109,7 @@ fn newest_slot(file: &[u8]) -> Option<Slot>
 /// Returns the current root of a root file, and its slot.
 fn find(file: &[u8]) -> Result<Option<(Slot, Root)>, RootRefusal>
     requires { length file.now ≡ root_size }
-    ensures exact { Answers file.now result }
+    ensures exact { ReadsRootFile file.now result }
     ensures inverse { ReadsBack file.now result }
     ensures valid { IfOk result (λ found. IfSome found (λ one. IsRoot one.1)) }
     ensures no_fault { result ≢ Err RootRefusal.DiskFault }
@@ -127,8 +128,8 @@ fn find(file: &[u8]) -> Result<Option<(Slot, Root)>, RootRefusal>
 fn whole_file<D: Disk>(disk: &mut D, file: &mut [u8; ROOT_SIZE]) -> Result<bool, DiskFault>
     ensures whole { IfOk result (λ whole.
         WhereTold (AreRootBytes whole file.new) (D.content disk.old)) }
-    ensures same { Told Unchanged (D.content disk.old) (D.content disk.new) }
-    ensures any_moment { LeavesOnly D.moment D.left_since disk.old disk.new
+    ensures same { BothTold Unchanged (D.content disk.old) (D.content disk.new) }
+    ensures crash { LeavesOnly D.moment D.left_since disk.old disk.new
         (Image (D.content disk.old)) }
     ensures cause { HasCause (D.faults disk.old) (D.faults disk.new) result }
 {
@@ -148,14 +149,14 @@ fn whole_file<D: Disk>(disk: &mut D, file: &mut [u8; ROOT_SIZE]) -> Result<bool,
 /// current slot spells no root. A root file whose size isn't 4,096 bytes has no open slot.
 pub fn read<D: Disk>(disk: &mut D) -> Result<Option<(Slot, Root)>, RootRefusal>
     ensures exact { WhereTold (λ k.
-        Answers (bytes_of (k root_name).seen) result) (D.content disk.old) }
+        ReadsRootFile (bytes_of (k root_name).seen) result) (D.content disk.old) }
     // A root that is spelled there is read back.
     ensures inverse { WhereTold (λ k.
         ReadsBack (bytes_of (k root_name).seen) result) (D.content disk.old) }
     // The result has each field in its range, whatever the disk tells.
     ensures valid { IfOk result (λ found. IfSome found (λ one. IsRoot one.1)) }
-    ensures same { Told Unchanged (D.content disk.old) (D.content disk.new) }
-    ensures any_moment { LeavesOnly D.moment D.left_since disk.old disk.new
+    ensures same { BothTold Unchanged (D.content disk.old) (D.content disk.new) }
+    ensures crash { LeavesOnly D.moment D.left_since disk.old disk.new
         (Image (D.content disk.old)) }
     ensures cause { RoseIf (result ≡ Err RootRefusal.DiskFault) (D.faults disk.old) (D.faults disk.new) }
 {

@@ -1,4 +1,5 @@
 //! Laws of the bytes of roots, which other crates cite.
+//! Pure.
 ghost use Rattle.root_slots.specs.Laws.{SpellingsDiffer, SpellingsFill};
 
 /// Each root has bytes of its own, 1,536 of them.

@@ -1,4 +1,5 @@
 //! The root of an archive: one file with two slots.
+//! Writes the disk; syncs.
 //!
 //! A commit writes the slot that isn't current.
 #![tactic(auto)]

@@ -1,11 +1,12 @@
 //! Reads the parts of a root from its bytes.
+//! Pure.
 //!
 //! Each function reads its part from the front and returns the rest. Its contract says what is read
 //! if the bytes start with the spelling of a value; otherwise it may read any value.
 ghost use Rattle.std.specs.Prelude.{◌≡◌, ◌+◌, ◌<◌, ◌≤◌, ◌^◌, ◌++◌, Some, List, ℕ, length, get_or, take};
 ghost use Rattle.std.specs.List.{flat_map};
 ghost use Rattle.std.specs.Int.{from_be_bytes, w64};
-ghost use Rattle.arch_base.specs.Names.{IsName};
+ghost use Rattle.arch_base.specs.Names.{IsArchiveName};
 ghost use Rattle.arch_base.specs.Configs.{IsConfig};
 ghost use Rattle.arch_base.specs.declared.config.Config.{Config};
 ghost use Rattle.root_slots.specs.declared.root.Place.{Place};
@@ -53,15 +54,15 @@ fn place(bytes: &[u8]) -> (Place, &[u8])
         → (result.0 ≡ p) × (result.1.now ≡ rest) }
     ensures size { length result.1.now + 16 ≡ length bytes.now }
 {
-    let (gen_, rest) = number64(bytes);
+    let (generation, rest) = number64(bytes);
     let (length, rest) = number64(rest);
-    (Place { gen_, length }, rest)
+    (Place { generation, length }, rest)
 }
 
 /// Reads a name, if there is one.
 fn name(bytes: &[u8]) -> (Option<Name>, &[u8])
     requires { 65 ≤ length bytes.now }
-    ensures read { (text rest : List ℕ) → IsName text → bytes.now ≡ name_bytes text ++ rest
+    ensures read { (text rest : List ℕ) → IsArchiveName text → bytes.now ≡ name_bytes text ++ rest
         → (result.0 ≡ Some text) × (result.1.now ≡ rest) }
     ensures size { length result.1.now + 65 ≡ length bytes.now }
 {
@@ -77,7 +78,7 @@ fn name(bytes: &[u8]) -> (Option<Name>, &[u8])
 /// Reads settings, if they have a name.
 fn config(bytes: &[u8]) -> (Option<Config>, &[u8])
     requires { 87 ≤ length bytes.now }
-    ensures read { (c : Config) (rest : List ℕ) → IsName c.name → IsConfig c
+    ensures read { (c : Config) (rest : List ℕ) → IsArchiveName c.name → IsConfig c
         → bytes.now ≡ config_bytes c ++ rest → (result.0 ≡ Some c) × (result.1.now ≡ rest) }
     ensures size { length result.1.now + 87 ≡ length bytes.now }
 {
@@ -112,7 +113,10 @@ fn places(bytes: &[u8]) -> ([Place; EPOCHS as usize], &[u8])
         → bytes.now ≡ flat_map place_bytes ps ++ rest → (result.0 ≡ ps) × (result.1.now ≡ rest) }
     ensures size { length result.1.now + 1024 ≡ length bytes.now }
 {
-    let mut all = [Place { gen_: 0, length: 0 }; EPOCHS as usize];
+    let mut all = [Place {
+        generation: 0,
+        length: 0,
+    }; EPOCHS as usize];
     let mut rest = bytes;
     for i in 0..EPOCHS as usize {
         let (next, after) = place(rest);

@@ -1,4 +1,5 @@
 //! The errors of reading the root.
+//! Pure.
 use disk_model::DiskFault;
 use thiserror::Error;
 

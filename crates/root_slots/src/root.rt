@@ -1,4 +1,5 @@
 //! The root and what it names.
+//! Pure.
 ghost use Rattle.std.specs.Prelude.{◌≡◌};
 ghost use Rattle.root_slots.specs.Valid.{IsRoot, PlaceFits, RootFits};
 
@@ -9,7 +10,7 @@ use disk_model::EPOCHS;
 #[derive(Clone, Copy, Debug, PartialEq, Eq)]
 pub struct Place {
     /// The file's generation.
-    pub gen_: u64,
+    pub generation: u64,
     /// The number of its bytes that count.
     pub length: u64,
 }
@@ -51,7 +52,7 @@ impl Root {
 fn place_fits(place: Place)
     ensures { PlaceFits place }
 {
-    let _gen = place.gen_;
+    let _generation = place.generation;
     let _length = place.length;
 }
 

@@ -1,4 +1,5 @@
 //! The two slots of a root file, and where their bytes are.
+//! Pure.
 ghost use Rattle.std.specs.Prelude.{◌≡◌, ◌-◌, ◌≤◌};
 ghost use Rattle.root_slots.specs.Slots.{slot_number, body_offset};
 

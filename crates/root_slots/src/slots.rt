@@ -1,14 +1,15 @@
 //! The two slots, and the commit of a new root.
+//! Writes the disk; syncs.
 ghost use Rattle.std.specs.Prelude.{◌≡◌, ◌-◌, ◌<◌, ◌∷◌, [], ℕ, List, length, OnOk, IfOk};
 ghost use Rattle.arch_base.specs.Counts.{HasCause};
-ghost use Rattle.disk_model.specs.Disk.{Image, Told, WhereTold, Unchanged, LeavesOnly};
-ghost use Rattle.disk_model.specs.Synced.{Writing, IsWritten};
+ghost use Rattle.disk_model.specs.Disk.{Image, BothTold, WhereTold, Unchanged, LeavesOnly};
+ghost use Rattle.disk_model.specs.Synced.{WritingLeaves, IsWritten};
 ghost use Rattle.root_slots.specs.RootName.{root_name};
 ghost use Rattle.root_slots.specs.Between.{RunsBetween};
 ghost use Rattle.root_slots.specs.Each.{EachRoot};
 ghost use Rattle.root_slots.specs.Spelling.{body_size, spelling};
 ghost use Rattle.root_slots.specs.Valid.{IsRoot};
-ghost use Rattle.root_slots.specs.Slots.{slot_number, HasRootSize, IsGateOpen, body_offset, sequence_of, Current, Ready, OthersStay, IsOldOrNew, HasNewRoot, IsCommitted, IsInCommit, ComesBy};
+ghost use Rattle.root_slots.specs.Slots.{slot_number, HasRootSize, IsGateOpen, body_offset, sequence_of, Current, Ready, OthersStayInImage, IsOldOrNew, HasNewRoot, IsCommitted, IsInCommit, ComesBy};
 
 use crate::body::spell;
 use crate::root::Root;
@@ -22,7 +23,7 @@ pub fn root_file() -> FileName
     FileName {
         kind: FileKind::Root,
         number: 0,
-        gen_: 0,
+        generation: 0,
     }
 }
 
@@ -30,8 +31,8 @@ pub fn root_file() -> FileName
 pub fn is_open<D: Disk>(disk: &mut D, slot: Slot) -> Result<bool, DiskFault>
     ensures gate { IfOk result (λ open_.
         WhereTold (IsGateOpen (slot_number slot) open_) (D.content disk.old)) }
-    ensures same { Told Unchanged (D.content disk.old) (D.content disk.new) }
-    ensures any_moment { LeavesOnly D.moment D.left_since disk.old disk.new
+    ensures same { BothTold Unchanged (D.content disk.old) (D.content disk.new) }
+    ensures crash { LeavesOnly D.moment D.left_since disk.old disk.new
         (Image (D.content disk.old)) }
     ensures cause { HasCause (D.faults disk.old) (D.faults disk.new) result }
 {
@@ -43,9 +44,9 @@ pub fn is_open<D: Disk>(disk: &mut D, slot: Slot) -> Result<bool, DiskFault>
 /// Shuts the gate of a slot, and syncs.
 pub fn shut<D: Disk>(disk: &mut D, slot: Slot) -> Result<(), DiskFault>
     requires size { WhereTold HasRootSize (D.content disk.old) }
-    ensures any_moment { LeavesOnly D.moment D.left_since disk.old disk.new
-        (Writing root_name (slot_number slot) 1 (D.content disk.old)) }
-    ensures written { OnOk result (Told (IsWritten root_name (slot_number slot)
+    ensures crash { LeavesOnly D.moment D.left_since disk.old disk.new
+        (WritingLeaves root_name (slot_number slot) 1 (D.content disk.old)) }
+    ensures written { OnOk result (BothTold (IsWritten root_name (slot_number slot)
         (0 ∷ [])) (D.content disk.old) (D.content disk.new)) }
     ensures cause { HasCause (D.faults disk.old) (D.faults disk.new) result }
     ensures count { D.reads disk.new ≡ D.reads disk.old }
@@ -57,9 +58,9 @@ pub fn shut<D: Disk>(disk: &mut D, slot: Slot) -> Result<(), DiskFault>
 pub fn fill<D: Disk>(disk: &mut D, slot: Slot, root: &Root) -> Result<(), DiskFault>
     requires size { WhereTold HasRootSize (D.content disk.old) }
     requires root { IsRoot root.now }
-    ensures any_moment { LeavesOnly D.moment D.left_since disk.old disk.new
-        (Writing root_name (body_offset (slot_number slot)) body_size (D.content disk.old)) }
-    ensures written { OnOk result (Told (IsWritten root_name (body_offset (slot_number slot))
+    ensures crash { LeavesOnly D.moment D.left_since disk.old disk.new
+        (WritingLeaves root_name (body_offset (slot_number slot)) body_size (D.content disk.old)) }
+    ensures written { OnOk result (BothTold (IsWritten root_name (body_offset (slot_number slot))
         (spelling root.now)) (D.content disk.old) (D.content disk.new)) }
     ensures whole { length (spelling root.now) ≡ body_size }
     ensures cause { HasCause (D.faults disk.old) (D.faults disk.new) result }
@@ -71,9 +72,9 @@ pub fn fill<D: Disk>(disk: &mut D, slot: Slot, root: &Root) -> Result<(), DiskFa
 /// Opens the gate of a slot, and syncs.
 pub fn raise<D: Disk>(disk: &mut D, slot: Slot) -> Result<(), DiskFault>
     requires size { WhereTold HasRootSize (D.content disk.old) }
-    ensures any_moment { LeavesOnly D.moment D.left_since disk.old disk.new
-        (Writing root_name (slot_number slot) 1 (D.content disk.old)) }
-    ensures written { OnOk result (Told (IsWritten root_name (slot_number slot)
+    ensures crash { LeavesOnly D.moment D.left_since disk.old disk.new
+        (WritingLeaves root_name (slot_number slot) 1 (D.content disk.old)) }
+    ensures written { OnOk result (BothTold (IsWritten root_name (slot_number slot)
         (1 ∷ [])) (D.content disk.old) (D.content disk.new)) }
     ensures cause { HasCause (D.faults disk.old) (D.faults disk.new) result }
     ensures count { D.reads disk.new ≡ D.reads disk.old }
@@ -86,12 +87,12 @@ pub fn raise<D: Disk>(disk: &mut D, slot: Slot) -> Result<(), DiskFault>
 fn write_slot<D: Disk>(disk: &mut D, slot: Slot, root: &Root) -> Result<(), DiskFault>
     requires size { WhereTold HasRootSize (D.content disk.old) }
     requires root { IsRoot root.now }
-    ensures any_moment { LeavesOnly D.moment D.left_since disk.old disk.new (λ image.
+    ensures crash { LeavesOnly D.moment D.left_since disk.old disk.new (λ image.
         WhereTold (λ k. ComesBy (IsInCommit (slot_number slot) (spelling root.now)) k image)
         (D.content disk.old)) }
-    ensures written { OnOk result (Told (HasNewRoot (slot_number slot) (spelling root.now))
+    ensures written { OnOk result (BothTold (HasNewRoot (slot_number slot) (spelling root.now))
         (D.content disk.old) (D.content disk.new)
-        × Told IsCommitted (D.content disk.old) (D.content disk.new)
+        × BothTold IsCommitted (D.content disk.old) (D.content disk.new)
         × (length (spelling root.now) ≡ body_size)) }
     ensures cause { HasCause (D.faults disk.old) (D.faults disk.new) result }
     ensures count { D.reads disk.new ≡ D.reads disk.old }
@@ -109,7 +110,7 @@ pub fn commit<D: Disk>(disk: &mut D, slot: Slot, root: &Root) -> Result<(), Disk
     requires root { IsRoot root.now }
 
     // At each moment a crash leaves the old root or the new one, and all other files as before.
-    ensures any_moment { (old : List ℕ) → EachRoot (Ready (slot_number slot) old)
+    ensures crash { (old : List ℕ) → EachRoot (Ready (slot_number slot) old)
         (D.content disk.old) → sequence_of old < root.now.sequence
         → LeavesOnly D.moment D.left_since disk.old disk.new
         (IsOldOrNew old (spelling root.now) (D.content disk.old)) }
@@ -125,15 +126,15 @@ pub fn commit<D: Disk>(disk: &mut D, slot: Slot, root: &Root) -> Result<(), Disk
         (EachRoot (Ready (1 - slot_number slot) (spelling root.now)) (D.content disk.new)) }
     // No other file changes, whatever the root file holds.
     ensures elsewhere { LeavesOnly D.moment D.left_since disk.old disk.new
-        (OthersStay (D.content disk.old)) }
+        (OthersStayInImage (D.content disk.old)) }
     // After `Ok` the slot has the body and an open gate, and the rest of the root file is as it
     // was.
-    ensures written { OnOk result (Told (HasNewRoot (slot_number slot) (spelling root.now))
+    ensures written { OnOk result (BothTold (HasNewRoot (slot_number slot) (spelling root.now))
         (D.content disk.old) (D.content disk.new)) }
     ensures whole { OnOk result (length (spelling root.now) ≡ body_size) }
-    ensures committed { OnOk result (Told IsCommitted (D.content disk.old) (D.content disk.new)) }
+    ensures committed { OnOk result (BothTold IsCommitted (D.content disk.old) (D.content disk.new)) }
     // At each moment the bytes between the gates and the bodies are as before.
-    ensures between { RunsBetween D.content D.moment D.left_since disk.old disk.new }
+    ensures crash_between { RunsBetween D.content D.moment D.left_since disk.old disk.new }
     ensures cause { HasCause (D.faults disk.old) (D.faults disk.new) result }
     ensures count { D.reads disk.new ≡ D.reads disk.old }
 {

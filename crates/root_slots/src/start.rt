@@ -1,8 +1,9 @@
 //! Creates a root file without an open slot.
+//! Writes the disk; syncs.
 ghost use Rattle.std.specs.Prelude.{◌≡◌, OnOk};
 ghost use Rattle.arch_base.specs.Counts.{HasCause};
-ghost use Rattle.disk_model.specs.Disk.{Told, LeavesOnly};
-ghost use Rattle.root_slots.specs.Slots.{EachShut, LeavesShut, OthersStay, IsBegun, IsCleared, StillShut};
+ghost use Rattle.disk_model.specs.Disk.{BothTold, LeavesOnly};
+ghost use Rattle.root_slots.specs.Slots.{EachShut, LeavesShut, OthersStayInImage, IsBegun, IsCleared, StillShut};
 
 use crate::slot::ROOT_SIZE;
 use crate::slots::root_file;
@@ -10,9 +11,9 @@ use disk_model::{Disk, DiskFault, write_and_sync};
 
 /// Removes the root file, and syncs.
 fn clear<D: Disk>(disk: &mut D) -> Result<(), DiskFault>
-    ensures any_moment { LeavesOnly D.moment D.left_since disk.old disk.new
+    ensures crash { LeavesOnly D.moment D.left_since disk.old disk.new
         (StillShut (D.content disk.old)) }
-    ensures cleared { OnOk result (Told IsCleared (D.content disk.old) (D.content disk.new)) }
+    ensures cleared { OnOk result (BothTold IsCleared (D.content disk.old) (D.content disk.new)) }
     ensures cause { HasCause (D.faults disk.old) (D.faults disk.new) result }
     ensures count { D.reads disk.new ≡ D.reads disk.old }
 {
@@ -22,9 +23,9 @@ fn clear<D: Disk>(disk: &mut D) -> Result<(), DiskFault>
 
 /// Replaces the root file by 4,096 zeros, with a sync after the first two.
 fn make_zeros<D: Disk>(disk: &mut D) -> Result<(), DiskFault>
-    ensures any_moment { LeavesOnly D.moment D.left_since disk.old disk.new
+    ensures crash { LeavesOnly D.moment D.left_since disk.old disk.new
         (StillShut (D.content disk.old)) }
-    ensures made { OnOk result (Told IsBegun (D.content disk.old) (D.content disk.new)) }
+    ensures made { OnOk result (BothTold IsBegun (D.content disk.old) (D.content disk.new)) }
     ensures cause { HasCause (D.faults disk.old) (D.faults disk.new) result }
     ensures count { D.reads disk.new ≡ D.reads disk.old }
 {
@@ -38,12 +39,12 @@ fn make_zeros<D: Disk>(disk: &mut D) -> Result<(), DiskFault>
 /// Removes the file, writes two zeros and writes the others, with a sync after each.
 pub fn begin<D: Disk>(disk: &mut D) -> Result<(), DiskFault>
     // If no crash leaves an open slot before, none does at any moment.
-    ensures any_moment { EachShut (D.content disk.old)
+    ensures crash { EachShut (D.content disk.old)
         → LeavesOnly D.moment D.left_since disk.old disk.new (LeavesShut (D.content disk.old)) }
     // No other file changes, whatever the root file holds.
     ensures elsewhere { LeavesOnly D.moment D.left_since disk.old disk.new
-        (OthersStay (D.content disk.old)) }
-    ensures made { OnOk result (Told IsBegun (D.content disk.old) (D.content disk.new)) }
+        (OthersStayInImage (D.content disk.old)) }
+    ensures made { OnOk result (BothTold IsBegun (D.content disk.old) (D.content disk.new)) }
     ensures cause { HasCause (D.faults disk.old) (D.faults disk.new) result }
     ensures count { D.reads disk.new ≡ D.reads disk.old }
 {

@@ -1,4 +1,5 @@
 //! The tree of the thread of a message, from a shelf.
+//! Allocates.
 #![tactic(auto)]
 
 ghost use Rattle.std.specs.Prelude.{◌≡◌, true, OnOk, IfOk, option_copied};

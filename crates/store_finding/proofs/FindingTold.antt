@@ -2,27 +2,27 @@
 use Rattle.std.specs.Prelude.{ℕ, Option, Some, None, refl}
 use Rattle.std.proofs.Common.{subst, arith}
 use Rattle.disk_model.specs.declared.name.FileName.{FileName}
-use Rattle.disk_model.specs.Disk.{Files, Content, Image, Told, WhereTold, Unchanged}
+use Rattle.disk_model.specs.Disk.{Files, Content, Image, BothTold, WhereTold, Unchanged}
 use Rattle.disk_model.specs.Moments.{started, joined}
 use Rattle.store_finding.proofs.NameLists.{unchanged_more, unchanged_image}
 use Rattle.epoch_file.specs.Runs.{OnlyReads}
 use Rattle.store_finding.specs.Files.{as_read}
 
 -- Unchanged content is unchanged.
-pub unchanged_itself : (content : Option Content) → Told Unchanged content content
+pub unchanged_itself : (content : Option Content) → BothTold Unchanged content content
 unchanged_itself None = tt
 unchanged_itself (Some k) = λ name. refl
 
 module _ {D : Type 0} (content : D → Option Content) (moment : D → ℕ) (left_since : D → ℕ → Files → Type 0) (faults : D → ℕ) where
   -- No call.
   pub reads_none : (old : D) → ((image : Files) → left_since old (moment old) image → Image (content old) image) → OnlyReads content moment left_since faults old old
-  reads_none old now = record { same = unchanged_itself (content old); any_moment = started moment left_since old (Image (content old)) now; later = omega arith }
+  reads_none old now = record { same = unchanged_itself (content old); crash = started moment left_since old (Image (content old)) now; later = omega arith }
 
   -- Two runs.
   pub reads_both : (old mid new : D) → OnlyReads content moment left_since faults old mid → OnlyReads content moment left_since faults mid new → OnlyReads content moment left_since faults old new
   reads_both old mid new p q = record {
     same = unchanged_more (content old) (content mid) (content new) p.same q.same;
-    any_moment = joined moment left_since old mid new (Image (content old)) (Image (content mid)) (Image (content old)) p.any_moment q.any_moment (λ image left. left) (λ image. unchanged_image (content old) (content mid) image p.same);
+    crash = joined moment left_since old mid new (Image (content old)) (Image (content mid)) (Image (content old)) p.crash q.crash (λ image left. left) (λ image. unchanged_image (content old) (content mid) image p.same);
     later = omega (arith, p.later, q.later);
   }
 
@@ -36,7 +36,7 @@ pub where_so : (P R : Content → Type 0) (k : Option Content) → WhereTold P k
 where_so P R None told step = tt
 where_so P R (Some k) told step = step k told
 
-pub where_both : (P Q R : Content → Type 0) (k m : Option Content) → Told Unchanged k m → WhereTold P k → WhereTold Q m → ((c : Content) → P c → Q c → R c) → WhereTold R k
+pub where_both : (P Q R : Content → Type 0) (k m : Option Content) → BothTold Unchanged k m → WhereTold P k → WhereTold Q m → ((c : Content) → P c → Q c → R c) → WhereTold R k
 where_both P Q R None m same p q step = tt
 where_both P Q R (Some k) None same p q step = absurd same
 where_both P Q R (Some k) (Some m) same p q step = step k p (subst Q (λ i. λ (name : FileName). same name i) q)
@@ -48,5 +48,5 @@ told_any R k all = where_any (λ c. R (as_read c)) k (λ c. all (as_read c))
 pub told_so : (P R : Files → Type 0) (k : Option Content) → WhereTold (λ k. P (as_read k)) k → ((files : Files) → P files → R files) → WhereTold (λ k. R (as_read k)) k
 told_so P R k told step = where_so (λ c. P (as_read c)) (λ c. R (as_read c)) k told (λ c. step (as_read c))
 
-pub told_both : (P Q R : Files → Type 0) (k m : Option Content) → Told Unchanged k m → WhereTold (λ k. P (as_read k)) k → WhereTold (λ k. Q (as_read k)) m → ((files : Files) → P files → Q files → R files) → WhereTold (λ k. R (as_read k)) k
+pub told_both : (P Q R : Files → Type 0) (k m : Option Content) → BothTold Unchanged k m → WhereTold (λ k. P (as_read k)) k → WhereTold (λ k. Q (as_read k)) m → ((files : Files) → P files → Q files → R files) → WhereTold (λ k. R (as_read k)) k
 told_both P Q R k m same p q step = where_both (λ c. P (as_read c)) (λ c. Q (as_read c)) (λ c. R (as_read c)) k m same p q (λ c. step (as_read c))

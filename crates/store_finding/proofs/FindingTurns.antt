@@ -11,12 +11,12 @@ use Rattle.root_slots.specs.Slots.{slot_number}
 use Rattle.root_slots.specs.Valid.{RootFits}
 use Rattle.store_finding.specs.declared.entries.StoredEntry.{StoredEntry}
 use Rattle.store_finding.specs.Damage.{messages}
-use Rattle.store_finding.specs.Joined.{Joined}
+use Rattle.store_finding.specs.Joined.{JoinedEntries}
 use Rattle.store_finding.specs.Openings.{IsReadUpTo}
-use Rattle.store_finding.specs.Finding.{HasRecords, Finds, FindsRoot, FindsRecords, FindsEntries, KeepsBy}
+use Rattle.store_finding.specs.Finding.{HasRecords, FindsStore, FindsRoot, FindsRecords, FindsEntries, KeepsBy}
 
 -- Nothing is read yet.
-pub begun : (root : Root) (files : Files) (rs : List Record) (v : Joined) → HasRecords root files rs → v.records ≡ messages rs → v.entries ≡ [] → IsReadUpTo root files rs 0 v
+pub begun : (root : Root) (files : Files) (rs : List Record) (v : JoinedEntries) → HasRecords root files rs → v.records ≡ messages rs → v.entries ≡ [] → IsReadUpTo root files rs 0 v
 begun root files rs v has records entries = record {
   entries = [];
   after = messages rs;
@@ -33,14 +33,14 @@ entries_found root rs (Err DiskFault) files fits has keeps = tt
 entries_found root rs (Err NoMemory) files fits has keeps = tt
 
 -- What is found of all files.
-pub damage_found : (files : Files) (slot : Slot) (root : Root) (refusal : OpenRefusal) → FindsRoot files (Ok (slot, root)) → FindsEntries root files (Err refusal) → Finds files (Err refusal)
+pub damage_found : (files : Files) (slot : Slot) (root : Root) (refusal : OpenRefusal) → FindsRoot files (Ok (slot, root)) → FindsEntries root files (Err refusal) → FindsStore files (Err refusal)
 damage_found files slot root NoArchive is lacks = absurd lacks
 damage_found files slot root (Damaged file at) is (inl map) = inr (inl (record { root = root; slot = slot_number slot; current = is; file_is = map.0; damaged = map.1 }))
 damage_found files slot root (Damaged file at) is (inr lacks) = inr (inr (record { root = root; slot = slot_number slot; records = lacks.records; epoch = lacks.damage.0; current = is; has = lacks.has; file_is = lacks.damage.1; first = lacks.damage.2 }))
 damage_found files slot root DiskFault is lacks = tt
 damage_found files slot root NoMemory is lacks = tt
 
-pub no_root : (files : Files) (refusal : OpenRefusal) → FindsRoot files (Err refusal) → Finds files (Err refusal)
+pub no_root : (files : Files) (refusal : OpenRefusal) → FindsRoot files (Err refusal) → FindsStore files (Err refusal)
 no_root files NoArchive lacks = lacks
 no_root files (Damaged file at) lacks = inl lacks
 no_root files DiskFault lacks = tt

@@ -11,7 +11,7 @@ use Rattle.git_objects.specs.Objects.{blob_id_of}
 use Rattle.arch_model.specs.Archives.{Entry, is_message, live, messages as delivered, text_of}
 use Rattle.number_map.specs.declared.line.Record.{Record}
 use Rattle.number_map.specs.Records.{AreRecordsFrom}
-use Rattle.arch_model.specs.Validity.{IsEntry, IsFrom, number_after, Rise, AtEachPlace, EndsLive, IdsDiffer, LiveDiffer, BlobsAgree}
+use Rattle.arch_model.specs.Validity.{IsEntry, NumberIsFrom, number_after, Rise, AtEachPlace, EndsLive, IdsDiffer, LiveDiffer, BlobsAgree}
 use Rattle.arch_model.proofs.LiveEntries.{without, live-message, live-deletion, messages-message, messages-deletion, ids-now, ids-without, place-push}
 use Rattle.arch_model.proofs.ValidArchives.{Agrees, all_after, all_weaker, rise_more, ids_more, blobs_more}
 use Rattle.store_finding.specs.Kept.{stored_after}
@@ -167,12 +167,12 @@ pub records_last : (es : List Entry) (new : Entry) (after : List Record) → map
 records_last es new after = records_by new.kind es new after refl
 
 -- Its number comes after those before it, if it is a message.
-number_by : (k : EntryKind) (rs after : List Record) (es : List Entry) (new : Entry) → AreRecordsFrom 1 rs → AreFirst rs (with_record k new after) es → IsFrom k 1 new.number × AllByRecursion (λ (e : Entry). IsFrom k (e.number + 1) new.number) es
+number_by : (k : EntryKind) (rs after : List Record) (es : List Entry) (new : Entry) → AreRecordsFrom 1 rs → AreFirst rs (with_record k new after) es → NumberIsFrom k 1 new.number × AllByRecursion (λ (e : Entry). NumberIsFrom k (e.number + 1) new.number) es
 number_by Message rs after es new numbered first =
     let below = numbers_rise 1 rs (delivered es) (record_of new) after numbered first.records in
     (below.1, all_weaker (λ (e : Entry). e.number < new.number) (λ (e : Entry). e.number + 1 ≤ new.number) es (λ e less. omega (arith, less)) (numbers_all (λ (n : ℕ). n < new.number) [] es tt first.ends below.0))
 number_by Deletion rs after es new numbered first = (tt, none_asked es) where
-  none_asked : (fs : List Entry) → AllByRecursion (λ (e : Entry). IsFrom Deletion (e.number + 1) new.number) fs
+  none_asked : (fs : List Entry) → AllByRecursion (λ (e : Entry). NumberIsFrom Deletion (e.number + 1) new.number) fs
   none_asked [] = tt
   none_asked (f ∷ fs) = (tt, none_asked fs)
 

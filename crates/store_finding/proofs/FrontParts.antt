@@ -22,15 +22,15 @@ use Rattle.root_slots.specs.Spelling.{spelling}
 use Rattle.root_slots.specs.Valid.{no_place}
 use Rattle.root_change.specs.Names.{cache_name, has_place, named_by, names_file}
 use Rattle.root_change.specs.Texts.{Texts, Fronts, StandsFor, IsExact, Measures}
-use Rattle.root_change.specs.Parts.{texts_of, PartsFit, IsOwn}
+use Rattle.root_change.specs.Parts.{texts_of, PartsFit, IsOwnOfParts}
 use Rattle.root_change.proofs.Drops.{true_or_false, named, named_root, named_map, named_cache, named_number, named_epoch}
 use Rattle.root_change.proofs.Phases.{fronts_equal, fronts_none}
 use Rattle.root_change.proofs.Roots.{same_test, less_test}
 use Rattle.root_change.proofs.Changes.{text_named, text_unnamed, parts_measure}
 use Rattle.root_change.proofs.Grown.{epoch_isnt_root, map_isnt_root, epoch_is_named, map_is_named}
 use Rattle.store_finding.specs.Files.{map_file_of, epoch_file_of, cache_file_of}
-use Rattle.store_finding.specs.Recovery.{map_bytes, bytes_in, parts_of, Names, RecoversBy}
-use Rattle.store_finding.specs.Kept.{View, IsDiskWith, IsStoreWith, Keeps}
+use Rattle.store_finding.specs.Recovery.{map_bytes, bytes_in, parts_of, NamesArchive, RecoversArchiveBy}
+use Rattle.store_finding.specs.Kept.{StoreState, IsDiskWith, IsStoreWith, KeepsArchive}
 use Rattle.store_finding.proofs.Mapped.{map_length}
 
 -- No entry is in an epoch above 63.
@@ -42,19 +42,19 @@ none_above (e ∷ es) n all above =
     rw other (none_above es n all.1 above)
 
 -- The file of a cache isn't the root file.
-cache_isnt_root : (gen_ : ℕ) → cache_name gen_ ≢ root_name
-cache_isnt_root gen_ is = let wrong : kind_index (cache_name gen_).kind ≡ kind_index root_name.kind = ap (λ (f : FileName). kind_index f.kind) is in absurd (omega (arith, wrong))
+cache_isnt_root : (generation : ℕ) → cache_name generation ≢ root_name
+cache_isnt_root generation is = let wrong : kind_index (cache_name generation).kind ≡ kind_index root_name.kind = ap (λ (f : FileName). kind_index f.kind) is in absurd (omega (arith, wrong))
 
 -- A root names the file of its cache, if that has bytes.
 cache_is_named : (root : Root) → 0 < root.cache.length → names_file root (cache_file_of root) ≡ true
 cache_is_named root some =
-    and_from (0 == 0) (has_place root.cache root.cache.gen_) (same_test 0 0 refl) (and_from (nat_lt 0 root.cache.length) (root.cache.gen_ == root.cache.gen_) (less_test 0 root.cache.length some) (same_test root.cache.gen_ root.cache.gen_ refl))
+    and_from (0 == 0) (has_place root.cache root.cache.generation) (same_test 0 0 refl) (and_from (nat_lt 0 root.cache.length) (root.cache.generation == root.cache.generation) (less_test 0 root.cache.length some) (same_test root.cache.generation root.cache.generation refl))
 
 -- The length of the map that a root names for an archive.
-pub map_long : (root : Root) (a : Archive) → IsArchive a → Names root a → root.map.length ≡ length (map_bytes a)
+pub map_long : (root : Root) (a : Archive) → IsArchive a → NamesArchive root a → root.map.length ≡ length (map_bytes a)
 map_long root a valid names = names.is_root.map_length ∙ (ap (λ (n : ℕ). 28 * (n - 1)) names.next ∙ sym (map_length a valid))
 
-module _ (root : Root) (a : Archive) (cache : List ℕ) (valid : IsArchive a) (names : Names root a) (cache_long : root.cache.length ≡ length cache) where
+module _ (root : Root) (a : Archive) (cache : List ℕ) (valid : IsArchive a) (names : NamesArchive root a) (cache_long : root.cache.length ≡ length cache) where
   -- Each part is as long as the root says.
   pub parts_fit : PartsFit root (parts_of a cache)
   parts_fit kind.Root n = refl
@@ -85,17 +85,17 @@ pub record PartFronts (root : Root) (a : Archive) (cache : List ℕ) (image : Fi
   pub epochs_front : (e : ℕ) → e < 64 → Fronts (bytes_in a e) (image (epoch_file_of root e))
   pub cache_front : Fronts cache (image (cache_file_of root))
 
-module _ (root : Root) (a : Archive) (cache : List ℕ) (names : Names root a) (cache_long : root.cache.length ≡ length cache) (image : Files) where
+module _ (root : Root) (a : Archive) (cache : List ℕ) (names : NamesArchive root a) (cache_long : root.cache.length ≡ length cache) (image : Files) where
   pub by_part : StandsFor root (texts_of root (parts_of a cache)) image → PartFronts root a cache image
   by_part stands = record {
     current = stands.current;
-    map_front = subst (λ (text : List ℕ). Fronts text (image (map_file_of root))) (text_named root (parts_of a cache) (map_file_of root) (map_is_named root root.map.gen_ refl)) (stands.fronts (map_file_of root) (map_isnt_root root.map.gen_));
+    map_front = subst (λ (text : List ℕ). Fronts text (image (map_file_of root))) (text_named root (parts_of a cache) (map_file_of root) (map_is_named root root.map.generation refl)) (stands.fronts (map_file_of root) (map_isnt_root root.map.generation));
     epochs_front = λ e below. elim (cases_lt 0 (get_or root.epochs e no_place).length) [
-      | inl some ↦ subst (λ (text : List ℕ). Fronts text (image (epoch_file_of root e))) (text_named root (parts_of a cache) (epoch_file_of root e) (epoch_is_named root e (get_or root.epochs e no_place).gen_ below some refl)) (stands.fronts (epoch_file_of root e) (epoch_isnt_root e (get_or root.epochs e no_place).gen_))
+      | inl some ↦ subst (λ (text : List ℕ). Fronts text (image (epoch_file_of root e))) (text_named root (parts_of a cache) (epoch_file_of root e) (epoch_is_named root e (get_or root.epochs e no_place).generation below some refl)) (stands.fronts (epoch_file_of root e) (epoch_isnt_root e (get_or root.epochs e no_place).generation))
       | inr none ↦ fronts_none (bytes_in a e) (image (epoch_file_of root e)) (let long = names.epochs e below in omega (arith, long, none))
     ];
     cache_front = elim (cases_lt 0 root.cache.length) [
-      | inl some ↦ subst (λ (text : List ℕ). Fronts text (image (cache_file_of root))) (text_named root (parts_of a cache) (cache_file_of root) (cache_is_named root some)) (stands.fronts (cache_file_of root) (cache_isnt_root root.cache.gen_))
+      | inl some ↦ subst (λ (text : List ℕ). Fronts text (image (cache_file_of root))) (text_named root (parts_of a cache) (cache_file_of root) (cache_is_named root some)) (stands.fronts (cache_file_of root) (cache_isnt_root root.cache.generation))
       | inr none ↦ fronts_none cache (image (cache_file_of root)) (omega (arith, cache_long, none))
     ];
   }
@@ -104,7 +104,7 @@ module _ (root : Root) (a : Archive) (cache : List ℕ) (names : Names root a) (
   from_parts parts = record {
     current = parts.current;
     fronts = λ name apart. elim (true_or_false (names_file root name)) [
-      | inl is ↦ subst (λ (text : List ℕ). Fronts text (image name)) (sym (text_named root (parts_of a cache) name is)) (at_kind name.kind name.number name.gen_ apart is)
+      | inl is ↦ subst (λ (text : List ℕ). Fronts text (image name)) (sym (text_named root (parts_of a cache) name is)) (at_kind name.kind name.number name.generation apart is)
       | inr isnt ↦ fronts_none (texts_of root (parts_of a cache) name) (image name) (ap (λ (text : List ℕ). length text) (text_unnamed root (parts_of a cache) name isnt))
     ];
   } where
@@ -115,7 +115,7 @@ module _ (root : Root) (a : Archive) (cache : List ℕ) (names : Names root a) (
     at_kind kind.Cache n g apart is = subst (λ (f : FileName). Fronts (parts_of a cache kind.Cache f.number) (image f)) (sym (named_cache root n g is)) parts.cache_front
 
 -- The parts of files that stand for an archive by a root.
-pub parts_front : (root : Root) (cache : List ℕ) (files : Files) (a : Archive) → RecoversBy root cache files a → PartFronts root a cache files
+pub parts_front : (root : Root) (cache : List ℕ) (files : Files) (a : Archive) → RecoversArchiveBy root cache files a → PartFronts root a cache files
 parts_front root cache files a r = by_part root a cache r.names r.cache_long files r.stands
 
 -- Files that are exactly those of texts stand for them.
@@ -126,16 +126,16 @@ exact_stands root texts files exact = record {
 }
 
 -- A store keeps its archive, and a cache that is as long as its root says.
-pub store_keeps : (v : View) (cache : List ℕ) (a : Archive) (k : Option Content) → IsStoreWith v cache a k → Keeps v a
+pub store_keeps : (v : StoreState) (cache : List ℕ) (a : Archive) (k : Option Content) → IsStoreWith v cache a k → KeepsArchive v a
 store_keeps v cache a None store = absurd store
 store_keeps v cache a (Some k) store = store.keeps
 
-pub store_cache : (v : View) (cache : List ℕ) (a : Archive) (k : Option Content) → IsStoreWith v cache a k → v.root.cache.length ≡ length cache
+pub store_cache : (v : StoreState) (cache : List ℕ) (a : Archive) (k : Option Content) → IsStoreWith v cache a k → v.root.cache.length ≡ length cache
 store_cache v cache a None store = absurd store
 store_cache v cache a (Some k) store = store.cache_long
 
 -- A store's own disk is that of its archive's parts.
-pub store_owns : (v : View) (cache : List ℕ) (a : Archive) (k : Option Content) → IsStoreWith v cache a k → IsOwn v.root (1 - v.slot) (parts_of a cache) k
+pub store_owns : (v : StoreState) (cache : List ℕ) (a : Archive) (k : Option Content) → IsStoreWith v cache a k → IsOwnOfParts v.root (1 - v.slot) (parts_of a cache) k
 store_owns v cache a None store = absurd store
 store_owns v cache a (Some k) store = record {
   valid = store.keeps.names.is_root;
@@ -145,6 +145,6 @@ store_owns v cache a (Some k) store = record {
 }
 
 -- The parts of a store's own disk as it reads.
-pub disk_fronts : (v : View) (cache : List ℕ) (a : Archive) (k : Content) → IsDiskWith v cache a k → PartFronts v.root a cache (λ (name : FileName). (k name).seen)
+pub disk_fronts : (v : StoreState) (cache : List ℕ) (a : Archive) (k : Content) → IsDiskWith v cache a k → PartFronts v.root a cache (λ (name : FileName). (k name).seen)
 disk_fronts v cache a k own =
     by_part v.root a cache own.keeps.names own.cache_long (λ (name : FileName). (k name).seen) (exact_stands v.root (texts_of v.root (parts_of a cache)) (λ (name : FileName). (k name).seen) own.on.exact)

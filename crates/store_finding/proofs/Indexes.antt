@@ -14,16 +14,16 @@ use Rattle.mail_reader.specs.Ids.{own_id}
 use Rattle.arch_model.specs.Archives.{Entry, live, text_of}
 use Rattle.arch_model.specs.Validity.{IsEntry, EndsLive, IdsDiffer, LiveDiffer}
 use Rattle.arch_model.proofs.LiveEntries.{ids-now}
-use Rattle.arch_judge.specs.Indexes.{IsIndex, Puts, Loses, owner_of}
+use Rattle.arch_judge.specs.Indexes.{IsArchiveIndex, IndexPuts, IndexLoses, owner_of}
 use Rattle.arch_judge.specs.declared.index.Index.{Index}
 use Rattle.arch_judge.specs.declared.index.Owner.{Owner}
-use Rattle.arch_judge.proofs.Indexes.{IsIndex-push}
-use Rattle.arch_judge.proofs.Endings.{IsIndex-ends, owner-none}
+use Rattle.arch_judge.proofs.Indexes.{IsArchiveIndex-push}
+use Rattle.arch_judge.proofs.Endings.{IsArchiveIndex-ends, owner-none}
 use Rattle.number_map.specs.declared.line.Record.{Record}
 use Rattle.store_finding.specs.declared.entries.StoredEntry.{StoredEntry}
 use Rattle.store_finding.specs.Kept.{stored_at, stored_after}
-use Rattle.store_finding.specs.Indexes.{AreInOrder, IndexesStored, TakesBy, Takes}
-use Rattle.store_finding.specs.Joined.{Joined, Holds}
+use Rattle.store_finding.specs.Indexes.{EntriesAreInOrder, IndexesStored, TakesBy, IndexTakes}
+use Rattle.store_finding.specs.Joined.{JoinedEntries, HoldsJoined}
 use Rattle.store_finding.proofs.Growing.{stored_more}
 use Rattle.store_finding.proofs.Live.{Ending, own_of, there}
 use Rattle.store_finding.proofs.Firsts.{all_last, all_front, rise_front, place_front, place_last, as_deletion, live_more}
@@ -42,24 +42,24 @@ last_apart [] e differ = tt
 last_apart (x ∷ es) e differ = ((λ same. all_last (λ (f : Entry). own_id f.text ≢ own_id x.text) es e differ.0 (sym same)), last_apart es e differ.1)
 
 -- The index with the last of entries taken in.
-module _ (es : List Entry) (e : Entry) (old new : Index) (ordered : AreInOrder (es ++ e ∷ [])) (is_index : IsIndex es old) where
+module _ (es : List Entry) (e : Entry) (old new : Index) (ordered : EntriesAreInOrder (es ++ e ∷ [])) (is_index : IsArchiveIndex es old) where
   own : own_id e.text ≡ Some (own_of e.text)
   own = there (own_id e.text) [] (all_last IsEntry es e ordered.each).text.id
 
-  taken_message : e.kind ≡ Message → Puts old new (own_of e.text) (blob_id_of e.text) (owner_of e) → IsIndex (es ++ e ∷ []) new
+  taken_message : e.kind ≡ Message → IndexPuts old new (own_of e.text) (blob_id_of e.text) (owner_of e) → IsArchiveIndex (es ++ e ∷ []) new
   taken_message one puts =
       let grows = live_more es e one in
       let apart = last_apart (live es) e (subst IdsDiffer grows (place_last LiveDiffer [] es e ordered.ids)) in
-      IsIndex-push es e old new (own_of e.text) (blob_id_of e.text) (owner_of e) grows is_index puts refl own (owner-none (live es) (own_id e.text) (own_of e.text) apart own) refl
+      IsArchiveIndex-push es e old new (own_of e.text) (blob_id_of e.text) (owner_of e) grows is_index puts refl own (owner-none (live es) (own_id e.text) (own_of e.text) apart own) refl
 
-  taken_deletion : e.kind ≡ Deletion → Loses old new (own_of e.text) → IsIndex (es ++ e ∷ []) new
+  taken_deletion : e.kind ≡ Deletion → IndexLoses old new (own_of e.text) → IsArchiveIndex (es ++ e ∷ []) new
   taken_deletion gone lost =
       let ends : EndsLive e.kind es e = place_last Ending [] es e ordered.ends in
       let shown : text_of (live es) e.number ≡ Some e.text = subst (λ (k : EntryKind). EndsLive k es e) gone ends in
-      subst (λ (f : Entry). IsIndex (es ++ f ∷ []) new) (sym (as_deletion e gone))
-      (IsIndex-ends es e.number e.epoch e.text e.moment 1 0 old new (own_of e.text) is_index (rise_front 1 0 es (e ∷ []) ordered.order) (ids-now es (place_front LiveDiffer [] es (e ∷ []) ordered.ids)) shown own lost)
+      subst (λ (f : Entry). IsArchiveIndex (es ++ f ∷ []) new) (sym (as_deletion e gone))
+      (IsArchiveIndex-ends es e.number e.epoch e.text e.moment 1 0 old new (own_of e.text) is_index (rise_front 1 0 es (e ∷ []) ordered.order) (ids-now es (place_front LiveDiffer [] es (e ∷ []) ordered.ids)) shown own lost)
 
-  taken_by : (k : EntryKind) → e.kind ≡ k → TakesBy k old new (stored_at es e) → IsIndex (es ++ e ∷ []) new
+  taken_by : (k : EntryKind) → e.kind ≡ k → TakesBy k old new (stored_at es e) → IsArchiveIndex (es ++ e ∷ []) new
   taken_by Message one takes = taken_message one takes
   taken_by Deletion gone takes = taken_deletion gone takes
 
@@ -84,16 +84,16 @@ last_of e [] = record { front = []; last = e; is = refl }
 last_of e (f ∷ es) = let rest = last_of f es in record { front = e ∷ rest.front; last = rest.last; is = ap (λ (l : List Entry). e ∷ l) rest.is }
 
 -- An index into which one more entry was taken is that of what is kept with it.
-pub indexes_more : (kept : List StoredEntry) (s : StoredEntry) (old new : Index) → IndexesStored kept old → Takes old new s → IndexesStored (kept ++ s ∷ []) new
+pub indexes_more : (kept : List StoredEntry) (s : StoredEntry) (old new : Index) → IndexesStored kept old → IndexTakes old new s → IndexesStored (kept ++ s ∷ []) new
 indexes_more kept s old new indexed takes [] are = absurd (let size : length (kept ++ s ∷ []) ≡ 0 = ap length are.is in omega (arith, size, length-append kept (s ∷ [])))
 indexes_more kept s old new indexed takes (x ∷ es) are =
     let p = last_of x es in
-    let ordered : AreInOrder (p.front ++ p.last ∷ []) = subst AreInOrder p.is are.ordered in
+    let ordered : EntriesAreInOrder (p.front ++ p.last ∷ []) = subst EntriesAreInOrder p.is are.ordered in
     let same = snoc_same kept (stored_after [] p.front) s (stored_at p.front p.last) (are.is ∙ ap (stored_after []) p.is ∙ stored_more [] p.front p.last) in
-    let front : IsIndex p.front old = indexed p.front (record { ordered = front_order p.front p.last ordered; is = same.0 }) in
-    subst (λ (l : List Entry). IsIndex l new) (sym p.is) (taken_by p.front p.last old new ordered front p.last.kind refl (subst (λ (t : StoredEntry). Takes old new t) same.1 takes))
+    let front : IsArchiveIndex p.front old = indexed p.front (record { ordered = front_order p.front p.last ordered; is = same.0 }) in
+    subst (λ (l : List Entry). IsArchiveIndex l new) (sym p.is) (taken_by p.front p.last old new ordered front p.last.kind refl (subst (λ (t : StoredEntry). IndexTakes old new t) same.1 takes))
   where
-    front_order : (fs : List Entry) (e : Entry) → AreInOrder (fs ++ e ∷ []) → AreInOrder fs
+    front_order : (fs : List Entry) (e : Entry) → EntriesAreInOrder (fs ++ e ∷ []) → EntriesAreInOrder fs
     front_order fs e ordered = record {
       each = all_front IsEntry fs (e ∷ []) ordered.each;
       order = rise_front 1 0 fs (e ∷ []) ordered.order;
@@ -102,7 +102,7 @@ indexes_more kept s old new indexed takes (x ∷ es) are =
     }
 
 -- The index of what is kept is that of the entries that hold.
-pub index_held : (v : Joined) (index : Index) (rs after : List Record) (es : List Entry) → IndexesStored v.entries index → Holds v rs after es → IsIndex es index
+pub index_held : (v : JoinedEntries) (index : Index) (rs after : List Record) (es : List Entry) → IndexesStored v.entries index → HoldsJoined v rs after es → IsArchiveIndex es index
 index_held v index rs after es indexed holds = indexed es (record {
   ordered = record { each = holds.first.valid; order = holds.first.order; ends = holds.first.ends; ids = holds.first.ids };
   is = holds.entries_are;

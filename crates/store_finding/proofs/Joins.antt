@@ -31,9 +31,9 @@ use Rattle.arch_model.specs.Validity.{IsEntry}
 use Rattle.store_finding.specs.Kept.{in_file, stored_at, stored_after}
 use Rattle.store_finding.specs.Damage.{record_of, AreFirst, AreWhole}
 use Rattle.store_finding.specs.Indexes.{IndexesStored}
-use Rattle.store_finding.specs.Joined.{Joined, Holds, Held, AreBefore, message_count, entry_seen, IsMessageOf, IsWanted, TextIn, JoinsMessage, JoinsDeletion, JoinsNext, EndedBy, IsSameText, with_seen, JoinsByText, JoinsAll, AreJoined, StopsAt}
+use Rattle.store_finding.specs.Joined.{JoinedEntries, HoldsJoined, OfJoined, AreBefore, message_count, entry_seen, IsMessageOf, IsWantedRecord, TextIn, JoinsMessage, JoinsDeletion, JoinsNext, EndedBy, IsSameText, with_seen, JoinsByText, JoinsAll, AreJoined, StopsAt}
 use Rattle.arch_model.proofs.LiveEntries.{ids-now, live-all, live-one, HasText}
-use Rattle.arch_judge.specs.Indexes.{IsIndex, owner_of, owner_in}
+use Rattle.arch_judge.specs.Indexes.{IsArchiveIndex, owner_of, owner_in}
 use Rattle.arch_judge.specs.declared.index.Index.{Index}
 use Rattle.arch_judge.specs.declared.index.Owner.{Owner}
 use Rattle.arch_judge.proofs.Endings.{owner-none}
@@ -47,18 +47,18 @@ use Rattle.store_finding.proofs.Live.{own_of, there, Apart, kept_count, apart_by
 use Rattle.store_finding.proofs.Firsts.{FitsKind, with_record, all_last, delivered_joined, first_is, first_none, first_more, first_less, fits_last, blobs_last, record_after, map_after, stored_before}
 
 -- The next record is that of an entry, or it isn't.
-pub is_wanted : (v : Joined) (epoch : ℕ) (seen : Seen) (r : Record) → seen.kind ≡ Message → slice_get v.records (message_count v.entries) ≡ Some r → r.epoch ≡ epoch → r.blob ≡ seen.blob → IsWanted v epoch seen r.number
+pub is_wanted : (v : JoinedEntries) (epoch : ℕ) (seen : Seen) (r : Record) → seen.kind ≡ Message → slice_get v.records (message_count v.entries) ≡ Some r → r.epoch ≡ epoch → r.blob ≡ seen.blob → IsWantedRecord v epoch seen r.number
 is_wanted v epoch seen r name next same_epoch same_blob = record { message = name; next = next ∙ (λ i. Some (record { number = r.number; epoch = same_epoch i; blob = same_blob i })) }
 
 found_is : {X : Type 0} (o : Option X) (x y : X) → o ≡ Some x → o ≡ Some y → x ≡ y
 found_is o x y one two = ap (λ (p : Option _). unwrap_or p x) (sym one ∙ two)
 
-pub other_epoch : (v : Joined) (epoch : ℕ) (seen : Seen) (r : Record) (number : ℕ) → slice_get v.records (message_count v.entries) ≡ Some r → r.epoch ≢ epoch → IsWanted v epoch seen number → ⊥
+pub other_epoch : (v : JoinedEntries) (epoch : ℕ) (seen : Seen) (r : Record) (number : ℕ) → slice_get v.records (message_count v.entries) ≡ Some r → r.epoch ≢ epoch → IsWantedRecord v epoch seen number → ⊥
 other_epoch v epoch seen r number next apart wanted =
     let want : Record = record { number = number; epoch = epoch; blob = seen.blob } in
     apart (ap (λ (s : Record). s.epoch) (found_is (slice_get v.records (message_count v.entries)) r want next wanted.next))
 
-pub other_blob : (v : Joined) (epoch : ℕ) (seen : Seen) (r : Record) (number : ℕ) → slice_get v.records (message_count v.entries) ≡ Some r → r.blob ≢ seen.blob → IsWanted v epoch seen number → ⊥
+pub other_blob : (v : JoinedEntries) (epoch : ℕ) (seen : Seen) (r : Record) (number : ℕ) → slice_get v.records (message_count v.entries) ≡ Some r → r.blob ≢ seen.blob → IsWantedRecord v epoch seen number → ⊥
 other_blob v epoch seen r number next apart wanted =
     let want : Record = record { number = number; epoch = epoch; blob = seen.blob } in
     apart (ap (λ (s : Record). s.blob) (found_is (slice_get v.records (message_count v.entries)) r want next wanted.next))
@@ -74,10 +74,10 @@ got_none [] i less = refl
 got_none (x ∷ xs) zero less = absurd (omega (arith, less))
 got_none (x ∷ xs) (suc i) less = got_none xs i (omega (arith, less))
 
-pub found_at : (v : Joined) (xs : List Record) (i : ℕ) (r : Record) → xs ≡ v.records → i ≡ message_count v.entries → i < length xs → r ≡ get_or xs i r → slice_get v.records (message_count v.entries) ≡ Some r
+pub found_at : (v : JoinedEntries) (xs : List Record) (i : ℕ) (r : Record) → xs ≡ v.records → i ≡ message_count v.entries → i < length xs → r ≡ get_or xs i r → slice_get v.records (message_count v.entries) ≡ Some r
 found_at v xs i r records entries less is = (λ j. slice_get (sym records j) (sym entries j)) ∙ got xs i r less is
 
-pub none_at : (v : Joined) (xs : List Record) (i : ℕ) → xs ≡ v.records → i ≡ message_count v.entries → length xs ≤ i → slice_get v.records (message_count v.entries) ≡ None
+pub none_at : (v : JoinedEntries) (xs : List Record) (i : ℕ) → xs ≡ v.records → i ≡ message_count v.entries → length xs ≤ i → slice_get v.records (message_count v.entries) ≡ None
 none_at v xs i records entries less = (λ j. slice_get (sym records j) (sym entries j)) ∙ got_none xs i less
 
 -- Two ids differ if their bytes do.
@@ -103,14 +103,14 @@ count_by k (x ∷ xs) t is = by (is_message x.seen.kind) (is_message k) (filter 
   by false c ys zs more = more
 
 -- All records have an entry, or this is the first that has none.
-pub none_left : (v : Joined) → slice_get v.records (message_count v.entries) ≡ None → (rs after : List Record) (entries : List Entry) → Holds v rs after entries → (v.entries ≡ stored_after [] entries) × AreFirst rs [] entries
+pub none_left : (v : JoinedEntries) → slice_get v.records (message_count v.entries) ≡ None → (rs after : List Record) (entries : List Entry) → HoldsJoined v rs after entries → (v.entries ≡ stored_after [] entries) × AreFirst rs [] entries
 none_left v none rs after entries holds =
     let all = delivered entries in
     let count : message_count v.entries ≡ length all = ap message_count holds.entries_are ∙ kept_count [] entries in
     let at_end : slice_get (map record_of all ++ after) (length all) ≡ None = sym (λ j. slice_get ((holds.records ∙ holds.first.records) j) (count j)) ∙ none in
     (holds.entries_are, subst (λ (b : List Record). AreFirst rs b entries) (first_none after (sym (record_after all after) ∙ at_end)) holds.first)
 
-pub one_left : (v : Joined) (r : Record) → slice_get v.records (message_count v.entries) ≡ Some r → (rs after : List Record) (entries : List Entry) → Holds v rs after entries
+pub one_left : (v : JoinedEntries) (r : Record) → slice_get v.records (message_count v.entries) ≡ Some r → (rs after : List Record) (entries : List Entry) → HoldsJoined v rs after entries
     → (next : Record) × (left : List Record) × AreFirst rs (next ∷ left) entries × (next.epoch ≡ r.epoch)
 one_left v r found rs after entries holds =
     let all = delivered entries in
@@ -204,7 +204,7 @@ kept_one before (e ∷ es) (suc i) s found =
     }
 
 -- A kept message of a live number has the blob id of its text.
-message_is : (v : Joined) (rs after : List Record) (all : List Entry) (n : ℕ) (s : StoredEntry) (text : List ℕ) → Holds v rs after all → IsMessageOf v.entries n s → text_of (live all) n ≡ Some text → s.seen.blob ≡ blob_id_of text
+message_is : (v : JoinedEntries) (rs after : List Record) (all : List Entry) (n : ℕ) (s : StoredEntry) (text : List ℕ) → HoldsJoined v rs after all → IsMessageOf v.entries n s → text_of (live all) n ≡ Some text → s.seen.blob ≡ blob_id_of text
 message_is v rs after all n s text holds of shown =
     let f = kept_one [] all of.index s (ap (λ (l : List StoredEntry). slice_get l of.index) (sym holds.entries_are) ∙ of.among) in
     let e = f.entry in
@@ -223,37 +223,37 @@ record Owns (all : List Entry) (id : List ℕ) (o : Owner) : Type 0 where
   is : owner (live all) id ≡ Some entry
   number_is : entry.number ≡ o.number
 
-owns : (all : List Entry) (index : Index) (id : List ℕ) (o : Owner) → IsIndex all index → owner_in index.owners id ≡ Some o → Owns all id o
+owns : (all : List Entry) (index : Index) (id : List ℕ) (o : Owner) → IsArchiveIndex all index → owner_in index.owners id ≡ Some o → Owns all id o
 owns all index id o is found = by (owner (live all) id) refl (sym (is.owners id) ∙ found) where
   by : (x : Option Entry) → owner (live all) id ≡ x → option_map owner_of x ≡ Some o → Owns all id o
   by None none wrong = absurd (let no_way : None ≡ Some o = wrong in cc)
   by (Some e) some same = record { entry = e; is = some; number_is = ap (λ (p : Option Owner). (unwrap_or p o).number) same }
 
 -- No live entry has an own id that the index hasn't, and one has it otherwise.
-pub is_free : (v : Joined) (index : Index) (seen : Seen) → IndexesStored v.entries index → owner_in index.owners seen.id ≡ None → Held v (λ (all : List Entry). owner (live all) seen.id ≡ None)
+pub is_free : (v : JoinedEntries) (index : Index) (seen : Seen) → IndexesStored v.entries index → owner_in index.owners seen.id ≡ None → OfJoined v (λ (all : List Entry). owner (live all) seen.id ≡ None)
 is_free v index seen indexed none rs after all holds = unowned all index seen.id (index_held v index rs after all indexed holds) none
 
-pub is_taken : (v : Joined) (index : Index) (seen : Seen) (o : Owner) → IndexesStored v.entries index → owner_in index.owners seen.id ≡ Some o → Held v (λ (all : List Entry). owner (live all) seen.id ≢ None)
+pub is_taken : (v : JoinedEntries) (index : Index) (seen : Seen) (o : Owner) → IndexesStored v.entries index → owner_in index.owners seen.id ≡ Some o → OfJoined v (λ (all : List Entry). owner (live all) seen.id ≢ None)
 is_taken v index seen o indexed found rs after all holds none =
     let it = owns all index seen.id o (index_held v index rs after all indexed holds) found in
     let wrong : None ≡ Some it.entry = sym none ∙ it.is in
     cc
 
 -- What a deletion ends.
-pub ends_none : (v : Joined) (index : Index) (seen : Seen) → IndexesStored v.entries index → owner_in index.owners seen.id ≡ None → Held v (λ (all : List Entry). EndedBy all seen None)
+pub ends_none : (v : JoinedEntries) (index : Index) (seen : Seen) → IndexesStored v.entries index → owner_in index.owners seen.id ≡ None → OfJoined v (λ (all : List Entry). EndedBy all seen None)
 ends_none v index seen indexed none rs after all holds number joins = (let wrong : None ≡ Some joins.ended = sym (is_free v index seen indexed none rs after all holds) ∙ joins.live in cc)
 
-module _ (v : Joined) (index : Index) (seen : Seen) (o : Owner) (s : StoredEntry) (indexed : IndexesStored v.entries index) (found : owner_in index.owners seen.id ≡ Some o) (message : IsMessageOf v.entries o.number s) where
-  its_blob : (rs after : List Record) (all : List Entry) → Holds v rs after all → (it : Owns all seen.id o) → s.seen.blob ≡ blob_id_of it.entry.text
+module _ (v : JoinedEntries) (index : Index) (seen : Seen) (o : Owner) (s : StoredEntry) (indexed : IndexesStored v.entries index) (found : owner_in index.owners seen.id ≡ Some o) (message : IsMessageOf v.entries o.number s) where
+  its_blob : (rs after : List Record) (all : List Entry) → HoldsJoined v rs after all → (it : Owns all seen.id o) → s.seen.blob ≡ blob_id_of it.entry.text
   its_blob rs after all holds it = message_is v rs after all o.number s it.entry.text holds message
       (subst (λ (n : ℕ). text_of (live all) n ≡ Some it.entry.text) it.number_is (owner_text (live all) 1 seen.id it.entry (live_ascends 1 0 all holds.first.order) it.is))
 
-  pub ends_one : seen.kind ≡ Deletion → s.seen.blob ≡ seen.blob → Held v (λ (all : List Entry). EndedBy all seen (Some o.number))
+  pub ends_one : seen.kind ≡ Deletion → s.seen.blob ≡ seen.blob → OfJoined v (λ (all : List Entry). EndedBy all seen (Some o.number))
   ends_one deletion same rs after all holds =
       let it = owns all index seen.id o (index_held v index rs after all indexed holds) found in
       record { deletion = deletion; ended = it.entry; live = it.is; blob = sym (its_blob rs after all holds it) ∙ same; number_is = it.number_is }
 
-  pub ends_other : s.seen.blob ≢ seen.blob → Held v (λ (all : List Entry). EndedBy all seen None)
+  pub ends_other : s.seen.blob ≢ seen.blob → OfJoined v (λ (all : List Entry). EndedBy all seen None)
   ends_other apart rs after all holds number joins =
       let it = owns all index seen.id o (index_held v index rs after all indexed holds) found in
       let same : it.entry ≡ joins.ended = found_is (owner (live all) seen.id) it.entry joins.ended it.is joins.live in
@@ -280,7 +280,7 @@ pub record AgreesIf (same : Bool) (text : List ℕ) (all : List Entry) : Type 0 
   pub agrees : same ≡ true → Agrees text all
   pub yes_it : Agrees text all → same ≡ true
 
-compared : (root : Root) (files : Files) (cur : Joined) (rs after : List Record) (epoch : ℕ) (all : List Entry) (x : EpochEntry) (s : Seen) (rest : List Entry) (same : Bool) → Holds cur rs after all → s ≡ seen_next (in_epoch all epoch) x
+compared : (root : Root) (files : Files) (cur : JoinedEntries) (rs after : List Record) (epoch : ℕ) (all : List Entry) (x : EpochEntry) (s : Seen) (rest : List Entry) (same : Bool) → HoldsJoined cur rs after all → s ≡ seen_next (in_epoch all epoch) x
     → IsSameText root files cur all epoch s same → AllByRecursion (λ (e : Entry). e.epoch ≤ epoch) all → AreThere root files epoch (all ++ as_entry 0 epoch x ∷ rest) → AgreesIf same x.text all
 compared root files cur rs after epoch all x s rest same holds seen (inl none) older stand =
     record { agrees = λ yes_it. no_blob all x.text (ap (λ (t : Seen). blob_number all t.blob.0) (sym seen) ∙ none.0); yes_it = λ agrees. none.1 }
@@ -306,7 +306,7 @@ record Goes (rs after : List Record) (all : List Entry) (e : Entry) : Type 0 whe
   first : AreFirst rs (with_record e.kind e left) all
   fits : FitsKind e.kind all e
 
-message_goes : (cur : Joined) (rs after : List Record) (all : List Entry) (epoch number : ℕ) (x : EpochEntry) (s : Seen) → Holds cur rs after all → IsEpochEntry x → s ≡ seen_next (in_epoch all epoch) x → JoinsMessage cur all epoch s number → Goes rs after all (as_entry number epoch x)
+message_goes : (cur : JoinedEntries) (rs after : List Record) (all : List Entry) (epoch number : ℕ) (x : EpochEntry) (s : Seen) → HoldsJoined cur rs after all → IsEpochEntry x → s ≡ seen_next (in_epoch all epoch) x → JoinsMessage cur all epoch s number → Goes rs after all (as_entry number epoch x)
 message_goes cur rs after all epoch number x s holds valid seen joins =
     let e : Entry = as_entry number epoch x in
     let kind : Message ≡ x.kind = sym joins.wanted.message ∙ ap (λ (t : Seen). t.kind) seen in
@@ -337,14 +337,14 @@ deletion_goes rs after all epoch number x s first seen agree joins =
     }
 
 -- One more entry is joined to those of the map's first records.
-pub record OneMore (new : Joined) (rs : List Record) (all : List Entry) (epoch : ℕ) (x : EpochEntry) : Type 0 where
+pub record OneMore (new : JoinedEntries) (rs : List Record) (all : List Entry) (epoch : ℕ) (x : EpochEntry) : Type 0 where
   pub entry : Entry
   pub left : List Record
   pub epoch_is : entry.epoch ≡ epoch
   pub file_is : in_file entry ≡ x
-  pub holds : Holds new rs left (all ++ entry ∷ [])
+  pub holds : HoldsJoined new rs left (all ++ entry ∷ [])
 
-one_more : (cur new : Joined) (rs after : List Record) (all : List Entry) (epoch number : ℕ) (x : EpochEntry) (s : Seen) → Holds cur rs after all → epoch ≤ 63 → AllByRecursion (λ (e : Entry). e.epoch ≤ epoch) all
+one_more : (cur new : JoinedEntries) (rs after : List Record) (all : List Entry) (epoch number : ℕ) (x : EpochEntry) (s : Seen) → HoldsJoined cur rs after all → epoch ≤ 63 → AllByRecursion (λ (e : Entry). e.epoch ≤ epoch) all
     → IsEpochEntry x → s ≡ seen_next (in_epoch all epoch) x → Agrees x.text all → Goes rs after all (as_entry number epoch x) → new ≡ with_seen cur number epoch s → OneMore new rs all epoch x
 one_more cur new rs after all epoch number x s holds small older valid seen agree goes is =
     let e : Entry = as_entry number epoch x in
@@ -357,20 +357,20 @@ one_more cur new rs after all epoch number x s holds small older valid seen agre
       file_is = refl;
       holds = record {
         numbered = holds.numbered;
-        records = ap (λ (v : Joined). v.records) is ∙ holds.records;
-        entries_are = ap (λ (v : Joined). v.entries) is ∙ (ap (λ (l : List StoredEntry). l ++ entry_seen number epoch s ∷ []) holds.entries_are
+        records = ap (λ (v : JoinedEntries). v.records) is ∙ holds.records;
+        entries_are = ap (λ (v : JoinedEntries). v.entries) is ∙ (ap (λ (l : List StoredEntry). l ++ entry_seen number epoch s ∷ []) holds.entries_are
             ∙ (ap (λ (t : StoredEntry). stored_after [] all ++ t ∷ []) stored ∙ sym (stored_more [] all e)));
         first = first_more rs goes.left all e holds.numbered goes.first entry older goes.fits agree;
       };
     }
 
-joined_goes : (cur : Joined) (rs after : List Record) (all : List Entry) (epoch number : ℕ) (x : EpochEntry) (s : Seen) → Holds cur rs after all → IsEpochEntry x → s ≡ seen_next (in_epoch all epoch) x → Agrees x.text all → JoinsMessage cur all epoch s number ⊎ JoinsDeletion all s number
+joined_goes : (cur : JoinedEntries) (rs after : List Record) (all : List Entry) (epoch number : ℕ) (x : EpochEntry) (s : Seen) → HoldsJoined cur rs after all → IsEpochEntry x → s ≡ seen_next (in_epoch all epoch) x → Agrees x.text all → JoinsMessage cur all epoch s number ⊎ JoinsDeletion all s number
     → Goes rs after all (as_entry number epoch x)
 joined_goes cur rs after all epoch number x s holds valid seen agree (inl joins) = message_goes cur rs after all epoch number x s holds valid seen joins
 joined_goes cur rs after all epoch number x s holds valid seen agree (inr joins) = deletion_goes rs after all epoch number x s holds.first seen agree joins
 
 -- A next entry of the map that is valid joins the entries before it.
-next_by : (k : EntryKind) (cur : Joined) (rs after left : List Record) (all : List Entry) (epoch : ℕ) (next : Entry) (s : Seen) → next.kind ≡ k → Holds cur rs after all → next.epoch ≡ epoch → s ≡ seen_next (in_epoch all epoch) (in_file next)
+next_by : (k : EntryKind) (cur : JoinedEntries) (rs after left : List Record) (all : List Entry) (epoch : ℕ) (next : Entry) (s : Seen) → next.kind ≡ k → HoldsJoined cur rs after all → next.epoch ≡ epoch → s ≡ seen_next (in_epoch all epoch) (in_file next)
     → IsEntry next → AreFirst rs (with_record k next left) all → FitsKind k all next → Agrees next.text all → JoinsMessage cur all epoch s next.number ⊎ JoinsDeletion all s next.number
 next_by Message cur rs after left all epoch next s is holds same seen entry first fits agree =
     let blob_is : blob_id_of next.text ≡ s.blob = ap (λ (t : Seen). t.blob) (sym seen) in
@@ -398,7 +398,7 @@ next_by Deletion cur rs after left all epoch next s is holds same seen entry fir
       number_is = one.number_is;
     })
 
-next_joins : (cur : Joined) (rs after left : List Record) (all : List Entry) (epoch : ℕ) (next : Entry) (s : Seen) (same : Bool) → Holds cur rs after all → next.epoch ≡ epoch → s ≡ seen_next (in_epoch all epoch) (in_file next)
+next_joins : (cur : JoinedEntries) (rs after left : List Record) (all : List Entry) (epoch : ℕ) (next : Entry) (s : Seen) (same : Bool) → HoldsJoined cur rs after all → next.epoch ≡ epoch → s ≡ seen_next (in_epoch all epoch) (in_file next)
     → AgreesIf same next.text all → AreFirst rs left (all ++ next ∷ []) → JoinsNext cur all epoch s same next.number
 next_joins cur rs after left all epoch next s same holds here seen texts first =
     let agree = blobs_last all next first.blobs in
@@ -406,7 +406,7 @@ next_joins cur rs after left all epoch next s same holds here seen texts first =
 
 -- Some first entries of an epoch have joined those of the epochs before it, and this is recorded of
 -- the others.
-pub record Comes (cur : Joined) (left : List Seen) (rs : List Record) (others : List Entry) (epoch : ℕ) (here : List EpochEntry) : Type 0 where
+pub record Comes (cur : JoinedEntries) (left : List Seen) (rs : List Record) (others : List Entry) (epoch : ℕ) (here : List EpochEntry) : Type 0 where
   pub more : List Entry
   pub rest : List EpochEntry
   pub after : List Record
@@ -415,10 +415,10 @@ pub record Comes (cur : Joined) (left : List Seen) (rs : List Record) (others : 
   pub are : here ≡ map in_file more ++ rest
   pub valid : AreEpochEntries rest
   pub seen : left ≡ seen_from (8 + length (entries_bytes None more)) (last_commit None more) rest
-  pub holds : Holds cur rs after (others ++ more)
+  pub holds : HoldsJoined cur rs after (others ++ more)
 
 -- No entry has joined yet.
-pub comes_first : (cur : Joined) (left : List Seen) (rs after : List Record) (others : List Entry) (epoch : ℕ) (here : List EpochEntry) → AreBefore epoch cur.entries → Holds cur rs after others → AreEpochEntries here → left ≡ seen_from 8 None here
+pub comes_first : (cur : JoinedEntries) (left : List Seen) (rs after : List Record) (others : List Entry) (epoch : ℕ) (here : List EpochEntry) → AreBefore epoch cur.entries → HoldsJoined cur rs after others → AreEpochEntries here → left ≡ seen_from 8 None here
     → Comes cur left rs others epoch here
 comes_first cur left rs after others epoch here before holds valid seen = record {
   more = [];
@@ -429,7 +429,7 @@ comes_first cur left rs after others epoch here before holds valid seen = record
   are = refl;
   valid = valid;
   seen = seen;
-  holds = subst (Holds cur rs after) (sym (append-nil others)) holds;
+  holds = subst (HoldsJoined cur rs after) (sym (append-nil others)) holds;
 }
 
 -- The remaining entries start with one.
@@ -510,7 +510,7 @@ stand_there root files epoch others more x rest here stand whole fronts are = λ
       (subst (λ (b : List ℕ). Fronts b (files (epoch_file_of root epoch))) bytes fronts)
 
 -- The next entry was compared.
-come_texts : (root : Root) (files : Files) (cur : Joined) (left : List Seen) (s : Seen) (after : List Seen) (rs : List Record) (others : List Entry) (epoch : ℕ) (here : List EpochEntry) (same : Bool) → AreWhole root files epoch others → Fronts (epoch_of here) (files (epoch_file_of root epoch))
+come_texts : (root : Root) (files : Files) (cur : JoinedEntries) (left : List Seen) (s : Seen) (after : List Seen) (rs : List Record) (others : List Entry) (epoch : ℕ) (here : List EpochEntry) (same : Bool) → AreWhole root files epoch others → Fronts (epoch_of here) (files (epoch_file_of root epoch))
     → (comes : Comes cur left rs others epoch here) → (begin : Begins left s after comes.more comes.rest) → IsSameText root files cur (others ++ comes.more) epoch s same → AgreesIf same begin.x.text (others ++ comes.more)
 come_texts root files cur left s after rs others epoch here same whole fronts comes begin texts =
     let all = others ++ comes.more in
@@ -519,9 +519,9 @@ come_texts root files cur left s after rs others epoch here same whole fronts co
     (stand_there root files epoch others comes.more begin.x begin.others here comes.stand whole fronts (comes.are ∙ ap (λ (l : List EpochEntry). map in_file comes.more ++ l) begin.are))
 
 -- One more entry joins.
-pub comes_more : (root : Root) (files : Files) (cur new : Joined) (left : List Seen) (s : Seen) (after : List Seen) (rs : List Record) (others : List Entry) (epoch number : ℕ) (here : List EpochEntry) (same : Bool) → epoch ≤ 63 → AreWhole root files epoch others
+pub comes_more : (root : Root) (files : Files) (cur new : JoinedEntries) (left : List Seen) (s : Seen) (after : List Seen) (rs : List Record) (others : List Entry) (epoch number : ℕ) (here : List EpochEntry) (same : Bool) → epoch ≤ 63 → AreWhole root files epoch others
     → Fronts (epoch_of here) (files (epoch_file_of root epoch)) → Comes cur left rs others epoch here → left ≡ s ∷ after
-    → Held cur (λ (all : List Entry). IsSameText root files cur all epoch s same) → Held cur (λ (all : List Entry). JoinsNext cur all epoch s same number) → new ≡ with_seen cur number epoch s → Comes new after rs others epoch here
+    → OfJoined cur (λ (all : List Entry). IsSameText root files cur all epoch s same) → OfJoined cur (λ (all : List Entry). JoinsNext cur all epoch s same number) → new ≡ with_seen cur number epoch s → Comes new after rs others epoch here
 comes_more root files cur new left s after rs others epoch number here same small whole fronts comes is texts joining new_is =
     let begin = begins left s after comes.more comes.rest is comes.seen in
     let parts = valid_parts comes.rest begin.x begin.others begin.are comes.valid in
@@ -548,11 +548,11 @@ comes_more root files cur new left s after rs others epoch number here same smal
       are = comes.are ∙ (ap (λ (l : List EpochEntry). map in_file comes.more ++ l) begin.are ∙ (ap (λ (x : EpochEntry). map in_file comes.more ++ x ∷ begin.others) (sym one.file_is) ∙ sym (map_after in_file comes.more one.entry begin.others)));
       valid = parts.1;
       seen = begin.seen_after ∙ (λ i. seen_from (offset i) (parent i) begin.others);
-      holds = subst (Holds new rs one.left) (append_assoc others comes.more (one.entry ∷ [])) one.holds;
+      holds = subst (HoldsJoined new rs one.left) (append_assoc others comes.more (one.entry ∷ [])) one.holds;
     }
 
 -- All entries have joined.
-pub all_come : (cur : Joined) (left : List Seen) (rs : List Record) (others : List Entry) (epoch : ℕ) (here : List EpochEntry) → Comes cur left rs others epoch here → left ≡ [] → AreJoined cur rs others epoch here
+pub all_come : (cur : JoinedEntries) (left : List Seen) (rs : List Record) (others : List Entry) (epoch : ℕ) (here : List EpochEntry) → Comes cur left rs others epoch here → left ≡ [] → AreJoined cur rs others epoch here
 all_come cur left rs others epoch here comes none = record {
   more = comes.more;
   after = comes.after;
@@ -565,9 +565,9 @@ all_come cur left rs others epoch here comes none = record {
   no_rest (x ∷ xs) is = absurd (cc)
 
 -- The next entry can't join.
-pub stops : (root : Root) (files : Files) (cur : Joined) (left : List Seen) (s : Seen) (after : List Seen) (rs : List Record) (others : List Entry) (epoch offset : ℕ) (here : List EpochEntry) (same : Bool) → AreWhole root files epoch others
-    → Fronts (epoch_of here) (files (epoch_file_of root epoch)) → Comes cur left rs others epoch here → left ≡ s ∷ after → Held cur (λ (all : List Entry). IsSameText root files cur all epoch s same)
-    → offset ≡ s.at → Held cur (λ (all : List Entry). (number : ℕ) → JoinsNext cur all epoch s same number → ⊥) → StopsAt rs others epoch here offset
+pub stops : (root : Root) (files : Files) (cur : JoinedEntries) (left : List Seen) (s : Seen) (after : List Seen) (rs : List Record) (others : List Entry) (epoch offset : ℕ) (here : List EpochEntry) (same : Bool) → AreWhole root files epoch others
+    → Fronts (epoch_of here) (files (epoch_file_of root epoch)) → Comes cur left rs others epoch here → left ≡ s ∷ after → OfJoined cur (λ (all : List Entry). IsSameText root files cur all epoch s same)
+    → offset ≡ s.at → OfJoined cur (λ (all : List Entry). (number : ℕ) → JoinsNext cur all epoch s same number → ⊥) → StopsAt rs others epoch here offset
 stops root files cur left s after rs others epoch offset here same whole fronts comes is texts at none =
     let begin = begins left s after comes.more comes.rest is comes.seen in
     let all = others ++ comes.more in
@@ -589,7 +589,7 @@ stops root files cur left s after rs others epoch offset here same whole fronts 
     }
 
 -- What an error then says.
-pub joins_or_stops : (root : Root) (files : Files) (cur : Joined) (left : List Seen) (s : Seen) (after : List Seen) (rs : List Record) (others : List Entry) (epoch : ℕ) (here : List EpochEntry) (refusal : JoinRefusal) → AreWhole root files epoch others
+pub joins_or_stops : (root : Root) (files : Files) (cur : JoinedEntries) (left : List Seen) (s : Seen) (after : List Seen) (rs : List Record) (others : List Entry) (epoch : ℕ) (here : List EpochEntry) (refusal : JoinRefusal) → AreWhole root files epoch others
     → Fronts (epoch_of here) (files (epoch_file_of root epoch)) → Comes cur left rs others epoch here → left ≡ s ∷ after → JoinsByText root cur epoch s (Err refusal) files → JoinsAll rs others epoch here (Err refusal)
 joins_or_stops root files cur left s after rs others epoch here NoMemory whole fronts comes is joins = tt
 joins_or_stops root files cur left s after rs others epoch here DiskFault whole fronts comes is joins = tt

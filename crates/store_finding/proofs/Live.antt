@@ -9,7 +9,7 @@ use Rattle.git_objects.specs.declared.entry_kind.EntryKind.{EntryKind}
 use Rattle.git_objects.specs.declared.entry_kind.EntryKind.TheVariants.{Message, Deletion}
 use Rattle.mail_reader.specs.Ids.{own_id}
 use Rattle.arch_model.specs.Archives.{Entry, is_message, is_ended, is_id, live, messages, owner, text_of}
-use Rattle.arch_model.specs.Validity.{IsFrom, number_after, Rise, AtEachPlace, EndsLive, IdsDiffer}
+use Rattle.arch_model.specs.Validity.{NumberIsFrom, number_after, Rise, AtEachPlace, EndsLive, IdsDiffer}
 use Rattle.arch_model.proofs.LiveEntries.{found-has, all-text, live-all}
 use Rattle.arch_model.proofs.ValidArchives.{all_after}
 use Rattle.root_change.proofs.Roots.{same_test, other_test}
@@ -77,7 +77,7 @@ ascends_more : (es : List Entry) (low high : ℕ) → low ≤ high → Ascends h
 ascends_more [] low high less up = tt
 ascends_more (e ∷ es) low high less up = let from = up.0 in (omega (arith, less, from), up.1)
 
-kind_step : (k : EntryKind) (t : Bool) (n : ℕ) (e : Entry) (es : List Entry) → IsFrom k n e.number → Ascends (number_after k n e.number) es → Ascends n (if is_message k && t then e ∷ es else es)
+kind_step : (k : EntryKind) (t : Bool) (n : ℕ) (e : Entry) (es : List Entry) → NumberIsFrom k n e.number → Ascends (number_after k n e.number) es → Ascends n (if is_message k && t then e ∷ es else es)
 kind_step Message true n e es from up = (from, up)
 kind_step Message false n e es from up = ascends_more es n (e.number + 1) (omega (arith, from)) up
 kind_step Deletion t n e es from up = up
@@ -86,7 +86,7 @@ pub live_ascends : (n epoch : ℕ) (es : List Entry) → Rise n epoch es → Asc
 live_ascends n epoch [] rise = tt
 live_ascends n epoch (e ∷ es) rise = kind_step e.kind (not (is_ended es e.number)) n e (live es) rise.0 (live_ascends (number_after e.kind n e.number) e.epoch es rise.2)
 
-message_step : (k : EntryKind) (n : ℕ) (e : Entry) (es : List Entry) → IsFrom k n e.number → Ascends (number_after k n e.number) es → Ascends n (if is_message k then e ∷ es else es)
+message_step : (k : EntryKind) (n : ℕ) (e : Entry) (es : List Entry) → NumberIsFrom k n e.number → Ascends (number_after k n e.number) es → Ascends n (if is_message k then e ∷ es else es)
 message_step Message n e es from up = (from, up)
 message_step Deletion n e es from up = up
 

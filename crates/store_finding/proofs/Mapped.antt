@@ -3,9 +3,9 @@ use Rattle.std.specs.Prelude.{◌≡◌, ◌+◌, ◌-◌, ◌*◌, ◌==◌, �
 use Rattle.std.specs.List.{AllByRecursion}
 use Rattle.std.proofs.Common.{◌∙◌, ap, subst, inl, inr, arith}
 use Rattle.std.proofs.lemmas.Grind.{common_steps}
-use Rattle.arch_base.specs.Ids.{IsId}
+use Rattle.arch_base.specs.Ids.{IsObjectId}
 use Rattle.git_objects.specs.Objects.{blob_spelling}
-use Rattle.git_objects.proofs.ObjectIds.{IsId-id_of}
+use Rattle.git_objects.proofs.ObjectIds.{IsObjectId-id_of}
 use Rattle.arch_model.specs.Archives.{Entry, Archive, messages}
 use Rattle.arch_model.proofs.LiveEntries.{messages-all}
 use Rattle.number_map.specs.Records.{IsRecord, AreRecordsFrom}
@@ -14,7 +14,7 @@ use Rattle.arch_model.specs.Validity.{IsEntry, IsArchive}
 use Rattle.store_finding.specs.Recovery.{entry_of, record_for, records_from, records_of, map_bytes}
 
 -- Twenty zeros are an id.
-zero_id : IsId (record { 0 = replicate 20 0 })
+zero_id : IsObjectId (record { 0 = replicate 20 0 })
 zero_id = record { len = refl; bytes = λ k. grind (arith, common_steps) }
 
 -- What holds of both alternatives holds of the chosen one.
@@ -30,7 +30,7 @@ found_entry P (f ∷ es) n all e is = chosen P f e (f.number == n) (entry_of es 
 -- Each record is valid.
 record_is_valid : (n : ℕ) (found : Option Entry) → ((e : Entry) → found ≡ Some e → IsEntry e) → IsRecord n (record_for n found)
 record_is_valid n None entry = record { number = refl; blob = zero_id; message = inr (refl, refl) }
-record_is_valid n (Some e) entry = record { number = refl; blob = IsId-id_of (blob_spelling e.text); message = inl ((entry e refl).epoch) }
+record_is_valid n (Some e) entry = record { number = refl; blob = IsObjectId-id_of (blob_spelling e.text); message = inl ((entry e refl).epoch) }
 
 pub records_are_valid : (es : List Entry) (n count : ℕ) → AllByRecursion IsEntry es → AreRecordsFrom n (records_from es n count)
 records_are_valid es n zero valid = tt

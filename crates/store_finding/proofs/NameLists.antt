@@ -14,7 +14,7 @@ use Rattle.std.proofs.lemmas.Option.{slice_get_within, get_or_from_slice_get}
 use Rattle.disk_model.specs.declared.name.FileName.{FileName}
 use Rattle.disk_model.specs.Name.{name_cmp}
 use Rattle.disk_model.specs.Images.{names_total, same_or_other}
-use Rattle.disk_model.specs.Disk.{Content, Files, Fits, Image, IsNameAt, Kept, Told, Unchanged, WhereTold}
+use Rattle.disk_model.specs.Disk.{Content, Files, MaySurvive, Image, IsNameAt, Kept, BothTold, Unchanged, WhereTold}
 use Rattle.disk_model.specs.Tells.{told_then}
 use Rattle.store_finding.specs.Listing.{AreAllNames}
 
@@ -85,19 +85,19 @@ one_more names i name k m same are at_place all listed =
     ap (λ (l : List FileName). l ++ name ∷ []) (are all listed) ∙ sym (next ∙ ap (λ (n : FileName). take i all ++ n ∷ []) (get_or_from_slice_get all i name name here))
 
 -- One more name, if the disk tells its content.
-pub first_more : (names : List FileName) (i : ℕ) (name : FileName) (k m : Option Content) → Told Unchanged k m → WhereTold (AreFirstNames names i) k → WhereTold (IsNameAt i (Some name)) m → WhereTold (AreFirstNames (names ++ name ∷ []) (i + 1)) k
+pub first_more : (names : List FileName) (i : ℕ) (name : FileName) (k m : Option Content) → BothTold Unchanged k m → WhereTold (AreFirstNames names i) k → WhereTold (IsNameAt i (Some name)) m → WhereTold (AreFirstNames (names ++ name ∷ []) (i + 1)) k
 first_more names i name None None same are at_place = tt
 first_more names i name None (Some m) same are at_place = absurd same
 first_more names i name (Some k) None same are at_place = absurd same
 first_more names i name (Some k) (Some m) same are at_place = one_more names i name k m same are at_place
 
 -- What two calls leave unchanged is unchanged after both.
-pub unchanged_more : (k m o : Option Content) → Told Unchanged k m → Told Unchanged m o → Told Unchanged k o
+pub unchanged_more : (k m o : Option Content) → BothTold Unchanged k m → BothTold Unchanged m o → BothTold Unchanged k o
 unchanged_more k m o = told_then Unchanged Unchanged Unchanged k m o (λ a b c is told first second name. second name ∙ first name)
 
 -- If nothing changes, a crash leaves what it left before.
-pub unchanged_image : (k m : Option Content) (image : Files) → Told Unchanged k m → Image m image → Image k image
+pub unchanged_image : (k m : Option Content) (image : Files) → BothTold Unchanged k m → Image m image → Image k image
 unchanged_image None None image same left = tt
 unchanged_image None (Some m) image same left = tt
 unchanged_image (Some k) None image same left = absurd same
-unchanged_image (Some k) (Some m) image same left = λ name. let P : Kept → Type 0 = λ kept. Fits kept.sure (image name) in subst P (same name) (left name)
+unchanged_image (Some k) (Some m) image same left = λ name. let P : Kept → Type 0 = λ kept. MaySurvive kept.sure (image name) in subst P (same name) (left name)

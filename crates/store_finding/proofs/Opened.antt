@@ -15,7 +15,7 @@ use Rattle.store_finding.specs.Files.{map_file_of}
 use Rattle.arch_model.specs.Validity.{IsEntry, IsArchive}
 use Rattle.arch_model.proofs.LiveEntries.{messages-all}
 use Rattle.store_finding.proofs.Live.{Ascends, messages_ascend, numbers_all}
-use Rattle.store_finding.specs.Recovery.{entry_of, record_for, records_from, records_of, map_bytes, Names}
+use Rattle.store_finding.specs.Recovery.{entry_of, record_for, records_from, records_of, map_bytes, NamesArchive}
 use Rattle.store_finding.proofs.FrontParts.{from_parts, parts_front}
 use Rattle.store_finding.specs.Damage.{has_message, messages, record_of}
 use Rattle.store_finding.specs.Openings.{archive_of, OpenedRecovers, RecoversMap, RecoversOpened}
@@ -142,7 +142,7 @@ opened_recovers root files rs entries cache has has_cache opened =
     let all : messages rs ≡ map record_of (delivered entries) = opened.first.records ∙ append-nil (map record_of (delivered entries)) in
     let back : rs ≡ records_of a = records_back 1 rs (delivered entries) has.begins.valid (messages_ascend 1 0 entries opened.first.order) all ∙ ap (records_from (delivered entries) 1) count in
     let size : 28 * length rs ≡ length (map_bytes a) = sym (records_length 1 rs has.begins.valid) ∙ ap (λ (l : List Record). length (flat_map record_bytes l)) back in
-    let names : Names root a = record { is_root = has.is_root; fits = has.fits; config = refl; next = refl; epochs = opened.whole.lengths } in
+    let names : NamesArchive root a = record { is_root = has.is_root; fits = has.fits; config = refl; next = refl; epochs = opened.whole.lengths } in
     record {
       valid = record {
         name = has.fits.name;

@@ -21,7 +21,7 @@ use Rattle.store_finding.specs.Files.{epoch_file_of}
 use Rattle.arch_model.specs.Validity.{IsEntry}
 use Rattle.store_finding.specs.Kept.{in_file}
 use Rattle.store_finding.specs.Damage.{AreFirst, named_length, named_bytes, AreWhole, LacksNext}
-use Rattle.store_finding.specs.Joined.{Joined, AreJoined, StopsAt}
+use Rattle.store_finding.specs.Joined.{JoinedEntries, AreJoined, StopsAt}
 use Rattle.arch_model.proofs.ValidArchives.{all_weaker}
 use Rattle.store_finding.proofs.Firsts.{all_last}
 use Rattle.store_finding.proofs.Joins.{all_joined, only_here}
@@ -93,7 +93,7 @@ fronts_by n bytes file is size =
     record { long = omega (arith, long, same, size); front = ap (λ (m : ℕ). take m (bytes_of file)) (sym size) ∙ is }
 
 -- An epoch that a walk read and whose entries were all joined is whole.
-pub walked_whole : (root : Root) (files : Files) (epoch : ℕ) (others : List Entry) (rs : List Record) (new : Joined) (seen : List Seen) → AreWhole root files epoch others
+pub walked_whole : (root : Root) (files : Files) (epoch : ℕ) (others : List Entry) (rs : List Record) (new : JoinedEntries) (seen : List Seen) → AreWhole root files epoch others
     → (walked : IsEpoch (named_length root epoch) (bytes_of (files (epoch_file_of root epoch))) seen) → (joined : AreJoined new rs others epoch walked.entries) → AreWhole root files (epoch + 1) (others ++ joined.more)
 walked_whole root files epoch others rs new seen whole walked joined =
     let count = walked.some in

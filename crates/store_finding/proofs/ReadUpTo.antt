@@ -9,7 +9,7 @@ use Rattle.mail_commits.specs.Entries.{magic}
 use Rattle.number_map.specs.declared.line.Record.{Record}
 use Rattle.epoch_file.specs.declared.entry.Seen.{Seen}
 use Rattle.epoch_file.specs.Entries.{EntriesDiffer, EpochEntry, AreEpochEntries, bytes_after, commit_after, chain, last_of, epoch_of, EpochsDiffer}
-use Rattle.epoch_file.specs.Walking.{IsEpoch, EndsEarly, IsDamagedAt}
+use Rattle.epoch_file.specs.Walking.{IsEpoch, EndsEarly, IsDamagedEpochAt}
 use Rattle.root_slots.specs.declared.root.Root.{Root}
 use Rattle.root_slots.specs.Valid.{RootFits}
 use Rattle.root_change.specs.Texts.{Fronts}
@@ -18,7 +18,7 @@ use Rattle.store_finding.specs.declared.entries.StoredEntry.{StoredEntry}
 use Rattle.store_finding.specs.declared.join_refusal.JoinRefusal.TheVariants.{Damaged}
 use Rattle.store_finding.specs.declared.join_refusal.Unmatched.{Unmatched}
 use Rattle.store_finding.specs.Damage.{AreFirst, named_length, IsFirstDamage}
-use Rattle.store_finding.specs.Joined.{Joined, AreJoined, TakesEpoch, Finishes}
+use Rattle.store_finding.specs.Joined.{JoinedEntries, AreJoined, TakesEpoch, FinishesJoin}
 use Rattle.store_finding.specs.Openings.{IsReadUpTo, AreRead}
 use Rattle.store_finding.proofs.Opening.{fronts_by, walked_whole, empty_whole, early_next, stops_next, entry_some, valid_after}
 use Rattle.store_finding.proofs.Undamaged.{prefix_of}
@@ -36,18 +36,18 @@ walked_fronts : (n : ℕ) (file : File) (seen : List Seen) → (walked : IsEpoch
 walked_fronts n file seen walked = fronts_by n (epoch_of walked.entries) file walked.spelled walked.whole
 
 -- An epoch of length 0 is read.
-pub read_empty : (root : Root) (files : Files) (rs : List Record) (epoch : ℕ) (v : Joined) → IsReadUpTo root files rs epoch v → named_length root epoch ≡ 0 → IsReadUpTo root files rs (epoch + 1) v
+pub read_empty : (root : Root) (files : Files) (rs : List Record) (epoch : ℕ) (v : JoinedEntries) → IsReadUpTo root files rs epoch v → named_length root epoch ≡ 0 → IsReadUpTo root files rs (epoch + 1) v
 read_empty root files rs epoch v up none = record { entries = up.entries; after = up.after; holds = up.holds; whole = empty_whole root files epoch up.entries up.whole none }
 
 -- An epoch that a walk read and whose entries were all joined is read.
-pub read_more : (root : Root) (files : Files) (rs : List Record) (epoch : ℕ) (old new : Joined) (seen : List Seen) → IsReadUpTo root files rs epoch old → IsEpoch (named_length root epoch) (bytes_at root files epoch) seen → TakesEpoch root old epoch seen (Ok new) files
+pub read_more : (root : Root) (files : Files) (rs : List Record) (epoch : ℕ) (old new : JoinedEntries) (seen : List Seen) → IsReadUpTo root files rs epoch old → IsEpoch (named_length root epoch) (bytes_at root files epoch) seen → TakesEpoch root old epoch seen (Ok new) files
     → IsReadUpTo root files rs (epoch + 1) new
 read_more root files rs epoch old new seen up walked takes =
     let joined : AreJoined new rs up.entries epoch walked.entries = takes rs up.after up.entries walked.entries up.holds up.whole (walked_fronts (named_length root epoch) (files (epoch_file_of root epoch)) seen walked) walked.valid walked.is in
     record { entries = up.entries ++ joined.more; after = joined.after; holds = joined.holds; whole = walked_whole root files epoch up.entries rs new seen up.whole walked joined }
 
 -- An epoch whose entries could not all be joined is damaged.
-pub read_stopped : EntriesDiffer → (root : Root) (files : Files) (rs : List Record) (epoch offset : ℕ) (old : Joined) (seen : List Seen) → RootFits root → epoch ≤ 63 → IsReadUpTo root files rs epoch old
+pub read_stopped : EntriesDiffer → (root : Root) (files : Files) (rs : List Record) (epoch offset : ℕ) (old : JoinedEntries) (seen : List Seen) → RootFits root → epoch ≤ 63 → IsReadUpTo root files rs epoch old
     → IsEpoch (named_length root epoch) (bytes_at root files epoch) seen → TakesEpoch root old epoch seen (Err (Damaged offset)) files → IsFirstDamage root files rs epoch offset
 read_stopped differ root files rs epoch offset old seen fits less up walked takes =
     inr (inl (
@@ -64,8 +64,8 @@ no_bytes parent (e ∷ es) none =
     absurd (entry_some parent e (nil_from_length (bytes_after parent e) (omega (arith, size, none))))
 
 -- An epoch in which a walk ended at the front or after the magic is damaged there.
-pub read_front : (root : Root) (files : Files) (rs : List Record) (epoch offset : ℕ) (old : Joined) → epoch ≤ 63 → 0 < named_length root epoch → offset ≤ 8 → IsReadUpTo root files rs epoch old
-    → IsDamagedAt (named_length root epoch) (bytes_at root files epoch) offset → IsFirstDamage root files rs epoch offset
+pub read_front : (root : Root) (files : Files) (rs : List Record) (epoch offset : ℕ) (old : JoinedEntries) → epoch ≤ 63 → 0 < named_length root epoch → offset ≤ 8 → IsReadUpTo root files rs epoch old
+    → IsDamagedEpochAt (named_length root epoch) (bytes_at root files epoch) offset → IsFirstDamage root files rs epoch offset
 read_front root files rs epoch offset old less some low up (inl lacks) =
     inl (omega (arith, less), record { before = up.entries; after = up.after; first = up.holds.first; whole = up.whole; some = some; lacks = lacks.1; offset_is = lacks.0 })
 read_front root files rs epoch offset old less some low up (inr ends) =
@@ -95,8 +95,8 @@ again differ n offset bytes seen short ends walked =
     differ ends.entries walked.entries ends.valid walked.valid (omega (arith, short, is, length-append magic (chain None ends.entries))) (sym (left_bytes n offset bytes ends) ∙ walked.spelled)
 
 -- An epoch in which a walk ended later is damaged there if all entries up to there were joined.
-pub read_left : EpochsDiffer → (root : Root) (files : Files) (rs : List Record) (epoch offset : ℕ) (old new : Joined) (seen : List Seen) → RootFits root → epoch ≤ 63 → 8 < offset → IsReadUpTo root files rs epoch old
-    → IsDamagedAt (named_length root epoch) (bytes_at root files epoch) offset → IsEpoch offset (bytes_at root files epoch) seen → TakesEpoch root old epoch seen (Ok new) files → IsFirstDamage root files rs epoch offset
+pub read_left : EpochsDiffer → (root : Root) (files : Files) (rs : List Record) (epoch offset : ℕ) (old new : JoinedEntries) (seen : List Seen) → RootFits root → epoch ≤ 63 → 8 < offset → IsReadUpTo root files rs epoch old
+    → IsDamagedEpochAt (named_length root epoch) (bytes_at root files epoch) offset → IsEpoch offset (bytes_at root files epoch) seen → TakesEpoch root old epoch seen (Ok new) files → IsFirstDamage root files rs epoch offset
 read_left differ root files rs epoch offset old new seen fits less high up (inl lacks) walked takes = absurd (let zero_is = lacks.0 in omega (arith, zero_is, high))
 read_left differ root files rs epoch offset old new seen fits less high up (inr ends) walked takes =
     let joined : AreJoined new rs up.entries epoch walked.entries = takes rs up.after up.entries walked.entries up.holds up.whole (walked_fronts offset (files (epoch_file_of root epoch)) seen walked) walked.valid walked.is in
@@ -105,8 +105,8 @@ read_left differ root files rs epoch offset old new seen fits less high up (inr 
     inr (inl (omega (arith, less), early_next root files epoch offset up.entries joined.more rs joined.after up.whole joined.stand joined.holds.first ends (same ∙ joined.are)))
 
 -- Otherwise it is damaged before, at the first that could not be joined.
-pub read_left_stopped : EntriesDiffer → EpochsDiffer → (root : Root) (files : Files) (rs : List Record) (epoch left offset : ℕ) (old : Joined) (seen : List Seen) → RootFits root → epoch ≤ 63 → 8 < left → IsReadUpTo root files rs epoch old
-    → IsDamagedAt (named_length root epoch) (bytes_at root files epoch) left → IsEpoch left (bytes_at root files epoch) seen → TakesEpoch root old epoch seen (Err (Damaged offset)) files → IsFirstDamage root files rs epoch offset
+pub read_left_stopped : EntriesDiffer → EpochsDiffer → (root : Root) (files : Files) (rs : List Record) (epoch left offset : ℕ) (old : JoinedEntries) (seen : List Seen) → RootFits root → epoch ≤ 63 → 8 < left → IsReadUpTo root files rs epoch old
+    → IsDamagedEpochAt (named_length root epoch) (bytes_at root files epoch) left → IsEpoch left (bytes_at root files epoch) seen → TakesEpoch root old epoch seen (Err (Damaged offset)) files → IsFirstDamage root files rs epoch offset
 read_left_stopped entry differ root files rs epoch left offset old seen fits less high up (inl lacks) walked takes = absurd (let zero_is = lacks.0 in omega (arith, zero_is, high))
 read_left_stopped entry differ root files rs epoch left offset old seen fits less high up (inr ends) walked takes =
     let within = left_within (named_length root epoch) left (bytes_at root files epoch) ends in
@@ -118,7 +118,7 @@ read_left_stopped entry differ root files rs epoch left offset old seen fits les
     ))
 
 -- A walk up to the offset at which a walk ended isn't damaged.
-pub left_undamaged : EntriesDiffer → (n left offset : ℕ) (bytes : List ℕ) → n < 2 ^ 64 → 8 < left → IsDamagedAt n bytes left → IsDamagedAt left bytes offset → ⊥
+pub left_undamaged : EntriesDiffer → (n left offset : ℕ) (bytes : List ℕ) → n < 2 ^ 64 → 8 < left → IsDamagedEpochAt n bytes left → IsDamagedEpochAt left bytes offset → ⊥
 left_undamaged differ n left offset bytes short high (inl lacks) other = absurd (let zero_is = lacks.0 in omega (arith, zero_is, high))
 left_undamaged differ n left offset bytes short high (inr ends) (inl lacks) = lacks.1 (ap (take 8) (left_bytes n left bytes ends) ∙ take-append_seam magic (chain None ends.entries))
 left_undamaged differ n left offset bytes short high (inr ends) (inr other) =
@@ -141,13 +141,13 @@ left_undamaged differ n left offset bytes short high (inr ends) (inr other) =
     by (f ∷ fs) same rest = other.lacks f (chain (Some (commit_after (last_of None other.entries) f)) fs) (valid_after other.entries f fs (subst AreEpochEntries same ends.valid)) rest
 
 -- All epochs are read, and all messages of the map have an entry.
-pub read_all : (root : Root) (files : Files) (rs : List Record) (v : Joined) (kept : List StoredEntry) → IsReadUpTo root files rs 64 v → Finishes v (Ok kept) → AreRead root files rs kept
+pub read_all : (root : Root) (files : Files) (rs : List Record) (v : JoinedEntries) (kept : List StoredEntry) → IsReadUpTo root files rs 64 v → FinishesJoin v (Ok kept) → AreRead root files rs kept
 read_all root files rs v kept up ends =
     let all = ends rs up.after up.entries up.holds in
     record { entries = up.entries; opened = record { first = all.1; whole = up.whole }; kept_are = all.0 }
 
 -- All epochs are read, and a message of the map has no entry.
-pub read_missing : (root : Root) (files : Files) (rs : List Record) (v : Joined) (refusal : Unmatched) → IsReadUpTo root files rs 64 v → Finishes v (Err refusal) → IsFirstDamage root files rs refusal.epoch (named_length root refusal.epoch)
+pub read_missing : (root : Root) (files : Files) (rs : List Record) (v : JoinedEntries) (refusal : Unmatched) → IsReadUpTo root files rs 64 v → FinishesJoin v (Err refusal) → IsFirstDamage root files rs refusal.epoch (named_length root refusal.epoch)
 read_missing root files rs v refusal up ends =
     let one = ends rs up.after up.entries up.holds in
     inr (inr (record { before = up.entries; next = one.0; after = one.1; first = one.2; whole = up.whole; stands = sym one.3; offset_is = refl }))

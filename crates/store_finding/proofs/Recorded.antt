@@ -13,7 +13,7 @@ use Rattle.std.proofs.lemmas.Bool.{cases_lt}
 use Rattle.std.proofs.lemmas.Bool.Decides.{nat_tests}
 use Rattle.std.proofs.lemmas.Option.{same_Some, slice_get-get_or, slice_get_within}
 use Rattle.std.proofs.lemmas.Slice.Eq.{bytes_eq-Decides}
-use Rattle.arch_judge.specs.Indexes.{Loses, Puts, first_found, number_in, owner_in}
+use Rattle.arch_judge.specs.Indexes.{IndexLoses, IndexPuts, first_found, number_in, owner_in}
 use Rattle.arch_judge.specs.declared.index.Index.{Index}
 use Rattle.arch_judge.specs.declared.index.Owner.{Owner}
 use Rattle.git_objects.specs.declared.entry_kind.EntryKind.{EntryKind}
@@ -24,8 +24,8 @@ use Rattle.root_change.proofs.PlanParts.{last_there, still_there}
 use Rattle.epoch_file.specs.declared.entry.Seen.{Seen}
 use Rattle.store_finding.specs.declared.entries.StoredEntry.{StoredEntry}
 use Rattle.store_finding.specs.Damage.{has_message, messages}
-use Rattle.store_finding.specs.Indexes.{Takes, TakesBy, owner_kept}
-use Rattle.store_finding.specs.Joined.{IsJoining, IsMessageOf, IsPlaced, IsRecorded, IsWanted, Joined, NumbersRise, entry_seen, message_count, places_with, with_seen}
+use Rattle.store_finding.specs.Indexes.{IndexTakes, TakesBy, owner_kept}
+use Rattle.store_finding.specs.Joined.{IsJoining, IsMessageOf, IsJoinedAt, IsRecorded, IsWantedRecord, JoinedEntries, NumbersRise, entry_seen, message_count, places_with, with_seen}
 use Rattle.store_finding.proofs.Joins.{count_by}
 
 -- The records of a valid map that have a message rise.
@@ -82,7 +82,7 @@ parted records number rise = λ i j d low within holds. elim (cases_lt i j) [
 abbrev pub IsPoint : List Record → ℕ → ℕ → Type 0
 IsPoint records number point = IsPartitionPoint (λ (r : Record). nat_lt r.number number ≡ true) (λ (r : Record). nat_lt r.number number ≡ false) records point
 
-module _ (v : Joined) (number point : ℕ) (line : Record) (rise : NumbersRise v.records) (of : IsRecorded v number line) (parts : IsPoint v.records number point) where
+module _ (v : JoinedEntries) (number point : ℕ) (line : Record) (rise : NumbersRise v.records) (of : IsRecorded v number line) (parts : IsPoint v.records number point) where
   within : of.index < length v.records
   within = slice_get_within v.records of.index line of.there
 
@@ -113,12 +113,12 @@ module _ (v : Joined) (number point : ℕ) (line : Record) (rise : NumbersRise v
   ]
 
 -- So the message of a number that is recorded is found at its place.
-module _ (v : Joined) (places : List ℕ) (index : Index) (number point : ℕ) (line : Record) (joining : IsJoining v places index) (count : length places ≡ message_count v.entries) (of : IsRecorded v number line) (parts : IsPoint v.records number point) where
+module _ (v : JoinedEntries) (places : List ℕ) (index : Index) (number point : ℕ) (line : Record) (joining : IsJoining v places index) (count : length places ≡ message_count v.entries) (of : IsRecorded v number line) (parts : IsPoint v.records number point) where
   pub point_within : point < length places
   point_within = (let is = point_is v number point line joining.rise of parts in let before = of.before in omega (arith, is, before, count))
 
   module _ (at : ℕ) (at_is : slice_get places point ≡ Some at) where
-    placed : IsPlaced v point at
+    placed : IsJoinedAt v point at
     placed = joining.placed point at at_is
 
     pub place_within : at < length v.entries
@@ -154,10 +154,10 @@ item_of {X} (z ∷ zs) x (suc i) y here = elim (item_of zs x i y here) [
 ]
 
 -- One more entry is joined.
-recorded_more : (v : Joined) (e : StoredEntry) (n : ℕ) (line : Record) → message_count v.entries ≤ message_count (v.entries ++ e ∷ []) → IsRecorded v n line → IsRecorded (record { records = v.records; entries = v.entries ++ e ∷ [] }) n line
+recorded_more : (v : JoinedEntries) (e : StoredEntry) (n : ℕ) (line : Record) → message_count v.entries ≤ message_count (v.entries ++ e ∷ []) → IsRecorded v n line → IsRecorded (record { records = v.records; entries = v.entries ++ e ∷ [] }) n line
 recorded_more v e n line more of = record { index = of.index; before = (let before = of.before in omega (arith, before, more)); there = of.there; number_is = of.number_is }
 
-placed_more : (v : Joined) (e : StoredEntry) (i at : ℕ) → IsPlaced v i at → IsPlaced (record { records = v.records; entries = v.entries ++ e ∷ [] }) i at
+placed_more : (v : JoinedEntries) (e : StoredEntry) (i at : ℕ) → IsJoinedAt v i at → IsJoinedAt (record { records = v.records; entries = v.entries ++ e ∷ [] }) i at
 placed_more v e i at placed = record {
   entry = placed.entry;
   line = placed.line;
@@ -181,19 +181,19 @@ some_number (Some k) t n m is = inl is
 some_number None true n m is = inr (refl, same_Some n m is)
 some_number None false n m is = absurd (let wrong : None ≡ Some m = is in cc)
 
-module _ (v : Joined) (places : List ℕ) (old new : Index) (number epoch : ℕ) (seen : Seen) (joining : IsJoining v places old) (count : length places ≡ message_count v.entries) where
+module _ (v : JoinedEntries) (places : List ℕ) (old new : Index) (number epoch : ℕ) (seen : Seen) (joining : IsJoining v places old) (count : length places ≡ message_count v.entries) where
   abbrev e : StoredEntry
   e = entry_seen number epoch seen
 
-  abbrev after : Joined
+  abbrev after : JoinedEntries
   after = with_seen v number epoch seen
 
-  message_joins : seen.kind ≡ Message → IsWanted v epoch seen number → Puts old new seen.id seen.blob (owner_kept e) → IsJoining after (places ++ length v.entries ∷ []) new
+  message_joins : seen.kind ≡ Message → IsWantedRecord v epoch seen number → IndexPuts old new seen.id seen.blob (owner_kept e) → IsJoining after (places ++ length v.entries ∷ []) new
   message_joins kind wanted puts = record {
     rise = joining.rise;
     placed = λ i at here. elim (item_of places (length v.entries) i at here) [
       | inl was ↦ placed_more v e i at (joining.placed i at was)
-      | inr is ↦ subst (λ (j : ℕ). IsPlaced after j at) (sym (is.0 ∙ count)) (subst (IsPlaced after (message_count v.entries)) is.1 (record {
+      | inr is ↦ subst (λ (j : ℕ). IsJoinedAt after j at) (sym (is.0 ∙ count)) (subst (IsJoinedAt after (message_count v.entries)) is.1 (record {
         entry = e;
         line = record { number = number; epoch = epoch; blob = seen.blob };
         among = last_there v.entries e;
@@ -223,7 +223,7 @@ module _ (v : Joined) (places : List ℕ) (old new : Index) (number epoch : ℕ)
     new_one : IsRecorded after number (record { number = number; epoch = epoch; blob = seen.blob })
     new_one = record { index = message_count v.entries; before = (let is = grows in omega (arith, is)); there = wanted.next; number_is = refl }
 
-  deletion_joins : seen.kind ≡ Deletion → Loses old new seen.id → IsJoining after places new
+  deletion_joins : seen.kind ≡ Deletion → IndexLoses old new seen.id → IsJoining after places new
   deletion_joins kind lost = record {
     rise = joining.rise;
     placed = λ i at here. placed_more v e i at (joining.placed i at here);
@@ -235,11 +235,11 @@ module _ (v : Joined) (places : List ℕ) (old new : Index) (number epoch : ℕ)
     more : message_count v.entries ≤ message_count (v.entries ++ e ∷ [])
     more = (let is = count_by Deletion v.entries e kind in omega (arith, is))
 
-  joins_by : (k : EntryKind) → seen.kind ≡ k → (seen.kind ≡ Message → IsWanted v epoch seen number) → TakesBy k old new e → IsJoining after (places_with k places (length v.entries)) new
+  joins_by : (k : EntryKind) → seen.kind ≡ k → (seen.kind ≡ Message → IsWantedRecord v epoch seen number) → TakesBy k old new e → IsJoining after (places_with k places (length v.entries)) new
   joins_by Message kind wanted takes = message_joins kind (wanted kind) takes
   joins_by Deletion kind wanted takes = deletion_joins kind takes
 
-  pub joining_more : (seen.kind ≡ Message → IsWanted v epoch seen number) → Takes old new e → IsJoining after (places_with seen.kind places (length v.entries)) new
+  pub joining_more : (seen.kind ≡ Message → IsWantedRecord v epoch seen number) → IndexTakes old new e → IsJoining after (places_with seen.kind places (length v.entries)) new
   joining_more wanted takes = joins_by seen.kind refl wanted takes
 
 -- The length of the places then.

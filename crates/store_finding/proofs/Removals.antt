@@ -5,8 +5,8 @@ use Rattle.std.proofs.Common.{◌∙◌, ap, sym, subst, inl, inr, arith}
 use Rattle.std.proofs.lemmas.Bool.{cases_lt}
 use Rattle.std.proofs.lemmas.Option.{same_Some, slice_get-get_or, slice_get_within, get_or_from_slice_get}
 use Rattle.disk_model.specs.declared.name.FileName.{FileName}
-use Rattle.disk_model.specs.Disk.{Content, File, Files, Fits, Image, Kept, OneFile, Removed, Sure, Told, TornRemoval, Within, remove_sure}
-use Rattle.disk_model.specs.Laws.{Fits-Within, Within-trans, remove_within, remove_wider}
+use Rattle.disk_model.specs.Disk.{Content, File, Files, MaySurvive, Image, Kept, OneFile, Removed, Survival, BothTold, TornRemoval, Within, remove_sure}
+use Rattle.disk_model.specs.Laws.{MaySurvive-Within, Within-trans, remove_within, remove_wider}
 use Rattle.disk_model.specs.Images.{same_or_other}
 use Rattle.disk_model.specs.Tells.{told_then, told_weaker}
 use Rattle.store_finding.specs.Removing.{AreRemoved, Fewer}
@@ -22,7 +22,7 @@ pub record GoneUpTo (names : List FileName) (n : ℕ) (old new : Content) : Type
   pub gone : (i : ℕ) (name : FileName) → i < n → slice_get names i ≡ Some name → (new name).seen ≡ None
 
 -- A crash leaves a removed file as before or not at all.
-one_fewer : (s : Sure) (image : File) → Fits (remove_sure s) image → (image ≡ None) ⊎ Fits s image
+one_fewer : (s : Survival) (image : File) → MaySurvive (remove_sure s) image → (image ≡ None) ⊎ MaySurvive s image
 one_fewer s None fits = inl refl
 one_fewer s (Some bytes) fits = inr (record { there = fits.there; no_shorter = fits.no_shorter; no_longer = fits.no_longer; outside = fits.outside })
 
@@ -44,7 +44,7 @@ pub at_place_in : (names : List FileName) (n : ℕ) (name : FileName) → slice_
 at_place_in names n name is = (n, slice_get_within names n name is, get_or_from_slice_get names n name name is)
 
 -- The state before the first removal.
-pub none_gone : (names : List FileName) (k : Option Content) → Told (GoneUpTo names 0) k k
+pub none_gone : (names : List FileName) (k : Option Content) → BothTold (GoneUpTo names 0) k k
 none_gone names None = tt
 none_gone names (Some k) = record {
   thinned = record { others = λ name none. refl; sure = λ name. remove_wider (k name).sure };
@@ -57,7 +57,7 @@ fewer_at_start names None image left = tt
 fewer_at_start names (Some k) image left = record { listed = λ name among. inr (left name); others = λ name none. left name }
 
 -- One more file.
-pub gone_more : (names : List FileName) (n : ℕ) (taken : FileName) (k m o : Option Content) → slice_get names n ≡ Some taken → Told (GoneUpTo names n) k m → Told (OneFile taken Removed) m o → Told (GoneUpTo names (n + 1)) k o
+pub gone_more : (names : List FileName) (n : ℕ) (taken : FileName) (k m o : Option Content) → slice_get names n ≡ Some taken → BothTold (GoneUpTo names n) k m → BothTold (OneFile taken Removed) m o → BothTold (GoneUpTo names (n + 1)) k o
 gone_more names n taken k m o is =
     told_then (GoneUpTo names n) (OneFile taken Removed) (GoneUpTo names (n + 1)) k m o
     (λ a b c old mid so_far removed. record {
@@ -73,24 +73,24 @@ gone_more names n taken k m o is =
     })
 
 -- A removal that failed.
-pub torn_more : (names : List FileName) (n : ℕ) (taken : FileName) (k m o : Option Content) → slice_get names n ≡ Some taken → Told (GoneUpTo names n) k m → Told (OneFile taken TornRemoval) m o → Told (Thinned names) k o
+pub torn_more : (names : List FileName) (n : ℕ) (taken : FileName) (k m o : Option Content) → slice_get names n ≡ Some taken → BothTold (GoneUpTo names n) k m → BothTold (OneFile taken TornRemoval) m o → BothTold (Thinned names) k o
 torn_more names n taken k m o is =
     told_then (GoneUpTo names n) (OneFile taken TornRemoval) (Thinned names) k m o (λ a b c old mid so_far torn. thinner names taken a b c (at_place_in names n taken is) so_far.thinned torn.here.crash torn.elsewhere)
 
 -- What a crash then leaves.
-pub fewer : (names : List FileName) (k m : Option Content) (image : Files) → Told (Thinned names) k m → Image m image → Fewer names k image
+pub fewer : (names : List FileName) (k m : Option Content) (image : Files) → BothTold (Thinned names) k m → Image m image → Fewer names k image
 fewer names None m image thin left = tt
 fewer names (Some k) None image thin left = absurd thin
 fewer names (Some k) (Some m) image thin left = record {
-  listed = λ name among. one_fewer (k name).sure (image name) (Fits-Within (m name).sure (remove_sure (k name).sure) (image name) (thin.sure name) (left name));
-  others = λ name none. subst (λ (kept : Kept). Fits kept.sure (image name)) (thin.others name none) (left name);
+  listed = λ name among. one_fewer (k name).sure (image name) (MaySurvive-Within (m name).sure (remove_sure (k name).sure) (image name) (thin.sure name) (left name));
+  others = λ name none. subst (λ (kept : Kept). MaySurvive kept.sure (image name)) (thin.others name none) (left name);
 }
 
-pub fewer_gone : (names : List FileName) (n : ℕ) (k m : Option Content) (image : Files) → Told (GoneUpTo names n) k m → Image m image → Fewer names k image
+pub fewer_gone : (names : List FileName) (n : ℕ) (k m : Option Content) (image : Files) → BothTold (GoneUpTo names n) k m → Image m image → Fewer names k image
 fewer_gone names n k m image so_far = fewer names k m image (told_weaker (GoneUpTo names n) (Thinned names) k m (λ a b old new gone. gone.thinned) so_far)
 
 -- The state after the last removal.
-pub gone_all : (names : List FileName) (k m : Option Content) → Told (GoneUpTo names (length names)) k m → Told (AreRemoved names) k m
+pub gone_all : (names : List FileName) (k m : Option Content) → BothTold (GoneUpTo names (length names)) k m → BothTold (AreRemoved names) k m
 gone_all names k m =
     told_weaker (GoneUpTo names (length names)) (AreRemoved names) k m
     (λ a b old new so_far. record {

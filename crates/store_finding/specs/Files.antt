@@ -8,12 +8,12 @@ pub use Rattle.root_change.specs.Texts.{as_read}
 
 -- The file of the map that a root names.
 abbrev pub map_file_of : Root → FileName
-map_file_of root = map_name root.map.gen_
+map_file_of root = map_name root.map.generation
 
 -- The file of an epoch that a root names.
 abbrev pub epoch_file_of : Root → ℕ → FileName
-epoch_file_of root e = epoch_name e (get_or root.epochs e no_place).gen_
+epoch_file_of root e = epoch_name e (get_or root.epochs e no_place).generation
 
 -- The file of the cache that a root names.
 abbrev pub cache_file_of : Root → FileName
-cache_file_of root = cache_name root.cache.gen_
+cache_file_of root = cache_name root.cache.generation

@@ -7,10 +7,10 @@ use Rattle.disk_model.specs.Sizes.{epoch_count}
 use Rattle.arch_model.specs.declared.opening.OpenRefusal.{OpenRefusal}
 use Rattle.arch_model.specs.declared.opening.OpenRefusal.TheVariants.{NoArchive, Damaged}
 use Rattle.number_map.specs.declared.line.Record.{Record}
-use Rattle.number_map.specs.Walks.{BeginsWith}
+use Rattle.number_map.specs.Walks.{BeginsWithRecords}
 use Rattle.number_map.specs.Walks as map_walks
 use Rattle.epoch_file.specs.declared.entry.Seen.{Seen}
-use Rattle.epoch_file.specs.Walking.{IsEpoch, IsDamagedAt}
+use Rattle.epoch_file.specs.Walking.{IsEpoch, IsDamagedEpochAt}
 use Rattle.root_slots.specs.declared.root.Root.{Root}
 use Rattle.root_slots.specs.declared.slot.Slot.{Slot}
 use Rattle.root_slots.specs.RootName.{root_name}
@@ -23,7 +23,7 @@ use Rattle.store_finding.specs.declared.entries.StoredEntry.{StoredEntry}
 use Rattle.store_finding.specs.declared.finding.Found.{Found}
 use Rattle.store_finding.specs.Files.{map_file_of, epoch_file_of}
 use Rattle.store_finding.specs.Damage.{named_length, IsFirstDamage}
-use Rattle.store_finding.specs.Joined.{Joined}
+use Rattle.store_finding.specs.Joined.{JoinedEntries}
 use Rattle.store_finding.specs.Openings.{IsReadUpTo, AreRead}
 
 -- A root is the current one of files, in this slot.
@@ -35,7 +35,7 @@ pub record IsCurrentRoot (root : Root) (slot : ℕ) (files : Files) : Type 0 whe
 
 -- The map that a root names starts with the records of all numbers below the next one.
 pub record HasRecords (root : Root) (files : Files) (rs : List Record) : Type 0 where
-  pub begins : BeginsWith rs (bytes_of (files (map_file_of root)))
+  pub begins : BeginsWithRecords rs (bytes_of (files (map_file_of root)))
   pub count : length rs ≡ root.next - 1
 
 -- What was found is what the files stand for: their current root and its slot, and the entries of
@@ -49,7 +49,7 @@ pub record IsFoundIn (files : Files) (found : Found) : Type 0 where
 -- The body of the current slot spells no root.
 pub record IsDamagedRoot (files : Files) (file : FileName) (at : ℕ) : Type 0 where
   pub file_is : file ≡ root_name
-  pub damaged : slots.IsDamaged at (bytes_of (files root_name))
+  pub damaged : slots.SpellsNoRoot at (bytes_of (files root_name))
 
 -- The map that the current root names is damaged.
 pub record IsDamagedMap (files : Files) (file : FileName) (at : ℕ) : Type 0 where
@@ -57,7 +57,7 @@ pub record IsDamagedMap (files : Files) (file : FileName) (at : ℕ) : Type 0 wh
   pub slot : ℕ
   pub current : IsCurrentRoot root slot files
   pub file_is : file ≡ map_file_of root
-  pub damaged : map_walks.IsDamaged (root.next - 1) at (bytes_of (files (map_file_of root)))
+  pub damaged : map_walks.LacksRecord (root.next - 1) at (bytes_of (files (map_file_of root)))
 
 -- The map that the current root names is whole, and an epoch is the first one that is damaged.
 pub record IsDamagedEpoch (files : Files) (file : FileName) (at : ℕ) : Type 0 where
@@ -76,11 +76,11 @@ IsDamagedFile files file at = IsDamagedRoot files file at
     ⊎ (IsDamagedMap files file at ⊎ IsDamagedEpoch files file at)
 
 -- The results of reading files.
-abbrev pub Finds : Files → Result Found OpenRefusal → Type 0
-Finds files (Ok found) = IsFoundIn files found
-Finds files (Err NoArchive) = IsShutFile (files root_name)
-Finds files (Err (Damaged file at)) = IsDamagedFile files file at
-Finds files (Err _) = Unit {0}
+abbrev pub FindsStore : Files → Result Found OpenRefusal → Type 0
+FindsStore files (Ok found) = IsFoundIn files found
+FindsStore files (Err NoArchive) = IsShutFile (files root_name)
+FindsStore files (Err (Damaged file at)) = IsDamagedFile files file at
+FindsStore files (Err _) = Unit {0}
 
 -- The current root of files and its slot, or why there is none.
 abbrev pub FindsRoot : Files → Result (Slot × Root) OpenRefusal → Type 0
@@ -94,7 +94,7 @@ abbrev pub FindsRecords : Root → Files → Result (List Record) OpenRefusal �
 FindsRecords root files (Ok rs) = HasRecords root files rs
 FindsRecords root files (Err NoArchive) = ⊥
 FindsRecords root files (Err (Damaged file at)) = (file ≡ map_file_of root)
-    × map_walks.IsDamaged (root.next - 1) at (bytes_of (files (map_file_of root)))
+    × map_walks.LacksRecord (root.next - 1) at (bytes_of (files (map_file_of root)))
 FindsRecords root files (Err _) = Unit {0}
 
 -- A file is that of an epoch, and it is the first one that is damaged.
@@ -109,42 +109,43 @@ StopsBy root files rs (Damaged file at) = IsEpochDamage root files rs file at
 StopsBy root files rs _ = Unit {0}
 
 -- The epochs below one are read, or why not.
-abbrev pub ReadsUpTo : Root → Files → List Record → ℕ → Result Joined OpenRefusal → Type 0
-ReadsUpTo root files rs epoch (Ok joined) = IsReadUpTo root files rs epoch joined
-ReadsUpTo root files rs epoch (Err refusal) = StopsBy root files rs refusal
+abbrev pub ReadsEpochsUpTo : Root → Files → List Record → ℕ → Result JoinedEntries OpenRefusal → Type 0
+ReadsEpochsUpTo root files rs epoch (Ok joined) = IsReadUpTo root files rs epoch joined
+ReadsEpochsUpTo root files rs epoch (Err refusal) = StopsBy root files rs refusal
 
 -- One more epoch is read, or why not, whatever was read before.
-abbrev pub ReadsEpoch : Root → ℕ → Joined → Result Joined OpenRefusal → Files → Type 0
+abbrev pub ReadsEpoch : Root → ℕ → JoinedEntries → Result JoinedEntries OpenRefusal → Files → Type 0
 ReadsEpoch root epoch old result files = (rs : List Record) → RootFits root
-    → IsReadUpTo root files rs epoch old → ReadsUpTo root files rs (epoch + 1) result
+    → IsReadUpTo root files rs epoch old → ReadsEpochsUpTo root files rs (epoch + 1) result
 
 -- The same if the entries of its file are known.
-abbrev pub ReadsSeen : Root → ℕ → Joined → List Seen → Result Joined OpenRefusal → Files → Type 0
+abbrev pub ReadsSeen : Root → ℕ → JoinedEntries → List Seen → Result JoinedEntries OpenRefusal
+    → Files → Type 0
 ReadsSeen root epoch old seen result files =
     (rs : List Record) → RootFits root → IsReadUpTo root files rs epoch old
     → IsEpoch (named_length root epoch) (bytes_of (files (epoch_file_of root epoch))) seen
-    → ReadsUpTo root files rs (epoch + 1) result
+    → ReadsEpochsUpTo root files rs (epoch + 1) result
 
 -- Why an epoch isn't read whose file is no epoch from an offset on, whatever was read before.
-abbrev pub StopsEpoch : Root → ℕ → Joined → ℕ → OpenRefusal → Files → Type 0
+abbrev pub StopsEpoch : Root → ℕ → JoinedEntries → ℕ → OpenRefusal → Files → Type 0
 StopsEpoch root epoch old offset refusal files =
     (rs : List Record) → RootFits root → 0 < named_length root epoch
     → IsReadUpTo root files rs epoch old
-    → IsDamagedAt (named_length root epoch) (bytes_of (files (epoch_file_of root epoch))) offset
+    → IsDamagedEpochAt (named_length root epoch) (bytes_of (files (epoch_file_of root epoch))) offset
     → StopsBy root files rs refusal
 
 -- The same if the entries before that offset are known.
-abbrev pub StopsSeen : Root → ℕ → Joined → ℕ → List Seen → OpenRefusal → Files → Type 0
+abbrev pub StopsSeen : Root → ℕ → JoinedEntries → ℕ → List Seen → OpenRefusal → Files → Type 0
 StopsSeen root epoch old offset seen refusal files =
     (rs : List Record) → RootFits root → IsReadUpTo root files rs epoch old
-    → IsDamagedAt (named_length root epoch) (bytes_of (files (epoch_file_of root epoch))) offset
+    → IsDamagedEpochAt (named_length root epoch) (bytes_of (files (epoch_file_of root epoch))) offset
     → IsEpoch offset (bytes_of (files (epoch_file_of root epoch))) seen
     → StopsBy root files rs refusal
 
 -- All epochs are read, or why not, if none was read before.
-abbrev pub ReadsEach : Root → Joined → Result Joined OpenRefusal → Files → Type 0
+abbrev pub ReadsEach : Root → JoinedEntries → Result JoinedEntries OpenRefusal → Files → Type 0
 ReadsEach root old result files = (rs : List Record) → RootFits root
-    → IsReadUpTo root files rs 0 old → ReadsUpTo root files rs epoch_count result
+    → IsReadUpTo root files rs 0 old → ReadsEpochsUpTo root files rs epoch_count result
 
 -- What is kept of the entries of all epochs, or why they are not read.
 abbrev pub KeepsAll : Root → Files → List Record → Result (List StoredEntry) OpenRefusal → Type 0
@@ -152,7 +153,7 @@ KeepsAll root files rs (Ok kept) = AreRead root files rs kept
 KeepsAll root files rs (Err refusal) = StopsBy root files rs refusal
 
 -- The same if the epochs are read.
-abbrev pub EndsWith : Root → Joined → Result (List StoredEntry) OpenRefusal → Type 0
+abbrev pub EndsWith : Root → JoinedEntries → Result (List StoredEntry) OpenRefusal → Type 0
 EndsWith root joined result = (rs : List Record) (files : Files)
     → IsReadUpTo root files rs epoch_count joined → KeepsAll root files rs result
 
@@ -178,6 +179,6 @@ abbrev pub FindsEntries : Root → Files → Result (List StoredEntry) OpenRefus
 FindsEntries root files (Ok kept) = HasEntries root files kept
 FindsEntries root files (Err NoArchive) = ⊥
 FindsEntries root files (Err (Damaged file at)) = ((file ≡ map_file_of root)
-    × map_walks.IsDamaged (root.next - 1) at (bytes_of (files (map_file_of root))))
+    × map_walks.LacksRecord (root.next - 1) at (bytes_of (files (map_file_of root))))
     ⊎ LacksEntries root files file at
 FindsEntries root files (Err _) = Unit {0}

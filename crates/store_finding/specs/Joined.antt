@@ -28,21 +28,21 @@ use Rattle.store_finding.specs.Kept.{in_file, stored_after}
 use Rattle.store_finding.specs.Damage.{messages, AreFirst, AreWhole}
 
 -- The records of a map that have a message, and what is kept of the entries so far.
-pub record Joined : Type 0 where
+pub record JoinedEntries : Type 0 where
   pub records : List Record
   pub entries : List StoredEntry
 
 -- The records are those of a valid map that have a message, the entries are these, and their
 -- records are the first of them, followed by the others.
-pub record Holds (v : Joined) (rs after : List Record) (entries : List Entry) : Type 0 where
+pub record HoldsJoined (v : JoinedEntries) (rs after : List Record) (entries : List Entry) : Type 0 where
   pub numbered : AreRecordsFrom 1 rs
   pub records : v.records ≡ messages rs
   pub entries_are : v.entries ≡ stored_after [] entries
   pub first : AreFirst rs after entries
 
 -- What is so of the entries if they are those of the first records of a map.
-abbrev pub Held : Joined → (List Entry → Type 0) → Type 0
-Held v P = (rs after : List Record) (entries : List Entry) → Holds v rs after entries → P entries
+abbrev pub OfJoined : JoinedEntries → (List Entry → Type 0) → Type 0
+OfJoined v P = (rs after : List Record) (entries : List Entry) → HoldsJoined v rs after entries → P entries
 
 -- How many of the entries that are kept are messages.
 abbrev pub message_count : List StoredEntry → ℕ
@@ -67,15 +67,15 @@ entry_seen number epoch seen = record { number = number; epoch = epoch; seen = s
 
 -- The next record of a message is that of an entry of this epoch, and has this number; the entry is
 -- a message.
-pub record IsWanted (v : Joined) (epoch : ℕ) (seen : Seen) (number : ℕ) : Type 0 where
+pub record IsWantedRecord (v : JoinedEntries) (epoch : ℕ) (seen : Seen) (number : ℕ) : Type 0 where
   pub message : seen.kind ≡ Message
   pub next : slice_get v.records (message_count v.entries)
       ≡ Some (record { number = number; epoch = epoch; blob = seen.blob })
 
 -- The results of asking for an entry: its number, or that it isn't the next.
-abbrev pub Wants : Joined → ℕ → Seen → Option ℕ → Type 0
-Wants v epoch seen (Some number) = IsWanted v epoch seen number
-Wants v epoch seen None = (number : ℕ) → IsWanted v epoch seen number → ⊥
+abbrev pub Wants : JoinedEntries → ℕ → Seen → Option ℕ → Type 0
+Wants v epoch seen (Some number) = IsWantedRecord v epoch seen number
+Wants v epoch seen None = (number : ℕ) → IsWantedRecord v epoch seen number → ⊥
 
 -- A kept entry is the message of a number.
 pub record IsMessageOf (kept : List StoredEntry) (number : ℕ) (entry : StoredEntry) : Type 0 where
@@ -90,14 +90,14 @@ NumbersRise records = (i j : ℕ) (r s : Record) → i < j → slice_get records
     → slice_get records j ≡ Some s → r.number < s.number
 
 -- A number has this record, whose message is among the entries so far.
-pub record IsRecorded (v : Joined) (number : ℕ) (line : Record) : Type 0 where
+pub record IsRecorded (v : JoinedEntries) (number : ℕ) (line : Record) : Type 0 where
   pub index : ℕ
   pub before : index < message_count v.entries
   pub there : slice_get v.records index ≡ Some line
   pub number_is : line.number ≡ number
 
 -- The message of the record at an index is the entry at another one.
-pub record IsPlaced (v : Joined) (index at : ℕ) : Type 0 where
+pub record IsJoinedAt (v : JoinedEntries) (index at : ℕ) : Type 0 where
   pub entry : StoredEntry
   pub line : Record
   pub among : slice_get v.entries at ≡ Some entry
@@ -108,7 +108,7 @@ pub record IsPlaced (v : Joined) (index at : ℕ) : Type 0 where
 
 -- Each number that an index names has a record whose message is among the entries so far, with the
 -- blob id under which it is named.
-pub record IndexesRecords (v : Joined) (index : Index) : Type 0 where
+pub record IndexesRecords (v : JoinedEntries) (index : Index) : Type 0 where
   pub owners : (id : List ℕ) (o : Owner) → owner_in index.owners id ≡ Some o
       → (line : Record) × IsRecorded v o.number line
   pub blobs : (blob : List ℕ) (n : ℕ) → number_in index.blobs blob ≡ Some n
@@ -116,9 +116,9 @@ pub record IndexesRecords (v : Joined) (index : Index) : Type 0 where
 
 -- The records rise, the messages of the first of them are the entries at these indexes, and an index
 -- names none but these.
-pub record IsJoining (v : Joined) (places : List ℕ) (index : Index) : Type 0 where
+pub record IsJoining (v : JoinedEntries) (places : List ℕ) (index : Index) : Type 0 where
   pub rise : NumbersRise v.records
-  pub placed : (i at : ℕ) → slice_get places i ≡ Some at → IsPlaced v i at
+  pub placed : (i at : ℕ) → slice_get places i ≡ Some at → IsJoinedAt v i at
   pub indexes : IndexesRecords v index
 
 -- The indexes of messages with one more entry, of either kind, at an index.
@@ -127,9 +127,9 @@ places_with Message places at = places ++ at ∷ []
 places_with Deletion places at = places
 
 -- A message joins others: it is the map's next one, and no live entry has its own id.
-pub record JoinsMessage (v : Joined) (all : List Entry) (epoch : ℕ) (seen : Seen) (number : ℕ)
+pub record JoinsMessage (v : JoinedEntries) (all : List Entry) (epoch : ℕ) (seen : Seen) (number : ℕ)
     : Type 0 where
-  pub wanted : IsWanted v epoch seen number
+  pub wanted : IsWantedRecord v epoch seen number
   pub id : owner (live all) seen.id ≡ None
 
 -- A deletion joins others: the live entry with its own id has its blob id, too, and this number.
@@ -146,7 +146,7 @@ EndedBy all seen (Some number) = JoinsDeletion all seen number
 EndedBy all seen None = (number : ℕ) → JoinsDeletion all seen number → ⊥
 
 -- An entry joins others, and an older one with its blob id, if there is one, has the same text.
-abbrev pub JoinsNext : Joined → List Entry → ℕ → Seen → Bool → ℕ → Type 0
+abbrev pub JoinsNext : JoinedEntries → List Entry → ℕ → Seen → Bool → ℕ → Type 0
 JoinsNext v all epoch seen same number = (same ≡ true)
     × (JoinsMessage v all epoch seen number ⊎ JoinsDeletion all seen number)
 
@@ -164,38 +164,38 @@ pub record IsCompared (root : Root) (files : Files) (kept : List StoredEntry) (e
       → same ≡ bytes_eq old new
 
 -- No older entry has the blob id of an entry, or the text of one that has it was compared.
-abbrev pub IsSameText : Root → Files → Joined → List Entry → ℕ → Seen → Bool → Type 0
+abbrev pub IsSameText : Root → Files → JoinedEntries → List Entry → ℕ → Seen → Bool → Type 0
 IsSameText root files v all epoch seen same =
     ((blob_number all seen.blob.0 ≡ None) × (same ≡ true))
     ⊎ IsCompared root files v.entries epoch seen same
 
 -- The result of comparing an entry's text with that of an older entry with its blob id.
-abbrev pub ComparesText : Root → Joined → ℕ → Seen → Result Bool JoinRefusal → Files → Type 0
+abbrev pub ComparesText : Root → JoinedEntries → ℕ → Seen → Result Bool JoinRefusal → Files → Type 0
 ComparesText root v epoch seen (Ok same) files =
-    Held v (λ (all : List Entry). IsSameText root files v all epoch seen same)
+    OfJoined v (λ (all : List Entry). IsSameText root files v all epoch seen same)
 ComparesText root v epoch seen (Err (Damaged at)) files = ⊥
 ComparesText root v epoch seen (Err _) files = Unit {0}
 
 -- The entries with one more joined.
-abbrev pub with_seen : Joined → ℕ → ℕ → Seen → Joined
+abbrev pub with_seen : JoinedEntries → ℕ → ℕ → Seen → JoinedEntries
 with_seen v number epoch seen =
     record { records = v.records; entries = v.entries ++ entry_seen number epoch seen ∷ [] }
 
 -- One more entry was joined, with some number.
-abbrev pub IsGrown : Joined → ℕ → Seen → Joined → Type 0
+abbrev pub IsGrown : JoinedEntries → ℕ → Seen → JoinedEntries → Type 0
 IsGrown old epoch seen new = (number : ℕ) × (new ≡ with_seen old number epoch seen)
 
 -- An entry was joined, as one that may be, or can't be and its offset is the result.
-abbrev pub JoinsOne : Joined → ℕ → Seen → Bool → Result Joined JoinRefusal → Type 0
+abbrev pub JoinsOne : JoinedEntries → ℕ → Seen → Bool → Result JoinedEntries JoinRefusal → Type 0
 JoinsOne old epoch seen same (Ok new) = (number : ℕ) × (new ≡ with_seen old number epoch seen)
-    × Held old (λ (all : List Entry). JoinsNext old all epoch seen same number)
+    × OfJoined old (λ (all : List Entry). JoinsNext old all epoch seen same number)
 JoinsOne old epoch seen same (Err (Damaged at)) = (at ≡ seen.at)
-    × Held old (λ (all : List Entry). (number : ℕ) → JoinsNext old all epoch seen same number → ⊥)
+    × OfJoined old (λ (all : List Entry). (number : ℕ) → JoinsNext old all epoch seen same number → ⊥)
 JoinsOne old epoch seen same (Err DiskFault) = ⊥
 JoinsOne old epoch seen same (Err NoMemory) = Unit {0}
 
 -- The same where the texts are read.
-abbrev pub JoinsByText : Root → Joined → ℕ → Seen → Result Joined JoinRefusal → Files → Type 0
+abbrev pub JoinsByText : Root → JoinedEntries → ℕ → Seen → Result JoinedEntries JoinRefusal → Files → Type 0
 JoinsByText root old epoch seen (Err (Damaged at)) files =
     (same : Bool) × ComparesText root old epoch seen (Ok same) files
     × JoinsOne old epoch seen same (Err (Damaged at))
@@ -205,13 +205,13 @@ JoinsByText root old epoch seen (Ok new) files =
 JoinsByText root old epoch seen (Err _) files = Unit {0}
 
 -- The entries of an epoch are all joined to others.
-pub record AreJoined (new : Joined) (rs : List Record) (others : List Entry) (epoch : ℕ)
+pub record AreJoined (new : JoinedEntries) (rs : List Record) (others : List Entry) (epoch : ℕ)
     (here : List EpochEntry) : Type 0 where
   pub more : List Entry
   pub after : List Record
   pub stand : AllByRecursion (λ (e : Entry). e.epoch ≡ epoch) more
   pub are : here ≡ map in_file more
-  pub holds : Holds new rs after (others ++ more)
+  pub holds : HoldsJoined new rs after (others ++ more)
 
 -- Some first entries of an epoch can be joined to others, and the one after them, at this offset,
 -- can't: as a message it isn't the map's next one or its own id is live, as a deletion it ends nothing
@@ -231,7 +231,7 @@ pub record StopsAt (rs : List Record) (others : List Entry) (epoch : ℕ) (here 
 
 -- The results of joining the entries of an epoch: all of them, or the offset of the first one that
 -- can't be joined.
-abbrev pub JoinsAll : List Record → List Entry → ℕ → List EpochEntry → Result Joined JoinRefusal
+abbrev pub JoinsAll : List Record → List Entry → ℕ → List EpochEntry → Result JoinedEntries JoinRefusal
     → Type 0
 JoinsAll rs others epoch here (Ok new) = AreJoined new rs others epoch here
 JoinsAll rs others epoch here (Err (Damaged at)) = StopsAt rs others epoch here at
@@ -239,19 +239,20 @@ JoinsAll rs others epoch here (Err _) = Unit {0}
 
 -- The same for whatever is joined before, and for whatever entries the epoch's file has that were
 -- recorded so. The epochs before it are whole, so that their texts are read.
-abbrev pub TakesEpoch : Root → Joined → ℕ → List Seen → Result Joined JoinRefusal → Files → Type 0
+abbrev pub TakesEpoch : Root → JoinedEntries → ℕ → List Seen → Result JoinedEntries JoinRefusal
+    → Files → Type 0
 TakesEpoch root old epoch seen result files =
     (rs after : List Record) (others : List Entry) (here : List EpochEntry)
-    → Holds old rs after others → AreWhole root files epoch others
+    → HoldsJoined old rs after others → AreWhole root files epoch others
     → Fronts (epoch_of here) (files (epoch_file_of root epoch))
     → AreEpochEntries here → seen ≡ seen_from 8 None here
     → JoinsAll rs others epoch here result
 
 -- All records of the map that have a message have an entry, and this is what is kept; or the first
 -- one without an entry should be in this epoch.
-abbrev pub Finishes : Joined → Result (List StoredEntry) Unmatched → Type 0
-Finishes v (Ok kept) = (rs after : List Record) (entries : List Entry) → Holds v rs after entries
+abbrev pub FinishesJoin : JoinedEntries → Result (List StoredEntry) Unmatched → Type 0
+FinishesJoin v (Ok kept) = (rs after : List Record) (entries : List Entry) → HoldsJoined v rs after entries
     → (kept ≡ stored_after [] entries) × AreFirst rs [] entries
-Finishes v (Err refusal) = (rs after : List Record) (entries : List Entry)
-    → Holds v rs after entries → (next : Record) × (left : List Record)
+FinishesJoin v (Err refusal) = (rs after : List Record) (entries : List Entry)
+    → HoldsJoined v rs after entries → (next : Record) × (left : List Record)
     × AreFirst rs (next ∷ left) entries × (next.epoch ≡ refusal.epoch)

@@ -11,10 +11,10 @@ use Rattle.store_finding.specs.declared.entries.StoredEntry.{StoredEntry}
 use Rattle.root_change.specs.Texts.{IsOn}
 use Rattle.root_change.specs.Parts.{texts_of}
 use Rattle.arch_model.specs.Validity.{IsArchive}
-use Rattle.store_finding.specs.Recovery.{Names, parts_of}
+use Rattle.store_finding.specs.Recovery.{NamesArchive, parts_of}
 
 -- What is kept in memory: the current root and its slot, and each entry without its text.
-pub record View : Type 0 where
+pub record StoreState : Type 0 where
   pub root : Root
   pub slot : ℕ
   pub entries : List StoredEntry
@@ -39,29 +39,29 @@ stored_after before [] = []
 stored_after before (e ∷ es) = stored_at before e ∷ stored_after (before ++ e ∷ []) es
 
 -- A store keeps an archive: the root that names it, and its entries.
-pub record Keeps (v : View) (a : Archive) : Type 0 where
+pub record KeepsArchive (v : StoreState) (a : Archive) : Type 0 where
   pub valid : IsArchive a
-  pub names : Names v.root a
+  pub names : NamesArchive v.root a
   pub kept : v.entries ≡ stored_after [] a.entries
 
 -- A disk is a store's own, and holds this archive with a cache of these bytes: the store keeps it,
 -- and the disk is exactly the archive's by the store's root.
-pub record IsDiskWith (v : View) (cache : List ℕ) (a : Archive) (k : Content) : Type 0 where
-  pub keeps : Keeps v a
+pub record IsDiskWith (v : StoreState) (cache : List ℕ) (a : Archive) (k : Content) : Type 0 where
+  pub keeps : KeepsArchive v a
   pub cache_long : v.root.cache.length ≡ length cache
   pub on : IsOn v.root (1 - v.slot) (texts_of v.root (parts_of a cache)) k
 
 -- The same for a disk that tells its content.
-abbrev pub IsStoreWith : View → List ℕ → Archive → Option Content → Type 0
+abbrev pub IsStoreWith : StoreState → List ℕ → Archive → Option Content → Type 0
 IsStoreWith v cache a None = ⊥
 IsStoreWith v cache a (Some k) = IsDiskWith v cache a k
 
 -- A disk is a store's own, and holds this archive without a cache.
-abbrev pub IsDiskOf : View → Archive → Content → Type 0
+abbrev pub IsDiskOf : StoreState → Archive → Content → Type 0
 IsDiskOf v a k = IsDiskWith v [] a k
 
 -- The same for a disk that tells its content.
-abbrev pub IsStoreOf : View → Archive → Option Content → Type 0
+abbrev pub IsStoreOf : StoreState → Archive → Option Content → Type 0
 IsStoreOf v a content = IsStoreWith v [] a content
 
 -- The entries of a store are in epochs 0 to 63.

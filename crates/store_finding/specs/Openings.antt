@@ -3,7 +3,7 @@ use Rattle.std.specs.Prelude.{◌≡◌, ◌-◌, ℕ, List, [], length}
 use Rattle.disk_model.specs.Disk.{Files, bytes_of}
 use Rattle.arch_model.specs.Archives.{Entry, Archive}
 use Rattle.number_map.specs.declared.line.Record.{Record}
-use Rattle.number_map.specs.Walks.{BeginsWith, IsDamaged}
+use Rattle.number_map.specs.Walks.{BeginsWithRecords, LacksRecord}
 use Rattle.root_slots.specs.declared.root.Root.{Root}
 use Rattle.root_slots.specs.RootName.{root_name}
 use Rattle.root_slots.specs.Slots.{HasRoot}
@@ -12,11 +12,11 @@ use Rattle.root_slots.specs.Spelling.{spelling}
 use Rattle.root_slots.specs.Valid.{IsRoot, RootFits}
 use Rattle.root_change.specs.Texts.{Fronts}
 use Rattle.store_finding.specs.Files.{map_file_of, cache_file_of}
-use Rattle.store_finding.specs.Recovery.{records_of, RecoversBy}
+use Rattle.store_finding.specs.Recovery.{records_of, RecoversArchiveBy}
 use Rattle.store_finding.specs.declared.entries.StoredEntry.{StoredEntry}
 use Rattle.store_finding.specs.Kept.{stored_after}
 use Rattle.store_finding.specs.Damage.{AreWhole, AreOpened, IsFirstDamage}
-use Rattle.store_finding.specs.Joined.{Joined, Holds}
+use Rattle.store_finding.specs.Joined.{JoinedEntries, HoldsJoined}
 
 -- The archive with a root's settings and next number, and with these entries.
 abbrev pub archive_of : Root → List Entry → Archive
@@ -28,15 +28,15 @@ pub record HasMap (root : Root) (files : Files) (rs : List Record) : Type 0 wher
   pub fits : RootFits root
   pub current : IfThere (HasRoot (spelling root)) (files root_name)
   pub count : length rs ≡ root.next - 1
-  pub begins : BeginsWith rs (bytes_of (files (map_file_of root)))
+  pub begins : BeginsWithRecords rs (bytes_of (files (map_file_of root)))
 
 -- The epochs below one are read and whole, and their entries are joined to the first records of the
 -- map.
-pub record IsReadUpTo (root : Root) (files : Files) (rs : List Record) (epoch : ℕ) (v : Joined)
+pub record IsReadUpTo (root : Root) (files : Files) (rs : List Record) (epoch : ℕ) (v : JoinedEntries)
     : Type 0 where
   pub entries : List Entry
   pub after : List Record
-  pub holds : Holds v rs after entries
+  pub holds : HoldsJoined v rs after entries
   pub whole : AreWhole root files epoch entries
 
 -- All epochs are read, and this is kept of their entries.
@@ -55,12 +55,12 @@ pub record HasCache (root : Root) (files : Files) (cache : List ℕ) : Type 0 wh
 abbrev pub OpenedRecovers : Type 0
 OpenedRecovers = (root : Root) (files : Files) (rs : List Record) (entries : List Entry)
     (cache : List ℕ) → HasMap root files rs → HasCache root files cache
-    → AreOpened root files rs entries → RecoversBy root cache files (archive_of root entries)
+    → AreOpened root files rs entries → RecoversArchiveBy root cache files (archive_of root entries)
 
 -- Files that stand for an archive are opened with its entries.
 abbrev pub RecoversOpened : Type 0
 RecoversOpened = (root : Root) (files : Files) (rs : List Record) (a : Archive) (cache : List ℕ)
-    → HasMap root files rs → RecoversBy root cache files a → AreOpened root files rs a.entries
+    → HasMap root files rs → RecoversArchiveBy root cache files a → AreOpened root files rs a.entries
 
 -- Files that are opened have no damage.
 abbrev pub OpenedUndamaged : Type 0
@@ -71,12 +71,12 @@ OpenedUndamaged = (root : Root) (files : Files) (rs : List Record) (entries : Li
 -- Files that stand for an archive have its map.
 abbrev pub RecoversMap : Type 0
 RecoversMap = (root : Root) (files : Files) (a : Archive) (cache : List ℕ)
-    → RecoversBy root cache files a → HasMap root files (records_of a)
+    → RecoversArchiveBy root cache files a → HasMap root files (records_of a)
 
 -- Files that stand for an archive have no damage, neither in their map nor in an epoch.
 abbrev pub RecoversUndamaged : Type 0
 RecoversUndamaged =
-    (root : Root) (files : Files) (a : Archive) (cache : List ℕ) → RecoversBy root cache files a
-    → ((offset : ℕ) → IsDamaged (root.next - 1) offset (bytes_of (files (map_file_of root))) → ⊥)
+    (root : Root) (files : Files) (a : Archive) (cache : List ℕ) → RecoversArchiveBy root cache files a
+    → ((offset : ℕ) → LacksRecord (root.next - 1) offset (bytes_of (files (map_file_of root))) → ⊥)
     × ((rs : List Record) (epoch offset : ℕ) → HasMap root files rs
     → IsFirstDamage root files rs epoch offset → ⊥)

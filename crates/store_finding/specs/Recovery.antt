@@ -54,7 +54,7 @@ parts_of a cache kind.Cache n = if n == 0 then cache else []
 
 -- A root names an archive: it has its settings and next number, and the lengths of its epochs; the
 -- length of its map follows from the next number.
-pub record Names (root : Root) (a : Archive) : Type 0 where
+pub record NamesArchive (root : Root) (a : Archive) : Type 0 where
   pub is_root : IsRoot root
   pub fits : RootFits root
   pub config : root.config ≡ a.config
@@ -63,15 +63,15 @@ pub record Names (root : Root) (a : Archive) : Type 0 where
       → (get_or root.epochs e no_place).length ≡ length (bytes_in a e)
 
 -- Files stand for an archive, with a cache of these bytes, by a root that names them.
-pub record RecoversBy (root : Root) (cache : List ℕ) (image : Files) (a : Archive) : Type 0 where
+pub record RecoversArchiveBy (root : Root) (cache : List ℕ) (image : Files) (a : Archive) : Type 0 where
   pub valid : IsArchive a
-  pub names : Names root a
+  pub names : NamesArchive root a
   pub cache_long : root.cache.length ≡ length cache
   pub stands : StandsFor root (texts_of root (parts_of a cache)) image
 
 -- Files stand for an archive, with a cache of these bytes.
 abbrev pub RecoversWith : List ℕ → Files → Archive → Type 0
-RecoversWith cache image a = (root : Root) × RecoversBy root cache image a
+RecoversWith cache image a = (root : Root) × RecoversArchiveBy root cache image a
 
 -- Files stand for an archive, without a cache.
 abbrev pub Recovers : Files → Archive → Type 0
@@ -89,7 +89,7 @@ RecoversSome image a = RecoversSomeWith [] image a
 -- Files are exactly those of an archive, with a cache of these bytes, by a root that names them.
 pub record ExactBy (root : Root) (cache : List ℕ) (files : Files) (a : Archive) : Type 0 where
   pub valid : IsArchive a
-  pub names : Names root a
+  pub names : NamesArchive root a
   pub cache_long : root.cache.length ≡ length cache
   pub exact : IsExact root (texts_of root (parts_of a cache)) files
 

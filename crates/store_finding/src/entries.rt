@@ -1,4 +1,5 @@
 //! The entries of an archive as they are kept in memory.
+//! Pure.
 use epoch_file::Seen;
 
 /// An entry without its text.

@@ -1,7 +1,8 @@
 //! Reads an archive's files, from the root to the last epoch. Changes nothing.
+//! Reads the disk.
 ghost use Rattle.std.specs.Prelude.{◌≡◌, ◌≢◌, ◌+◌, ◌<◌, ◌≤◌, Err, IfOk, get_or};
 ghost use Rattle.arch_base.specs.Counts.{Rose, RoseIf};
-ghost use Rattle.disk_model.specs.Disk.{Image, Told, WhereTold, Unchanged, LeavesOnly};
+ghost use Rattle.disk_model.specs.Disk.{Image, BothTold, WhereTold, Unchanged, LeavesOnly};
 ghost use Rattle.disk_model.specs.Sizes.{epoch_count, greatest_epoch};
 ghost use Rattle.arch_model.specs.declared.opening.OpenRefusal.{OpenRefusal};
 ghost use Rattle.number_map.specs.Records.{AreRecordsFrom};
@@ -14,7 +15,7 @@ ghost use Rattle.store_finding.specs.Extents.{AreNamed};
 ghost use Rattle.store_finding.specs.Files.{as_read, epoch_file_of};
 ghost use Rattle.store_finding.specs.Indexes.{IndexesStored};
 ghost use Rattle.store_finding.specs.Joined.{AreBefore};
-ghost use Rattle.store_finding.specs.Finding.{Finds, FindsRoot, FindsRecords, FindsEntries, KeepsBy, EndsWith, ReadsEach, ReadsEpoch, ReadsSeen, StopsEpoch, StopsSeen};
+ghost use Rattle.store_finding.specs.Finding.{FindsStore, FindsRoot, FindsRecords, FindsEntries, KeepsBy, EndsWith, ReadsEach, ReadsEpoch, ReadsSeen, StopsEpoch, StopsSeen};
 
 use crate::entries::StoredEntry;
 use crate::indexing::IndexedEntries;
@@ -46,7 +47,7 @@ fn root_file() -> FileName
     FileName {
         kind: FileKind::Root,
         number: 0,
-        gen_: 0,
+        generation: 0,
     }
 }
 
@@ -58,7 +59,10 @@ fn named_place(root: &Root, epoch: u32) -> Place
 {
     match root.epochs.get(epoch as usize) {
         Some(place) => *place,
-        None => Place { gen_: 0, length: 0 },
+        None => Place {
+            generation: 0,
+            length: 0,
+        },
     }
 }
 
@@ -66,7 +70,7 @@ fn named_place(root: &Root, epoch: u32) -> Place
 fn named_file(root: &Root, epoch: u32) -> FileName
     ensures { result ≡ epoch_file_of root.now epoch }
 {
-    epoch_file(epoch, named_place(root, epoch).gen_)
+    epoch_file(epoch, named_place(root, epoch).generation)
 }
 
 /// Reads the current root and its slot.
@@ -103,7 +107,7 @@ fn find_records<D: Disk>(alloc: Global, disk: &mut D, root: &Root) -> Result<Rec
         → Rose (D.faults disk.old) (D.faults disk.new) }
     ensures steady { result ≢ Err OpenRefusal.DiskFault → D.faults disk.new ≡ D.faults disk.old }
 {
-    let file = map_file(root.map.gen_);
+    let file = map_file(root.map.generation);
     match number_map::walk(alloc, disk, file, root.next - 1) {
         Ok(records) => Ok(records),
         Err(WalkRefusal::Damaged { at }) => Err(OpenRefusal::Damaged { file, at }),
@@ -350,15 +354,15 @@ fn find_entries<D: Disk>(
 /// epochs in order. `DiskFault` comes only if the disk's count of faults rose, and `NoMemory` only
 /// if memory runs out.
 pub fn find<D: Disk>(alloc: Global, disk: &mut D) -> Result<Found, OpenRefusal>
-    ensures found { WhereTold (λ k. Finds (as_read k) result) (D.content disk.old) }
+    ensures found { WhereTold (λ k. FindsStore (as_read k) result) (D.content disk.old) }
     // Whatever the disk tells, the result has a root, and entries of epochs 0 to 63 in the bytes
     // that it names.
     ensures root { IfOk result (λ found. IsRoot found.root) }
     ensures epochs { IfOk result (λ found. AreBefore epoch_count found.entries.items) }
     ensures named { IfOk result (λ found. AreNamed found.root found.entries.items) }
     ensures indexed { IfOk result (λ found. IndexesStored found.entries.items found.index) }
-    ensures same { Told Unchanged (D.content disk.old) (D.content disk.new) }
-    ensures any_moment { LeavesOnly D.moment D.left_since disk.old disk.new
+    ensures same { BothTold Unchanged (D.content disk.old) (D.content disk.new) }
+    ensures crash { LeavesOnly D.moment D.left_since disk.old disk.new
         (Image (D.content disk.old)) }
     ensures cause { RoseIf (result ≡ Err OpenRefusal.DiskFault) (D.faults disk.old) (D.faults disk.new) }
 {

@@ -1,7 +1,8 @@
 //! The index of the entries that are kept.
+//! Allocates.
 ghost use Rattle.std.specs.Prelude.{OnOk, OnErr};
-ghost use Rattle.arch_judge.specs.Indexes.{HasSame, Puts};
-ghost use Rattle.store_finding.specs.Indexes.{Takes, owner_kept};
+ghost use Rattle.arch_judge.specs.Indexes.{HasSame, IndexPuts};
+ghost use Rattle.store_finding.specs.Indexes.{IndexTakes, owner_kept};
 
 use crate::entries::StoredEntry;
 use arch_base::NoMemory;
@@ -35,7 +36,7 @@ impl Model for IndexedEntries {
 ///
 /// `NoMemory` leaves what the index has.
 pub fn take_entry(alloc: Global, index: &mut Index, entry: &StoredEntry) -> Result<(), NoMemory>
-    ensures ok { OnOk result (Takes index.old index.new entry.now) }
+    ensures ok { OnOk result (IndexTakes index.old index.new entry.now) }
     ensures err { OnErr result (HasSame index.old index.new) }
 {
     match entry.seen.kind {
@@ -49,7 +50,7 @@ pub fn take_entry(alloc: Global, index: &mut Index, entry: &StoredEntry) -> Resu
 
 /// Adds a message to an index. An older entry with its blob id stays.
 fn put_entry(alloc: Global, index: &mut Index, entry: &StoredEntry) -> Result<(), NoMemory>
-    ensures ok { OnOk result (Puts index.old index.new entry.now.seen.id entry.now.seen.blob
+    ensures ok { OnOk result (IndexPuts index.old index.new entry.now.seen.id entry.now.seen.blob
         (owner_kept entry.now)) }
     ensures err { OnErr result (HasSame index.old index.new) }
 {

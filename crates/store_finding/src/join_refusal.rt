@@ -1,4 +1,5 @@
 //! Why the entries of the epochs aren't joined to the records of the map.
+//! Pure.
 use arch_base::NoMemory;
 use thiserror::Error;
 

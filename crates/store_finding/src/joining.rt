@@ -1,4 +1,5 @@
 //! Joins the entries of the epochs to the records of the map.
+//! Reads the disk.
 ghost use Rattle.std.specs.Prelude.{◌≡◌, ◌≢◌, ◌+◌, ◌<◌, ◌≤◌, ℕ, List, [], true, Err, IfOk, IfErr, OnOk};
 ghost use Rattle.arch_base.specs.Counts.{Rose};
 ghost use Rattle.disk_model.specs.Disk.{WhereTold, bytes_of};
@@ -11,7 +12,7 @@ ghost use Rattle.number_map.specs.declared.line.Record.{Record};
 ghost use Rattle.epoch_file.specs.Lying.{LieIn};
 ghost use Rattle.epoch_file.specs.Runs.{OnlyReads};
 ghost use Rattle.store_finding.specs.Files.{as_read, epoch_file_of};
-ghost use Rattle.store_finding.specs.Joined.{Held, Wants, IsGrown, IsMessageOf, IsRecorded, IsWanted, EndedBy, JoinsOne, AreBefore, ComparesText, JoinsByText, TakesEpoch, Finishes, TextIn, places_with, with_seen};
+ghost use Rattle.store_finding.specs.Joined.{OfJoined, Wants, IsGrown, IsMessageOf, IsRecorded, IsWantedRecord, EndedBy, JoinsOne, AreBefore, ComparesText, JoinsByText, TakesEpoch, FinishesJoin, TextIn, places_with, with_seen};
 ghost use Rattle.store_finding.specs.declared.join_refusal.JoinRefusal.{JoinRefusal};
 
 use crate::entries::StoredEntry;
@@ -47,9 +48,9 @@ pub(crate) struct Joining {
 impl Model for Joining {
     ghost use Rattle.std.specs.Prelude.{◌≡◌, length};
     ghost use Rattle.store_finding.specs.Indexes.{IndexesStored};
-    ghost use Rattle.store_finding.specs.Joined.{Joined, HaveEpochs, IsJoining, message_count};
+    ghost use Rattle.store_finding.specs.Joined.{JoinedEntries, HaveEpochs, IsJoining, message_count};
 
-    ghost Value = { Joined };
+    ghost Value = { JoinedEntries };
 
     ghost view = { λ j. record { records = j.records.items; entries = j.entries.items } };
 
@@ -122,7 +123,7 @@ impl Joining {
     /// It has the deletion's own id and its blob id.
     fn ended(&self, seen: &Seen) -> Option<u32>
         requires { seen.now.kind ≡ Deletion }
-        ensures { Held self.now (λ all. EndedBy all seen.now result) }
+        ensures { OfJoined self.now (λ all. EndedBy all seen.now result) }
     {
         let Some(owner) = self.index.owner(seen.id.as_slice()) else {
             return None;
@@ -136,7 +137,7 @@ impl Joining {
 
     /// Appends an entry, with its message's number.
     fn with_entry(self, number: u32, epoch: u32, seen: Seen) -> Result<Joining, NoMemory>
-        requires { seen.kind ≡ Message → IsWanted self epoch seen number }
+        requires { seen.kind ≡ Message → IsWantedRecord self epoch seen number }
         ensures { IfOk result (λ joining. joining ≡ with_seen self number epoch seen) }
     {
         let Joining {
@@ -303,7 +304,7 @@ impl Joining {
     ///
     /// Otherwise returns the epoch of the first message without an entry.
     pub(crate) fn finish(self) -> Result<IndexedEntries, Unmatched>
-        ensures finished { Finishes self result }
+        ensures finished { FinishesJoin self result }
         ensures kept { IfOk result (λ kept. kept ≡ self.entries) }
         ensures small { IfErr result (λ refusal. refusal.epoch < epoch_count) }
     {
@@ -350,14 +351,14 @@ fn seen_text<D: Disk>(
         → Rose (D.faults disk.old) (D.faults disk.new) }
     ensures steady { result ≢ Err JoinRefusal.DiskFault → D.faults disk.new ≡ D.faults disk.old }
 {
-    let gen_ = match root.epochs.get(epoch as usize) {
-        Some(place) => place.gen_,
+    let generation = match root.epochs.get(epoch as usize) {
+        Some(place) => place.generation,
         None => 0,
     };
     match read_text(
         alloc,
         disk,
-        epoch_file(epoch, gen_),
+        epoch_file(epoch, generation),
         seen.text_at,
         seen.size,
     ) {

@@ -1,4 +1,5 @@
 //! Finds the archive on a disk: reads its root, its map and its epochs, and joins their entries.
+//! Writes the disk; syncs.
 #![tactic(auto)]
 
 mod entries;

@@ -1,4 +1,5 @@
 //! Laws of files that are opened.
+//! Pure.
 ghost use Rattle.store_finding.specs.Openings.{OpenedRecovers, OpenedUndamaged, RecoversMap, RecoversOpened, RecoversUndamaged};
 
 use epoch_file::{law_of_entries, law_of_epochs};

@@ -1,7 +1,8 @@
 //! Reads bytes of a file into memory.
+//! Reads the disk.
 ghost use Rattle.std.specs.Prelude.{◌≡◌, ◌≤◌, ◌+◌, Err, IfOk, length};
 ghost use Rattle.arch_base.specs.Counts.{RoseIf};
-ghost use Rattle.disk_model.specs.Disk.{Image, Told, WhereTold, Unchanged, LeavesOnly, bytes_of};
+ghost use Rattle.disk_model.specs.Disk.{Image, BothTold, WhereTold, Unchanged, LeavesOnly, bytes_of};
 ghost use Rattle.store_finding.specs.declared.read_refusal.ReadRefusal.{ReadRefusal};
 ghost use Rattle.store_finding.specs.Reading.{StandsAt};
 
@@ -31,8 +32,8 @@ pub fn read_text<D: Disk>(
     ensures size { IfOk result (λ text. length text.items ≡ size) }
     ensures found { IfOk result (λ text. WhereTold (λ k.
         StandsAt (bytes_of (k file).seen) offset size text.items) (D.content disk.old)) }
-    ensures same { Told Unchanged (D.content disk.old) (D.content disk.new) }
-    ensures any_moment { LeavesOnly D.moment D.left_since disk.old disk.new
+    ensures same { BothTold Unchanged (D.content disk.old) (D.content disk.new) }
+    ensures crash { LeavesOnly D.moment D.left_since disk.old disk.new
         (Image (D.content disk.old)) }
     ensures cause { RoseIf (result ≡ Err ReadRefusal.DiskFault) (D.faults disk.old) (D.faults disk.new) }
     ensures fewest { D.reads disk.old ≤ D.reads disk.new }

@@ -8,7 +8,7 @@ use Rattle.root_slots.specs.declared.root.Root.{Root}
 use Rattle.root_change.specs.Rewriting.{Plan, plan_of, same_kind}
 use Rattle.root_change.proofs.PlanParts.{is_of, of_others}
 use Rattle.epoch_file.specs.Planning.{IsOfEpoch, Planned}
-use Rattle.store_planning.specs.Planning.{ArePlansIn, ClosesAs, ClosesLast, EndByCurrent, IsApart, IsTaken, IsTakenUpTo, Planning, without_current}
+use Rattle.store_planning.specs.Planning.{ArePlansIn, ClosesAs, ClosesLast, EndByCurrent, PlansApart, IsTakenToOffset, IsTakenUpTo, Planning, without_current}
 use Rattle.store_planning.proofs.Planned.{of_rest}
 
 -- The plan of an epoch that isn't planned yet is of another part.
@@ -16,10 +16,10 @@ pub epoch_apart : (plans : List Plan) (file : FileName) (p : Plan) → IsOfEpoch
 epoch_apart plans file p of none = subst (λ (k : FileKind). plan_of plans k p.number ≡ None) (sym of.kind) (subst (λ (n : ℕ). plan_of plans kind.Epoch n ≡ None) (sym of.number) none)
 
 -- So is the current one's, which is taken out of the planner.
-pub current_apart : (inside now : Planning) (c : Planned) → inside ≡ now → inside.current ≡ Some c → IsApart now.plans now.current → plan_of inside.plans kind.Epoch c.file.number ≡ None
+pub current_apart : (inside now : Planning) (c : Planned) → inside ≡ now → inside.current ≡ Some c → PlansApart now.plans now.current → plan_of inside.plans kind.Epoch c.file.number ≡ None
 current_apart inside now c same is apart =
-    let free : IsApart inside.plans inside.current = subst (λ (p : Planning). IsApart p.plans p.current) (sym same) apart in
-    subst (IsApart inside.plans) is free
+    let free : PlansApart inside.plans inside.current = subst (λ (p : Planning). PlansApart p.plans p.current) (sym same) apart in
+    subst (PlansApart inside.plans) is free
 
 -- The plan of an epoch isn't that of the map.
 isnt_map : (p : Plan) → p.kind ≡ kind.Epoch → is_of p kind.Map 0 ≡ false
@@ -43,9 +43,9 @@ pub plans_map : (root : Root) (p : Planning) → ArePlansIn root p → plan_of p
 plans_map root p are = no_map p.plans (λ i q here. (are.each i q here).of.kind)
 
 -- Entries that were taken in order leave the current epoch apart.
-taken_by : (root : Root) (epoch from : ℕ) (p : Planning) (current : Option Planned) → IsTakenUpTo root epoch from p → EndByCurrent root p epoch from current → IsApart p.plans current
+taken_by : (root : Root) (epoch from : ℕ) (p : Planning) (current : Option Planned) → IsTakenUpTo root epoch from p → EndByCurrent root p epoch from current → PlansApart p.plans current
 taken_by root epoch from p None taken ends = tt
 taken_by root epoch from p (Some c) taken ends = ap (λ (f : FileName). plan_of p.plans kind.Epoch f.number) ends.0 ∙ taken.later epoch (omega arith)
 
-pub taken_apart : (root : Root) (epoch from : ℕ) (p : Planning) → IsTakenUpTo root epoch from p → IsApart p.plans p.current
+pub taken_apart : (root : Root) (epoch from : ℕ) (p : Planning) → IsTakenUpTo root epoch from p → PlansApart p.plans p.current
 taken_apart root epoch from p taken = taken_by root epoch from p p.current taken taken.ends

@@ -8,7 +8,7 @@ use Rattle.arch_model.specs.Epochs.{last_commit}
 use Rattle.store_finding.specs.declared.entries.StoredEntry.{StoredEntry}
 use Rattle.store_planning.specs.declared.next.End.{End}
 use Rattle.arch_model.specs.Validity.{Rise, number_after}
-use Rattle.store_planning.specs.Dropping.{IsEnd}
+use Rattle.store_planning.specs.Dropping.{IsStoreEnd}
 use Rattle.store_finding.specs.Kept.{stored_at, stored_after}
 use Rattle.store_finding.proofs.Growing.{in_epoch-here, stored_more}
 use Rattle.store_finding.proofs.Lasts.{last_commit_is}
@@ -55,14 +55,14 @@ of_some : {X : Type 0} {x y : X} → Some x ≡ Some y → x ≡ y
 of_some {X} {x} {y} is = ap (λ (o : Option X). unwrap_or o x) is
 
 -- The end of an archive without entries.
-pub end_none : (kept : List StoredEntry) (a : Archive) → kept ≡ stored_after [] a.entries → kept ≡ [] → IsEnd a (record { epoch = 0; parent = None })
+pub end_none : (kept : List StoredEntry) (a : Archive) → kept ≡ stored_after [] a.entries → kept ≡ [] → IsStoreEnd a (record { epoch = 0; parent = None })
 end_none kept a is none = let empty : a.entries ≡ [] = of_none a.entries (sym is ∙ none) in record { epoch = sym (ap last_epoch empty); parent = sym (ap (λ (es : List Entry). last_commit None (in_epoch es (last_epoch es))) empty) } where
   of_none : (es : List Entry) → stored_after [] es ≡ [] → es ≡ []
   of_none [] is = refl
   of_none (e ∷ es) is = let wrong : length (stored_after [] (e ∷ es)) ≡ 0 = ap length is in absurd (omega (arith, wrong))
 
 -- The end of an archive with entries.
-pub end_last : (kept : List StoredEntry) (a : Archive) → Rise 1 0 a.entries → kept ≡ stored_after [] a.entries → (last : StoredEntry) → slice_get kept (length kept - 1) ≡ Some last → IsEnd a (record { epoch = last.epoch; parent = Some last.seen.commit })
+pub end_last : (kept : List StoredEntry) (a : Archive) → Rise 1 0 a.entries → kept ≡ stored_after [] a.entries → (last : StoredEntry) → slice_get kept (length kept - 1) ≡ Some last → IsStoreEnd a (record { epoch = last.epoch; parent = Some last.seen.commit })
 end_last kept_ a rise kept_is last is = elim (last_of a.entries) [
   | inl none ↦ absurd (nothing none)
   | inr some ↦ ends some
@@ -73,7 +73,7 @@ end_last kept_ a rise kept_is last is = elim (last_of a.entries) [
       let wrong : None ≡ Some last = sym (ap (λ (es : List StoredEntry). slice_get es (length es - 1)) empty) ∙ is in
       cc
 
-  ends : Last a.entries → IsEnd a (record { epoch = last.epoch; parent = Some last.seen.commit })
+  ends : Last a.entries → IsStoreEnd a (record { epoch = last.epoch; parent = Some last.seen.commit })
   ends some =
       let es = some.front in
       let e = some.item in

@@ -12,7 +12,7 @@ use Rattle.root_change.proofs.PlanParts.{apart_more, is_of_own, of_more}
 use Rattle.number_map.specs.Rewriting.{PlansMap, RisesUpTo}
 use Rattle.epoch_file.specs.Planning.{Planned}
 use Rattle.store_finding.specs.Files.{map_file_of}
-use Rattle.store_planning.specs.Planning.{AreAnew, AreFrom, ArePlansIn, AreWithin, ClosesLast, FinishesPlans, IsFileIn, IsPlanIn, IsReady, Planning, Pushes, without_current}
+use Rattle.store_planning.specs.Planning.{AreAnew, AreFrom, ArePlansIn, AreWithin, ClosesLast, FinishesPlans, IsFileIn, IsPlanIn, IsReadyPlan, Planning, Pushes, without_current}
 use Rattle.store_planning.proofs.Planned.{each_plan, of_first}
 use Rattle.store_planning.proofs.Taking.{closed_in}
 
@@ -96,7 +96,7 @@ module _ (root : Root) (old : Planning) (map : FileName) (count : ℕ) (new : Pl
         bytes_only = λ behind. absurd (isnt_behind p.target it.anew behind);
       }
 
-  pub finish_ready : AreFrom root new.plans × AreAnew new.plans × (AreWithin root new.plans → IsReady root new.plans (count + 1))
+  pub finish_ready : AreFrom root new.plans × AreAnew new.plans × (AreWithin root new.plans → IsReadyPlan root new.plans (count + 1))
   finish_ready = (
     λ i p here. (let it = each_anew i p here in (it.part, it.from)),
     λ i p here. (let it = each_anew i p here in it.anew),

@@ -8,12 +8,12 @@ use Rattle.root_change.specs.declared.plan.Target.TheVariants.{Behind}
 use Rattle.root_change.specs.Rewriting.{Plan, AreApart, IsPlan, no_plan, plan_of, with_bytes}
 use Rattle.root_change.proofs.Drops.{true_or_false}
 use Rattle.root_change.proofs.PlanParts.{found, is_of, is_of_own, none_found}
-use Rattle.store_planning.specs.Planning.{AreValid, IsIndexOf, IsPlanning, Planning, Pushes, plans_with, with_record}
+use Rattle.store_planning.specs.Planning.{AreValid, IsPlanIndex, IsPlanning, Planning, Pushes, plans_with, with_record}
 use Rattle.store_planning.proofs.Messaged.{same_first}
 use Rattle.store_planning.proofs.Planned.{each_plan, of_first, of_rest}
 
 -- The plan that was found.
-pub taken : (inside now : Planning) (k : FileKind) (n i : ℕ) (old : Plan) → inside ≡ now → IsIndexOf now.plans k n (Some i) → old ≡ get_or inside.plans i old → (slice_get inside.plans i ≡ Some old) × (plan_of inside.plans k n ≡ Some old)
+pub taken : (inside now : Planning) (k : FileKind) (n i : ℕ) (old : Plan) → inside ≡ now → IsPlanIndex now.plans k n (Some i) → old ≡ get_or inside.plans i old → (slice_get inside.plans i ≡ Some old) × (plan_of inside.plans k n ≡ Some old)
 taken inside now k n i old is at value =
     let same : inside.plans ≡ now.plans = ap (λ (p : Planning). p.plans) is in
     let here : slice_get inside.plans i ≡ Some at.0 = ap (λ (l : List Plan). slice_get l i) same ∙ at.1 in

@@ -11,7 +11,7 @@ use Rattle.root_change.specs.Rewriting.{Plan, plan_of, same_kind}
 use Rattle.root_change.proofs.PlanParts.{is_of}
 use Rattle.epoch_file.specs.Planning.{IsOfEpoch, Planned}
 use Rattle.store_finding.specs.declared.entries.StoredEntry.{StoredEntry}
-use Rattle.store_planning.specs.Planning.{ChangesNext, ClosesAs, KeepsEntry, LeavesOut, OpensPlan, OpensBy, Planning, is_anew, is_changed, loses, without_current}
+use Rattle.store_planning.specs.Planning.{ChangesNext, ClosesAs, PlansEntry, LeavesOut, OpensPlan, OpensBy, Planning, is_anew, is_changed, loses, without_current}
 
 -- Tests.
 pub or_no : (t : Bool) → (t || false) ≡ t
@@ -67,7 +67,7 @@ opened_some old file (Some c) mid plan e (inr next) = (
 )
 
 -- An entry was kept, or left out.
-pub kept_changes : (old : Planning) (file : FileName) (stored : StoredEntry) (blob : Id20) (content : Option Content) (mid new : Planning) (plan : Planned) → OpensPlan old file mid plan → bytes_eq blob.0 stored.seen.blob.0 ≡ false → KeepsEntry mid plan stored content new → ChangesNext old file.number (bytes_eq blob.0 stored.seen.blob.0) new
+pub kept_changes : (old : Planning) (file : FileName) (stored : StoredEntry) (blob : Id20) (content : Option Content) (mid new : Planning) (plan : Planned) → OpensPlan old file mid plan → bytes_eq blob.0 stored.seen.blob.0 ≡ false → PlansEntry mid plan stored content new → ChangesNext old file.number (bytes_eq blob.0 stored.seen.blob.0) new
 kept_changes old file stored blob content mid new plan opens test keeps = λ e.
     let so = opened_some old file old.current mid plan e opens in
     let some = is_some (plan_of mid.plans kind.Epoch e) in

@@ -12,12 +12,12 @@ use Rattle.root_change.specs.declared.plan.Target.TheVariants.{Behind}
 use Rattle.root_change.specs.declared.sources.Source.{Source}
 use Rattle.root_change.specs.declared.sources.Source.TheVariants.{Bytes}
 use Rattle.root_change.specs.Names.{place_of}
-use Rattle.root_change.specs.Rewriting.{Plan, AreApart, IsPartToPlan, IsPlan, IsPlanFrom, IsWithin, MayCarry, file_by, map_by, map_planned, no_plan, plan_count, plan_of, with_bytes}
+use Rattle.root_change.specs.Rewriting.{Plan, AreApart, IsPartToPlan, IsPlan, IsPlanFrom, SourceIsWithin, MayCarry, file_by, map_by, map_planned, no_plan, plan_count, plan_of, with_bytes}
 use Rattle.root_change.proofs.Drops.{true_or_false}
 use Rattle.root_change.proofs.PlanParts.{is_of, is_of_is, is_of_own, other_part}
 use Rattle.root_change.proofs.Pushes.{count_with_bytes, each_more, from_with_bytes}
 use Rattle.store_planning.proofs.Planned.{of_first, of_rest}
-use Rattle.store_planning.specs.Planning.{AreValid, IsReady, plans_with, with_record}
+use Rattle.store_planning.specs.Planning.{AreValid, IsReadyPlan, plans_with, with_record}
 
 -- The plans with bytes added to that of an epoch.
 pub here_with : (plans : List Plan) (e : ℕ) (bytes : List ℕ) → plan_of (plans_with plans e bytes) kind.Epoch e ≡ Some (with_bytes (unwrap_or (plan_of plans kind.Epoch e) (no_plan kind.Epoch e Behind)) bytes)
@@ -124,7 +124,7 @@ apart_record (q ∷ qs) bytes apart = elim (true_or_false (is_of q kind.Map 0)) 
 pub record MayRest (root : Root) (plan : Plan) : Type 0 where
   pub part : IsPartToPlan plan.kind plan.number
   pub comes : IsPlanFrom (file_by root plan.kind plan.number) plan
-  pub within : (i : ℕ) (source : Source) → slice_get plan.sources i ≡ Some source → IsWithin root source
+  pub within : (i : ℕ) (source : Source) → slice_get plan.sources i ≡ Some source → SourceIsWithin root source
   pub room : plan.target ≡ Behind → (place_of root plan.kind plan.number).length < 2 ^ 62
   pub bytes_only : plan.target ≡ Behind → (i : ℕ) (source : Source) → slice_get plan.sources i ≡ Some source → (offset count : ℕ) × (source ≡ Bytes offset count)
 
@@ -140,7 +140,7 @@ rest_more root bytes p may =
     record {
       part = may.part;
       comes = from_with_bytes (file_by root p.kind p.number) p bytes may.comes;
-      within = each_more (IsWithin root) p.sources last may.within tt;
+      within = each_more (SourceIsWithin root) p.sources last may.within tt;
       room = may.room;
       bytes_only = λ behind. each_more (λ (s : Source). (offset count : ℕ) × (s ≡ Bytes offset count)) p.sources last (may.bytes_only behind) (length p.bytes, length bytes, refl);
     }
@@ -158,8 +158,8 @@ pub epoch_isnt_map : kind.Map ≡ kind.Epoch → ⊥
 epoch_isnt_map is = let wrong : kind_index kind.Map ≡ kind_index kind.Epoch = ap kind_index is in absurd (omega (arith, wrong))
 
 -- Plans that may be carried out still may with one more message.
-pub ready_more : (root : Root) (plans : List Plan) (next e : ℕ) (piece line : List ℕ) → e ≤ 63 → (plan_of plans kind.Epoch e ≡ None → (get_or root.epochs e no_place).length < 2 ^ 62) → length line ≡ 28 → AreValid (with_record (plans_with plans e piece) line) → IsReady root plans next
-    → IsReady root (with_record (plans_with plans e piece) line) (next + 1)
+pub ready_more : (root : Root) (plans : List Plan) (next e : ℕ) (piece line : List ℕ) → e ≤ 63 → (plan_of plans kind.Epoch e ≡ None → (get_or root.epochs e no_place).length < 2 ^ 62) → length line ≡ 28 → AreValid (with_record (plans_with plans e piece) line) → IsReadyPlan root plans next
+    → IsReadyPlan root (with_record (plans_with plans e piece) line) (next + 1)
 ready_more root plans next e piece line low room size valid ready =
     let mid = plans_with plans e piece in
     let map_mid : plan_of mid kind.Map 0 ≡ Some ready.map_plan = other_with plans e piece kind.Map 0 (λ k_is n_is. epoch_isnt_map k_is) ∙ ready.map_is in

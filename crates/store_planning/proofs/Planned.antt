@@ -32,13 +32,13 @@ use Rattle.arch_model.specs.Epochs.{entries_bytes, epoch_bytes, last_commit}
 use Rattle.arch_model.specs.Validity.{IsEntry, Rise, number_after}
 use Rattle.arch_model.proofs.ValidArchives.{all_weaker, none_later}
 use Rattle.epoch_file.specs.Entries.{EpochEntry, bytes_after, chain, commit_after, epoch_of, last_of}
-use Rattle.epoch_file.specs.Planning.{Finishes, HasNext, IsFinished, IsOfEpoch, IsPlanned, Planned, file_of, seen_after, texts_in}
+use Rattle.epoch_file.specs.Planning.{FinishesPlan, HasNext, IsFinished, IsOfEpoch, IsPlanned, Planned, file_of, seen_after, texts_in}
 use Rattle.epoch_file.specs.Walking.{seen_at}
 use Rattle.store_finding.specs.declared.entries.StoredEntry.{StoredEntry}
 use Rattle.store_finding.specs.Files.{epoch_file_of}
 use Rattle.store_planning.specs.Planning.{ClosesAs, IsCurrent, IsPlannedUpTo, OpensBy, Planning, epoch_start, gone_of, gone_with, in_files, without_current}
 use Rattle.store_finding.specs.Recovery.{bytes_in, parts_of}
-use Rattle.store_finding.specs.Kept.{View, IsDiskWith, in_file, stored_after, stored_at}
+use Rattle.store_finding.specs.Kept.{StoreState, IsDiskWith, in_file, stored_after, stored_at}
 use Rattle.store_finding.proofs.Growing.{in_epoch-here, stored_more}
 use Rattle.store_finding.proofs.TextBytes.{in_epoch_split, one_of_all}
 
@@ -226,7 +226,7 @@ pub record IsShut (texts : Texts) (a : Archive) (es : List Entry) (text : List �
 
 module _ (texts : Texts) (root : Root) (a : Archive) (es : List Entry) (text : List ℕ) (old : Planning) (up : IsPlannedUpTo texts root a es text old) (c : Planned) (current : IsCurrent texts root es text (Some c))
     (reads : (x : ℕ) → x ≤ last_epoch es → bytes_in a x ≡ epoch_bytes (in_epoch es x)) (keeps : (x : ℕ) → x ≤ last_epoch es → bytes_in (without_entries a text) x ≡ epoch_bytes (in_epoch (without_text es text) x)) where
-  pub shut : (finished : Option Plan) → Finishes c finished → IsOfEpoch c.file finished → (mid : Planning) → ClosesAs (without_current old) finished mid → IsShut texts a es text mid
+  pub shut : (finished : Option Plan) → FinishesPlan c finished → IsOfEpoch c.file finished → (mid : Planning) → ClosesAs (without_current old) finished mid → IsShut texts a es text mid
   shut None finishes of mid stays = subst (IsShut texts a es text) (sym stays) (record {
     entries = up.entries;
     gone = up.gone;
@@ -266,7 +266,7 @@ module _ (texts : Texts) (root : Root) (a : Archive) (es : List Entry) (text : L
     whole_so = finishes texts (in_files (in_epoch es (last_epoch es))) (in_files (in_epoch (without_text es text) (last_epoch es))) current.1
 
 -- The next entry of an archive on its disk.
-module _ (k : Content) (v : View) (cache : List ℕ) (a : Archive) (own : IsDiskWith v cache a k) (es rest : List Entry) (e : Entry) (is : a.entries ≡ es ++ e ∷ rest) (text : List ℕ) where
+module _ (k : Content) (v : StoreState) (cache : List ℕ) (a : Archive) (own : IsDiskWith v cache a k) (es rest : List Entry) (e : Entry) (is : a.entries ≡ es ++ e ∷ rest) (text : List ℕ) where
   rise : Rise 1 0 (es ++ e ∷ rest)
   rise = subst (Rise 1 0) is own.keeps.valid.order
 
@@ -304,13 +304,13 @@ module _ (k : Content) (v : View) (cache : List ℕ) (a : Archive) (own : IsDisk
   file_reads : texts_in k (epoch_file_of v.root e.epoch) ≡ bytes_in a e.epoch
   file_reads =
       let name = epoch_file_of v.root e.epoch in
-      let gen_ = (get_or v.root.epochs e.epoch no_place).gen_ in
+      let generation = (get_or v.root.epochs e.epoch no_place).generation in
       let low = entry.epoch in
       let size = ap length bytes_are in
       let parts = length-append magic (chain None (in_files (in_epoch es e.epoch ++ e ∷ in_epoch rest e.epoch))) in
       let long = own.keeps.names.epochs e.epoch (omega (arith, low)) in
       let some : 0 < (get_or v.root.epochs e.epoch no_place).length = omega (arith, size, parts, long) in
-      own.on.exact.ends name (epoch_isnt_root e.epoch gen_) ∙ text_named v.root (parts_of a cache) name (epoch_is_named v.root e.epoch gen_ (omega (arith, low)) some refl)
+      own.on.exact.ends name (epoch_isnt_root e.epoch generation) ∙ text_named v.root (parts_of a cache) name (epoch_is_named v.root e.epoch generation (omega (arith, low)) some refl)
 
   -- Its file has it after those before.
   pub has_next : HasNext (texts_in k) (epoch_file_of v.root e.epoch) (in_files (in_epoch es e.epoch)) (in_file e)
@@ -384,7 +384,7 @@ module _ (k : Content) (v : View) (cache : List ℕ) (a : Archive) (own : IsDisk
       no_more : (x : ℕ) → top < x → AllByRecursion (λ (f : Entry). f.epoch ≢ x) es
       no_more x less = none_so_far x less
 
-      closed : (finished : Option Plan) → Finishes c finished → IsOfEpoch c.file finished → (mid : Planning) → ClosesAs (without_current old) finished mid → IsOpened (texts_in k) v.root a es text e.epoch mid (epoch_start file)
+      closed : (finished : Option Plan) → FinishesPlan c finished → IsOfEpoch c.file finished → (mid : Planning) → ClosesAs (without_current old) finished mid → IsOpened (texts_in k) v.root a es text e.epoch mid (epoch_start file)
       closed finished finishes of mid closes =
           let less = below in
           let shut_so = shut (texts_in k) v.root a es text old up c current (λ x low. bytes_before x (omega (arith, low, less))) (λ x low. kept_before x (omega (arith, low, less))) finished finishes of mid closes in

@@ -47,7 +47,7 @@ up_to_none es epoch none = subst (AreUpToEpoch epoch) (sym none) tt
 -- The number of bytes of a part that is written anew, or at its end.
 pub anew_long : (next n : ℕ) → (place_anew next n).length ≡ n
 anew_long next n = by (nat_lt 0 n) refl where
-  by : (t : Bool) → nat_lt 0 n ≡ t → (if t then record { gen_ = next; length = n } else no_place).length ≡ n
+  by : (t : Bool) → nat_lt 0 n ≡ t → (if t then record { generation = next; length = n } else no_place).length ≡ n
   by true is = refl
   by false is = let none : 0 ≡ n = grind (arith, nat_tests, is) in none
 

@@ -12,15 +12,15 @@ use Rattle.root_slots.specs.Valid.{no_place}
 use Rattle.root_change.specs.declared.sources.Source.{Source}
 use Rattle.root_change.specs.declared.sources.Source.TheVariants.{Bytes, Range}
 use Rattle.root_change.specs.Names.{map_name, named_end, named_some, place_of}
-use Rattle.root_change.specs.Rewriting.{Plan, IsPartToPlan, IsPlanWhole, IsSourceFrom, IsWholeIn, IsWithin, file_by}
+use Rattle.root_change.specs.Rewriting.{Plan, IsPartToPlan, IsPlanWhole, IsSourceFrom, IsWholeIn, SourceIsWithin, file_by}
 use Rattle.root_change.proofs.Grown.{epoch_is_named, map_is_named}
 use Rattle.root_change.proofs.Sizes.{end_at_most}
 use Rattle.number_map.specs.declared.line.Record.{Record}
 use Rattle.number_map.specs.Records.{AreRecordsFrom, record_bytes}
 use Rattle.number_map.specs.Rewriting.{PlansMap}
 use Rattle.number_map.specs.Sizes.{records_length}
-use Rattle.number_map.specs.Walks.{BeginsWith}
-use Rattle.epoch_file.specs.Planning.{EndUpTo, IsUpTo}
+use Rattle.number_map.specs.Walks.{BeginsWithRecords}
+use Rattle.epoch_file.specs.Planning.{EndUpTo, SourceEndsBy}
 use Rattle.store_finding.specs.Damage.{named_length}
 use Rattle.store_finding.specs.Files.{epoch_file_of, map_file_of}
 use Rattle.store_planning.specs.Planning.{IsPlanIn, IsPlanWithin}
@@ -31,13 +31,13 @@ use Rattle.store_finding.proofs.Mapped.{records_are_valid, records_count}
 counts_all : (root : Root) (k : FileKind) (n : ℕ) → IsPartToPlan k n → named_end root (file_by root k n) ≡ (place_of root k n).length
 counts_all root kind.Root n part = absurd part
 counts_all root kind.Cache n part = absurd part
-counts_all root kind.Map n part = subst (λ (m : ℕ). named_end root (file_by root kind.Map m) ≡ (place_of root kind.Map m).length) (sym part) (named_some root (map_name root.map.gen_) (map_is_named root root.map.gen_ refl))
+counts_all root kind.Map n part = subst (λ (m : ℕ). named_end root (file_by root kind.Map m) ≡ (place_of root kind.Map m).length) (sym part) (named_some root (map_name root.map.generation) (map_is_named root root.map.generation refl))
 counts_all root kind.Epoch n below = elim (cases_lt 0 (get_or root.epochs n no_place).length) [
-  | inl some ↦ named_some root (file_by root kind.Epoch n) (epoch_is_named root n (get_or root.epochs n no_place).gen_ below some refl)
+  | inl some ↦ named_some root (file_by root kind.Epoch n) (epoch_is_named root n (get_or root.epochs n no_place).generation below some refl)
   | inr none ↦ (let most = end_at_most root (file_by root kind.Epoch n) in omega (arith, most, none))
 ]
 
-source_within : (root : Root) (file : FileName) (s : Source) (end_ : ℕ) → IsSourceFrom file s → end_ ≡ named_end root file → IsUpTo end_ s → IsWithin root s
+source_within : (root : Root) (file : FileName) (s : Source) (end_ : ℕ) → IsSourceFrom file s → end_ ≡ named_end root file → SourceEndsBy end_ s → SourceIsWithin root s
 source_within root file (Bytes offset count) end_ own is up = tt
 source_within root file (Range range) end_ own is up = subst (λ (f : FileName). range.offset + range.count ≤ named_end root f) (sym own) (omega (arith, is, up))
 
@@ -62,17 +62,17 @@ map_up map count gone plan of = λ j s found. by s (whole j s found) where
   size : length bytes ≡ 28 * count
   size = records_length 1 lines valid ∙ ap (λ (n : ℕ). 28 * n) (records_count [] 1 count)
 
-  begins : BeginsWith lines bytes
+  begins : BeginsWithRecords lines bytes
   begins = record { valid = valid; spelled = take_all (28 * length lines) bytes (let long = records_length 1 lines valid in omega (arith, long)) }
 
   whole : IsPlanWhole (λ (name : FileName). bytes) plan
   whole = (of.written (λ (name : FileName). bytes) lines (records_count [] 1 count) begins).0
 
-  by : (s : Source) → IsWholeIn plan.bytes (λ (name : FileName). bytes) s → IsUpTo (28 * count) s
+  by : (s : Source) → IsWholeIn plan.bytes (λ (name : FileName). bytes) s → SourceEndsBy (28 * count) s
   by (Bytes offset long) is = tt
   by (Range range) is = (let is_ : range.offset + range.count ≤ length bytes = is in omega (arith, is_, size))
 
 pub map_within : (root : Root) (map : FileName) (count : ℕ) (gone : List ℕ) (plan : Plan) → map ≡ map_file_of root → root.map.length ≡ 28 * count → PlansMap map count gone plan → IsPlanWithin root plan
 map_within root map count gone plan map_is long of = λ j s found.
     source_within root (map_file_of root) s root.map.length (subst (λ (f : FileName). IsSourceFrom f s) map_is (of.from j s found)) (sym (counts_all root kind.Map 0 refl))
-    (subst (λ (n : ℕ). IsUpTo n s) (sym long) (map_up map count gone plan of j s found))
+    (subst (λ (n : ℕ). SourceEndsBy n s) (sym long) (map_up map count gone plan of j s found))

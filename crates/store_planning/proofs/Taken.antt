@@ -20,7 +20,7 @@ use Rattle.store_finding.specs.declared.entries.StoredEntry.{StoredEntry}
 use Rattle.store_finding.specs.Damage.{named_length}
 use Rattle.store_finding.specs.Extents.{AreNamedAfter, ComesAfter, LieFrom, length_planned}
 use Rattle.store_finding.specs.Files.{epoch_file_of, map_file_of}
-use Rattle.store_planning.specs.Planning.{ArePlansIn, AreWithin, Closes, ClosesAs, ClosesLast, EndByCurrent, EndsBy, FinishesPlans, IsFileIn, IsPlanWithin, IsTaken, IsTakenUpTo, KeepsEntry, LeavesOut, OpensBy, OpensPlan, Planning, TakesOn, epoch_start, kept_anew, no_planning, without_current}
+use Rattle.store_planning.specs.Planning.{ArePlansIn, AreWithin, ClosesEpoch, ClosesAs, ClosesLast, EndByCurrent, EndsInPlan, FinishesPlans, IsFileIn, IsPlanWithin, IsTakenToOffset, IsTakenUpTo, PlansEntry, LeavesOut, OpensBy, OpensPlan, Planning, PlanTakes, epoch_start, kept_anew, no_planning, without_current}
 use Rattle.store_finding.proofs.Extents.{all_more, lie_more}
 use Rattle.store_planning.proofs.PlannedExtents.{anew_planned, none_planned}
 use Rattle.store_planning.proofs.Messaged.{epoch_isnt_map}
@@ -60,9 +60,9 @@ module _ (root : Root) (epoch from : ℕ) (old : Planning) (c : Planned) (ranges
   shut_none finishes mid is = subst (IsShutIn root epoch) (sym is) (record {
     ranges = ranges;
     later = λ x high. later x (omega (arith, high));
-    ends = all_weaker (EndsBy root old.plans c epoch from) (EndsUpTo root old.plans epoch) old.entries one current.2;
+    ends = all_weaker (EndsInPlan root old.plans c epoch from) (EndsUpTo root old.plans epoch) old.entries one current.2;
   }) where
-    one : (e : StoredEntry) → EndsBy root old.plans c epoch from e → EndsUpTo root old.plans epoch e
+    one : (e : StoredEntry) → EndsInPlan root old.plans c epoch from e → EndsUpTo root old.plans epoch e
     one e (inl before) = (let low = before.0 in omega (arith, low), before.1)
     one e (inr here) =
         let same = here.0 in
@@ -75,7 +75,7 @@ module _ (root : Root) (epoch from : ℕ) (old : Planning) (c : Planned) (ranges
   shut_some q finishes of mid pushed = subst (IsShutIn root epoch) (sym pushed.0) (record {
     ranges = each_plan (λ (p : Plan). EndUpTo (named_length root p.number) p) old.plans q ranges (subst (λ (n : ℕ). EndUpTo (named_length root n) q) (sym number_is) finishes.ranges);
     later = λ x high. other x (λ n_is. (let n = number_is in absurd (omega (arith, n_is, n, high)))) ∙ later x (omega (arith, high));
-    ends = all_weaker (EndsBy root old.plans c epoch from) (EndsUpTo root (old.plans ++ q ∷ []) epoch) old.entries one current.2;
+    ends = all_weaker (EndsInPlan root old.plans c epoch from) (EndsUpTo root (old.plans ++ q ∷ []) epoch) old.entries one current.2;
   }) where
     number_is : q.number ≡ epoch
     number_is = of.number ∙ ap (λ (f : FileName). f.number) current.0
@@ -86,7 +86,7 @@ module _ (root : Root) (epoch from : ℕ) (old : Planning) (c : Planned) (ranges
     here_is : plan_of (old.plans ++ q ∷ []) kind.Epoch epoch ≡ Some q
     here_is = of_more old.plans (q ∷ []) kind.Epoch epoch (later epoch (omega arith)) ∙ of_first q [] kind.Epoch epoch (is_of_own q kind.Epoch epoch of.kind number_is)
 
-    one : (e : StoredEntry) → EndsBy root old.plans c epoch from e → EndsUpTo root (old.plans ++ q ∷ []) epoch e
+    one : (e : StoredEntry) → EndsInPlan root old.plans c epoch from e → EndsUpTo root (old.plans ++ q ∷ []) epoch e
     one e (inl before) =
         let low = before.0 in
         let n = number_is in
@@ -102,7 +102,7 @@ module _ (root : Root) (epoch from : ℕ) (old : Planning) (c : Planned) (ranges
         let at : length_planned root (old.plans ++ q ∷ []) e.epoch ≡ length_planned root (old.plans ++ q ∷ []) epoch = ap (length_planned root (old.plans ++ q ∷ [])) same in
         (omega (arith, same), omega (arith, ends, count, long, at))
 
-  pub shut : (mid : Planning) → Closes (without_current old) c mid → IsShutIn root epoch mid
+  pub shut : (mid : Planning) → ClosesEpoch (without_current old) c mid → IsShutIn root epoch mid
   shut mid closes = by closes.0 (closes.5 (named_length root epoch) current.1) closes.2 closes.3 where
     by : (finished : Option Plan) → FinishesIn (named_length root epoch) c finished → IsOfEpoch c.file finished → ClosesAs (without_current old) finished mid → IsShutIn root epoch mid
     by None finishes of is = shut_none finishes mid is
@@ -120,7 +120,7 @@ pub record IsReadyAt (root : Root) (n at : ℕ) (mid : Planning) (plan : Planned
   pub later : (x : ℕ) → n ≤ x → plan_of mid.plans kind.Epoch x ≡ None
   pub file : plan.file ≡ epoch_file_of root n
   pub planned : IsPlannedIn (named_length root n) plan
-  pub ends : AllByRecursion (EndsBy root mid.plans plan n at) mid.entries
+  pub ends : AllByRecursion (EndsInPlan root mid.plans plan n at) mid.entries
 
 -- The plan of an entry's file, whatever was current.
 module _ (root : Root) (epoch from n at : ℕ) (old : Planning) (file : FileName) (file_is : file ≡ epoch_file_of root n) (least : epoch ≤ n) (after : epoch ≡ n → from ≤ at) (taken : IsTakenUpTo root epoch from old) where
@@ -131,7 +131,7 @@ module _ (root : Root) (epoch from n at : ℕ) (old : Planning) (file : FileName
     later = λ x high. ap (λ (l : List Plan). plan_of l kind.Epoch x) no_plans;
     file = file_is;
     planned = tt;
-    ends = subst (AllByRecursion (EndsBy root mid.plans (epoch_start file) n at)) (sym none) tt;
+    ends = subst (AllByRecursion (EndsInPlan root mid.plans (epoch_start file) n at)) (sym none) tt;
   }
 
   same : (c : Planned) → EndByCurrent root old epoch from (Some c) → c.file ≡ file → IsReadyAt root n at (without_current old) c
@@ -144,9 +144,9 @@ module _ (root : Root) (epoch from n at : ℕ) (old : Planning) (file : FileName
         later = λ x high. taken.later x (omega (arith, high, n_is));
         file = here ∙ file_is;
         planned = subst (λ (m : ℕ). IsPlannedIn (named_length root m) c) n_is current.1;
-        ends = all_weaker (EndsBy root old.plans c epoch from) (EndsBy root old.plans c n at) old.entries one current.2;
+        ends = all_weaker (EndsInPlan root old.plans c epoch from) (EndsInPlan root old.plans c n at) old.entries one current.2;
       } where
-        one : (e : StoredEntry) → EndsBy root old.plans c epoch from e → EndsBy root old.plans c n at e
+        one : (e : StoredEntry) → EndsInPlan root old.plans c epoch from e → EndsInPlan root old.plans c n at e
         one e (inl before) = inl ((let low = before.0 in omega (arith, low, least)), before.1)
         one e (inr is) =
             let n_is : epoch ≡ n = ap (λ (f : FileName). f.number) (sym current.0 ∙ (here ∙ file_is)) in
@@ -154,14 +154,14 @@ module _ (root : Root) (epoch from n at : ℕ) (old : Planning) (file : FileName
             let ends = is.1 in
             inr (is.0 ∙ n_is, omega (arith, ends, more), is.2)
 
-  next : (c : Planned) → EndByCurrent root old epoch from (Some c) → (c.file ≢ file) → (mid : Planning) → Closes (without_current old) c mid → IsReadyAt root n at mid (epoch_start file)
+  next : (c : Planned) → EndByCurrent root old epoch from (Some c) → (c.file ≢ file) → (mid : Planning) → ClosesEpoch (without_current old) c mid → IsReadyAt root n at mid (epoch_start file)
   next c current apart mid closes = record {
     lie = subst (LieFrom 0 0) (sym (closed_same (without_current old) closes.0 mid closes.3)) taken.lie;
     ranges = shut_so.ranges;
     later = λ x high. (let low = below in shut_so.later x (omega (arith, high, low)));
     file = file_is;
     planned = tt;
-    ends = all_weaker (EndsUpTo root mid.plans epoch) (EndsBy root mid.plans (epoch_start file) n at) mid.entries (λ e so. inl ((let most = so.0 in let low = below in omega (arith, most, low)), so.1)) shut_so.ends;
+    ends = all_weaker (EndsUpTo root mid.plans epoch) (EndsInPlan root mid.plans (epoch_start file) n at) mid.entries (λ e so. inl ((let most = so.0 in let low = below in omega (arith, most, low)), so.1)) shut_so.ends;
   } where
     shut_so : IsShutIn root epoch mid
     shut_so = shut root epoch from old c taken.ranges taken.later taken.inside current mid closes
@@ -181,7 +181,7 @@ module _ (root : Root) (epoch from n at : ℕ) (old : Planning) (file : FileName
   ready_at mid plan opens = by_current old.current taken.ends mid plan opens
 
 -- An entry was left out, or kept.
-pub left_on : (old : Planning) (file : FileName) (e : StoredEntry) (mid new : Planning) (plan : Planned) → OpensPlan old file mid plan → LeavesOut mid plan e new → TakesOn old file e new
+pub left_on : (old : Planning) (file : FileName) (e : StoredEntry) (mid new : Planning) (plan : Planned) → OpensPlan old file mid plan → LeavesOut mid plan e new → PlanTakes old file e new
 left_on old file e mid new plan opens left = λ root epoch from file_is comes lies taken.
     let n = e.epoch in
     let so = ready_at root epoch from n e.seen.at old file file_is comes.0 comes.1 taken mid plan opens in
@@ -196,14 +196,14 @@ left_on old file e mid new plan opens left = λ root epoch from file_is comes li
       ends = (
         left.2 ∙ so.file,
         leaves.planned,
-        all_weaker (EndsBy root mid.plans plan n e.seen.at) (EndsBy root mid.plans after n (tree_end e.seen)) mid.entries (λ f ends. elim ends [
+        all_weaker (EndsInPlan root mid.plans plan n e.seen.at) (EndsInPlan root mid.plans after n (tree_end e.seen)) mid.entries (λ f ends. elim ends [
           | inl before ↦ inl before
           | inr here ↦ inr (here.0, (let most = here.1 in omega (arith, most, more)), ap (λ (o : _). is_some o) leaves.parent ∙ here.2)
         ]) so.ends,
       );
     })
 
-pub kept_on : (old : Planning) (file : FileName) (e : StoredEntry) (content : Option Content) (mid new : Planning) (plan : Planned) → OpensPlan old file mid plan → KeepsEntry mid plan e content new → TakesOn old file e new
+pub kept_on : (old : Planning) (file : FileName) (e : StoredEntry) (content : Option Content) (mid new : Planning) (plan : Planned) → OpensPlan old file mid plan → PlansEntry mid plan e content new → PlanTakes old file e new
 kept_on old file e content mid new plan opens keeps = λ root epoch from file_is comes lies taken.
     let n = e.epoch in
     let so = ready_at root epoch from n e.seen.at old file file_is comes.0 comes.1 taken mid plan opens in
@@ -215,7 +215,7 @@ kept_on old file e content mid new plan opens keeps = λ root epoch from file_is
     let ends = in_.lies.ends in
     subst (IsTakenUpTo root n (tree_end e.seen)) (sym keeps.new_is) (record {
       lie = lie_more 0 0 mid.entries made so.lie (omega arith, λ same. omega arith)
-          (all_weaker (EndsBy root mid.plans plan n e.seen.at) (λ (f : StoredEntry). ComesAfter f.epoch (tree_end f.seen) made) mid.entries (λ f so_f. elim so_f [
+          (all_weaker (EndsInPlan root mid.plans plan n e.seen.at) (λ (f : StoredEntry). ComesAfter f.epoch (tree_end f.seen) made) mid.entries (λ f so_f. elim so_f [
             | inl before ↦ (let low = before.0 in (omega (arith, low), λ is. absurd (omega (arith, is, low))))
             | inr here ↦ (let is = here.0 in let most = here.1 in (omega (arith, is), λ again. omega (arith, most, at)))
           ]) so.ends) text;
@@ -225,8 +225,8 @@ kept_on old file e content mid new plan opens keeps = λ root epoch from file_is
       ends = (
         keeps.file ∙ so.file,
         in_.planned,
-        all_more (EndsBy root mid.plans after n (tree_end e.seen)) mid.entries made
-            (all_weaker (EndsBy root mid.plans plan n e.seen.at) (EndsBy root mid.plans after n (tree_end e.seen)) mid.entries (λ f so_f. elim so_f [
+        all_more (EndsInPlan root mid.plans after n (tree_end e.seen)) mid.entries made
+            (all_weaker (EndsInPlan root mid.plans plan n e.seen.at) (EndsInPlan root mid.plans after n (tree_end e.seen)) mid.entries (λ f so_f. elim so_f [
               | inl before ↦ inl before
               | inr here ↦ inr (here.0, (let most = here.1 in omega (arith, most, at, text, ends)), keeps.some)
             ]) so.ends)
@@ -235,7 +235,7 @@ kept_on old file e content mid new plan opens keeps = λ root epoch from file_is
     })
 
 -- All entries were taken: the current epoch is closed, and the map is planned.
-module _ (root : Root) (old : Planning) (map : FileName) (count : ℕ) (new : Planning) (finishes : FinishesPlans old map count new) (map_is : map ≡ map_file_of root) (long : root.map.length ≡ 28 * count) (are : ArePlansIn root old) (taken : IsTaken root old) where
+module _ (root : Root) (old : Planning) (map : FileName) (count : ℕ) (new : Planning) (finishes : FinishesPlans old map count new) (map_is : map ≡ map_file_of root) (long : root.map.length ≡ 28 * count) (are : ArePlansIn root old) (taken : IsTakenToOffset root old) where
   abbrev mid : Planning
   mid = finishes.0
 
@@ -298,7 +298,7 @@ drop_here [] i e here = absurd (let wrong : None ≡ Some e = here in cc)
 drop_here (x ∷ xs) zero e here = ap (λ (y : StoredEntry). y ∷ xs) (same_Some x e here)
 drop_here (x ∷ xs) (suc i) e here = drop_here xs i e here
 
-pub taken_more : (root : Root) (es : List StoredEntry) (i : ℕ) (e : StoredEntry) (file : FileName) (old new : Planning) → slice_get es i ≡ Some e → file ≡ epoch_file_of root e.epoch → IsTakenSo root (drop i es) old → TakesOn old file e new → IsTakenSo root (drop (i + 1) es) new
+pub taken_more : (root : Root) (es : List StoredEntry) (i : ℕ) (e : StoredEntry) (file : FileName) (old new : Planning) → slice_get es i ≡ Some e → file ≡ epoch_file_of root e.epoch → IsTakenSo root (drop i es) old → PlanTakes old file e new → IsTakenSo root (drop (i + 1) es) new
 taken_more root es i e file old new here file_is so takes =
     let rest : drop i es ≡ e ∷ drop (suc i) es = drop_here es i e here in
     let count : suc i ≡ i + 1 = omega arith in

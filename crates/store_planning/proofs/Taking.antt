@@ -14,12 +14,12 @@ use Rattle.root_change.specs.Rewriting.{Plan}
 use Rattle.root_change.specs.Texts.{Texts}
 use Rattle.arch_model.specs.Archives.{Entry, Archive, in_epoch, without_text}
 use Rattle.epoch_file.specs.Entries.{EpochEntry}
-use Rattle.epoch_file.specs.Planning.{HasNext, IsMoved, IsOfEpoch, KeepsNext, LacksText, Planned, Stays, TellsLack, texts_in}
+use Rattle.epoch_file.specs.Planning.{HasNext, IsMoved, IsOfEpoch, KeepsNext, LacksText, Planned, EntryStays, TellsLack, texts_in}
 use Rattle.epoch_file.specs.declared.entry.Seen.{Seen}
 use Rattle.store_finding.specs.declared.entries.StoredEntry.{StoredEntry}
 use Rattle.store_planning.specs.DamagedTexts.{DamageBy, IsDamageOf}
 use Rattle.store_finding.specs.Files.{epoch_file_of}
-use Rattle.store_planning.specs.Planning.{ArePlansIn, ClosesAs, GivesNext, IsFileIn, IsNoDamage, IsPlanIn, IsPlannedUpTo, KeepsBut, KeepsEntry, LeavesOut, OpensPlan, OpensBy, Planning, RefusesEntry, PlansNext, gone_with, in_files, kept_anew, refusal_in, with_entries, without_current}
+use Rattle.store_planning.specs.Planning.{ArePlansIn, ClosesAs, GivesNext, IsFileIn, IsNoDamage, IsPlanIn, IsPlannedUpTo, KeepsBut, PlansEntry, LeavesOut, OpensPlan, OpensBy, Planning, RefusesPlanned, PlansNext, gone_with, in_files, kept_anew, refusal_in, with_entries, without_current}
 use Rattle.store_planning.specs.Dropping.{KeptOf}
 use Rattle.store_finding.specs.Kept.{in_file, stored_at}
 use Rattle.store_planning.proofs.Planned.{each_plan, has_next, opened, seen_is, up_kept, up_left}
@@ -43,7 +43,7 @@ take_left old file stored blob (Some k) mid new plan opens test left = λ v cach
     let new_is : new ≡ with_entries mid mid.entries (gone_with e.kind mid.gone e.number) after = left.3 ∙ ap (λ (s : StoredEntry). with_entries mid mid.entries (gone_with s.seen.kind mid.gone s.number) after) stored_is in
     subst (IsPlannedUpTo (texts_in k) v.root a (es ++ e ∷ []) text) (sym new_is) so
 
-pub take_kept : (old : Planning) (file : FileName) (stored : StoredEntry) (blob : Id20) (content : Option Content) (mid new : Planning) (plan : Planned) → OpensPlan old file mid plan → bytes_eq blob.0 stored.seen.blob.0 ≡ false → KeepsEntry mid plan stored content new → PlansNext old file stored blob content new (Ok tt)
+pub take_kept : (old : Planning) (file : FileName) (stored : StoredEntry) (blob : Id20) (content : Option Content) (mid new : Planning) (plan : Planned) → OpensPlan old file mid plan → bytes_eq blob.0 stored.seen.blob.0 ≡ false → PlansEntry mid plan stored content new → PlansNext old file stored blob content new (Ok tt)
 take_kept old file stored blob None mid new plan opens test keeps = tt
 take_kept old file stored blob (Some k) mid new plan opens test keeps = λ v cache a es rest e text own is stored_is file_is picks up.
     let open_ = opened k v cache a own es rest e is text old up file file_is old.current up.current mid plan opens in
@@ -62,7 +62,7 @@ not_damaged texts root a es e text file new DiskFault none = tt
 not_damaged texts root a es e text file new NoMemory none = tt
 not_damaged texts root a es e text file new (Damaged at) none = none
 
-pub take_refused : (old : Planning) (file : FileName) (stored : StoredEntry) (blob : Id20) (content : Option Content) (mid new : Planning) (plan : Planned) (refusal : WalkRefusal) → OpensPlan old file mid plan → RefusesEntry plan stored content refusal → PlansNext old file stored blob content new (Err (refusal_in file refusal))
+pub take_refused : (old : Planning) (file : FileName) (stored : StoredEntry) (blob : Id20) (content : Option Content) (mid new : Planning) (plan : Planned) (refusal : WalkRefusal) → OpensPlan old file mid plan → RefusesPlanned plan stored content refusal → PlansNext old file stored blob content new (Err (refusal_in file refusal))
 take_refused old file stored blob None mid new plan refusal opens refuses = tt
 take_refused old file stored blob (Some k) mid new plan refusal opens refuses = λ v cache a es rest e text own is stored_is file_is picks up.
     let open_ = opened k v cache a own es rest e is text old up file file_is old.current up.current mid plan opens in
@@ -70,12 +70,12 @@ take_refused old file stored blob (Some k) mid new plan refusal opens refuses = 
     not_damaged (texts_in k) v.root a es e text file new refusal (refuses (in_files (in_epoch es e.epoch)) (in_files (in_epoch (without_text es text) e.epoch)) (in_file e) open_.is next (ap (λ (s : StoredEntry). s.seen) stored_is ∙ seen_is es e))
 
 -- What keeping an entry says of a refusal.
-stays_none : (texts : Texts) (es kept : List EpochEntry) (e : EpochEntry) (after : Planned) (refusal : WalkRefusal) → Stays texts es kept e after (Err refusal) → IsNoDamage refusal
+stays_none : (texts : Texts) (es kept : List EpochEntry) (e : EpochEntry) (after : Planned) (refusal : WalkRefusal) → EntryStays texts es kept e after (Err refusal) → IsNoDamage refusal
 stays_none texts es kept e after DiskFault stays = tt
 stays_none texts es kept e after NoMemory stays = tt
 stays_none texts es kept e after (Damaged at) stays = stays
 
-pub refuses_entry : (plan after : Planned) (stored : StoredEntry) (content : Option Content) (refusal : WalkRefusal) → WhereTold (KeepsNext plan stored.seen after (Err refusal)) content → RefusesEntry plan stored content refusal
+pub refuses_entry : (plan after : Planned) (stored : StoredEntry) (content : Option Content) (refusal : WalkRefusal) → WhereTold (KeepsNext plan stored.seen after (Err refusal)) content → RefusesPlanned plan stored content refusal
 refuses_entry plan after stored None refusal keeps = tt
 refuses_entry plan after stored (Some k) refusal keeps = λ es kept e planned_so next is. stays_none (texts_in k) es kept e after refusal (keeps es kept e planned_so next is)
 
@@ -118,7 +118,7 @@ drops_step : (t : Bool) (old new : List StoredEntry) (stored : StoredEntry) → 
 drops_step true old new stored is same = same
 drops_step false old new stored is same = absurd (let wrong : false ≡ true = is in cc)
 
-pub kept_but : (old : Planning) (file : FileName) (stored : StoredEntry) (blob : Id20) (content : Option Content) (mid new : Planning) (plan : Planned) → OpensPlan old file mid plan → bytes_eq blob.0 stored.seen.blob.0 ≡ false → KeepsEntry mid plan stored content new → KeepsBut (bytes_eq blob.0 stored.seen.blob.0) old.entries stored new.entries
+pub kept_but : (old : Planning) (file : FileName) (stored : StoredEntry) (blob : Id20) (content : Option Content) (mid new : Planning) (plan : Planned) → OpensPlan old file mid plan → bytes_eq blob.0 stored.seen.blob.0 ≡ false → PlansEntry mid plan stored content new → KeepsBut (bytes_eq blob.0 stored.seen.blob.0) old.entries stored new.entries
 kept_but old file stored blob content mid new plan opens test keeps =
     keeps_step (bytes_eq blob.0 stored.seen.blob.0) old.entries new.entries stored (kept_anew stored keeps.seen) test (moved_kept stored keeps.seen keeps.moved)
     (ap (λ (p : Planning). p.entries) keeps.new_is ∙ ap (λ (l : List StoredEntry). l ++ kept_anew stored keeps.seen ∷ []) (opened_entries old file mid plan opens))
@@ -151,7 +151,7 @@ taken_in root old file mid plan after n entries gone are opens file_is low same 
     let so = opened_in root old file old.current mid plan are.each are.current opens in
     record { each = so.0; current = (n, low, same ∙ (so.1 ∙ file_is)) }
 
-pub kept_in : (root : Root) (old : Planning) (file : FileName) (stored : StoredEntry) (content : Option Content) (mid new : Planning) (plan : Planned) → ArePlansIn root old → OpensPlan old file mid plan → file ≡ epoch_file_of root stored.epoch → stored.epoch ≤ 63 → KeepsEntry mid plan stored content new → ArePlansIn root new
+pub kept_in : (root : Root) (old : Planning) (file : FileName) (stored : StoredEntry) (content : Option Content) (mid new : Planning) (plan : Planned) → ArePlansIn root old → OpensPlan old file mid plan → file ≡ epoch_file_of root stored.epoch → stored.epoch ≤ 63 → PlansEntry mid plan stored content new → ArePlansIn root new
 kept_in root old file stored content mid new plan are opens file_is low keeps =
     subst (ArePlansIn root) (sym keeps.new_is) (taken_in root old file mid plan keeps.after stored.epoch (mid.entries ++ kept_anew stored keeps.seen ∷ []) mid.gone are opens file_is low keeps.file)
 

@@ -12,11 +12,11 @@ use Rattle.epoch_file.specs.declared.refusal.StoreRefusal.TheVariants.{Damaged}
 use Rattle.store_finding.specs.declared.entries.StoredEntry.{StoredEntry}
 use Rattle.store_finding.specs.Files.{epoch_file_of}
 use Rattle.store_finding.specs.Reading.{HasText}
-use Rattle.store_finding.specs.Kept.{View}
+use Rattle.store_finding.specs.Kept.{StoreState}
 
 -- A file and an offset are those of an entry that is kept. Where the disk tells its content, the text of
 -- the entry isn't in its place.
-pub record IsDamagedEntry (v : View) (file : FileName) (at : ℕ) (content : Option Content)
+pub record IsDamagedEntry (v : StoreState) (file : FileName) (at : ℕ) (content : Option Content)
     : Type 0 where
   pub index : ℕ
   pub entry : StoredEntry
@@ -37,7 +37,7 @@ pub record IsShortPart (root : Root) (file : FileName) (at : ℕ) (content : Opt
   pub shorter : WhereTold (λ (k : Content). length (bytes_of (k file).seen) < at) content
 
 -- A file and an offset tell of an entry whose text isn't in its place, or of a file that is too short.
-abbrev pub IsDamageIn : View → FileName → ℕ → Option Content → Type 0
+abbrev pub IsDamageIn : StoreState → FileName → ℕ → Option Content → Type 0
 IsDamageIn v file at content = IsDamagedEntry v file at content ⊎ IsShortPart v.root file at content
 
 -- What holds of the file and the offset of the damage that an error tells.

@@ -11,19 +11,19 @@ use Rattle.store_finding.specs.declared.entries.StoredEntry.{StoredEntry}
 use Rattle.store_planning.specs.declared.next.End.{End}
 
 -- The epoch of the last entry of an archive, or 0, and its last commit.
-pub record IsEnd (a : Archive) (end_ : End) : Type 0 where
+pub record IsStoreEnd (a : Archive) (end_ : End) : Type 0 where
   pub epoch : end_.epoch ≡ last_epoch a.entries
   pub parent : end_.parent ≡ last_commit None (in_epoch a.entries (last_epoch a.entries))
 
 -- An error tells of no damage.
-abbrev pub IsUndamaged : StoreRefusal → Type 0
-IsUndamaged (Damaged file offset) = ⊥
-IsUndamaged _ = Unit {0}
+abbrev pub IsUndamagedStore : StoreRefusal → Type 0
+IsUndamagedStore (Damaged file offset) = ⊥
+IsUndamagedStore _ = Unit {0}
 
 -- A call that doesn't read never returns `Damaged`.
 abbrev pub SeesNoDamage : {T : Type 0} → Result T StoreRefusal → Type 0
 SeesNoDamage (Ok given) = Unit {0}
-SeesNoDamage (Err why) = IsUndamaged why
+SeesNoDamage (Err why) = IsUndamagedStore why
 
 -- The entries that are kept but those with a blob id.
 abbrev pub without_blob : List StoredEntry → List ℕ → List StoredEntry

@@ -14,7 +14,7 @@ use Rattle.root_slots.specs.declared.root.Root.{Root}
 use Rattle.root_slots.specs.Valid.{no_place}
 use Rattle.root_change.specs.Parts.{texts_of}
 use Rattle.root_change.specs.declared.plan.Target.TheVariants.{Anew, Behind}
-use Rattle.root_change.specs.Rewriting.{Plan, AreApart, IsPartToPlan, IsPlan, IsPlanFrom, IsPlanWhole, IsRootAfter, IsWithin, MayCarryAll, MapFits, file_by, no_plan, plan_count, plan_of, planned, rewritten, same_kind, with_bytes}
+use Rattle.root_change.specs.Rewriting.{Plan, AreApart, IsPartToPlan, IsPlan, IsPlanFrom, IsPlanWhole, IsRootAfter, SourceIsWithin, MayCarryAll, MapFits, file_by, no_plan, plan_count, plan_of, planned, rewritten, same_kind, with_bytes}
 use Rattle.root_change.specs.declared.sources.Source.{Source}
 use Rattle.root_change.specs.Texts.{Texts}
 use Rattle.number_map.specs.declared.line.Record.{Record}
@@ -30,8 +30,8 @@ use Rattle.arch_model.specs.Validity.{IsArchive}
 use Rattle.mail_reader.specs.Ids.{own_id}
 use Rattle.mail_reader.specs.Content.{content_id_of}
 use Rattle.epoch_file.specs.Entries.{EpochEntry}
-use Rattle.epoch_file.specs.Lying.{LiesIn, tree_end}
-use Rattle.epoch_file.specs.Planning.{EndUpTo, Finishes, FinishesIn, HasNext, IsMoved, IsOfEpoch, IsPlanned, IsPlannedIn, KeepsIn, KeepsNext, LeavesIn, LeavesNext, Planned, reach, seen_after, texts_in}
+use Rattle.epoch_file.specs.Lying.{EntryLiesIn, tree_end}
+use Rattle.epoch_file.specs.Planning.{EndUpTo, FinishesPlan, FinishesIn, HasNext, IsMoved, IsOfEpoch, IsPlanned, IsPlannedIn, KeepsIn, KeepsNext, LeftOutIn, LeavesNext, Planned, reach, seen_after, texts_in}
 use Rattle.epoch_file.specs.declared.entry.Seen.{Seen}
 use Rattle.epoch_file.specs.declared.refusal.StoreRefusal.{StoreRefusal}
 use Rattle.epoch_file.specs.declared.refusal.StoreRefusal.TheVariants.{DiskFault, NoMemory, Damaged}
@@ -40,8 +40,8 @@ use Rattle.store_planning.specs.declared.next.NextPlace.{NextPlace}
 use Rattle.store_finding.specs.Damage.{named_length}
 use Rattle.store_finding.specs.Extents.{AreNamedAfter, ComesAfter, LieFrom, length_planned}
 use Rattle.store_finding.specs.Files.{epoch_file_of}
-use Rattle.store_finding.specs.Recovery.{Names, bytes_in, parts_of}
-use Rattle.store_finding.specs.Kept.{View, IsDiskWith, IsStoreWith, in_file, stored_after, stored_at}
+use Rattle.store_finding.specs.Recovery.{NamesArchive, bytes_in, parts_of}
+use Rattle.store_finding.specs.Kept.{StoreState, IsDiskWith, IsStoreWith, in_file, stored_after, stored_at}
 use Rattle.store_planning.specs.Dropping.{KeptOf, SeesNoDamage, without_blob}
 
 -- Entries of an epoch as they are in its file.
@@ -71,7 +71,7 @@ pub record PlansWithout (root : Root) (cache : List ℕ) (a : Archive) (text : L
 
 -- What is planned may be carried out, whatever the disk holds: no part is planned twice, and the map is
 -- written anew, with a record for each number below this one.
-pub record IsReady (root : Root) (plans : List Plan) (next : ℕ) : Type 0 where
+pub record IsReadyPlan (root : Root) (plans : List Plan) (next : ℕ) : Type 0 where
   pub plans_may : MayCarryAll root plans
   pub map : MapFits root plans next
   pub map_plan : Plan
@@ -94,24 +94,24 @@ AreAnew plans = (i : ℕ) (plan : Plan) → slice_get plans i ≡ Some plan → 
 
 -- What is planned of the entries of a store without those with a blob id: what is kept of the others,
 -- and what is written.
-pub record PlansPurge (v : View) (blob : Id20) (entries : List StoredEntry) (plans : List Plan)
+pub record PlansPurge (v : StoreState) (blob : Id20) (entries : List StoredEntry) (plans : List Plan)
     : Type 0 where
   pub kept : AllZip KeptOf (without_blob v.entries blob.0) entries
-  pub ready : IsReady v.root plans v.root.next
+  pub ready : IsReadyPlan v.root plans v.root.next
   pub anew : AreAnew plans
   pub lost : PlansLost v.entries blob plans
   pub named : AreNamedAfter v.root plans entries
 
 -- On a store's own disk, where a message has the text of the blob id, what is planned, and what is
 -- kept of the other entries, is that of the archive without the text.
-abbrev pub PlansOwn : View → Id20 → List StoredEntry → List Plan → Option Content → Type 0
+abbrev pub PlansOwn : StoreState → Id20 → List StoredEntry → List Plan → Option Content → Type 0
 PlansOwn v blob entries plans content = (a : Archive) (cache text : List ℕ)
     → IsStoreWith v cache a content → blob_id_of text ≡ blob → IsMessageText a text
     → PlansWithout v.root cache a text plans
     × (entries ≡ stored_after [] (without_text a.entries text))
 
 -- Planning finds no damage on a store's own disk.
-abbrev pub PlansUndamaged : {T : Type 0} → View → Result T StoreRefusal → Option Content → Type 0
+abbrev pub PlansUndamaged : {T : Type 0} → StoreState → Result T StoreRefusal → Option Content → Type 0
 PlansUndamaged v result content = (a : Archive) (cache : List ℕ) → IsStoreWith v cache a content
     → SeesNoDamage result
 
@@ -145,9 +145,9 @@ pub record IsPlanning (top : ℕ) (p : Planning) : Type 0 where
   pub gone : RisesUpTo 1 top p.gone
 
 -- The current epoch is none of those that are planned.
-abbrev pub IsApart : List Plan → Option Planned → Type 0
-IsApart plans None = Unit {0}
-IsApart plans (Some c) = plan_of plans kind.Epoch c.file.number ≡ None
+abbrev pub PlansApart : List Plan → Option Planned → Type 0
+PlansApart plans None = Unit {0}
+PlansApart plans (Some c) = plan_of plans kind.Epoch c.file.number ≡ None
 
 -- A plan writes an epoch of a root anew, from ranges of the epoch's file.
 pub record IsPlanIn (root : Root) (plan : Plan) : Type 0 where
@@ -179,18 +179,18 @@ pub record ArePlansIn (root : Root) (p : Planning) : Type 0 where
   pub current : IsFileIn root p.current
 
 -- A plan is one of a part, and its ranges are of the part's file by a root.
-abbrev pub IsFrom : Root → Plan → Type 0
-IsFrom root plan = IsPartToPlan plan.kind plan.number
+abbrev pub PlanIsFrom : Root → Plan → Type 0
+PlanIsFrom root plan = IsPartToPlan plan.kind plan.number
     × IsPlanFrom (file_by root plan.kind plan.number) plan
 
 -- Each of these plans is one of a part, with ranges of that part's file.
 abbrev pub AreFrom : Root → List Plan → Type 0
-AreFrom root plans = (i : ℕ) (plan : Plan) → slice_get plans i ≡ Some plan → IsFrom root plan
+AreFrom root plans = (i : ℕ) (plan : Plan) → slice_get plans i ≡ Some plan → PlanIsFrom root plan
 
 -- The ranges of a plan lie in the bytes that count of their files by a root.
 abbrev pub IsPlanWithin : Root → Plan → Type 0
 IsPlanWithin root plan = (i : ℕ) (source : Source) → slice_get plan.sources i ≡ Some source
-    → IsWithin root source
+    → SourceIsWithin root source
 
 -- The ranges of each of these plans lie in the bytes that count of their files.
 abbrev pub AreWithin : Root → List Plan → Type 0
@@ -199,8 +199,8 @@ AreWithin root plans = (i : ℕ) (plan : Plan) → slice_get plans i ≡ Some pl
 
 -- An entry that stays ends in the new files: in those of the epochs before the current one by their
 -- plans, and in that of the current one where the entries reach that stay.
-abbrev pub EndsBy : Root → List Plan → Planned → ℕ → ℕ → StoredEntry → Type 0
-EndsBy root plans current epoch from e =
+abbrev pub EndsInPlan : Root → List Plan → Planned → ℕ → ℕ → StoredEntry → Type 0
+EndsInPlan root plans current epoch from e =
     ((e.epoch < epoch) × (tree_end e.seen ≤ length_planned root plans e.epoch))
     ⊎ ((e.epoch ≡ epoch) × (tree_end e.seen ≤ reach from current)
     × (is_some current.parent ≡ true))
@@ -210,7 +210,7 @@ abbrev pub EndByCurrent : Root → Planning → ℕ → ℕ → Option Planned �
 EndByCurrent root p epoch from None = (p.plans ≡ []) × (p.entries ≡ [])
 EndByCurrent root p epoch from (Some current) = (current.file ≡ epoch_file_of root epoch)
     × IsPlannedIn (named_length root epoch) current
-    × AllByRecursion (EndsBy root p.plans current epoch from) p.entries
+    × AllByRecursion (EndsInPlan root p.plans current epoch from) p.entries
 
 -- The entries of a store up to an offset in an epoch are planned: no later epoch is, what is planned
 -- takes ranges of the bytes that the root names, and the entries that stay lie in the new files.
@@ -223,13 +223,13 @@ pub record IsTakenUpTo (root : Root) (epoch from : ℕ) (p : Planning) : Type 0 
   pub ends : EndByCurrent root p epoch from p.current
 
 -- One more entry was taken, which lies in its epoch after those before it.
-abbrev pub TakesOn : Planning → FileName → StoredEntry → Planning → Type 0
-TakesOn old file e new = (root : Root) (epoch from : ℕ) → file ≡ epoch_file_of root e.epoch
-    → ComesAfter epoch from e → LiesIn e.seen.at (named_length root e.epoch) e.seen
+abbrev pub PlanTakes : Planning → FileName → StoredEntry → Planning → Type 0
+PlanTakes old file e new = (root : Root) (epoch from : ℕ) → file ≡ epoch_file_of root e.epoch
+    → ComesAfter epoch from e → EntryLiesIn e.seen.at (named_length root e.epoch) e.seen
     → IsTakenUpTo root epoch from old → IsTakenUpTo root e.epoch (tree_end e.seen) new
 
 -- The entries of a store are planned up to some offset.
-pub record IsTaken (root : Root) (p : Planning) : Type 0 where
+pub record IsTakenToOffset (root : Root) (p : Planning) : Type 0 where
   pub epoch : ℕ
   pub from : ℕ
   pub taken : IsTakenUpTo root epoch from p
@@ -276,16 +276,16 @@ GivesNext texts root a es e text new (Err _) = Unit {0}
 abbrev pub PlansNext : Planning → FileName → StoredEntry → Id20 → Option Content → Planning
     → Result Unit StoreRefusal → Type 0
 PlansNext old file stored blob content new result = WhereTold (λ (k : Content).
-    (v : View) (cache : List ℕ) (a : Archive) (es rest : List Entry) (e : Entry) (text : List ℕ)
+    (v : StoreState) (cache : List ℕ) (a : Archive) (es rest : List Entry) (e : Entry) (text : List ℕ)
     → IsDiskWith v cache a k → a.entries ≡ es ++ e ∷ rest → stored ≡ stored_at es e
     → file ≡ epoch_file_of v.root e.epoch → PicksText a blob text
     → IsPlannedUpTo (texts_in k) v.root a es text old
     → GivesNext (texts_in k) v.root a es e text new result) content
 
 -- The result is the index of the plan of a part, or there is none.
-abbrev pub IsIndexOf : List Plan → FileKind → ℕ → Option ℕ → Type 0
-IsIndexOf plans kind_ number None = plan_of plans kind_ number ≡ None
-IsIndexOf plans kind_ number (Some i) =
+abbrev pub IsPlanIndex : List Plan → FileKind → ℕ → Option ℕ → Type 0
+IsPlanIndex plans kind_ number None = plan_of plans kind_ number ≡ None
+IsPlanIndex plans kind_ number (Some i) =
     (plan : Plan) × (slice_get plans i ≡ Some plan) × (plan_of plans kind_ number ≡ Some plan)
 
 -- The error of a file's reading.
@@ -316,8 +316,8 @@ ClosesAs old None new = new ≡ old
 ClosesAs old (Some plan) new = Pushes old plan new
 
 -- The current epoch is closed: its file is planned whole, and the plan was added if there is one.
-abbrev pub Closes : Planning → Planned → Planning → Type 0
-Closes old epoch new = (finished : Option Plan) × Finishes epoch finished
+abbrev pub ClosesEpoch : Planning → Planned → Planning → Type 0
+ClosesEpoch old epoch new = (finished : Option Plan) × FinishesPlan epoch finished
     × IsOfEpoch epoch.file finished × ClosesAs old finished new
     × (is_some finished ≡ is_some epoch.changed)
     × ((most : ℕ) → IsPlannedIn most epoch → FinishesIn most epoch finished)
@@ -335,7 +335,7 @@ abbrev pub OpensBy : Planning → FileName → Option Planned → Planning → P
 OpensBy old file None new plan = (new ≡ without_current old) × (plan ≡ epoch_start file)
 OpensBy old file (Some c) new plan =
     ((c.file ≡ file) × (plan ≡ c) × (new ≡ without_current old))
-    ⊎ ((c.file ≢ file) × (plan ≡ epoch_start file) × Closes (without_current old) c new)
+    ⊎ ((c.file ≢ file) × (plan ≡ epoch_start file) × ClosesEpoch (without_current old) c new)
 
 -- The same by the current one of a planner.
 abbrev pub OpensPlan : Planning → FileName → Planning → Planned → Type 0
@@ -366,8 +366,8 @@ LeavesOut old plan e new = (after : Planned) × LeavesNext plan e.seen after
     × (after.file ≡ plan.file)
     × (new ≡ with_entries old old.entries (gone_with e.seen.kind old.gone e.number) after)
     × (is_some after.changed ≡ true)
-    × ((from most : ℕ) → LiesIn from most e.seen → IsPlannedIn most plan
-    → LeavesIn from most plan e.seen after)
+    × ((from most : ℕ) → EntryLiesIn from most e.seen → IsPlannedIn most plan
+    → LeftOutIn from most plan e.seen after)
 
 -- An entry as it is kept in the new file.
 abbrev pub kept_anew : StoredEntry → Seen → StoredEntry
@@ -375,7 +375,7 @@ kept_anew e seen = record { number = e.number; epoch = e.epoch; seen = seen }
 
 -- An entry was kept in the plan of the current epoch, at its offset in the new file and with its commit
 -- there.
-pub record KeepsEntry (old : Planning) (plan : Planned) (e : StoredEntry)
+pub record PlansEntry (old : Planning) (plan : Planned) (e : StoredEntry)
     (content : Option Content) (new : Planning) : Type 0 where
   pub seen : Seen
   pub after : Planned
@@ -384,7 +384,7 @@ pub record KeepsEntry (old : Planning) (plan : Planned) (e : StoredEntry)
   pub file : after.file ≡ plan.file
   pub going : is_some after.changed ≡ is_some plan.changed
   pub some : is_some after.parent ≡ true
-  pub lies : (from most : ℕ) → LiesIn from most e.seen → IsPlannedIn most plan
+  pub lies : (from most : ℕ) → EntryLiesIn from most e.seen → IsPlannedIn most plan
       → KeepsIn from most plan e.seen after seen
   pub new_is : new ≡ with_entries old (old.entries ++ kept_anew e seen ∷ []) old.gone after
 
@@ -394,8 +394,8 @@ IsNoDamage (walk.Damaged at) = ⊥
 IsNoDamage _ = Unit {0}
 
 -- An entry was refused: where the file has it, nothing is damaged.
-abbrev pub RefusesEntry : Planned → StoredEntry → Option Content → WalkRefusal → Type 0
-RefusesEntry plan e content refusal = WhereTold (λ (k : Content).
+abbrev pub RefusesPlanned : Planned → StoredEntry → Option Content → WalkRefusal → Type 0
+RefusesPlanned plan e content refusal = WhereTold (λ (k : Content).
     (es kept : List EpochEntry) (next : EpochEntry) → IsPlanned (texts_in k) es kept plan
     → HasNext (texts_in k) plan.file es next → e.seen ≡ seen_after es next → IsNoDamage refusal)
     content
@@ -403,7 +403,7 @@ RefusesEntry plan e content refusal = WhereTold (λ (k : Content).
 -- The current epoch is closed, if there is one.
 abbrev pub ClosesLast : Planning → Option Planned → Planning → Type 0
 ClosesLast old None mid = mid ≡ old
-ClosesLast old (Some c) mid = Closes (without_current old) c mid
+ClosesLast old (Some c) mid = ClosesEpoch (without_current old) c mid
 
 -- The current epoch is closed, and the plan of the map without the messages that are left out was
 -- added.
@@ -412,7 +412,7 @@ FinishesPlans old map count new = (mid : Planning) × ClosesLast old old.current
     × ((plan : Plan) × PlansMap map count mid.gone plan × Pushes mid plan new)
 
 -- So many entries of a store are planned, whatever archive its disk holds.
-abbrev pub PlansFirst : View → Id20 → ℕ → Planning → Content → Type 0
+abbrev pub PlansFirst : StoreState → Id20 → ℕ → Planning → Content → Type 0
 PlansFirst v blob n p k = (cache : List ℕ) (a : Archive) (text : List ℕ) → IsDiskWith v cache a k
     → PicksText a blob text → IsPlannedUpTo (texts_in k) v.root a (take n a.entries) text p
 
@@ -450,7 +450,7 @@ pub record PlansArchive (root : Root) (cache : List ℕ) (a b : Archive) (p : Pl
 -- One more message is planned: its epoch is written with some bytes more, in a new file if it was planned
 -- before, and otherwise after its own bytes. On the archive that is planned so far, it is the one with
 -- the message.
-pub record PlansEdit (v : View) (old : Planning) (text : List ℕ) (moment : ℕ) (new : Planning)
+pub record PlansEdit (v : StoreState) (old : Planning) (text : List ℕ) (moment : ℕ) (new : Planning)
     : Type 0 where
   pub entry : StoredEntry
   pub entries : new.entries ≡ old.entries ++ entry ∷ []
@@ -467,15 +467,15 @@ pub record PlansEdit (v : View) (old : Planning) (text : List ℕ) (moment : ℕ
       (no_plan kind.Epoch entry.epoch Behind)) piece)
   pub others : (e : ℕ) → e ≢ entry.epoch
       → plan_of new.plans kind.Epoch e ≡ plan_of old.plans kind.Epoch e
-  pub ready : IsReady v.root old.plans v.root.next → IsReady v.root new.plans (v.root.next + 1)
+  pub ready : IsReadyPlan v.root old.plans v.root.next → IsReadyPlan v.root new.plans (v.root.next + 1)
   pub named : AreAnew old.plans → AreNamedAfter v.root old.plans old.entries
       → AreNamedAfter v.root new.plans new.entries
   pub archive : (cache : List ℕ) (a b : Archive) → PlansArchive v.root cache a b old v.root.next
-      → Names v.root a → AreAnew old.plans → IsArchive (with_entry b (new_epoch b) text moment)
+      → NamesArchive v.root a → AreAnew old.plans → IsArchive (with_entry b (new_epoch b) text moment)
       → PlansArchive v.root cache a (with_entry b (new_epoch b) text moment) new (v.root.next + 1)
 
 -- The entries that are kept are those that were planned, by the root of the plans.
-pub record KeepsPlanned (old : View) (p : Planning) (next : ℕ) (new : View) : Type 0 where
+pub record KeepsPlanned (old : StoreState) (p : Planning) (next : ℕ) (new : StoreState) : Type 0 where
   pub entries : new.entries ≡ p.entries
   pub root : IsRootAfter old.root p.plans next new.root
   pub slot : new.slot ≡ 1 - old.slot

@@ -1,4 +1,5 @@
 //! Plans how an archive is written anew without the entries of a text.
+//! Reads the disk.
 #![tactic(auto)]
 
 mod next;

@@ -1,4 +1,5 @@
 //! Where the next entry is written.
+//! Pure.
 use arch_base::ObjectId;
 
 /// The last epoch that has an entry, and its last commit.
@@ -16,7 +17,7 @@ pub struct NextPlace {
     /// The epoch.
     pub epoch: u32,
     /// The generation of its file.
-    pub gen_: u64,
+    pub generation: u64,
     /// The number of bytes of the file that count, 0 for a new one.
     pub length: u64,
     /// The epoch's last commit.

@@ -1,4 +1,5 @@
 //! Plans an archive without the entries of a text.
+//! Reads the disk.
 ghost use Rattle.std.specs.Prelude.{◌≡◌, ◌+◌, ◌*◌, ◌≤◌, ◌++◌, [], ◌∷◌, Some, None, Err, IfErr, IfOk, OnOk};
 ghost use Rattle.std.specs.Str.{bytes_eq};
 ghost use Rattle.arch_base.specs.Counts.{RoseIf};
@@ -14,9 +15,9 @@ ghost use Rattle.epoch_file.specs.Runs.{OnlyReads};
 ghost use Rattle.store_planning.specs.DamagedTexts.{IfDamaged, IsDamageOf};
 ghost use Rattle.store_finding.specs.Extents.{AreNamedAfter, AreUpToEpoch, LieFrom};
 ghost use Rattle.store_finding.specs.Files.{epoch_file_of, map_file_of};
-ghost use Rattle.store_planning.specs.Planning.{AppendsRecord, AreAnew, AreFrom, IsApart, ArePlansIn, AreValid, ChangesNext, Closes, ClosesLast, FinishesPlans, IsIndexOf, IsReady, IsTaken, KeepsBut, KeepsEntry, LeavesOut, OpensPlan, Pushes, RefusesEntry, PlansNext, TakesOn, no_planning, plans_with, refusal_in, with_gone};
+ghost use Rattle.store_planning.specs.Planning.{AppendsRecord, AreAnew, AreFrom, PlansApart, ArePlansIn, AreValid, ChangesNext, ClosesEpoch, ClosesLast, FinishesPlans, IsPlanIndex, IsReadyPlan, IsTakenToOffset, KeepsBut, PlansEntry, LeavesOut, OpensPlan, Pushes, RefusesPlanned, PlansNext, PlanTakes, no_planning, plans_with, refusal_in, with_gone};
 ghost use Rattle.store_finding.specs.Kept.{InEpochs, stored_after};
-ghost use Rattle.store_planning.specs.Dropping.{IsEnd};
+ghost use Rattle.store_planning.specs.Dropping.{IsStoreEnd};
 
 use crate::next::End;
 use arch_base::{NoMemory, Numbers, ObjectId};
@@ -97,7 +98,7 @@ impl Planner {
         blob: &ObjectId,
     ) -> Result<(), StoreRefusal>
         requires epoch { entry.now.epoch ≤ greatest_epoch }
-        requires apart { IsApart self.old.plans self.old.current }
+        requires apart { PlansApart self.old.plans self.old.current }
         ensures taken { PlansNext self.old file entry.now blob.now (D.content disk.old) self.new
             result }
         ensures damage { IfDamaged result (IsDamageOf file entry.now (D.content disk.old)) }
@@ -108,7 +109,7 @@ impl Planner {
             → ArePlansIn root self.old → OnOk result (ArePlansIn root self.new) }
         ensures changes { OnOk result (ChangesNext self.old file.number
             (bytes_eq blob.now.0 entry.now.seen.blob.0) self.new) }
-        ensures lies { OnOk result (TakesOn self.old file entry.now self.new) }
+        ensures lies { OnOk result (PlanTakes self.old file entry.now self.new) }
         ensures reads { OnlyReads D.content D.moment D.left_since D.faults disk.old disk.new }
         ensures fewest { D.reads disk.old ≤ D.reads disk.new }
         ensures cause { RoseIf (result ≡ Err StoreRefusal.DiskFault) (D.faults disk.old)
@@ -143,9 +144,9 @@ impl Planner {
         plan: EpochPlan,
         entry: &StoredEntry,
     ) -> Result<(), WalkRefusal>
-        ensures kept { OnOk result (KeepsEntry self.old plan entry.now (D.content disk.old) self.new) }
+        ensures kept { OnOk result (PlansEntry self.old plan entry.now (D.content disk.old) self.new) }
         ensures refused { IfErr result (λ refusal.
-            RefusesEntry plan entry.now (D.content disk.old) refusal) }
+            RefusesPlanned plan entry.now (D.content disk.old) refusal) }
         ensures damage { IfErr result (TellsLack plan.file entry.now.seen (D.content disk.old)) }
         ensures reads { OnlyReads D.content D.moment D.left_since D.faults disk.old disk.new }
         ensures fewest { D.reads disk.old ≤ D.reads disk.new }
@@ -172,7 +173,7 @@ impl Planner {
     /// Returns the plan of a file, which is the current one or a new one. Closes the current one if it
     /// is of another file.
     fn open(&mut self, file: FileName) -> Result<EpochPlan, NoMemory>
-        requires { IsApart self.old.plans self.old.current }
+        requires { PlansApart self.old.plans self.old.current }
         ensures opened { IfOk result (OpensPlan self.old file self.new) }
     {
         let Some(plan) = self.current.take() else {
@@ -188,7 +189,7 @@ impl Planner {
     /// Keeps the plan of an epoch whose entries have all been taken, if it loses one.
     fn close(&mut self, plan: EpochPlan) -> Result<(), NoMemory>
         requires { plan_of self.old.plans kind.Epoch plan.file.number ≡ None }
-        ensures { OnOk result (Closes self.old plan self.new) }
+        ensures { OnOk result (ClosesEpoch self.old plan self.new) }
     {
         match plan.finish(self.alloc) {
             Some(plan) => self.push(plan),
@@ -210,7 +211,7 @@ impl Planner {
 
     /// Returns the index of the plan of a part, if there is one.
     pub fn find(&self, kind: FileKind, number: u32) -> Option<usize>
-        ensures { IsIndexOf self.now.plans kind number result }
+        ensures { IsPlanIndex self.now.plans kind number result }
     {
         for at in 0..self.plans.len() {
             let plan = &self.plans[at];
@@ -227,7 +228,7 @@ impl Planner {
         ensures small { result.epoch ≤ greatest_epoch }
         ensures last { LieFrom 0 0 self.now.entries → AreUpToEpoch result.epoch self.now.entries }
         ensures end { (b : Archive) → IsArchive b → self.now.entries ≡ stored_after [] b.entries
-            → IsEnd b result }
+            → IsStoreEnd b result }
     {
         match self.entries.last() {
             None => End {
@@ -268,15 +269,15 @@ impl Planner {
     /// `NoMemory` also stands for a number that has no record, since no clause of a store says that what
     /// it keeps is of an archive.
     pub fn finish(&mut self, map: FileName, count: u32) -> Result<(), NoMemory>
-        requires apart { IsApart self.old.plans self.old.current }
+        requires apart { PlansApart self.old.plans self.old.current }
         requires map { plan_of self.old.plans kind.Map 0 ≡ None }
         ensures finished { OnOk result (FinishesPlans self.old map count self.new) }
         // Whatever the disk holds.
         ensures ready { (root : Root) → IsRoot root → map ≡ map_file_of root
             → root.map.length ≡ record_size * count → ArePlansIn root self.old
-            → IsTaken root self.old → OnOk result
+            → IsTakenToOffset root self.old → OnOk result
             (AreFrom root self.new.plans × AreAnew self.new.plans
-            × IsReady root self.new.plans (count + 1)
+            × IsReadyPlan root self.new.plans (count + 1)
             × AreNamedAfter root self.new.plans self.new.entries) }
     {
         self.close_last()?;
@@ -291,7 +292,7 @@ impl Planner {
 
     /// Closes the current epoch, if there is one.
     fn close_last(&mut self) -> Result<(), NoMemory>
-        requires { IsApart self.old.plans self.old.current }
+        requires { PlansApart self.old.plans self.old.current }
         ensures { OnOk result (ClosesLast self.old self.old.current self.new) }
     {
         match self.current.take() {

@@ -9,7 +9,7 @@ use Rattle.mail_reader.specs.Ids.{own_id}
 use Rattle.arch_model.specs.Archives.{Entry, Archive, is_message, is_ended, is_id, live, owner, IsFree}
 use Rattle.store_finding.specs.declared.entries.StoredEntry.{StoredEntry}
 use Rattle.mail_reader.specs.StorageTexts.{IsStorageText}
-use Rattle.store_finding.specs.Kept.{View, Keeps, stored_after}
+use Rattle.store_finding.specs.Kept.{StoreState, KeepsArchive, stored_after}
 use Rattle.epoch_store.specs.Commands.{Accepts}
 
 -- Each of these entries has another own id than a text.
@@ -33,14 +33,14 @@ found : (o : Option (List ℕ)) → IsSome o → (id : List ℕ) × (o ≡ Some 
 found None some = absurd (let no : false ≡ true = some in cc)
 found (Some id) some = (id, refl)
 
-pub free_of : (v : View) (text : List ℕ) → IsSome (own_id text) → Apart text v.entries → (a : Archive) → Keeps v a → IsFree (live a.entries) text
+pub free_of : (v : StoreState) (text : List ℕ) → IsSome (own_id text) → Apart text v.entries → (a : Archive) → KeepsArchive v a → IsFree (live a.entries) text
 free_of v text some apart a keeps =
     let own = found (own_id text) some in
     let all = subst (λ (es : List StoredEntry). AllByRecursion (λ (s : StoredEntry). own_id text ≢ Some s.seen.id) es) keeps.kept apart in
     (own.0, own.1, none_owns [] a.entries own.0 (subst (λ (o : Option (List ℕ)). AllByRecursion (λ (s : StoredEntry). o ≢ Some s.seen.id) (stored_after [] a.entries)) own.1 all))
 
 -- A storage text whose own id no entry has is accepted.
-pub accepted : (v : View) (text : List ℕ) → v.root.config.mirror ≡ false → v.root.next ≤ v.root.config.max → IsStorageText text → Apart text v.entries → Accepts v text
+pub accepted : (v : StoreState) (text : List ℕ) → v.root.config.mirror ≡ false → v.root.next ≤ v.root.config.max → IsStorageText text → Apart text v.entries → Accepts v text
 accepted v text writable left storage apart = record { writable = writable; number_left = left; storage = storage; id = free_of v text storage.id apart }
 
 pub of_none : (text : List ℕ) (es : List StoredEntry) → length es < 1 → Apart text es

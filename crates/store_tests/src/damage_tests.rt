@@ -267,7 +267,7 @@ static SWEPT: [FileName; 4] = [
     FileName {
         kind: FileKind::Epoch,
         number: 0,
-        gen_: 9,
+        generation: 9,
     },
     SECOND_EPOCH,
 ];
@@ -280,7 +280,7 @@ fn sweep_each(rt: &impl Abort, alloc: Global, files: &Vec<WholeFile>) -> Result<
             one_is_swept(alloc, *file, files)?,
             "{} {}",
             file.number,
-            file.gen_
+            file.generation
         );
     }
     Ok(())
@@ -327,7 +327,7 @@ fn a_slot_that_was_shut_gets_the_current_root(rt: HostRuntime) -> Result<(), Fai
 const CACHE: FileName = FileName {
     kind: FileKind::Cache,
     number: 0,
-    gen_: 2,
+    generation: 2,
 };
 
 /// Lets the current root of an archive of one message name the first five bytes of a cache, which

@@ -64,7 +64,7 @@ fn is_between<D: Disk>(
     requires high { limit ≤ 1099511627776 }
 {
     let found = opened_at_last(alloc, disk)?;
-    let mut change = Change::between(alloc, limit, before, after)?;
+    let mut change = Change::crash_between(alloc, limit, before, after)?;
     Ok(change.finds(&found))
 }
 
@@ -239,6 +239,6 @@ fn fail_each_opening(rt: &impl Abort, alloc: Global, same: &mut Change) -> Resul
 
 #[test]
 fn an_opening_that_fails_leaves_the_archive(rt: HostRuntime) -> Result<(), Fail> {
-    let mut same = Change::between(rt.alloc(), 316, 4, 4)?;
+    let mut same = Change::crash_between(rt.alloc(), 316, 4, 4)?;
     fail_each_opening(&rt, rt.alloc(), &mut same)
 }

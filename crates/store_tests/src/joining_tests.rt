@@ -2,7 +2,7 @@
 //! which entries belong to which records.
 ghost use Rattle.std.specs.Prelude.{ℕ, false, Ok};
 ghost use Rattle.epoch_file.specs.declared.entry.Seen.{Seen};
-ghost use Rattle.store_finding.specs.Joined.{Joined, JoinsOne, Held};
+ghost use Rattle.store_finding.specs.Joined.{JoinedEntries, JoinsOne, OfJoined};
 
 use crate::making_tests::{MAP, ROOT, epoch, make};
 use arch_base::Id20;
@@ -369,8 +369,8 @@ static OWN: [Case; 7] = [
 ///
 /// No file can show this, since no two texts of one blob id are known.
 fn a_blob_id_has_one_text()
-    ensures { (old new : Joined) (epoch : ℕ) (seen : Seen)
-        → JoinsOne old epoch seen false (Ok new) → Held old (λ entries. ⊥) }
+    ensures { (old new : JoinedEntries) (epoch : ℕ) (seen : Seen)
+        → JoinsOne old epoch seen false (Ok new) → OfJoined old (λ entries. ⊥) }
 {}
 
 #[test]

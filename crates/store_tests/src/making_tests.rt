@@ -3,7 +3,7 @@ ghost use Rattle.std.specs.Prelude.{◌≢◌, ◌≤◌, Some, IfOk, IsTrue, On
 ghost use Rattle.disk_model.specs.Disk.{WhereTold};
 ghost use Rattle.git_objects.specs.Objects.{blob_id_of};
 ghost use Rattle.mail_reader.specs.Ids.{own_id as own_id_in};
-ghost use Rattle.epoch_store.specs.Commands.{Accepts, HasSizes};
+ghost use Rattle.epoch_store.specs.Commands.{Accepts, StoreHasSizes};
 
 use crate::memory::{is_epoch_of, settings, two_in_memory};
 use arch_base::{Bytes, NoMemory, id_of_hex};
@@ -24,36 +24,36 @@ use store_finding::StoredEntry;
 pub(crate) const ROOT: FileName = FileName {
     kind: FileKind::Root,
     number: 0,
-    gen_: 0,
+    generation: 0,
 };
 
 /// The file of the first map.
 pub(crate) const MAP: FileName = FileName {
     kind: FileKind::Map,
     number: 0,
-    gen_: 1,
+    generation: 1,
 };
 
 /// The file of the first epoch of an archive that has a message.
 pub(crate) const FIRST_EPOCH: FileName = FileName {
     kind: FileKind::Epoch,
     number: 0,
-    gen_: 2,
+    generation: 2,
 };
 
 /// The file of the second epoch of an archive whose first one took one message.
 pub(crate) const SECOND_EPOCH: FileName = FileName {
     kind: FileKind::Epoch,
     number: 1,
-    gen_: 3,
+    generation: 3,
 };
 
 /// Returns the file of an epoch.
-pub(crate) fn epoch(number: u32, gen_: u64) -> FileName {
+pub(crate) fn epoch(number: u32, generation: u64) -> FileName {
     FileName {
         kind: FileKind::Epoch,
         number,
-        gen_,
+        generation,
     }
 }
 
@@ -96,8 +96,8 @@ pub(crate) fn put<D: Disk>(
     store: &mut Store,
     text: &[u8],
 ) -> Result<(), StoreRefusal>
-    requires sizes { WhereTold (HasSizes store.old) (D.content disk.old) }
-    ensures sizes { OnOk result (WhereTold (HasSizes store.new) (D.content disk.new)) }
+    requires sizes { WhereTold (StoreHasSizes store.old) (D.content disk.old) }
+    ensures sizes { OnOk result (WhereTold (StoreHasSizes store.new) (D.content disk.new)) }
 {
     if !accepts(store, text) {
         return Err(StoreRefusal::Damaged { file: ROOT, at: 0 });
@@ -109,7 +109,7 @@ pub(crate) fn put<D: Disk>(
 pub(crate) fn make<D: Disk>(alloc: Global, disk: &mut D, limit: u64) -> Result<Store, StoreRefusal>
     requires low { 1 ≤ limit }
     requires high { limit ≤ 1099511627776 }
-    ensures sizes { IfOk result (λ store. WhereTold (HasSizes store) (D.content disk.new)) }
+    ensures sizes { IfOk result (λ store. WhereTold (StoreHasSizes store) (D.content disk.new)) }
 {
     let Some(config) = settings(limit, 10, false) else {
         return Err(StoreRefusal::Damaged { file: ROOT, at: 1 });

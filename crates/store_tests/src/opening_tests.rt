@@ -2,7 +2,7 @@
 //! failed, and after an opening failed.
 ghost use Rattle.std.specs.Prelude.{◌≤◌, IfSome, IfOk, OnOk};
 ghost use Rattle.disk_model.specs.Disk.{WhereTold};
-ghost use Rattle.epoch_store.specs.Commands.{HasSizes};
+ghost use Rattle.epoch_store.specs.Commands.{StoreHasSizes};
 
 use crate::making_tests::{make, put};
 use crate::removal_tests::remove_first;
@@ -57,8 +57,8 @@ fn put_first<D: Disk>(
     store: &mut Store,
     calls: u64,
 ) -> Result<(), StoreRefusal>
-    requires sizes { WhereTold (HasSizes store.old) (D.content disk.old) }
-    ensures sizes { OnOk result (WhereTold (HasSizes store.new) (D.content disk.new)) }
+    requires sizes { WhereTold (StoreHasSizes store.old) (D.content disk.old) }
+    ensures sizes { OnOk result (WhereTold (StoreHasSizes store.new) (D.content disk.new)) }
 {
     if calls == 1 {
         return Ok(());
@@ -85,7 +85,7 @@ pub(crate) fn begin<D: Disk>(
     requires low { 1 ≤ limit }
     requires high { limit ≤ 1099511627776 }
     ensures sizes { IfOk result (λ begun.
-        IfSome begun (λ store. WhereTold (HasSizes store) (D.content disk.new))) }
+        IfSome begun (λ store. WhereTold (StoreHasSizes store) (D.content disk.new))) }
 {
     if calls == 0 {
         return Ok(None);
@@ -104,7 +104,7 @@ fn go_on<D: Disk>(
 ) -> Result<(), StoreRefusal>
     requires low { 1 ≤ limit }
     requires high { limit ≤ 1099511627776 }
-    requires sizes { IfSome store (λ begun. WhereTold (HasSizes begun) (D.content disk.old)) }
+    requires sizes { IfSome store (λ begun. WhereTold (StoreHasSizes begun) (D.content disk.old)) }
 {
     let Some(store) = store else {
         make(alloc, disk, limit)?;
@@ -142,7 +142,7 @@ pub(crate) struct Change {
 
 impl Change {
     /// Returns the call before which, and after which, the archive has this many of the four calls.
-    pub(crate) fn between(
+    pub(crate) fn crash_between(
         alloc: Global,
         limit: u64,
         before: u64,
@@ -298,7 +298,7 @@ fn stop_call(rt: &impl Abort, alloc: Global, limit: u64, calls: u64) -> Result<(
     requires high { limit ≤ 1099511627776 }
     requires calls { calls ≤ 3 }
 {
-    let mut change = Change::between(alloc, limit, calls, calls + 1)?;
+    let mut change = Change::crash_between(alloc, limit, calls, calls + 1)?;
     stop_each(rt, alloc, limit, calls, &mut change)
 }
 

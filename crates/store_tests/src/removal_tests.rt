@@ -4,7 +4,7 @@ ghost use Rattle.disk_model.specs.Disk.{WhereTold};
 ghost use Rattle.git_objects.specs.Objects.{blob_id_of};
 ghost use Rattle.git_objects.specs.declared.entry_kind.EntryKind.TheVariants.{Message};
 ghost use Rattle.mail_reader.specs.Ids.{own_id as own_id_in};
-ghost use Rattle.epoch_store.specs.Commands.{HasSizes, MayEnd};
+ghost use Rattle.epoch_store.specs.Commands.{StoreHasSizes, MayEnd};
 
 use crate::damage_tests::is_refused;
 use crate::joining_tests::{
@@ -74,8 +74,8 @@ pub(crate) fn remove_first<D: Disk>(
     disk: &mut D,
     store: &mut Store,
 ) -> Result<(), StoreRefusal>
-    requires sizes { WhereTold (HasSizes store.old) (D.content disk.old) }
-    ensures sizes { OnOk result (WhereTold (HasSizes store.new) (D.content disk.new)) }
+    requires sizes { WhereTold (StoreHasSizes store.old) (D.content disk.old) }
+    ensures sizes { OnOk result (WhereTold (StoreHasSizes store.new) (D.content disk.new)) }
 {
     if !may_end(store, 1, FIRST) {
         return Err(StoreRefusal::Damaged { file: ROOT, at: 3 });

@@ -1,4 +1,5 @@
 //! The words of texts, by which messages are searched.
+//! Allocates.
 #![tactic(auto)]
 
 mod sets;

@@ -1,4 +1,5 @@
 //! The words of a list in order, each once.
+//! Allocates.
 ghost use Rattle.std.specs.Prelude.{◌≡◌, map, IfOk};
 ghost use Rattle.text_words.specs.Sets.{word_set, bytes_of};
 

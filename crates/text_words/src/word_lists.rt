@@ -1,4 +1,5 @@
 //! The words of a message, by field.
+//! Pure.
 use arch_base::Texts;
 
 /// The words of a message.

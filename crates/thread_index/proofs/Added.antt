@@ -3,7 +3,7 @@ use Rattle.std.proofs.Common.{◌≡◌, ℕ, List, [], ◌∷◌, ◌++◌, map
 use Rattle.std.specs.BTreeMap.{insert_entry}
 use Rattle.std.proofs.lemmas.Bool.{cases_eq}
 use Rattle.thread_model.specs.Members.{Among, Once}
-use Rattle.thread_model.specs.Threads.{Row}
+use Rattle.thread_model.specs.Threads.{KeyedRow}
 use Rattle.thread_model.specs.Labelling.{IsLabelling, IsTouched, label_at, label_in, label_or_zero}
 use Rattle.thread_model.proofs.Members.{among-left, among-right, among-append, among-push, among-pushed, cases_among}
 use Rattle.thread_model.proofs.Numbers.{once-append, once-push}
@@ -11,7 +11,7 @@ use Rattle.thread_model.proofs.ThreadLabels.{Adds, Relabels, joins}
 use Rattle.thread_model.proofs.Entries.{insert-cases, insert-here, insert-kept}
 use Rattle.thread_index.specs.Lists.{PutsList}
 use Rattle.thread_index.specs.Index.{IsNew}
-use Rattle.thread_index.specs.Tables.{IsIndex, AreHolders}
+use Rattle.thread_index.specs.Tables.{IsThreadIndex, AreHolders}
 use Rattle.thread_index.specs.Adding.{IsTarget, Gathers, GiveLabel, HeldBy}
 use Rattle.thread_index.proofs.MapLists.{put-here, put-other}
 
@@ -22,19 +22,19 @@ pub found-label : (found : Option ℕ) (label : ℕ) → found ≡ Some label �
 found-label found label is = is ∙ ap Some (sym (label-found found label is))
 
 -- A row of a new number, inserted.
-pub adds-row : (rows : List Row) (n : ℕ) (keys : List (List ℕ)) → IsNew rows n → Adds rows (insert_entry nat_cmp rows n keys) (n, keys)
+pub adds-row : (rows : List KeyedRow) (n : ℕ) (keys : List (List ℕ)) → IsNew rows n → Adds rows (insert_entry nat_cmp rows n keys) (n, keys)
 adds-row rows n keys new = record {
   cases = insert-cases rows n keys new;
   here = insert-here rows n keys new;
   kept = insert-kept rows n keys new;
 }
 
-module _ (rows later : List Row) (labels labels' : List (ℕ × ℕ)) (members mid members' : ℕ → List ℕ) (holders holders' : List ℕ → List ℕ) (n : ℕ) (keys : List (List ℕ)) (touched : List ℕ) (target : ℕ) (moved : List ℕ)
-    (is : IsIndex rows labels members holders) (new : IsNew rows n) (adds : Adds rows later (n, keys)) (distinct : Once (map (λ (r : Row). r.0) later))
+module _ (rows later : List KeyedRow) (labels labels' : List (ℕ × ℕ)) (members mid members' : ℕ → List ℕ) (holders holders' : List ℕ → List ℕ) (n : ℕ) (keys : List (List ℕ)) (touched : List ℕ) (target : ℕ) (moved : List ℕ)
+    (is : IsThreadIndex rows labels members holders) (new : IsNew rows n) (adds : Adds rows later (n, keys)) (distinct : Once (map (λ (r : KeyedRow). r.0) later))
     (hits : IsTouched rows (label_in labels) keys touched) (goal : IsTarget members touched n target) (gathers : Gathers members mid touched target moved)
     (gives : GiveLabel labels labels' (moved ++ n ∷ []) target) (puts : PutsList mid members' target (mid target ++ (moved ++ n ∷ []))) (holds : HeldBy holders holders' keys n) where
   -- A moved row had a touched label that isn't the target.
-  moved-row : (x : ℕ) → Among moved x → (r : Row) × Among rows r × (r.0 ≡ x) × Among touched (label_in labels r.0) × (label_in labels r.0 ≡ target → ⊥)
+  moved-row : (x : ℕ) → Among moved x → (r : KeyedRow) × Among rows r × (r.0 ≡ x) × Among touched (label_in labels r.0) × (label_in labels r.0 ≡ target → ⊥)
   moved-row x in_x =
       let g = gathers.from x in_x in
       let r = is.of_list g.0 x g.3 in
@@ -50,7 +50,7 @@ module _ (rows later : List Row) (labels labels' : List (ℕ × ℕ)) (members m
   label-new : label_in labels' n ≡ target
   label-new = label-given n (among-pushed moved n)
 
-  label-moved : (s : Row) → Among rows s → Among touched (label_in labels s.0) → label_in labels' s.0 ≡ target
+  label-moved : (s : KeyedRow) → Among rows s → Among touched (label_in labels s.0) → label_in labels' s.0 ≡ target
   label-moved s in_s t = elim (cases_among (moved ++ n ∷ []) s.0) [
     | inl a ↦ label-given s.0 a
     | inr f ↦ elim (cases_eq (label_in labels s.0) target) [
@@ -59,16 +59,16 @@ module _ (rows later : List Row) (labels labels' : List (ℕ × ℕ)) (members m
     ]
   ]
 
-  not-moved : (s : Row) → Among rows s → (Among touched (label_in labels s.0) → ⊥) → Among (moved ++ n ∷ []) s.0 → ⊥
+  not-moved : (s : KeyedRow) → Among rows s → (Among touched (label_in labels s.0) → ⊥) → Among (moved ++ n ∷ []) s.0 → ⊥
   not-moved s in_s f in_moved = elim (among-push moved n s.0 in_moved) [
     | inl a ↦ let r = moved-row s.0 a in f (subst (λ x. Among touched (label_in labels x)) r.2 r.3)
     | inr e ↦ new s in_s e
   ]
 
-  label-stays : (s : Row) → Among rows s → (Among touched (label_in labels s.0) → ⊥) → label_in labels' s.0 ≡ label_in labels s.0
+  label-stays : (s : KeyedRow) → Among rows s → (Among touched (label_in labels s.0) → ⊥) → label_in labels' s.0 ≡ label_in labels s.0
   label-stays s in_s f = label-kept s.0 (not-moved s in_s f)
 
-  label-apart : (s : Row) → Among rows s → (Among touched (label_in labels s.0) → ⊥) → label_in labels s.0 ≡ target → ⊥
+  label-apart : (s : KeyedRow) → Among rows s → (Among touched (label_in labels s.0) → ⊥) → label_in labels s.0 ≡ target → ⊥
   label-apart s in_s f e = elim goal.some [
     | inl t ↦ f (subst (Among touched) (sym e) t)
     | inr w ↦ let t = is.named s in_s in new t.0 t.1 (t.2 ∙ e ∙ w.1)
@@ -80,11 +80,11 @@ module _ (rows later : List Row) (labels labels' : List (ℕ × ℕ)) (members m
   labels-later : IsLabelling later (label_in labels')
   labels-later = joins rows later (n, keys) (label_in labels) (label_in labels') touched target is.threads adds hits relabels
 
-  labelled-later : (r : Row) → Among later r → label_at labels' r.0 ≡ Some (label_in labels' r.0)
+  labelled-later : (r : KeyedRow) → Among later r → label_at labels' r.0 ≡ Some (label_in labels' r.0)
   labelled-later r in_r = elim (cases_among (moved ++ n ∷ []) r.0) [
     | inl a ↦ found-label (label_at labels' r.0) target (gives.given r.0 a)
     | inr f ↦ elim (adds.cases r in_r) [
-      | inl e ↦ absurd (f (subst (Among (moved ++ n ∷ [])) (sym (ap (λ (x : Row). x.0) e)) (among-pushed moved n)))
+      | inl e ↦ absurd (f (subst (Among (moved ++ n ∷ [])) (sym (ap (λ (x : KeyedRow). x.0) e)) (among-pushed moved n)))
       | inr old ↦ found-label (label_at labels' r.0) (label_in labels r.0) (gives.kept r.0 f ∙ is.labelled r old)
     ]
   ]
@@ -105,7 +105,7 @@ module _ (rows later : List Row) (labels labels' : List (ℕ × ℕ)) (members m
   in-target : (x : ℕ) → Among (members target) x → Among (members' target) x
   in-target x in_x = subst (λ ns. Among ns x) (sym list-target) (among-left (mid target) (moved ++ n ∷ []) x (subst (λ ns. Among ns x) (sym mid-target) in_x))
 
-  in-old : (r : Row) → Among rows r → Among (members' (label_in labels' r.0)) r.0
+  in-old : (r : KeyedRow) → Among rows r → Among (members' (label_in labels' r.0)) r.0
   in-old r in_r = elim (cases_among touched (label_in labels r.0)) [
     | inl t ↦ subst (λ l. Among (members' l) r.0) (sym (label-moved r in_r t)) (elim (cases_eq (label_in labels r.0) target) [
       | inl e ↦ in-target r.0 (subst (λ l. Among (members l) r.0) e (is.in_list r in_r))
@@ -117,14 +117,14 @@ module _ (rows later : List Row) (labels labels' : List (ℕ × ℕ)) (members m
         subst (λ ns. Among ns r.0) (sym e) (is.in_list r in_r)
   ]
 
-  in-later : (r : Row) → Among later r → Among (members' (label_in labels' r.0)) r.0
+  in-later : (r : KeyedRow) → Among later r → Among (members' (label_in labels' r.0)) r.0
   in-later r in_r = elim (adds.cases r in_r) [
-    | inl e ↦ subst (λ (x : Row). Among (members' (label_in labels' x.0)) x.0) (sym e) (subst (λ l. Among (members' l) n) (sym label-new) (in-moved n (among-pushed moved n)))
+    | inl e ↦ subst (λ (x : KeyedRow). Among (members' (label_in labels' x.0)) x.0) (sym e) (subst (λ l. Among (members' l) n) (sym label-new) (in-moved n (among-pushed moved n)))
     | inr old ↦ in-old r old
   ]
 
   -- A row in a list of the tables after.
-  target-row : (x : ℕ) → Among (mid target ++ (moved ++ n ∷ [])) x → (r : Row) × Among later r × (r.0 ≡ x) × (label_in labels' x ≡ target)
+  target-row : (x : ℕ) → Among (mid target ++ (moved ++ n ∷ [])) x → (r : KeyedRow) × Among later r × (r.0 ≡ x) × (label_in labels' x ≡ target)
   target-row x in_x = elim (among-append (mid target) (moved ++ n ∷ []) x in_x) [
     | inl a ↦
         let r = is.of_list target x (subst (λ ns. Among ns x) mid-target a) in
@@ -139,7 +139,7 @@ module _ (rows later : List Row) (labels labels' : List (ℕ × ℕ)) (members m
     ]
   ]
 
-  other-row : (l x : ℕ) → (l ≡ target → ⊥) → Among (mid l) x → (r : Row) × Among later r × (r.0 ≡ x) × (label_in labels' x ≡ l)
+  other-row : (l x : ℕ) → (l ≡ target → ⊥) → Among (mid l) x → (r : KeyedRow) × Among later r × (r.0 ≡ x) × (label_in labels' x ≡ l)
   other-row l x other in_x = elim (cases_among touched l) [
     | inl t ↦ absurd (subst (λ ns. Among ns x) (gathers.emptied l t other) in_x)
     | inr f ↦
@@ -148,7 +148,7 @@ module _ (rows later : List Row) (labels labels' : List (ℕ × ℕ)) (members m
         (r.0, adds.kept r.0 r.1, r.2, sym (ap (label_in labels') r.2) ∙ label-stays r.0 r.1 (λ t. f (subst (Among touched) e t)) ∙ e)
   ]
 
-  of-later : (l x : ℕ) → Among (members' l) x → (r : Row) × Among later r × (r.0 ≡ x) × (label_in labels' x ≡ l)
+  of-later : (l x : ℕ) → Among (members' l) x → (r : KeyedRow) × Among later r × (r.0 ≡ x) × (label_in labels' x ≡ l)
   of-later l x in_x = elim (cases_eq l target) [
     | inl e ↦
         let r = target-row x (subst (λ ns. Among ns x) (ap members' e ∙ list-target) in_x) in
@@ -183,7 +183,7 @@ module _ (rows later : List Row) (labels labels' : List (ℕ × ℕ)) (members m
   ]
 
   -- The target is the number of one of its rows.
-  target-named : (s : Row) × Among later s × (s.0 ≡ target) × (label_in labels' s.0 ≡ target)
+  target-named : (s : KeyedRow) × Among later s × (s.0 ≡ target) × (label_in labels' s.0 ≡ target)
   target-named = elim goal.some [
     | inl t ↦
         let x = hits.only target t in
@@ -192,7 +192,7 @@ module _ (rows later : List Row) (labels labels' : List (ℕ × ℕ)) (members m
     | inr w ↦ ((n, keys), adds.here, sym w.1, label-new)
   ]
 
-  named-old : (r : Row) → Among rows r → (s : Row) × Among later s × (s.0 ≡ label_in labels' r.0) × (label_in labels' s.0 ≡ label_in labels' r.0)
+  named-old : (r : KeyedRow) → Among rows r → (s : KeyedRow) × Among later s × (s.0 ≡ label_in labels' r.0) × (label_in labels' s.0 ≡ label_in labels' r.0)
   named-old r in_r = elim (cases_among touched (label_in labels r.0)) [
     | inl t ↦
         let e = label-moved r in_r t in
@@ -203,10 +203,10 @@ module _ (rows later : List Row) (labels labels' : List (ℕ × ℕ)) (members m
         (s.0, adds.kept s.0 s.1, s.2 ∙ sym e, label-stays s.0 s.1 (λ t. f (subst (Among touched) s.3 t)) ∙ s.3 ∙ sym e)
   ]
 
-  named-later : (r : Row) → Among later r → (s : Row) × Among later s × (s.0 ≡ label_in labels' r.0) × (label_in labels' s.0 ≡ label_in labels' r.0)
+  named-later : (r : KeyedRow) → Among later r → (s : KeyedRow) × Among later s × (s.0 ≡ label_in labels' r.0) × (label_in labels' s.0 ≡ label_in labels' r.0)
   named-later r in_r = elim (adds.cases r in_r) [
     | inl e ↦
-        let is_target : label_in labels' r.0 ≡ target = ap (λ (x : Row). label_in labels' x.0) e ∙ label-new in
+        let is_target : label_in labels' r.0 ≡ target = ap (λ (x : KeyedRow). label_in labels' x.0) e ∙ label-new in
         (target-named.0, target-named.1, target-named.2 ∙ sym is_target, target-named.3 ∙ sym is_target)
     | inr old ↦ named-old r old
   ]
@@ -215,7 +215,7 @@ module _ (rows later : List Row) (labels labels' : List (ℕ × ℕ)) (members m
   holders-later = record {
     distinct = distinct;
     held = λ r k in_r in_k. elim (adds.cases r in_r) [
-      | inl e ↦ subst (λ (x : Row). Among (holders' k) x.0) (sym e) (holds.new' k (subst (λ (x : Row). Among x.1 k) e in_k))
+      | inl e ↦ subst (λ (x : KeyedRow). Among (holders' k) x.0) (sym e) (holds.new' k (subst (λ (x : KeyedRow). Among x.1 k) e in_k))
       | inr old ↦ holds.kept k r.0 (is.has.held r k old in_k)
     ];
     holds = λ k x in_x. elim (holds.cases k x in_x) [
@@ -224,7 +224,7 @@ module _ (rows later : List Row) (labels labels' : List (ℕ × ℕ)) (members m
     ];
   }
 
-  pub added : IsIndex later labels' members' holders'
+  pub added : IsThreadIndex later labels' members' holders'
   added = record {
     threads = labels-later;
     labelled = labelled-later;

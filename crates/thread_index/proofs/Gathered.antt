@@ -3,7 +3,7 @@ use Rattle.std.proofs.Common.{◌≡◌, ◌⊎◌, ◌+◌, ◌≤◌, ◌<◌,
 use Rattle.std.proofs.lemmas.Bool.{cases_eq, cases_Bool, eq-eqb, ne_eqb}
 use Rattle.std.proofs.lemmas.Slice.Eq.{bytes_eq-Decides}
 use Rattle.thread_model.specs.Members.{Among, Once}
-use Rattle.thread_model.specs.Threads.{Row}
+use Rattle.thread_model.specs.Threads.{KeyedRow}
 use Rattle.thread_model.specs.Labelling.{IsTouched, Sets, label_at, label_in}
 use Rattle.thread_model.proofs.Members.{among-left, among-right, among-append, among-push, among-pushed, cases_among, take-cases, take-old, take-new, take-among}
 use Rattle.thread_model.proofs.Numbers.{once-append}
@@ -11,7 +11,7 @@ use Rattle.thread_index.specs.Lists.{PutsKey}
 use Rattle.thread_index.specs.Adding.{NotesLabel, IsLonger, MovesList, Gathers, GiveLabel, HeldBy}
 use Rattle.thread_index.proofs.MapLists.{key-here, key-other}
 
-pub touched-more : (rows : List Row) (labels : List (ℕ × ℕ)) (done later : List (List ℕ)) (key : List ℕ) (old new : List ℕ)
+pub touched-more : (rows : List KeyedRow) (labels : List (ℕ × ℕ)) (done later : List (List ℕ)) (key : List ℕ) (old new : List ℕ)
     → ((k : List ℕ) → Among later k → Among done k ⊎ (k ≡ key)) → ((k : List ℕ) → Among done k → Among later k) → Among later key
     → IsTouched rows (label_in labels) done old → NotesLabel rows labels key old new → IsTouched rows (label_in labels) later new
 touched-more rows labels done later key old new cases kept here is notes = record {
@@ -26,7 +26,7 @@ touched-more rows labels done later key old new cases kept here is notes = recor
 }
 
 -- The same at so many keys of a list.
-pub touched-take : (rows : List Row) (labels : List (ℕ × ℕ)) (keys : List (List ℕ)) (i : ℕ) (d : List ℕ) (old new : List ℕ) → i < length keys
+pub touched-take : (rows : List KeyedRow) (labels : List (ℕ × ℕ)) (keys : List (List ℕ)) (i : ℕ) (d : List ℕ) (old new : List ℕ) → i < length keys
     → IsTouched rows (label_in labels) (take i keys) old → NotesLabel rows labels (get_or keys i d) old new → IsTouched rows (label_in labels) (take (i + 1) keys) new
 touched-take rows labels keys i d old new in' is notes =
     touched-more rows labels (take i keys) (take (i + 1) keys) (get_or keys i d) old new (λ k. take-cases keys i d k in') (λ k. take-old keys i d k in') (take-new keys i d in') is notes

@@ -12,15 +12,15 @@ use Rattle.std.proofs.lemmas.List.{length_push}
 use Rattle.std.proofs.lemmas.Map.Text.{is_eq-slice_cmp}
 use Rattle.std.proofs.lemmas.Slice.Eq.{bytes_eq-Decides}
 use Rattle.thread_model.specs.Members.{Among, Once}
-use Rattle.thread_model.specs.Threads.{Row}
+use Rattle.thread_model.specs.Threads.{KeyedRow}
 use Rattle.thread_model.proofs.Members.{among-left, among-right, among-append, take-cases, take-old, take-new}
 use Rattle.thread_model.proofs.Numbers.{once-append, sorted-once, once-single}
 use Rattle.thread_model.proofs.Entries.{among-at, key-removed, key-left, any-inserted}
 use Rattle.thread_index.specs.Tables.{AreHolders}
-use Rattle.thread_index.specs.Taking.{Moves, HoldsOne, SharesKey, AreSeen}
+use Rattle.thread_index.specs.Taking.{MovesPending, HoldsOne, SharesKey, AreSeen}
 
 -- Nothing of a kind was pending.
-pub moves-idle : (Kind : ℕ → Type 0) (pending part : List ℕ) → Once pending → ((x : ℕ) → Kind x → Among pending x → ⊥) → Moves Kind pending pending part part
+pub moves-idle : (Kind : ℕ → Type 0) (pending part : List ℕ) → Once pending → ((x : ℕ) → Kind x → Among pending x → ⊥) → MovesPending Kind pending pending part part
 moves-idle Kind pending part once gone = record {
   xs = [];
   is = sym (append-nil part);
@@ -35,16 +35,16 @@ moves-idle Kind pending part once gone = record {
 }
 
 -- The one number was not pending.
-pub moves-missing : (pending pending' part : List ℕ) (n : ℕ) → Once pending → list_any (is_at (nat_cmp n)) pending ≡ false → pending' ≡ pending → Moves (Among (n ∷ [])) pending pending' part part
+pub moves-missing : (pending pending' part : List ℕ) (n : ℕ) → Once pending → list_any (is_at (nat_cmp n)) pending ≡ false → pending' ≡ pending → MovesPending (Among (n ∷ [])) pending pending' part part
 moves-missing pending pending' part n once off same =
-    subst (λ ks. Moves (Among (n ∷ [])) pending ks part part) (sym same)
+    subst (λ ks. MovesPending (Among (n ∷ [])) pending ks part part) (sym same)
     (moves-idle (Among (n ∷ [])) pending part once (λ x in_x h. elim in_x [
       | inl e ↦ false≢true (sym off ∙ among-at pending n (subst (Among pending) e h))
       | inr none ↦ none
     ]))
 
 -- One number was removed from the pending ones and put behind.
-pub moves-one : (pending pending' part part' : List ℕ) (n : ℕ) → Once pending → Among pending n → pending' ≡ remove_key (is_at (nat_cmp n)) pending → length pending' + 1 ≡ length pending → IsStrictlySortedBy nat_cmp pending' → part' ≡ part ++ n ∷ [] → Moves (Among (n ∷ [])) pending pending' part part'
+pub moves-one : (pending pending' part part' : List ℕ) (n : ℕ) → Once pending → Among pending n → pending' ≡ remove_key (is_at (nat_cmp n)) pending → length pending' + 1 ≡ length pending → IsStrictlySortedBy nat_cmp pending' → part' ≡ part ++ n ∷ [] → MovesPending (Among (n ∷ [])) pending pending' part part'
 moves-one pending pending' part part' n once here is len sorted pushed = record {
   xs = n ∷ [];
   is = pushed;
@@ -68,8 +68,8 @@ moves-one pending pending' part part' n once here is len sorted pushed = record 
 }
 
 -- First one kind, then another.
-pub moves-then : (First Second Both : ℕ → Type 0) (pending mid pending' part part' part'' : List ℕ) → Moves First pending mid part part' → Moves Second mid pending' part' part''
-    → ((x : ℕ) → Both x → First x ⊎ Second x) → ((x : ℕ) → First x → Both x) → ((x : ℕ) → Second x → Both x) → Moves Both pending pending' part part''
+pub moves-then : (First Second Both : ℕ → Type 0) (pending mid pending' part part' part'' : List ℕ) → MovesPending First pending mid part part' → MovesPending Second mid pending' part' part''
+    → ((x : ℕ) → Both x → First x ⊎ Second x) → ((x : ℕ) → First x → Both x) → ((x : ℕ) → Second x → Both x) → MovesPending Both pending pending' part part''
 moves-then First Second Both pending mid pending' part part' part'' a b cases one two = record {
   xs = a.xs ++ b.xs;
   is = b.is ∙ ap (λ (ns : List ℕ). ns ++ b.xs) a.is ∙ append_assoc part a.xs b.xs;
@@ -93,7 +93,7 @@ moves-then First Second Both pending mid pending' part part' part'' a b cases on
 }
 
 -- The same kind by other words.
-pub moves-as : (Kind Other : ℕ → Type 0) (pending pending' part part' : List ℕ) → Moves Kind pending pending' part part' → ((x : ℕ) → Kind x → Other x) → ((x : ℕ) → Other x → Kind x) → Moves Other pending pending' part part'
+pub moves-as : (Kind Other : ℕ → Type 0) (pending pending' part part' : List ℕ) → MovesPending Kind pending pending' part part' → ((x : ℕ) → Kind x → Other x) → ((x : ℕ) → Other x → Kind x) → MovesPending Other pending pending' part part'
 moves-as Kind Other pending pending' part part' a to from = record {
   xs = a.xs;
   is = a.is;
@@ -108,7 +108,7 @@ moves-as Kind Other pending pending' part part' a to from = record {
 }
 
 -- So many numbers of a list.
-pub moves-take : (ns : List ℕ) (i d : ℕ) (pending mid pending' part part' part'' : List ℕ) → i < length ns → Moves (Among (take i ns)) pending mid part part' → Moves (Among (get_or ns i d ∷ [])) mid pending' part' part'' → Moves (Among (take (i + 1) ns)) pending pending' part part''
+pub moves-take : (ns : List ℕ) (i d : ℕ) (pending mid pending' part part' part'' : List ℕ) → i < length ns → MovesPending (Among (take i ns)) pending mid part part' → MovesPending (Among (get_or ns i d ∷ [])) mid pending' part' part'' → MovesPending (Among (take (i + 1) ns)) pending pending' part part''
 moves-take ns i d pending mid pending' part part' part'' in' a b =
     moves-then (Among (take i ns)) (Among (get_or ns i d ∷ [])) (Among (take (i + 1) ns)) pending mid pending' part part' part'' a b
     (λ x h. elim (take-cases ns i d x in' h) [ inl k ↦ inl k | inr e ↦ inr (inl e) ])
@@ -116,8 +116,8 @@ moves-take ns i d pending mid pending' part part' part'' in' a b =
     (λ x h. elim h [ inl e ↦ subst (Among (take (i + 1) ns)) (sym e) (take-new ns i d in') | inr none ↦ absurd none ])
 
 -- So many keys of a list.
-pub keys-take : (holders : List ℕ → List ℕ) (keys : List (List ℕ)) (i : ℕ) (d : List ℕ) (pending mid pending' part part' part'' : List ℕ) → i < length keys → Moves (HoldsOne holders (take i keys)) pending mid part part' → Moves (Among (holders (get_or keys i d))) mid pending' part' part''
-    → Moves (HoldsOne holders (take (i + 1) keys)) pending pending' part part''
+pub keys-take : (holders : List ℕ → List ℕ) (keys : List (List ℕ)) (i : ℕ) (d : List ℕ) (pending mid pending' part part' part'' : List ℕ) → i < length keys → MovesPending (HoldsOne holders (take i keys)) pending mid part part' → MovesPending (Among (holders (get_or keys i d))) mid pending' part' part''
+    → MovesPending (HoldsOne holders (take (i + 1) keys)) pending pending' part part''
 keys-take holders keys i d pending mid pending' part part' part'' in' a b =
     moves-then (HoldsOne holders (take i keys)) (Among (holders (get_or keys i d))) (HoldsOne holders (take (i + 1) keys)) pending mid pending' part part' part'' a b
     (λ x h. elim (take-cases keys i d h.0 in' h.1) [ inl k ↦ inl (h.0, k, h.2) | inr e ↦ inr (subst (λ k. Among (holders k) x) e h.2) ])
@@ -125,13 +125,13 @@ keys-take holders keys i d pending mid pending' part part' part'' in' a b =
     (λ x h. (get_or keys i d, take-new keys i d in', h))
 
 -- The keys of the row of a number.
-pub row-shares : (rows : List Row) (holders : List ℕ → List ℕ) (n : ℕ) (keys : List (List ℕ)) (pending pending' part part' : List ℕ) → AreHolders rows holders → Among rows (n, keys) → Moves (HoldsOne holders keys) pending pending' part part' → Moves (SharesKey rows holders n) pending pending' part part'
+pub row-shares : (rows : List KeyedRow) (holders : List ℕ → List ℕ) (n : ℕ) (keys : List (List ℕ)) (pending pending' part part' : List ℕ) → AreHolders rows holders → Among rows (n, keys) → MovesPending (HoldsOne holders keys) pending pending' part part' → MovesPending (SharesKey rows holders n) pending pending' part part'
 row-shares rows holders n keys pending pending' part part' are in_row a =
     moves-as (HoldsOne holders keys) (SharesKey rows holders n) pending pending' part part' a
     (λ x h. ((n, keys), h.0, in_row, refl, h.1, h.2))
     (λ x h.
-    let e : h.0 ≡ (n, keys) = once-single (λ (r : Row). r.0) rows are.distinct h.0 (n, keys) h.2 in_row h.3 in
-    (h.1, subst (λ (r : Row). Among r.1 h.1) e h.4, h.5))
+    let e : h.0 ≡ (n, keys) = once-single (λ (r : KeyedRow). r.0) rows are.distinct h.0 (n, keys) h.2 in_row h.3 in
+    (h.1, subst (λ (r : KeyedRow). Among r.1 h.1) e h.4, h.5))
 
 -- What was seen.
 pub seen-none : (seen : BTreeSet (Vec ℕ)) (holders : List ℕ → List ℕ) (pending : List ℕ) → seen.keys ≡ [] → AreSeen seen holders pending

@@ -9,7 +9,7 @@ use Rattle.thread_model.proofs.Members.{among-filter, among-filtered, take-cases
 use Rattle.thread_model.proofs.Numbers.{sorted-once, rises-from_sorted}
 use Rattle.thread_model.proofs.Entries.{key-cases, key-here, key-kept}
 use Rattle.thread_index.specs.Lists.{PutsKey}
-use Rattle.thread_index.specs.Index.{AreInOrder}
+use Rattle.thread_index.specs.Index.{OrdersNumbers}
 use Rattle.thread_index.specs.Taking.{all_but, AreOthers, PutsOther, LetGo}
 use Rattle.thread_index.proofs.MapLists.{key-here as here-key, key-other}
 
@@ -56,7 +56,7 @@ gathered-take ns i d old new in' is puts sorted = record {
   ]);
 }
 
-pub in-order : (ns : List ℕ) (i : ℕ) (set : List ℕ) → length ns ≤ i → AreGathered (take i ns) set → AreInOrder ns set
+pub in-order : (ns : List ℕ) (i : ℕ) (set : List ℕ) → length ns ≤ i → AreGathered (take i ns) set → OrdersNumbers ns set
 in-order ns i set past is = record {
   rises = rises-from_sorted set is.sorted;
   to = λ n h. take-among ns i n (is.to n h);

@@ -2,18 +2,18 @@
 use Rattle.std.proofs.Common.{◌≡◌, ◌⊎◌, ◌+◌, ◌≤◌, ◌<◌, ℕ, List, [], ◌∷◌, length, take, get_or, refl, sym, ◌∙◌, ap, subst, inl, inr, arith, length-append}
 use Rattle.std.proofs.lemmas.List.{take-append-le, get_or_append_left}
 use Rattle.thread_model.specs.Members.{Among, Once}
-use Rattle.thread_model.specs.Threads.{Row, Linked}
+use Rattle.thread_model.specs.Threads.{KeyedRow, Linked}
 use Rattle.thread_model.proofs.Members.{among-left, among-right, among-append, get-among, take-cases}
 use Rattle.thread_model.proofs.Numbers.{once-append, once-single}
 use Rattle.thread_model.proofs.Rounds.{linked-key, linked-trans}
 use Rattle.thread_index.specs.Tables.{AreHolders}
-use Rattle.thread_index.specs.Taking.{IsPart, Moves, SharesKey}
+use Rattle.thread_index.specs.Taking.{IsThreadPart, MovesPending, SharesKey}
 
 alone : (part : List ℕ) (seed : ℕ) → part ≡ seed ∷ [] → (x : ℕ) → Among part x → (x ≡ seed) ⊎ ⊥
 alone part seed is x h = subst (λ ns. Among ns x) is h
 
 -- The part of the first row alone.
-pub part-begins : (rows : List Row) (holders : List ℕ → List ℕ) (pending part : List ℕ) (seed : ℕ) → AreHolders rows holders → Once pending → (Among pending seed → ⊥) → part ≡ seed ∷ [] → IsPart rows holders pending pending seed part 0
+pub part-begins : (rows : List KeyedRow) (holders : List ℕ → List ℕ) (pending part : List ℕ) (seed : ℕ) → AreHolders rows holders → Once pending → (Among pending seed → ⊥) → part ≡ seed ∷ [] → IsThreadPart rows holders pending pending seed part 0
 part-begins rows holders pending part seed are once fresh is = record {
   seeded = subst (λ ns. Among ns seed) (sym is) (inl refl);
   from = λ x h. elim (alone part seed is x h) [ inl e ↦ inl e | inr none ↦ absurd none ];
@@ -22,7 +22,7 @@ part-begins rows holders pending part seed are once fresh is = record {
   apart = λ x h in_x. elim (alone part seed is x in_x) [ inl e ↦ fresh (subst (Among pending) e h) | inr none ↦ none ];
   closed = λ n x none. absurd none;
   joined = λ r s in_r in_part in_s own. elim (alone part seed is r.0 in_part) [
-    | inl e ↦ inl (once-single (λ (y : Row). y.0) rows are.distinct r s in_r in_s (e ∙ sym own))
+    | inl e ↦ inl (once-single (λ (y : KeyedRow). y.0) rows are.distinct r s in_r in_s (e ∙ sym own))
     | inr none ↦ absurd none
   ];
   size = let e : length part ≡ 1 = ap length is in omega arith;
@@ -31,7 +31,7 @@ part-begins rows holders pending part seed are once fresh is = record {
 }
 
 -- One row more was visited.
-module _ (rows : List Row) (holders : List ℕ → List ℕ) (pending mid pending' : List ℕ) (seed : ℕ) (part part' : List ℕ) (i n d : ℕ) (are : AreHolders rows holders) (in' : i < length part) (here : n ≡ get_or part i d) (is : IsPart rows holders pending mid seed part i) (moves : Moves (SharesKey rows holders n) mid pending' part part') where
+module _ (rows : List KeyedRow) (holders : List ℕ → List ℕ) (pending mid pending' : List ℕ) (seed : ℕ) (part part' : List ℕ) (i n d : ℕ) (are : AreHolders rows holders) (in' : i < length part) (here : n ≡ get_or part i d) (is : IsThreadPart rows holders pending mid seed part i) (moves : MovesPending (SharesKey rows holders n) mid pending' part part') where
   part-cases : (x : ℕ) → Among part' x → Among part x ⊎ Among moves.xs x
   part-cases x h = among-append part moves.xs x (subst (λ ns. Among ns x) moves.is h)
 
@@ -64,25 +64,25 @@ module _ (rows : List Row) (holders : List ℕ → List ℕ) (pending mid pendin
   in-visited = subst (Among part) (sym here) (get-among part i d in')
 
   -- A moved row is linked to the one that was visited, so to the first one.
-  joined-new : (r s : Row) → Among rows r → Among moves.xs r.0 → Among rows s → s.0 ≡ seed → Linked rows r s
+  joined-new : (r s : KeyedRow) → Among rows r → Among moves.xs r.0 → Among rows s → s.0 ≡ seed → Linked rows r s
   joined-new r s in_r in_xs in_s own =
       let x = (moves.from r.0 in_xs).0 in
       let q = are.holds x.1 r.0 x.5 in
-      let same : q.0 ≡ r = once-single (λ (y : Row). y.0) rows are.distinct q.0 r q.1 in_r q.2 in
-      let to : Linked rows r x.0 = linked-key rows r x.0 x.1 (subst (λ (y : Row). Among y.1 x.1) same q.3) x.4 in
+      let same : q.0 ≡ r = once-single (λ (y : KeyedRow). y.0) rows are.distinct q.0 r q.1 in_r q.2 in
+      let to : Linked rows r x.0 = linked-key rows r x.0 x.1 (subst (λ (y : KeyedRow). Among y.1 x.1) same q.3) x.4 in
       let in_front : Among part x.0.0 = subst (Among part) (sym x.3) in-visited in
       elim (is.joined x.0 s x.2 in_front in_s own) [
         | inl e ↦ subst (Linked rows r) e to
         | inr l ↦ linked-trans rows r x.0 s x.2 to l
       ]
 
-  joined-more : (r s : Row) → Among rows r → Among part' r.0 → Among rows s → s.0 ≡ seed → (r ≡ s) ⊎ Linked rows r s
+  joined-more : (r s : KeyedRow) → Among rows r → Among part' r.0 → Among rows s → s.0 ≡ seed → (r ≡ s) ⊎ Linked rows r s
   joined-more r s in_r in_part in_s own = elim (part-cases r.0 in_part) [
     | inl a ↦ is.joined r s in_r a in_s own
     | inr b ↦ inr (joined-new r s in_r b in_s own)
   ]
 
-  pub part-more : IsPart rows holders pending pending' seed part' (i + 1)
+  pub part-more : IsThreadPart rows holders pending pending' seed part' (i + 1)
   part-more = record {
     seeded = part-old seed is.seeded;
     from = λ x h. elim (part-cases x h) [ inl a ↦ is.from x a | inr b ↦ inr (is.less x (moves.from x b).1) ];

@@ -1,16 +1,16 @@
--- The steps of adding a row.
+-- Private: the steps of adding a row.
 use Rattle.std.specs.Prelude.{◌≡◌, ◌⊎◌, ◌==◌, ◌≤◌, ℕ, List, [], ◌++◌, length, Some, if◌then◌else◌}
 use Rattle.thread_model.specs.Members.{Among, Once}
-use Rattle.thread_model.specs.Threads.{Row}
+use Rattle.thread_model.specs.Threads.{KeyedRow}
 use Rattle.thread_model.specs.Labelling.{label_at, label_in}
 
 -- The label of the rows that have a key was noted.
-pub record NotesLabel (rows : List Row) (labels : List (ℕ × ℕ)) (key : List ℕ)
+pub record NotesLabel (rows : List KeyedRow) (labels : List (ℕ × ℕ)) (key : List ℕ)
     (old new : List ℕ) : Type 0 where
   pub kept : (l : ℕ) → Among old l → Among new l
-  pub hit : (s : Row) → Among rows s → Among s.1 key → Among new (label_in labels s.0)
+  pub hit : (s : KeyedRow) → Among rows s → Among s.1 key → Among new (label_in labels s.0)
   pub only : (l : ℕ) → Among new l → Among old l
-      ⊎ ((s : Row) × Among rows s × (label_in labels s.0 ≡ l) × Among s.1 key)
+      ⊎ ((s : KeyedRow) × Among rows s × (label_in labels s.0 ≡ l) × Among s.1 key)
 
 -- One of two labels, whose list is at least as long as both lists.
 pub record IsLonger (members : ℕ → List ℕ) (a b longer : ℕ) : Type 0 where

@@ -1,4 +1,4 @@
--- The steps of taking a row.
+-- Private: the steps of taking a row.
 use Rattle.std.specs.Prelude.{◌≡◌, ◌⊎◌, ◌==◌, ◌+◌, ℕ, Bool, true, not, List, ◌++◌, length, take, Some}
 use Rattle.std.specs.List.{filter}
 use Rattle.std.specs.Ordering.{nat_cmp}
@@ -6,7 +6,7 @@ use Rattle.std.specs.Cmp.Lexicographic.{slice_cmp}
 use Rattle.std.specs.BTreeSet.{BTreeSet, contains_by}
 use Rattle.std.specs.Global.{Vec}
 use Rattle.thread_model.specs.Members.{Among, Once}
-use Rattle.thread_model.specs.Threads.{Row, Linked}
+use Rattle.thread_model.specs.Threads.{KeyedRow, Linked}
 use Rattle.thread_model.specs.Labelling.{label_at, label_in}
 use Rattle.thread_index.specs.Tables.{AreHolders}
 
@@ -34,7 +34,7 @@ pub record LetGo (old new : List ℕ → List ℕ) (keys : List (List ℕ)) (n :
   pub gone : (k : List ℕ) → Among keys k → Among (new k) n → ⊥
 
 -- All pending numbers of a kind were moved to the end of a part.
-pub record Moves (Kind : ℕ → Type 0) (pending pending' part part' : List ℕ) : Type 0 where
+pub record MovesPending (Kind : ℕ → Type 0) (pending pending' part part' : List ℕ) : Type 0 where
   pub xs : List ℕ
   pub is : part' ≡ part ++ xs
   pub from : (x : ℕ) → Among xs x → Kind x × Among pending x
@@ -51,9 +51,9 @@ abbrev pub HoldsOne : (List ℕ → List ℕ) → List (List ℕ) → ℕ → Ty
 HoldsOne holders keys x = (k : List ℕ) × Among keys k × Among (holders k) x
 
 -- The numbers that share a key with the row of a number.
-abbrev pub SharesKey : List Row → (List ℕ → List ℕ) → ℕ → ℕ → Type 0
+abbrev pub SharesKey : List KeyedRow → (List ℕ → List ℕ) → ℕ → ℕ → Type 0
 SharesKey rows holders n x =
-    (r : Row) × (k : List ℕ) × Among rows r × (r.0 ≡ n) × Among r.1 k × Among (holders k) x
+    (r : KeyedRow) × (k : List ℕ) × Among rows r × (r.0 ≡ n) × Among r.1 k × Among (holders k) x
 
 -- A key is in a set.
 abbrev pub has_seen : BTreeSet (Vec ℕ) → List ℕ → Bool
@@ -66,7 +66,7 @@ pub record AreSeen (seen : BTreeSet (Vec ℕ)) (holders : List ℕ → List ℕ)
       → (x : ℕ) → Among (holders k) x → Among pending x → ⊥
 
 -- A part of a thread that begins with one number. Its first numbers share no key with pending ones.
-pub record IsPart (rows : List Row) (holders : List ℕ → List ℕ) (pending pending' : List ℕ)
+pub record IsThreadPart (rows : List KeyedRow) (holders : List ℕ → List ℕ) (pending pending' : List ℕ)
     (seed : ℕ) (part : List ℕ) (i : ℕ) : Type 0 where
   pub seeded : Among part seed
   pub from : (x : ℕ) → Among part x → (x ≡ seed) ⊎ Among pending x
@@ -75,34 +75,34 @@ pub record IsPart (rows : List Row) (holders : List ℕ → List ℕ) (pending p
   pub apart : (x : ℕ) → Among pending' x → Among part x → ⊥
   pub closed : (n x : ℕ) → Among (take i part) n → SharesKey rows holders n x
       → Among pending' x → ⊥
-  pub joined : (r s : Row) → Among rows r → Among part r.0 → Among rows s → s.0 ≡ seed
+  pub joined : (r s : KeyedRow) → Among rows r → Among part r.0 → Among rows s → s.0 ≡ seed
       → (r ≡ s) ⊎ Linked rows r s
   pub size : length part + length pending' ≡ 1 + length pending
   pub once : Once part
   pub once_pending : Once pending'
 
 -- An index of the rows whose numbers aren't pending, which share no key with those that are.
-pub record IsPartial (rows : List Row) (pending : List ℕ) (labels : List (ℕ × ℕ))
+pub record IsPartial (rows : List KeyedRow) (pending : List ℕ) (labels : List (ℕ × ℕ))
     (members : ℕ → List ℕ) (holders : List ℕ → List ℕ) : Type 0 where
-  pub sound : (r s : Row) → Among rows r → (Among pending r.0 → ⊥)
+  pub sound : (r s : KeyedRow) → Among rows r → (Among pending r.0 → ⊥)
       → Among rows s → (Among pending s.0 → ⊥)
       → (k : List ℕ) → Among r.1 k → Among s.1 k → label_in labels r.0 ≡ label_in labels s.0
-  pub tight : (r s : Row) → Among rows r → (Among pending r.0 → ⊥)
+  pub tight : (r s : KeyedRow) → Among rows r → (Among pending r.0 → ⊥)
       → Among rows s → (Among pending s.0 → ⊥)
       → label_in labels r.0 ≡ label_in labels s.0 → (r ≡ s) ⊎ Linked rows r s
-  pub apart : (r s : Row) → Among rows r → (Among pending r.0 → ⊥)
+  pub apart : (r s : KeyedRow) → Among rows r → (Among pending r.0 → ⊥)
       → Among rows s → Among pending s.0
       → (k : List ℕ) → Among r.1 k → Among s.1 k → ⊥
-  pub labelled : (r : Row) → Among rows r → (Among pending r.0 → ⊥)
+  pub labelled : (r : KeyedRow) → Among rows r → (Among pending r.0 → ⊥)
       → label_at labels r.0 ≡ Some (label_in labels r.0)
-  pub in_list : (r : Row) → Among rows r → (Among pending r.0 → ⊥)
+  pub in_list : (r : KeyedRow) → Among rows r → (Among pending r.0 → ⊥)
       → Among (members (label_in labels r.0)) r.0
-  pub of_list : (l n : ℕ) → Among (members l) n → (r : Row) × Among rows r × (r.0 ≡ n)
+  pub of_list : (l n : ℕ) → Among (members l) n → (r : KeyedRow) × Among rows r × (r.0 ≡ n)
       × (Among pending n → ⊥) × (label_in labels n ≡ l)
   pub once : (l : ℕ) → Once (members l)
-  pub named : (r : Row) → Among rows r → (Among pending r.0 → ⊥)
-      → (s : Row) × Among rows s × (Among pending s.0 → ⊥)
+  pub named : (r : KeyedRow) → Among rows r → (Among pending r.0 → ⊥)
+      → (s : KeyedRow) × Among rows s × (Among pending s.0 → ⊥)
       × (s.0 ≡ label_in labels r.0) × (label_in labels s.0 ≡ label_in labels r.0)
-  pub opened : (n : ℕ) → Among pending n → (r : Row) × Among rows r × (r.0 ≡ n)
+  pub opened : (n : ℕ) → Among pending n → (r : KeyedRow) × Among rows r × (r.0 ≡ n)
   pub once_pending : Once pending
   pub has : AreHolders rows holders

@@ -1,4 +1,5 @@
 //! The steps of adding a row: which label its threads get, and which rows get it.
+//! Allocates.
 ghost use Rattle.std.specs.Prelude.{◌≡◌, ◌+◌, ◌++◌, ◌∷◌, [], length, IfOk, OnOk};
 ghost use Rattle.thread_index.specs.Adding.{Gathers, GiveLabel, HeldBy, IsLonger, IsTarget, MovesList};
 ghost use Rattle.thread_index.specs.Lists.{PutsList, list_at, list_at_key};

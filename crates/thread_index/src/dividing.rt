@@ -1,8 +1,9 @@
 //! A thread whose rows have lost their label is divided: each part that keys still join gets one.
+//! Allocates.
 ghost use Rattle.std.specs.Prelude.{◌≡◌, ◌+◌, ◌∷◌, [], length, IfOk, OnOk};
 ghost use Rattle.thread_index.specs.Lists.{list_at, list_at_key};
 ghost use Rattle.thread_index.specs.Tables.{AreHolders};
-ghost use Rattle.thread_index.specs.Taking.{AreSeen, HoldsOne, IsPart, IsPartial, Moves, SharesKey};
+ghost use Rattle.thread_index.specs.Taking.{AreSeen, HoldsOne, IsThreadPart, IsPartial, MovesPending, SharesKey};
 ghost use Rattle.thread_model.specs.Members.{Among, Once};
 
 use crate::adding::relabel;
@@ -22,7 +23,7 @@ type SeenKeys = BTreeSet<Vec<u8>>;
 /// Moves a number to the end of a part, if it is pending.
 fn move_one(pending: &mut BTreeSet<u32>, part: &mut Vec<u32>, n: u32) -> Result<(), NoMemory>
     requires { Once pending.old.keys }
-    ensures { OnOk result (Moves (Among (n ∷ [])) pending.old.keys pending.new.keys part.old.items
+    ensures { OnOk result (MovesPending (Among (n ∷ [])) pending.old.keys pending.new.keys part.old.items
         part.new.items) }
 {
     if !pending.remove(&n) {
@@ -35,7 +36,7 @@ fn move_one(pending: &mut BTreeSet<u32>, part: &mut Vec<u32>, n: u32) -> Result<
 /// Moves the pending ones of some numbers to the end of a part.
 fn move_all(pending: &mut BTreeSet<u32>, part: &mut Vec<u32>, ns: &[u32]) -> Result<(), NoMemory>
     requires { Once pending.old.keys }
-    ensures { OnOk result (Moves (Among ns.now) pending.old.keys pending.new.keys part.old.items
+    ensures { OnOk result (MovesPending (Among ns.now) pending.old.keys pending.new.keys part.old.items
         part.new.items) }
 {
     for n in ns {
@@ -55,7 +56,7 @@ fn visit_key(
 ) -> Result<(), NoMemory>
     requires once { Once pending.old.keys }
     requires seen { AreSeen seen.old (list_at_key holders.now) pending.old.keys }
-    ensures moves { OnOk result (Moves (Among (list_at_key holders.now key.now)) pending.old.keys
+    ensures moves { OnOk result (MovesPending (Among (list_at_key holders.now key.now)) pending.old.keys
         pending.new.keys part.old.items part.new.items) }
     ensures seen { OnOk result (AreSeen seen.new (list_at_key holders.now) pending.new.keys) }
 {
@@ -79,7 +80,7 @@ fn visit_keys(
 ) -> Result<(), NoMemory>
     requires once { Once pending.old.keys }
     requires seen { AreSeen seen.old (list_at_key holders.now) pending.old.keys }
-    ensures moves { OnOk result (Moves (HoldsOne (list_at_key holders.now) keys.now)
+    ensures moves { OnOk result (MovesPending (HoldsOne (list_at_key holders.now) keys.now)
         pending.old.keys pending.new.keys part.old.items part.new.items) }
     ensures seen { OnOk result (AreSeen seen.new (list_at_key holders.now) pending.new.keys) }
 {
@@ -102,7 +103,7 @@ fn visit(
     requires once { Once pending.old.keys }
     requires seen { AreSeen seen.old (list_at_key holders.now) pending.old.keys }
     requires held { AreHolders rows.now.entries (list_at_key holders.now) }
-    ensures moves { OnOk result (Moves (SharesKey rows.now.entries (list_at_key holders.now) n)
+    ensures moves { OnOk result (MovesPending (SharesKey rows.now.entries (list_at_key holders.now) n)
         pending.old.keys pending.new.keys part.old.items part.new.items) }
     ensures seen { OnOk result (AreSeen seen.new (list_at_key holders.now) pending.new.keys) }
 {
@@ -124,7 +125,7 @@ fn walk(
     requires once { Once pending.old.keys }
     requires held { AreHolders rows.now.entries (list_at_key holders.now) }
     requires seed { Among pending.old.keys seed → ⊥ }
-    ensures { IfOk result (λ part. IsPart rows.now.entries (list_at_key holders.now)
+    ensures { IfOk result (λ part. IsThreadPart rows.now.entries (list_at_key holders.now)
         pending.old.keys pending.new.keys seed part.items (length part.items)) }
 {
     let mut part = Vec::new(alloc);

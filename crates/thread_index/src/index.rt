@@ -1,4 +1,5 @@
 //! The index of threads.
+//! Allocates.
 use crate::tables::Tables;
 use arch_base::{NoMemory, Numbers, Texts};
 use std::alloc::Global;

@@ -1,4 +1,5 @@
 //! An index of rows by the threads that they make, kept under added and taken rows.
+//! Allocates.
 #![tactic(auto)]
 
 mod adding;

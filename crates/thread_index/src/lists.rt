@@ -1,4 +1,5 @@
 //! Maps whose values are lists of numbers. A list that isn't there is an empty one.
+//! Allocates.
 ghost use Rattle.std.specs.Prelude.{◌≡◌, [], OnOk};
 ghost use Rattle.thread_index.specs.Lists.{PutsKey, PutsList, list_at, list_at_key};
 

@@ -1,6 +1,7 @@
 //! Numbers in rising order.
+//! Allocates.
 ghost use Rattle.std.specs.Prelude.{◌≡◌, IfOk};
-ghost use Rattle.thread_index.specs.Index.{AreInOrder};
+ghost use Rattle.thread_index.specs.Index.{OrdersNumbers};
 
 use arch_base::{NoMemory, Numbers};
 use std::alloc::Global;
@@ -19,7 +20,7 @@ fn numbers_of(alloc: Global, mut set: BTreeSet<u32>) -> Result<Numbers, NoMemory
 
 /// Returns numbers in rising order, each once.
 pub(crate) fn in_order(alloc: Global, ns: &[u32]) -> Result<Numbers, NoMemory>
-    ensures { IfOk result (λ ordered. AreInOrder ns.now ordered) }
+    ensures { IfOk result (λ ordered. OrdersNumbers ns.now ordered) }
 {
     let mut set = BTreeSet::new(alloc);
     for n in ns {

@@ -1,4 +1,5 @@
 //! The tables of an index of threads, and what a new and a taken row change in them.
+//! Allocates.
 ghost use Rattle.std.specs.Prelude.{◌≡◌, [], IfOk, OnOk};
 ghost use Rattle.std.specs.Bool.{MatchBool};
 ghost use Rattle.std.specs.Map.{remove_entry};

@@ -1,4 +1,5 @@
 //! The steps of taking a row: the other rows of its thread, and its keys.
+//! Allocates.
 ghost use Rattle.std.specs.Prelude.{◌≡◌, ◌∷◌, [], IfOk, OnOk};
 ghost use Rattle.thread_index.specs.Lists.{list_at_key};
 ghost use Rattle.thread_index.specs.Taking.{AreOthers, LetGo, PutsOther, all_but};

@@ -2,7 +2,7 @@
 use Rattle.std.proofs.Common.{◌≡◌, ◌⊎◌, ◌+◌, ◌≤◌, ◌<◌, ℕ, zero, suc, Bool, true, false, if◌then◌else◌, List, [], ◌∷◌, length, filter, flat_map, refl, sym, ◌∙◌, ap, inl, inr, arith}
 use Rattle.std.proofs.lemmas.Bool.{cases_lt, false≢true}
 use Rattle.thread_model.specs.Members.{Among, has}
-use Rattle.thread_model.specs.Threads.{Row, shares, round, rounds, reached, thread, Respects, Joined, Linked}
+use Rattle.thread_model.specs.Threads.{KeyedRow, shares, round, rounds, reached, thread, Respects, JoinsKeys, Linked}
 use Rattle.thread_model.proofs.Members.{among-left, among-right, among-append, among-filter, among-filtered, among-flat_map, among-flattened, any-among, among-any, has-among, among-has}
 
 -- How many items pass a test.
@@ -60,61 +60,61 @@ counted-some p (y ∷ ys) x (inl is) t = counted-some-by (counted p ys) (p y) (s
 counted-some p (y ∷ ys) x (inr h) t = counted-more-by (counted p ys) (p y) (counted-some p ys x h t)
 
 -- Rows that share a key.
-pub shares-key : (keys : List (List ℕ)) (row : Row) → shares keys row ≡ true → (k : List ℕ) × Among row.1 k × Among keys k
+pub shares-key : (keys : List (List ℕ)) (row : KeyedRow) → shares keys row ≡ true → (k : List ℕ) × Among row.1 k × Among keys k
 shares-key keys row h = let r = any-among (has keys) row.1 h in (r.0, r.1, has-among keys r.0 r.2)
 
-pub key-shares : (keys : List (List ℕ)) (row : Row) (k : List ℕ) → Among row.1 k → Among keys k → shares keys row ≡ true
+pub key-shares : (keys : List (List ℕ)) (row : KeyedRow) (k : List ℕ) → Among row.1 k → Among keys k → shares keys row ≡ true
 key-shares keys row k h m = among-any (has keys) row.1 k h (among-has keys k m)
 
-shares-more : (keys more : List (List ℕ)) → ((k : List ℕ) → Among keys k → Among more k) → (row : Row) → shares keys row ≡ true → shares more row ≡ true
+shares-more : (keys more : List (List ℕ)) → ((k : List ℕ) → Among keys k → Among more k) → (row : KeyedRow) → shares keys row ≡ true → shares more row ≡ true
 shares-more keys more f row h = let r = shares-key keys row h in key-shares more row r.0 r.1 (f r.0 r.2)
 
 -- One round.
-round-adds : (rows : List Row) (keys : List (List ℕ)) (row : Row) → Among rows row → shares keys row ≡ true → (k : List ℕ) → Among row.1 k → Among (round rows keys) k
+round-adds : (rows : List KeyedRow) (keys : List (List ℕ)) (row : KeyedRow) → Among rows row → shares keys row ≡ true → (k : List ℕ) → Among row.1 k → Among (round rows keys) k
 round-adds rows keys row h s k m =
-    among-right keys (flat_map (λ (r : Row). r.1) (filter (shares keys) rows)) k
-    (among-flattened (λ (r : Row). r.1) (filter (shares keys) rows) row k (among-filtered (shares keys) rows row h s) m)
+    among-right keys (flat_map (λ (r : KeyedRow). r.1) (filter (shares keys) rows)) k
+    (among-flattened (λ (r : KeyedRow). r.1) (filter (shares keys) rows) row k (among-filtered (shares keys) rows row h s) m)
 
-round-keeps : (rows : List Row) (keys : List (List ℕ)) (k : List ℕ) → Among keys k → Among (round rows keys) k
-round-keeps rows keys k h = among-left keys (flat_map (λ (r : Row). r.1) (filter (shares keys) rows)) k h
+round-keeps : (rows : List KeyedRow) (keys : List (List ℕ)) (k : List ℕ) → Among keys k → Among (round rows keys) k
+round-keeps rows keys k h = among-left keys (flat_map (λ (r : KeyedRow). r.1) (filter (shares keys) rows)) k h
 
-round-cases : (rows : List Row) (keys : List (List ℕ)) (k : List ℕ) → Among (round rows keys) k → Among keys k ⊎ ((row : Row) × Among rows row × (shares keys row ≡ true) × Among row.1 k)
-round-cases rows keys k h = elim (among-append keys (flat_map (λ (r : Row). r.1) (filter (shares keys) rows)) k h) [
+round-cases : (rows : List KeyedRow) (keys : List (List ℕ)) (k : List ℕ) → Among (round rows keys) k → Among keys k ⊎ ((row : KeyedRow) × Among rows row × (shares keys row ≡ true) × Among row.1 k)
+round-cases rows keys k h = elim (among-append keys (flat_map (λ (r : KeyedRow). r.1) (filter (shares keys) rows)) k h) [
   | inl a ↦ inl a
   | inr b ↦
-      let r = among-flat_map (λ (x : Row). x.1) (filter (shares keys) rows) k b in
+      let r = among-flat_map (λ (x : KeyedRow). x.1) (filter (shares keys) rows) k b in
       let s = among-filter (shares keys) rows r.0 r.1 in
       inr (r.0, s.0, s.1, r.2)
 ]
 
 -- The keys have all keys of each row that shares one.
-record Stable (rows : List Row) (keys : List (List ℕ)) : Type 0 where
-  all : (row : Row) → Among rows row → shares keys row ≡ true → (k : List ℕ) → Among row.1 k → Among keys k
+record Stable (rows : List KeyedRow) (keys : List (List ℕ)) : Type 0 where
+  all : (row : KeyedRow) → Among rows row → shares keys row ≡ true → (k : List ℕ) → Among row.1 k → Among keys k
 
-stable-round : (rows : List Row) (keys : List (List ℕ)) → counted (shares (round rows keys)) rows ≤ counted (shares keys) rows → Stable rows (round rows keys)
+stable-round : (rows : List KeyedRow) (keys : List (List ℕ)) → counted (shares (round rows keys)) rows ≤ counted (shares keys) rows → Stable rows (round rows keys)
 stable-round rows keys le = record {
   all = λ row h s k m. round-adds rows keys row h
       (count-same (shares keys) (shares (round rows keys)) rows (shares-more keys (round rows keys) (round-keeps rows keys)) le row h s) k m;
 }
 
-stable-inside : (rows : List Row) (keys : List (List ℕ)) → Stable rows keys → (k : List ℕ) → Among (round rows keys) k → Among keys k
+stable-inside : (rows : List KeyedRow) (keys : List (List ℕ)) → Stable rows keys → (k : List ℕ) → Among (round rows keys) k → Among keys k
 stable-inside rows keys stable k h = elim (round-cases rows keys k h) [
   | inl a ↦ a
   | inr r ↦ stable.all r.0 r.1 r.2 k r.3
 ]
 
-stable-kept : (rows : List Row) (keys : List (List ℕ)) → Stable rows keys → Stable rows (round rows keys)
+stable-kept : (rows : List KeyedRow) (keys : List (List ℕ)) → Stable rows keys → Stable rows (round rows keys)
 stable-kept rows keys stable = record {
   all = λ row h s k m. round-keeps rows keys k
       (stable.all row h (shares-more (round rows keys) keys (stable-inside rows keys stable) row s) k m);
 }
 
-stable-rounds : (n : ℕ) (rows : List Row) (keys : List (List ℕ)) → Stable rows keys → Stable rows (rounds n rows keys)
+stable-rounds : (n : ℕ) (rows : List KeyedRow) (keys : List (List ℕ)) → Stable rows keys → Stable rows (rounds n rows keys)
 stable-rounds zero rows keys stable = stable
 stable-rounds (suc n) rows keys stable = stable-kept rows (rounds n rows keys) (stable-rounds n rows keys stable)
 
 -- After so many rounds the keys are stable, or so many more rows share one.
-progress : (n : ℕ) (rows : List Row) (keys : List (List ℕ)) → Stable rows (rounds n rows keys) ⊎ (n + counted (shares keys) rows ≤ counted (shares (rounds n rows keys)) rows)
+progress : (n : ℕ) (rows : List KeyedRow) (keys : List (List ℕ)) → Stable rows (rounds n rows keys) ⊎ (n + counted (shares keys) rows ≤ counted (shares (rounds n rows keys)) rows)
 progress zero rows keys = inr (omega arith)
 progress (suc n) rows keys = elim (progress n rows keys) [
   | inl stable ↦ inl (stable-kept rows (rounds n rows keys) stable)
@@ -124,12 +124,12 @@ progress (suc n) rows keys = elim (progress n rows keys) [
   ]
 ]
 
-stable-unshared : (rows : List Row) (keys : List (List ℕ)) → counted (shares keys) rows ≡ 0 → Stable rows keys
+stable-unshared : (rows : List KeyedRow) (keys : List (List ℕ)) → counted (shares keys) rows ≡ 0 → Stable rows keys
 stable-unshared rows keys none = record {
   all = λ row h s k m. absurd (let some : 0 < counted (shares keys) rows = counted-some (shares keys) rows row h s in omega arith);
 }
 
-enough : (rows : List Row) (keys : List (List ℕ)) → Stable rows (rounds (length rows) rows keys)
+enough : (rows : List KeyedRow) (keys : List (List ℕ)) → Stable rows (rounds (length rows) rows keys)
 enough rows keys = elim (progress (length rows) rows keys) [
   | inl stable ↦ stable
   | inr more ↦
@@ -139,20 +139,20 @@ enough rows keys = elim (progress (length rows) rows keys) [
 ]
 
 -- As many rounds as there are rows are enough.
-pub reached-stable : (rows : List Row) (keys : List (List ℕ)) (row : Row) → Among rows row → shares (reached rows keys) row ≡ true → (k : List ℕ) → Among row.1 k → Among (reached rows keys) k
+pub reached-stable : (rows : List KeyedRow) (keys : List (List ℕ)) (row : KeyedRow) → Among rows row → shares (reached rows keys) row ≡ true → (k : List ℕ) → Among row.1 k → Among (reached rows keys) k
 unfolding reached
 reached-stable rows keys row h s k m = (enough rows keys).all row h s k m
 
-rounds-begin : (n : ℕ) (rows : List Row) (keys : List (List ℕ)) (k : List ℕ) → Among keys k → Among (rounds n rows keys) k
+rounds-begin : (n : ℕ) (rows : List KeyedRow) (keys : List (List ℕ)) (k : List ℕ) → Among keys k → Among (rounds n rows keys) k
 rounds-begin zero rows keys k h = h
 rounds-begin (suc n) rows keys k h = round-keeps rows (rounds n rows keys) k (rounds-begin n rows keys k h)
 
 -- The first keys are reached.
-pub reached-begin : (rows : List Row) (keys : List (List ℕ)) (k : List ℕ) → Among keys k → Among (reached rows keys) k
+pub reached-begin : (rows : List KeyedRow) (keys : List (List ℕ)) (k : List ℕ) → Among keys k → Among (reached rows keys) k
 unfolding reached
 reached-begin rows keys k h = rounds-begin (length rows) rows keys k h
 
-rounds-one : (n : ℕ) (rows : List Row) (keys : List (List ℕ)) (test : List ℕ → Bool) → Respects test rows → (b : Bool) → ((k : List ℕ) → Among keys k → test k ≡ b) → (k : List ℕ) → Among (rounds n rows keys) k → test k ≡ b
+rounds-one : (n : ℕ) (rows : List KeyedRow) (keys : List (List ℕ)) (test : List ℕ → Bool) → Respects test rows → (b : Bool) → ((k : List ℕ) → Among keys k → test k ≡ b) → (k : List ℕ) → Among (rounds n rows keys) k → test k ≡ b
 rounds-one zero rows keys test is b f k h = f k h
 rounds-one (suc n) rows keys test is b f k h = elim (round-cases rows (rounds n rows keys) k h) [
   | inl a ↦ rounds-one n rows keys test is b f k a
@@ -162,7 +162,7 @@ rounds-one (suc n) rows keys test is b f k h = elim (round-cases rows (rounds n 
 ]
 
 -- A test that respects the rows is one for all that is reached if it is for the first keys.
-pub reached-one : (rows : List Row) (keys : List (List ℕ)) (test : List ℕ → Bool) → Respects test rows → (b : Bool) → ((k : List ℕ) → Among keys k → test k ≡ b) → (k : List ℕ) → Among (reached rows keys) k → test k ≡ b
+pub reached-one : (rows : List KeyedRow) (keys : List (List ℕ)) (test : List ℕ → Bool) → Respects test rows → (b : Bool) → ((k : List ℕ) → Among keys k → test k ≡ b) → (k : List ℕ) → Among (reached rows keys) k → test k ≡ b
 unfolding reached
 reached-one rows keys test is b f k h = rounds-one (length rows) rows keys test is b f k h
 
@@ -173,7 +173,7 @@ same_bools false true f g = g refl
 same_bools false false f g = refl
 
 -- What is reached is a test that respects the rows.
-pub reached-respects : (rows : List Row) (keys : List (List ℕ)) → Respects (has (reached rows keys)) rows
+pub reached-respects : (rows : List KeyedRow) (keys : List (List ℕ)) → Respects (has (reached rows keys)) rows
 reached-respects rows keys = record {
   same = λ row h k m in_k in_m. same_bools (has (reached rows keys) k) (has (reached rows keys) m)
       (λ t. among-has (reached rows keys) m (reached-stable rows keys row h (key-shares (reached rows keys) row k in_k (has-among (reached rows keys) k t)) m in_m))
@@ -181,29 +181,29 @@ reached-respects rows keys = record {
 }
 
 -- Nothing is reached from no keys.
-pub reached-none : (rows : List Row) (k : List ℕ) → Among (reached rows []) k → ⊥
+pub reached-none : (rows : List KeyedRow) (k : List ℕ) → Among (reached rows []) k → ⊥
 reached-none rows k h =
     false≢true (sym (reached-one rows [] (λ _. true) (record { same = λ row in' a b in_a in_b. refl }) false (λ m none. absurd none) k h))
 
 -- Joined keys, and linked rows.
-pub joined-sym : (rows : List Row) (k m : List ℕ) → Joined rows k m → Joined rows m k
+pub joined-sym : (rows : List KeyedRow) (k m : List ℕ) → JoinsKeys rows k m → JoinsKeys rows m k
 joined-sym rows k m j = λ test is. sym (j test is)
 
-pub linked-sym : (rows : List Row) (r s : Row) → Linked rows r s → Linked rows s r
+pub linked-sym : (rows : List KeyedRow) (r s : KeyedRow) → Linked rows r s → Linked rows s r
 linked-sym rows r s l = (l.1, l.0, l.3, l.2, joined-sym rows l.0 l.1 l.4)
 
-pub linked-trans : (rows : List Row) (r s t : Row) → Among rows s → Linked rows r s → Linked rows s t → Linked rows r t
+pub linked-trans : (rows : List KeyedRow) (r s t : KeyedRow) → Among rows s → Linked rows r s → Linked rows s t → Linked rows r t
 linked-trans rows r s t in_s a b = (a.0, b.1, a.2, b.3, λ test is. a.4 test is ∙ is.same s in_s a.1 b.0 a.3 b.2 ∙ b.4 test is)
 
 -- Rows with a common key are linked.
-pub linked-key : (rows : List Row) (r s : Row) (k : List ℕ) → Among r.1 k → Among s.1 k → Linked rows r s
+pub linked-key : (rows : List KeyedRow) (r s : KeyedRow) (k : List ℕ) → Among r.1 k → Among s.1 k → Linked rows r s
 linked-key rows r s k in_r in_s = (k, k, in_r, in_s, λ test is. refl)
 
 -- Rows that are linked by some rows are linked by more.
-pub linked-more : (rows later : List Row) → ((x : Row) → Among rows x → Among later x) → (r s : Row) → Linked rows r s → Linked later r s
+pub linked-more : (rows later : List KeyedRow) → ((x : KeyedRow) → Among rows x → Among later x) → (r s : KeyedRow) → Linked rows r s → Linked later r s
 linked-more rows later kept r s l = (l.0, l.1, l.2, l.3, λ test is. l.4 test (record { same = λ row h k m in_k in_m. is.same row (kept row h) k m in_k in_m }))
 
-linked-from : (rows : List Row) (n : ℕ) (keys : List (List ℕ)) (s : Row) → Among rows (n, keys) → (k : List ℕ) → Among (reached rows keys) k → Among s.1 k → Linked rows (n, keys) s
+linked-from : (rows : List KeyedRow) (n : ℕ) (keys : List (List ℕ)) (s : KeyedRow) → Among rows (n, keys) → (k : List ℕ) → Among (reached rows keys) k → Among s.1 k → Linked rows (n, keys) s
 linked-from rows n [] s in_r k there in_s = absurd (reached-none rows k there)
 linked-from rows n (j ∷ js) s in_r k there in_s = (
   j,
@@ -215,18 +215,18 @@ linked-from rows n (j ∷ js) s in_r k there in_s = (
 )
 
 -- Rows are in one thread exactly where they are linked.
-pub thread-linked : (rows : List Row) (r s : Row) → Among rows r → Among (thread rows r.1) s → Linked rows r s
+pub thread-linked : (rows : List KeyedRow) (r s : KeyedRow) → Among rows r → Among (thread rows r.1) s → Linked rows r s
 thread-linked rows r s in_r h =
     let p = among-filter (shares (reached rows r.1)) rows s h in
     let q = shares-key (reached rows r.1) s p.1 in
     linked-from rows r.0 r.1 s in_r q.0 q.2 q.1
 
-pub linked-thread : (rows : List Row) (r s : Row) → Among rows s → Linked rows r s → Among (thread rows r.1) s
+pub linked-thread : (rows : List KeyedRow) (r s : KeyedRow) → Among rows s → Linked rows r s → Among (thread rows r.1) s
 linked-thread rows r s in_s l =
     let e : has (reached rows r.1) l.0 ≡ has (reached rows r.1) l.1 = l.4 (has (reached rows r.1)) (reached-respects rows r.1) in
     let there : has (reached rows r.1) l.0 ≡ true = among-has (reached rows r.1) l.0 (reached-begin rows r.1 l.0 l.2) in
     among-filtered (shares (reached rows r.1)) rows s in_s
     (key-shares (reached rows r.1) s l.1 l.3 (has-among (reached rows r.1) l.1 (sym e ∙ there)))
 
-pub thread-row : (rows : List Row) (keys : List (List ℕ)) (s : Row) → Among (thread rows keys) s → Among rows s
+pub thread-row : (rows : List KeyedRow) (keys : List (List ℕ)) (s : KeyedRow) → Among (thread rows keys) s → Among rows s
 thread-row rows keys s h = (among-filter (shares (reached rows keys)) rows s h).0

@@ -4,7 +4,7 @@ use Rattle.std.specs.Map.{lookup}
 use Rattle.std.specs.BTreeMap.{is_at}
 use Rattle.std.specs.Ordering.{nat_cmp}
 use Rattle.thread_model.specs.Members.{Among}
-use Rattle.thread_model.specs.Threads.{Row, Linked}
+use Rattle.thread_model.specs.Threads.{KeyedRow, Linked}
 
 -- The label of a number, if it has one.
 abbrev pub label_at : List (ℕ × ℕ) → ℕ → Option ℕ
@@ -25,16 +25,16 @@ Sets old new n label = (m : ℕ)
     → label_at new m ≡ (if n == m then Some label else label_at old m)
 
 -- Rows with a common key have one label. Two rows of one label have joined keys.
-pub record IsLabelling (rows : List Row) (label : ℕ → ℕ) : Type 0 where
-  pub sound : (r s : Row) → Among rows r → Among rows s
+pub record IsLabelling (rows : List KeyedRow) (label : ℕ → ℕ) : Type 0 where
+  pub sound : (r s : KeyedRow) → Among rows r → Among rows s
       → (k : List ℕ) → Among r.1 k → Among s.1 k → label r.0 ≡ label s.0
-  pub tight : (r s : Row) → Among rows r → Among rows s → label r.0 ≡ label s.0
+  pub tight : (r s : KeyedRow) → Among rows r → Among rows s → label r.0 ≡ label s.0
       → (r ≡ s) ⊎ Linked rows r s
 
 -- The labels that rows with one of some keys have, and no others.
-pub record IsTouched (rows : List Row) (label : ℕ → ℕ) (keys : List (List ℕ))
+pub record IsTouched (rows : List KeyedRow) (label : ℕ → ℕ) (keys : List (List ℕ))
     (touched : List ℕ) : Type 0 where
-  pub hit : (s : Row) → Among rows s → (k : List ℕ) → Among s.1 k → Among keys k
+  pub hit : (s : KeyedRow) → Among rows s → (k : List ℕ) → Among s.1 k → Among keys k
       → Among touched (label s.0)
   pub only : (l : ℕ) → Among touched l
-      → (s : Row) × (k : List ℕ) × Among rows s × (label s.0 ≡ l) × Among s.1 k × Among keys k
+      → (s : KeyedRow) × (k : List ℕ) × Among rows s × (label s.0 ≡ l) × Among s.1 k × Among keys k

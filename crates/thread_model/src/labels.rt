@@ -1,4 +1,5 @@
 //! A table of labels of numbers.
+//! Allocates.
 ghost use Rattle.std.specs.Prelude.{◌≡◌, ◌+◌, [], OnOk, OnErr};
 ghost use Rattle.thread_model.specs.Labelling.{Sets, label_at};
 

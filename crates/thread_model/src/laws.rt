@@ -1,4 +1,5 @@
 //! The laws of threads.
+//! Pure.
 ghost use Rattle.thread_model.specs.Laws.{FirstAreReached, ReachedIsLeast, RoundsSuffice, ThreadsAreLinked, ThreadsGoBack, ThreadsGoOn};
 
 /// Shows that as many rounds as there are rows are enough.

@@ -1,5 +1,7 @@
-//! Threads of rows as they are defined, with their laws; steps that contracts count; labels of
-//! numbers.
+//! Threads of rows as they are defined, with their laws.
+//! Allocates.
+//!
+//! Here are also the steps that contracts count, and labels of numbers.
 #![tactic(auto)]
 
 mod labels;

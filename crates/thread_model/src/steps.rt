@@ -1,4 +1,5 @@
 //! A count of steps that contracts see, and that takes no bytes.
+//! Pure.
 ghost use Rattle.std.specs.Prelude.{◌≡◌, ◌+◌, ◌<◌};
 
 use std::marker::Model;

@@ -1,7 +1,7 @@
 -- The sizes of the threads that the sixth row joins, and of its own.
 use Rattle.std.proofs.Common.{◌≡◌, ◌+◌, ◌≤◌, ℕ, List, [], ◌∷◌, length, refl, inl, inr, arith}
 use Rattle.thread_model.specs.Members.{Among}
-use Rattle.thread_model.specs.Threads.{Row, thread, reached}
+use Rattle.thread_model.specs.Threads.{KeyedRow, thread, reached}
 use Rattle.thread_index.specs.Index.{IsCostOfAdd, IsCostOfTake}
 use Rattle.thread_tests.specs.Sixth.{AddsInTwo, TakesInSix, five_rows, six_rows, sixth_keys, letter}
 

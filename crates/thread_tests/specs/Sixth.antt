@@ -1,6 +1,6 @@
 -- Four rows in one thread, one alone, and a sixth that has a key of both.
 use Rattle.std.specs.Prelude.{◌+◌, ◌≤◌, ℕ, List, [], ◌∷◌}
-use Rattle.thread_model.specs.Threads.{Row}
+use Rattle.thread_model.specs.Threads.{KeyedRow}
 use Rattle.thread_index.specs.Index.{IsCostOfAdd, IsCostOfTake}
 
 -- A key of one letter.
@@ -8,7 +8,7 @@ abbrev pub letter : ℕ → List ℕ
 letter c = c ∷ []
 
 -- The four rows of one thread, and the one that is alone.
-abbrev pub five_rows : List Row
+abbrev pub five_rows : List KeyedRow
 five_rows = (1, letter 97 ∷ []) ∷ (2, letter 98 ∷ letter 97 ∷ []) ∷ (3, letter 99 ∷ letter 97 ∷ [])
     ∷ (4, letter 100 ∷ letter 97 ∷ []) ∷ (5, letter 101 ∷ []) ∷ []
 
@@ -17,7 +17,7 @@ abbrev pub sixth_keys : List (List ℕ)
 sixth_keys = letter 102 ∷ letter 97 ∷ letter 101 ∷ []
 
 -- The six rows.
-abbrev pub six_rows : List Row
+abbrev pub six_rows : List KeyedRow
 six_rows = (1, letter 97 ∷ []) ∷ (2, letter 98 ∷ letter 97 ∷ []) ∷ (3, letter 99 ∷ letter 97 ∷ [])
     ∷ (4, letter 100 ∷ letter 97 ∷ []) ∷ (5, letter 101 ∷ []) ∷ (6, sixth_keys) ∷ []
 

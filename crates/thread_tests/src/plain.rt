@@ -2,7 +2,7 @@
 ghost use Rattle.std.specs.Prelude.{◌≡◌, ◌==◌, ◌++◌, ◌∷◌, [], map, not, IfOk, OnOk, if◌then◌else◌};
 ghost use Rattle.std.specs.List.{filter, list_any};
 ghost use Rattle.thread_model.specs.Members.{has};
-ghost use Rattle.thread_model.specs.Threads.{Row, reached, round, shares};
+ghost use Rattle.thread_model.specs.Threads.{KeyedRow, reached, round, shares};
 ghost use Rattle.thread_index.specs.Index.{keys_of_row, members_of};
 
 use arch_base::{Bytes, NoMemory, Numbers, Texts};
@@ -49,7 +49,7 @@ impl PlainThreads {
 
     /// Takes all rows of a number.
     pub fn take(&mut self, n: u32)
-        ensures { self.new ≡ filter (λ (r : Row). not (r.0 == n)) self.old }
+        ensures { self.new ≡ filter (λ (r : KeyedRow). not (r.0 == n)) self.old }
     {
         leave(&mut self.rows, n);
     }
@@ -67,7 +67,7 @@ impl PlainThreads {
 
 /// Removes the rows of a number.
 fn leave(rows: &mut Vec<PlainRow>, n: u32)
-    ensures { rows.new.items ≡ filter (λ (r : Row). not (r.0 == n)) rows.old.items }
+    ensures { rows.new.items ≡ filter (λ (r : KeyedRow). not (r.0 == n)) rows.old.items }
 {
     rows.retain(|row| row.0 != n);
 }
@@ -166,7 +166,7 @@ fn push_number(numbers: &mut Numbers, keys: &[Bytes], row: &PlainRow) -> Result<
 
 /// Returns the numbers of the rows that have one of some keys.
 fn numbers_with(alloc: Global, rows: &[PlainRow], keys: &Texts) -> Result<Numbers, NoMemory>
-    ensures { IfOk result (λ numbers. numbers ≡ map (λ (r : Row). r.0)
+    ensures { IfOk result (λ numbers. numbers ≡ map (λ (r : KeyedRow). r.0)
         (filter (shares keys.now) rows.now)) }
 {
     let mut numbers = Numbers::new(alloc);

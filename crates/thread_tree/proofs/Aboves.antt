@@ -8,7 +8,7 @@ use Rattle.std.proofs.lemmas.Slice.Eq.{bytes_eq-Decides}
 use Rattle.thread_model.proofs.Entries.{none-some, some-same}
 use Rattle.thread_tree.specs.Trees.{Node}
 use Rattle.thread_tree.specs.Facts.{at_id, kept_up}
-use Rattle.thread_tree.specs.Nodes.{AreClosed, AreUps, HaveNodeIds, IsIndexOf, id_at, index_bound, jump_at, node_in, nodes_in}
+use Rattle.thread_tree.specs.Nodes.{AreClosed, AreUps, HaveNodeIds, IsNodeIndex, id_at, index_bound, jump_at, node_in, nodes_in}
 use Rattle.thread_tree.specs.declared.facts.Facts.{Facts}
 
 -- The index of the first so many nodes.
@@ -63,7 +63,7 @@ index-more ns old new i ids inside is puts = record {
     inside-too : (i j n : ℕ) → j < i → i < n → j < n
     inside-too i j n low high = omega arith
 
-pub index-all : (ns : List Node) (index : BTreeMap (Vec ℕ) ℕ) (n : ℕ) → n ≡ length ns → IsIndexSoFar ns index n → IsIndexOf ns index
+pub index-all : (ns : List Node) (index : BTreeMap (Vec ℕ) ℕ) (n : ℕ) → n ≡ length ns → IsIndexSoFar ns index n → IsNodeIndex ns index
 index-all ns index n all is = record {
   found = λ q j e. let r = is.found q j e in (subst (λ m. j < m) all r.0, r.1);
   here = λ j low. is.here j (subst (λ m. j < m) (sym all) low);
@@ -89,7 +89,7 @@ up-at f [] i low = absurd (none-below i low)
 up-at f (n ∷ nodes) zero low = refl
 up-at f (n ∷ nodes) (suc i) low = up-at f nodes i (lower-suc i (length (nodes_in nodes)) low)
 
-module _ (facts : Facts) (nodes : List (ℕ × ℕ × Vec ℕ)) (index : BTreeMap (Vec ℕ) ℕ) (ups : List (Option ℕ)) (closed : AreClosed facts (nodes_in nodes)) (of : IsIndexOf (nodes_in nodes) index)
+module _ (facts : Facts) (nodes : List (ℕ × ℕ × Vec ℕ)) (index : BTreeMap (Vec ℕ) ℕ) (ups : List (Option ℕ)) (closed : AreClosed facts (nodes_in nodes)) (of : IsNodeIndex (nodes_in nodes) index)
     (are : ups ≡ map (λ (n : ℕ × ℕ × Vec ℕ). index_bound index (kept_up facts n.2.items)) nodes) where
   ups-size : length ups ≡ length (nodes_in nodes)
   ups-size = ap length are ∙ length-map nodes (λ (n : ℕ × ℕ × Vec ℕ). index_bound index (kept_up facts n.2.items)) ∙ sym (length-map nodes node_in)

@@ -3,9 +3,9 @@ use Rattle.std.proofs.Common.{◌≡◌, ◌≤◌, ◌<◌, ℕ, Bool, List, []
 use Rattle.std.specs.Global.{Vec}
 use Rattle.std.proofs.lemmas.List.{length-map}
 use Rattle.thread_model.specs.Members.{Among}
-use Rattle.thread_tree.specs.Trees.{Node, Prints, nodes, roots, under, up}
+use Rattle.thread_tree.specs.Trees.{Node, PrintsNodes, nodes, roots, under, up}
 use Rattle.thread_tree.specs.Facts.{AreFacts, kept_up}
-use Rattle.thread_tree.specs.Nodes.{AreRoots, AreUnder, AreUps, HaveNodeIds, IsForest, Walks, count_up, flag_at, id_at, is_under, items_of, kept_line, node_at, node_in, nodes_in, under_at}
+use Rattle.thread_tree.specs.Nodes.{AreRoots, AreUnder, AreUps, HaveNodeIds, IsForest, WalksNodes, count_up, flag_at, id_at, is_under, items_of, kept_line, node_at, node_in, nodes_in, under_at}
 use Rattle.thread_tree.specs.declared.twigs.Twig.{Twig}
 use Rattle.thread_tree.specs.declared.lines.Line.{Line}
 use Rattle.thread_tree.specs.declared.facts.Facts.{Facts}
@@ -35,7 +35,7 @@ module _ (twigs : List Twig) (facts : Facts) (list : List (ℕ × ℕ × Vec ℕ
   flags-size : length flags ≡ length ns
   flags-size = marks.size ∙ tops.size
 
-  pub walk-inside : (walked : List (ℕ × ℕ)) → Walks (under_at lists) 0 first walked → (x : ℕ × ℕ) → Among walked x → x.1 < length list
+  pub walk-inside : (walked : List (ℕ × ℕ)) → WalksNodes (under_at lists) 0 first walked → (x : ℕ × ℕ) → Among walked x → x.1 < length list
   walk-inside walked w x h =
       subst (λ n. x.1 < n) (lists-size ∙ length-map list node_in)
       (walk-below (under_at lists) (length lists) tree-forest.below w tree-forest.roots_below x h)
@@ -59,9 +59,9 @@ module _ (twigs : List Twig) (facts : Facts) (list : List (ℕ × ℕ × Vec ℕ
       roots-map twigs ns flags is (λ i inside. root-tie twigs ns ups flags is ids own-ups marks i inside)
       ∙ ap (λ n. map (node_at ns) (filter (flag_at flags) (count_up n))) (sym flags-size)
 
-  pub tree-prints : (walked : List (ℕ × ℕ)) → Walks (under_at lists) 0 first walked → (lines : List Line) → lines ≡ map (λ (x : ℕ × ℕ). kept_line facts x.0 (node_at ns x.1)) walked → Prints twigs 0 (roots twigs) lines
+  pub tree-prints : (walked : List (ℕ × ℕ)) → WalksNodes (under_at lists) 0 first walked → (lines : List Line) → lines ≡ map (λ (x : ℕ × ℕ). kept_line facts x.0 (node_at ns x.1)) walked → PrintsNodes twigs 0 (roots twigs) lines
   tree-prints walked w lines printed =
-      subst (λ (ms : List Node). Prints twigs 0 ms lines) (sym first-roots)
-      (subst (Prints twigs 0 (map (node_at ns) first)) (sym (printed ∙ kept-lines twigs facts are ns walked))
+      subst (λ (ms : List Node). PrintsNodes twigs 0 ms lines) (sym first-roots)
+      (subst (PrintsNodes twigs 0 (map (node_at ns) first)) (sym (printed ∙ kept-lines twigs facts are ns walked))
       (walk-prints twigs ns (under_at lists) (λ p i h. subst (λ n. i < n) lists-size (tree-forest.below p i h)) under-list w
       (λ i h. subst (λ n. i < n) lists-size (tree-forest.roots_below i h))))

@@ -1,11 +1,11 @@
 -- Lines that print a tree, and are no more than its nodes, are its lines.
 use Rattle.std.proofs.Common.{◌≡◌, ◌+◌, ◌≤◌, ℕ, zero, suc, List, [], ◌∷◌, ◌++◌, length, Result, Ok, Err, IfOk, refl, ◌∙◌, ap, arith, length-append}
-use Rattle.thread_tree.specs.Trees.{Node, Prints, nothing, node, line_of, nodes, roots, under}
+use Rattle.thread_tree.specs.Trees.{Node, PrintsNodes, nothing, node, line_of, nodes, roots, under}
 use Rattle.thread_tree.specs.Laid.{lines_down, tree_lines}
 use Rattle.thread_tree.specs.declared.twigs.Twig.{Twig}
 use Rattle.thread_tree.specs.declared.lines.Line.{Line}
 
-laid-down : (twigs : List Twig) (levels depth : ℕ) (ns : List Node) (lines : List Line) → Prints twigs depth ns lines → length lines ≤ levels → lines ≡ lines_down levels twigs depth ns
+laid-down : (twigs : List Twig) (levels depth : ℕ) (ns : List Node) (lines : List Line) → PrintsNodes twigs depth ns lines → length lines ≤ levels → lines ≡ lines_down levels twigs depth ns
 laid-down twigs zero depth [] lines nothing few = refl
 laid-down twigs (suc levels) depth [] lines nothing few = refl
 laid-down twigs zero depth (n ∷ ns) lines (node own rest is below after) few =
@@ -19,7 +19,7 @@ laid-down twigs (suc levels) depth (n ∷ ns) lines (node own rest is below afte
     ∙ ap (λ (ls : List Line). line_of twigs depth n ∷ (ls ++ rest)) first
     ∙ ap (λ (ls : List Line). line_of twigs depth n ∷ (lines_down levels twigs (suc depth) (under twigs n) ++ ls)) last
 
-pub laid : (twigs : List Twig) (lines : List Line) → Prints twigs 0 (roots twigs) lines → length lines ≤ length (nodes twigs) → lines ≡ tree_lines twigs
+pub laid : (twigs : List Twig) (lines : List Line) → PrintsNodes twigs 0 (roots twigs) lines → length lines ≤ length (nodes twigs) → lines ≡ tree_lines twigs
 unfolding tree_lines
 laid twigs lines prints few = laid-down twigs (length (nodes twigs)) 0 (roots twigs) lines prints few
 

@@ -2,7 +2,7 @@
 use Rattle.std.proofs.Common.{◌≡◌, ◌+◌, ◌≤◌, ◌<◌, ℕ, suc, List, [], ◌∷◌, ◌++◌, length, refl, sym, ◌∙◌, ap, subst, inl, arith, append-nil}
 use Rattle.std.proofs.lemmas.List.{length-map}
 use Rattle.thread_model.specs.Members.{Among}
-use Rattle.thread_tree.specs.Nodes.{IsForest, Walks, stacked}
+use Rattle.thread_tree.specs.Nodes.{IsForest, WalksNodes, stacked}
 use Rattle.thread_tree.proofs.Walking.{HasWalked, IsShallow, Meets, at_depth, backward, backward-push, backward-stacked, indices, indices-append, indices-depth, meets-begins, meets-count, meets-more, shallow-begins, shallow-more, walked-begins, walked-ends, walked-more}
 
 pub record IsOnWalk (under : ℕ → List ℕ) (roots : List ℕ) (bound : ℕ) (out stack : List (ℕ × ℕ)) : Type 0 where
@@ -61,5 +61,5 @@ walk-short under roots bound out stack is =
     let same : length (indices out) ≡ length out = length-map out (λ (x : ℕ × ℕ). x.1) in
     omega (arith, met, same)
 
-pub walk-ends : (under : ℕ → List ℕ) (roots : List ℕ) (bound : ℕ) (out stack : List (ℕ × ℕ)) → IsOnWalk under roots bound out stack → stack ≡ [] → Walks under 0 roots out
+pub walk-ends : (under : ℕ → List ℕ) (roots : List ℕ) (bound : ℕ) (out stack : List (ℕ × ℕ)) → IsOnWalk under roots bound out stack → stack ≡ [] → WalksNodes under 0 roots out
 walk-ends under roots bound out stack is empty = walked-ends under roots out (backward stack) is.walked (ap backward empty)

@@ -7,9 +7,9 @@ use Rattle.std.proofs.lemmas.Slice.Eq.{bytes_eq-Decides}
 use Rattle.thread_model.specs.Members.{Among}
 use Rattle.thread_model.proofs.Members.{among-append, among-any, any-among}
 use Rattle.thread_model.proofs.Rounds.{same_bools}
-use Rattle.thread_tree.specs.Trees.{Node, Prints, below, far_up, is_id, is_on_loop, is_root, line_of, node, nodes, nothing, roots, step_up, under, up}
+use Rattle.thread_tree.specs.Trees.{Node, PrintsNodes, below, far_up, is_id, is_on_loop, is_root, line_of, node, nodes, nothing, roots, step_up, under, up}
 use Rattle.thread_tree.specs.Facts.{AreFacts}
-use Rattle.thread_tree.specs.Nodes.{AreRoots, AreUps, HaveNodeIds, OnLoop, Walks, count_up, ends, far_by, flag_at, id_at, is_under, jump_at, kept_line, leads_to, node_at, step_by, visits}
+use Rattle.thread_tree.specs.Nodes.{AreRoots, AreUps, HaveNodeIds, OnLoop, WalksNodes, count_up, ends, far_by, flag_at, id_at, is_under, jump_at, kept_line, leads_to, node_at, step_by, visits}
 use Rattle.thread_tree.specs.declared.twigs.Twig.{Twig}
 use Rattle.thread_tree.specs.declared.lines.Line.{Line}
 use Rattle.thread_tree.specs.declared.lines.Who.TheVariants.{Live, Ghost}
@@ -151,16 +151,16 @@ abbrev pub lines_by : List Twig → List Node → List (ℕ × ℕ) → List Lin
 lines_by twigs ns walked = map (λ (x : ℕ × ℕ). line_of twigs x.0 (node_at ns x.1)) walked
 
 pub walk-prints : (twigs : List Twig) (ns : List Node) (lists : ℕ → List ℕ) → ((p i : ℕ) → Among (lists p) i → i < length ns) → ((p : ℕ) → p < length ns → under twigs (node_at ns p) ≡ map (node_at ns) (lists p))
-    → {depth : ℕ} {is : List ℕ} {walked : List (ℕ × ℕ)} → Walks lists depth is walked → ((i : ℕ) → Among is i → i < length ns) → Prints twigs depth (map (node_at ns) is) (lines_by twigs ns walked)
+    → {depth : ℕ} {is : List ℕ} {walked : List (ℕ × ℕ)} → WalksNodes lists depth is walked → ((i : ℕ) → Among is i → i < length ns) → PrintsNodes twigs depth (map (node_at ns) is) (lines_by twigs ns walked)
 walk-prints twigs ns lists below tie ends small = nothing
 walk-prints twigs ns lists below tie (visits {depth = depth} {n = n} own rest e w r) small =
     node (lines_by twigs ns own) (lines_by twigs ns rest)
     (ap (lines_by twigs ns) e ∙ ap (λ (ls : List Line). line_of twigs depth (node_at ns n) ∷ ls) (map-append (λ (x : ℕ × ℕ). line_of twigs x.0 (node_at ns x.1)) own rest))
-    (subst (λ (ms : List Node). Prints twigs (suc depth) ms (lines_by twigs ns own)) (sym (tie n (small n (inl refl)))) (walk-prints twigs ns lists below tie w (λ i h. below n i h)))
+    (subst (λ (ms : List Node). PrintsNodes twigs (suc depth) ms (lines_by twigs ns own)) (sym (tie n (small n (inl refl)))) (walk-prints twigs ns lists below tie w (λ i h. below n i h)))
     (walk-prints twigs ns lists below tie r (λ i h. small i (inr h)))
 
 -- All that a walk meets is among the nodes.
-pub walk-below : (lists : ℕ → List ℕ) (bound : ℕ) → ((p i : ℕ) → Among (lists p) i → i < bound) → {depth : ℕ} {is : List ℕ} {walked : List (ℕ × ℕ)} → Walks lists depth is walked → ((i : ℕ) → Among is i → i < bound) → (x : ℕ × ℕ) → Among walked x → x.1 < bound
+pub walk-below : (lists : ℕ → List ℕ) (bound : ℕ) → ((p i : ℕ) → Among (lists p) i → i < bound) → {depth : ℕ} {is : List ℕ} {walked : List (ℕ × ℕ)} → WalksNodes lists depth is walked → ((i : ℕ) → Among is i → i < bound) → (x : ℕ × ℕ) → Among walked x → x.1 < bound
 walk-below lists bound below ends small x h = absurd h
 walk-below lists bound below (visits {depth = depth} {n = n} own rest e w r) small x h =
     elim (subst (λ (ls : List (ℕ × ℕ)). Among ls x) e h) [

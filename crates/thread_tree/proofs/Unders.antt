@@ -7,7 +7,7 @@ use Rattle.thread_model.specs.Members.{Among, Once}
 use Rattle.thread_model.proofs.Members.{among-filter, among-push}
 use Rattle.thread_model.proofs.Numbers.{once-push}
 use Rattle.thread_model.proofs.Entries.{some-same}
-use Rattle.thread_tree.specs.Nodes.{jump_at, leads_to, flag_at, count_up, is_under, under_at, AreUnder, IsPlaced, IsForest}
+use Rattle.thread_tree.specs.Nodes.{jump_at, leads_to, flag_at, count_up, is_under, under_at, AreUnder, IsListedUnder, IsForest}
 
 pub among-count : (n i : ℕ) → Among (count_up n) i → i < n
 among-count zero i h = absurd h
@@ -32,7 +32,7 @@ filter-one : (test : ℕ → Bool) (n : ℕ) (t : Bool) → test n ≡ t → fil
 filter-one test n true e = ap (λ (b : Bool). cond b (n ∷ []) []) e
 filter-one test n false e = ap (λ (b : Bool). cond b (n ∷ []) []) e
 
-pub under-more : (ups : List (Option ℕ)) (flags : List Bool) (old new : List (Vec ℕ)) (n : ℕ) (up : Option ℕ) (flag : Bool) → up ≡ jump_at ups n → flag ≡ flag_at flags n → AreUnder ups flags old n → IsPlaced old new up flag n → AreUnder ups flags new (n + 1)
+pub under-more : (ups : List (Option ℕ)) (flags : List Bool) (old new : List (Vec ℕ)) (n : ℕ) (up : Option ℕ) (flag : Bool) → up ≡ jump_at ups n → flag ≡ flag_at flags n → AreUnder ups flags old n → IsListedUnder old new up flag n → AreUnder ups flags new (n + 1)
 under-more ups flags old new n up flag is_up is_flag are puts = record {
   size = puts.size ∙ are.size;
   each = λ p in'.

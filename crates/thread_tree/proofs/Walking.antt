@@ -5,7 +5,7 @@ use Rattle.thread_model.specs.Members.{Among, Once}
 use Rattle.thread_model.proofs.Members.{among-left, among-append, among-push, among-pushed, among-mapped}
 use Rattle.thread_model.proofs.Numbers.{once-append, once-push, once-length}
 use Rattle.thread_tree.specs.Trees.{below}
-use Rattle.thread_tree.specs.Nodes.{IsForest, Walks, ends, stacked, visits}
+use Rattle.thread_tree.specs.Nodes.{IsForest, WalksNodes, ends, stacked, visits}
 use Rattle.thread_tree.proofs.Pigeons.{among-below, length-below}
 
 -- A stack from its top on.
@@ -31,13 +31,13 @@ backward-stacked xs depth (i ∷ is) =
 -- What a stack prints: each index with those under it.
 pub data StackWalks (under : ℕ → List ℕ) : List (ℕ × ℕ) → List (ℕ × ℕ) → Type 0 where
   done : StackWalks under [] []
-  next : {x : ℕ × ℕ} {stack all : List (ℕ × ℕ)} (own rest : List (ℕ × ℕ)) → all ≡ x ∷ (own ++ rest) → Walks under (suc x.0) (under x.1) own → StackWalks under stack rest → StackWalks under (x ∷ stack) all
+  next : {x : ℕ × ℕ} {stack all : List (ℕ × ℕ)} (own rest : List (ℕ × ℕ)) → all ≡ x ∷ (own ++ rest) → WalksNodes under (suc x.0) (under x.1) own → StackWalks under stack rest → StackWalks under (x ∷ stack) all
 
-stack-next : (under : ℕ → List ℕ) (x : ℕ × ℕ) (stack all : List (ℕ × ℕ)) → StackWalks under (x ∷ stack) all → (own : List (ℕ × ℕ)) × (rest : List (ℕ × ℕ)) × (all ≡ x ∷ (own ++ rest)) × Walks under (suc x.0) (under x.1) own × StackWalks under stack rest
+stack-next : (under : ℕ → List ℕ) (x : ℕ × ℕ) (stack all : List (ℕ × ℕ)) → StackWalks under (x ∷ stack) all → (own : List (ℕ × ℕ)) × (rest : List (ℕ × ℕ)) × (all ≡ x ∷ (own ++ rest)) × WalksNodes under (suc x.0) (under x.1) own × StackWalks under stack rest
 stack-next under x stack all (next own rest e w s) = (own, rest, e, w, s)
 
 -- Brothers on top of a stack are printed first.
-brothers : (under : ℕ → List ℕ) (depth : ℕ) (is : List ℕ) (stack all : List (ℕ × ℕ)) → StackWalks under (at_depth depth is ++ stack) all → (own : List (ℕ × ℕ)) × (rest : List (ℕ × ℕ)) × (all ≡ own ++ rest) × Walks under depth is own × StackWalks under stack rest
+brothers : (under : ℕ → List ℕ) (depth : ℕ) (is : List ℕ) (stack all : List (ℕ × ℕ)) → StackWalks under (at_depth depth is ++ stack) all → (own : List (ℕ × ℕ)) × (rest : List (ℕ × ℕ)) × (all ≡ own ++ rest) × WalksNodes under depth is own × StackWalks under stack rest
 brothers under depth [] stack all s = ([], all, refl, ends, s)
 brothers under depth (i ∷ is) stack all s =
     let a = stack-next under (depth, i) (at_depth depth is ++ stack) all s in
@@ -51,14 +51,14 @@ brothers under depth (i ∷ is) stack all s =
 
 -- What is written, with whatever the stack prints, walks the roots.
 pub record HasWalked (under : ℕ → List ℕ) (roots : List ℕ) (out stack : List (ℕ × ℕ)) : Type 0 where
-  pub then : (rest : List (ℕ × ℕ)) → StackWalks under stack rest → Walks under 0 roots (out ++ rest)
+  pub then : (rest : List (ℕ × ℕ)) → StackWalks under stack rest → WalksNodes under 0 roots (out ++ rest)
 
 pub walked-begins : (under : ℕ → List ℕ) (roots : List ℕ) (stack : List (ℕ × ℕ)) → stack ≡ at_depth 0 roots → HasWalked under roots [] stack
 walked-begins under roots stack is = record {
   then = λ rest s.
       let b = brothers under 0 roots [] rest (subst (λ (st : List (ℕ × ℕ)). StackWalks under st rest) (is ∙ sym (append-nil (at_depth 0 roots))) s) in
       let e : b.1 ≡ [] = stack-none b.1 b.4 in
-      subst (Walks under 0 roots) (sym (b.2 ∙ ap (λ (zs : List (ℕ × ℕ)). b.0 ++ zs) e ∙ append-nil b.0)) b.3;
+      subst (WalksNodes under 0 roots) (sym (b.2 ∙ ap (λ (zs : List (ℕ × ℕ)). b.0 ++ zs) e ∙ append-nil b.0)) b.3;
 }
   where
     stack-none : (all : List (ℕ × ℕ)) → StackWalks under [] all → all ≡ []
@@ -70,16 +70,16 @@ walked-more under roots out old stack new depth i has popped pushed = record {
       let one : new ≡ at_depth (suc depth) (under i) ++ stack = pushed ∙ ap (λ d. at_depth d (under i) ++ stack) (step depth) in
       let b = brothers under (suc depth) (under i) stack rest (subst (λ (st : List (ℕ × ℕ)). StackWalks under st rest) one s) in
       let top : StackWalks under ((depth, i) ∷ stack) ((depth, i) ∷ rest) = next b.0 b.1 (ap (λ (zs : List (ℕ × ℕ)). (depth, i) ∷ zs) b.2) b.3 b.4 in
-      subst (Walks under 0 roots) (sym (append_assoc out ((depth, i) ∷ []) rest))
+      subst (WalksNodes under 0 roots) (sym (append_assoc out ((depth, i) ∷ []) rest))
       (has.then ((depth, i) ∷ rest) (subst (λ (st : List (ℕ × ℕ)). StackWalks under st ((depth, i) ∷ rest)) (sym popped) top));
 }
   where
     step : (d : ℕ) → d + 1 ≡ suc d
     step d = omega arith
 
-pub walked-ends : (under : ℕ → List ℕ) (roots : List ℕ) (out stack : List (ℕ × ℕ)) → HasWalked under roots out stack → stack ≡ [] → Walks under 0 roots out
+pub walked-ends : (under : ℕ → List ℕ) (roots : List ℕ) (out stack : List (ℕ × ℕ)) → HasWalked under roots out stack → stack ≡ [] → WalksNodes under 0 roots out
 walked-ends under roots out stack has empty =
-    subst (Walks under 0 roots) (append-nil out) (has.then [] (subst (λ (st : List (ℕ × ℕ)). StackWalks under st []) (sym empty) done))
+    subst (WalksNodes under 0 roots) (append-nil out) (has.then [] (subst (λ (st : List (ℕ × ℕ)). StackWalks under st []) (sym empty) done))
 
 -- What a walk has met: each index once, within the bound, and none deeper than the walk is long.
 pub record Meets (under : ℕ → List ℕ) (roots : List ℕ) (bound : ℕ) (out waiting : List ℕ) : Type 0 where

@@ -1,4 +1,4 @@
 pub mod Trees
 pub mod Facts
-pub mod Nodes
 pub mod Laid
+pub mod Nodes

@@ -1,4 +1,4 @@
--- Nodes as the code has them, and their indices.
+-- Private: nodes as the code has them, and their indices.
 use Rattle.std.specs.Prelude.{◌≡◌, ◌⊎◌, ◌<◌, ◌&&◌, ◌==◌, ℕ, zero, suc, Bool, true, false, not, List, [], ◌∷◌, ◌++◌, map, length, get_or, slice_get, Option, Some, None, if◌then◌else◌}
 use Rattle.std.specs.Option.{option_map, unwrap_or}
 use Rattle.std.specs.BTreeMap.{BTreeMap}
@@ -59,7 +59,7 @@ abbrev pub HaveNodeIds : List Node → Type 0
 HaveNodeIds ns = (i j : ℕ) → i < length ns → j < length ns → id_at ns i ≡ id_at ns j → i ≡ j
 
 -- An index of nodes by their ids.
-pub record IsIndexOf (ns : List Node) (index : BTreeMap (Vec ℕ) ℕ) : Type 0 where
+pub record IsNodeIndex (ns : List Node) (index : BTreeMap (Vec ℕ) ℕ) : Type 0 where
   pub found : (q : List ℕ) (j : ℕ) → at_id index q ≡ Some j → (j < length ns) × (id_at ns j ≡ q)
   pub here : (j : ℕ) → j < length ns → at_id index (id_at ns j) ≡ Some j
 
@@ -145,7 +145,7 @@ pub record AreEmpty (lists : List (Vec ℕ)) (count : ℕ) : Type 0 where
   pub each : (p : ℕ) → under_at lists p ≡ []
 
 -- An index was put into the list of the one above it, unless it is a root.
-pub record IsPlaced (old new : List (Vec ℕ)) (up : Option ℕ) (root : Bool) (i : ℕ) : Type 0 where
+pub record IsListedUnder (old new : List (Vec ℕ)) (up : Option ℕ) (root : Bool) (i : ℕ) : Type 0 where
   pub size : length new ≡ length old
   pub lists : (p : ℕ) → p < length old → under_at new p
       ≡ under_at old p ++ (if not root && leads_to up p then i ∷ [] else [])
@@ -166,12 +166,12 @@ pub record IsForest (under : ℕ → List ℕ) (roots : List ℕ) (bound : ℕ) 
   pub no_root : (p i : ℕ) → Among (under p) i → Among roots i → ⊥
 
 -- Lines of depths and indices: each index before those under it.
-pub data Walks (under : ℕ → List ℕ) : ℕ → List ℕ → List (ℕ × ℕ) → Type 0 where
-  ends : {depth : ℕ} → Walks under depth [] []
+pub data WalksNodes (under : ℕ → List ℕ) : ℕ → List ℕ → List (ℕ × ℕ) → Type 0 where
+  ends : {depth : ℕ} → WalksNodes under depth [] []
   visits : {depth n : ℕ} {ns : List ℕ} {all : List (ℕ × ℕ)} (own rest : List (ℕ × ℕ))
       → all ≡ (depth, n) ∷ (own ++ rest)
-      → Walks under (suc depth) (under n) own
-      → Walks under depth ns rest → Walks under depth (n ∷ ns) all
+      → WalksNodes under (suc depth) (under n) own
+      → WalksNodes under depth ns rest → WalksNodes under depth (n ∷ ns) all
 
 -- Indices of one depth as they wait on a stack, the first on top.
 abbrev pub stacked : ℕ → List ℕ → List (ℕ × ℕ)

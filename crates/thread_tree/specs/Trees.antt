@@ -155,12 +155,12 @@ abbrev pub line_of : List Twig → ℕ → Node → Line
 line_of twigs depth n = record { depth = depth; who = who_of twigs n }
 
 -- Lines print nodes of one depth: each node before those under it, brothers in order.
-pub data Prints (twigs : List Twig) : ℕ → List Node → List Line → Type 0 where
-  nothing : {depth : ℕ} → Prints twigs depth [] []
+pub data PrintsNodes (twigs : List Twig) : ℕ → List Node → List Line → Type 0 where
+  nothing : {depth : ℕ} → PrintsNodes twigs depth [] []
   node : {depth : ℕ} {n : Node} {ns : List Node} {all : List Line} (own rest : List Line)
       → all ≡ line_of twigs depth n ∷ (own ++ rest)
-      → Prints twigs (suc depth) (under twigs n) own
-      → Prints twigs depth ns rest → Prints twigs depth (n ∷ ns) all
+      → PrintsNodes twigs (suc depth) (under twigs n) own
+      → PrintsNodes twigs depth ns rest → PrintsNodes twigs depth (n ∷ ns) all
 
 -- No two messages have one id.
 abbrev pub HaveOwnIds : List Twig → Type 0

@@ -1,8 +1,9 @@
 //! What each node stands under, by its index.
+//! Allocates.
 ghost use Rattle.std.specs.Prelude.{◌≡◌, Some, IfOk, OnErr, OnOk, if◌then◌else◌, ℕ, List};
 ghost use Rattle.std.specs.Str.{bytes_eq};
 ghost use Rattle.thread_tree.specs.Facts.{at_id, kept_up};
-ghost use Rattle.thread_tree.specs.Nodes.{AreClosed, AreUps, HaveNodeIds, IsIndexOf, index_bound, nodes_in};
+ghost use Rattle.thread_tree.specs.Nodes.{AreClosed, AreUps, HaveNodeIds, IsNodeIndex, index_bound, nodes_in};
 
 use crate::facts::Facts;
 use crate::nodes::PlainNode;
@@ -34,7 +35,7 @@ pub(crate) fn put_index(
 /// Returns the indices of nodes by their ids.
 fn index_of(alloc: Global, nodes: &[PlainNode]) -> Result<IdIndex, NoMemory>
     requires { HaveNodeIds (nodes_in nodes.now) }
-    ensures { IfOk result (IsIndexOf (nodes_in nodes.now)) }
+    ensures { IfOk result (IsNodeIndex (nodes_in nodes.now)) }
 {
     let mut index = BTreeMap::new(alloc);
     for i in 0..nodes.len() {

@@ -1,5 +1,8 @@
-//! What messages say of ids: what a message stands under, which message names an id, and which one
-//! places it, by what stands before it.
+//! What messages say of ids.
+//! Allocates.
+//!
+//! They say what a message stands under, which message names an id, and which one places it, by
+//! what stands before it.
 ghost use Rattle.std.specs.Prelude.{◌≡◌, IfOk, OnOk, is_none, ℕ, List};
 ghost use Rattle.std.specs.Option.{option_copied, option_map};
 ghost use Rattle.thread_tree.specs.Trees.{last_other};

@@ -1,6 +1,7 @@
 //! The lists under each node, and a walk over them without recursion.
+//! Allocates.
 ghost use Rattle.std.specs.Prelude.{◌≡◌, ◌≤◌, ◌++◌, length, IfOk, OnOk};
-ghost use Rattle.thread_tree.specs.Nodes.{AreEmpty, AreUnder, IsForest, IsPlaced, Walks, stacked, under_at};
+ghost use Rattle.thread_tree.specs.Nodes.{AreEmpty, AreUnder, IsForest, IsListedUnder, WalksNodes, stacked, under_at};
 
 use arch_base::NoMemory;
 use std::alloc::Global;
@@ -12,7 +13,7 @@ fn place(
     root: bool,
     i: usize,
 ) -> Result<(), NoMemory>
-    ensures { OnOk result (IsPlaced lists.old.items lists.new.items up root i) }
+    ensures { OnOk result (IsListedUnder lists.old.items lists.new.items up root i) }
 {
     if root {
         return Ok(());
@@ -85,7 +86,7 @@ pub(crate) fn preorder(
     roots: &[usize],
 ) -> Result<Vec<(u64, usize)>, NoMemory>
     requires { IsForest (under_at under.now) roots.now (length under.now) }
-    ensures walks { IfOk result (λ lines. Walks (under_at under.now) 0 roots.now lines.items) }
+    ensures walks { IfOk result (λ lines. WalksNodes (under_at under.now) 0 roots.now lines.items) }
     ensures few { IfOk result (λ lines. length lines.items ≤ length under.now) }
 {
     let mut lines = Vec::new(alloc);

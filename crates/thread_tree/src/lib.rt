@@ -1,4 +1,5 @@
 //! Trees of messages by their references, with ghosts for references that no message answers.
+//! Allocates.
 #![tactic(auto)]
 
 mod above;

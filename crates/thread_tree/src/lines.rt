@@ -1,4 +1,5 @@
 //! The lines of a printed tree.
+//! Pure.
 use arch_base::{Bytes, Sequence};
 
 /// Who a line is of: a message by its number, or a ghost by its id.

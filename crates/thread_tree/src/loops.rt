@@ -1,5 +1,7 @@
-//! Roots: what stands under nothing, or on a loop. Loops are found by doubling a step until it is as
-//! long as there are nodes.
+//! Roots: what stands under nothing, or on a loop.
+//! Allocates.
+//!
+//! Loops are found by doubling a step until it is as long as there are nodes.
 ghost use Rattle.std.specs.Prelude.{◌≡◌, ◌++◌, ◌∷◌, [], map, length, IfOk, OnOk, is_none, if◌then◌else◌};
 ghost use Rattle.std.specs.List.{filter};
 ghost use Rattle.thread_tree.specs.Nodes.{AreFar, AreRoots, AreTwice, IsMarked, StaysIn, count_up, flag_at, step_by};

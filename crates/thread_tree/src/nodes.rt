@@ -1,4 +1,5 @@
 //! The nodes of a tree in order, and its lines.
+//! Allocates.
 ghost use Rattle.std.specs.Prelude.{◌≡◌, ◌<◌, ℕ, map, length, IfOk, OnOk, if◌then◌else◌};
 ghost use Rattle.std.specs.List.{filter};
 ghost use Rattle.std.specs.BTreeSet.{insert_key};

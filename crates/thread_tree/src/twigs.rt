@@ -1,4 +1,5 @@
 //! Messages with their references, and the tree of them.
+//! Allocates.
 use crate::above::{IdIndex, put_index, ups_of};
 use crate::facts::Facts;
 use crate::forest::{preorder, under_lists};
@@ -47,7 +48,7 @@ impl Twigs {
     ghost use Rattle.std.specs.Bool.{MatchBool};
     ghost use Rattle.thread_model.specs.Members.{Among};
     ghost use Rattle.thread_tree.specs.declared.twigs.Twig.{Twig};
-    ghost use Rattle.thread_tree.specs.Trees.{Prints, roots};
+    ghost use Rattle.thread_tree.specs.Trees.{PrintsNodes, roots};
     ghost use Rattle.thread_tree.specs.Laid.{tree_lines};
 
     /// Returns no messages. Allocates nothing.
@@ -99,7 +100,7 @@ impl Twigs {
     /// Returns the lines of the tree: each node before those under it, brothers by date, number and
     /// id. `Prints` says so, and `tree_lines` is the one list of which it holds.
     pub fn tree(&self) -> Result<Lines, NoMemory>
-        ensures prints { IfOk result (λ lines. Prints self.now 0 (roots self.now) lines) }
+        ensures prints { IfOk result (λ lines. PrintsNodes self.now 0 (roots self.now) lines) }
         ensures laid { IfOk result (λ lines. lines ≡ tree_lines self.now) }
     {
         let twigs = self.twigs.as_slice();

@@ -10,10 +10,10 @@ use Rattle.std.proofs.lemmas.Bool.{false≢true}
 use Rattle.mail_forms.specs.declared.row.Row.{Row}
 use Rattle.overview_index.specs.Listings.{row_in, with_row, without}
 use Rattle.overview_index.proofs.RowLists.{none_front, without-with}
-use Rattle.thread_model.specs.Threads.{Row as Keyed}
+use Rattle.thread_model.specs.Threads.{KeyedRow as Keyed}
 use Rattle.thread_model.proofs.Entries.{true-at}
 use Rattle.thread_index.specs.Index.{Threads, IsNew, members_of}
-use Rattle.view_set.specs.Threads.{keys_of, keyed, thread_in, AreThreaded, Becomes}
+use Rattle.view_set.specs.Threads.{keys_of, keyed, thread_in, AreThreaded, ThreadsBecome}
 
 -- One row more, and one less.
 keyed-insert : (rows : List (ℕ × Row)) (n : ℕ) (row : Row) → keyed (insert_entry nat_cmp rows n row) ≡ insert_entry nat_cmp (keyed rows) n (keys_of row)
@@ -48,7 +48,7 @@ pub new-number : (rows : List (ℕ × Row)) (threads : Threads) (n : ℕ) → Ar
 new-number rows threads n threaded none whole = rw (threaded whole) (new-keyed rows n none)
 
 -- The threads after one row more, and after one less.
-pub threaded-added : (rows : List (ℕ × Row)) (old new : Threads) (row : Row) (n : ℕ) (keys : List (List ℕ)) → AreThreaded rows old → n ≡ row.number → keys ≡ keys_of row → Becomes old new (insert_entry nat_cmp old.rows n keys) → AreThreaded (with_row rows row) new
+pub threaded-added : (rows : List (ℕ × Row)) (old new : Threads) (row : Row) (n : ℕ) (keys : List (List ℕ)) → AreThreaded rows old → n ≡ row.number → keys ≡ keys_of row → ThreadsBecome old new (insert_entry nat_cmp old.rows n keys) → AreThreaded (with_row rows row) new
 threaded-added rows old new row n keys threaded number_is keys_are becomes = λ whole.
     let done = becomes whole in
     done.1
@@ -57,7 +57,7 @@ threaded-added rows old new row n keys threaded number_is keys_are becomes = λ 
     ∙ ap (λ (m : ℕ). insert_entry nat_cmp (keyed rows) m (keys_of row)) number_is
     ∙ sym (keyed-insert rows row.number row)
 
-pub threaded-taken : (rows : List (ℕ × Row)) (old new : Threads) (n : ℕ) → AreThreaded rows old → Becomes old new (remove_entry (is_at (nat_cmp n)) old.rows) → AreThreaded (without rows n) new
+pub threaded-taken : (rows : List (ℕ × Row)) (old new : Threads) (n : ℕ) → AreThreaded rows old → ThreadsBecome old new (remove_entry (is_at (nat_cmp n)) old.rows) → AreThreaded (without rows n) new
 threaded-taken rows old new n threaded becomes = λ whole.
     let done = becomes whole in
     done.1 ∙ ap (λ (rs : List Keyed). remove_entry (is_at (nat_cmp n)) rs) (threaded done.0) ∙ sym (keyed-remove rows n)
@@ -76,7 +76,7 @@ pub taken-back : (rows : List (ℕ × Row)) (row : Row) (n : ℕ) → n ≡ row.
 taken-back rows row n number_is none = ap (without (with_row rows row)) number_is ∙ without-with rows row.number row none
 
 -- What a change of whole threads made of them, where it found memory.
-pub becomes-by : {T E : Type 0} (result : Result T E) (old new : Threads) (rows : List Keyed) → old.whole ≡ true → new.whole ≡ is_ok result → OnOk result (new.rows ≡ rows) → Becomes old new rows
+pub becomes-by : {T E : Type 0} (result : Result T E) (old new : Threads) (rows : List Keyed) → old.whole ≡ true → new.whole ≡ is_ok result → OnOk result (new.rows ≡ rows) → ThreadsBecome old new rows
 becomes-by (Ok x) old new rows was is rows_are = λ whole. (was, rows_are)
 becomes-by (Err e) old new rows was is rows_are = λ whole. absurd (false≢true (sym is ∙ whole))
 
@@ -86,7 +86,7 @@ broken-by (Ok x) whole is = tt
 broken-by (Err e) whole is = is
 
 -- Threads that weren't whole are left.
-pub becomes-not : (threads : Threads) (rows : List Keyed) → threads.whole ≡ false → Becomes threads threads rows
+pub becomes-not : (threads : Threads) (rows : List Keyed) → threads.whole ≡ false → ThreadsBecome threads threads rows
 becomes-not threads rows broken = λ whole. absurd (false≢true (sym broken ∙ whole))
 
 -- The thread of a number in an index of the rows.

@@ -15,7 +15,7 @@ use Rattle.overview_index.specs.Listings.{row_in}
 use Rattle.overview_index.proofs.Messages.{AllBelow, Ascends, at_is, above_front, none-below, row-number, rows-added, rows-taken}
 use Rattle.overview_index.proofs.RowLists.{without-with}
 use Rattle.text_words.specs.declared.word_lists.WordLists.{WordLists}
-use Rattle.word_index.specs.Rows.{Row as Worded}
+use Rattle.word_index.specs.Rows.{WordRow as Worded}
 use Rattle.view_set.specs.Viewed.{Viewed, worded_by, with_mail, without_mail, worded_of, views_of, AreWorded}
 use Rattle.view_set.proofs.Worded.{worded-none, words-back}
 

@@ -9,7 +9,7 @@ use Rattle.std.proofs.lemmas.Bool.{false≢true, eqb-true, eq-eqb}
 use Rattle.arch_model.specs.Archives.{Entry}
 use Rattle.arch_model.specs.Listings.{rows_of}
 use Rattle.arch_model.specs.Threading.{thread_in as threaded, keyed as keyed_messages, keys_in, keys_of as keys_at}
-use Rattle.thread_model.specs.Threads.{Row as Keyed, thread}
+use Rattle.thread_model.specs.Threads.{KeyedRow as Keyed, thread}
 use Rattle.thread_model.proofs.Entries.{at-eqb}
 use Rattle.thread_index.specs.Index.{keys_of_row}
 use Rattle.view_set.specs.Threads.{keyed, thread_in}

@@ -16,7 +16,7 @@ use Rattle.arch_model.specs.Searching.{is_match, matches_at, search}
 use Rattle.overview_index.specs.Listings.{listing}
 use Rattle.overview_index.proofs.Messages.{listing-is}
 use Rattle.thread_model.proofs.Entries.{true-at, false-at}
-use Rattle.word_index.specs.Rows.{Row as Worded, row_at as row_in_words, matching}
+use Rattle.word_index.specs.Rows.{WordRow as Worded, row_at as row_in_words, matching}
 use Rattle.view_set.specs.Viewed.{Viewed, worded_by, worded_of, views_of, searched, AreOrdered, IsFrontFound}
 use Rattle.arch_model.proofs.LiveEntries.{live-all}
 use Rattle.view_set.proofs.Filtering.{filtered}

@@ -17,7 +17,7 @@ use Rattle.arch_model.proofs.LiveEntries.{live-all}
 use Rattle.overview_index.specs.Listings.{row_in, under, row_numbered, rows_numbered, listing}
 use Rattle.overview_index.proofs.Messages.{AllBelow, Ascends, listing-is}
 use Rattle.thread_model.proofs.Entries.{true-at, false-at}
-use Rattle.word_index.specs.Rows.{Row as Worded, found}
+use Rattle.word_index.specs.Rows.{WordRow as Worded, found}
 use Rattle.view_set.specs.Viewed.{worded_by, worded_of, views_of, searched}
 use Rattle.view_set.proofs.Walking.{live-ascends}
 

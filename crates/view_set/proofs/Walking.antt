@@ -8,7 +8,7 @@ use Rattle.mime_parts.specs.Words.{mail_words}
 use Rattle.arch_model.specs.Archives.{Entry, Archive, message, deletion, is_message, is_ended, live}
 use Rattle.arch_model.specs.Rows.{row_of}
 use Rattle.arch_model.specs.Shelves.{line_after, lines_after, line_at}
-use Rattle.arch_model.specs.Validity.{IsArchive, IsFrom, Rise, number_after}
+use Rattle.arch_model.specs.Validity.{IsArchive, NumberIsFrom, Rise, number_after}
 use Rattle.arch_model.specs.Walking.{GivesLine, WalksOn}
 use Rattle.arch_model.specs.declared.text_refusal.TextRefusal.{TextRefusal}
 use Rattle.arch_model.specs.declared.text_refusal.TextRefusal.TheVariants as refusal
@@ -16,7 +16,7 @@ use Rattle.arch_model.specs.declared.line.EntryLine.{EntryLine}
 use Rattle.arch_model.proofs.LiveEntries.{live-message, live-deletion, without as without_number}
 use Rattle.overview_index.proofs.Messages.{AllBelow, Ascends}
 use Rattle.view_set.specs.Viewed.{Viewed, with_mail, without_mail, views_of}
-use Rattle.view_set.specs.Walks.{AddsRowAt, IsDamagedAt, NamesBlob, message_count, reads_of}
+use Rattle.view_set.specs.Walks.{AddsRowAt, IsDamagedTextAt, NamesBlob, message_count, reads_of}
 use Rattle.view_set.proofs.MailLists.{mails-added, mails-taken}
 
 -- The numbers of live messages rise.
@@ -24,7 +24,7 @@ ascends-low : (low number : ℕ) (es : List Entry) → low ≤ number → Ascend
 ascends-low low number [] less ascends = tt
 ascends-low low number (e ∷ es) less ascends = (let above : number ≤ e.number = ascends.0 in omega (arith, less, above), ascends.1)
 
-ascends_step : (k : EntryKind) (ended : Bool) (number : ℕ) (e : Entry) (xs : List Entry) → IsFrom k number e.number → Ascends (number_after k number e.number) xs → Ascends number (if is_message k && not ended then e ∷ xs else xs)
+ascends_step : (k : EntryKind) (ended : Bool) (number : ℕ) (e : Entry) (xs : List Entry) → NumberIsFrom k number e.number → Ascends (number_after k number e.number) xs → Ascends number (if is_message k && not ended then e ∷ xs else xs)
 ascends_step Message true number e xs low rest = ascends-low number (e.number + 1) xs (omega (arith, low)) rest
 ascends_step Message false number e xs low rest = (low, rest)
 ascends_step Deletion ended number e xs low rest = rest
@@ -154,7 +154,7 @@ blob-named line before after refusal.DiskFault gives = tt
 blob-named line before after (refusal.Damaged named found) gives = (gives.1, gives.2)
 blob-named line before after refusal.NoMemory gives = tt
 
-pub damaged-at : (lines : List EntryLine) (index : ℕ) (line : EntryLine) (why : TextRefusal) → slice_get lines index ≡ Some line → line.kind ≡ Message → NamesBlob line.blob why → IsDamagedAt lines index why
+pub damaged-at : (lines : List EntryLine) (index : ℕ) (line : EntryLine) (why : TextRefusal) → slice_get lines index ≡ Some line → line.kind ≡ Message → NamesBlob line.blob why → IsDamagedTextAt lines index why
 damaged-at lines index line refusal.DiskFault here kind names = tt
 damaged-at lines index line (refusal.Damaged named found) here kind names = (line, here, kind, names.0, names.1)
 damaged-at lines index line refusal.NoMemory here kind names = tt

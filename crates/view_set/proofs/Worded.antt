@@ -12,7 +12,7 @@ use Rattle.mail_forms.specs.declared.row.Row.{Row}
 use Rattle.overview_index.specs.Listings.{row_in, with_row, without}
 use Rattle.overview_index.proofs.RowLists.{none_front, keys-insert, keys-remove}
 use Rattle.thread_model.proofs.Entries.{true-at}
-use Rattle.word_index.specs.Rows.{Row as Worded, row_at}
+use Rattle.word_index.specs.Rows.{WordRow as Worded, row_at}
 use Rattle.view_set.specs.Viewed.{AreWorded}
 
 heads : (x y : ℕ) (xs ys : List ℕ) → x ∷ xs ≡ y ∷ ys → x ≡ y

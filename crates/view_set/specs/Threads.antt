@@ -1,7 +1,7 @@
 -- Rows by their numbers, and the threads that they make.
 use Rattle.std.specs.Prelude.{◌≡◌, ℕ, true, List, [], ◌∷◌}
 use Rattle.mail_forms.specs.declared.row.Row.{Row}
-use Rattle.thread_model.specs.Threads.{Row as Keyed}
+use Rattle.thread_model.specs.Threads.{KeyedRow as Keyed}
 use Rattle.thread_index.specs.Index.{Threads, members_of}
 
 -- The keys of a row: its own id, and the ids of the messages that it answers.
@@ -23,5 +23,5 @@ abbrev pub AreThreaded : List (ℕ × Row) → Threads → Type 0
 AreThreaded rows threads = threads.whole ≡ true → threads.rows ≡ keyed rows
 
 -- Threads that are whole after a change were whole before it, and then have these rows.
-abbrev pub Becomes : Threads → Threads → List Keyed → Type 0
-Becomes old new rows = new.whole ≡ true → (old.whole ≡ true) × (new.rows ≡ rows)
+abbrev pub ThreadsBecome : Threads → Threads → List Keyed → Type 0
+ThreadsBecome old new rows = new.whole ≡ true → (old.whole ≡ true) × (new.rows ≡ rows)

@@ -13,7 +13,7 @@ use Rattle.overview_index.specs.Listings.{with_row, without, rows_numbered, list
 use Rattle.query_lang.specs.Dates.{utc_day}
 use Rattle.query_lang.specs.declared.query.Query.{Query}
 use Rattle.text_words.specs.declared.word_lists.WordLists.{WordLists}
-use Rattle.word_index.specs.Rows.{Row as Worded, matching, found}
+use Rattle.word_index.specs.Rows.{WordRow as Worded, matching, found}
 
 -- The rows of messages, and their words with the days of their dates, both by number.
 pub record Viewed : Type 0 where

@@ -36,17 +36,17 @@ NamesBlob blob (refusal.Damaged named found) = (named ≡ blob) × (found ≢ na
 NamesBlob blob refusal.NoMemory = Unit {0}
 
 -- A damaged text is that of the message at this index.
-abbrev pub IsDamagedAt : List EntryLine → ℕ → TextRefusal → Type 0
-IsDamagedAt lines index refusal.DiskFault = Unit {0}
-IsDamagedAt lines index (refusal.Damaged named found) = (line : EntryLine)
+abbrev pub IsDamagedTextAt : List EntryLine → ℕ → TextRefusal → Type 0
+IsDamagedTextAt lines index refusal.DiskFault = Unit {0}
+IsDamagedTextAt lines index (refusal.Damaged named found) = (line : EntryLine)
     × (slice_get lines index ≡ Some line) × (line.kind ≡ Message) × (named ≡ line.blob)
     × (found ≢ named)
-IsDamagedAt lines index refusal.NoMemory = Unit {0}
+IsDamagedTextAt lines index refusal.NoMemory = Unit {0}
 
 -- If the walk stopped at a damaged text, it tells which one that is.
-abbrev pub TellsDamage : {T : Type 0} → List EntryLine → Result T Unread → Type 0
-TellsDamage lines (Ok rows) = Unit {0}
-TellsDamage lines (Err unread) = IsDamagedAt lines unread.index unread.why
+abbrev pub WalkTellsDamage : {T : Type 0} → List EntryLine → Result T Unread → Type 0
+WalkTellsDamage lines (Ok rows) = Unit {0}
+WalkTellsDamage lines (Err unread) = IsDamagedTextAt lines unread.index unread.why
 
 -- The row and the words of the text of the entry at an index were added, with a number and a moment.
 abbrev pub AddsRowAt : List Entry → ℕ → ℕ → ℕ → Viewed → Viewed → Type 0

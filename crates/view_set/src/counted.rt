@@ -1,10 +1,11 @@
 //! Changes of threads whose steps nobody asks for.
+//! Allocates.
 ghost use Rattle.std.specs.Prelude.{◌≡◌, ◌<◌, true, false, OnErr};
 ghost use Rattle.std.specs.BTreeMap.{insert_entry, is_at};
 ghost use Rattle.std.specs.Map.{remove_entry};
 ghost use Rattle.std.specs.Ordering.{nat_cmp};
 ghost use Rattle.thread_index.specs.Index.{IsNew};
-ghost use Rattle.view_set.specs.Threads.{Becomes};
+ghost use Rattle.view_set.specs.Threads.{ThreadsBecome};
 
 use arch_base::{NoMemory, Texts};
 use std::marker::Brand;
@@ -17,7 +18,7 @@ use thread_model::Steps;
 /// `NoMemory` leaves threads that aren't whole.
 pub(crate) fn add_thread(threads: &mut ThreadIndex, n: u32, keys: &Texts) -> Result<(), NoMemory>
     requires { threads.old.whole ≡ true → IsNew threads.old.rows n }
-    ensures whole { Becomes threads.old threads.new
+    ensures whole { ThreadsBecome threads.old threads.new
         (insert_entry nat_cmp threads.old.rows n keys.now) }
     ensures err { OnErr result (threads.new.whole ≡ false) }
 {
@@ -39,7 +40,7 @@ fn add_counted<L: Ledger>(
     requires some { 0 < L.parts }
     requires whole { threads.old.whole ≡ true }
     requires new { IsNew threads.old.rows n }
-    ensures whole { Becomes threads.old threads.new
+    ensures whole { ThreadsBecome threads.old threads.new
         (insert_entry nat_cmp threads.old.rows n keys.now) }
     ensures err { OnErr result (threads.new.whole ≡ false) }
 {
@@ -51,7 +52,7 @@ fn add_counted<L: Ledger>(
 ///
 /// `NoMemory` leaves threads that aren't whole.
 pub(crate) fn take_thread(threads: &mut ThreadIndex, n: u32) -> Result<(), NoMemory>
-    ensures { Becomes threads.old threads.new
+    ensures { ThreadsBecome threads.old threads.new
         (remove_entry (is_at (nat_cmp n)) threads.old.rows) }
 {
     if !threads.is_whole() {
@@ -66,7 +67,7 @@ fn take_counted<L: Ledger>(threads: &mut ThreadIndex, n: u32, blank: Blank) -> R
     requires parts { blank.parts ≡ L.parts }
     requires some { 0 < L.parts }
     requires whole { threads.old.whole ≡ true }
-    ensures { Becomes threads.old threads.new
+    ensures { ThreadsBecome threads.old threads.new
         (remove_entry (is_at (nat_cmp n)) threads.old.rows) }
 {
     let mut steps = Steps::<L>::new(blank);

@@ -1,4 +1,5 @@
 //! The keys of a row.
+//! Allocates.
 ghost use Rattle.std.specs.Prelude.{◌≡◌, IfOk};
 ghost use Rattle.view_set.specs.Threads.{keys_of as keys_of_row};
 

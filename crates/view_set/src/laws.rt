@@ -1,4 +1,5 @@
 //! Laws of threads and searches of rows. The functions do nothing: their contracts are the laws.
+//! Pure.
 ghost use Rattle.view_set.specs.Laws.{ThreadsAreTheArchives, SearchIsTheArchives, SearchFiltersTheListing};
 
 /// Shows that the threads of the rows of an archive's messages are the threads of the messages, as an

@@ -1,4 +1,5 @@
 //! The rows of live messages, the threads that they make and their words, behind one value.
+//! Reads the disk.
 #![tactic(auto)]
 
 mod counted;

@@ -1,9 +1,10 @@
 //! Posts the words of a new row, and adds it to the threads.
+//! Allocates.
 ghost use Rattle.std.specs.Prelude.{◌≡◌, ◌⊎◌, None, true, false, OnOk, OnErr};
 ghost use Rattle.std.specs.BTreeMap.{insert_entry};
 ghost use Rattle.std.specs.Ordering.{nat_cmp};
 ghost use Rattle.thread_index.specs.Index.{IsNew};
-ghost use Rattle.view_set.specs.Threads.{Becomes};
+ghost use Rattle.view_set.specs.Threads.{ThreadsBecome};
 ghost use Rattle.word_index.specs.Rows.{row_at};
 
 use crate::counted::add_thread;
@@ -29,7 +30,7 @@ pub(crate) fn post(
     ensures ok { OnOk result (index.new ≡ insert_entry nat_cmp index.old n
         (record { words = words.now; day = day })) }
     ensures err { OnErr result (index.new ≡ index.old) }
-    ensures threaded { OnOk result (Becomes threads.old threads.new
+    ensures threaded { OnOk result (ThreadsBecome threads.old threads.new
         (insert_entry nat_cmp threads.old.rows n keys.now)) }
     ensures broken { OnErr result ((threads.new ≡ threads.old) ⊎ (threads.new.whole ≡ false)) }
 {

@@ -1,10 +1,11 @@
 //! The views of what is walked through.
+//! Reads the disk.
 ghost use Rattle.std.specs.Prelude.{◌≡◌, ◌+◌, ◌<◌, ◌≤◌, Some, take, length, slice_get, IfOk, IfErr, OnOk};
 ghost use Rattle.arch_model.specs.Archives.{Archive, live};
 ghost use Rattle.view_set.specs.Viewed.{views_of, no_mails};
 ghost use Rattle.arch_model.specs.Shelves.{line_at, ReadCause, ReadsOnce, IsUndamaged};
 ghost use Rattle.arch_model.specs.Walking.{WalksOn};
-ghost use Rattle.view_set.specs.Walks.{AddsRowAt, IsDamagedAt, NamesBlob, TellsDamage, WalkWhy, WalksUndamaged, StopsWithin, message_count, reads_of};
+ghost use Rattle.view_set.specs.Walks.{AddsRowAt, IsDamagedTextAt, NamesBlob, WalkTellsDamage, WalkWhy, WalksUndamaged, StopsWithin, message_count, reads_of};
 
 use crate::rows::add_if_stored;
 use crate::views::Views;
@@ -36,7 +37,7 @@ pub fn rebuild<W: Walked>(alloc: Global, walked: &mut W) -> Result<Views, Unread
     ensures undamaged { (a : Archive) → W.holds walked.old a → WalksUndamaged result }
     ensures sound { W.sound walked.old → WalksUndamaged result }
     ensures within { StopsWithin (length (W.lines walked.old)) result }
-    ensures damage { TellsDamage (W.lines walked.old) result }
+    ensures damage { WalkTellsDamage (W.lines walked.old) result }
     ensures walk { WalksOn W.holds W.sound W.lines W.alike W.faults walked.old walked.new }
     ensures cause { WalkWhy (W.faults walked.old) (W.faults walked.new) result }
     ensures reads { W.reads walked.new ≤ W.reads walked.old + message_count (W.lines walked.old) }
@@ -56,7 +57,7 @@ fn fill<W: Walked>(alloc: Global, walked: &mut W, views: &mut Views) -> Result<(
     ensures undamaged { (a : Archive) → W.holds walked.old a → WalksUndamaged result }
     ensures sound { W.sound walked.old → WalksUndamaged result }
     ensures within { StopsWithin (length (W.lines walked.old)) result }
-    ensures damage { TellsDamage (W.lines walked.old) result }
+    ensures damage { WalkTellsDamage (W.lines walked.old) result }
     ensures walk { WalksOn W.holds W.sound W.lines W.alike W.faults walked.old walked.new }
     ensures cause { WalkWhy (W.faults walked.old) (W.faults walked.new) result }
     ensures reads { W.reads walked.new ≤ W.reads walked.old + message_count (W.lines walked.old) }
@@ -95,7 +96,7 @@ fn take_line<W: Walked>(
         → OnOk result (views.new ≡ views_of (live (take (index + 1) a.entries))) }
     ensures undamaged { (a : Archive) → W.holds walked.old a → IfErr result IsUndamaged }
     ensures sound { W.sound walked.old → IfErr result IsUndamaged }
-    ensures damage { IfErr result (λ why. IsDamagedAt (W.lines walked.old) index why) }
+    ensures damage { IfErr result (λ why. IsDamagedTextAt (W.lines walked.old) index why) }
     ensures walk { WalksOn W.holds W.sound W.lines W.alike W.faults walked.old walked.new }
     ensures cause { ReadCause (W.faults walked.old) (W.faults walked.new) result }
     ensures reads { W.reads walked.new ≤ W.reads walked.old + reads_of line.now.kind }

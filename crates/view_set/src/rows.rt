@@ -1,4 +1,5 @@
 //! The rows and words of texts.
+//! Allocates.
 ghost use Rattle.std.specs.Prelude.{◌≡◌, OnOk, OnErr};
 ghost use Rattle.mail_commits.specs.Ids.{text_ids_of};
 ghost use Rattle.mail_reader.specs.StorageTexts.{IsStorageText};

@@ -1,4 +1,5 @@
 //! The rows of live messages, the threads that they make, and their words.
+//! Allocates.
 ghost use Rattle.std.specs.Prelude.{◌≡◌, List, take, drop, None, IfOk, OnOk, OnErr, option_copied};
 ghost use Rattle.overview_index.specs.Listings.{row_in, number_of, listing, live_between, IsLeastFrom, IsGreatestTo};
 ghost use Rattle.thread_model.specs.Members.{Rises};

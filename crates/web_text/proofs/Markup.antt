@@ -9,7 +9,7 @@ use Rattle.std.specs.Str.Lossy.{utf8_lossy}
 use Rattle.std.proofs.lemmas.Bool.{ne_eqb, or_from}
 use Rattle.std.proofs.lemmas.Bool.Decides.{nat_tests}
 use Rattle.std.proofs.lemmas.List.Elements.{filter-append}
-use Rattle.arch_base.specs.Names.{IsName, is_name_byte}
+use Rattle.arch_base.specs.Names.{IsArchiveName, is_name_byte}
 use Rattle.mail_date.specs.Dates.{last_second}
 use Rattle.web_text.specs.Addresses.{is_plain, in_address, inside, escaped_bytes, address_of}
 use Rattle.web_text.specs.Days.{moment_text, page_moment}
@@ -107,7 +107,7 @@ none-all [] h = refl
 none-all (b ∷ bs) h = none-cons b bs (h 0 b (omega arith)) (none-all bs (λ k d l. h (suc k) d (omega arith)))
 
 -- A name has none.
-pub name_none : (name : List ℕ) → IsName name → markup name ≡ []
+pub name_none : (name : List ℕ) → IsArchiveName name → markup name ≡ []
 name_none name h = none-all name (λ k d l. passes is_name_byte (get_or name k d) refl refl refl (h.bytes k d l))
 
 -- A digit is none.

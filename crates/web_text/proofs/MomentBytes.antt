@@ -53,9 +53,9 @@ module _ (P : ℕ → Type 0) (digit : (n : ℕ) → n ≤ 9 → P (48 + n)) (hy
   page_bytes space d v = join (day_text d ++ codes " ") (minute_text d) (join (day_text d) (codes " ") (day_bytes d v) (one 32 space)) (minute_bytes d v)
 
   feed_bytes : P 84 → P 90 → (d : CivilDate) → IsValid d → All P (rfc3339_text d)
-  feed_bytes between after d v =
+  feed_bytes crash_between after d v =
       join ((day_text d ++ codes "T") ++ clock_text d) (codes "Z")
-      (join (day_text d ++ codes "T") (clock_text d) (join (day_text d) (codes "T") (day_bytes d v) (one 84 between)) (clock_bytes d v))
+      (join (day_text d ++ codes "T") (clock_text d) (join (day_text d) (codes "T") (day_bytes d v) (one 84 crash_between)) (clock_bytes d v))
       (one 90 after)
 
   -- Digits, hyphens, colons and spaces are all that a moment in a page has.
@@ -66,4 +66,4 @@ module _ (P : ℕ → Type 0) (digit : (n : ℕ) → n ≤ 9 → P (48 + n)) (hy
   -- One in a feed has the letters `T` and `Z` in place of spaces.
   pub moment_bytes : P 84 → P 90 → (secs : ℕ) → secs ≤ last_second → All P (moment_text secs)
   unfolding moment_text
-  moment_bytes between after secs h = feed_bytes between after (date_at secs) (date_shown secs h).valid
+  moment_bytes crash_between after secs h = feed_bytes crash_between after (date_at secs) (date_shown secs h).valid

@@ -1,4 +1,5 @@
 //! Ids of messages in addresses.
+//! Allocates.
 ghost use Rattle.std.specs.Prelude.{◌≡◌, ◌++◌, length, take, OnOk};
 ghost use Rattle.web_text.specs.Addresses.{address_of, escaped_bytes, inside as inside_of};
 

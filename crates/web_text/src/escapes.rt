@@ -1,4 +1,5 @@
 //! Text between the tags of a page or a feed, and in quoted attributes.
+//! Allocates.
 ghost use Rattle.std.specs.Prelude.{◌≡◌, ◌++◌, length, take, OnOk};
 ghost use Rattle.std.specs.Char.{encode_utf8};
 ghost use Rattle.web_text.specs.Escapes.{escaped, escaped_chars, spelled, shown, is_excluded as excluded, title_of};

@@ -1,4 +1,5 @@
-//! Text of mails in pages and feeds: no byte of a mail is read as markup or as a part of an address.
+//! Text of mails in pages and feeds: no byte of a mail is read as markup or as an address.
+//! Allocates.
 #![tactic(auto)]
 
 mod addresses;

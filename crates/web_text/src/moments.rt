@@ -1,4 +1,5 @@
 //! Moments in feeds and pages.
+//! Allocates.
 ghost use Rattle.std.specs.Prelude.{◌≡◌, ◌++◌, OnOk, OnErr};
 ghost use Rattle.arch_base.specs.Moments.{IsMoment};
 ghost use Rattle.web_text.specs.Days.{moment_text, page_moment};

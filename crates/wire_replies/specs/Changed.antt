@@ -1,4 +1,4 @@
--- What of a text is sent unchanged, and what is sent before it.
+-- Private: what of a text is sent unchanged, and what is sent before it.
 use Rattle.std.specs.Prelude.{ℕ, Bool, not, ◌||◌, ◌==◌, List, [], ◌∷◌, if◌then◌else◌}
 use Rattle.mail_forms.specs.WireForms.{sent}
 

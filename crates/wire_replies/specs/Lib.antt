@@ -1,4 +1,4 @@
 pub mod Waits
 pub mod Blocks
-pub mod Changed
 pub mod Phrases
+pub mod Changed

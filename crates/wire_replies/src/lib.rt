@@ -1,6 +1,8 @@
-//! Replies of mail protocols: lines that end with a carriage return and a line feed, and blocks of
-//! lines with their dots doubled. A fact of the code, of which no clause speaks: they are written in
-//! pieces of at most 4,096 bytes.
+//! Replies of mail protocols: lines, and blocks of lines with their dots doubled.
+//! Pure.
+//!
+//! A line ends with a carriage return and a line feed. A fact of the code, of which no clause
+//! speaks: they are written in pieces of at most 4,096 bytes.
 #![tactic(auto)]
 
 mod phrase;

@@ -1,4 +1,5 @@
 //! The phrases of a reply.
+//! Pure.
 
 /// A phrase of a reply.
 #[derive(Clone, Copy, Debug, Drop)]

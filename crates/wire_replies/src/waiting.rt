@@ -1,4 +1,5 @@
 //! Words that wait to be written to a sink.
+//! Pure.
 ghost use Rattle.std.specs.Prelude.{◌≡◌, ◌+◌, ◌≤◌, ◌++◌, [], length, drop, decimal, OnErr};
 ghost use Rattle.std.specs.List.{prefix_len};
 ghost use Rattle.edge_io.specs.Phrases.{Says};

@@ -17,7 +17,7 @@ use Rattle.std.specs.BTreeMap.Range.{range_contains}
 use Rattle.std.specs.BTreeSet.{BTreeSet, contains, UpdatesBy}
 use Rattle.query_lang.specs.Matching.{is_between}
 use Rattle.word_index.specs.declared.rows.Dated.{Dated}
-use Rattle.word_index.specs.Rows.{Row, row_at, passes_at}
+use Rattle.word_index.specs.Rows.{WordRow, row_at, passes_at}
 use Rattle.word_index.specs.Days.{dated_cmp, dated, is_within, numbers_between}
 use Rattle.word_index.specs.Tables.{is_of, Lists}
 use Rattle.word_index.specs.Postings.{IsListOf}
@@ -153,10 +153,10 @@ numbers_between-is days first last sorted =
     ∙ same_filter (λ (d : Dated). from d && until d) (λ (d : Dated). is_between d.day first last) (λ d. ap (λ (b : Bool). b && until d) (from_start first d)) days.keys)
 
 -- A row that is of a day of a range.
-within_from : (rows : List (ℕ × Row)) (n day first last : ℕ) → passes_at (is_of day) rows n ≡ true → is_between day first last ≡ true → passes_at (is_within first last) rows n ≡ true
+within_from : (rows : List (ℕ × WordRow)) (n day first last : ℕ) → passes_at (is_of day) rows n ≡ true → is_between day first last ≡ true → passes_at (is_within first last) rows n ≡ true
 within_from rows n day first last has inside = go (row_at rows n) has
   where
-    go : (o : Option Row) → option_map_or (is_of day) o false ≡ true → option_map_or (is_within first last) o false ≡ true
+    go : (o : Option WordRow) → option_map_or (is_of day) o false ≡ true → option_map_or (is_within first last) o false ≡ true
     go None h = absurd (cc)
     go (Some row) h = ap (λ (d : ℕ). is_between d first last) (eqb-true row.day day h) ∙ inside
 
@@ -177,7 +177,7 @@ filtered_any p q xs d among passes inside = both_pass xs (among (λ (e : Dated).
         go false k ih = ih k
 
 -- The numbers of the days of a range are the numbers of the rows of these days.
-pub within_is : (rows : List (ℕ × Row)) (days : BTreeSet Dated) (first last n : ℕ) → Lists is_of rows (dated days)
+pub within_is : (rows : List (ℕ × WordRow)) (days : BTreeSet Dated) (first last n : ℕ) → Lists is_of rows (dated days)
     → list_any (is_at (nat_cmp n)) (map (λ (d : Dated). d.number) (filter (λ (d : Dated). is_between d.day first last) days.keys)) ≡ passes_at (is_within first last) rows n
 within_is rows days first last n lists =
     any-map (is_at (nat_cmp n)) (λ (d : Dated). d.number) (filter inside days.keys)
@@ -201,10 +201,10 @@ within_is rows days first last n lists =
     back : passes_at (is_within first last) rows n ≡ true → list_any here (filter inside days.keys) ≡ true
     back h = go (row_at rows n) refl h
       where
-        go : (o : Option Row) → row_at rows n ≡ o → option_map_or (is_within first last) o false ≡ true → list_any here (filter inside days.keys) ≡ true
+        go : (o : Option WordRow) → row_at rows n ≡ o → option_map_or (is_within first last) o false ≡ true → list_any here (filter inside days.keys) ≡ true
         go None is k = absurd (cc)
         go (Some row) is k =
-            let own : passes_at (is_of row.day) rows n ≡ true = ap (λ (o : Option Row). option_map_or (is_of row.day) o false) is ∙ eq-eqb row.day row.day refl in
+            let own : passes_at (is_of row.day) rows n ≡ true = ap (λ (o : Option WordRow). option_map_or (is_of row.day) o false) is ∙ eq-eqb row.day row.day refl in
             let q : Dated = record { day = row.day; number = n } in
             let kept : list_any (is_at (dated_cmp q)) days.keys ≡ true = lists row.day n ∙ own in
             let found = one_of (is_at (dated_cmp q)) days.keys kept in
@@ -213,7 +213,7 @@ within_is rows days first last n lists =
             filtered_any here inside days.keys found.it found.among parts.1 lies
 
 -- The list of the numbers of the days of a range.
-pub within-list : (rows : List (ℕ × Row)) (days : BTreeSet Dated) (first last : ℕ) (numbers list : List ℕ) → numbers ≡ numbers_between days first last → IsStrictlySortedBy dated_cmp days.keys → Lists is_of rows (dated days)
+pub within-list : (rows : List (ℕ × WordRow)) (days : BTreeSet Dated) (first last : ℕ) (numbers list : List ℕ) → numbers ≡ numbers_between days first last → IsStrictlySortedBy dated_cmp days.keys → Lists is_of rows (dated days)
     → IsListOf list (λ n. list_any (is_at (nat_cmp n)) numbers) → IsListOf list (passes_at (is_within first last) rows)
 within-list rows days first last numbers list is sorted lists listed =
     record {

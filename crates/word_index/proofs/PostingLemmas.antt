@@ -12,7 +12,7 @@ use Rattle.std.specs.declared.alloc.Global.{Global}
 use Rattle.std.specs.declared.rc.RcSlice.{RcSlice}
 use Rattle.query_lang.specs.Matching.{has_word}
 use Rattle.word_index.specs.Rows.{bytes_of}
-use Rattle.word_index.specs.Postings.{Postings, is_in, numbers_of, posted, HasNone, IsListOf, Puts, Loses, SamePosted, PutsAll, MayPut}
+use Rattle.word_index.specs.Postings.{Postings, is_in, numbers_of, posted, WordHasNone, IsListOf, WordGains, WordLoses, SamePosted, PutsAll, MayPut}
 use Rattle.word_index.proofs.Bools.{or_none, and_all, and_none, cond_or, cond_and, or_more}
 use Rattle.word_index.proofs.KeyLemmas.{word_cmp, updated}
 use Rattle.word_index.proofs.ListLemmas.{has_word-more, has_word-take, rising-none}
@@ -35,14 +35,14 @@ same_word : (k : RcSlice ℕ Global) (w : List ℕ) → bytes_eq (items k) w ≡
 same_word k w same = (bytes_eq-Decides (items k) w).0 same
 
 -- A set with one more number takes the place of the one before.
-puts : (old new : Postings) (k : RcSlice ℕ Global) (v : BTreeSet ℕ) (n : ℕ) → UpdatesBy key_cmp (key_cmp k) old new (Some v) → ((m : ℕ) → contains nat_cmp v m ≡ (posted old (items k) m || is_at (nat_cmp n) m)) → Puts old new (items k) n
+puts : (old new : Postings) (k : RcSlice ℕ Global) (v : BTreeSet ℕ) (n : ℕ) → UpdatesBy key_cmp (key_cmp k) old new (Some v) → ((m : ℕ) → contains nat_cmp v m ≡ (posted old (items k) m || is_at (nat_cmp n) m)) → WordGains old new (items k) n
 puts old new k v n updates is w m = updated_posted old new k (Some v) updates w m ∙ go (bytes_eq (items k) w) refl
   where
     go : (b : Bool) → bytes_eq (items k) w ≡ b → is_in (cond b (Some v) (numbers_of old w)) m ≡ (posted old w m || (b && is_at (nat_cmp n) m))
     go true same = is m ∙ ap (λ (x : List ℕ). posted old x m || is_at (nat_cmp n) m) (same_word k w same)
     go false other = sym (or_none (posted old w m))
 
-loses : (old new : Postings) (k : RcSlice ℕ Global) (v : BTreeSet ℕ) (n : ℕ) → UpdatesBy key_cmp (key_cmp k) old new (Some v) → ((m : ℕ) → contains nat_cmp v m ≡ (posted old (items k) m && not (is_at (nat_cmp n) m))) → Loses old new (items k) n
+loses : (old new : Postings) (k : RcSlice ℕ Global) (v : BTreeSet ℕ) (n : ℕ) → UpdatesBy key_cmp (key_cmp k) old new (Some v) → ((m : ℕ) → contains nat_cmp v m ≡ (posted old (items k) m && not (is_at (nat_cmp n) m))) → WordLoses old new (items k) n
 loses old new k v n updates is w m = updated_posted old new k (Some v) updates w m ∙ go (bytes_eq (items k) w) refl
   where
     go : (b : Bool) → bytes_eq (items k) w ≡ b → is_in (cond b (Some v) (numbers_of old w)) m ≡ (posted old w m && not (b && is_at (nat_cmp n) m))
@@ -54,7 +54,7 @@ written : (old new : Postings) (k : RcSlice ℕ Global) (v w : BTreeSet ℕ) →
 written old new k v w found through = through.3 (subst (λ (o : Option (BTreeSet ℕ)). IsSome o) found refl)
 
 -- One more number of a word that has some.
-pub put_found : (old new : Postings) (k : RcSlice ℕ Global) (v w : BTreeSet ℕ) (n : ℕ) → Some v ≡ get_by (key_cmp k) old → WritesThrough key_cmp (key_cmp k) old w new → ((m : ℕ) → contains nat_cmp w m ≡ cond (is_at (nat_cmp n) m) true (contains nat_cmp v m)) → Puts old new (items k) n
+pub put_found : (old new : Postings) (k : RcSlice ℕ Global) (v w : BTreeSet ℕ) (n : ℕ) → Some v ≡ get_by (key_cmp k) old → WritesThrough key_cmp (key_cmp k) old w new → ((m : ℕ) → contains nat_cmp w m ≡ cond (is_at (nat_cmp n) m) true (contains nat_cmp v m)) → WordGains old new (items k) n
 put_found old new k v w n found through is =
     puts old new k w n (written old new k v w found through)
     (λ m. is m ∙ cond_or (is_at (nat_cmp n) m) (contains nat_cmp v m) ∙ ap (λ (b : Bool). b || is_at (nat_cmp n) m) (posted_in old k v found m))
@@ -69,23 +69,23 @@ put_same old new k v w found through same x m =
     go false other = refl
 
 -- The first number of a word.
-pub begins : (old new : Postings) (word k : RcSlice ℕ Global) (none v : BTreeSet ℕ) (n : ℕ) → HasNone old (items word) → items k ≡ items word → none.keys ≡ [] → ((m : ℕ) → contains nat_cmp v m ≡ cond (is_at (nat_cmp n) m) true (contains nat_cmp none m))
-    → UpdatesBy key_cmp (key_cmp k) old new (Some v) → Puts old new (items word) n
+pub begins : (old new : Postings) (word k : RcSlice ℕ Global) (none v : BTreeSet ℕ) (n : ℕ) → WordHasNone old (items word) → items k ≡ items word → none.keys ≡ [] → ((m : ℕ) → contains nat_cmp v m ≡ cond (is_at (nat_cmp n) m) true (contains nat_cmp none m))
+    → UpdatesBy key_cmp (key_cmp k) old new (Some v) → WordGains old new (items word) n
 begins old new word k none v n empty same nil is updates =
-    subst (λ (w : List ℕ). Puts old new w n) same
+    subst (λ (w : List ℕ). WordGains old new w n) same
     (puts old new k v n updates (λ m.
     is m ∙ cond_or (is_at (nat_cmp n) m) (contains nat_cmp none m)
     ∙ ap (λ (ks : List ℕ). list_any (is_at (nat_cmp m)) ks || is_at (nat_cmp n) m) nil
     ∙ ap (λ (b : Bool). b || is_at (nat_cmp n) m) (sym (ap (λ (w : List ℕ). posted old w m) same ∙ empty m))))
 
 -- One number less of a word that has some.
-pub struck_found : (old new : Postings) (k : RcSlice ℕ Global) (v w : BTreeSet ℕ) (n : ℕ) → Some v ≡ get_by (key_cmp k) old → WritesThrough key_cmp (key_cmp k) old w new → ((m : ℕ) → contains nat_cmp w m ≡ cond (is_at (nat_cmp n) m) false (contains nat_cmp v m)) → Loses old new (items k) n
+pub struck_found : (old new : Postings) (k : RcSlice ℕ Global) (v w : BTreeSet ℕ) (n : ℕ) → Some v ≡ get_by (key_cmp k) old → WritesThrough key_cmp (key_cmp k) old w new → ((m : ℕ) → contains nat_cmp w m ≡ cond (is_at (nat_cmp n) m) false (contains nat_cmp v m)) → WordLoses old new (items k) n
 struck_found old new k v w n found through is =
     loses old new k w n (written old new k v w found through)
     (λ m. is m ∙ cond_and (is_at (nat_cmp n) m) (contains nat_cmp v m) ∙ ap (λ (b : Bool). b && not (is_at (nat_cmp n) m)) (posted_in old k v found m))
 
 -- A word without numbers is removed.
-pub removed : (old mid new : Postings) (k : RcSlice ℕ Global) (n : ℕ) → Loses old mid (items k) n → HasNone mid (items k) → UpdatesBy key_cmp (key_cmp k) mid new None → Loses old new (items k) n
+pub removed : (old mid new : Postings) (k : RcSlice ℕ Global) (n : ℕ) → WordLoses old mid (items k) n → WordHasNone mid (items k) → UpdatesBy key_cmp (key_cmp k) mid new None → WordLoses old new (items k) n
 removed old mid new k n lost empty updates w m = updated_posted mid new k None updates w m ∙ go (bytes_eq (items k) w) refl ∙ lost w m
   where
     go : (b : Bool) → bytes_eq (items k) w ≡ b → is_in (cond b None (numbers_of mid w)) m ≡ posted mid w m
@@ -98,7 +98,7 @@ listed_none postings k list nil none =
     subst (λ (l : List ℕ). IsListOf l (posted postings (items k))) (sym nil) is
 
 pub puts_all-more : (old mid new : Postings) (words : List (RcSlice ℕ Global)) (i : ℕ) (word : RcSlice ℕ Global) (n : ℕ) → i < length words → word ≡ get_or words i word
-    → PutsAll old mid (bytes_of (take i words)) n → Puts mid new (items word) n → PutsAll old new (bytes_of (take (i + 1) words)) n
+    → PutsAll old mid (bytes_of (take i words)) n → WordGains mid new (items word) n → PutsAll old new (bytes_of (take (i + 1) words)) n
 puts_all-more old mid new words i word n h is all one w m =
     let at = is_at (nat_cmp n) m in
     one w m ∙ ap (λ (b : Bool). b || (bytes_eq (items word) w && at)) (all w m)

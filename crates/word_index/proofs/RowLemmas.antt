@@ -7,7 +7,7 @@ use Rattle.std.specs.declared.cmp.Ordering.{Ordering}
 use Rattle.std.specs.declared.cmp.Ordering.TheVariants.{Less, Equal, Greater}
 use Rattle.std.specs.BTreeMap.{insert_entry, is_at}
 use Rattle.word_index.specs.declared.rows.KeptRow.{KeptRow}
-use Rattle.word_index.specs.Rows.{Row, row_at, shown, shown_all}
+use Rattle.word_index.specs.Rows.{WordRow, row_at, shown, shown_all}
 
 -- The row with a number.
 pub row_at-shown : (entries : List (ℕ × KeptRow)) (n : ℕ) → row_at (shown_all entries) n ≡ option_map shown (lookup (is_at (nat_cmp n)) entries)
@@ -41,7 +41,7 @@ pub shown-insert : (entries : List (ℕ × KeptRow)) (n : ℕ) (row : KeptRow) �
 shown-insert [] n row = refl
 shown-insert (e ∷ es) n row =
     shown-ordered (nat_cmp n e.0) ((n, row) ∷ e ∷ es) ((e.0, row) ∷ es) (e ∷ insert_entry nat_cmp es n row)
-    ∙ ap (λ (rest : List (ℕ × Row)). match_ordering (nat_cmp n e.0) ((n, shown row) ∷ shown_all (e ∷ es)) ((e.0, shown row) ∷ shown_all es) ((e.0, shown e.1) ∷ rest)) (shown-insert es n row)
+    ∙ ap (λ (rest : List (ℕ × WordRow)). match_ordering (nat_cmp n e.0) ((n, shown row) ∷ shown_all (e ∷ es)) ((e.0, shown row) ∷ shown_all es) ((e.0, shown e.1) ∷ rest)) (shown-insert es n row)
 
 shown-cond : (b : Bool) (x y : List (ℕ × KeptRow)) → shown_all (cond b x y) ≡ cond b (shown_all x) (shown_all y)
 shown-cond true x y = refl
@@ -51,7 +51,7 @@ shown-cond false x y = refl
 pub shown-remove : (test : ℕ → Bool) (entries : List (ℕ × KeptRow)) → shown_all (remove_entry test entries) ≡ remove_entry test (shown_all entries)
 shown-remove test [] = refl
 shown-remove test (e ∷ es) =
-    shown-cond (test e.0) es (e ∷ remove_entry test es) ∙ ap (λ (rest : List (ℕ × Row)). cond (test e.0) (shown_all es) ((e.0, shown e.1) ∷ rest)) (shown-remove test es)
+    shown-cond (test e.0) es (e ∷ remove_entry test es) ∙ ap (λ (rest : List (ℕ × WordRow)). cond (test e.0) (shown_all es) ((e.0, shown e.1) ∷ rest)) (shown-remove test es)
 
 option_map-cond : {X Y : Type 0} (f : X → Y) (b : Bool) (x y : Option X) → option_map f (cond b x y) ≡ cond b (option_map f x) (option_map f y)
 option_map-cond f true x y = refl
@@ -62,4 +62,4 @@ pub row_at-updated : (old new : List (ℕ × KeptRow)) (n : ℕ) (row : Option K
     → (m : ℕ) → row_at (shown_all new) m ≡ cond (is_at (nat_cmp n) m) (option_map shown row) (row_at (shown_all old) m)
 row_at-updated old new n row updates m =
     row_at-shown new m ∙ ap (option_map shown) (updates m) ∙ option_map-cond shown (is_at (nat_cmp n) m) row (lookup (is_at (nat_cmp m)) old)
-    ∙ ap (λ (o : Option Row). cond (is_at (nat_cmp n) m) (option_map shown row) o) (sym (row_at-shown old m))
+    ∙ ap (λ (o : Option WordRow). cond (is_at (nat_cmp n) m) (option_map shown row) o) (sym (row_at-shown old m))

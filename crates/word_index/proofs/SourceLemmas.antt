@@ -18,10 +18,10 @@ use Rattle.query_lang.specs.Matching.{is_between, in_ranges, matches}
 use Rattle.word_index.specs.declared.asking.Asked.{Asked}
 use Rattle.word_index.specs.declared.sources.Source.{Source}
 use Rattle.word_index.specs.declared.sources.Source.TheVariants.{Days}
-use Rattle.word_index.specs.Rows.{Row, row_at, passes_at, matching, found}
+use Rattle.word_index.specs.Rows.{WordRow, row_at, passes_at, matching, found}
 use Rattle.word_index.specs.Postings.{IsListOf}
 use Rattle.word_index.specs.Asked.{matches_asked}
-use Rattle.word_index.specs.Sources.{passes, IsSource, IsDaySource}
+use Rattle.word_index.specs.Sources.{passes, HasEachMatch, IsDaySource}
 use Rattle.word_index.proofs.ListLemmas.{IsListOf-same, IsListOf-filter, one_list}
 
 -- A range that is asked.
@@ -43,7 +43,7 @@ day-step days start old new first last (inr source) (inl kept) is = inr (subst (
 day-step days start old new first last before (inr chosen) is = inr (subst (IsDaySource days) (sym chosen) is)
 
 -- The numbers of some rows rise.
-all_keys-filter : (P : ℕ → Type 0) (test : ℕ × Row → Bool) (rows : List (ℕ × Row)) → AllByRecursion P (keys_of rows) → AllByRecursion P (keys_of (filter test rows))
+all_keys-filter : (P : ℕ → Type 0) (test : ℕ × WordRow → Bool) (rows : List (ℕ × WordRow)) → AllByRecursion P (keys_of rows) → AllByRecursion P (keys_of (filter test rows))
 all_keys-filter P test [] h = h
 all_keys-filter P test (r ∷ rs) h = go (test r) (all_keys-filter P test rs h.1)
   where
@@ -51,7 +51,7 @@ all_keys-filter P test (r ∷ rs) h = go (test r) (all_keys-filter P test rs h.1
     go true ih = (h.0, ih)
     go false ih = ih
 
-sorted-filter : (test : ℕ × Row → Bool) (rows : List (ℕ × Row)) → IsStrictlySortedBy nat_cmp (keys_of rows) → IsStrictlySortedBy nat_cmp (keys_of (filter test rows))
+sorted-filter : (test : ℕ × WordRow → Bool) (rows : List (ℕ × WordRow)) → IsStrictlySortedBy nat_cmp (keys_of rows) → IsStrictlySortedBy nat_cmp (keys_of (filter test rows))
 unfolding IsStrictlySortedBy
 sorted-filter test [] h = tt
 sorted-filter test (r ∷ rs) h = go (test r) (sorted-filter test rs h.1)
@@ -60,7 +60,7 @@ sorted-filter test (r ∷ rs) h = go (test r) (sorted-filter test rs h.1)
     go true ih = (all_keys-filter (λ (n : ℕ). nat_cmp r.0 n ≡ Less) test rs h.0, ih)
     go false ih = ih
 
-is_some-filter : (test : Row → Bool) (o : Option Row) → is_some (option_filter test o) ≡ option_map_or test o false
+is_some-filter : (test : WordRow → Bool) (o : Option WordRow) → is_some (option_filter test o) ≡ option_map_or test o false
 is_some-filter test None = refl
 is_some-filter test (Some row) = go (test row)
   where
@@ -69,36 +69,36 @@ is_some-filter test (Some row) = go (test row)
     go false = refl
 
 -- The numbers of all rows.
-pub all-list : (rows : List (ℕ × Row)) → IsStrictlySortedBy nat_cmp (keys_of rows) → IsListOf (keys_of rows) (passes_at (λ (row : Row). true) rows)
+pub all-list : (rows : List (ℕ × WordRow)) → IsStrictlySortedBy nat_cmp (keys_of rows) → IsListOf (keys_of rows) (passes_at (λ (row : WordRow). true) rows)
 all-list rows rising = record { rising = rising; has = λ n. sym (is_some-lookup (is_at (nat_cmp n)) rows) ∙ there (row_at rows n) }
   where
-    there : (o : Option Row) → is_some o ≡ option_map_or (λ (row : Row). true) o false
+    there : (o : Option WordRow) → is_some o ≡ option_map_or (λ (row : WordRow). true) o false
     there None = refl
     there (Some row) = refl
 
 -- What is found by a query is the list of the numbers whose rows match.
-pub found-list : (query : Query) (rows : List (ℕ × Row)) → IsStrictlySortedBy nat_cmp (keys_of rows) → IsListOf (found query rows) (passes_at (λ (row : Row). matches query row.words row.day) rows)
+pub found-list : (query : Query) (rows : List (ℕ × WordRow)) → IsStrictlySortedBy nat_cmp (keys_of rows) → IsListOf (found query rows) (passes_at (λ (row : WordRow). matches query row.words row.day) rows)
 found-list query rows rising =
-    let test : Row → Bool = λ row. matches query row.words row.day in
+    let test : WordRow → Bool = λ row. matches query row.words row.day in
     record {
-      rising = sorted-filter (λ (r : ℕ × Row). test r.1) rows rising;
+      rising = sorted-filter (λ (r : ℕ × WordRow). test r.1) rows rising;
       has = λ n.
-          sym (is_some-lookup (is_at (nat_cmp n)) (filter (λ (r : ℕ × Row). test r.1) rows))
+          sym (is_some-lookup (is_at (nat_cmp n)) (filter (λ (r : ℕ × WordRow). test r.1) rows))
           ∙ ap is_some (lookup-filter-values (eq_by_cmp_equiv nat_cmp_total) test n rows (IsDistinct-from_sorted nat_cmp (keys_of rows) rising))
           ∙ is_some-filter test (row_at rows n);
     }
 
 -- So is what matches in a list in which all rows of the answer stand.
-pub found-is : (query : Query) (rows : List (ℕ × Row)) (asked : List Asked) (days : List ℕ) (source : Source) (numbers : List ℕ) → IsStrictlySortedBy nat_cmp (keys_of rows)
-    → ((row : Row) → matches query row.words row.day ≡ matches_asked asked days row) → IsSource asked days source → IsListOf numbers (passes_at (passes source) rows)
+pub found-is : (query : Query) (rows : List (ℕ × WordRow)) (asked : List Asked) (days : List ℕ) (source : Source) (numbers : List ℕ) → IsStrictlySortedBy nat_cmp (keys_of rows)
+    → ((row : WordRow) → matches query row.words row.day ≡ matches_asked asked days row) → HasEachMatch asked days source → IsListOf numbers (passes_at (passes source) rows)
     → filter (passes_at (matches_asked asked days) rows) numbers ≡ found query rows
 found-is query rows asked days source numbers rising same is list =
     one_list (filter (passes_at (matches_asked asked days) rows) numbers) (found query rows) (passes_at (matches_asked asked days) rows)
     (IsListOf-same (filter (passes_at (matches_asked asked days) rows) numbers) (λ n. passes_at (passes source) rows n && passes_at (matches_asked asked days) rows n) (passes_at (matches_asked asked days) rows)
     (λ n. stands (row_at rows n)) (IsListOf-filter numbers (passes_at (passes source) rows) (passes_at (matches_asked asked days) rows) list))
-    (IsListOf-same (found query rows) (passes_at (λ (row : Row). matches query row.words row.day) rows) (passes_at (matches_asked asked days) rows) (λ n. alike (row_at rows n)) (found-list query rows rising))
+    (IsListOf-same (found query rows) (passes_at (λ (row : WordRow). matches query row.words row.day) rows) (passes_at (matches_asked asked days) rows) (λ n. alike (row_at rows n)) (found-list query rows rising))
   where
-    stands : (o : Option Row) → (option_map_or (passes source) o false && option_map_or (matches_asked asked days) o false) ≡ option_map_or (matches_asked asked days) o false
+    stands : (o : Option WordRow) → (option_map_or (passes source) o false && option_map_or (matches_asked asked days) o false) ≡ option_map_or (matches_asked asked days) o false
     stands None = refl
     stands (Some row) = go (matches_asked asked days row) refl
       where
@@ -110,15 +110,15 @@ found-is query rows asked days source numbers rising same is list =
             none true = refl
             none false = refl
 
-    alike : (o : Option Row) → option_map_or (λ (row : Row). matches query row.words row.day) o false ≡ option_map_or (matches_asked asked days) o false
+    alike : (o : Option WordRow) → option_map_or (λ (row : WordRow). matches query row.words row.day) o false ≡ option_map_or (matches_asked asked days) o false
     alike None = refl
     alike (Some row) = same row
 
 -- Where the words that are asked say when a row matches, those of some numbers match that have them.
-pub matching-is : (query : Query) (rows : List (ℕ × Row)) (asked : List Asked) (days numbers : List ℕ) → ((row : Row) → matches query row.words row.day ≡ matches_asked asked days row)
+pub matching-is : (query : Query) (rows : List (ℕ × WordRow)) (asked : List Asked) (days numbers : List ℕ) → ((row : WordRow) → matches query row.words row.day ≡ matches_asked asked days row)
     → filter (passes_at (matches_asked asked days) rows) numbers ≡ filter (matching query rows) numbers
 matching-is query rows asked days numbers same = filter_agree (passes_at (matches_asked asked days) rows) (matching query rows) (λ n. alike (row_at rows n)) numbers
   where
-    alike : (o : Option Row) → option_map_or (matches_asked asked days) o false ≡ option_map_or (λ (row : Row). matches query row.words row.day) o false
+    alike : (o : Option WordRow) → option_map_or (matches_asked asked days) o false ≡ option_map_or (λ (row : WordRow). matches query row.words row.day) o false
     alike None = refl
     alike (Some row) = sym (same row)

@@ -31,8 +31,8 @@ abbrev pub posted : Postings → List ℕ → ℕ → Bool
 posted postings word n = is_in (numbers_of postings word) n
 
 -- The word has no numbers.
-abbrev pub HasNone : Postings → List ℕ → Type 0
-HasNone postings word = (n : ℕ) → posted postings word n ≡ false
+abbrev pub WordHasNone : Postings → List ℕ → Type 0
+WordHasNone postings word = (n : ℕ) → posted postings word n ≡ false
 
 -- The list rises, and has just the numbers that pass a test.
 pub record IsListOf (list : List ℕ) (test : ℕ → Bool) : Type 0 where
@@ -40,13 +40,13 @@ pub record IsListOf (list : List ℕ) (test : ℕ → Bool) : Type 0 where
   pub has : (n : ℕ) → list_any (is_at (nat_cmp n)) list ≡ test n
 
 -- One number was added to those of one word.
-abbrev pub Puts : Postings → Postings → List ℕ → ℕ → Type 0
-Puts old new word n = (w : List ℕ) (m : ℕ)
+abbrev pub WordGains : Postings → Postings → List ℕ → ℕ → Type 0
+WordGains old new word n = (w : List ℕ) (m : ℕ)
     → posted new w m ≡ (posted old w m || (bytes_eq word w && is_at (nat_cmp n) m))
 
 -- One number was removed from those of one word.
-abbrev pub Loses : Postings → Postings → List ℕ → ℕ → Type 0
-Loses old new word n = (w : List ℕ) (m : ℕ)
+abbrev pub WordLoses : Postings → Postings → List ℕ → ℕ → Type 0
+WordLoses old new word n = (w : List ℕ) (m : ℕ)
     → posted new w m ≡ (posted old w m && not (bytes_eq word w && is_at (nat_cmp n) m))
 
 -- No word's numbers changed.

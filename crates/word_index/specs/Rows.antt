@@ -14,38 +14,38 @@ use Rattle.query_lang.specs.Matching.{matches}
 use Rattle.word_index.specs.declared.rows.KeptRow.{KeptRow}
 
 -- A row: its words, by field, and its day.
-pub record Row : Type 0 where
+pub record WordRow : Type 0 where
   pub words : WordLists
   pub day : ℕ
 
 -- A row of a day, without words.
-abbrev pub bare : ℕ → Row
+abbrev pub bare : ℕ → WordRow
 bare day = record { words = record { subject = []; from = []; body = [] }; day = day }
 
 -- The row with a number.
-abbrev pub row_at : List (ℕ × Row) → ℕ → Option Row
+abbrev pub row_at : List (ℕ × WordRow) → ℕ → Option WordRow
 row_at rows n = lookup (is_at (nat_cmp n)) rows
 
 -- The number has a row, which passes a test.
-abbrev pub passes_at : (Row → Bool) → List (ℕ × Row) → ℕ → Bool
+abbrev pub passes_at : (WordRow → Bool) → List (ℕ × WordRow) → ℕ → Bool
 passes_at test rows n = option_map_or test (row_at rows n) false
 
 -- The number has a row, which matches a query.
-abbrev pub matching : Query → List (ℕ × Row) → ℕ → Bool
-matching query rows n = passes_at (λ (row : Row). matches query row.words row.day) rows n
+abbrev pub matching : Query → List (ℕ × WordRow) → ℕ → Bool
+matching query rows n = passes_at (λ (row : WordRow). matches query row.words row.day) rows n
 
 -- The numbers of the rows that match a query, in the order of the rows.
-abbrev pub found : Query → List (ℕ × Row) → List ℕ
+abbrev pub found : Query → List (ℕ × WordRow) → List ℕ
 found query rows =
-    map (λ (row : ℕ × Row). row.0)
-    (filter (λ (row : ℕ × Row). matches query row.1.words row.1.day) rows)
+    map (λ (row : ℕ × WordRow). row.0)
+    (filter (λ (row : ℕ × WordRow). matches query row.1.words row.1.day) rows)
 
 -- The bytes of words.
 abbrev pub bytes_of : List (RcSlice ℕ Global) → List (List ℕ)
 bytes_of words = map (λ (word : RcSlice ℕ Global). rc_slice_items word) words
 
 -- The row of which this is kept.
-abbrev pub shown : KeptRow → Row
+abbrev pub shown : KeptRow → WordRow
 shown row =
     record {
       words = record {
@@ -57,5 +57,5 @@ shown row =
     }
 
 -- All rows that are kept, by number.
-abbrev pub shown_all : List (ℕ × KeptRow) → List (ℕ × Row)
+abbrev pub shown_all : List (ℕ × KeptRow) → List (ℕ × WordRow)
 shown_all entries = map (λ (e : ℕ × KeptRow). (e.0, shown e.1)) entries

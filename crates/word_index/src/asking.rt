@@ -1,8 +1,9 @@
 //! The words that a query asks, as the index has them.
+//! Allocates.
 ghost use Rattle.std.specs.Prelude.{◌≡◌, ◌&&◌, IfOk, OnOk};
 ghost use Rattle.std.specs.List.{list_all};
 ghost use Rattle.query_lang.specs.Matching.{has_in, matches, in_ranges};
-ghost use Rattle.word_index.specs.Rows.{Row};
+ghost use Rattle.word_index.specs.Rows.{WordRow};
 ghost use Rattle.word_index.specs.Asked.{has_asked};
 
 use crate::word::Word;
@@ -20,7 +21,7 @@ pub struct Asked {
 
 /// Returns all words that a query asks.
 pub fn asked_by(alloc: Global, query: &Query) -> Result<Vec<Asked>, NoMemory>
-    ensures { IfOk result (λ asked. (row : Row) → matches query.now row.words row.day
+    ensures { IfOk result (λ asked. (row : WordRow) → matches query.now row.words row.day
         ≡ (list_all (has_asked row) asked.items && in_ranges query.now.days row.day)) }
 {
     let mut asked = Vec::new(alloc);
@@ -38,7 +39,7 @@ fn push_asked(
     words: &[Bytes],
     into: &mut Vec<Asked>,
 ) -> Result<(), NoMemory>
-    ensures { OnOk result ((row : Row) → list_all (has_asked row) into.new.items
+    ensures { OnOk result ((row : WordRow) → list_all (has_asked row) into.new.items
         ≡ (list_all (has_asked row) into.old.items && list_all (has_in field row.words) words.now)) }
 {
     for word in words {

@@ -1,8 +1,9 @@
 //! Finds the rows that match a query.
+//! Allocates.
 ghost use Rattle.std.specs.Prelude.{◌≡◌, ◌++◌, IfOk, OnOk};
 ghost use Rattle.std.specs.List.{filter};
 ghost use Rattle.word_index.specs.Rows.{found, passes_at, matching};
-ghost use Rattle.word_index.specs.Tables.{rows_of, IsIndex};
+ghost use Rattle.word_index.specs.Tables.{rows_of, IsWordIndex};
 ghost use Rattle.word_index.specs.Asked.{matches_asked};
 
 use crate::asking::{Asked, asked_by};
@@ -18,7 +19,7 @@ use std::alloc::Global;
 /// Of the lists that the query's words and days name, only the smallest is read; each of its rows
 /// is then looked up in the others.
 pub fn find(alloc: Global, tables: &Tables, query: &Query) -> Result<Numbers, NoMemory>
-    requires { IsIndex tables.now }
+    requires { IsWordIndex tables.now }
     ensures { IfOk result (λ numbers. numbers ≡ found query.now (rows_of tables.now)) }
 {
     let asked = asked_by(alloc, query)?;
@@ -45,7 +46,7 @@ pub fn append_matches(
     numbers: &[u32],
     into: &mut Numbers,
 ) -> Result<(), NoMemory>
-    requires { IsIndex tables.now }
+    requires { IsWordIndex tables.now }
     ensures { OnOk result (into.new
         ≡ into.old ++ filter (matching query.now (rows_of tables.now)) numbers.now) }
 {
@@ -74,7 +75,7 @@ fn append_matching(
     days: &[u64],
     into: &mut Numbers,
 ) -> Result<(), NoMemory>
-    requires { IsIndex tables.now }
+    requires { IsWordIndex tables.now }
     ensures { OnOk result (into.new ≡ into.old
         ++ filter (passes_at (matches_asked asked.now days.now) (rows_of tables.now)) numbers.now) }
 {

@@ -1,4 +1,5 @@
 //! The index.
+//! Allocates.
 ghost use Rattle.std.specs.List.{filter};
 ghost use Rattle.std.specs.Prelude.{◌≡◌, ◌++◌, [], is_some, None, IfOk, OnOk, OnErr};
 ghost use Rattle.std.specs.Ordering.{nat_cmp};
@@ -25,14 +26,14 @@ pub struct WordIndex {
 
 impl Model for WordIndex {
     ghost use Rattle.std.specs.Prelude.{ℕ, List};
-    ghost use Rattle.word_index.specs.Rows.{Row};
-    ghost use Rattle.word_index.specs.Tables.{rows_of, IsIndex};
+    ghost use Rattle.word_index.specs.Rows.{WordRow};
+    ghost use Rattle.word_index.specs.Tables.{rows_of, IsWordIndex};
 
-    ghost Value = { List (ℕ × Row) };
+    ghost Value = { List (ℕ × WordRow) };
 
     ghost view = { λ i. rows_of i.tables };
 
-    ghost invariant = { λ i. IsIndex i.tables };
+    ghost invariant = { λ i. IsWordIndex i.tables };
 }
 
 impl WordIndex {

@@ -1,4 +1,5 @@
 //! An index of messages by their words and the days of their dates.
+//! Allocates.
 #![tactic(auto)]
 
 mod asking;

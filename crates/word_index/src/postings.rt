@@ -1,11 +1,12 @@
 //! The numbers of the rows that have each word in one field.
+//! Allocates.
 ghost use Rattle.std.specs.Prelude.{◌≡◌, ℕ, cond, true, false, IsTrue, IfOk, OnOk, OnErr};
 ghost use Rattle.std.specs.Ordering.{nat_cmp};
 ghost use Rattle.std.specs.Rc.{rc_slice_items};
 ghost use Rattle.std.specs.BTreeMap.{is_at};
 ghost use Rattle.std.specs.BTreeSet.{contains};
 ghost use Rattle.word_index.specs.Rows.{bytes_of};
-ghost use Rattle.word_index.specs.Postings.{posted, IsListOf, Puts, Loses, SamePosted, PutsAll, LosesAll, MayPut, HasNone};
+ghost use Rattle.word_index.specs.Postings.{posted, IsListOf, WordGains, WordLoses, SamePosted, PutsAll, LosesAll, MayPut, WordHasNone};
 
 use crate::word::{Word, copy};
 use arch_base::NoMemory;
@@ -35,7 +36,7 @@ pub fn put_all(
 
 /// Adds a number to those of a word. `NoMemory` changes nothing.
 fn put(alloc: Global, postings: &mut Postings, word: &Word, n: u32) -> Result<(), NoMemory>
-    ensures ok { OnOk result (Puts postings.old postings.new (rc_slice_items word.now) n) }
+    ensures ok { OnOk result (WordGains postings.old postings.new (rc_slice_items word.now) n) }
     ensures err { OnErr result (SamePosted postings.old postings.new) }
 {
     match postings.get_mut(word) {
@@ -56,8 +57,8 @@ pub fn include(numbers: &mut BTreeSet<u32>, n: u32) -> Result<(), NoMemory>
 
 /// Adds a word with its first number. `NoMemory` changes nothing.
 fn begin(alloc: Global, postings: &mut Postings, word: &Word, n: u32) -> Result<(), NoMemory>
-    requires { HasNone postings.old (rc_slice_items word.now) }
-    ensures ok { OnOk result (Puts postings.old postings.new (rc_slice_items word.now) n) }
+    requires { WordHasNone postings.old (rc_slice_items word.now) }
+    ensures ok { OnOk result (WordGains postings.old postings.new (rc_slice_items word.now) n) }
     ensures err { OnErr result (SamePosted postings.old postings.new) }
 {
     let mut numbers = BTreeSet::new(alloc);
@@ -77,7 +78,7 @@ pub fn remove_all(postings: &mut Postings, words: &[Word], n: u32)
 
 /// Removes a number from those of a word, and the word with its last number.
 fn remove(postings: &mut Postings, word: &Word, n: u32)
-    ensures { Loses postings.old postings.new (rc_slice_items word.now) n }
+    ensures { WordLoses postings.old postings.new (rc_slice_items word.now) n }
 {
     strike(postings, word, n);
     if is_unused(postings, word) {
@@ -87,7 +88,7 @@ fn remove(postings: &mut Postings, word: &Word, n: u32)
 
 /// Removes a number from those of a word.
 fn strike(postings: &mut Postings, word: &Word, n: u32)
-    ensures { Loses postings.old postings.new (rc_slice_items word.now) n }
+    ensures { WordLoses postings.old postings.new (rc_slice_items word.now) n }
 {
     if let Some(numbers) = postings.get_mut(word) {
         exclude(numbers, n);
@@ -104,7 +105,7 @@ fn exclude(numbers: &mut BTreeSet<u32>, n: u32)
 
 /// Returns whether a word has no numbers.
 fn is_unused(postings: &Postings, word: &Word) -> bool
-    ensures { IsTrue result → HasNone postings.now (rc_slice_items word.now) }
+    ensures { IsTrue result → WordHasNone postings.now (rc_slice_items word.now) }
 {
     match postings.get(word) {
         Some(numbers) => numbers.is_empty(),

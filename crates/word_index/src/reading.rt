@@ -1,4 +1,5 @@
 //! Reads numbers of rows from the tables of an index.
+//! Allocates.
 ghost use Rattle.std.specs.Prelude.{◌≡◌, ℕ, ◌||◌, true, IfOk, OnOk};
 ghost use Rattle.std.specs.List.{list_any, list_all};
 ghost use Rattle.std.specs.List.Sorted.{IsStrictlySortedBy};
@@ -8,7 +9,7 @@ ghost use Rattle.std.specs.BTreeMap.{is_at, keys};
 ghost use Rattle.std.specs.BTreeSet.{contains};
 ghost use Rattle.word_index.specs.Rows.{passes_at};
 ghost use Rattle.word_index.specs.Postings.{posted, IsListOf};
-ghost use Rattle.word_index.specs.Tables.{rows_of, IsIndex};
+ghost use Rattle.word_index.specs.Tables.{rows_of, IsWordIndex};
 ghost use Rattle.word_index.specs.Asked.{listed_in, is_listed, matches_asked};
 ghost use Rattle.word_index.specs.Days.{dated_cmp, is_within, numbers_between};
 
@@ -40,7 +41,7 @@ pub fn is_listed(tables: &Tables, asked: &Asked, n: u32) -> bool
 
 /// Returns whether a row has all words that are asked, and is of a day that is.
 pub fn is_match(tables: &Tables, asked: &[Asked], days: &[u64], n: u32) -> bool
-    requires { IsIndex tables.now }
+    requires { IsWordIndex tables.now }
     ensures { result ≡ passes_at (matches_asked asked.now days.now) (rows_of tables.now) n }
 {
     match tables.rows.get(&n) {
@@ -89,7 +90,7 @@ fn first_of(day: u64) -> Dated
 
 /// Returns the numbers of all rows, rising.
 pub fn all_rows(alloc: Global, tables: &Tables) -> Result<Vec<u32>, NoMemory>
-    requires { IsIndex tables.now }
+    requires { IsWordIndex tables.now }
     ensures { IfOk result (λ found.
         IsListOf found.items (passes_at (λ row. true) (rows_of tables.now))) }
 {
@@ -110,7 +111,7 @@ pub fn numbers_on(
     first: u64,
     last: u64,
 ) -> Result<Vec<u32>, NoMemory>
-    requires { IsIndex tables.now }
+    requires { IsWordIndex tables.now }
     ensures { IfOk result (λ found.
         IsListOf found.items (passes_at (is_within first last) (rows_of tables.now))) }
 {

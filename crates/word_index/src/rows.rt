@@ -1,4 +1,5 @@
 //! What is kept of a row.
+//! Allocates.
 ghost use Rattle.std.specs.Prelude.{◌≡◌, OnOk};
 ghost use Rattle.word_index.specs.Rows.{shown, bare};
 

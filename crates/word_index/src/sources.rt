@@ -1,9 +1,10 @@
 //! The smallest list of numbers in which all rows of an answer stand.
+//! Allocates.
 ghost use Rattle.std.specs.Prelude.{◌≡◌, ◌⊎◌, IfOk};
 ghost use Rattle.word_index.specs.Rows.{passes_at};
 ghost use Rattle.word_index.specs.Postings.{IsListOf};
-ghost use Rattle.word_index.specs.Tables.{rows_of, IsIndex};
-ghost use Rattle.word_index.specs.Sources.{passes, IsSource, IsWordSource, IsDaySource};
+ghost use Rattle.word_index.specs.Tables.{rows_of, IsWordIndex};
+ghost use Rattle.word_index.specs.Sources.{passes, HasEachMatch, IsWordSource, IsDaySource};
 
 use crate::asking::Asked;
 use crate::reading::{all_rows, count_asked, count_days, numbers_on, numbers_with};
@@ -40,7 +41,7 @@ impl<'a> Choice<'a> {
 
 /// Returns the smallest list in which all rows stand that a query finds.
 pub fn least_source<'a>(tables: &Tables, asked: &'a [Asked], days: &[u64]) -> Source<'a>
-    ensures { IsSource asked.now days.now result }
+    ensures { HasEachMatch asked.now days.now result }
 {
     least_choice(tables, asked, days).source
 }
@@ -52,7 +53,7 @@ pub fn least_size(tables: &Tables, asked: &[Asked], days: &[u64]) -> usize {
 
 /// Returns the smallest list of those that a query names, and of all rows.
 fn least_choice<'a>(tables: &Tables, asked: &'a [Asked], days: &[u64]) -> Choice<'a>
-    ensures { IsSource asked.now days.now result.source }
+    ensures { HasEachMatch asked.now days.now result.source }
 {
     let all = Choice {
         source: Source::All,
@@ -102,7 +103,7 @@ fn with_days<'a>(tables: &Tables, first: u64, last: u64, least: Choice<'a>) -> C
 
 /// Returns the numbers of a list, rising.
 pub fn read(alloc: Global, tables: &Tables, source: Source<'_>) -> Result<Vec<u32>, NoMemory>
-    requires { IsIndex tables.now }
+    requires { IsWordIndex tables.now }
     ensures { IfOk result (λ found.
         IsListOf found.items (passes_at (passes source.entry) (rows_of tables.now))) }
 {

@@ -1,10 +1,11 @@
 //! The tables of an index: its rows, and by words and days their numbers.
+//! Allocates.
 ghost use Rattle.std.specs.Prelude.{◌≡◌, [], is_some, None, OnOk, OnErr};
 ghost use Rattle.std.specs.Ordering.{nat_cmp};
 ghost use Rattle.std.specs.BTreeMap.{insert_entry, is_at};
 ghost use Rattle.std.specs.Map.{remove_entry};
 ghost use Rattle.word_index.specs.Rows.{shown, row_at};
-ghost use Rattle.word_index.specs.Tables.{rows_of, IsIndex, IsPosted, IsPartlyPosted};
+ghost use Rattle.word_index.specs.Tables.{rows_of, IsWordIndex, IsPosted, IsPartlyPosted};
 
 use crate::postings::{Postings, put_all, remove_all};
 use crate::rows::{Dated, KeptRow};
@@ -34,7 +35,7 @@ pub struct Tables {
 impl Tables {
     /// Returns tables without rows. Allocates nothing.
     pub fn new(alloc: Global) -> Tables
-        ensures index { IsIndex result }
+        ensures index { IsWordIndex result }
         ensures rows { rows_of result ≡ [] }
     {
         Tables {
@@ -55,9 +56,9 @@ impl Tables {
         words: &WordLists,
         day: u64,
     ) -> Result<(), NoMemory>
-        requires index { IsIndex self.old }
+        requires index { IsWordIndex self.old }
         requires new { row_at (rows_of self.old) n ≡ None }
-        ensures index { IsIndex self.new }
+        ensures index { IsWordIndex self.new }
         ensures ok { OnOk result (rows_of self.new ≡ insert_entry nat_cmp (rows_of self.old) n
             (record { words = words.now; day = day })) }
         ensures err { OnErr result (rows_of self.new ≡ rows_of self.old) }
@@ -76,8 +77,8 @@ impl Tables {
 
     /// Removes a row, and returns whether it was there.
     pub fn take(&mut self, n: u32) -> bool
-        requires { IsIndex self.old }
-        ensures index { IsIndex self.new }
+        requires { IsWordIndex self.old }
+        ensures index { IsWordIndex self.new }
         ensures found { result ≡ is_some (row_at (rows_of self.old) n) }
         ensures taken { rows_of self.new ≡ remove_entry (is_at (nat_cmp n)) (rows_of self.old) }
     {
@@ -92,7 +93,7 @@ impl Tables {
     ///
     /// `NoMemory` may leave it added to some of them.
     fn post(&mut self, alloc: Global, n: u32, row: &KeptRow) -> Result<(), NoMemory>
-        requires { IsIndex self.old }
+        requires { IsWordIndex self.old }
         ensures ok { OnOk result (IsPosted self.new n (shown row.now)) }
         ensures err { OnErr result (IsPartlyPosted self.new n (shown row.now)) }
         ensures rows { rows_of self.new ≡ rows_of self.old }
@@ -110,7 +111,7 @@ impl Tables {
     fn keep(&mut self, n: u32, row: KeptRow) -> Result<(), NoMemory>
         requires posted { IsPosted self.old n (shown row) }
         requires new { row_at (rows_of self.old) n ≡ None }
-        ensures index { IsIndex self.new }
+        ensures index { IsWordIndex self.new }
         ensures ok { OnOk result (rows_of self.new
             ≡ insert_entry nat_cmp (rows_of self.old) n (shown row)) }
         ensures err { OnErr result (rows_of self.new ≡ rows_of self.old) }
@@ -129,7 +130,7 @@ impl Tables {
     fn unpost(&mut self, n: u32, row: &KeptRow)
         requires posted { IsPartlyPosted self.old n (shown row.now) }
         requires new { row_at (rows_of self.old) n ≡ None }
-        ensures index { IsIndex self.new }
+        ensures index { IsWordIndex self.new }
         ensures rows { rows_of self.new ≡ rows_of self.old }
     {
         remove_all(&mut self.subject, row.subject.as_slice(), n);

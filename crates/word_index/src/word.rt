@@ -1,4 +1,5 @@
 //! Words, whose bytes are shared by all that hold them.
+//! Allocates.
 ghost use Rattle.std.specs.Prelude.{◌≡◌, ◌++◌, IfOk, OnOk};
 ghost use Rattle.std.specs.Rc.{rc_slice_items};
 ghost use Rattle.word_index.specs.Rows.{bytes_of};

@@ -2,8 +2,8 @@ use Rattle.archive_core.proofs.Standing.{store_keeps}
 use Rattle.archive_cli.proofs.OnDisk.{opened-checks, opened-as, unopened-checks, opened-stands, unopened-stands, checked-cause, refused-cause}
 use Rattle.archive_cli.proofs.disk_commands.check.Goals as goal
 
-pub returns-in-Ok-clause-any_moment : goal.returns-in-Ok-clause-any_moment
-returns-in-Ok-clause-any_moment g c = c.in-Ok.ensures.opened.before
+pub returns-in-Ok-clause-crash : goal.returns-in-Ok-clause-crash
+returns-in-Ok-clause-crash g c = c.in-Ok.ensures.opened.before
 
 pub returns-in-Ok-clause-done : goal.returns-in-Ok-clause-done
 returns-in-Ok-clause-done g c = λ a cache reads.
@@ -24,8 +24,8 @@ returns-in-Ok-clause-cause g c = checked-cause (g.D.Disk.faults c.args.disk) (g.
 pub returns-in-Err-clause-cause : goal.returns-in-Err-clause-cause
 returns-in-Err-clause-cause g c = refused-cause (g.D.Disk.faults c.args.disk) (g.D.Disk.faults c.open.new.disk) c.in-Err.why c.in-Err.ensures.opened.cause
 
-pub returns-in-Err-clause-any_moment : goal.returns-in-Err-clause-any_moment
-returns-in-Err-clause-any_moment g c = c.in-Err.ensures.opened.before
+pub returns-in-Err-clause-crash : goal.returns-in-Err-clause-crash
+returns-in-Err-clause-crash g c = c.in-Err.ensures.opened.before
 
 pub returns-in-Err-clause-done : goal.returns-in-Err-clause-done
 returns-in-Err-clause-done g c = λ a cache reads.
@@ -39,11 +39,11 @@ returns-in-Ok-clause-files g c =
     let opened = c.in-Ok.ensures.opened in
     (c.in-Ok.counted, opened.answer, opened.kept, opened.done, opened.settled)
 
-pub returns-in-Ok-clause-between : goal.returns-in-Ok-clause-between
-returns-in-Ok-clause-between g c = c.in-Ok.ensures.opened.between
+pub returns-in-Ok-clause-crash_between : goal.returns-in-Ok-clause-crash_between
+returns-in-Ok-clause-crash_between g c = c.in-Ok.ensures.opened.crash_between
 
 pub returns-in-Err-clause-files : goal.returns-in-Err-clause-files
 returns-in-Err-clause-files g c = c.in-Err.ensures.refused
 
-pub returns-in-Err-clause-between : goal.returns-in-Err-clause-between
-returns-in-Err-clause-between g c = c.in-Err.ensures.opened.between
+pub returns-in-Err-clause-crash_between : goal.returns-in-Err-clause-crash_between
+returns-in-Err-clause-crash_between g c = c.in-Err.ensures.opened.crash_between

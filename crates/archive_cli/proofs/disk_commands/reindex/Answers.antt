@@ -1,8 +1,8 @@
 use Rattle.archive_cli.proofs.OnDisk.{opened-reindexes, unopened-reindexes, opened-stands, unopened-stands, reindexed-cause, refused-cause}
 use Rattle.archive_cli.proofs.disk_commands.reindex.Goals as goal
 
-pub returns-in-Ok-clause-any_moment : goal.returns-in-Ok-clause-any_moment
-returns-in-Ok-clause-any_moment g c = rw c.into_disk.ensures c.in-Ok.ensures.opened.before
+pub returns-in-Ok-clause-crash : goal.returns-in-Ok-clause-crash
+returns-in-Ok-clause-crash g c = rw c.into_disk.ensures c.in-Ok.ensures.opened.before
 
 pub returns-in-Ok-clause-done : goal.returns-in-Ok-clause-done
 returns-in-Ok-clause-done g c = λ a cache reads.
@@ -21,8 +21,8 @@ returns-in-Ok-clause-cause g c = rw c.into_disk.ensures
 pub returns-in-Err-clause-cause : goal.returns-in-Err-clause-cause
 returns-in-Err-clause-cause g c = refused-cause (g.D.Disk.faults c.args.disk) (g.D.Disk.faults c.in-Err.field-0.disk) c.in-Err.field-0.why c.in-Err.ensures.opened.cause
 
-pub returns-in-Err-clause-any_moment : goal.returns-in-Err-clause-any_moment
-returns-in-Err-clause-any_moment g c = c.in-Err.ensures.opened.before
+pub returns-in-Err-clause-crash : goal.returns-in-Err-clause-crash
+returns-in-Err-clause-crash g c = c.in-Err.ensures.opened.before
 
 pub returns-in-Err-clause-done : goal.returns-in-Err-clause-done
 returns-in-Err-clause-done g c = λ a cache reads.
@@ -36,11 +36,11 @@ returns-in-Ok-clause-files g c =
     let opened = c.in-Ok.ensures.opened in
     rw c.into_disk.ensures (c.in-Ok.engine.view, opened.answer, opened.kept, opened.done, opened.settled)
 
-pub returns-in-Ok-clause-between : goal.returns-in-Ok-clause-between
-returns-in-Ok-clause-between g c = rw c.into_disk.ensures c.in-Ok.ensures.opened.between
+pub returns-in-Ok-clause-crash_between : goal.returns-in-Ok-clause-crash_between
+returns-in-Ok-clause-crash_between g c = rw c.into_disk.ensures c.in-Ok.ensures.opened.crash_between
 
 pub returns-in-Err-clause-files : goal.returns-in-Err-clause-files
 returns-in-Err-clause-files g c = c.in-Err.ensures.refused
 
-pub returns-in-Err-clause-between : goal.returns-in-Err-clause-between
-returns-in-Err-clause-between g c = c.in-Err.ensures.opened.between
+pub returns-in-Err-clause-crash_between : goal.returns-in-Err-clause-crash_between
+returns-in-Err-clause-crash_between g c = c.in-Err.ensures.opened.crash_between

@@ -1,16 +1,16 @@
 use Rattle.archive_core.specs.Commands.{FilesFor, way_of}
 use Rattle.archive_cli.specs.DiskCommands.{taking}
 use Rattle.archive_cli.proofs.OnDisk.{unopened-takes, unopened-stands, taken-stands, taken-runs, unopened-runs, answered-cause, refused-cause}
-use Rattle.archive_cli.proofs.Committing.{opened-between, opened-commits, opened-refused, opened-some}
+use Rattle.archive_cli.proofs.Committing.{opened-crash_between, opened-commits, opened-refused, opened-some}
 use Rattle.archive_cli.proofs.disk_commands.take.Goals as goal
 
-pub returns-in-Ok-clause-any_moment : goal.returns-in-Ok-clause-any_moment
-returns-in-Ok-clause-any_moment g c = taken-runs g.D.Disk.content g.D.Disk.moment g.D.Disk.left_since g.met.D.Disk.counts_now g.met.D.Disk.reads_fit c.args.disk c.open.new.disk c.in-Ok.archive c.in-Ok.ensures.opened.done c.in-Ok.ensures.opened.first c.answered-answer.new.disk (way_of c.args.command.now) (taking c.args.command.now c.args.moment)
-    c.answered-answer.ensures.any_moment c.in-Ok.ensures.opened.answer
+pub returns-in-Ok-clause-crash : goal.returns-in-Ok-clause-crash
+returns-in-Ok-clause-crash g c = taken-runs g.D.Disk.content g.D.Disk.moment g.D.Disk.left_since g.met.D.Disk.counts_now g.met.D.Disk.reads_fit c.args.disk c.open.new.disk c.in-Ok.archive c.in-Ok.ensures.opened.done c.in-Ok.ensures.opened.first c.answered-answer.new.disk (way_of c.args.command.now) (taking c.args.command.now c.args.moment)
+    c.answered-answer.ensures.crash c.in-Ok.ensures.opened.answer
 
 pub returns-in-Ok-clause-stands : goal.returns-in-Ok-clause-stands
 returns-in-Ok-clause-stands g c = taken-stands g.D.Disk.content g.D.Disk.moment g.D.Disk.left_since g.met.D.Disk.counts_now g.met.D.Disk.reads_fit c.args.disk c.open.new.disk c.in-Ok.archive c.in-Ok.ensures.opened.done c.in-Ok.ensures.opened.first c.answered-answer.new.disk (way_of c.args.command.now) (taking c.args.command.now c.args.moment)
-    c.answered-answer.ensures.any_moment c.answered-answer.result c.answered-answer.ensures.done
+    c.answered-answer.ensures.crash c.answered-answer.result c.answered-answer.ensures.done
 
 pub returns-in-Ok-clause-done : goal.returns-in-Ok-clause-done
 returns-in-Ok-clause-done g c = λ a cache reads. c.answered-answer.ensures.done a cache (c.in-Ok.ensures.opened.done a cache reads)
@@ -21,8 +21,8 @@ returns-in-Ok-clause-cause g c = answered-cause (g.D.Disk.faults c.args.disk) (g
 pub returns-in-Err-clause-cause : goal.returns-in-Err-clause-cause
 returns-in-Err-clause-cause g c = refused-cause (g.D.Disk.faults c.args.disk) (g.D.Disk.faults c.open.new.disk) c.in-Err.why c.in-Err.ensures.opened.cause
 
-pub returns-in-Err-clause-any_moment : goal.returns-in-Err-clause-any_moment
-returns-in-Err-clause-any_moment g c = unopened-runs g.D.Disk.content g.D.Disk.moment g.D.Disk.left_since g.met.D.Disk.counts_now g.met.D.Disk.reads_fit c.args.disk c.open.new.disk (way_of c.args.command.now) (taking c.args.command.now c.args.moment) c.in-Err.ensures.opened.before
+pub returns-in-Err-clause-crash : goal.returns-in-Err-clause-crash
+returns-in-Err-clause-crash g c = unopened-runs g.D.Disk.content g.D.Disk.moment g.D.Disk.left_since g.met.D.Disk.counts_now g.met.D.Disk.reads_fit c.args.disk c.open.new.disk (way_of c.args.command.now) (taking c.args.command.now c.args.moment) c.in-Err.ensures.opened.before
 
 pub returns-in-Err-clause-stands : goal.returns-in-Err-clause-stands
 returns-in-Err-clause-stands g c = λ s cache all. unopened-stands g.D.Disk.content g.D.Disk.moment g.D.Disk.left_since g.met.D.Disk.counts_now g.met.D.Disk.reads_fit s cache c.args.disk c.open.new.disk c.in-Err.why all c.in-Err.ensures.opened.before c.in-Err.ensures.opened.well c.in-Err.ensures.opened.first
@@ -41,13 +41,13 @@ returns-in-Ok-clause-commits g c =
     let opened = c.in-Ok.ensures.opened in
     opened-commits (way_of c.args.command.now) (FilesFor c.args.command.now) c.in-Ok.archive (g.D.Disk.content c.args.disk) (g.D.Disk.content c.open.new.disk) (g.D.Disk.content c.answered-answer.new.disk) c.answered-answer.result opened.answer opened.kept c.answered-answer.ensures.commits
 
-pub returns-in-Ok-clause-between : goal.returns-in-Ok-clause-between
-returns-in-Ok-clause-between g c =
+pub returns-in-Ok-clause-crash_between : goal.returns-in-Ok-clause-crash_between
+returns-in-Ok-clause-crash_between g c =
     let opened = c.in-Ok.ensures.opened in
-    opened-between g.D.Disk.content g.D.Disk.moment g.D.Disk.left_since c.in-Ok.archive c.args.disk c.open.new.disk c.answered-answer.new.disk (g.met.D.Disk.reads_fit c.args.disk) opened.answer opened.kept opened.settled opened.between c.answered-answer.ensures.between
+    opened-crash_between g.D.Disk.content g.D.Disk.moment g.D.Disk.left_since c.in-Ok.archive c.args.disk c.open.new.disk c.answered-answer.new.disk (g.met.D.Disk.reads_fit c.args.disk) opened.answer opened.kept opened.settled opened.crash_between c.answered-answer.ensures.crash_between
 
-pub returns-in-Err-clause-between : goal.returns-in-Err-clause-between
-returns-in-Err-clause-between g c = c.in-Err.ensures.opened.between
+pub returns-in-Err-clause-crash_between : goal.returns-in-Err-clause-crash_between
+returns-in-Err-clause-crash_between g c = c.in-Err.ensures.opened.crash_between
 
 pub returns-in-Err-clause-files : goal.returns-in-Err-clause-files
 returns-in-Err-clause-files g c = c.in-Err.ensures.refused

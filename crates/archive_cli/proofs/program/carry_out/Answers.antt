@@ -2,16 +2,16 @@ use Rattle.std.proofs.Common.{inl, refl}
 use Rattle.archive_core.specs.Commands.{FilesFor, IsForCommand, way_of}
 use Rattle.archive_cli.specs.DiskCommands.{taking}
 use Rattle.archive_cli.specs.Program.{CommandActs}
-use Rattle.archive_cli.proofs.Committing.{still-between}
+use Rattle.archive_cli.proofs.Committing.{still-crash_between}
 use Rattle.archive_cli.proofs.Leaving.{command-first}
 use Rattle.archive_cli.proofs.Printed.{outcome-due}
 use Rattle.archive_cli.proofs.program.carry_out.Goals as goal
 
-pub returns-in-Err-clause-any_moment : goal.returns-in-Err-clause-any_moment
-returns-in-Err-clause-any_moment g c = command-first g.D.Disk.content g.D.Disk.moment g.D.Disk.left_since g.met.D.Disk.only_now (g.C.Clock.coming c.args.clock.now) (way_of c.args.command.now) (taking c.args.command.now) c.args.disk
+pub returns-in-Err-clause-crash : goal.returns-in-Err-clause-crash
+returns-in-Err-clause-crash g c = command-first g.D.Disk.content g.D.Disk.moment g.D.Disk.left_since g.met.D.Disk.only_now (g.C.Clock.coming c.args.clock.now) (way_of c.args.command.now) (taking c.args.command.now) c.args.disk
 
-pub returns-clause-any_moment : goal.returns-clause-any_moment
-returns-clause-any_moment g c = (c.in-Ok.moment, c.in-Ok.ensures.first, c.take-outcome.ensures.any_moment)
+pub returns-clause-crash : goal.returns-clause-crash
+returns-clause-crash g c = (c.in-Ok.moment, c.in-Ok.ensures.first, c.take-outcome.ensures.crash)
 
 pub returns-clause-ends : goal.returns-clause-ends
 returns-clause-ends g c =
@@ -33,8 +33,8 @@ returns-clause-ends g c =
       disk_kept = c.take-outcome.ensures.cause.kept;
     }) c.print_outcome.ensures.printed)
 
-pub returns-in-Err-clause-between : goal.returns-in-Err-clause-between
-returns-in-Err-clause-between g c = still-between g.D.Disk.content g.D.Disk.moment g.D.Disk.left_since g.met.D.Disk.only_now c.args.disk
+pub returns-in-Err-clause-crash_between : goal.returns-in-Err-clause-crash_between
+returns-in-Err-clause-crash_between g c = still-crash_between g.D.Disk.content g.D.Disk.moment g.D.Disk.left_since g.met.D.Disk.only_now c.args.disk
 
-pub returns-clause-between : goal.returns-clause-between
-returns-clause-between g c = c.take-outcome.ensures.between
+pub returns-clause-crash_between : goal.returns-clause-crash_between
+returns-clause-crash_between g c = c.take-outcome.ensures.crash_between

@@ -9,18 +9,18 @@ use Rattle.archive_cli.proofs.Leaving.{init-first}
 use Rattle.archive_cli.proofs.Printed.{outcome-due}
 use Rattle.archive_cli.proofs.program.init.Goals as goal
 
-pub returns-in-Err-clause-any_moment : goal.returns-in-Err-clause-any_moment
-returns-in-Err-clause-any_moment g c =
+pub returns-in-Err-clause-crash : goal.returns-in-Err-clause-crash
+returns-in-Err-clause-crash g c =
     let disk = c.args.disk in
     let coming = g.C.Clock.coming c.args.clock.now in
     started g.D.Disk.moment g.D.Disk.left_since disk (InitLeaves c.args.config coming (g.D.Disk.content disk)) (λ image left. init-first c.args.config coming (g.D.Disk.content disk) image (g.met.D.Disk.only_now disk image left))
 
-pub returns-clause-any_moment : goal.returns-clause-any_moment
-returns-clause-any_moment g c =
+pub returns-clause-crash : goal.returns-clause-crash
+returns-clause-crash g c =
     let disk = c.args.disk in
     let k0 = g.D.Disk.content disk in
     let coming = g.C.Clock.coming c.args.clock.now in
-    let made = subst (λ (config : Config). LeavesOnly g.D.Disk.moment g.D.Disk.left_since disk c.make-outcome.result.1 (MakingLeaves (empty_archive config) k0)) c.config_at-config.ensures.at c.make-outcome.ensures.any_moment in
+    let made = subst (λ (config : Config). LeavesOnly g.D.Disk.moment g.D.Disk.left_since disk c.make-outcome.result.1 (MakingLeaves (empty_archive config) k0)) c.config_at-config.ensures.at c.make-outcome.ensures.crash in
     weaker g.D.Disk.moment g.D.Disk.left_since disk c.make-outcome.result.1 _ (InitLeaves c.args.config coming k0) made (λ image leaves. (c.in-Ok.moment, c.in-Ok.ensures.first, leaves))
 
 pub returns-clause-ends : goal.returns-clause-ends

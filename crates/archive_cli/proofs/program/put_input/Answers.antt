@@ -2,22 +2,22 @@ use Rattle.std.proofs.Common.{◌≡◌, inl, inr, refl, List, ℕ, subst}
 use Rattle.arch_model.specs.Archives.{Archive}
 use Rattle.arch_model.specs.Delivery.{Done}
 use Rattle.archive_core.specs.Commands.{FilesFor, IsForCommand, way_of}
-use Rattle.epoch_store.specs.Promises.{Way}
+use Rattle.epoch_store.specs.Promises.{WriteKind}
 use Rattle.archive_cli.specs.DiskCommands.{taking}
 use Rattle.archive_cli.specs.Program.{CommandActs, MessageActs, CommandLeaves, putting, putting_way, message_of}
-use Rattle.archive_cli.proofs.Committing.{still-between}
+use Rattle.archive_cli.proofs.Committing.{still-crash_between}
 use Rattle.archive_cli.proofs.Leaving.{message-first, message-runs}
 use Rattle.archive_cli.proofs.Printed.{unread-due, job-as, job-moved, message-as}
 use Rattle.archive_cli.proofs.program.put_input.Goals as goal
 
-pub returns-in-Err-Fault-clause-any_moment : goal.returns-in-Err-Fault-clause-any_moment
-returns-in-Err-Fault-clause-any_moment g c = message-first g.D.Disk.content g.D.Disk.moment g.D.Disk.left_since g.met.D.Disk.only_now (g.C.Clock.coming c.args.clock.now) (g.S.Source.left c.args.input.now) (putting_way c.args.place) (putting c.args.place) c.args.disk
+pub returns-in-Err-Fault-clause-crash : goal.returns-in-Err-Fault-clause-crash
+returns-in-Err-Fault-clause-crash g c = message-first g.D.Disk.content g.D.Disk.moment g.D.Disk.left_since g.met.D.Disk.only_now (g.C.Clock.coming c.args.clock.now) (g.S.Source.left c.args.input.now) (putting_way c.args.place) (putting c.args.place) c.args.disk
 
-pub returns-in-Err-TooLong-clause-any_moment : goal.returns-in-Err-TooLong-clause-any_moment
-returns-in-Err-TooLong-clause-any_moment g c = message-first g.D.Disk.content g.D.Disk.moment g.D.Disk.left_since g.met.D.Disk.only_now (g.C.Clock.coming c.args.clock.now) (g.S.Source.left c.args.input.now) (putting_way c.args.place) (putting c.args.place) c.args.disk
+pub returns-in-Err-TooLong-clause-crash : goal.returns-in-Err-TooLong-clause-crash
+returns-in-Err-TooLong-clause-crash g c = message-first g.D.Disk.content g.D.Disk.moment g.D.Disk.left_since g.met.D.Disk.only_now (g.C.Clock.coming c.args.clock.now) (g.S.Source.left c.args.input.now) (putting_way c.args.place) (putting c.args.place) c.args.disk
 
-pub returns-in-Err-NoMemory-clause-any_moment : goal.returns-in-Err-NoMemory-clause-any_moment
-returns-in-Err-NoMemory-clause-any_moment g c = message-first g.D.Disk.content g.D.Disk.moment g.D.Disk.left_since g.met.D.Disk.only_now (g.C.Clock.coming c.args.clock.now) (g.S.Source.left c.args.input.now) (putting_way c.args.place) (putting c.args.place) c.args.disk
+pub returns-in-Err-NoMemory-clause-crash : goal.returns-in-Err-NoMemory-clause-crash
+returns-in-Err-NoMemory-clause-crash g c = message-first g.D.Disk.content g.D.Disk.moment g.D.Disk.left_since g.met.D.Disk.only_now (g.C.Clock.coming c.args.clock.now) (g.S.Source.left c.args.input.now) (putting_way c.args.place) (putting c.args.place) c.args.disk
 
 pub returns-in-Err-TooLong-clause-ends : goal.returns-in-Err-TooLong-clause-ends
 returns-in-Err-TooLong-clause-ends g c = absurd (rw c.in-Err-TooLong.field-0-is at c.in-Err-TooLong.ensures.read)
@@ -39,23 +39,23 @@ returns-in-Ok-clause-ends g c =
           (job-as (CommandActs (way_of c.command_of.result) (FilesFor c.command_of.result) (IsForCommand c.command_of.result) (taking c.command_of.result)) (MessageActs place (message_of front.0)) c.carry_out.result.0 _ _ (message-as place c.as_slice.result.now front.0 (way_of c.command_of.result) (FilesFor c.command_of.result) (IsForCommand c.command_of.result) (taking c.command_of.result) c.command_of.ensures.way c.command_of.ensures.files c.command_of.ensures.answers c.command_of.ensures.wanted is) c.carry_out.ensures.ends),
     )
 
-pub returns-in-Ok-clause-any_moment : goal.returns-in-Ok-clause-any_moment
-returns-in-Ok-clause-any_moment g c =
+pub returns-in-Ok-clause-crash : goal.returns-in-Ok-clause-crash
+returns-in-Ok-clause-crash g c =
     let coming = g.C.Clock.coming c.args.clock.now in
     let place = c.args.place in
-    let by-way = subst (λ (y : Way). CommandLeaves g.D.Disk.content g.D.Disk.moment g.D.Disk.left_since c.args.disk c.carry_out.result.1 coming y (taking c.command_of.result)) c.command_of.ensures.way c.carry_out.ensures.any_moment in
+    let by-way = subst (λ (y : WriteKind). CommandLeaves g.D.Disk.content g.D.Disk.moment g.D.Disk.left_since c.args.disk c.carry_out.result.1 coming y (taking c.command_of.result)) c.command_of.ensures.way c.carry_out.ensures.crash in
     let run = subst (λ (w : ℕ → Archive → Done). CommandLeaves g.D.Disk.content g.D.Disk.moment g.D.Disk.left_since c.args.disk c.carry_out.result.1 coming (putting_way place) w) c.command_of.ensures.wanted by-way in
     message-runs g.D.Disk.content g.D.Disk.moment g.D.Disk.left_since coming (g.S.Source.left c.args.input.now) (putting_way place) (putting place) c.args.disk c.carry_out.result.1 c.in-Ok.bytes c.in-Ok.ensures.read.0
     (subst (λ (b : List ℕ). CommandLeaves g.D.Disk.content g.D.Disk.moment g.D.Disk.left_since c.args.disk c.carry_out.result.1 coming (putting_way place) (putting place b)) c.as_slice.ensures run)
 
-pub returns-in-Err-Fault-clause-between : goal.returns-in-Err-Fault-clause-between
-returns-in-Err-Fault-clause-between g c = still-between g.D.Disk.content g.D.Disk.moment g.D.Disk.left_since g.met.D.Disk.only_now c.args.disk
+pub returns-in-Err-Fault-clause-crash_between : goal.returns-in-Err-Fault-clause-crash_between
+returns-in-Err-Fault-clause-crash_between g c = still-crash_between g.D.Disk.content g.D.Disk.moment g.D.Disk.left_since g.met.D.Disk.only_now c.args.disk
 
-pub returns-in-Err-TooLong-clause-between : goal.returns-in-Err-TooLong-clause-between
-returns-in-Err-TooLong-clause-between g c = still-between g.D.Disk.content g.D.Disk.moment g.D.Disk.left_since g.met.D.Disk.only_now c.args.disk
+pub returns-in-Err-TooLong-clause-crash_between : goal.returns-in-Err-TooLong-clause-crash_between
+returns-in-Err-TooLong-clause-crash_between g c = still-crash_between g.D.Disk.content g.D.Disk.moment g.D.Disk.left_since g.met.D.Disk.only_now c.args.disk
 
-pub returns-in-Err-NoMemory-clause-between : goal.returns-in-Err-NoMemory-clause-between
-returns-in-Err-NoMemory-clause-between g c = still-between g.D.Disk.content g.D.Disk.moment g.D.Disk.left_since g.met.D.Disk.only_now c.args.disk
+pub returns-in-Err-NoMemory-clause-crash_between : goal.returns-in-Err-NoMemory-clause-crash_between
+returns-in-Err-NoMemory-clause-crash_between g c = still-crash_between g.D.Disk.content g.D.Disk.moment g.D.Disk.left_since g.met.D.Disk.only_now c.args.disk
 
-pub returns-in-Ok-clause-between : goal.returns-in-Ok-clause-between
-returns-in-Ok-clause-between g c = c.carry_out.ensures.between
+pub returns-in-Ok-clause-crash_between : goal.returns-in-Ok-clause-crash_between
+returns-in-Ok-clause-crash_between g c = c.carry_out.ensures.crash_between

@@ -10,7 +10,7 @@ use Rattle.archive_cli.specs.Words.{spelled}
 use Rattle.archive_cli.specs.declared.words.Job.TheVariants.{Help, Version, Replay, Load, Init, Deliver, Remove, Purge, Edit, Reindex, Check, Serve}
 use Rattle.archive_cli.specs.declared.status.Status.TheVariants as exit
 use Rattle.archive_cli.specs.declared.texts.TheConstants.{HELP, VERSION}
-use Rattle.archive_cli.proofs.Committing.{still-between}
+use Rattle.archive_cli.proofs.Committing.{still-crash_between}
 use Rattle.archive_cli.proofs.Grammar.{replay-config, init-config, same-serve}
 use Rattle.archive_cli.proofs.Printed.{ran-exactly, ran-replayed, ran-loaded, ran-made, ran-put, ran-command, ran-reindexed, ran-checked, ran-served, job-moved, some-moment}
 use Rattle.archive_cli.proofs.ServedDisk.{shut-faults}
@@ -123,44 +123,44 @@ returns-in-Some-Purge-clause-ends g c =
           (job-moved (CommandActs Renews (purge_files number) (AnswersPurge number) (purging number)) c.carry_out-status-in-Some-Purge.result.0 _ _ _ _ _ _ _ _ _ _ _ _ _ _ _ _ refl c.carry_out-status-in-Some-Purge.ensures.ends),
     )
 
-pub returns-in-Some-Init-clause-any_moment : goal.returns-in-Some-Init-clause-any_moment
-returns-in-Some-Init-clause-any_moment g c = ((Some (Init c.in-Some-Init.config)), rw c.in-Some-Init.field-0-is at c.in-Some-Init.ensures, c.init-status.ensures.any_moment)
+pub returns-in-Some-Init-clause-crash : goal.returns-in-Some-Init-clause-crash
+returns-in-Some-Init-clause-crash g c = ((Some (Init c.in-Some-Init.config)), rw c.in-Some-Init.field-0-is at c.in-Some-Init.ensures, c.init-status.ensures.crash)
 
-pub returns-in-Some-Deliver-clause-any_moment : goal.returns-in-Some-Deliver-clause-any_moment
-returns-in-Some-Deliver-clause-any_moment g c = ((Some Deliver), rw c.in-Some-Deliver.field-0-is at c.in-Some-Deliver.ensures, c.put_input-status.ensures.any_moment)
+pub returns-in-Some-Deliver-clause-crash : goal.returns-in-Some-Deliver-clause-crash
+returns-in-Some-Deliver-clause-crash g c = ((Some Deliver), rw c.in-Some-Deliver.field-0-is at c.in-Some-Deliver.ensures, c.put_input-status.ensures.crash)
 
-pub returns-in-Some-Remove-clause-any_moment : goal.returns-in-Some-Remove-clause-any_moment
-returns-in-Some-Remove-clause-any_moment g c = ((Some (Remove c.in-Some-Remove.number)), rw c.in-Some-Remove.field-0-is at c.in-Some-Remove.ensures, c.carry_out-status.ensures.any_moment)
+pub returns-in-Some-Remove-clause-crash : goal.returns-in-Some-Remove-clause-crash
+returns-in-Some-Remove-clause-crash g c = ((Some (Remove c.in-Some-Remove.number)), rw c.in-Some-Remove.field-0-is at c.in-Some-Remove.ensures, c.carry_out-status.ensures.crash)
 
-pub returns-in-Some-Purge-clause-any_moment : goal.returns-in-Some-Purge-clause-any_moment
-returns-in-Some-Purge-clause-any_moment g c = ((Some (Purge c.in-Some-Purge.number)), rw c.in-Some-Purge.field-0-is at c.in-Some-Purge.ensures, c.carry_out-status-in-Some-Purge.ensures.any_moment)
+pub returns-in-Some-Purge-clause-crash : goal.returns-in-Some-Purge-clause-crash
+returns-in-Some-Purge-clause-crash g c = ((Some (Purge c.in-Some-Purge.number)), rw c.in-Some-Purge.field-0-is at c.in-Some-Purge.ensures, c.carry_out-status-in-Some-Purge.ensures.crash)
 
-pub returns-in-Some-Edit-clause-any_moment : goal.returns-in-Some-Edit-clause-any_moment
-returns-in-Some-Edit-clause-any_moment g c = ((Some (Edit c.in-Some-Edit.number)), rw c.in-Some-Edit.field-0-is at c.in-Some-Edit.ensures, c.put_input-status-in-Some-Edit.ensures.any_moment)
+pub returns-in-Some-Edit-clause-crash : goal.returns-in-Some-Edit-clause-crash
+returns-in-Some-Edit-clause-crash g c = ((Some (Edit c.in-Some-Edit.number)), rw c.in-Some-Edit.field-0-is at c.in-Some-Edit.ensures, c.put_input-status-in-Some-Edit.ensures.crash)
 
-pub returns-in-Some-Reindex-clause-any_moment : goal.returns-in-Some-Reindex-clause-any_moment
-returns-in-Some-Reindex-clause-any_moment g c = ((Some Reindex), rw c.in-Some-Reindex.field-0-is at c.in-Some-Reindex.ensures, c.reindex-outcome.ensures.any_moment)
+pub returns-in-Some-Reindex-clause-crash : goal.returns-in-Some-Reindex-clause-crash
+returns-in-Some-Reindex-clause-crash g c = ((Some Reindex), rw c.in-Some-Reindex.field-0-is at c.in-Some-Reindex.ensures, c.reindex-outcome.ensures.crash)
 
-pub returns-in-Some-Check-clause-any_moment : goal.returns-in-Some-Check-clause-any_moment
-returns-in-Some-Check-clause-any_moment g c = ((Some Check), rw c.in-Some-Check.field-0-is at c.in-Some-Check.ensures, c.check-outcome.ensures.any_moment)
+pub returns-in-Some-Check-clause-crash : goal.returns-in-Some-Check-clause-crash
+returns-in-Some-Check-clause-crash g c = ((Some Check), rw c.in-Some-Check.field-0-is at c.in-Some-Check.ensures, c.check-outcome.ensures.crash)
 
-pub returns-in-Some-Help-clause-any_moment : goal.returns-in-Some-Help-clause-any_moment
-returns-in-Some-Help-clause-any_moment g c = ((Some Help), rw c.in-Some-Help.field-0-is at c.in-Some-Help.ensures, refl)
+pub returns-in-Some-Help-clause-crash : goal.returns-in-Some-Help-clause-crash
+returns-in-Some-Help-clause-crash g c = ((Some Help), rw c.in-Some-Help.field-0-is at c.in-Some-Help.ensures, refl)
 
-pub returns-in-Some-Version-clause-any_moment : goal.returns-in-Some-Version-clause-any_moment
-returns-in-Some-Version-clause-any_moment g c = ((Some Version), rw c.in-Some-Version.field-0-is at c.in-Some-Version.ensures, refl)
+pub returns-in-Some-Version-clause-crash : goal.returns-in-Some-Version-clause-crash
+returns-in-Some-Version-clause-crash g c = ((Some Version), rw c.in-Some-Version.field-0-is at c.in-Some-Version.ensures, refl)
 
-pub returns-in-Some-Replay-clause-any_moment : goal.returns-in-Some-Replay-clause-any_moment
-returns-in-Some-Replay-clause-any_moment g c = ((Some (Replay c.in-Some-Replay.config)), rw c.in-Some-Replay.field-0-is at c.in-Some-Replay.ensures, refl)
+pub returns-in-Some-Replay-clause-crash : goal.returns-in-Some-Replay-clause-crash
+returns-in-Some-Replay-clause-crash g c = ((Some (Replay c.in-Some-Replay.config)), rw c.in-Some-Replay.field-0-is at c.in-Some-Replay.ensures, refl)
 
-pub returns-in-Some-Load-clause-any_moment : goal.returns-in-Some-Load-clause-any_moment
-returns-in-Some-Load-clause-any_moment g c = ((Some (Load c.in-Some-Load.count c.in-Some-Load.seed)), rw c.in-Some-Load.field-0-is at c.in-Some-Load.ensures, refl)
+pub returns-in-Some-Load-clause-crash : goal.returns-in-Some-Load-clause-crash
+returns-in-Some-Load-clause-crash g c = ((Some (Load c.in-Some-Load.count c.in-Some-Load.seed)), rw c.in-Some-Load.field-0-is at c.in-Some-Load.ensures, refl)
 
-pub returns-in-Some-Serve-clause-any_moment : goal.returns-in-Some-Serve-clause-any_moment
-returns-in-Some-Serve-clause-any_moment g c = ((Some (Serve c.in-Some-Serve.turns c.in-Some-Serve._port)), rw c.in-Some-Serve.field-0-is at c.in-Some-Serve.ensures, tt)
+pub returns-in-Some-Serve-clause-crash : goal.returns-in-Some-Serve-clause-crash
+returns-in-Some-Serve-clause-crash g c = ((Some (Serve c.in-Some-Serve.turns c.in-Some-Serve._port)), rw c.in-Some-Serve.field-0-is at c.in-Some-Serve.ensures, tt)
 
-pub returns-in-None-clause-any_moment : goal.returns-in-None-clause-any_moment
-returns-in-None-clause-any_moment g c = (None, c.in-None.ensures, refl)
+pub returns-in-None-clause-crash : goal.returns-in-None-clause-crash
+returns-in-None-clause-crash g c = (None, c.in-None.ensures, refl)
 
 pub returns-in-Some-Init-clause-clock : goal.returns-in-Some-Init-clause-clock
 returns-in-Some-Init-clause-clock g c = λ none. absurd (none (inl (c.in-Some-Init.config, rw c.in-Some-Init.field-0-is at c.in-Some-Init.ensures)))
@@ -177,41 +177,41 @@ returns-in-Some-Remove-clause-clock g c = λ none. absurd (none (inr (inr (inl (
 pub returns-in-Some-Purge-clause-clock : goal.returns-in-Some-Purge-clause-clock
 returns-in-Some-Purge-clause-clock g c = λ none. absurd (none (inr (inr (inr (c.in-Some-Purge.number, rw c.in-Some-Purge.field-0-is at c.in-Some-Purge.ensures)))))
 
-pub returns-in-None-clause-between : goal.returns-in-None-clause-between
-returns-in-None-clause-between g c = λ made serves. still-between g.D.Disk.content g.D.Disk.moment g.D.Disk.left_since g.met.D.Disk.only_now c.args.disk
+pub returns-in-None-clause-crash_between : goal.returns-in-None-clause-crash_between
+returns-in-None-clause-crash_between g c = λ made serves. still-crash_between g.D.Disk.content g.D.Disk.moment g.D.Disk.left_since g.met.D.Disk.only_now c.args.disk
 
-pub returns-in-Some-Help-clause-between : goal.returns-in-Some-Help-clause-between
-returns-in-Some-Help-clause-between g c = λ made serves. still-between g.D.Disk.content g.D.Disk.moment g.D.Disk.left_since g.met.D.Disk.only_now c.args.disk
+pub returns-in-Some-Help-clause-crash_between : goal.returns-in-Some-Help-clause-crash_between
+returns-in-Some-Help-clause-crash_between g c = λ made serves. still-crash_between g.D.Disk.content g.D.Disk.moment g.D.Disk.left_since g.met.D.Disk.only_now c.args.disk
 
-pub returns-in-Some-Version-clause-between : goal.returns-in-Some-Version-clause-between
-returns-in-Some-Version-clause-between g c = λ made serves. still-between g.D.Disk.content g.D.Disk.moment g.D.Disk.left_since g.met.D.Disk.only_now c.args.disk
+pub returns-in-Some-Version-clause-crash_between : goal.returns-in-Some-Version-clause-crash_between
+returns-in-Some-Version-clause-crash_between g c = λ made serves. still-crash_between g.D.Disk.content g.D.Disk.moment g.D.Disk.left_since g.met.D.Disk.only_now c.args.disk
 
-pub returns-in-Some-Replay-clause-between : goal.returns-in-Some-Replay-clause-between
-returns-in-Some-Replay-clause-between g c = λ made serves. still-between g.D.Disk.content g.D.Disk.moment g.D.Disk.left_since g.met.D.Disk.only_now c.args.disk
+pub returns-in-Some-Replay-clause-crash_between : goal.returns-in-Some-Replay-clause-crash_between
+returns-in-Some-Replay-clause-crash_between g c = λ made serves. still-crash_between g.D.Disk.content g.D.Disk.moment g.D.Disk.left_since g.met.D.Disk.only_now c.args.disk
 
-pub returns-in-Some-Load-clause-between : goal.returns-in-Some-Load-clause-between
-returns-in-Some-Load-clause-between g c = λ made serves. still-between g.D.Disk.content g.D.Disk.moment g.D.Disk.left_since g.met.D.Disk.only_now c.args.disk
+pub returns-in-Some-Load-clause-crash_between : goal.returns-in-Some-Load-clause-crash_between
+returns-in-Some-Load-clause-crash_between g c = λ made serves. still-crash_between g.D.Disk.content g.D.Disk.moment g.D.Disk.left_since g.met.D.Disk.only_now c.args.disk
 
-pub returns-in-Some-Deliver-clause-between : goal.returns-in-Some-Deliver-clause-between
-returns-in-Some-Deliver-clause-between g c = λ made serves. c.put_input-status.ensures.between
+pub returns-in-Some-Deliver-clause-crash_between : goal.returns-in-Some-Deliver-clause-crash_between
+returns-in-Some-Deliver-clause-crash_between g c = λ made serves. c.put_input-status.ensures.crash_between
 
-pub returns-in-Some-Remove-clause-between : goal.returns-in-Some-Remove-clause-between
-returns-in-Some-Remove-clause-between g c = λ made serves. c.carry_out-status.ensures.between
+pub returns-in-Some-Remove-clause-crash_between : goal.returns-in-Some-Remove-clause-crash_between
+returns-in-Some-Remove-clause-crash_between g c = λ made serves. c.carry_out-status.ensures.crash_between
 
-pub returns-in-Some-Purge-clause-between : goal.returns-in-Some-Purge-clause-between
-returns-in-Some-Purge-clause-between g c = λ made serves. c.carry_out-status-in-Some-Purge.ensures.between
+pub returns-in-Some-Purge-clause-crash_between : goal.returns-in-Some-Purge-clause-crash_between
+returns-in-Some-Purge-clause-crash_between g c = λ made serves. c.carry_out-status-in-Some-Purge.ensures.crash_between
 
-pub returns-in-Some-Edit-clause-between : goal.returns-in-Some-Edit-clause-between
-returns-in-Some-Edit-clause-between g c = λ made serves. c.put_input-status-in-Some-Edit.ensures.between
+pub returns-in-Some-Edit-clause-crash_between : goal.returns-in-Some-Edit-clause-crash_between
+returns-in-Some-Edit-clause-crash_between g c = λ made serves. c.put_input-status-in-Some-Edit.ensures.crash_between
 
-pub returns-in-Some-Reindex-clause-between : goal.returns-in-Some-Reindex-clause-between
-returns-in-Some-Reindex-clause-between g c = λ made serves. c.reindex-outcome.ensures.between
+pub returns-in-Some-Reindex-clause-crash_between : goal.returns-in-Some-Reindex-clause-crash_between
+returns-in-Some-Reindex-clause-crash_between g c = λ made serves. c.reindex-outcome.ensures.crash_between
 
-pub returns-in-Some-Check-clause-between : goal.returns-in-Some-Check-clause-between
-returns-in-Some-Check-clause-between g c = λ made serves. c.check-outcome.ensures.between
+pub returns-in-Some-Check-clause-crash_between : goal.returns-in-Some-Check-clause-crash_between
+returns-in-Some-Check-clause-crash_between g c = λ made serves. c.check-outcome.ensures.crash_between
 
-pub returns-in-Some-Init-clause-between : goal.returns-in-Some-Init-clause-between
-returns-in-Some-Init-clause-between g c = λ made serves. absurd (made (c.in-Some-Init.config, rw c.in-Some-Init.field-0-is at c.in-Some-Init.ensures))
+pub returns-in-Some-Init-clause-crash_between : goal.returns-in-Some-Init-clause-crash_between
+returns-in-Some-Init-clause-crash_between g c = λ made serves. absurd (made (c.in-Some-Init.config, rw c.in-Some-Init.field-0-is at c.in-Some-Init.ensures))
 
-pub returns-in-Some-Serve-clause-between : goal.returns-in-Some-Serve-clause-between
-returns-in-Some-Serve-clause-between g c = λ made serves. absurd (serves c.in-Some-Serve.turns c.in-Some-Serve._port (rw c.in-Some-Serve.field-0-is at c.in-Some-Serve.ensures))
+pub returns-in-Some-Serve-clause-crash_between : goal.returns-in-Some-Serve-clause-crash_between
+returns-in-Some-Serve-clause-crash_between g c = λ made serves. absurd (serves c.in-Some-Serve.turns c.in-Some-Serve._port (rw c.in-Some-Serve.field-0-is at c.in-Some-Serve.ensures))

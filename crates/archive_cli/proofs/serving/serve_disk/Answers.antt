@@ -32,7 +32,7 @@ returns-in-Ok-clause-serves g c =
         opened = c.in-Ok.engine.disk;
         settles = (c.in-Ok.engine.view, opened.answer, opened.kept, opened.done, opened.settled);
         crash = opened.first;
-        between = opened.between;
+        crash_between = opened.crash_between;
         first = disk-stage first;
         begins = record { unopened = c.new-node.ensures.none; count = c.new-node.ensures.count; out_is = out };
         stages = disk-stages served.stages;
@@ -43,7 +43,7 @@ returns-in-Ok-clause-serves g c =
         records = λ past noted. subst (λ (os : List Outputs). g.H.Host.recorded c.serve-end.new.host (past ++ os)) (sym (noted-disk served.none first served.stages last)) (served.records past noted);
         served = λ a cache reads.
             served-on content moment left g.met.D.Disk.counts_now g.met.D.Disk.only_now g.met.D.Disk.reads_fit (λ e b may held has. store-left content moment left g.met.D.Disk.counts_now g.met.D.Disk.only_now e b may (held.0, held.1) has) c.law_of_recovery.ensures.some_one c.law_of_recovery.ensures.caches c.law_of_numbers.ensures.itself c.law_of_commands.ensures.follows a cache
-            c.args.disk c.in-Ok.engine c.new-node.result c.serve-end.new.node served.arrivals served.stages _ _ c.new-node.ensures.keep (opened.done a cache reads) (c.in-Ok.ensures.rows a cache reads) opened.settled opened.first opened.between (opened-went c.in-Ok.engine.view (content c.args.disk) (content c.in-Ok.engine.disk) (g.met.D.Disk.reads_fit c.args.disk) opened.answer opened.kept opened.settled)
+            c.args.disk c.in-Ok.engine c.new-node.result c.serve-end.new.node served.arrivals served.stages _ _ c.new-node.ensures.keep (opened.done a cache reads) (c.in-Ok.ensures.rows a cache reads) opened.settled opened.first opened.crash_between (opened-went c.in-Ok.engine.view (content c.args.disk) (content c.in-Ok.engine.disk) (g.met.D.Disk.reads_fit c.args.disk) opened.answer opened.kept opened.settled)
             (λ t fits. served.runs t fits) reads;
       }),
       c.print_end.ensures.printed,
@@ -59,7 +59,7 @@ returns-in-Err-clause-serves g c =
         answer = opened.answer;
         unopened = c.in-Err.ensures.refused;
         crash = opened.before;
-        between = opened.between;
+        crash_between = opened.crash_between;
         stands = λ s cache all. unopened-stands g.D.Disk.content g.D.Disk.moment g.D.Disk.left_since g.met.D.Disk.counts_now g.met.D.Disk.reads_fit s cache c.args.disk c.in-Err.field-0.disk why all opened.before opened.well opened.first;
         cause = shut-cause (g.D.Disk.faults c.args.disk) (g.D.Disk.faults c.in-Err.field-0.disk) why opened.cause;
         records = λ past noted. noted;

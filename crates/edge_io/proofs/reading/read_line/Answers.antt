@@ -1,12 +1,12 @@
 use Rattle.std.proofs.Common.{arith}
 use Rattle.std.specs.Fmt.{decimal}
 use Rattle.edge_io.specs.Events.{words_of}
-use Rattle.edge_io.proofs.Dividing.{Lacks-divided, same_parts}
+use Rattle.edge_io.proofs.Dividing.{LacksByte-divided, same_parts}
 use Rattle.edge_io.proofs.Numerals.{decimal-lacks}
 use Rattle.edge_io.proofs.reading.read_line.Goals as goal
 
 pub returns-in_err-parts : goal.returns-in_err-parts
-returns-in_err-parts c = rw c.from_residual.ensures (λ x is e. Lacks-divided 32 c.args.line.now (decimal x.moment) (words_of x.what) c.in_err-parts.ensures e)
+returns-in_err-parts c = rw c.from_residual.ensures (λ x is e. LacksByte-divided 32 c.args.line.now (decimal x.moment) (words_of x.what) c.in_err-parts.ensures e)
 
 pub returns-in_err-moment : goal.returns-in_err-moment
 returns-in_err-moment c = rw c.from_residual-in_err-moment.ensures (λ x is e. c.in_err-moment.ensures (x.moment) (is.moment)

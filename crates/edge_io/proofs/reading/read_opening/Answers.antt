@@ -1,12 +1,12 @@
 use Rattle.std.proofs.Common.{arith}
 use Rattle.std.specs.Fmt.{decimal}
 use Rattle.edge_io.specs.Events.{door_word}
-use Rattle.edge_io.proofs.Dividing.{Lacks-divided, same_parts}
+use Rattle.edge_io.proofs.Dividing.{LacksByte-divided, same_parts}
 use Rattle.edge_io.proofs.Numerals.{decimal-lacks}
 use Rattle.edge_io.proofs.reading.read_opening.Goals as goal
 
 pub returns-in_err-parts : goal.returns-in_err-parts
-returns-in_err-parts c = rw c.from_residual.ensures (λ x is e. Lacks-divided 32 c.args.words.now (decimal x.0) (door_word x.1) c.in_err-parts.ensures e)
+returns-in_err-parts c = rw c.from_residual.ensures (λ x is e. LacksByte-divided 32 c.args.words.now (decimal x.0) (door_word x.1) c.in_err-parts.ensures e)
 
 pub returns-in_err-conn : goal.returns-in_err-conn
 returns-in_err-conn c = rw c.from_residual-in_err-conn.ensures (λ x is e. c.in_err-conn.ensures (x.0) (is.0)

@@ -2,7 +2,7 @@
 use Rattle.std.proofs.Common.{◌≡◌, ℕ, List, true, Ok, Err, sym, subst}
 use Rattle.std.proofs.lemmas.Result.{err_from_is_err_and}
 use Rattle.disk_model.specs.BesideLaws.{run_joined}
-use Rattle.disk_model.specs.Disk.{Told}
+use Rattle.disk_model.specs.Disk.{BothTold}
 use Rattle.root_change.specs.declared.sources.Source.{Source}
 use Rattle.root_change.specs.Gathering.{AreSources, HasSources, PutSources}
 use Rattle.root_change.proofs.Others.{others_then, others_unchanged, run_looked}
@@ -39,16 +39,16 @@ returns-in_err-plan-clause-others g c =
     let content = g.D.Disk.content in
     others_unchanged c.args.to (content c.args.disk.now) (content c.plan_file.new.disk) (unchanged_then (content c.args.disk.now) (content c.walk.new.disk) (content c.plan_file.new.disk) c.walk.ensures.same c.plan_file.ensures.same)
 
-pub returns-in_err-plan-clause-beside : goal.returns-in_err-plan-clause-beside
-returns-in_err-plan-clause-beside g c = λ bounds far.
+pub returns-in_err-plan-clause-crash_beside : goal.returns-in_err-plan-clause-crash_beside
+returns-in_err-plan-clause-crash_beside g c = λ bounds far.
     let content = g.D.Disk.content in
     let disk = c.args.disk.now in
     let d1 = c.walk.new.disk in
     let d2 = c.plan_file.new.disk in
     let moment = g.D.Disk.moment in
     let left_since = g.D.Disk.left_since in
-    let looked = run_joined content moment left_since bounds disk d1 d2 (run_looked content moment left_since bounds disk d1 c.walk.ensures.any_moment c.walk.ensures.same)
-    (run_looked content moment left_since bounds d1 d2 c.plan_file.ensures.any_moment c.plan_file.ensures.same) in
+    let looked = run_joined content moment left_since bounds disk d1 d2 (run_looked content moment left_since bounds disk d1 c.walk.ensures.crash c.walk.ensures.same)
+    (run_looked content moment left_since bounds d1 d2 c.plan_file.ensures.crash c.plan_file.ensures.same) in
     looked
 
 pub returns-in_err-whole-clause-others : goal.returns-in_err-whole-clause-others
@@ -56,51 +56,51 @@ returns-in_err-whole-clause-others g c =
     let content = g.D.Disk.content in
     others_then c.args.to (content c.args.disk.now) (content c.plan_file.new.disk) (content c.put_sources.new.disk) (others_unchanged c.args.to (content c.args.disk.now) (content c.plan_file.new.disk) (unchanged_then (content c.args.disk.now) (content c.walk.new.disk) (content c.plan_file.new.disk) c.walk.ensures.same c.plan_file.ensures.same)) c.put_sources.ensures.others
 
-pub returns-in_err-whole-clause-beside : goal.returns-in_err-whole-clause-beside
-returns-in_err-whole-clause-beside g c = λ bounds far.
+pub returns-in_err-whole-clause-crash_beside : goal.returns-in_err-whole-clause-crash_beside
+returns-in_err-whole-clause-crash_beside g c = λ bounds far.
     let content = g.D.Disk.content in
     let disk = c.args.disk.now in
     let d1 = c.walk.new.disk in
     let d2 = c.plan_file.new.disk in
     let moment = g.D.Disk.moment in
     let left_since = g.D.Disk.left_since in
-    let looked = run_joined content moment left_since bounds disk d1 d2 (run_looked content moment left_since bounds disk d1 c.walk.ensures.any_moment c.walk.ensures.same)
-    (run_looked content moment left_since bounds d1 d2 c.plan_file.ensures.any_moment c.plan_file.ensures.same) in
-    run_joined content moment left_since bounds disk d2 c.put_sources.new.disk looked (c.put_sources.ensures.beside bounds far)
+    let looked = run_joined content moment left_since bounds disk d1 d2 (run_looked content moment left_since bounds disk d1 c.walk.ensures.crash c.walk.ensures.same)
+    (run_looked content moment left_since bounds d1 d2 c.plan_file.ensures.crash c.plan_file.ensures.same) in
+    run_joined content moment left_since bounds disk d2 c.put_sources.new.disk looked (c.put_sources.ensures.crash_beside bounds far)
 
 pub returns-then-not-whole-clause-others : goal.returns-then-not-whole-clause-others
 returns-then-not-whole-clause-others g c =
     let content = g.D.Disk.content in
     others_then c.args.to (content c.args.disk.now) (content c.plan_file.new.disk) (content c.put_sources.new.disk) (others_unchanged c.args.to (content c.args.disk.now) (content c.plan_file.new.disk) (unchanged_then (content c.args.disk.now) (content c.walk.new.disk) (content c.plan_file.new.disk) c.walk.ensures.same c.plan_file.ensures.same)) c.put_sources.ensures.others
 
-pub returns-then-not-whole-clause-beside : goal.returns-then-not-whole-clause-beside
-returns-then-not-whole-clause-beside g c = λ bounds far.
+pub returns-then-not-whole-clause-crash_beside : goal.returns-then-not-whole-clause-crash_beside
+returns-then-not-whole-clause-crash_beside g c = λ bounds far.
     let content = g.D.Disk.content in
     let disk = c.args.disk.now in
     let d1 = c.walk.new.disk in
     let d2 = c.plan_file.new.disk in
     let moment = g.D.Disk.moment in
     let left_since = g.D.Disk.left_since in
-    let looked = run_joined content moment left_since bounds disk d1 d2 (run_looked content moment left_since bounds disk d1 c.walk.ensures.any_moment c.walk.ensures.same)
-    (run_looked content moment left_since bounds d1 d2 c.plan_file.ensures.any_moment c.plan_file.ensures.same) in
-    run_joined content moment left_since bounds disk d2 c.put_sources.new.disk looked (c.put_sources.ensures.beside bounds far)
+    let looked = run_joined content moment left_since bounds disk d1 d2 (run_looked content moment left_since bounds disk d1 c.walk.ensures.crash c.walk.ensures.same)
+    (run_looked content moment left_since bounds d1 d2 c.plan_file.ensures.crash c.plan_file.ensures.same) in
+    run_joined content moment left_since bounds disk d2 c.put_sources.new.disk looked (c.put_sources.ensures.crash_beside bounds far)
 
 pub returns-clause-others : goal.returns-clause-others
 returns-clause-others g c =
     let content = g.D.Disk.content in
     others_then c.args.to (content c.args.disk.now) (content c.plan_file.new.disk) (content c.put_sources.new.disk) (others_unchanged c.args.to (content c.args.disk.now) (content c.plan_file.new.disk) (unchanged_then (content c.args.disk.now) (content c.walk.new.disk) (content c.plan_file.new.disk) c.walk.ensures.same c.plan_file.ensures.same)) c.put_sources.ensures.others
 
-pub returns-clause-beside : goal.returns-clause-beside
-returns-clause-beside g c = λ bounds far.
+pub returns-clause-crash_beside : goal.returns-clause-crash_beside
+returns-clause-crash_beside g c = λ bounds far.
     let content = g.D.Disk.content in
     let disk = c.args.disk.now in
     let d1 = c.walk.new.disk in
     let d2 = c.plan_file.new.disk in
     let moment = g.D.Disk.moment in
     let left_since = g.D.Disk.left_since in
-    let looked = run_joined content moment left_since bounds disk d1 d2 (run_looked content moment left_since bounds disk d1 c.walk.ensures.any_moment c.walk.ensures.same)
-    (run_looked content moment left_since bounds d1 d2 c.plan_file.ensures.any_moment c.plan_file.ensures.same) in
-    run_joined content moment left_since bounds disk d2 c.put_sources.new.disk looked (c.put_sources.ensures.beside bounds far)
+    let looked = run_joined content moment left_since bounds disk d1 d2 (run_looked content moment left_since bounds disk d1 c.walk.ensures.crash c.walk.ensures.same)
+    (run_looked content moment left_since bounds d1 d2 c.plan_file.ensures.crash c.plan_file.ensures.same) in
+    run_joined content moment left_since bounds disk d2 c.put_sources.new.disk looked (c.put_sources.ensures.crash_beside bounds far)
 
 pub returns-then-not-whole-clause-rewritten : goal.returns-then-not-whole-clause-rewritten
 returns-then-not-whole-clause-rewritten g c =
@@ -124,7 +124,7 @@ returns-clause-rewritten g c =
     let k = content c.args.disk.now in
     let m = content c.plan_file.new.disk in
     let o = content c.put_sources.new.disk in
-    let put = subst (λ (bytes : List ℕ). Told (PutSources bytes plan.sources c.args.to 0) m o) c.bytes.ensures
-    (subst (λ (sources : List Source). Told (PutSources c.bytes.result.now sources c.args.to 0) m o) c.sources.ensures (c.in_ok-whole.ensures.put c.if-not-whole.false)) in
+    let put = subst (λ (bytes : List ℕ). BothTold (PutSources bytes plan.sources c.args.to 0) m o) c.bytes.ensures
+    (subst (λ (sources : List Source). BothTold (PutSources c.bytes.result.now sources c.args.to 0) m o) c.sources.ensures (c.in_ok-whole.ensures.put c.if-not-whole.false)) in
     written_whole c.args.from c.args.count c.args.to seen gone plan c.count.result k m o c.in_ok-seen.ensures.walked
     (told_back (PlansFile c.args.from c.args.count seen gone (Ok plan)) k (content c.walk.new.disk) c.walk.ensures.same c.in_ok-plan.ensures.planned) c.count.ensures.count (unchanged_then (content c.args.disk.now) (content c.walk.new.disk) (content c.plan_file.new.disk) c.walk.ensures.same c.plan_file.ensures.same) put

@@ -2,13 +2,13 @@ use Rattle.std.proofs.Common.{◌≡◌, ◌+◌, ◌-◌, ◌≤◌, length}
 use Rattle.disk_model.specs.Disk.{WhereTold}
 use Rattle.epoch_file.specs.Runs.{OnlyReads}
 use Rattle.epoch_file.specs.Steps.{KeepsShown}
-use Rattle.epoch_file.specs.Windows.{IsInside}
+use Rattle.epoch_file.specs.Windows.{IsInsidePart}
 use Rattle.epoch_file.proofs.walking.bring.Given as goal
 
 abbrev pub invariant-loop-alloc : goal.invariant-loop-alloc
 invariant-loop-alloc g l = record {
   keeps : WhereTold (KeepsShown l.part l.fn.window l.window) (g.D.Disk.content l.fn.disk);
-  inside : IsInside l.part l.window;
+  inside : IsInsidePart l.part l.window;
   room : 8 ≤ length l.piece;
   reads : OnlyReads g.D.Disk.content g.D.Disk.moment g.D.Disk.left_since g.D.Disk.faults l.fn.disk l.disk;
   kept : g.D.Disk.faults l.disk ≡ g.D.Disk.faults l.fn.disk;

@@ -3,7 +3,7 @@ use Rattle.disk_model.specs.Disk.{WhereTold}
 use Rattle.epoch_file.specs.Runs.{OnlyReads}
 use Rattle.epoch_file.specs.Lying.{LieIn}
 use Rattle.epoch_file.specs.Steps.{KeepsWalked, SamePart}
-use Rattle.epoch_file.specs.Windows.{IsInside}
+use Rattle.epoch_file.specs.Windows.{IsInsidePart}
 use Rattle.epoch_file.proofs.walking.go_on.Given as goal
 
 abbrev pub invariant-loop-alloc : goal.invariant-loop-alloc
@@ -11,7 +11,7 @@ invariant-loop-alloc g l = record {
   keeps : WhereTold (KeepsWalked l.fn.start l.state) (g.D.Disk.content l.fn.disk);
   part : SamePart l.fn.start.part l.state.part;
   lie : LieIn 0 l.state.part.offset l.state.seen;
-  inside : IsInside l.state.part l.state.window;
+  inside : IsInsidePart l.state.part l.state.window;
   room : 8 ≤ length l.piece;
   reads : OnlyReads g.D.Disk.content g.D.Disk.moment g.D.Disk.left_since g.D.Disk.faults l.fn.disk l.disk;
   kept : g.D.Disk.faults l.disk ≡ g.D.Disk.faults l.fn.disk;

@@ -6,8 +6,8 @@ use Rattle.epoch_store.specs.First.{MakesRoot}
 use Rattle.epoch_store.proofs.Making.{shut_fewer, shut_removed, shut_begun, first_step, only_on_ok, told_through}
 use Rattle.epoch_store.proofs.first.make.Goals as goal
 
-pub returns-in_err-begin-clause-any_moment : goal.returns-in_err-begin-clause-any_moment
-returns-in_err-begin-clause-any_moment g c = λ shut.
+pub returns-in_err-begin-clause-crash : goal.returns-in_err-begin-clause-crash
+returns-in_err-begin-clause-crash g c = λ shut.
     let disk = c.args.disk.now in
     let mid = c.remove_files.new.disk in
     let k0 = g.D.Disk.content disk in
@@ -15,12 +15,12 @@ returns-in_err-begin-clause-any_moment g c = λ shut.
     let body = spelling c.args.root.now in
     let names = c.args.names.now in
     let removed = c.in_ok-remove_files.ensures.done in
-    joined g.D.Disk.moment g.D.Disk.left_since disk mid c.begin.new.disk _ _ (MakesRoot body k0) c.remove_files.ensures.any_moment (c.begin.ensures.any_moment (shut_removed body names k0 k1 shut removed))
+    joined g.D.Disk.moment g.D.Disk.left_since disk mid c.begin.new.disk _ _ (MakesRoot body k0) c.remove_files.ensures.crash (c.begin.ensures.crash (shut_removed body names k0 k1 shut removed))
     (λ image. shut_fewer body names k0 image shut)
     (λ image. shut_begun body names k0 k1 image removed)
 
-pub returns-clause-any_moment : goal.returns-clause-any_moment
-returns-clause-any_moment g c = λ shut.
+pub returns-clause-crash : goal.returns-clause-crash
+returns-clause-crash g c = λ shut.
     let disk = c.args.disk.now in
     let mid = c.remove_files.new.disk in
     let begun = c.begin.new.disk in
@@ -30,10 +30,10 @@ returns-clause-any_moment g c = λ shut.
     let body = spelling c.args.root.now in
     let names = c.args.names.now in
     let removed = c.in_ok-remove_files.ensures.done in
-    let first = joined g.D.Disk.moment g.D.Disk.left_since disk mid begun _ _ (MakesRoot body k0) c.remove_files.ensures.any_moment (c.begin.ensures.any_moment (shut_removed body names k0 k1 shut removed))
+    let first = joined g.D.Disk.moment g.D.Disk.left_since disk mid begun _ _ (MakesRoot body k0) c.remove_files.ensures.crash (c.begin.ensures.crash (shut_removed body names k0 k1 shut removed))
     (λ image. shut_fewer body names k0 image shut)
     (λ image. shut_begun body names k0 k1 image removed) in
-    first_step g.D.Disk.moment g.D.Disk.left_since g.D.Disk.content disk mid begun c.raise_first.new.disk body names k0 k1 k2 removed c.in_ok-begin.ensures.made first c.raise_first.ensures.any_moment c.raise_first.ensures.time
+    first_step g.D.Disk.moment g.D.Disk.left_since g.D.Disk.content disk mid begun c.raise_first.new.disk body names k0 k1 k2 removed c.in_ok-begin.ensures.made first c.raise_first.ensures.crash c.raise_first.ensures.time
 
 pub returns-clause-done : goal.returns-clause-done
 returns-clause-done g c = λ all some.

@@ -9,16 +9,16 @@ use Rattle.epoch_store.specs.First.{ShutOrFirst}
 use Rattle.epoch_store.proofs.FirstRoots.{during_body, body_filled, during_gate, gate_opened, size_filled, first_committed, first_written}
 use Rattle.epoch_store.proofs.first.raise_first.Goals as goal
 
-pub returns-in_err-fill-clause-any_moment : goal.returns-in_err-fill-clause-any_moment
-returns-in_err-fill-clause-any_moment g c = λ zeros.
+pub returns-in_err-fill-clause-crash : goal.returns-in_err-fill-clause-crash
+returns-in_err-fill-clause-crash g c = λ zeros.
     let disk = c.args.disk.now in
     let k0 = g.D.Disk.content disk in
     let body = spelling c.args.root.now in
-    weaker g.D.Disk.moment g.D.Disk.left_since disk c.fill.new.disk _ (ShutOrFirst body k0) c.fill.ensures.any_moment
+    weaker g.D.Disk.moment g.D.Disk.left_since disk c.fill.new.disk _ (ShutOrFirst body k0) c.fill.ensures.crash
     (λ image. during_body body c.fill.ensures.whole k0 image (g.met.D.Disk.reads_fit disk) c.requires.size zeros)
 
-pub returns-clause-any_moment : goal.returns-clause-any_moment
-returns-clause-any_moment g c = λ zeros.
+pub returns-clause-crash : goal.returns-clause-crash
+returns-clause-crash g c = λ zeros.
     let disk = c.args.disk.now in
     let mid = c.fill.new.disk in
     let k0 = g.D.Disk.content disk in
@@ -28,7 +28,7 @@ returns-clause-any_moment g c = λ zeros.
     let fit0 = g.met.D.Disk.reads_fit disk in
     let filled = body_filled body whole k0 k1 fit0 zeros c.in_ok-fill.ensures.written in
     let size = size_filled body whole k0 k1 c.requires.size c.in_ok-fill.ensures.written in
-    joined g.D.Disk.moment g.D.Disk.left_since disk mid c.raise.new.disk _ _ (ShutOrFirst body k0) c.fill.ensures.any_moment c.raise.ensures.any_moment
+    joined g.D.Disk.moment g.D.Disk.left_since disk mid c.raise.new.disk _ _ (ShutOrFirst body k0) c.fill.ensures.crash c.raise.ensures.crash
     (λ image. during_body body whole k0 image fit0 c.requires.size zeros)
     (λ image. during_gate body whole k0 k1 image fit0 (g.met.D.Disk.reads_fit mid) size c.in_ok-fill.ensures.written filled)
 

@@ -10,8 +10,8 @@ use Rattle.epoch_store.specs.Settling.{StaysCurrent}
 use Rattle.epoch_store.proofs.Readying.{current_now, fill_between, fill_went, filling, readied_filled, slots_open, slots_written}
 use Rattle.epoch_store.proofs.settling.ready_other.Goals as goal
 
-pub returns-clause-any_moment : goal.returns-clause-any_moment
-returns-clause-any_moment g c = λ rests.
+pub returns-clause-crash : goal.returns-clause-crash
+returns-clause-crash g c = λ files_are.
     let disk = c.args.disk.now in
     let mid = c.is_open.new.disk in
     let k0 = g.D.Disk.content disk in
@@ -21,12 +21,12 @@ returns-clause-any_moment g c = λ rests.
     let other = slot_number c.other-other.result in
     let here : WhereTold (IsGateOpen other false) k0 = subst (λ (b : Bool). WhereTold (IsGateOpen other b) k0) c.if-branch.false c.in_ok-is_open.ensures.gate in
     let shut : WhereTold (IsGateOpen (1 - slot) false) k0 = subst (λ (s : ℕ). WhereTold (IsGateOpen s false) k0) c.other-other.ensures here in
-    joined g.D.Disk.moment g.D.Disk.left_since disk mid c.fill.new.disk _ _ (StaysCurrent slot body k0) c.is_open.ensures.any_moment (rw c.other-other.ensures at c.fill.ensures.any_moment)
-    (λ image. current_now slot body k0 image rests)
-    (λ image. filling slot body k0 k1 image (g.met.D.Disk.reads_fit disk) (g.met.D.Disk.reads_fit mid) rests c.is_open.ensures.same shut c.requires.size)
+    joined g.D.Disk.moment g.D.Disk.left_since disk mid c.fill.new.disk _ _ (StaysCurrent slot body k0) c.is_open.ensures.crash (rw c.other-other.ensures at c.fill.ensures.crash)
+    (λ image. current_now slot body k0 image files_are)
+    (λ image. filling slot body k0 k1 image (g.met.D.Disk.reads_fit disk) (g.met.D.Disk.reads_fit mid) files_are c.is_open.ensures.same shut c.requires.size)
 
 pub returns-clause-done : goal.returns-clause-done
-returns-clause-done g c = λ rests.
+returns-clause-done g c = λ files_are.
     let disk = c.args.disk.now in
     let mid = c.is_open.new.disk in
     let k0 = g.D.Disk.content disk in
@@ -37,7 +37,7 @@ returns-clause-done g c = λ rests.
     let other = slot_number c.other-other.result in
     let here : WhereTold (IsGateOpen other false) k0 = subst (λ (b : Bool). WhereTold (IsGateOpen other b) k0) c.if-branch.false c.in_ok-is_open.ensures.gate in
     let shut : WhereTold (IsGateOpen (1 - slot) false) k0 = subst (λ (s : ℕ). WhereTold (IsGateOpen s false) k0) c.other-other.ensures here in
-    on_ok_weaker c.fill.result (readied_filled slot body k0 k1 k2 c.fill.ensures.whole (g.met.D.Disk.reads_fit mid) (g.met.D.Disk.reads_fit c.fill.new.disk) rests c.is_open.ensures.same shut) (rw c.other-other.ensures at c.fill.ensures.written)
+    on_ok_weaker c.fill.result (readied_filled slot body k0 k1 k2 c.fill.ensures.whole (g.met.D.Disk.reads_fit mid) (g.met.D.Disk.reads_fit c.fill.new.disk) files_are c.is_open.ensures.same shut) (rw c.other-other.ensures at c.fill.ensures.written)
 
 pub returns-then-branch-clause-readies : goal.returns-then-branch-clause-readies
 returns-then-branch-clause-readies g c =
@@ -58,23 +58,23 @@ returns-clause-readies g c =
     let shut = subst (λ (s : ℕ). WhereTold (IsGateOpen s false) k0) c.other-other.ensures here in
     on_ok_weaker c.fill.result (slots_written slot (spelling c.args.root.now) k0 k1 k2 c.is_open.ensures.same shut) (rw c.other-other.ensures at c.fill.ensures.written)
 
-pub returns-in_err-is_open-clause-between : goal.returns-in_err-is_open-clause-between
-returns-in_err-is_open-clause-between g c = looks_between g.D.Disk.content g.D.Disk.moment g.D.Disk.left_since c.args.disk.now c.is_open.new.disk c.is_open.ensures.any_moment
+pub returns-in_err-is_open-clause-crash_between : goal.returns-in_err-is_open-clause-crash_between
+returns-in_err-is_open-clause-crash_between g c = looks_between g.D.Disk.content g.D.Disk.moment g.D.Disk.left_since c.args.disk.now c.is_open.new.disk c.is_open.ensures.crash
 
-pub returns-then-branch-clause-between : goal.returns-then-branch-clause-between
-returns-then-branch-clause-between g c = looks_between g.D.Disk.content g.D.Disk.moment g.D.Disk.left_since c.args.disk.now c.is_open.new.disk c.is_open.ensures.any_moment
+pub returns-then-branch-clause-crash_between : goal.returns-then-branch-clause-crash_between
+returns-then-branch-clause-crash_between g c = looks_between g.D.Disk.content g.D.Disk.moment g.D.Disk.left_since c.args.disk.now c.is_open.new.disk c.is_open.ensures.crash
 
 pub returns-then-branch-clause-went : goal.returns-then-branch-clause-went
 returns-then-branch-clause-went g c = went_unchanged (g.D.Disk.content c.args.disk.now) (g.D.Disk.content c.is_open.new.disk) c.is_open.ensures.same
 
-pub returns-clause-between : goal.returns-clause-between
-returns-clause-between g c =
+pub returns-clause-crash_between : goal.returns-clause-crash_between
+returns-clause-crash_between g c =
     let disk = c.args.disk.now in
     let mid = c.is_open.new.disk in
     let content = g.D.Disk.content in
     let slot = slot_number c.args.slot in
-    fill_between content g.D.Disk.moment g.D.Disk.left_since slot (slot_below c.args.slot) disk mid c.fill.new.disk (g.met.D.Disk.reads_fit mid) c.requires.size c.is_open.ensures.same c.is_open.ensures.any_moment
-    (rw c.other-other.ensures at c.fill.ensures.any_moment)
+    fill_between content g.D.Disk.moment g.D.Disk.left_since slot (slot_below c.args.slot) disk mid c.fill.new.disk (g.met.D.Disk.reads_fit mid) c.requires.size c.is_open.ensures.same c.is_open.ensures.crash
+    (rw c.other-other.ensures at c.fill.ensures.crash)
 
 pub returns-clause-went : goal.returns-clause-went
 returns-clause-went g c =

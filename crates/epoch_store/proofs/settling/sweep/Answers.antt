@@ -11,27 +11,27 @@ use Rattle.epoch_store.specs.Settling.{StaysCurrent}
 use Rattle.epoch_store.proofs.Settles.{to_settle_rests, readying_stands, tidy_ready, swept_told}
 use Rattle.epoch_store.proofs.settling.sweep.Goals as goal
 
-pub returns-in_err-ready_other-clause-any_moment : goal.returns-in_err-ready_other-clause-any_moment
-returns-in_err-ready_other-clause-any_moment g c = λ texts todo.
+pub returns-in_err-ready_other-clause-crash : goal.returns-in_err-ready_other-clause-crash
+returns-in_err-ready_other-clause-crash g c = λ texts todo.
     let disk = c.args.disk.now in
     let k0 = g.D.Disk.content disk in
     let root = c.args.root.now in
     let slot = slot_number c.args.slot in
     let names = c.args.names.now in
-    weaker g.D.Disk.moment g.D.Disk.left_since disk c.ready_other.new.disk (StaysCurrent slot (spelling root) k0) (StandsFor root texts) (c.ready_other.ensures.any_moment (to_settle_rests root slot texts names k0 todo))
+    weaker g.D.Disk.moment g.D.Disk.left_since disk c.ready_other.new.disk (StaysCurrent slot (spelling root) k0) (StandsFor root texts) (c.ready_other.ensures.crash (to_settle_rests root slot texts names k0 todo))
     (λ image. readying_stands root slot texts names k0 image todo)
 
-pub returns-clause-any_moment : goal.returns-clause-any_moment
-returns-clause-any_moment g c = λ texts todo.
+pub returns-clause-crash : goal.returns-clause-crash
+returns-clause-crash g c = λ texts todo.
     let disk = c.args.disk.now in
     let d1 = c.ready_other.new.disk in
     let k0 = g.D.Disk.content disk in
     let root = c.args.root.now in
     let slot = slot_number c.args.slot in
     let names = c.args.names.now in
-    let rests = to_settle_rests root slot texts names k0 todo in
-    let ready = tidy_ready root slot texts names k0 (g.D.Disk.content d1) todo (c.in_ok-ready_other.ensures.done rests) in
-    joined g.D.Disk.moment g.D.Disk.left_since disk d1 c.tidy.new.disk (StaysCurrent slot (spelling root) k0) (StandsFor root texts) (StandsFor root texts) (c.ready_other.ensures.any_moment rests) (c.tidy.ensures.any_moment (1 - slot) texts ready)
+    let files_are = to_settle_rests root slot texts names k0 todo in
+    let ready = tidy_ready root slot texts names k0 (g.D.Disk.content d1) todo (c.in_ok-ready_other.ensures.done files_are) in
+    joined g.D.Disk.moment g.D.Disk.left_since disk d1 c.tidy.new.disk (StaysCurrent slot (spelling root) k0) (StandsFor root texts) (StandsFor root texts) (c.ready_other.ensures.crash files_are) (c.tidy.ensures.crash (1 - slot) texts ready)
     (λ image. readying_stands root slot texts names k0 image todo)
     (λ image stands. stands)
 
@@ -41,18 +41,18 @@ returns-clause-done g c = λ texts todo.
     let root = c.args.root.now in
     let slot = slot_number c.args.slot in
     let names = c.args.names.now in
-    let rests = to_settle_rests root slot texts names k0 todo in
-    c.tidy.ensures.done (1 - slot) texts (tidy_ready root slot texts names k0 (g.D.Disk.content c.ready_other.new.disk) todo (c.in_ok-ready_other.ensures.done rests))
+    let files_are = to_settle_rests root slot texts names k0 todo in
+    c.tidy.ensures.done (1 - slot) texts (tidy_ready root slot texts names k0 (g.D.Disk.content c.ready_other.new.disk) todo (c.in_ok-ready_other.ensures.done files_are))
 
 pub returns-clause-swept : goal.returns-clause-swept
 returns-clause-swept g c =
     let content = g.D.Disk.content in
     on_ok_weaker c.tidy.result (swept_told c.args.root.now (slot_number c.args.slot) c.args.names.now (content c.args.disk.now) (content c.ready_other.new.disk) (content c.tidy.new.disk) c.in_ok-ready_other.ensures.readies) c.tidy.ensures.tidied
 
-pub returns-clause-between : goal.returns-clause-between
-returns-clause-between g c =
+pub returns-clause-crash_between : goal.returns-clause-crash_between
+returns-clause-crash_between g c =
     let disk = c.args.disk.now in
     let d1 = c.ready_other.new.disk in
     let content = g.D.Disk.content in
-    joined_between content g.D.Disk.moment g.D.Disk.left_since disk d1 c.tidy.new.disk c.ready_other.ensures.between c.in_ok-ready_other.ensures.went
-    (beside_between content g.D.Disk.moment g.D.Disk.left_since c.args.root.now d1 c.tidy.new.disk c.tidy.ensures.beside)
+    joined_between content g.D.Disk.moment g.D.Disk.left_since disk d1 c.tidy.new.disk c.ready_other.ensures.crash_between c.in_ok-ready_other.ensures.went
+    (beside_between content g.D.Disk.moment g.D.Disk.left_since c.args.root.now d1 c.tidy.new.disk c.tidy.ensures.crash_beside)

@@ -9,8 +9,8 @@ pub returns-clause-found : goal.returns-clause-found
 returns-clause-found g c =
     found_before _ (g.D.Disk.content c.args.disk.now) (g.D.Disk.content c.sync.new.self) c.in_ok-sync.ensures.durable c.find.ensures.found
 
-pub returns-clause-any_moment : goal.returns-clause-any_moment
-returns-clause-any_moment g c =
+pub returns-clause-crash : goal.returns-clause-crash
+returns-clause-crash g c =
     let disk = c.args.disk.now in
     let d1 = c.sync.new.self in
     let k0 = g.D.Disk.content disk in
@@ -18,5 +18,5 @@ returns-clause-any_moment g c =
     let P = Image k0 in
     let synced = goes_on g.D.Disk.moment g.D.Disk.left_since disk disk d1 P k1 (started g.D.Disk.moment g.D.Disk.left_since disk P (λ image. g.met.D.Disk.only_now disk image)) c.sync.ensures.time
     (λ image. sync_image c.sync.result k0 k1 image (g.met.D.Disk.reads_fit disk) c.sync.ensures.durable c.sync.ensures.torn) in
-    joined g.D.Disk.moment g.D.Disk.left_since disk d1 c.find.new.disk P (Image k1) P synced c.find.ensures.any_moment (λ image left. left)
+    joined g.D.Disk.moment g.D.Disk.left_since disk d1 c.find.new.disk P (Image k1) P synced c.find.ensures.crash (λ image left. left)
     (λ image. sync_image c.sync.result k0 k1 image (g.met.D.Disk.reads_fit disk) c.sync.ensures.durable c.sync.ensures.torn)

@@ -1,8 +1,8 @@
 -- One step for the entry, and one for its record.
 use Rattle.std.proofs.Common.{sym, subst}
-use Rattle.disk_model.specs.Beside.{Respects}
+use Rattle.disk_model.specs.Beside.{RespectsBound}
 use Rattle.disk_model.specs.BesideLaws.{run_joined}
-use Rattle.disk_model.specs.Disk.{Told, WhereTold, OneFile, Wrote, IsAtMostLength}
+use Rattle.disk_model.specs.Disk.{BothTold, WhereTold, OneFile, Wrote, IsAtMostLength}
 use Rattle.disk_model.specs.Tells.{told_then}
 use Rattle.disk_model.specs.declared.name.FileName.{FileName}
 use Rattle.epoch_file.specs.Appending.{appended}
@@ -26,28 +26,28 @@ write_record-requires-clause-inside g c =
     let k = g.D.Disk.content c.args.disk.now in
     let m = g.D.Disk.content c.append_entry.new.disk in
     let piece = appended p.length c.args.entry.now in
-    let one = subst (λ (f : FileName). Told (OneFile f (Wrote p.length piece)) k m) c.epoch_file-epoch.ensures c.in_ok-written.ensures.left in
-    map_inside c.args.root.now p c.requires.place c.requires.small piece k m c.requires.sizes (wrote_told piece (epoch_name p.epoch p.gen_) p.length k m (appended_some p.length c.args.entry.now) (place_inside c.args.root.now p c.requires.place c.requires.small k c.requires.sizes) one)
+    let one = subst (λ (f : FileName). BothTold (OneFile f (Wrote p.length piece)) k m) c.epoch_file-epoch.ensures c.in_ok-written.ensures.left in
+    map_inside c.args.root.now p c.requires.place c.requires.small piece k m c.requires.sizes (wrote_told piece (epoch_name p.epoch p.generation) p.length k m (appended_some p.length c.args.entry.now) (place_inside c.args.root.now p c.requires.place c.requires.small k c.requires.sizes) one)
 
-pub returns-in_err-written-clause-beside : goal.returns-in_err-written-clause-beside
-returns-in_err-written-clause-beside g c =
+pub returns-in_err-written-clause-crash_beside : goal.returns-in_err-written-clause-crash_beside
+returns-in_err-written-clause-crash_beside g c =
     let bounds = bounds_of c.args.root.now in
     let p = c.args.place.now in
-    c.append_entry.ensures.beside bounds (subst (λ (f : FileName). Respects (bounds f) p.length) (sym c.epoch_file-epoch.ensures) (place_respects c.args.root.now p c.requires.place c.requires.small))
+    c.append_entry.ensures.crash_beside bounds (subst (λ (f : FileName). RespectsBound (bounds f) p.length) (sym c.epoch_file-epoch.ensures) (place_respects c.args.root.now p c.requires.place c.requires.small))
 
-pub returns-in_err-write_record-clause-beside : goal.returns-in_err-write_record-clause-beside
-returns-in_err-write_record-clause-beside g c =
-    let bounds = bounds_of c.args.root.now in
-    let p = c.args.place.now in
-    run_joined g.D.Disk.content g.D.Disk.moment g.D.Disk.left_since bounds c.args.disk.now c.append_entry.new.disk c.write_record.new.disk
-    (c.append_entry.ensures.beside bounds (subst (λ (f : FileName). Respects (bounds f) p.length) (sym c.epoch_file-epoch.ensures) (place_respects c.args.root.now p c.requires.place c.requires.small))) c.write_record.ensures.beside
-
-pub returns-clause-beside : goal.returns-clause-beside
-returns-clause-beside g c =
+pub returns-in_err-write_record-clause-crash_beside : goal.returns-in_err-write_record-clause-crash_beside
+returns-in_err-write_record-clause-crash_beside g c =
     let bounds = bounds_of c.args.root.now in
     let p = c.args.place.now in
     run_joined g.D.Disk.content g.D.Disk.moment g.D.Disk.left_since bounds c.args.disk.now c.append_entry.new.disk c.write_record.new.disk
-    (c.append_entry.ensures.beside bounds (subst (λ (f : FileName). Respects (bounds f) p.length) (sym c.epoch_file-epoch.ensures) (place_respects c.args.root.now p c.requires.place c.requires.small))) c.write_record.ensures.beside
+    (c.append_entry.ensures.crash_beside bounds (subst (λ (f : FileName). RespectsBound (bounds f) p.length) (sym c.epoch_file-epoch.ensures) (place_respects c.args.root.now p c.requires.place c.requires.small))) c.write_record.ensures.crash_beside
+
+pub returns-clause-crash_beside : goal.returns-clause-crash_beside
+returns-clause-crash_beside g c =
+    let bounds = bounds_of c.args.root.now in
+    let p = c.args.place.now in
+    run_joined g.D.Disk.content g.D.Disk.moment g.D.Disk.left_since bounds c.args.disk.now c.append_entry.new.disk c.write_record.new.disk
+    (c.append_entry.ensures.crash_beside bounds (subst (λ (f : FileName). RespectsBound (bounds f) p.length) (sym c.epoch_file-epoch.ensures) (place_respects c.args.root.now p c.requires.place c.requires.small))) c.write_record.ensures.crash_beside
 
 pub returns-clause-entered : goal.returns-clause-entered
 returns-clause-entered g c =
@@ -58,7 +58,7 @@ returns-clause-entered g c =
     let l = g.D.Disk.content c.append_entry.new.disk in
     let m = g.D.Disk.content c.write_record.new.disk in
     let piece = appended p.length e in
-    let one = subst (λ (f : FileName). Told (OneFile f (Wrote p.length piece)) k l) c.epoch_file-epoch.ensures c.in_ok-written.ensures.left in
-    let entry = wrote_told piece (epoch_name p.epoch p.gen_) p.length k l (appended_some p.length e) (place_inside root p c.requires.place c.requires.small k c.requires.sizes) one in
-    let line = subst (λ (w : Written). Told (Added (line_by e.kind root.next p.epoch w.blob) (map_file_of root) root.map.length) l m) c.in_ok-written.ensures.written c.in_ok-write_record.ensures.added in
-    told_then (Added piece (epoch_name p.epoch p.gen_) p.length) (Added (line_of root p e) (map_file_of root) root.map.length) (Entered root p e) k l m (λ a b d it mid first second. record { between = b; entry = first; line = second }) entry line
+    let one = subst (λ (f : FileName). BothTold (OneFile f (Wrote p.length piece)) k l) c.epoch_file-epoch.ensures c.in_ok-written.ensures.left in
+    let entry = wrote_told piece (epoch_name p.epoch p.generation) p.length k l (appended_some p.length e) (place_inside root p c.requires.place c.requires.small k c.requires.sizes) one in
+    let line = subst (λ (w : Written). BothTold (Added (line_by e.kind root.next p.epoch w.blob) (map_file_of root) root.map.length) l m) c.in_ok-written.ensures.written c.in_ok-write_record.ensures.added in
+    told_then (Added piece (epoch_name p.epoch p.generation) p.length) (Added (line_of root p e) (map_file_of root) root.map.length) (Entered root p e) k l m (λ a b d it mid first second. record { crash_between = b; entry = first; line = second }) entry line

@@ -1,5 +1,5 @@
 use Rattle.std.proofs.Common.{rules}
-use Rattle.arch_base.specs.Ids.{IsId}
+use Rattle.arch_base.specs.Ids.{IsObjectId}
 use Rattle.git_objects.specs.Commits.{hex_line}
 use Rattle.git_objects.proofs.Composing.{lacks-led, begins-led}
 use Rattle.git_objects.proofs.HexLines.{hex-none, hex-other, hex-found}
@@ -7,18 +7,18 @@ use Rattle.git_objects.proofs.commit_reading.read_id.Goals as goal
 
 pub returns-in_err-digits : goal.returns-in_err-digits
 returns-in_err-digits c = rw c.from_residual-in_err-digits.ensures
-    (lacks-led IsId hex_line c.args.bytes.now c.args.word.now c.in_ok-after.field-0.now c.in_ok-after.ensures
+    (lacks-led IsObjectId hex_line c.args.bytes.now c.args.word.now c.in_ok-after.field-0.now c.in_ok-after.ensures
     (hex-none c.in_ok-after.field-0.now c.in_err-digits.ensures))
 
 pub returns-in_err-id : goal.returns-in_err-id
 returns-in_err-id c = rw c.from_residual-in_err-id.ensures
-    (lacks-led IsId hex_line c.args.bytes.now c.args.word.now c.in_ok-after.field-0.now c.in_ok-after.ensures
+    (lacks-led IsObjectId hex_line c.args.bytes.now c.args.word.now c.in_ok-after.field-0.now c.in_ok-after.ensures
     (hex-other c.in_ok-after.field-0.now c.in_ok-digits.digits.now c.in_ok-digits.rest.now c.in_ok-digits.ensures.0 c.in_ok-digits.ensures.1
     c.in_err-id.ensures.none))
 
 pub returns : goal.returns
 returns c =
-    let valid : IsId c.in_ok-id.id = record { len = search rules; bytes = c.are_bytes.ensures } in
-    begins-led IsId hex_line c.args.bytes.now c.args.word.now c.in_ok-after.field-0.now c.in_ok-id.id c.in_ok-digits.rest.now c.in_ok-after.ensures
+    let valid : IsObjectId c.in_ok-id.id = record { len = search rules; bytes = c.are_bytes.ensures } in
+    begins-led IsObjectId hex_line c.args.bytes.now c.args.word.now c.in_ok-after.field-0.now c.in_ok-id.id c.in_ok-digits.rest.now c.in_ok-after.ensures
     (hex-found c.in_ok-after.field-0.now c.in_ok-digits.digits.now c.in_ok-digits.rest.now c.in_ok-id.id c.in_ok-digits.ensures.0 c.in_ok-digits.ensures.1
     valid c.in_ok-id.ensures.found)

@@ -1,6 +1,6 @@
 use Rattle.std.proofs.Common.{◌≡◌, None}
 use Rattle.arch_model.specs.Archives.{Archive}
-use Rattle.arch_model.specs.Keeping.{Fits}
+use Rattle.arch_model.specs.Keeping.{MatchesKnown}
 use Rattle.arch_model.specs.Standing.{standing}
 use Rattle.load_run.specs.Mails.{state_after}
 use Rattle.load_run.specs.Loads.{delivered_to}
@@ -8,8 +8,8 @@ use Rattle.load_run.proofs.commanding.deliver_all.Given as goal
 
 abbrev pub invariant-loop-index : goal.invariant-loop-index
 invariant-loop-index g l = record {
-  kept : (a : Archive) → Fits g.K.Shelf.holds g.K.Keep.rests g.K.Shelf.ready g.K.Keep.leaves l.fn.keep (standing a None)
-      → Fits g.K.Shelf.holds g.K.Keep.rests g.K.Shelf.ready g.K.Keep.leaves l.keep (standing (delivered_to a l.fn.seed l.index) None);
+  kept : (a : Archive) → MatchesKnown g.K.Shelf.holds g.K.Keep.files_are g.K.Shelf.ready g.K.Keep.leaves l.fn.keep (standing a None)
+      → MatchesKnown g.K.Shelf.holds g.K.Keep.files_are g.K.Shelf.ready g.K.Keep.leaves l.keep (standing (delivered_to a l.fn.seed l.index) None);
   state : l.state ≡ state_after l.fn.seed l.index;
   same : g.K.Shelf.faults l.keep ≡ g.K.Shelf.faults l.fn.keep;
 }

@@ -6,19 +6,19 @@ use Rattle.mime_parts.proofs.lexemes.after_gap.Goals as goal
 pub returns-then-not-is_gap-clause-lexemes : goal.returns-then-not-is_gap-clause-lexemes
 returns-then-not-is_gap-clause-lexemes c =
     rw c.split_at.ensures.back
-    (gap_end c.loop-at.place c.args.value.now c.loop-at.at (sym c.is_gap.ensures ∙ c.if-not-is_gap.true) c.loop-at.invariant.between c.loop-at.invariant.lexemes)
+    (gap_end c.loop-at.place c.args.value.now c.loop-at.at (sym c.is_gap.ensures ∙ c.if-not-is_gap.true) c.loop-at.invariant.crash_between c.loop-at.invariant.lexemes)
 
 pub returns-then-not-is_gap-clause-front : goal.returns-then-not-is_gap-clause-front
 returns-then-not-is_gap-clause-front c = λ some.
     rw c.split_at.ensures.back
-    (gap_front c.loop-at.place c.args.value.now c.loop-at.at (sym c.is_gap.ensures ∙ c.if-not-is_gap.true) c.loop-at.invariant.between)
+    (gap_front c.loop-at.place c.args.value.now c.loop-at.at (sym c.is_gap.ensures ∙ c.if-not-is_gap.true) c.loop-at.invariant.crash_between)
 
 pub loop-at-preserved : goal.loop-at-preserved
 loop-at-preserved c =
     let gap : is_gap c.loop-at.place (get_or c.args.value.now c.loop-at.at 0) ≡ true = sym c.is_gap.ensures ∙ c.if-not-is_gap.false in
     record {
       lexemes = rw c.next-place.ensures.value (sym (gap_more c.loop-at.place c.args.value.now c.loop-at.at c.loop-at-test.true gap) ∙ c.loop-at.invariant.lexemes);
-      between = rw c.next-place.ensures.value (gap_between c.loop-at.place _ gap);
+      crash_between = rw c.next-place.ensures.value (gap_between c.loop-at.place _ gap);
       shallow = omega arith;
     }
 

@@ -7,6 +7,6 @@ use Rattle.mime_parts.proofs.lexemes.after_gap.Given as goal
 abbrev pub invariant-loop-at : goal.invariant-loop-at
 invariant-loop-at l = record {
   lexemes : closed (lexed_from l.place (drop l.at l.value)) ≡ lexemes_of l.value;
-  between : is_between l.place ≡ true;
+  crash_between : is_between l.place ≡ true;
   shallow : depth_of l.place ≤ l.at;
 }

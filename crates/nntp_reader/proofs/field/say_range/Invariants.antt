@@ -1,7 +1,7 @@
 use Rattle.std.proofs.Common.{◌≡◌, ◌≤◌, ℕ, length, true, IfSome, is_some}
 use Rattle.line_door.specs.Acts.{outside}
 use Rattle.arch_model.specs.Archives.{Archive, live, text_of}
-use Rattle.arch_model.specs.Shelves.{Stays, ReadsAhead}
+use Rattle.arch_model.specs.Shelves.{ShelfStays, ReadsAhead}
 use Rattle.nntp_reader.specs.Numbers.{live_in, first_of}
 use Rattle.nntp_reader.proofs.Streams.{Begun}
 use Rattle.nntp_reader.proofs.Walking.{numbers_left}
@@ -19,7 +19,7 @@ invariant-loop-next g l = record {
       × ReadsAhead (length (live_in (live a.entries) l.range.first l.range.last)) (length (live_in (live a.entries) at l.range.last)) (g.S.Shelf.reads l.fn.shelf) (g.S.Shelf.reads l.shelf);
   alive : (a : Archive) → g.S.Shelf.holds l.shelf a → IfSome l.next (λ n. is_some (text_of (live a.entries) n) ≡ true);
   within : IfSome l.next (λ n. n ≤ l.range.last);
-  shelf : Stays g.S.Shelf.holds g.S.Shelf.ready g.S.Shelf.alike g.S.Shelf.faults l.fn.shelf l.shelf;
+  shelf : ShelfStays g.S.Shelf.holds g.S.Shelf.ready g.S.Shelf.alike g.S.Shelf.faults l.fn.shelf l.shelf;
   sink : g.O.Sink.alike l.fn.out l.out;
 }
 

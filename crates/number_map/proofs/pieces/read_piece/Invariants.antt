@@ -1,6 +1,6 @@
 use Rattle.std.proofs.Common.{◌≡◌, ◌+◌, ◌*◌, ◌++◌, ℕ, List, length}
 use Rattle.number_map.specs.Records.{AreRecordsFrom}
-use Rattle.number_map.specs.Pieces.{Stands}
+use Rattle.number_map.specs.Pieces.{RecordsStand}
 use Rattle.number_map.proofs.pieces.read_piece.Given as goal
 
 abbrev pub invariant-loop : goal.invariant-loop
@@ -8,5 +8,5 @@ invariant-loop l = record {
   count : length l.lines ≡ length l.fn.lines + l.counter;
   left : length l.rest + 28 * l.counter ≡ length l.bytes;
   valid : AreRecordsFrom 1 l.fn.lines → AreRecordsFrom 1 l.lines;
-  stands : (map after : List ℕ) → Stands l.fn.lines (l.bytes ++ after) map → Stands l.lines (l.rest ++ after) map;
+  stands : (map after : List ℕ) → RecordsStand l.fn.lines (l.bytes ++ after) map → RecordsStand l.lines (l.rest ++ after) map;
 }

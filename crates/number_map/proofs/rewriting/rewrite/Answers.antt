@@ -2,7 +2,7 @@
 use Rattle.std.proofs.Common.{◌≡◌, ℕ, List, true, sym, subst}
 use Rattle.std.proofs.lemmas.Result.{err_from_is_err_and}
 use Rattle.disk_model.specs.BesideLaws.{run_joined}
-use Rattle.disk_model.specs.Disk.{Told}
+use Rattle.disk_model.specs.Disk.{BothTold}
 use Rattle.root_change.specs.declared.sources.Source.{Source}
 use Rattle.root_change.specs.Gathering.{AreSources, HasSources, PutSources}
 use Rattle.root_change.proofs.Others.{run_looked}
@@ -15,19 +15,19 @@ put_sources-requires-clause-sources g c =
     let plan = c.in_ok-plan.plan in
     subst (AreSources c.args.to) (sym c.sources.ensures) (sources_to c.args.from c.args.to plan c.requires.apart c.in_ok-plan.ensures.from c.in_ok-plan.ensures.valid)
 
-pub returns-then-not-whole-clause-beside : goal.returns-then-not-whole-clause-beside
-returns-then-not-whole-clause-beside g c = λ bounds far.
+pub returns-then-not-whole-clause-crash_beside : goal.returns-then-not-whole-clause-crash_beside
+returns-then-not-whole-clause-crash_beside g c = λ bounds far.
     let content = g.D.Disk.content in
     let disk = c.args.disk.now in
-    let looked = run_looked content g.D.Disk.moment g.D.Disk.left_since bounds disk c.walk.new.disk c.walk.ensures.any_moment c.walk.ensures.same in
-    run_joined content g.D.Disk.moment g.D.Disk.left_since bounds disk c.walk.new.disk c.put_sources.new.disk looked (c.put_sources.ensures.beside bounds far)
+    let looked = run_looked content g.D.Disk.moment g.D.Disk.left_since bounds disk c.walk.new.disk c.walk.ensures.crash c.walk.ensures.same in
+    run_joined content g.D.Disk.moment g.D.Disk.left_since bounds disk c.walk.new.disk c.put_sources.new.disk looked (c.put_sources.ensures.crash_beside bounds far)
 
-pub returns-clause-beside : goal.returns-clause-beside
-returns-clause-beside g c = λ bounds far.
+pub returns-clause-crash_beside : goal.returns-clause-crash_beside
+returns-clause-crash_beside g c = λ bounds far.
     let content = g.D.Disk.content in
     let disk = c.args.disk.now in
-    let looked = run_looked content g.D.Disk.moment g.D.Disk.left_since bounds disk c.walk.new.disk c.walk.ensures.any_moment c.walk.ensures.same in
-    run_joined content g.D.Disk.moment g.D.Disk.left_since bounds disk c.walk.new.disk c.put_sources.new.disk looked (c.put_sources.ensures.beside bounds far)
+    let looked = run_looked content g.D.Disk.moment g.D.Disk.left_since bounds disk c.walk.new.disk c.walk.ensures.crash c.walk.ensures.same in
+    run_joined content g.D.Disk.moment g.D.Disk.left_since bounds disk c.walk.new.disk c.put_sources.new.disk looked (c.put_sources.ensures.crash_beside bounds far)
 
 pub returns-clause-rewritten : goal.returns-clause-rewritten
 returns-clause-rewritten g c =
@@ -36,8 +36,8 @@ returns-clause-rewritten g c =
     let k = content c.args.disk.now in
     let m = content c.walk.new.disk in
     let o = content c.put_sources.new.disk in
-    let put = subst (λ (bytes : List ℕ). Told (PutSources bytes plan.sources c.args.to 0) m o) c.bytes.ensures
-    (subst (λ (sources : List Source). Told (PutSources c.bytes.result.now sources c.args.to 0) m o) c.sources.ensures (c.in_ok-whole.ensures.put c.if-not-whole.false)) in
+    let put = subst (λ (bytes : List ℕ). BothTold (PutSources bytes plan.sources c.args.to 0) m o) c.bytes.ensures
+    (subst (λ (sources : List Source). BothTold (PutSources c.bytes.result.now sources c.args.to 0) m o) c.sources.ensures (c.in_ok-whole.ensures.put c.if-not-whole.false)) in
     rewritten c.args.from c.args.count c.args.to c.args.gone.now plan c.in_ok-walk.field-0 k m o c.in_ok-walk.ensures.walked c.in_ok-plan.ensures c.walk.ensures.same put
 
 pub returns-in_err-walk-clause-rewritten : goal.returns-in_err-walk-clause-rewritten

@@ -2,8 +2,8 @@
 use Rattle.disk_model.specs.BesideLaws.{write_told, run_call}
 use Rattle.number_map.proofs.writing.append.Goals as goal
 
-pub returns-clause-beside : goal.returns-clause-beside
-returns-clause-beside g c = λ bounds far.
+pub returns-clause-crash_beside : goal.returns-clause-crash_beside
+returns-clause-crash_beside g c = λ bounds far.
     let disk = c.args.disk.now in
     let content = g.D.Disk.content in
     run_call content g.D.Disk.moment g.D.Disk.left_since bounds disk c.write_at.new.self (g.met.D.Disk.only_now disk) c.write_at.ensures.time

@@ -1,9 +1,9 @@
 -- The write respects the bounds of the root, and keeps the lengths.
 use Rattle.std.proofs.Common.{sym, subst, ℕ}
 use Rattle.std.proofs.lemmas.Result.{on_ok_weaker}
-use Rattle.disk_model.specs.Disk.{Told, WhereTold, OneFile, Wrote, IsAtMostLength}
+use Rattle.disk_model.specs.Disk.{BothTold, WhereTold, OneFile, Wrote, IsAtMostLength}
 use Rattle.disk_model.specs.BesideLaws.{write_told, run_call}
-use Rattle.disk_model.specs.Beside.{Respects}
+use Rattle.disk_model.specs.Beside.{RespectsBound}
 use Rattle.root_change.specs.Names.{bounds_of}
 use Rattle.root_change.proofs.Sizes.{end_inside, end_respects, sizes_stay}
 use Rattle.root_change.proofs.appending.append.Goals as goal
@@ -13,14 +13,14 @@ write_at-requires-clause-inside g c =
     let inside = end_inside c.args.root.now c.args.name (g.D.Disk.content c.args.disk.now) c.requires.other c.requires.sizes in
     subst (λ (n : ℕ). WhereTold (IsAtMostLength c.args.name n) (g.D.Disk.content c.args.disk.now)) (sym c.end_of-end.ensures) inside
 
-pub returns-clause-beside : goal.returns-clause-beside
-returns-clause-beside g c =
+pub returns-clause-crash_beside : goal.returns-clause-crash_beside
+returns-clause-crash_beside g c =
     let disk = c.args.disk.now in
     let root = c.args.root.now in
     let name = c.args.name in
     let content = g.D.Disk.content in
     let bounds = bounds_of root in
-    let far : Respects (bounds name) c.end_of-end.result = subst (λ (n : ℕ). Respects (bounds name) n) (sym c.end_of-end.ensures) (end_respects root name c.requires.other) in
+    let far : RespectsBound (bounds name) c.end_of-end.result = subst (λ (n : ℕ). RespectsBound (bounds name) n) (sym c.end_of-end.ensures) (end_respects root name c.requires.other) in
     let inside = subst (λ (n : ℕ). WhereTold (IsAtMostLength name n) (content disk)) (sym c.end_of-end.ensures) (end_inside root name (content disk) c.requires.other c.requires.sizes) in
     run_call content g.D.Disk.moment g.D.Disk.left_since bounds disk c.write_at.new.self (g.met.D.Disk.only_now disk) c.write_at.ensures.time
     (write_told c.write_at.result bounds name c.end_of-end.result c.args.bytes.now (content disk) (content c.write_at.new.self) (g.met.D.Disk.reads_fit disk) far inside c.write_at.ensures.written c.write_at.ensures.torn)
@@ -28,7 +28,7 @@ returns-clause-beside g c =
 pub returns-clause-wrote : goal.returns-clause-wrote
 returns-clause-wrote g c =
     let content = g.D.Disk.content in
-    on_ok_weaker c.write_at.result (subst (λ (n : ℕ). Told (OneFile c.args.name (Wrote n c.args.bytes.now)) (content c.args.disk.now) (content c.write_at.new.self)) c.end_of-end.ensures) c.write_at.ensures.written
+    on_ok_weaker c.write_at.result (subst (λ (n : ℕ). BothTold (OneFile c.args.name (Wrote n c.args.bytes.now)) (content c.args.disk.now) (content c.write_at.new.self)) c.end_of-end.ensures) c.write_at.ensures.written
 
 pub returns-clause-sizes : goal.returns-clause-sizes
 returns-clause-sizes g c =
@@ -36,5 +36,5 @@ returns-clause-sizes g c =
     let name = c.args.name in
     on_ok_weaker c.write_at.result
     (λ wrote. sizes_stay c.args.root.now name c.args.bytes.now (content c.args.disk.now) (content c.write_at.new.self) c.requires.other c.requires.sizes
-    (subst (λ (n : ℕ). Told (OneFile name (Wrote n c.args.bytes.now)) (content c.args.disk.now) (content c.write_at.new.self)) c.end_of-end.ensures wrote))
+    (subst (λ (n : ℕ). BothTold (OneFile name (Wrote n c.args.bytes.now)) (content c.args.disk.now) (content c.write_at.new.self)) c.end_of-end.ensures wrote))
     c.write_at.ensures.written

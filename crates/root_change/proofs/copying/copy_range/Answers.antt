@@ -3,7 +3,7 @@ use native.Mathlib.Numerals.{unary_clauses}
 use Rattle.std.specs.Prelude.{refl}
 use Rattle.std.proofs.Common.{◌≡◌, ◌+◌, ℕ, sym, subst, arith}
 use Rattle.disk_model.specs.declared.name.FileName.{FileName}
-use Rattle.disk_model.specs.Disk.{Told}
+use Rattle.disk_model.specs.Disk.{BothTold}
 use Rattle.disk_model.specs.BesideLaws.{run_started, run_joined}
 use Rattle.root_change.specs.Copying.{Copied, HasRange}
 use Rattle.root_change.proofs.Drops.{not_both}
@@ -17,7 +17,7 @@ loop-done-init g c =
     let content = g.D.Disk.content in
     record {
       bound = omega arith;
-      beside = λ bounds far. run_started content g.D.Disk.moment g.D.Disk.left_since bounds disk (g.met.D.Disk.only_now disk);
+      crash_beside = λ bounds far. run_started content g.D.Disk.moment g.D.Disk.left_since bounds disk (g.met.D.Disk.only_now disk);
       copied = first_copied c.args.range.file c.args.range.offset c.args.to c.args.end (content disk) c.requires.inside;
       inside = simp unary_clauses c.requires.inside;
       others = others_first c.args.to (content disk);
@@ -25,13 +25,13 @@ loop-done-init g c =
       kept = refl;
     }
 
-pub returns-in_err-whole-clause-beside : goal.returns-in_err-whole-clause-beside
-returns-in_err-whole-clause-beside g c = λ bounds far.
-    run_joined g.D.Disk.content g.D.Disk.moment g.D.Disk.left_since bounds c.args.disk.now c.loop-done.disk c.copy_window.new.disk (c.loop-done.invariant.beside bounds far) (c.copy_window.ensures.beside bounds (respects_more (bounds c.args.to) c.args.end (c.args.end + c.loop-done.done) (omega arith) far))
+pub returns-in_err-whole-clause-crash_beside : goal.returns-in_err-whole-clause-crash_beside
+returns-in_err-whole-clause-crash_beside g c = λ bounds far.
+    run_joined g.D.Disk.content g.D.Disk.moment g.D.Disk.left_since bounds c.args.disk.now c.loop-done.disk c.copy_window.new.disk (c.loop-done.invariant.crash_beside bounds far) (c.copy_window.ensures.crash_beside bounds (respects_more (bounds c.args.to) c.args.end (c.args.end + c.loop-done.done) (omega arith) far))
 
-pub returns-then-not-whole-clause-beside : goal.returns-then-not-whole-clause-beside
-returns-then-not-whole-clause-beside g c = λ bounds far.
-    run_joined g.D.Disk.content g.D.Disk.moment g.D.Disk.left_since bounds c.args.disk.now c.loop-done.disk c.copy_window.new.disk (c.loop-done.invariant.beside bounds far) (c.copy_window.ensures.beside bounds (respects_more (bounds c.args.to) c.args.end (c.args.end + c.loop-done.done) (omega arith) far))
+pub returns-then-not-whole-clause-crash_beside : goal.returns-then-not-whole-clause-crash_beside
+returns-then-not-whole-clause-crash_beside g c = λ bounds far.
+    run_joined g.D.Disk.content g.D.Disk.moment g.D.Disk.left_since bounds c.args.disk.now c.loop-done.disk c.copy_window.new.disk (c.loop-done.invariant.crash_beside bounds far) (c.copy_window.ensures.crash_beside bounds (respects_more (bounds c.args.to) c.args.end (c.args.end + c.loop-done.done) (omega arith) far))
 
 pub returns-then-not-whole-clause-whole : goal.returns-then-not-whole-clause-whole
 returns-then-not-whole-clause-whole g c = λ has.
@@ -55,11 +55,11 @@ loop-done-preserved g c =
     let o = content c.copy_window.new.disk in
     let count_is = c.next_window-next.ensures.count in
     let bound = before.bound in
-    let one = subst (λ (f : FileName). Told (Copied f next.offset next.count c.args.to (c.args.end + done)) m o) c.next_window-next.ensures.file (c.in_ok-whole.ensures.copied c.if-not-whole.false) in
+    let one = subst (λ (f : FileName). BothTold (Copied f next.offset next.count c.args.to (c.args.end + done)) m o) c.next_window-next.ensures.file (c.in_ok-whole.ensures.copied c.if-not-whole.false) in
     let copied = next_told range.file range.offset done next.count c.args.to c.args.end next.offset (c.args.end + done) k m o c.requires.apart c.next_window-next.ensures.offset refl before.copied one in
     record {
       bound = omega (arith, count_is, bound);
-      beside = λ bounds far. run_joined content g.D.Disk.moment g.D.Disk.left_since bounds c.args.disk.now c.loop-done.disk c.copy_window.new.disk (before.beside bounds far) (c.copy_window.ensures.beside bounds (respects_more (bounds c.args.to) c.args.end (c.args.end + done) (omega arith) far));
+      crash_beside = λ bounds far. run_joined content g.D.Disk.moment g.D.Disk.left_since bounds c.args.disk.now c.loop-done.disk c.copy_window.new.disk (before.crash_beside bounds far) (c.copy_window.ensures.crash_beside bounds (respects_more (bounds c.args.to) c.args.end (c.args.end + done) (omega arith) far));
       copied = copied;
       inside = copied_inside range.file range.offset (done + next.count) c.args.to c.args.end (c.args.end + (done + next.count)) k o refl copied;
       others = others_then c.args.to k m o before.others c.in_ok-whole.ensures.others;
@@ -72,7 +72,7 @@ returns-clause-copied g c = λ is.
     let range = c.args.range in
     let bound = c.loop-done.invariant.bound in
     let all : c.loop-done.done ≡ range.count = omega (arith, bound) in
-    subst (λ (n : ℕ). Told (Copied range.file range.offset n c.args.to c.args.end) (g.D.Disk.content c.args.disk.now) (g.D.Disk.content c.loop-done.disk)) all c.loop-done.invariant.copied
+    subst (λ (n : ℕ). BothTold (Copied range.file range.offset n c.args.to c.args.end) (g.D.Disk.content c.args.disk.now) (g.D.Disk.content c.loop-done.disk)) all c.loop-done.invariant.copied
 
 pub returns-in_err-whole-clause-others : goal.returns-in_err-whole-clause-others
 returns-in_err-whole-clause-others g c =

@@ -5,14 +5,14 @@ use Rattle.root_change.proofs.Copies.{inside_still, window_told, window_full}
 use Rattle.root_change.proofs.Others.{others_then, others_unchanged, others_wrote}
 use Rattle.root_change.proofs.copying.copy_window.Goals as goal
 
-pub returns-in_err-count-clause-beside : goal.returns-in_err-count-clause-beside
-returns-in_err-count-clause-beside g c = λ bounds far.
+pub returns-in_err-count-clause-crash_beside : goal.returns-in_err-count-clause-crash_beside
+returns-in_err-count-clause-crash_beside g c = λ bounds far.
     let disk = c.args.disk.now in
     let content = g.D.Disk.content in
     run_unchanged content g.D.Disk.moment g.D.Disk.left_since bounds disk c.read.new.self (g.met.D.Disk.only_now disk) c.read.ensures.time c.read.ensures.same
 
-pub returns-then-count-window-clause-beside : goal.returns-then-count-window-clause-beside
-returns-then-count-window-clause-beside g c = λ bounds far.
+pub returns-then-count-window-clause-crash_beside : goal.returns-then-count-window-clause-crash_beside
+returns-then-count-window-clause-crash_beside g c = λ bounds far.
     let disk = c.args.disk.now in
     let content = g.D.Disk.content in
     run_unchanged content g.D.Disk.moment g.D.Disk.left_since bounds disk c.read.new.self (g.met.D.Disk.only_now disk) c.read.ensures.time c.read.ensures.same
@@ -22,8 +22,8 @@ returns-then-count-window-clause-whole g c = λ has.
     let full : c.args.range.count ≤ c.in_ok-count.count = window_full c.args.range.file c.args.range.offset c.args.range.count c.in_ok-count.count c.args.window.now c.read.new.into (g.D.Disk.content c.args.disk.now) c.requires.window c.in_ok-count.ensures.bytes has in
     absurd (omega (arith, full, c.requires.window))
 
-pub returns-in_err-write_at-clause-beside : goal.returns-in_err-write_at-clause-beside
-returns-in_err-write_at-clause-beside g c = λ bounds far.
+pub returns-in_err-write_at-clause-crash_beside : goal.returns-in_err-write_at-clause-crash_beside
+returns-in_err-write_at-clause-crash_beside g c = λ bounds far.
     let disk = c.args.disk.now in
     let d1 = c.read.new.self in
     let content = g.D.Disk.content in
@@ -32,8 +32,8 @@ returns-in_err-write_at-clause-beside g c = λ bounds far.
     run_on content g.D.Disk.moment g.D.Disk.left_since bounds disk d1 c.write_at.new.self read c.write_at.ensures.time
     (write_told c.write_at.result bounds c.args.to c.args.end c.read.new.into (content d1) (content c.write_at.new.self) (g.met.D.Disk.reads_fit d1) far inside c.write_at.ensures.written c.write_at.ensures.torn)
 
-pub returns-clause-beside : goal.returns-clause-beside
-returns-clause-beside g c = λ bounds far.
+pub returns-clause-crash_beside : goal.returns-clause-crash_beside
+returns-clause-crash_beside g c = λ bounds far.
     let disk = c.args.disk.now in
     let d1 = c.read.new.self in
     let content = g.D.Disk.content in

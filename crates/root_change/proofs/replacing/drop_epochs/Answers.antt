@@ -2,7 +2,7 @@
 use Rattle.std.specs.Prelude.{refl}
 use Rattle.std.proofs.Common.{◌∙◌, ap, subst, arith}
 use Rattle.disk_model.specs.declared.name.FileName.{FileName}
-use Rattle.disk_model.specs.Disk.{Told}
+use Rattle.disk_model.specs.Disk.{BothTold}
 use Rattle.root_slots.specs.declared.root.Place.{Place}
 use Rattle.disk_model.specs.BesideLaws.{run_started, run_joined}
 use Rattle.root_change.specs.Names.{epoch_name, bounds_of}
@@ -14,15 +14,15 @@ pub loop-epoch-init : goal.loop-epoch-init
 loop-epoch-init g c =
     let disk = c.args.disk.now in
     record {
-      beside = run_started g.D.Disk.content g.D.Disk.moment g.D.Disk.left_since (bounds_of c.args.new.now) disk (g.met.D.Disk.only_now disk);
+      crash_beside = run_started g.D.Disk.content g.D.Disk.moment g.D.Disk.left_since (bounds_of c.args.new.now) disk (g.met.D.Disk.only_now disk);
       dropped = none_dropped c.args.old.now c.args.new.now (g.D.Disk.content disk);
       kept = refl;
       reads = refl;
     }
 
-pub returns-in_err-drop_file-clause-beside : goal.returns-in_err-drop_file-clause-beside
-returns-in_err-drop_file-clause-beside g c =
-    run_joined g.D.Disk.content g.D.Disk.moment g.D.Disk.left_since (bounds_of c.args.new.now) c.args.disk.now c.loop-epoch.disk c.drop_file.new.disk c.loop-epoch.invariant.beside c.drop_file.ensures.beside
+pub returns-in_err-drop_file-clause-crash_beside : goal.returns-in_err-drop_file-clause-crash_beside
+returns-in_err-drop_file-clause-crash_beside g c =
+    run_joined g.D.Disk.content g.D.Disk.moment g.D.Disk.left_since (bounds_of c.args.new.now) c.args.disk.now c.loop-epoch.disk c.drop_file.new.disk c.loop-epoch.invariant.crash_beside c.drop_file.ensures.crash_beside
 
 pub loop-epoch-preserved : goal.loop-epoch-preserved
 loop-epoch-preserved g c =
@@ -30,10 +30,10 @@ loop-epoch-preserved g c =
     let old = c.args.old.now in
     let new = c.args.new.now in
     let content = g.D.Disk.content in
-    let name_is = c.epoch_file.ensures ∙ ap (λ (p : Place). epoch_name c.loop-epoch.epoch p.gen_) c.epoch_place-place.ensures in
-    let one = subst (λ (n : FileName). Told (Dropped (IsOne n) old new) (content c.loop-epoch.disk) (content c.drop_file.new.disk)) name_is c.in_ok-drop_file.ensures.dropped in
+    let name_is = c.epoch_file.ensures ∙ ap (λ (p : Place). epoch_name c.loop-epoch.epoch p.generation) c.epoch_place-place.ensures in
+    let one = subst (λ (n : FileName). BothTold (Dropped (IsOne n) old new) (content c.loop-epoch.disk) (content c.drop_file.new.disk)) name_is c.in_ok-drop_file.ensures.dropped in
     record {
-      beside = run_joined g.D.Disk.content g.D.Disk.moment g.D.Disk.left_since (bounds_of c.args.new.now) c.args.disk.now c.loop-epoch.disk c.drop_file.new.disk before.beside c.drop_file.ensures.beside;
+      crash_beside = run_joined g.D.Disk.content g.D.Disk.moment g.D.Disk.left_since (bounds_of c.args.new.now) c.args.disk.now c.loop-epoch.disk c.drop_file.new.disk before.crash_beside c.drop_file.ensures.crash_beside;
       dropped = epoch_dropped old new c.loop-epoch.epoch (content c.args.disk.now) (content c.loop-epoch.disk) (content c.drop_file.new.disk) before.dropped one;
       kept = omega (arith, before.kept, c.in_ok-drop_file.ensures.cause.kept);
       reads = omega (arith, before.reads, c.drop_file.ensures.count);

@@ -6,8 +6,8 @@ use Rattle.root_change.specs.Names.{bounds_of}
 use Rattle.root_change.proofs.Drops.{dropped_bound, stays_there, removed_there}
 use Rattle.root_change.proofs.replacing.drop_file.Goals as goal
 
-pub returns-then-is_dropped-clause-beside : goal.returns-then-is_dropped-clause-beside
-returns-then-is_dropped-clause-beside g c =
+pub returns-then-is_dropped-clause-crash_beside : goal.returns-then-is_dropped-clause-crash_beside
+returns-then-is_dropped-clause-crash_beside g c =
     let disk = c.args.disk.now in
     let new = c.args.new.now in
     let bounds = bounds_of new in
@@ -19,8 +19,8 @@ pub returns-then-is_dropped-clause-dropped : goal.returns-then-is_dropped-clause
 returns-then-is_dropped-clause-dropped g c =
     on_ok_weaker c.remove.result (removed_there c.args.old.now c.args.new.now c.args.name (g.D.Disk.content c.args.disk.now) (g.D.Disk.content c.remove.new.self) (sym c.is_dropped.ensures ∙ c.if-is_dropped.true)) c.remove.ensures.removed
 
-pub returns-clause-beside : goal.returns-clause-beside
-returns-clause-beside g c =
+pub returns-clause-crash_beside : goal.returns-clause-crash_beside
+returns-clause-crash_beside g c =
     let disk = c.args.disk.now in
     run_started g.D.Disk.content g.D.Disk.moment g.D.Disk.left_since (bounds_of c.args.new.now) disk (g.met.D.Disk.only_now disk)
 

@@ -10,29 +10,29 @@ use Rattle.root_change.specs.Replacing.{StandsForEither}
 use Rattle.root_change.proofs.Phases.{before_told, sync_leaves, commit_leaves, drops_leave, done_on, kept_told, commit_between, drops_between}
 use Rattle.root_change.proofs.replacing.replace_root.Goals as goal
 
-pub returns-in_err-sync-clause-any_moment : goal.returns-in_err-sync-clause-any_moment
-returns-in_err-sync-clause-any_moment g c = λ texts next todo.
+pub returns-in_err-sync-clause-crash : goal.returns-in_err-sync-clause-crash
+returns-in_err-sync-clause-crash g c = λ texts next todo.
     let disk = c.args.disk.now in
     let d1 = c.sync.new.self in
     let content = g.D.Disk.content in
     let looks = sync_leaves content g.D.Disk.moment g.D.Disk.left_since disk d1 (g.met.D.Disk.only_now disk) c.sync.ensures.time (λ image. sync_image c.sync.result (content disk) (content d1) image (g.met.D.Disk.reads_fit disk) c.sync.ensures.durable c.sync.ensures.torn) in
     weaker g.D.Disk.moment g.D.Disk.left_since disk d1 (Image (content disk)) (StandsForEither c.args.old.now texts c.args.new.now next) looks (λ image. before_told (slot_number c.args.slot) c.args.old.now texts c.args.new.now next (content disk) image todo)
 
-pub returns-in_err-commit-clause-any_moment : goal.returns-in_err-commit-clause-any_moment
-returns-in_err-commit-clause-any_moment g c = λ texts next todo.
+pub returns-in_err-commit-clause-crash : goal.returns-in_err-commit-clause-crash
+returns-in_err-commit-clause-crash g c = λ texts next todo.
     let disk = c.args.disk.now in
     let d1 = c.sync.new.self in
     let content = g.D.Disk.content in
     let looks = sync_leaves content g.D.Disk.moment g.D.Disk.left_since disk d1 (g.met.D.Disk.only_now disk) c.sync.ensures.time (λ image. sync_image c.sync.result (content disk) (content d1) image (g.met.D.Disk.reads_fit disk) c.sync.ensures.durable c.sync.ensures.torn) in
-    commit_leaves (slot_number c.args.slot) c.args.old.now texts c.args.new.now next content g.D.Disk.moment g.D.Disk.left_since g.met.D.Disk.reads_fit disk d1 c.commit.new.disk todo c.in_ok-sync.ensures.durable looks c.commit.ensures.any_moment
+    commit_leaves (slot_number c.args.slot) c.args.old.now texts c.args.new.now next content g.D.Disk.moment g.D.Disk.left_since g.met.D.Disk.reads_fit disk d1 c.commit.new.disk todo c.in_ok-sync.ensures.durable looks c.commit.ensures.crash
 
-pub returns-clause-any_moment : goal.returns-clause-any_moment
-returns-clause-any_moment g c = λ texts next todo.
+pub returns-clause-crash : goal.returns-clause-crash
+returns-clause-crash g c = λ texts next todo.
     let disk = c.args.disk.now in
     let d1 = c.sync.new.self in
     let content = g.D.Disk.content in
     let looks = sync_leaves content g.D.Disk.moment g.D.Disk.left_since disk d1 (g.met.D.Disk.only_now disk) c.sync.ensures.time (λ image. sync_image c.sync.result (content disk) (content d1) image (g.met.D.Disk.reads_fit disk) c.sync.ensures.durable c.sync.ensures.torn) in
-    drops_leave (slot_number c.args.slot) c.args.old.now texts c.args.new.now next content g.D.Disk.moment g.D.Disk.left_since g.met.D.Disk.reads_fit disk d1 c.commit.new.disk todo c.in_ok-sync.ensures.durable looks c.commit.ensures.any_moment c.drop_old.new.disk c.in_ok-commit.ensures.committed c.in_ok-commit.ensures.done c.drop_old.ensures.beside
+    drops_leave (slot_number c.args.slot) c.args.old.now texts c.args.new.now next content g.D.Disk.moment g.D.Disk.left_since g.met.D.Disk.reads_fit disk d1 c.commit.new.disk todo c.in_ok-sync.ensures.durable looks c.commit.ensures.crash c.drop_old.new.disk c.in_ok-commit.ensures.committed c.in_ok-commit.ensures.done c.drop_old.ensures.crash_beside
 
 pub returns-clause-done : goal.returns-clause-done
 returns-clause-done g c = λ texts next todo.
@@ -47,26 +47,26 @@ returns-clause-kept g c =
     (kept_told (slot_number c.args.slot) (spelling c.args.new.now) c.args.old.now c.args.new.now (content c.args.disk.now) (content c.sync.new.self) (content c.commit.new.disk) (content c.drop_old.new.disk) (slot_below c.args.slot) c.in_ok-commit.ensures.whole c.requires.size c.in_ok-sync.ensures.durable c.in_ok-commit.ensures.written c.in_ok-commit.ensures.committed)
     c.drop_old.ensures.dropped
 
-pub returns-in_err-sync-clause-between : goal.returns-in_err-sync-clause-between
-returns-in_err-sync-clause-between g c =
+pub returns-in_err-sync-clause-crash_between : goal.returns-in_err-sync-clause-crash_between
+returns-in_err-sync-clause-crash_between g c =
     let disk = c.args.disk.now in
     let d1 = c.sync.new.self in
     let content = g.D.Disk.content in
     looks_between content g.D.Disk.moment g.D.Disk.left_since disk d1
     (sync_leaves content g.D.Disk.moment g.D.Disk.left_since disk d1 (g.met.D.Disk.only_now disk) c.sync.ensures.time (λ image. sync_image c.sync.result (content disk) (content d1) image (g.met.D.Disk.reads_fit disk) c.sync.ensures.durable c.sync.ensures.torn))
 
-pub returns-in_err-commit-clause-between : goal.returns-in_err-commit-clause-between
-returns-in_err-commit-clause-between g c =
+pub returns-in_err-commit-clause-crash_between : goal.returns-in_err-commit-clause-crash_between
+returns-in_err-commit-clause-crash_between g c =
     let disk = c.args.disk.now in
     let d1 = c.sync.new.self in
     let content = g.D.Disk.content in
     let looks = sync_leaves content g.D.Disk.moment g.D.Disk.left_since disk d1 (g.met.D.Disk.only_now disk) c.sync.ensures.time (λ image. sync_image c.sync.result (content disk) (content d1) image (g.met.D.Disk.reads_fit disk) c.sync.ensures.durable c.sync.ensures.torn) in
-    commit_between content g.D.Disk.moment g.D.Disk.left_since g.met.D.Disk.reads_fit disk d1 c.commit.new.disk looks c.in_ok-sync.ensures.durable c.commit.ensures.between
+    commit_between content g.D.Disk.moment g.D.Disk.left_since g.met.D.Disk.reads_fit disk d1 c.commit.new.disk looks c.in_ok-sync.ensures.durable c.commit.ensures.crash_between
 
-pub returns-clause-between : goal.returns-clause-between
-returns-clause-between g c =
+pub returns-clause-crash_between : goal.returns-clause-crash_between
+returns-clause-crash_between g c =
     let disk = c.args.disk.now in
     let d1 = c.sync.new.self in
     let content = g.D.Disk.content in
     let looks = sync_leaves content g.D.Disk.moment g.D.Disk.left_since disk d1 (g.met.D.Disk.only_now disk) c.sync.ensures.time (λ image. sync_image c.sync.result (content disk) (content d1) image (g.met.D.Disk.reads_fit disk) c.sync.ensures.durable c.sync.ensures.torn) in
-    drops_between content g.D.Disk.moment g.D.Disk.left_since g.met.D.Disk.reads_fit disk d1 c.commit.new.disk looks c.in_ok-sync.ensures.durable c.commit.ensures.between (slot_number c.args.slot) (spelling c.args.new.now) c.args.new.now c.drop_old.new.disk (slot_below c.args.slot) c.requires.size c.in_ok-commit.ensures.whole c.in_ok-commit.ensures.written c.in_ok-commit.ensures.committed c.drop_old.ensures.beside
+    drops_between content g.D.Disk.moment g.D.Disk.left_since g.met.D.Disk.reads_fit disk d1 c.commit.new.disk looks c.in_ok-sync.ensures.durable c.commit.ensures.crash_between (slot_number c.args.slot) (spelling c.args.new.now) c.args.new.now c.drop_old.new.disk (slot_below c.args.slot) c.requires.size c.in_ok-commit.ensures.whole c.in_ok-commit.ensures.written c.in_ok-commit.ensures.committed c.drop_old.ensures.crash_beside

@@ -1,7 +1,7 @@
 -- The sources are put after what counts, or there is nothing to write.
 use Rattle.std.proofs.Common.{◌∙◌, List, subst, sym, ℕ}
-use Rattle.disk_model.specs.Beside.{Respects}
-use Rattle.disk_model.specs.Disk.{Told, WhereTold, IsAtMostLength}
+use Rattle.disk_model.specs.Beside.{RespectsBound}
+use Rattle.disk_model.specs.Disk.{BothTold, WhereTold, IsAtMostLength}
 use Rattle.root_change.specs.declared.sources.Source.{Source}
 use Rattle.root_change.specs.Gathering.{PutSources}
 use Rattle.root_change.specs.Names.{bounds_of}
@@ -18,24 +18,24 @@ pub returns-then-count-eq0-clause-written : goal.returns-then-count-eq0-clause-w
 returns-then-count-eq0-clause-written g c =
     none_written c.args.root.now c.args.plan.now c.args.to c.requires.to.other c.requires.to.no_cache (g.D.Disk.content c.args.disk.now) (sym c.count.ensures.count ∙ c.if-count-eq0.true) c.requires.sizes
 
-pub returns-in_err-whole-clause-beside : goal.returns-in_err-whole-clause-beside
-returns-in_err-whole-clause-beside g c =
+pub returns-in_err-whole-clause-crash_beside : goal.returns-in_err-whole-clause-crash_beside
+returns-in_err-whole-clause-crash_beside g c =
     let bounds = bounds_of c.args.root.now in
-    c.put_sources.ensures.beside bounds (subst (λ (n : ℕ). Respects (bounds c.args.to) n) (sym c.end_of-end.ensures) (end_respects c.args.root.now c.args.to c.requires.to.other))
+    c.put_sources.ensures.crash_beside bounds (subst (λ (n : ℕ). RespectsBound (bounds c.args.to) n) (sym c.end_of-end.ensures) (end_respects c.args.root.now c.args.to c.requires.to.other))
 
-pub returns-then-not-whole-clause-beside : goal.returns-then-not-whole-clause-beside
-returns-then-not-whole-clause-beside g c =
+pub returns-then-not-whole-clause-crash_beside : goal.returns-then-not-whole-clause-crash_beside
+returns-then-not-whole-clause-crash_beside g c =
     let bounds = bounds_of c.args.root.now in
-    c.put_sources.ensures.beside bounds (subst (λ (n : ℕ). Respects (bounds c.args.to) n) (sym c.end_of-end.ensures) (end_respects c.args.root.now c.args.to c.requires.to.other))
+    c.put_sources.ensures.crash_beside bounds (subst (λ (n : ℕ). RespectsBound (bounds c.args.to) n) (sym c.end_of-end.ensures) (end_respects c.args.root.now c.args.to c.requires.to.other))
 
 pub returns-then-not-whole-clause-short : goal.returns-then-not-whole-clause-short
 returns-then-not-whole-clause-short g c =
     part_asked c.args.root.now c.args.plan.now c.kind-kind.result c.number-number.result c.file_of.result c.place_at.result c.kind-kind.ensures c.number-number.ensures c.file_of.ensures c.place_at.ensures
 
-pub returns-clause-beside : goal.returns-clause-beside
-returns-clause-beside g c =
+pub returns-clause-crash_beside : goal.returns-clause-crash_beside
+returns-clause-crash_beside g c =
     let bounds = bounds_of c.args.root.now in
-    c.put_sources.ensures.beside bounds (subst (λ (n : ℕ). Respects (bounds c.args.to) n) (sym c.end_of-end.ensures) (end_respects c.args.root.now c.args.to c.requires.to.other))
+    c.put_sources.ensures.crash_beside bounds (subst (λ (n : ℕ). RespectsBound (bounds c.args.to) n) (sym c.end_of-end.ensures) (end_respects c.args.root.now c.args.to c.requires.to.other))
 
 pub returns-clause-written : goal.returns-clause-written
 returns-clause-written g c =
@@ -43,8 +43,8 @@ returns-clause-written g c =
     let k = g.D.Disk.content c.args.disk.now in
     let m = g.D.Disk.content c.put_sources.new.disk in
     let end_ = c.end_of-end.result in
-    let put = subst (λ (bs : List ℕ). Told (PutSources bs c.sources.result.now c.args.to end_) k m) c.bytes.ensures (c.in_ok-whole.ensures.put c.if-not-whole.false) in
-    put_written c.args.root.now plan c.args.to c.requires.to.other c.requires.to.no_cache end_ k m c.end_of-end.ensures (subst (λ (ss : List Source). Told (PutSources plan.bytes ss c.args.to end_) k m) c.sources.ensures put)
+    let put = subst (λ (bs : List ℕ). BothTold (PutSources bs c.sources.result.now c.args.to end_) k m) c.bytes.ensures (c.in_ok-whole.ensures.put c.if-not-whole.false) in
+    put_written c.args.root.now plan c.args.to c.requires.to.other c.requires.to.no_cache end_ k m c.end_of-end.ensures (subst (λ (ss : List Source). BothTold (PutSources plan.bytes ss c.args.to end_) k m) c.sources.ensures put)
 
 pub returns-clause-sizes : goal.returns-clause-sizes
 returns-clause-sizes g c =
@@ -53,6 +53,6 @@ returns-clause-sizes g c =
     let k = g.D.Disk.content c.args.disk.now in
     let m = g.D.Disk.content c.put_sources.new.disk in
     let end_ = c.end_of-end.result in
-    let put = subst (λ (bs : List ℕ). Told (PutSources bs c.sources.result.now c.args.to end_) k m) c.bytes.ensures (c.in_ok-whole.ensures.put c.if-not-whole.false) in
+    let put = subst (λ (bs : List ℕ). BothTold (PutSources bs c.sources.result.now c.args.to end_) k m) c.bytes.ensures (c.in_ok-whole.ensures.put c.if-not-whole.false) in
     sizes_still root plan c.args.to c.requires.to.other c.requires.to.no_cache k m
-    (put_written root plan c.args.to c.requires.to.other c.requires.to.no_cache end_ k m c.end_of-end.ensures (subst (λ (ss : List Source). Told (PutSources plan.bytes ss c.args.to end_) k m) c.sources.ensures put)) c.requires.sizes
+    (put_written root plan c.args.to c.requires.to.other c.requires.to.no_cache end_ k m c.end_of-end.ensures (subst (λ (ss : List Source). BothTold (PutSources plan.bytes ss c.args.to end_) k m) c.sources.ensures put)) c.requires.sizes

@@ -2,7 +2,7 @@
 use Rattle.std.proofs.Common.{◌≡◌, ◌<◌, ◌+◌, List, length, take, refl, subst, arith, take_all}
 use Rattle.std.specs.List.{sum_by}
 use Rattle.std.proofs.lemmas.Option.{slice_get-get_or}
-use Rattle.disk_model.specs.Disk.{Told}
+use Rattle.disk_model.specs.Disk.{BothTold}
 use Rattle.disk_model.specs.BesideLaws.{run_started, run_joined}
 use Rattle.root_change.specs.declared.sources.Source.{Source}
 use Rattle.root_change.specs.Gathering.{source_count, PutSources}
@@ -18,7 +18,7 @@ loop-source-init g c =
     let content = g.D.Disk.content in
     record {
       next_is = omega arith;
-      beside = λ bounds far. run_started content g.D.Disk.moment g.D.Disk.left_since bounds disk (g.met.D.Disk.only_now disk);
+      crash_beside = λ bounds far. run_started content g.D.Disk.moment g.D.Disk.left_since bounds disk (g.met.D.Disk.only_now disk);
       put = first_put c.args.bytes.now c.args.sources.now c.args.to c.args.end (content disk) c.requires.inside;
       inside = c.requires.inside;
       others = others_first c.args.to (content disk);
@@ -33,13 +33,13 @@ pub put_source-requires-clause-end : goal.put_source-requires-clause-end
 put_source-requires-clause-end g c =
     next_below c.args.sources.now c.loop-source.source-index _ c.args.end c.loop-source.next _ (slice_get-get_or c.args.sources.now c.loop-source.source-index _ (omega arith)) c.loop-source.invariant.next_is c.requires.end
 
-pub returns-in_err-whole-clause-beside : goal.returns-in_err-whole-clause-beside
-returns-in_err-whole-clause-beside g c = λ bounds far.
-    run_joined g.D.Disk.content g.D.Disk.moment g.D.Disk.left_since bounds c.args.disk.now c.loop-source.disk c.put_source.new.disk (c.loop-source.invariant.beside bounds far) (c.put_source.ensures.beside bounds (respects_more (bounds c.args.to) c.args.end c.loop-source.next (omega (arith, c.loop-source.invariant.next_is)) far))
+pub returns-in_err-whole-clause-crash_beside : goal.returns-in_err-whole-clause-crash_beside
+returns-in_err-whole-clause-crash_beside g c = λ bounds far.
+    run_joined g.D.Disk.content g.D.Disk.moment g.D.Disk.left_since bounds c.args.disk.now c.loop-source.disk c.put_source.new.disk (c.loop-source.invariant.crash_beside bounds far) (c.put_source.ensures.crash_beside bounds (respects_more (bounds c.args.to) c.args.end c.loop-source.next (omega (arith, c.loop-source.invariant.next_is)) far))
 
-pub returns-then-not-whole-clause-beside : goal.returns-then-not-whole-clause-beside
-returns-then-not-whole-clause-beside g c = λ bounds far.
-    run_joined g.D.Disk.content g.D.Disk.moment g.D.Disk.left_since bounds c.args.disk.now c.loop-source.disk c.put_source.new.disk (c.loop-source.invariant.beside bounds far) (c.put_source.ensures.beside bounds (respects_more (bounds c.args.to) c.args.end c.loop-source.next (omega (arith, c.loop-source.invariant.next_is)) far))
+pub returns-then-not-whole-clause-crash_beside : goal.returns-then-not-whole-clause-crash_beside
+returns-then-not-whole-clause-crash_beside g c = λ bounds far.
+    run_joined g.D.Disk.content g.D.Disk.moment g.D.Disk.left_since bounds c.args.disk.now c.loop-source.disk c.put_source.new.disk (c.loop-source.invariant.crash_beside bounds far) (c.put_source.ensures.crash_beside bounds (respects_more (bounds c.args.to) c.args.end c.loop-source.next (omega (arith, c.loop-source.invariant.next_is)) far))
 
 pub returns-then-not-whole-clause-whole : goal.returns-then-not-whole-clause-whole
 returns-then-not-whole-clause-whole g c = λ has.
@@ -61,13 +61,13 @@ loop-source-preserved g c =
     let m = content c.loop-source.disk in
     let o = content c.put_source.new.disk in
     let below : i < length sources = omega arith in
-    let put : Told (PutSources c.args.bytes.now (take (i + 1) sources) c.args.to c.args.end) k o =
+    let put : BothTold (PutSources c.args.bytes.now (take (i + 1) sources) c.args.to c.args.end) k o =
     more_put c.args.bytes.now sources i _ c.args.to c.args.end next k m o (slice_get-get_or sources i _ below) (c.requires.sources i _ (slice_get-get_or sources i _ below)) before.next_is before.put (c.in_ok-whole.ensures.put c.if-not-whole.false) in
     let after : next + c.count_of-next.result ≡ c.args.end + sum_by source_count (take (i + 1) sources) =
     next_after sources i _ c.args.end next c.count_of-next.result (slice_get-get_or sources i _ below) before.next_is c.count_of-next.ensures in
     record {
       next_is = after;
-      beside = λ bounds far. run_joined content g.D.Disk.moment g.D.Disk.left_since bounds c.args.disk.now c.loop-source.disk c.put_source.new.disk (before.beside bounds far) (c.put_source.ensures.beside bounds (respects_more (bounds c.args.to) c.args.end next (omega (arith, before.next_is)) far));
+      crash_beside = λ bounds far. run_joined content g.D.Disk.moment g.D.Disk.left_since bounds c.args.disk.now c.loop-source.disk c.put_source.new.disk (before.crash_beside bounds far) (c.put_source.ensures.crash_beside bounds (respects_more (bounds c.args.to) c.args.end next (omega (arith, before.next_is)) far));
       put = put;
       inside = put_inside c.args.bytes.now (take (i + 1) sources) c.args.to c.args.end (next + c.count_of-next.result) k o after put;
       others = others_then c.args.to k m o before.others c.in_ok-whole.ensures.others;
@@ -80,7 +80,7 @@ returns-clause-put g c = λ is.
     let sources = c.args.sources.now in
     let i = c.loop-source.source-index in
     let all : take i sources ≡ sources = take_all i sources (omega arith) in
-    subst (λ (ss : List Source). Told (PutSources c.args.bytes.now ss c.args.to c.args.end) (g.D.Disk.content c.args.disk.now) (g.D.Disk.content c.loop-source.disk)) all c.loop-source.invariant.put
+    subst (λ (ss : List Source). BothTold (PutSources c.args.bytes.now ss c.args.to c.args.end) (g.D.Disk.content c.args.disk.now) (g.D.Disk.content c.loop-source.disk)) all c.loop-source.invariant.put
 
 pub returns-in_err-whole-clause-others : goal.returns-in_err-whole-clause-others
 returns-in_err-whole-clause-others g c =

@@ -1,9 +1,9 @@
 -- A removal, no call, or a cut.
 use Rattle.std.proofs.Common.{◌∙◌, ℕ, sym, subst}
 use Rattle.std.proofs.lemmas.Result.{on_ok_weaker}
-use Rattle.disk_model.specs.Beside.{Respects}
+use Rattle.disk_model.specs.Beside.{RespectsBound}
 use Rattle.disk_model.specs.BesideLaws.{remove_told, run_started, run_call}
-use Rattle.disk_model.specs.Disk.{Told, OneFile}
+use Rattle.disk_model.specs.Disk.{BothTold, OneFile}
 use Rattle.root_change.specs.Names.{bounds_of}
 use Rattle.root_change.specs.Tidying.{Trimmed}
 use Rattle.root_change.proofs.Drops.{unnamed_bound}
@@ -11,8 +11,8 @@ use Rattle.root_change.proofs.Sizes.{end_respects}
 use Rattle.root_change.proofs.Tidies.{is_root_file, isnt_root_file, removed_tidied, trimmed_tidied, root_tidied}
 use Rattle.root_change.proofs.tidying.tidy_file.Goals as goal
 
-pub returns-then-not-is_named-clause-beside : goal.returns-then-not-is_named-clause-beside
-returns-then-not-is_named-clause-beside g c =
+pub returns-then-not-is_named-clause-crash_beside : goal.returns-then-not-is_named-clause-crash_beside
+returns-then-not-is_named-clause-crash_beside g c =
     let disk = c.args.disk.now in
     let root = c.args.root.now in
     let content = g.D.Disk.content in
@@ -25,8 +25,8 @@ returns-then-not-is_named-clause-tidied g c =
     let isnt = sym c.is_named.ensures ∙ c.if-not-is_named.true in
     on_ok_weaker c.remove.result (removed_tidied c.args.root.now c.args.name (g.D.Disk.content c.args.disk.now) (g.D.Disk.content c.remove.new.self) isnt) c.remove.ensures.removed
 
-pub returns-then-is_root-clause-beside : goal.returns-then-is_root-clause-beside
-returns-then-is_root-clause-beside g c =
+pub returns-then-is_root-clause-crash_beside : goal.returns-then-is_root-clause-crash_beside
+returns-then-is_root-clause-crash_beside g c =
     let disk = c.args.disk.now in
     run_started g.D.Disk.content g.D.Disk.moment g.D.Disk.left_since (bounds_of c.args.root.now) disk (g.met.D.Disk.only_now disk)
 
@@ -34,12 +34,12 @@ pub returns-then-is_root-clause-tidied : goal.returns-then-is_root-clause-tidied
 returns-then-is_root-clause-tidied g c =
     root_tidied c.args.root.now c.args.name (g.D.Disk.content c.args.disk.now) (is_root_file c.args.root.now c.args.name (sym c.is_root.ensures ∙ c.if-is_root.true))
 
-pub returns-clause-beside : goal.returns-clause-beside
-returns-clause-beside g c =
+pub returns-clause-crash_beside : goal.returns-clause-crash_beside
+returns-clause-crash_beside g c =
     let root = c.args.root.now in
     let name = c.args.name in
     let is_file = isnt_root_file name (sym c.is_root.ensures ∙ c.if-is_root.false) in
-    c.trim.ensures.beside (bounds_of root) (subst (λ (n : ℕ). Respects (bounds_of root name) n) (sym c.end_of-end.ensures) (end_respects root name is_file))
+    c.trim.ensures.crash_beside (bounds_of root) (subst (λ (n : ℕ). RespectsBound (bounds_of root name) n) (sym c.end_of-end.ensures) (end_respects root name is_file))
 
 pub returns-clause-tidied : goal.returns-clause-tidied
 returns-clause-tidied g c =
@@ -49,4 +49,4 @@ returns-clause-tidied g c =
     let m = g.D.Disk.content c.trim.new.disk in
     let is = sym c.is_named.ensures ∙ c.if-not-is_named.false in
     let is_file = isnt_root_file name (sym c.is_root.ensures ∙ c.if-is_root.false) in
-    on_ok_weaker c.trim.result (λ trimmed. trimmed_tidied root name k m is is_file (subst (λ (n : ℕ). Told (OneFile name (Trimmed n)) k m) c.end_of-end.ensures trimmed)) c.trim.ensures.trimmed
+    on_ok_weaker c.trim.result (λ trimmed. trimmed_tidied root name k m is is_file (subst (λ (n : ℕ). BothTold (OneFile name (Trimmed n)) k m) c.end_of-end.ensures trimmed)) c.trim.ensures.trimmed

@@ -5,14 +5,14 @@ use Rattle.disk_model.specs.BesideLaws.{cut_told, run_on, run_unchanged}
 use Rattle.root_change.proofs.Tidies.{short_told, trimmed_told, inside_told}
 use Rattle.root_change.proofs.tidying.trim.Goals as goal
 
-pub returns-in_err-size-clause-beside : goal.returns-in_err-size-clause-beside
-returns-in_err-size-clause-beside g c = λ bounds far.
+pub returns-in_err-size-clause-crash_beside : goal.returns-in_err-size-clause-crash_beside
+returns-in_err-size-clause-crash_beside g c = λ bounds far.
     let disk = c.args.disk.now in
     let content = g.D.Disk.content in
     run_unchanged content g.D.Disk.moment g.D.Disk.left_since bounds disk c.length.new.self (g.met.D.Disk.only_now disk) c.length.ensures.time c.length.ensures.same
 
-pub returns-then-size-length-clause-beside : goal.returns-then-size-length-clause-beside
-returns-then-size-length-clause-beside g c = λ bounds far.
+pub returns-then-size-length-clause-crash_beside : goal.returns-then-size-length-clause-crash_beside
+returns-then-size-length-clause-crash_beside g c = λ bounds far.
     let disk = c.args.disk.now in
     let content = g.D.Disk.content in
     run_unchanged content g.D.Disk.moment g.D.Disk.left_since bounds disk c.length.new.self (g.met.D.Disk.only_now disk) c.length.ensures.time c.length.ensures.same
@@ -21,8 +21,8 @@ pub returns-then-size-length-clause-trimmed : goal.returns-then-size-length-clau
 returns-then-size-length-clause-trimmed g c =
     short_told c.args.name c.in_ok-size.size c.args.length (g.D.Disk.content c.args.disk.now) (g.D.Disk.content c.length.new.self) (omega arith) c.in_ok-size.ensures.length c.length.ensures.same
 
-pub returns-clause-beside : goal.returns-clause-beside
-returns-clause-beside g c = λ bounds far.
+pub returns-clause-crash_beside : goal.returns-clause-crash_beside
+returns-clause-crash_beside g c = λ bounds far.
     let disk = c.args.disk.now in
     let d1 = c.length.new.self in
     let content = g.D.Disk.content in

@@ -8,9 +8,9 @@ use Rattle.root_slots.proofs.Phases.{new_current, other_ready}
 use Rattle.root_slots.proofs.Commits.{newer_root, to_old_or_new, to_between, to_others, each_new}
 use Rattle.root_slots.proofs.slots.commit.Goals as goal
 
-pub returns-clause-any_moment : goal.returns-clause-any_moment
-returns-clause-any_moment g c = λ old ready later.
-    weaker g.D.Disk.moment g.D.Disk.left_since c.args.disk.now c.write_slot.new.disk _ _ c.write_slot.ensures.any_moment
+pub returns-clause-crash : goal.returns-clause-crash
+returns-clause-crash g c = λ old ready later.
+    weaker g.D.Disk.moment g.D.Disk.left_since c.args.disk.now c.write_slot.new.disk _ _ c.write_slot.ensures.crash
     (λ image. to_old_or_new (slot_number c.args.slot) (spelling c.args.root.now) (slot_below c.args.slot) old _ image (newer_root c.args.root.now old (omega arith) later) ready)
 
 pub returns-clause-done : goal.returns-clause-done
@@ -35,11 +35,11 @@ returns-clause-again g c = λ old ready later.
 
 pub returns-clause-elsewhere : goal.returns-clause-elsewhere
 returns-clause-elsewhere g c =
-    weaker g.D.Disk.moment g.D.Disk.left_since c.args.disk.now c.write_slot.new.disk _ _ c.write_slot.ensures.any_moment (λ image. to_others _ _ image)
+    weaker g.D.Disk.moment g.D.Disk.left_since c.args.disk.now c.write_slot.new.disk _ _ c.write_slot.ensures.crash (λ image. to_others _ _ image)
 
-pub returns-clause-between : goal.returns-clause-between
-returns-clause-between g c =
-    weaker g.D.Disk.moment g.D.Disk.left_since c.args.disk.now c.write_slot.new.disk _ _ c.write_slot.ensures.any_moment
+pub returns-clause-crash_between : goal.returns-clause-crash_between
+returns-clause-crash_between g c =
+    weaker g.D.Disk.moment g.D.Disk.left_since c.args.disk.now c.write_slot.new.disk _ _ c.write_slot.ensures.crash
     (λ image. to_between (slot_number c.args.slot) (spelling c.args.root.now) (slot_below c.args.slot) _ image)
 
 pub returns-clause-written : goal.returns-clause-written

@@ -3,10 +3,10 @@ use Rattle.disk_model.specs.Moments.{weaker}
 use Rattle.root_slots.proofs.Starting.{to_shut, to_others}
 use Rattle.root_slots.proofs.start.begin.Goals as goal
 
-pub returns-clause-any_moment : goal.returns-clause-any_moment
-returns-clause-any_moment g c = λ each.
-    weaker g.D.Disk.moment g.D.Disk.left_since c.args.disk.now c.make_zeros.new.disk _ _ c.make_zeros.ensures.any_moment (λ image. to_shut _ image each)
+pub returns-clause-crash : goal.returns-clause-crash
+returns-clause-crash g c = λ each.
+    weaker g.D.Disk.moment g.D.Disk.left_since c.args.disk.now c.make_zeros.new.disk _ _ c.make_zeros.ensures.crash (λ image. to_shut _ image each)
 
 pub returns-clause-elsewhere : goal.returns-clause-elsewhere
 returns-clause-elsewhere g c =
-    weaker g.D.Disk.moment g.D.Disk.left_since c.args.disk.now c.make_zeros.new.disk _ _ c.make_zeros.ensures.any_moment (λ image. to_others _ image)
+    weaker g.D.Disk.moment g.D.Disk.left_since c.args.disk.now c.make_zeros.new.disk _ _ c.make_zeros.ensures.crash (λ image. to_others _ image)

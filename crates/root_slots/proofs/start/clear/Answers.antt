@@ -6,16 +6,16 @@ use Rattle.root_slots.specs.Slots.{StillShut}
 use Rattle.root_slots.proofs.Starting.{shut_at_start, shut_removed}
 use Rattle.root_slots.proofs.start.clear.Goals as goal
 
-pub returns-in_err-remove-clause-any_moment : goal.returns-in_err-remove-clause-any_moment
-returns-in_err-remove-clause-any_moment g c =
+pub returns-in_err-remove-clause-crash : goal.returns-in_err-remove-clause-crash
+returns-in_err-remove-clause-crash g c =
     let disk = c.args.disk.now in
     let k = g.D.Disk.content disk in
     let start = started g.D.Disk.moment g.D.Disk.left_since disk (StillShut k) (λ image left. shut_at_start k image (g.met.D.Disk.only_now disk image left)) in
     goes_on g.D.Disk.moment g.D.Disk.left_since disk disk c.remove.new.self (StillShut k) _ start c.remove.ensures.time
     (λ image. shut_removed TornRemoval k _ image (λ a b torn. torn.crash) (rw c.root_file.ensures at c.in_err-remove.ensures.torn))
 
-pub returns-clause-any_moment : goal.returns-clause-any_moment
-returns-clause-any_moment g c =
+pub returns-clause-crash : goal.returns-clause-crash
+returns-clause-crash g c =
     let disk = c.args.disk.now in
     let k = g.D.Disk.content disk in
     let m = g.D.Disk.content c.remove.new.self in

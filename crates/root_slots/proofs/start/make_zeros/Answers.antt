@@ -5,9 +5,9 @@ use Rattle.disk_model.specs.Moments.{joined}
 use Rattle.root_slots.proofs.Starting.{first_zeros, other_zeros, shut_writing, became, two_zeros, begun}
 use Rattle.root_slots.proofs.start.make_zeros.Goals as goal
 
-pub returns-in_err-write_and_sync-clause-any_moment : goal.returns-in_err-write_and_sync-clause-any_moment
-returns-in_err-write_and_sync-clause-any_moment g c =
-    joined g.D.Disk.moment g.D.Disk.left_since c.args.disk.now c.clear.new.disk c.write_and_sync.new.disk _ _ _ c.clear.ensures.any_moment (rw c.root_file.ensures at c.write_and_sync.ensures.any_moment)
+pub returns-in_err-write_and_sync-clause-crash : goal.returns-in_err-write_and_sync-clause-crash
+returns-in_err-write_and_sync-clause-crash g c =
+    joined g.D.Disk.moment g.D.Disk.left_since c.args.disk.now c.clear.new.disk c.write_and_sync.new.disk _ _ _ c.clear.ensures.crash (rw c.root_file.ensures at c.write_and_sync.ensures.crash)
     (λ image shut. shut)
     (λ image. shut_writing None 0 2 _ _ image first_zeros (g.met.D.Disk.reads_fit c.args.disk.now) c.in_ok-clear.ensures.cleared)
 
@@ -15,14 +15,14 @@ pub write_and_sync-requires-2-clause-inside : goal.write_and_sync-requires-2-cla
 write_and_sync-requires-2-clause-inside g c =
     rw c.root_file-2.ensures (two_zeros _ _ (became None 0 (0 ∷ 0 ∷ []) _ _ _ c.in_ok-clear.ensures.cleared (rw c.root_file.ensures at c.in_ok-write_and_sync.ensures.written)))
 
-pub returns-clause-any_moment : goal.returns-clause-any_moment
-returns-clause-any_moment g c =
+pub returns-clause-crash : goal.returns-clause-crash
+returns-clause-crash g c =
     let fit = g.met.D.Disk.reads_fit c.args.disk.now in
     joined g.D.Disk.moment g.D.Disk.left_since c.args.disk.now c.write_and_sync.new.disk c.write_and_sync-2.new.disk _ _ _
-    (joined g.D.Disk.moment g.D.Disk.left_since c.args.disk.now c.clear.new.disk c.write_and_sync.new.disk _ _ _ c.clear.ensures.any_moment (rw c.root_file.ensures at c.write_and_sync.ensures.any_moment)
+    (joined g.D.Disk.moment g.D.Disk.left_since c.args.disk.now c.clear.new.disk c.write_and_sync.new.disk _ _ _ c.clear.ensures.crash (rw c.root_file.ensures at c.write_and_sync.ensures.crash)
     (λ image shut. shut)
     (λ image. shut_writing None 0 2 _ _ image first_zeros fit c.in_ok-clear.ensures.cleared))
-    (rw c.root_file-2.ensures at c.write_and_sync-2.ensures.any_moment)
+    (rw c.root_file-2.ensures at c.write_and_sync-2.ensures.crash)
     (λ image shut. shut)
     (λ image. shut_writing (Some (0 ∷ 0 ∷ [])) 2 4094 _ _ image other_zeros fit (became None 0 (0 ∷ 0 ∷ []) _ _ _ c.in_ok-clear.ensures.cleared (rw c.root_file.ensures at c.in_ok-write_and_sync.ensures.written)))
 

@@ -1,6 +1,6 @@
 use Rattle.std.proofs.Common.{ℕ, List}
 use Rattle.thread_index.specs.Lists.{list_at_key}
-use Rattle.thread_index.specs.Taking.{HoldsOne, Moves, SharesKey}
+use Rattle.thread_index.specs.Taking.{HoldsOne, MovesPending, SharesKey}
 use Rattle.std.proofs.Common.{sym, subst}
 use Rattle.thread_model.proofs.Entries.{lookup-among, lookup-none}
 use Rattle.thread_index.proofs.Moved.{moves-idle, row-shares}
@@ -17,4 +17,4 @@ pub returns-clause-moves : goal.returns-clause-moves
 returns-clause-moves c =
     row-shares c.args.rows.now.entries (list_at_key c.args.holders.now) c.args.n c.in-Some.keys.now c.args.pending.now.keys c.visit_keys.new.pending.keys c.args.part.now.items c.visit_keys.new.part.items c.requires.held
     (lookup-among c.args.rows.now.entries c.args.n c.in-Some.keys.now (sym c.in-Some.ensures.value))
-    (subst (λ (ks : List (List ℕ)). Moves (HoldsOne (list_at_key c.args.holders.now) ks) c.args.pending.now.keys c.visit_keys.new.pending.keys c.args.part.now.items c.visit_keys.new.part.items) c.as_slice.ensures c.in_ok-visit_keys.ensures.moves)
+    (subst (λ (ks : List (List ℕ)). MovesPending (HoldsOne (list_at_key c.args.holders.now) ks) c.args.pending.now.keys c.visit_keys.new.pending.keys c.args.part.now.items c.visit_keys.new.part.items) c.as_slice.ensures c.in_ok-visit_keys.ensures.moves)

@@ -1,4 +1,4 @@
-use Rattle.thread_index.specs.Index.{AreInOrder}
+use Rattle.thread_index.specs.Index.{OrdersNumbers}
 use Rattle.thread_index.proofs.Others.{gathered-take}
 use Rattle.std.proofs.Common.{sym, subst}
 use Rattle.std.proofs.lemmas.Result.{IfOk-weaker}
@@ -13,5 +13,5 @@ loop-n-preserved c = gathered-take c.args.ns.now c.loop-n.n-index 0 c.loop-n.set
 pub returns : goal.returns
 returns c =
     IfOk-weaker c.numbers_of.result _ _
-    (λ numbers e. subst (AreInOrder c.args.ns.now) (sym e) (in-order c.args.ns.now c.loop-n.n-index c.loop-n.set.keys c.loop-n-test.false c.loop-n.invariant))
+    (λ numbers e. subst (OrdersNumbers c.args.ns.now) (sym e) (in-order c.args.ns.now c.loop-n.n-index c.loop-n.set.keys c.loop-n-test.false c.loop-n.invariant))
     c.numbers_of.ensures

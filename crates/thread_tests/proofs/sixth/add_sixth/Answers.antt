@@ -2,7 +2,7 @@ use Rattle.std.proofs.Common.{rules, ◌≡◌, ◌+◌, ◌≤◌, true, is_ok,
 use Rattle.thread_tests.specs.Sixth.{AddsInTwo, TakesInSix, five_rows, six_rows, sixth_keys}
 use Rattle.std.proofs.Common.{subst}
 use Rattle.std.proofs.lemmas.Result.{on_ok_weaker}
-use Rattle.thread_model.specs.Threads.{Row}
+use Rattle.thread_model.specs.Threads.{KeyedRow}
 use Rattle.thread_index.specs.Index.{IsCostOfAdd}
 use Rattle.thread_tests.proofs.sixth.add_sixth.Goals as goal
 
@@ -12,5 +12,5 @@ returns-clause-steps g c =
     on_ok_weaker c.add.result
     (λ cost. c.sixth_row_costs.ensures.add c.args.steps.now c.add.new.steps
     (subst (λ (ks : List (List ℕ)). IsCostOfAdd five_rows ks c.args.steps.now c.add.new.steps) c.requires.keys
-    (subst (λ (rows : List Row). IsCostOfAdd rows c.args.keys.now c.args.steps.now c.add.new.steps) c.requires.rows cost)))
+    (subst (λ (rows : List KeyedRow). IsCostOfAdd rows c.args.keys.now c.args.steps.now c.add.new.steps) c.requires.rows cost)))
     c.add.ensures.steps

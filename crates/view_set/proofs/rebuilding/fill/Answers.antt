@@ -1,7 +1,7 @@
 use Rattle.std.proofs.Common.{◌∙◌, ◌<◌, length, sym, ap, subst, arith, rules, []}
 use Rattle.arch_model.specs.Archives.{live}
 use Rattle.view_set.specs.Viewed.{views_of}
-use Rattle.view_set.specs.Walks.{IsDamagedAt}
+use Rattle.view_set.specs.Walks.{IsDamagedTextAt}
 use Rattle.arch_model.proofs.Shelving.{why-earlier}
 use Rattle.view_set.proofs.Walking.{walks-same, walks-joined, take-zero, take-all, line-within, messages-from}
 use Rattle.view_set.proofs.rebuilding.fill.Goals as goal
@@ -61,7 +61,7 @@ returns-in-Err-clause-within g c =
     subst (λ ls. c.loop-line.index < length ls) c.loop-line.invariant.walk.lines_are (line-within (g.W.Walked.lines c.loop-line.walked) c.loop-line.index c.in-Some.line (sym c.in-Some.ensures.line))
 
 pub returns-in-Err-clause-damage : goal.returns-in-Err-clause-damage
-returns-in-Err-clause-damage g c = subst (λ ls. IsDamagedAt ls c.loop-line.index c.in-Err.why) c.loop-line.invariant.walk.lines_are c.in-Err.ensures.damage
+returns-in-Err-clause-damage g c = subst (λ ls. IsDamagedTextAt ls c.loop-line.index c.in-Err.why) c.loop-line.invariant.walk.lines_are c.in-Err.ensures.damage
 
 pub returns-clause-reads : goal.returns-clause-reads
 returns-clause-reads g c = (let before = c.loop-line.invariant.few in omega (arith, before))

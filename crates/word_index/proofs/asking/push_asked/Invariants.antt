@@ -1,10 +1,10 @@
 use Rattle.std.proofs.Common.{◌≡◌, ◌&&◌, take}
 use Rattle.std.specs.List.{list_all}
 use Rattle.query_lang.specs.Matching.{has_in}
-use Rattle.word_index.specs.Rows.{Row}
+use Rattle.word_index.specs.Rows.{WordRow}
 use Rattle.word_index.specs.Asked.{has_asked}
 use Rattle.word_index.proofs.asking.push_asked.Given as goal
 
 abbrev pub invariant-loop-word : goal.invariant-loop-word
 invariant-loop-word l =
-    (row : Row) → list_all (has_asked row) l.into.items ≡ (list_all (has_asked row) l.fn.into.items && list_all (has_in l.field row.words) (take l.word-index l.words))
+    (row : WordRow) → list_all (has_asked row) l.into.items ≡ (list_all (has_asked row) l.fn.into.items && list_all (has_in l.field row.words) (take l.word-index l.words))

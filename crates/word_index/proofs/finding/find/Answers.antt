@@ -3,7 +3,7 @@ use Rattle.std.specs.List.{filter}
 use Rattle.word_index.specs.Rows.{passes_at}
 use Rattle.word_index.specs.Tables.{rows_of}
 use Rattle.word_index.specs.Asked.{matches_asked}
-use Rattle.word_index.specs.Sources.{IsSource}
+use Rattle.word_index.specs.Sources.{HasEachMatch}
 use Rattle.word_index.proofs.SourceLemmas.{found-is}
 use Rattle.word_index.proofs.finding.find.Goals as goal
 
@@ -12,7 +12,7 @@ returns c =
     let rows = rows_of c.args.tables.now in
     let asked = c.as_slice-3.result.now in
     let days = c.as_slice-days.result.now in
-    let source : IsSource asked days c.least_source-source.result = rw (c.as_slice-3.ensures.value) (rw (c.as_slice.ensures.value) at c.least_source-source.ensures) in
+    let source : HasEachMatch asked days c.least_source-source.result = rw (c.as_slice-3.ensures.value) (rw (c.as_slice.ensures.value) at c.least_source-source.ensures) in
     c.in_ok-append_matching.ensures
     ∙ ap (λ (l : List ℕ). l ++ filter (passes_at (matches_asked asked days) rows) c.as_slice-2.result.now) c.new-found.ensures
     ∙ found-is c.args.query.now rows asked days c.least_source-source.result c.as_slice-2.result.now c.requires.rising

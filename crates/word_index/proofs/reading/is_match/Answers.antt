@@ -2,7 +2,7 @@ use Rattle.std.proofs.Common.{◌≡◌, Bool, true, false, ◌&&◌, Option, sy
 use Rattle.std.specs.Option.{option_map_or}
 use Rattle.std.specs.List.{list_all}
 use Rattle.query_lang.specs.Matching.{in_ranges}
-use Rattle.word_index.specs.Rows.{Row, shown}
+use Rattle.word_index.specs.Rows.{WordRow, shown}
 use Rattle.word_index.specs.Asked.{is_listed, matches_asked}
 use Rattle.word_index.proofs.RowLemmas.{row_at-some, row_at-none}
 use Rattle.word_index.proofs.AskedLemmas.{matches-at}
@@ -18,4 +18,4 @@ returns-then-has_all c =
 pub returns-in-None : goal.returns-in-None
 returns-in-None c =
     let row = row_at-none c.args.tables.now.rows.entries c.args.n c.in-None.ensures.value in
-    sym (ap (λ (o : Option Row). option_map_or (matches_asked c.args.asked.now c.args.days.now) o false) row)
+    sym (ap (λ (o : Option WordRow). option_map_or (matches_asked c.args.asked.now c.args.days.now) o false) row)

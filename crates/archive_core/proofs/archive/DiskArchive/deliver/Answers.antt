@@ -4,9 +4,9 @@ use Rattle.arch_model.specs.Archives.{Archive}
 use Rattle.arch_model.specs.Delivery.{Done, delivered}
 use Rattle.arch_model.specs.Shelves.{ReadsOnce}
 use Rattle.arch_model.specs.declared.command.Command.TheVariants.{Deliver}
-use Rattle.epoch_store.specs.Promises.{Adds}
+use Rattle.epoch_store.specs.Promises.{AddsMessage}
 use Rattle.store_finding.specs.Indexes.{IndexesStored}
-use Rattle.store_finding.specs.Kept.{View, IsStoreWith}
+use Rattle.store_finding.specs.Kept.{StoreState, IsStoreWith}
 use Rattle.archive_core.specs.Commands.{AnswersDelivery, IfUnread}
 use Rattle.archive_core.specs.Kept.{MayGoIn}
 use Rattle.archive_core.proofs.Indexes.{index-of_kept}
@@ -19,12 +19,12 @@ use Rattle.archive_core.proofs.archive.DiskArchive.deliver.Goals as goal
 
 pub keep-requires-clause-may : goal.keep-requires-clause-may
 keep-requires-clause-may g c =
-    let indexed : IndexesStored c.args.self.now.entries c.self.inside.index = subst (λ (v : View). IndexesStored v.entries c.self.inside.index) c.self.view_is c.self.invariant.0 in
+    let indexed : IndexesStored c.args.self.now.entries c.self.inside.index = subst (λ (v : StoreState). IndexesStored v.entries c.self.inside.index) c.self.view_is c.self.invariant.0 in
     subst (λ (t : List ℕ). MayGoIn c.args.self.now t c.in-Take.ids) (sym c.as_slice.ensures) (may-go c.args.self.now c.self.inside.index c.in-Take.text c.in-Take.ids c.in-Take.number indexed c.in-Take.ensures.taken)
 
 pub returns-in-Refuse-clause-taken : goal.returns-in-Refuse-clause-taken
 returns-in-Refuse-clause-taken g c =
-    let indexed : IndexesStored c.args.self.now.entries c.self.inside.index = subst (λ (v : View). IndexesStored v.entries c.self.inside.index) c.self.view_is c.self.invariant.0 in
+    let indexed : IndexesStored c.args.self.now.entries c.self.inside.index = subst (λ (v : StoreState). IndexesStored v.entries c.self.inside.index) c.self.view_is c.self.invariant.0 in
     let judged = λ (a : Archive) (cache : List ℕ) (store : IsStoreWith c.args.self.now cache a (g.D.Disk.content c.args.disk.now)). c.in-Refuse.ensures.judged a cache None store (index-of_kept c.args.self.now a c.self.inside.index (store_keeps c.args.self.now cache a (g.D.Disk.content c.args.disk.now) store) indexed) in
     refused-taken g.D.Disk.content g.D.Disk.moment g.D.Disk.left_since g.D.Disk.faults g.D.Disk.reads g.met.D.Disk.only_now c.law_of_stores.ensures.recovers (Deliver c.args.bytes) (λ (a : Archive). delivered a c.args.bytes.now c.args.moment) c.args.disk.now c.verdict.new.disk c.args.self.now c.in-Refuse.answer
     (refuse-done c.args.self.now c.self.inside.index c.in-Refuse.answer ⊥ c.in-Refuse.ensures.taken) c.requires.sizes c.verdict.ensures.looks
@@ -33,18 +33,18 @@ returns-in-Refuse-clause-taken g c =
 
 pub returns-in-Ok-clause-taken : goal.returns-in-Ok-clause-taken
 returns-in-Ok-clause-taken g c =
-    let indexed : IndexesStored c.args.self.now.entries c.self.inside.index = subst (λ (v : View). IndexesStored v.entries c.self.inside.index) c.self.view_is c.self.invariant.0 in
+    let indexed : IndexesStored c.args.self.now.entries c.self.inside.index = subst (λ (v : StoreState). IndexesStored v.entries c.self.inside.index) c.self.view_is c.self.invariant.0 in
     let judged = λ (a : Archive) (cache : List ℕ) (store : IsStoreWith c.args.self.now cache a (g.D.Disk.content c.args.disk.now)). c.in-Take.ensures.judged a cache None store (index-of_kept c.args.self.now a c.self.inside.index (store_keeps c.args.self.now cache a (g.D.Disk.content c.args.disk.now) store) indexed) in
     let disk = c.args.disk.now in
     let mid = c.verdict.new.disk in
     let wanted = λ (a : Archive). delivered a c.args.bytes.now c.args.moment in
     let made = λ (a : Archive) (cache : List ℕ) (store : IsStoreWith c.args.self.now cache a (g.D.Disk.content disk)). adds-taken a c.in-Take.text c.as_slice.result.now c.args.moment (wanted a) _ c.as_slice.ensures ((judged a cache store).0 c.args.moment) (judged a cache store).1 in
     let count = subst (λ (n : ℕ). ReadsOnce (g.D.Disk.reads disk) n) (sym c.keep.ensures.changes.count) c.verdict.ensures.count in
-    done-taken g.D.Disk.content g.D.Disk.moment g.D.Disk.left_since g.D.Disk.faults g.D.Disk.reads g.met.D.Disk.only_now c.law_of_stores.ensures.recovers (Deliver c.args.bytes) wanted disk mid c.keep.new.disk c.args.self.now c.keep.new.self (Adds c.as_slice.result.now c.args.moment) c.verdict.ensures.looks (c.in-Take.ensures.cause.kept (λ never. never)) made count _ _ c.in-Ok.ensures.changes (λ a cache store. ap (λ (d : Done). d.answer) ((judged a cache store).0 c.args.moment)) tt tt tt
+    done-taken g.D.Disk.content g.D.Disk.moment g.D.Disk.left_since g.D.Disk.faults g.D.Disk.reads g.met.D.Disk.only_now c.law_of_stores.ensures.recovers (Deliver c.args.bytes) wanted disk mid c.keep.new.disk c.args.self.now c.keep.new.self (AddsMessage c.as_slice.result.now c.args.moment) c.verdict.ensures.looks (c.in-Take.ensures.cause.kept (λ never. never)) made count _ _ c.in-Ok.ensures.changes (λ a cache store. ap (λ (d : Done). d.answer) ((judged a cache store).0 c.args.moment)) tt tt tt
 
 pub returns-clause-taken : goal.returns-clause-taken
 returns-clause-taken g c =
-    let indexed : IndexesStored c.args.self.now.entries c.self.inside.index = subst (λ (v : View). IndexesStored v.entries c.self.inside.index) c.self.view_is c.self.invariant.0 in
+    let indexed : IndexesStored c.args.self.now.entries c.self.inside.index = subst (λ (v : StoreState). IndexesStored v.entries c.self.inside.index) c.self.view_is c.self.invariant.0 in
     let judged = λ (a : Archive) (cache : List ℕ) (store : IsStoreWith c.args.self.now cache a (g.D.Disk.content c.args.disk.now)). c.in-Take.ensures.judged a cache None store (index-of_kept c.args.self.now a c.self.inside.index (store_keeps c.args.self.now cache a (g.D.Disk.content c.args.disk.now) store) indexed) in
     let why = c.in-Err.refusal in
     let disk = c.args.disk.now in
@@ -52,19 +52,19 @@ returns-clause-taken g c =
     let wanted = λ (a : Archive). delivered a c.args.bytes.now c.args.moment in
     let made = λ (a : Archive) (cache : List ℕ) (store : IsStoreWith c.args.self.now cache a (g.D.Disk.content disk)). adds-taken a c.in-Take.text c.as_slice.result.now c.args.moment (wanted a) _ c.as_slice.ensures ((judged a cache store).0 c.args.moment) (judged a cache store).1 in
     let count = subst (λ (n : ℕ). ReadsOnce (g.D.Disk.reads disk) n) (sym c.keep.ensures.changes.count) c.verdict.ensures.count in
-    failed-taken g.D.Disk.content g.D.Disk.moment g.D.Disk.left_since g.D.Disk.faults g.D.Disk.reads g.met.D.Disk.only_now c.law_of_stores.ensures.recovers (Deliver c.args.bytes) wanted disk mid c.keep.new.disk c.args.self.now c.keep.new.self (Adds c.as_slice.result.now c.args.moment) c.verdict.ensures.looks (c.in-Take.ensures.cause.kept (λ never. never)) made count why c.answer_of.result c.answer_of.ensures c.requires.sizes c.in-Err.ensures.changes
+    failed-taken g.D.Disk.content g.D.Disk.moment g.D.Disk.left_since g.D.Disk.faults g.D.Disk.reads g.met.D.Disk.only_now c.law_of_stores.ensures.recovers (Deliver c.args.bytes) wanted disk mid c.keep.new.disk c.args.self.now c.keep.new.self (AddsMessage c.as_slice.result.now c.args.moment) c.verdict.ensures.looks (c.in-Take.ensures.cause.kept (λ never. never)) made count why c.answer_of.result c.answer_of.ensures c.requires.sizes c.in-Err.ensures.changes
     (error-then why (λ r. IfUnread r (c.keep.new.disk ≡ disk)) tt tt (λ file at. tt)) (error-then why AnswersDelivery tt tt (λ file at. tt))
 
 pub returns-in-Refuse-clause-unread : goal.returns-in-Refuse-clause-unread
-returns-in-Refuse-clause-unread g c = λ a cache store unknown. c.verdict.ensures.unread a cache None store (index-of_kept c.args.self.now a c.self.inside.index (store_keeps c.args.self.now cache a (g.D.Disk.content c.args.disk.now) store) (subst (λ (v : View). IndexesStored v.entries c.self.inside.index) c.self.view_is c.self.invariant.0)) unknown
+returns-in-Refuse-clause-unread g c = λ a cache store unknown. c.verdict.ensures.unread a cache None store (index-of_kept c.args.self.now a c.self.inside.index (store_keeps c.args.self.now cache a (g.D.Disk.content c.args.disk.now) store) (subst (λ (v : StoreState). IndexesStored v.entries c.self.inside.index) c.self.view_is c.self.invariant.0)) unknown
 
 pub returns-in-Ok-clause-unread : goal.returns-in-Ok-clause-unread
 returns-in-Ok-clause-unread g c = λ a cache store unknown. c.keep.ensures.changes.count
-    ∙ c.verdict.ensures.unread a cache None store (index-of_kept c.args.self.now a c.self.inside.index (store_keeps c.args.self.now cache a (g.D.Disk.content c.args.disk.now) store) (subst (λ (v : View). IndexesStored v.entries c.self.inside.index) c.self.view_is c.self.invariant.0)) unknown
+    ∙ c.verdict.ensures.unread a cache None store (index-of_kept c.args.self.now a c.self.inside.index (store_keeps c.args.self.now cache a (g.D.Disk.content c.args.disk.now) store) (subst (λ (v : StoreState). IndexesStored v.entries c.self.inside.index) c.self.view_is c.self.invariant.0)) unknown
 
 pub returns-clause-unread : goal.returns-clause-unread
 returns-clause-unread g c = λ a cache store unknown. c.keep.ensures.changes.count
-    ∙ c.verdict.ensures.unread a cache None store (index-of_kept c.args.self.now a c.self.inside.index (store_keeps c.args.self.now cache a (g.D.Disk.content c.args.disk.now) store) (subst (λ (v : View). IndexesStored v.entries c.self.inside.index) c.self.view_is c.self.invariant.0)) unknown
+    ∙ c.verdict.ensures.unread a cache None store (index-of_kept c.args.self.now a c.self.inside.index (store_keeps c.args.self.now cache a (g.D.Disk.content c.args.disk.now) store) (subst (λ (v : StoreState). IndexesStored v.entries c.self.inside.index) c.self.view_is c.self.invariant.0)) unknown
 
 pub returns-in-Refuse-clause-text : goal.returns-in-Refuse-clause-text
 returns-in-Refuse-clause-text g c = refuse-tells c.args.self.now c.self.inside.index c.in-Refuse.answer c.args.kept.now c.in-Refuse.ensures.taken
@@ -79,7 +79,7 @@ returns-in-Ok-clause-text g c =
 
 pub returns-in-Ok-clause-kept : goal.returns-in-Ok-clause-kept
 returns-in-Ok-clause-kept g c = λ a cache store.
-    let indexed : IndexesStored c.args.self.now.entries c.self.inside.index = subst (λ (v : View). IndexesStored v.entries c.self.inside.index) c.self.view_is c.self.invariant.0 in
+    let indexed : IndexesStored c.args.self.now.entries c.self.inside.index = subst (λ (v : StoreState). IndexesStored v.entries c.self.inside.index) c.self.view_is c.self.invariant.0 in
     let judged = λ (a : Archive) (cache : List ℕ) (store : IsStoreWith c.args.self.now cache a (g.D.Disk.content c.args.disk.now)). c.in-Take.ensures.judged a cache None store (index-of_kept c.args.self.now a c.self.inside.index (store_keeps c.args.self.now cache a (g.D.Disk.content c.args.disk.now) store) indexed) in
     sym (archive_taken a c.in-Take.text c.in-Take.text c.args.moment (delivered a c.args.bytes.now c.args.moment) _ refl ((judged a cache store).0 c.args.moment))
 

@@ -9,7 +9,7 @@ use Rattle.arch_model.specs.Delivery.{Done, edited, edited_text}
 use Rattle.arch_model.specs.declared.answer.Answer.TheVariants as answer
 use Rattle.arch_model.specs.declared.command.Command.TheVariants.{Edit}
 use Rattle.epoch_store.proofs.Readying.{read_between}
-use Rattle.store_finding.specs.Kept.{View, IsStoreWith}
+use Rattle.store_finding.specs.Kept.{StoreState, IsStoreWith}
 use Rattle.epoch_store.specs.Commands.{EditsFiles, RecoversOneOf}
 use Rattle.archive_core.specs.Commands.{DoneBy}
 use Rattle.archive_core.specs.Walks.{looks-joined}
@@ -38,7 +38,7 @@ pub returns-in-Err-clause-taken : goal.returns-in-Err-clause-taken
 returns-in-Err-clause-taken g c =
     refused-taken g.D.Disk.content g.D.Disk.moment g.D.Disk.left_since g.D.Disk.faults g.D.Disk.reads g.met.D.Disk.only_now c.law_of_stores.ensures.recovers (Edit c.args.number c.args.bytes) (λ (a : Archive). edited a c.args.number c.args.bytes.now c.args.moment) c.args.disk.now c.is_same.new.disk c.args.self.now c.in-Err.answer (unformed-never c.in-Err.answer ⊥ c.in-Err.ensures.refused) c.requires.sizes c.is_same.ensures.looks
     (λ a cache store own.
-    let v : View = c.args.self.now in
+    let v : StoreState = c.args.self.now in
     let k = g.D.Disk.content c.args.disk.now in
     let keeps = store_keeps v cache a k store in
     let writable : v.root.config.mirror ≡ false = ap (λ (n : Config). n.mirror) (sym c.config.ensures) ∙ c.if-config.false in
@@ -51,7 +51,7 @@ pub returns-in-Ok-true-clause-taken : goal.returns-in-Ok-true-clause-taken
 returns-in-Ok-true-clause-taken g c =
     refused-taken g.D.Disk.content g.D.Disk.moment g.D.Disk.left_since g.D.Disk.faults g.D.Disk.reads g.met.D.Disk.only_now c.law_of_stores.ensures.recovers (Edit c.args.number c.args.bytes) (λ (a : Archive). edited a c.args.number c.args.bytes.now c.args.moment) c.args.disk.now c.is_same.new.disk c.args.self.now (answer.Duplicate c.args.number) tt c.requires.sizes c.is_same.ensures.looks
     (λ a cache store own.
-    let v : View = c.args.self.now in
+    let v : StoreState = c.args.self.now in
     let k = g.D.Disk.content c.args.disk.now in
     let keeps = store_keeps v cache a k store in
     let writable : v.root.config.mirror ≡ false = ap (λ (n : Config). n.mirror) (sym c.config.ensures) ∙ c.if-config.false in
@@ -67,13 +67,13 @@ returns-in-Ok-false-clause-taken g c =
     let told : c.in-Ok-false.field-0 ≡ false = search (rules, tests) in
     let writable : c.args.self.now.root.config.mirror ≡ false = ap (λ (n : Config). n.mirror) (sym c.config.ensures) ∙ c.if-config.false in
     let made = λ (a : Archive) (cache : List ℕ) (store : IsStoreWith c.args.self.now cache a (g.D.Disk.content c.args.disk.now)). (let keeps = store_keeps c.args.self.now cache a (g.D.Disk.content c.args.disk.now) store in edit-makes c.args.self.now a c.args.number c.args.bytes.now c.args.moment keeps writable (c.in-Some.ensures.live a keeps) (λ text is. sym (c.in-Ok-false.ensures.compared a cache store text is) ∙ told)) in
-    let may = may-read c.args.self.now c.stored.result.now c.args.number c.in-Some.index c.index-stored-index.result (c.stored.ensures ∙ ap (λ (u : View). u.entries) c.self.view_is) c.in-Some.ensures.known.message (ap (λ (n : Config). n.mirror) (sym c.config.ensures) ∙ c.if-config.false) in
+    let may = may-read c.args.self.now c.stored.result.now c.args.number c.in-Some.index c.index-stored-index.result (c.stored.ensures ∙ ap (λ (u : StoreState). u.entries) c.self.view_is) c.in-Some.ensures.known.message (ap (λ (n : Config). n.mirror) (sym c.config.ensures) ∙ c.if-config.false) in
     record {
-      any_moment = λ a cache store room.
+      crash = λ a cache store room.
           let is = made a cache store in
           let own = still_own c.args.self.now cache a (g.D.Disk.content c.args.disk.now) (g.D.Disk.content c.is_same.new.disk) c.is_same.ensures.looks.same store in
-          read-first g.D.Disk.moment g.D.Disk.left_since c.law_of_stores.ensures.recovers c.args.self.now cache [] a (edited a c.args.number c.args.bytes.now c.args.moment).archive (g.D.Disk.content c.args.disk.now) c.args.disk.now c.is_same.new.disk c.replace.new.disk store c.is_same.ensures.looks.any_moment
-          (subst (λ (b : Archive). LeavesOnly g.D.Disk.moment g.D.Disk.left_since c.is_same.new.disk c.replace.new.disk (RecoversOneOf cache a [] b)) (sym (ap (λ (d : Done). d.archive) is.2)) (edits.any_moment a cache is.0 own room is.1));
+          read-first g.D.Disk.moment g.D.Disk.left_since c.law_of_stores.ensures.recovers c.args.self.now cache [] a (edited a c.args.number c.args.bytes.now c.args.moment).archive (g.D.Disk.content c.args.disk.now) c.args.disk.now c.is_same.new.disk c.replace.new.disk store c.is_same.ensures.looks.crash
+          (subst (λ (b : Archive). LeavesOnly g.D.Disk.moment g.D.Disk.left_since c.is_same.new.disk c.replace.new.disk (RecoversOneOf cache a [] b)) (sym (ap (λ (d : Done). d.archive) is.2)) (edits.crash a cache is.0 own room is.1));
       done = λ a cache store room.
           let is = made a cache store in
           let own = still_own c.args.self.now cache a (g.D.Disk.content c.args.disk.now) (g.D.Disk.content c.is_same.new.disk) c.is_same.ensures.looks.same store in
@@ -90,7 +90,7 @@ returns-in-Ok-false-clause-taken g c =
       for_command = delivery-edit c.args.number reply edits.for_command;
       count = (let first = c.is_same.ensures.fewest in let more = c.replace.ensures.fewest in omega arith);
       rooted = done-then reply _ _ (rooted-read c.replace.new.self.slot (spelling c.replace.new.self.root) (g.D.Disk.content c.args.disk.now) (g.D.Disk.content c.is_same.new.disk) (g.D.Disk.content c.replace.new.disk) c.is_same.ensures.looks.same) edits.rooted;
-      between = read_between g.D.Disk.content g.D.Disk.moment g.D.Disk.left_since c.args.disk.now c.is_same.new.disk c.replace.new.disk c.is_same.ensures.looks.same c.is_same.ensures.looks.any_moment edits.between;
+      crash_between = read_between g.D.Disk.content g.D.Disk.moment g.D.Disk.left_since c.args.disk.now c.is_same.new.disk c.replace.new.disk c.is_same.ensures.looks.same c.is_same.ensures.looks.crash edits.crash_between;
       damage = damage-back c.args.self.now (g.D.Disk.content c.args.disk.now) (g.D.Disk.content c.is_same.new.disk) reply c.is_same.ensures.looks.same edits.damage;
     }
 
@@ -105,7 +105,7 @@ returns-in-Err-clause-kept g c = λ a cache store. unformed-never c.in-Err.answe
 
 pub replace-requires-clause-may : goal.replace-requires-clause-may
 replace-requires-clause-may g c =
-    let may = may-read c.args.self.now c.stored.result.now c.args.number c.in-Some.index c.index-stored-index.result (c.stored.ensures ∙ ap (λ (u : View). u.entries) c.self.view_is) c.in-Some.ensures.known.message (ap (λ (n : Config). n.mirror) (sym c.config.ensures) ∙ c.if-config.false) in
+    let may = may-read c.args.self.now c.stored.result.now c.args.number c.in-Some.index c.index-stored-index.result (c.stored.ensures ∙ ap (λ (u : StoreState). u.entries) c.self.view_is) c.in-Some.ensures.known.message (ap (λ (n : Config). n.mirror) (sym c.config.ensures) ∙ c.if-config.false) in
     may
 
 pub replace-requires-clause-sizes : goal.replace-requires-clause-sizes

@@ -6,7 +6,7 @@ use Rattle.arch_model.specs.Delivery.{Done}
 use Rattle.arch_model.specs.declared.answer.Answer.TheVariants as answer
 use Rattle.mail_commits.specs.declared.ids.TextIds.{TextIds}
 use Rattle.root_slots.specs.Between.{looks_between}
-use Rattle.store_finding.specs.Kept.{View, IsStoreWith}
+use Rattle.store_finding.specs.Kept.{StoreState, IsStoreWith}
 use Rattle.epoch_store.specs.Commands.{RecoversEitherWith}
 use Rattle.archive_core.specs.DamageTold.{TellsDamage}
 use Rattle.archive_core.specs.Engines.{told-same}
@@ -23,8 +23,8 @@ use Rattle.archive_core.proofs.archive.DiskArchive.end_message.Goals as goal
 pub is_named-requires : goal.is_named-requires
 is_named-requires g c = record { there = slice_get_within c.args.self.now.entries c.args.index c.requires.live.message.entry c.requires.live.message.there }
 
-pub returns-then-not-is_named-clause-any_moment : goal.returns-then-not-is_named-clause-any_moment
-returns-then-not-is_named-clause-any_moment g c = λ a cache store room shown.
+pub returns-then-not-is_named-clause-crash : goal.returns-then-not-is_named-clause-crash
+returns-then-not-is_named-clause-crash g c = λ a cache store room shown.
     absurd (c.if-not-is_named.ensures.other refl (named-at c.args.self.now a c.args.number c.args.index c.args.text.now (store_keeps c.args.self.now cache a (g.D.Disk.content c.args.disk.now) store) c.requires.live shown))
 
 pub returns-then-not-is_named-clause-done : goal.returns-then-not-is_named-clause-done
@@ -42,12 +42,12 @@ invariant_of-self g c =
       subst PlacesRise (sym whole) (rise-ended 0 c.args.number c.as_mut_slice.result.now rise),
     )
 
-pub returns-in-Ok-clause-any_moment : goal.returns-in-Ok-clause-any_moment
-returns-in-Ok-clause-any_moment g c = λ a cache store room shown.
+pub returns-in-Ok-clause-crash : goal.returns-in-Ok-clause-crash
+returns-in-Ok-clause-crash g c = λ a cache store room shown.
     let k = g.D.Disk.content c.args.disk.now in
     let is = removed-is c.args.self.now a c.args.number c.args.moment c.args.text.now (store_keeps c.args.self.now cache a k store) c.requires.writable shown in
     subst (λ (b : Archive). LeavesOnly g.D.Disk.moment g.D.Disk.left_since c.args.disk.now c.remove_entry.new.disk (RecoversEitherWith cache a b)) (sym (ap (λ (d : Done). d.archive) is))
-    (c.in-Ok.ensures.changes.any_moment a _ cache (subst (λ (v : View). IsStoreWith v cache a k) (sym c.self.view_is) store) (subst (λ (v : View). v.root.sequence + 1 < 18446744073709551616) (sym c.self.view_is) room) (record { shown = shown; is = refl }))
+    (c.in-Ok.ensures.changes.crash a _ cache (subst (λ (v : StoreState). IsStoreWith v cache a k) (sym c.self.view_is) store) (subst (λ (v : StoreState). v.root.sequence + 1 < 18446744073709551616) (sym c.self.view_is) room) (record { shown = shown; is = refl }))
 
 pub returns-in-Ok-clause-done : goal.returns-in-Ok-clause-done
 returns-in-Ok-clause-done g c = λ a cache store room shown.
@@ -56,15 +56,15 @@ returns-in-Ok-clause-done g c = λ a cache store room shown.
     record {
       answer_is = ap (λ (d : Done). d.answer) is ∙ ap (λ (i : TextIds). answer.Ok c.args.number i.blob) (sym c.text_ids-ids.ensures);
       store = subst (λ (b : Archive). IsStoreWith c.remove_entry.new.self cache b (g.D.Disk.content c.remove_entry.new.disk)) (sym (ap (λ (d : Done). d.archive) is))
-          (c.in-Ok.ensures.changes.done a _ cache (subst (λ (v : View). IsStoreWith v cache a k) (sym c.self.view_is) store) (subst (λ (v : View). v.root.sequence + 1 < 18446744073709551616) (sym c.self.view_is) room) (record { shown = shown; is = refl }));
+          (c.in-Ok.ensures.changes.done a _ cache (subst (λ (v : StoreState). IsStoreWith v cache a k) (sym c.self.view_is) store) (subst (λ (v : StoreState). v.root.sequence + 1 < 18446744073709551616) (sym c.self.view_is) room) (record { shown = shown; is = refl }));
     }
 
-pub returns-in-Err-clause-any_moment : goal.returns-in-Err-clause-any_moment
-returns-in-Err-clause-any_moment g c = λ a cache store room shown.
+pub returns-in-Err-clause-crash : goal.returns-in-Err-clause-crash
+returns-in-Err-clause-crash g c = λ a cache store room shown.
     let k = g.D.Disk.content c.args.disk.now in
     let is = removed-is c.args.self.now a c.args.number c.args.moment c.args.text.now (store_keeps c.args.self.now cache a k store) c.requires.writable shown in
     subst (λ (b : Archive). LeavesOnly g.D.Disk.moment g.D.Disk.left_since c.args.disk.now c.remove_entry.new.disk (RecoversEitherWith cache a b)) (sym (ap (λ (d : Done). d.archive) is))
-    (c.in-Err.ensures.changes.any_moment a _ cache (subst (λ (v : View). IsStoreWith v cache a k) (sym c.self.view_is) store) (subst (λ (v : View). v.root.sequence + 1 < 18446744073709551616) (sym c.self.view_is) room) (record { shown = shown; is = refl }))
+    (c.in-Err.ensures.changes.crash a _ cache (subst (λ (v : StoreState). IsStoreWith v cache a k) (sym c.self.view_is) store) (subst (λ (v : StoreState). v.root.sequence + 1 < 18446744073709551616) (sym c.self.view_is) room) (record { shown = shown; is = refl }))
 
 pub returns-then-not-is_named-clause-read : goal.returns-then-not-is_named-clause-read
 returns-then-not-is_named-clause-read g c = if-damaged c.args.self.now _ c.damaged.result ⊥ c.damaged.ensures
@@ -72,11 +72,11 @@ returns-then-not-is_named-clause-read g c = if-damaged c.args.self.now _ c.damag
 pub returns-in-Err-clause-read : goal.returns-in-Err-clause-read
 returns-in-Err-clause-read g c = if-error c.in-Err.refusal c.answer_of.result ⊥ c.answer_of.ensures
 
-pub returns-then-not-is_named-clause-between : goal.returns-then-not-is_named-clause-between
-returns-then-not-is_named-clause-between g c =
+pub returns-then-not-is_named-clause-crash_between : goal.returns-then-not-is_named-clause-crash_between
+returns-then-not-is_named-clause-crash_between g c =
     let disk = c.args.disk.now in
     let looks = looks-same g.D.Disk.content g.D.Disk.moment g.D.Disk.left_since g.met.D.Disk.only_now disk in
-    looks_between g.D.Disk.content g.D.Disk.moment g.D.Disk.left_since disk disk looks.any_moment
+    looks_between g.D.Disk.content g.D.Disk.moment g.D.Disk.left_since disk disk looks.crash
 
 pub returns-then-not-is_named-clause-damage : goal.returns-then-not-is_named-clause-damage
 returns-then-not-is_named-clause-damage g c =
@@ -85,5 +85,5 @@ returns-then-not-is_named-clause-damage g c =
 pub returns-in-Err-clause-damage : goal.returns-in-Err-clause-damage
 returns-in-Err-clause-damage g c =
     let k = g.D.Disk.content c.args.disk.now in
-    subst (λ (v : View). TellsDamage v k c.answer_of.result) c.self.view_is
+    subst (λ (v : StoreState). TellsDamage v k c.answer_of.result) c.self.view_is
     (store-damage c.self.inside.store k k c.in-Err.refusal c.answer_of.result c.answer_of.ensures (told-same k) c.in-Err.ensures.changes.damage)

@@ -1,6 +1,6 @@
 use Rattle.std.proofs.Common.{refl, Ok, ◌≡◌, ◌∙◌, ◌++◌, ◌∷◌, [], ℕ, true, List, length, is_ok, sym, ap, subst, arith, rules}
-use Rattle.epoch_store.specs.Promises.{Adds, Appends, ChangesStore}
-use Rattle.store_finding.specs.Kept.{View}
+use Rattle.epoch_store.specs.Promises.{AddsMessage, Appends, ChangesStore}
+use Rattle.store_finding.specs.Kept.{StoreState}
 use Rattle.epoch_store.proofs.Changing.{unstarted}
 use Rattle.mail_commits.specs.declared.ids.TextIds.{TextIds}
 use Rattle.archive_core.specs.Kept.{PutsText}
@@ -41,6 +41,6 @@ invariant_of-self-2 g c =
 pub returns : goal.returns
 returns g c = record {
   changes =
-      subst (λ (v : View). ChangesStore g.D.Disk.content g.D.Disk.moment g.D.Disk.left_since g.D.Disk.faults g.D.Disk.reads c.args.disk.now c.deliver_entry.new.disk v c.deliver_entry.new.self Appends (Adds c.args.text.now c.args.moment) (Ok tt)) c.self.view_is
+      subst (λ (v : StoreState). ChangesStore g.D.Disk.content g.D.Disk.moment g.D.Disk.left_since g.D.Disk.faults g.D.Disk.reads c.args.disk.now c.deliver_entry.new.disk v c.deliver_entry.new.self Appends (AddsMessage c.args.text.now c.args.moment) (Ok tt)) c.self.view_is
       c.in_default-deliver_entry.ensures.changes;
 }

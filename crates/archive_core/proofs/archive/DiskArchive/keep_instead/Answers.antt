@@ -1,7 +1,7 @@
 use Rattle.std.proofs.Common.{refl, ◌≡◌, ◌∙◌, ◌++◌, ◌∷◌, [], true, List, Ok, length, sym, ap, subst, rules, ℕ}
 use Rattle.mail_commits.specs.declared.ids.TextIds.{TextIds}
 use Rattle.store_finding.specs.declared.entries.StoredEntry.{StoredEntry}
-use Rattle.store_finding.specs.Kept.{View}
+use Rattle.store_finding.specs.Kept.{StoreState}
 use Rattle.store_planning.specs.Dropping.{without_blob}
 use Rattle.epoch_store.specs.Promises.{ChangesStore, Replaces, Renews}
 use Rattle.epoch_store.proofs.Changing.{unstarted}
@@ -27,9 +27,9 @@ returns-in_default-push-clause-changes g c = unstarted (g.met.D.Disk.only_now c.
 pub invariant_of-self : goal.invariant_of-self
 invariant_of-self g c =
     let gone = c.args.old.now in
-    let old : View = c.self.inside.store in
+    let old : StoreState = c.self.inside.store in
     let number : c.next_number-new.result ≡ old.root.next = c.next_number-new.ensures in
-    let indexed : IndexesKept (without_blob old.entries gone.0) c.args.index = subst (λ (v : View). IndexesKept (without_blob v.entries gone.0) c.args.index) (sym c.self.view_is) c.requires.index in
+    let indexed : IndexesKept (without_blob old.entries gone.0) c.args.index = subst (λ (v : StoreState). IndexesKept (without_blob v.entries gone.0) c.args.index) (sym c.self.view_is) c.requires.index in
     let puts : PutsText c.args.index c.put_text.new.index c.args.text.now c.args.ids.now.blob old.root.next = subst (λ (n : ℕ). PutsText c.args.index c.put_text.new.index c.args.text.now c.args.ids.now.blob n) number c.in-Ok.ensures.ok in
     let placed : c.in-Ok-places_without.places.items ≡ message_places 0 (without_blob old.entries gone.0) = c.in-Ok-places_without.ensures ∙ ap (λ (es : List StoredEntry). message_places 0 (without_blob es gone.0)) c.stored.ensures in
     let count : c.count_without-entry.result ≡ length (without_blob old.entries gone.0) = c.count_without-entry.ensures ∙ ap (λ (es : List StoredEntry). length (without_blob es gone.0)) c.stored-2.ensures in
@@ -48,5 +48,5 @@ invariant_of-self g c =
 
 pub returns-in-Ok-edit_text-clause-changes : goal.returns-in-Ok-edit_text-clause-changes
 returns-in-Ok-edit_text-clause-changes g c =
-    subst (λ (v : View). ChangesStore g.D.Disk.content g.D.Disk.moment g.D.Disk.left_since g.D.Disk.faults g.D.Disk.reads c.args.disk.now c.edit_text.new.disk v c.edit_text.new.self Renews (Replaces c.args.old.now c.args.text.now c.args.moment) (Ok tt)) c.self.view_is
+    subst (λ (v : StoreState). ChangesStore g.D.Disk.content g.D.Disk.moment g.D.Disk.left_since g.D.Disk.faults g.D.Disk.reads c.args.disk.now c.edit_text.new.disk v c.edit_text.new.self Renews (Replaces c.args.old.now c.args.text.now c.args.moment) (Ok tt)) c.self.view_is
     c.in-Ok-edit_text.ensures.changes

@@ -1,5 +1,5 @@
 use Rattle.std.proofs.Common.{◌≡◌, ◌∙◌, ap, List, slice_get, Some, sym}
-use Rattle.store_finding.specs.Kept.{View}
+use Rattle.store_finding.specs.Kept.{StoreState}
 use Rattle.archive_core.specs.Placing.{message_places}
 use Rattle.archive_core.specs.declared.placing.MessagePlace.{MessagePlace}
 use Rattle.archive_core.proofs.ByNumber.{place-is, live-found, unfound, unlive, shown-live}
@@ -7,16 +7,16 @@ use Rattle.archive_core.proofs.archive.DiskArchive.live_index.Goals as goal
 
 pub returns-in-None-clause-live : goal.returns-in-None-clause-live
 returns-in-None-clause-live c =
-    let v : View = c.args.self.now in
+    let v : StoreState = c.args.self.now in
     let seen : List MessagePlace = c.as_slice.result.now in
-    let placed : seen ≡ message_places 0 v.entries = c.as_slice.ensures.value ∙ c.self.invariant.1 ∙ ap (λ (u : View). message_places 0 u.entries) c.self.view_is in
+    let placed : seen ≡ message_places 0 v.entries = c.as_slice.ensures.value ∙ c.self.invariant.1 ∙ ap (λ (u : StoreState). message_places 0 u.entries) c.self.view_is in
     λ a keeps. unfound v seen placed a keeps c.args.n c.in-None.ensures
 
 pub returns-then-place-clause-known : goal.returns-then-place-clause-known
 returns-then-place-clause-known c =
-    let v : View = c.args.self.now in
+    let v : StoreState = c.args.self.now in
     let seen : List MessagePlace = c.as_slice.result.now in
-    let placed : seen ≡ message_places 0 v.entries = c.as_slice.ensures.value ∙ c.self.invariant.1 ∙ ap (λ (u : View). message_places 0 u.entries) c.self.view_is in
+    let placed : seen ≡ message_places 0 v.entries = c.as_slice.ensures.value ∙ c.self.invariant.1 ∙ ap (λ (u : StoreState). message_places 0 u.entries) c.self.view_is in
     let r : MessagePlace = c.index-place.result.now in
     let is : r ≡ c.in-Some.ensures.0 = place-is c.self.inside.places.items seen c.in-Some.at c.in-Some.ensures.0 r c.as_slice.ensures.value c.in-Some.ensures.1 c.index-place.ensures in
     let there : slice_get seen c.in-Some.at ≡ Some r = c.in-Some.ensures.1 ∙ ap Some (sym is) in
@@ -25,9 +25,9 @@ returns-then-place-clause-known c =
 
 pub returns-then-place-clause-live : goal.returns-then-place-clause-live
 returns-then-place-clause-live c =
-    let v : View = c.args.self.now in
+    let v : StoreState = c.args.self.now in
     let seen : List MessagePlace = c.as_slice.result.now in
-    let placed : seen ≡ message_places 0 v.entries = c.as_slice.ensures.value ∙ c.self.invariant.1 ∙ ap (λ (u : View). message_places 0 u.entries) c.self.view_is in
+    let placed : seen ≡ message_places 0 v.entries = c.as_slice.ensures.value ∙ c.self.invariant.1 ∙ ap (λ (u : StoreState). message_places 0 u.entries) c.self.view_is in
     let r : MessagePlace = c.index-place.result.now in
     let is : r ≡ c.in-Some.ensures.0 = place-is c.self.inside.places.items seen c.in-Some.at c.in-Some.ensures.0 r c.as_slice.ensures.value c.in-Some.ensures.1 c.index-place.ensures in
     let there : slice_get seen c.in-Some.at ≡ Some r = c.in-Some.ensures.1 ∙ ap Some (sym is) in
@@ -36,9 +36,9 @@ returns-then-place-clause-live c =
 
 pub returns-else-place-clause-live : goal.returns-else-place-clause-live
 returns-else-place-clause-live c =
-    let v : View = c.args.self.now in
+    let v : StoreState = c.args.self.now in
     let seen : List MessagePlace = c.as_slice.result.now in
-    let placed : seen ≡ message_places 0 v.entries = c.as_slice.ensures.value ∙ c.self.invariant.1 ∙ ap (λ (u : View). message_places 0 u.entries) c.self.view_is in
+    let placed : seen ≡ message_places 0 v.entries = c.as_slice.ensures.value ∙ c.self.invariant.1 ∙ ap (λ (u : StoreState). message_places 0 u.entries) c.self.view_is in
     let r : MessagePlace = c.index-place.result.now in
     let is : r ≡ c.in-Some.ensures.0 = place-is c.self.inside.places.items seen c.in-Some.at c.in-Some.ensures.0 r c.as_slice.ensures.value c.in-Some.ensures.1 c.index-place.ensures in
     let there : slice_get seen c.in-Some.at ≡ Some r = c.in-Some.ensures.1 ∙ ap Some (sym is) in

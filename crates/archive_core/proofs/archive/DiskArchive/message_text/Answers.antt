@@ -1,6 +1,6 @@
 use Rattle.std.proofs.Common.{sym, subst, List, ℕ, Ok}
 use Rattle.epoch_store.specs.Reads.{GivesTextOf}
-use Rattle.store_finding.specs.Kept.{View, IsStoreWith}
+use Rattle.store_finding.specs.Kept.{StoreState, IsStoreWith}
 use Rattle.archive_core.proofs.ByNumber.{inside-message}
 use Rattle.archive_core.proofs.Standing.{store_keeps}
 use Rattle.archive_core.proofs.TellingDamage.{unread-damage}
@@ -15,12 +15,12 @@ returns-in-Ok-clause-text g c = λ a cache own.
     let k = g.D.Disk.content c.args.disk.now in
     reads-message c.args.self.now a c.args.number c.in-Some.index c.text.new.into (store_keeps c.args.self.now cache a k own) c.in-Some.ensures.known
     (subst (λ (l : List ℕ). GivesTextOf a c.in-Some.index l c.text.new.into (Ok tt)) c.new-text.ensures
-    (c.in-Ok.ensures.archive a cache (subst (λ (v : View). IsStoreWith v cache a k) (sym c.self.view_is) own)))
+    (c.in-Ok.ensures.archive a cache (subst (λ (v : StoreState). IsStoreWith v cache a k) (sym c.self.view_is) own)))
 
 pub returns-in-Err-clause-text : goal.returns-in-Err-clause-text
 returns-in-Err-clause-text g c = λ a cache own.
     refuses-message c.args.self.now a c.args.number c.in-Some.index c.new-text.result c.text.new.into c.in-Err.refusal c.unread.result c.unread.ensures
-    (c.in-Err.ensures.archive a cache (subst (λ (v : View). IsStoreWith v cache a (g.D.Disk.content c.args.disk.now)) (sym c.self.view_is) own))
+    (c.in-Err.ensures.archive a cache (subst (λ (v : StoreState). IsStoreWith v cache a (g.D.Disk.content c.args.disk.now)) (sym c.self.view_is) own))
 
 pub returns-in-Err-clause-damage : goal.returns-in-Err-clause-damage
 returns-in-Err-clause-damage g c =

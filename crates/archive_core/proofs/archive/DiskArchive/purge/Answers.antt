@@ -5,7 +5,7 @@ use Rattle.arch_model.specs.Archives.{Archive, messages, text_of}
 use Rattle.arch_model.specs.Delivery.{purged, purged_text}
 use Rattle.arch_model.specs.declared.answer.Answer.TheVariants as answer
 use Rattle.arch_model.specs.declared.command.Command.TheVariants.{Purge}
-use Rattle.store_finding.specs.Kept.{View, IsStoreWith}
+use Rattle.store_finding.specs.Kept.{StoreState, IsStoreWith}
 use Rattle.epoch_store.specs.Commands.{KeepsFiles}
 use Rattle.archive_core.specs.Commands.{AnswersPurge, FilesFor, IfUnread}
 use Rattle.archive_core.specs.Walks.{looks-same}
@@ -28,7 +28,7 @@ returns-in_default-clause-taken g c =
 
 pub returns-in-Ok-clause-taken : goal.returns-in-Ok-clause-taken
 returns-in-Ok-clause-taken g c =
-    let may = may-read c.args.self.now c.stored.result.now c.args.number c.in-Some.index c.index-stored-index.result (c.stored.ensures ∙ ap (λ (u : View). u.entries) c.self.view_is) c.in-Some.ensures.known (ap (λ (n : Config). n.mirror) (sym c.config.ensures) ∙ c.if-config.false) in
+    let may = may-read c.args.self.now c.stored.result.now c.args.number c.in-Some.index c.index-stored-index.result (c.stored.ensures ∙ ap (λ (u : StoreState). u.entries) c.self.view_is) c.in-Some.ensures.known (ap (λ (n : Config). n.mirror) (sym c.config.ensures) ∙ c.if-config.false) in
     let made = λ (a : Archive) (cache : List ℕ) (store : IsStoreWith c.args.self.now cache a (g.D.Disk.content c.args.disk.now)). (let keeps = store_keeps c.args.self.now cache a (g.D.Disk.content c.args.disk.now) store in purge-makes c.args.self.now a c.args.number _ keeps may (c.in-Some.ensures.message a keeps)) in
     let files : FilesFor (Purge c.args.number) c.args.self.now c.drop_text.new.self = (may.entry, (may.is_there, may.kind, may.number_is), subst (λ (id : Id20). KeepsFiles c.args.self.now c.drop_text.new.self id) (sym may.blob_is) c.in-Ok.ensures.kept_files) in
     done-taken g.D.Disk.content g.D.Disk.moment g.D.Disk.left_since g.D.Disk.faults g.D.Disk.reads g.met.D.Disk.only_now c.law_of_stores.ensures.recovers (Purge c.args.number) (λ (a : Archive). purged a c.args.number) c.args.disk.now c.args.disk.now c.drop_text.new.disk c.args.self.now c.drop_text.new.self _
@@ -37,7 +37,7 @@ returns-in-Ok-clause-taken g c =
 pub returns-in-Err-clause-taken : goal.returns-in-Err-clause-taken
 returns-in-Err-clause-taken g c =
     let why = c.in-Err.refusal in
-    let may = may-read c.args.self.now c.stored.result.now c.args.number c.in-Some.index c.index-stored-index.result (c.stored.ensures ∙ ap (λ (u : View). u.entries) c.self.view_is) c.in-Some.ensures.known (ap (λ (n : Config). n.mirror) (sym c.config.ensures) ∙ c.if-config.false) in
+    let may = may-read c.args.self.now c.stored.result.now c.args.number c.in-Some.index c.index-stored-index.result (c.stored.ensures ∙ ap (λ (u : StoreState). u.entries) c.self.view_is) c.in-Some.ensures.known (ap (λ (n : Config). n.mirror) (sym c.config.ensures) ∙ c.if-config.false) in
     let made = λ (a : Archive) (cache : List ℕ) (store : IsStoreWith c.args.self.now cache a (g.D.Disk.content c.args.disk.now)). (let keeps = store_keeps c.args.self.now cache a (g.D.Disk.content c.args.disk.now) store in purge-makes c.args.self.now a c.args.number _ keeps may (c.in-Some.ensures.message a keeps)) in
     failed-taken g.D.Disk.content g.D.Disk.moment g.D.Disk.left_since g.D.Disk.faults g.D.Disk.reads g.met.D.Disk.only_now c.law_of_stores.ensures.recovers (Purge c.args.number) (λ (a : Archive). purged a c.args.number) c.args.disk.now c.args.disk.now c.drop_text.new.disk c.args.self.now c.drop_text.new.self _
     (looks-same g.D.Disk.content g.D.Disk.moment g.D.Disk.left_since g.met.D.Disk.only_now c.args.disk.now) refl (λ a cache store. (made a cache store).0) c.in-Err.ensures.changes.count why c.answer_of.result c.answer_of.ensures c.requires.sizes c.in-Err.ensures.changes
@@ -45,12 +45,12 @@ returns-in-Err-clause-taken g c =
 
 pub drop_text-requires-clause-may : goal.drop_text-requires-clause-may
 drop_text-requires-clause-may g c =
-    let may = may-read c.args.self.now c.stored.result.now c.args.number c.in-Some.index c.index-stored-index.result (c.stored.ensures ∙ ap (λ (u : View). u.entries) c.self.view_is) c.in-Some.ensures.known (ap (λ (n : Config). n.mirror) (sym c.config.ensures) ∙ c.if-config.false) in
+    let may = may-read c.args.self.now c.stored.result.now c.args.number c.in-Some.index c.index-stored-index.result (c.stored.ensures ∙ ap (λ (u : StoreState). u.entries) c.self.view_is) c.in-Some.ensures.known (ap (λ (n : Config). n.mirror) (sym c.config.ensures) ∙ c.if-config.false) in
     (c.args.number, may)
 
 pub returns-in-Ok-clause-gone : goal.returns-in-Ok-clause-gone
 returns-in-Ok-clause-gone g c = λ a cache store.
-    let may = may-read c.args.self.now c.stored.result.now c.args.number c.in-Some.index c.index-stored-index.result (c.stored.ensures ∙ ap (λ (u : View). u.entries) c.self.view_is) c.in-Some.ensures.known (ap (λ (n : Config). n.mirror) (sym c.config.ensures) ∙ c.if-config.false) in
+    let may = may-read c.args.self.now c.stored.result.now c.args.number c.in-Some.index c.index-stored-index.result (c.stored.ensures ∙ ap (λ (u : StoreState). u.entries) c.self.view_is) c.in-Some.ensures.known (ap (λ (n : Config). n.mirror) (sym c.config.ensures) ∙ c.if-config.false) in
     let keeps = store_keeps c.args.self.now cache a (g.D.Disk.content c.args.disk.now) store in
     let text = shown-text (messages a.entries) c.args.number (c.in-Some.ensures.message a keeps) in
     (text.0, text.1, c.in-Ok.ensures.lives c.args.number a text.0 keeps text.1 (purge-blob c.args.self.now a c.args.number _ text.0 keeps may text.1))

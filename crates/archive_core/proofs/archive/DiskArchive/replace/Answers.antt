@@ -1,7 +1,7 @@
 use Rattle.std.proofs.Common.{◌≡◌, ◌∙◌, ap, subst, sym, List, ℕ}
 use Rattle.arch_model.specs.declared.answer.Answer.{Answer}
 use Rattle.arch_judge.specs.declared.judging.Verdict.TheVariants.{Take}
-use Rattle.store_finding.specs.Kept.{View}
+use Rattle.store_finding.specs.Kept.{StoreState}
 use Rattle.store_planning.specs.Dropping.{without_blob}
 use Rattle.store_finding.specs.declared.entries.StoredEntry.{StoredEntry}
 use Rattle.archive_core.specs.Commands.{JudgesOn}
@@ -17,23 +17,23 @@ returns-in_default-clause-edits g c = edits-none g.D.Disk.content g.D.Disk.momen
 
 pub keep_instead-requires-clause-may : goal.keep_instead-requires-clause-may
 keep_instead-requires-clause-may g c =
-    let v : View = c.args.self.now in
-    let entries : c.stored.result.now ≡ v.entries = c.stored.ensures ∙ ap (λ (u : View). u.entries) c.self.view_is in
+    let v : StoreState = c.args.self.now in
+    let entries : c.stored.result.now ≡ v.entries = c.stored.ensures ∙ ap (λ (u : StoreState). u.entries) c.self.view_is in
     let indexed : IndexesKept (without_blob v.entries c.args.blob.now.0) c.in-Ok.index = subst (λ (es : List StoredEntry). IndexesKept (without_blob es c.args.blob.now.0) c.in-Ok.index) entries c.in-Ok.ensures in
     subst (λ (t : List ℕ). MayReplace v c.args.blob.now t c.in-Take.ids) (sym c.as_slice.ensures) (may-replace v c.in-Ok.index c.args.blob.now c.in-Take.ids c.args.number c.in-Take.new c.in-Take.text c.requires.may indexed c.in-Take.ensures.taken)
 
 pub returns-in-Refuse-clause-edits : goal.returns-in-Refuse-clause-edits
 returns-in-Refuse-clause-edits g c =
-    let v : View = c.args.self.now in
-    let entries : c.stored.result.now ≡ v.entries = c.stored.ensures ∙ ap (λ (u : View). u.entries) c.self.view_is in
+    let v : StoreState = c.args.self.now in
+    let entries : c.stored.result.now ≡ v.entries = c.stored.ensures ∙ ap (λ (u : StoreState). u.entries) c.self.view_is in
     let indexed : IndexesKept (without_blob v.entries c.args.blob.now.0) c.in-Ok.index = subst (λ (es : List StoredEntry). IndexesKept (without_blob es c.args.blob.now.0) c.in-Ok.index) entries c.in-Ok.ensures in
     subst (λ (r : Answer). EditsAs g.D.Disk.content g.D.Disk.moment g.D.Disk.left_since g.D.Disk.faults c.args.disk.now c.verdict.new.disk v v c.args.number c.args.bytes.now c.args.moment r) (sym c.late_refusal.ensures)
     (edits-refused g.D.Disk.content g.D.Disk.moment g.D.Disk.left_since g.D.Disk.faults g.met.D.Disk.only_now c.law_of_stores.ensures.recovers c.args.disk.now c.verdict.new.disk v c.in-Ok.index c.args.blob.now c.args.number c.args.bytes.now c.args.moment c.in-Refuse.answer c.requires.may indexed c.requires.sizes c.in-Refuse.ensures.judged c.verdict.ensures.looks c.in-Refuse.ensures.cause c.in-Refuse.ensures.damage)
 
 pub returns-in-Ok-keep_instead-clause-edits : goal.returns-in-Ok-keep_instead-clause-edits
 returns-in-Ok-keep_instead-clause-edits g c =
-    let v : View = c.args.self.now in
-    let entries : c.stored.result.now ≡ v.entries = c.stored.ensures ∙ ap (λ (u : View). u.entries) c.self.view_is in
+    let v : StoreState = c.args.self.now in
+    let entries : c.stored.result.now ≡ v.entries = c.stored.ensures ∙ ap (λ (u : StoreState). u.entries) c.self.view_is in
     let indexed : IndexesKept (without_blob v.entries c.args.blob.now.0) c.in-Ok.index = subst (λ (es : List StoredEntry). IndexesKept (without_blob es c.args.blob.now.0) c.in-Ok.index) entries c.in-Ok.ensures in
     let judged : JudgesOn g.D.Disk.content c.args.disk.now v c.in-Ok.index c.args.bytes.now (Take c.as_slice.result.now c.in-Take.ids c.in-Take.new) = subst (λ (t : List ℕ). JudgesOn g.D.Disk.content c.args.disk.now v c.in-Ok.index c.args.bytes.now (Take t c.in-Take.ids c.in-Take.new)) (sym c.as_slice.ensures) c.in-Take.ensures.judged in
     edits-done g.D.Disk.content g.D.Disk.moment g.D.Disk.left_since g.D.Disk.faults g.met.D.Disk.only_now c.law_of_stores.ensures.recovers c.args.disk.now c.verdict.new.disk c.keep_instead.new.disk v c.keep_instead.new.self c.in-Ok.index c.args.blob.now c.args.number c.args.bytes.now c.as_slice.result.now c.args.moment c.in-Take.new c.in-Take.ids c.requires.may indexed
@@ -41,8 +41,8 @@ returns-in-Ok-keep_instead-clause-edits g c =
 
 pub returns-in-Err-clause-edits : goal.returns-in-Err-clause-edits
 returns-in-Err-clause-edits g c =
-    let v : View = c.args.self.now in
-    let entries : c.stored.result.now ≡ v.entries = c.stored.ensures ∙ ap (λ (u : View). u.entries) c.self.view_is in
+    let v : StoreState = c.args.self.now in
+    let entries : c.stored.result.now ≡ v.entries = c.stored.ensures ∙ ap (λ (u : StoreState). u.entries) c.self.view_is in
     let indexed : IndexesKept (without_blob v.entries c.args.blob.now.0) c.in-Ok.index = subst (λ (es : List StoredEntry). IndexesKept (without_blob es c.args.blob.now.0) c.in-Ok.index) entries c.in-Ok.ensures in
     let judged : JudgesOn g.D.Disk.content c.args.disk.now v c.in-Ok.index c.args.bytes.now (Take c.as_slice.result.now c.in-Take.ids c.in-Take.new) = subst (λ (t : List ℕ). JudgesOn g.D.Disk.content c.args.disk.now v c.in-Ok.index c.args.bytes.now (Take t c.in-Take.ids c.in-Take.new)) (sym c.as_slice.ensures) c.in-Take.ensures.judged in
     edits-failed g.D.Disk.content g.D.Disk.moment g.D.Disk.left_since g.D.Disk.faults g.met.D.Disk.only_now c.law_of_stores.ensures.recovers c.args.disk.now c.verdict.new.disk c.keep_instead.new.disk v c.keep_instead.new.self c.in-Ok.index c.args.blob.now c.args.number c.args.bytes.now c.as_slice.result.now c.args.moment c.in-Take.new c.in-Take.ids c.requires.may indexed
@@ -50,7 +50,7 @@ returns-in-Err-clause-edits g c =
 
 pub returns-in-Ok-keep_instead-clause-kept : goal.returns-in-Ok-keep_instead-clause-kept
 returns-in-Ok-keep_instead-clause-kept g c = λ a cache gone store shown.
-    let v : View = c.args.self.now in
-    let entries : c.stored.result.now ≡ v.entries = c.stored.ensures ∙ ap (λ (u : View). u.entries) c.self.view_is in
+    let v : StoreState = c.args.self.now in
+    let entries : c.stored.result.now ≡ v.entries = c.stored.ensures ∙ ap (λ (u : StoreState). u.entries) c.self.view_is in
     let indexed : IndexesKept (without_blob v.entries c.args.blob.now.0) c.in-Ok.index = subst (λ (es : List StoredEntry). IndexesKept (without_blob es c.args.blob.now.0) c.in-Ok.index) entries c.in-Ok.ensures in
     taken-kept g.D.Disk.content c.args.disk.now v c.in-Ok.index c.args.blob.now c.args.number c.args.bytes.now c.in-Take.text c.args.moment c.in-Take.new c.in-Take.ids a cache gone c.requires.may indexed c.in-Take.ensures.judged store shown

@@ -1,6 +1,6 @@
 use Rattle.std.proofs.Common.{◌≡◌, ◌∙◌, true, false, sym, ap, subst, refl, length, List, ℕ, Ok}
 use Rattle.arch_judge.specs.declared.judging.Verdict.TheVariants.{Refuse}
-use Rattle.store_finding.specs.Kept.{View}
+use Rattle.store_finding.specs.Kept.{StoreState}
 use Rattle.archive_core.specs.Commands.{ReadsMessage, left_without}
 use Rattle.archive_core.proofs.Standing.{store_keeps}
 use Rattle.archive_core.proofs.TellingDamage.{compared-damage, judged-damage}
@@ -14,8 +14,8 @@ returns-in-Refuse-clause-judged g c = λ a cache gone own indexed.
     let keeps = store_keeps c.args.self.now cache a (g.D.Disk.content c.args.disk.now) own in (
       judges-read (left_without a gone) c.args.bytes.now (Refuse c.in-Refuse.answer)
           (c.in-Refuse.ensures.judged (left_without a gone)
-          (known-left c.args.self.now a c.config-config.result.now c.args.index.now (length c.stored-count.result.now) c.next_number-next.result gone keeps (c.config-config.ensures ∙ ap (λ (v : View). v.root.config) c.self.view_is) (c.next_number-next.ensures ∙ ap (λ (v : View). v.root.next) c.self.view_is)
-          (ap length (c.stored-count.ensures ∙ ap (λ (v : View). v.entries) c.self.view_is)) indexed)),
+          (known-left c.args.self.now a c.config-config.result.now c.args.index.now (length c.stored-count.result.now) c.next_number-next.result gone keeps (c.config-config.ensures ∙ ap (λ (v : StoreState). v.root.config) c.self.view_is) (c.next_number-next.ensures ∙ ap (λ (v : StoreState). v.root.next) c.self.view_is)
+          (ap length (c.stored-count.ensures ∙ ap (λ (v : StoreState). v.entries) c.self.view_is)) indexed)),
       tt,
     )
 
@@ -26,34 +26,34 @@ pub returns-in-Take-clause-judged : goal.returns-in-Take-clause-judged
 returns-in-Take-clause-judged g c = λ a cache gone own indexed.
     let keeps = store_keeps c.args.self.now cache a (g.D.Disk.content c.args.disk.now) own in (
       c.in-Take.ensures.judged (left_without a gone)
-          (known-left c.args.self.now a c.config-config.result.now c.args.index.now (length c.stored-count.result.now) c.next_number-next.result gone keeps (c.config-config.ensures ∙ ap (λ (v : View). v.root.config) c.self.view_is) (c.next_number-next.ensures ∙ ap (λ (v : View). v.root.next) c.self.view_is)
-          (ap length (c.stored-count.ensures ∙ ap (λ (v : View). v.entries) c.self.view_is)) indexed),
+          (known-left c.args.self.now a c.config-config.result.now c.args.index.now (length c.stored-count.result.now) c.next_number-next.result gone keeps (c.config-config.ensures ∙ ap (λ (v : StoreState). v.root.config) c.self.view_is) (c.next_number-next.ensures ∙ ap (λ (v : StoreState). v.root.next) c.self.view_is)
+          (ap length (c.stored-count.ensures ∙ ap (λ (v : StoreState). v.entries) c.self.view_is)) indexed),
       alone-new (left_without a gone) c.args.index.now c.in-Take.text c.in-Take.ids indexed c.in-Take.ensures.taken.0.comes.ids_are c.in-Take.ensures.taken.1,
     )
 
 pub returns-in-Take-clause-taken : goal.returns-in-Take-clause-taken
 returns-in-Take-clause-taken g c =
-    taken-by c.args.self.now c.config-config.result.now c.args.index.now c.next_number-next.result c.in-Take.text c.in-Take.ids c.in-Take.number (c.config-config.ensures ∙ ap (λ (v : View). v.root.config) c.self.view_is) (c.next_number-next.ensures ∙ ap (λ (v : View). v.root.next) c.self.view_is) c.in-Take.ensures.taken.0
+    taken-by c.args.self.now c.config-config.result.now c.args.index.now c.next_number-next.result c.in-Take.text c.in-Take.ids c.in-Take.number (c.config-config.ensures ∙ ap (λ (v : StoreState). v.root.config) c.self.view_is) (c.next_number-next.ensures ∙ ap (λ (v : StoreState). v.root.next) c.self.view_is) c.in-Take.ensures.taken.0
 
 pub returns-in-Ok-clause-judged : goal.returns-in-Ok-clause-judged
 returns-in-Ok-clause-judged g c = λ a cache gone own indexed.
     let keeps = store_keeps c.args.self.now cache a (g.D.Disk.content c.args.disk.now) own in
     let b = left_without a gone in
     let compared = c.in-Compare.ensures.judged b
-    (known-left c.args.self.now a c.config-config.result.now c.args.index.now (length c.stored-count.result.now) c.next_number-next.result gone keeps (c.config-config.ensures ∙ ap (λ (v : View). v.root.config) c.self.view_is) (c.next_number-next.ensures ∙ ap (λ (v : View). v.root.next) c.self.view_is)
-    (ap length (c.stored-count.ensures ∙ ap (λ (v : View). v.entries) c.self.view_is)) indexed) in
+    (known-left c.args.self.now a c.config-config.result.now c.args.index.now (length c.stored-count.result.now) c.next_number-next.result gone keeps (c.config-config.ensures ∙ ap (λ (v : StoreState). v.root.config) c.self.view_is) (c.next_number-next.ensures ∙ ap (λ (v : StoreState). v.root.next) c.self.view_is)
+    (ap length (c.stored-count.ensures ∙ ap (λ (v : StoreState). v.entries) c.self.view_is)) indexed) in
     let agree = left-agree a gone keeps.valid in
     let read : ReadsMessage a c.in-Compare.number (Ok c.as_slice.result.now) = subst (λ (l : List ℕ). ReadsMessage a c.in-Compare.number (Ok l)) (sym c.as_slice.ensures) (c.in-Ok.ensures.text a cache own) in
     let still : ReadsMessage b c.in-Compare.number (Ok c.as_slice.result.now) = reads-left a gone c.in-Compare.number c.as_slice.result.now keeps.valid.blobs read in (
       judges-read b c.args.bytes.now c.compared.result
-          (c.compared.ensures.judged b c.args.bytes.now (left-config a gone ∙ sym (c.config-config.ensures ∙ ap (λ (v : View). v.root.config) c.self.view_is ∙ keeps.names.config)) (left-next a gone ∙ sym (c.next_number-next.ensures ∙ ap (λ (v : View). v.root.next) c.self.view_is ∙ keeps.names.next))
+          (c.compared.ensures.judged b c.args.bytes.now (left-config a gone ∙ sym (c.config-config.ensures ∙ ap (λ (v : StoreState). v.root.config) c.self.view_is ∙ keeps.names.config)) (left-next a gone ∙ sym (c.next_number-next.ensures ∙ ap (λ (v : StoreState). v.root.next) c.self.view_is ∙ keeps.names.next))
           (compares b c.args.bytes.now c.in-Compare.text c.as_slice.result.now c.in-Compare.ids.blob c.in-Compare.number agree compared still)),
       alone-same b c.config-config.result.now c.args.index.now c.next_number-next.result c.in-Compare.text c.as_slice.result.now c.in-Compare.ids c.in-Compare.number c.compared.result agree indexed c.in-Compare.ensures.taken.0.ids_are c.in-Compare.ensures.taken.1 still c.compared.ensures.taken c.compared.ensures.same,
     )
 
 pub returns-in-Ok-clause-taken : goal.returns-in-Ok-clause-taken
 returns-in-Ok-clause-taken g c =
-    compared-by c.args.self.now c.config-config.result.now c.args.index.now c.next_number-next.result c.in-Compare.text c.in-Compare.ids c.compared.result (c.config-config.ensures ∙ ap (λ (v : View). v.root.config) c.self.view_is) (c.next_number-next.ensures ∙ ap (λ (v : View). v.root.next) c.self.view_is) c.in-Compare.ensures.taken.0 c.compared.ensures.taken
+    compared-by c.args.self.now c.config-config.result.now c.args.index.now c.next_number-next.result c.in-Compare.text c.in-Compare.ids c.compared.result (c.config-config.ensures ∙ ap (λ (v : StoreState). v.root.config) c.self.view_is) (c.next_number-next.ensures ∙ ap (λ (v : StoreState). v.root.next) c.self.view_is) c.in-Compare.ensures.taken.0 c.compared.ensures.taken
 
 pub returns-in-Err-clause-judged : goal.returns-in-Err-clause-judged
 returns-in-Err-clause-judged g c = λ a cache gone own indexed. (unread-judges a (left_without a gone) c.args.bytes.now c.in-Compare.number c.in-Err.answer (c.in-Err.ensures.text a cache own), tt)
@@ -65,8 +65,8 @@ pub returns-in-Ok-clause-unread : goal.returns-in-Ok-clause-unread
 returns-in-Ok-clause-unread g c = λ a cache gone own indexed unknown.
     let keeps = store_keeps c.args.self.now cache a (g.D.Disk.content c.args.disk.now) own in
     let compared = c.in-Compare.ensures.judged (left_without a gone)
-    (known-left c.args.self.now a c.config-config.result.now c.args.index.now (length c.stored-count.result.now) c.next_number-next.result gone keeps (c.config-config.ensures ∙ ap (λ (v : View). v.root.config) c.self.view_is) (c.next_number-next.ensures ∙ ap (λ (v : View). v.root.next) c.self.view_is)
-    (ap length (c.stored-count.ensures ∙ ap (λ (v : View). v.entries) c.self.view_is)) indexed) in
+    (known-left c.args.self.now a c.config-config.result.now c.args.index.now (length c.stored-count.result.now) c.next_number-next.result gone keeps (c.config-config.ensures ∙ ap (λ (v : StoreState). v.root.config) c.self.view_is) (c.next_number-next.ensures ∙ ap (λ (v : StoreState). v.root.next) c.self.view_is)
+    (ap length (c.stored-count.ensures ∙ ap (λ (v : StoreState). v.entries) c.self.view_is)) indexed) in
     let wrong : true ≡ false = sym compared.known ∙ unknown in
     absurd (cc)
 
@@ -74,8 +74,8 @@ pub returns-in-Err-clause-unread : goal.returns-in-Err-clause-unread
 returns-in-Err-clause-unread g c = λ a cache gone own indexed unknown.
     let keeps = store_keeps c.args.self.now cache a (g.D.Disk.content c.args.disk.now) own in
     let compared = c.in-Compare.ensures.judged (left_without a gone)
-    (known-left c.args.self.now a c.config-config.result.now c.args.index.now (length c.stored-count.result.now) c.next_number-next.result gone keeps (c.config-config.ensures ∙ ap (λ (v : View). v.root.config) c.self.view_is) (c.next_number-next.ensures ∙ ap (λ (v : View). v.root.next) c.self.view_is)
-    (ap length (c.stored-count.ensures ∙ ap (λ (v : View). v.entries) c.self.view_is)) indexed) in
+    (known-left c.args.self.now a c.config-config.result.now c.args.index.now (length c.stored-count.result.now) c.next_number-next.result gone keeps (c.config-config.ensures ∙ ap (λ (v : StoreState). v.root.config) c.self.view_is) (c.next_number-next.ensures ∙ ap (λ (v : StoreState). v.root.next) c.self.view_is)
+    (ap length (c.stored-count.ensures ∙ ap (λ (v : StoreState). v.entries) c.self.view_is)) indexed) in
     let wrong : true ≡ false = sym compared.known ∙ unknown in
     absurd (cc)
 

@@ -1,5 +1,5 @@
 use Rattle.std.proofs.Common.{◌∙◌, ap, length, min}
-use Rattle.store_finding.specs.Kept.{View}
+use Rattle.store_finding.specs.Kept.{StoreState}
 use Rattle.epoch_store.specs.Commands.{live_kept}
 use Rattle.archive_core.proofs.Counting.{kept-counted}
 use Rattle.archive_core.proofs.counted.CountedArchive.message_count.Goals as goal
@@ -7,4 +7,4 @@ use Rattle.archive_core.proofs.counted.CountedArchive.message_count.Goals as goa
 pub returns : goal.returns
 returns c = λ a keeps.
     c.min.ensures ∙ ap (min _) c.from.ensures
-    ∙ kept-counted c.args.self.now a c.self.inside.live keeps (c.self.invariant ∙ ap (λ (v : View). length (live_kept v.entries)) c.self.view_is)
+    ∙ kept-counted c.args.self.now a c.self.inside.live keeps (c.self.invariant ∙ ap (λ (v : StoreState). length (live_kept v.entries)) c.self.view_is)

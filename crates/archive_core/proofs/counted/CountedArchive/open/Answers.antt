@@ -1,13 +1,13 @@
 use Rattle.std.proofs.Common.{◌∙◌, ap, inr}
 use Rattle.arch_judge.specs.declared.index.Index.{Index}
-use Rattle.store_finding.specs.Kept.{View}
+use Rattle.store_finding.specs.Kept.{StoreState}
 use Rattle.archive_core.specs.Placing.{message_places}
 use Rattle.archive_core.proofs.Counting.{live-places-counted}
 use Rattle.archive_core.proofs.Openings.{opened_reads, refused_kindly}
 use Rattle.archive_core.proofs.counted.CountedArchive.open.Goals as goal
 
 pub returns-in-Err-clause-refused : goal.returns-in-Err-clause-refused
-returns-in-Err-clause-refused g c = refused_kindly (View × Index) c.in-Err.refusal (g.D.Disk.content c.args.disk.now) (g.D.Disk.content c.open.new.disk) c.in-Err.ensures.refused
+returns-in-Err-clause-refused g c = refused_kindly (StoreState × Index) c.in-Err.refusal (g.D.Disk.content c.args.disk.now) (g.D.Disk.content c.open.new.disk) c.in-Err.ensures.refused
 
 pub returns-in_default-clause-refused : goal.returns-in_default-clause-refused
 returns-in_default-clause-refused g c = (

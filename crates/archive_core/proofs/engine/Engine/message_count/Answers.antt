@@ -1,7 +1,7 @@
 use Rattle.std.proofs.Common.{◌∙◌, ap, min, ℕ}
 use Rattle.arch_model.specs.Archives.{live}
 use Rattle.overview_index.specs.Listings.{live_between}
-use Rattle.overview_index.proofs.Messages.{between-live}
+use Rattle.overview_index.proofs.Messages.{crash_between-live}
 use Rattle.view_set.specs.Viewed.{Viewed}
 use Rattle.archive_core.proofs.Counting.{counted}
 use Rattle.archive_core.proofs.Engines.{views-inside, kept-inside}
@@ -11,6 +11,6 @@ pub returns : goal.returns
 returns g c = λ a store.
     let views_are = views-inside g.D.Disk.content g.D.Disk.moment g.D.Disk.left_since g.met.D.Disk.counts_now g.met.D.Disk.only_now g.met.D.Disk.reads_fit
     (record { disk = c.self.inside.disk; view = c.self.inside.archive; views = c.self.inside.views; stale = c.self.inside.stale }) c.args.self.now c.self.view_is a store in
-    let between = c.live_count.ensures ∙ ap (λ (v : Viewed). live_between v.rows 0 4294967295) views_are ∙ between-live (live a.entries) 0 4294967295 in
-    c.min.ensures ∙ ap (λ (n : ℕ). min n c.from.result) between ∙ ap (min _) c.from.ensures ∙ counted a (kept-inside g.D.Disk.content g.D.Disk.moment g.D.Disk.left_since g.met.D.Disk.counts_now g.met.D.Disk.only_now g.met.D.Disk.reads_fit
+    let crash_between = c.live_count.ensures ∙ ap (λ (v : Viewed). live_between v.rows 0 4294967295) views_are ∙ crash_between-live (live a.entries) 0 4294967295 in
+    c.min.ensures ∙ ap (λ (n : ℕ). min n c.from.result) crash_between ∙ ap (min _) c.from.ensures ∙ counted a (kept-inside g.D.Disk.content g.D.Disk.moment g.D.Disk.left_since g.met.D.Disk.counts_now g.met.D.Disk.only_now g.met.D.Disk.reads_fit
     (record { disk = c.self.inside.disk; view = c.self.inside.archive; views = c.self.inside.views; stale = c.self.inside.stale }) c.args.self.now c.self.view_is a store).valid

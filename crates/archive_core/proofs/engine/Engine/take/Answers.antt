@@ -11,8 +11,8 @@ use Rattle.archive_core.proofs.KeepingUp.{kept-up, followed-ready, needs-stale, 
 use Rattle.archive_core.proofs.Standing.{store_keeps}
 use Rattle.archive_core.proofs.engine.Engine.take.Goals as goal
 
-pub returns-then-not-has_next_root-clause-any_moment : goal.returns-then-not-has_next_root-clause-any_moment
-returns-then-not-has_next_root-clause-any_moment g c = λ a cache store. still-left g.D.Disk.content g.D.Disk.moment g.D.Disk.left_since g.met.D.Disk.counts_now g.met.D.Disk.only_now g.met.D.Disk.reads_fit c.args.self.now a (applied a c.args.command.now c.args.moment).archive cache (cache_left c.args.command.now cache) store
+pub returns-then-not-has_next_root-clause-crash : goal.returns-then-not-has_next_root-clause-crash
+returns-then-not-has_next_root-clause-crash g c = λ a cache store. still-left g.D.Disk.content g.D.Disk.moment g.D.Disk.left_since g.met.D.Disk.counts_now g.met.D.Disk.only_now g.met.D.Disk.reads_fit c.args.self.now a (applied a c.args.command.now c.args.moment).archive cache (cache_left c.args.command.now cache) store
 
 pub returns-then-not-has_next_root-clause-done : goal.returns-then-not-has_next_root-clause-done
 returns-then-not-has_next_root-clause-done g c = λ a cache store. store
@@ -21,12 +21,12 @@ pub returns-then-not-has_next_root-clause-stands : goal.returns-then-not-has_nex
 returns-then-not-has_next_root-clause-stands g c = λ a store. starved-at g.D.Disk.content g.D.Disk.moment g.D.Disk.left_since g.met.D.Disk.counts_now g.met.D.Disk.only_now g.met.D.Disk.reads_fit c.args.self.now a
     (λ (b : Archive). applied b c.args.command.now c.args.moment) store
 
-pub returns-clause-any_moment : goal.returns-clause-any_moment
-returns-clause-any_moment g c =
+pub returns-clause-crash : goal.returns-clause-crash
+returns-clause-crash g c =
     let room = c.has_next_root.ensures.0 c.if-not-has_next_root.false in
     left-from g.D.Disk.content g.D.Disk.moment g.D.Disk.left_since g.met.D.Disk.counts_now g.met.D.Disk.only_now g.met.D.Disk.reads_fit
     (record { disk = c.self.inside.disk; view = c.self.inside.archive; views = c.self.inside.views; stale = c.self.inside.stale }) c.args.self.now c.self.view_is c.command_keeping-answer.new.disk
-    (λ (a : Archive). (applied a c.args.command.now c.args.moment).archive) (cache_left c.args.command.now) (λ a cache store. c.command_keeping-answer.ensures.taken.any_moment a cache store room)
+    (λ (a : Archive). (applied a c.args.command.now c.args.moment).archive) (cache_left c.args.command.now) (λ a cache store. c.command_keeping-answer.ensures.taken.crash a cache store room)
 
 pub returns-clause-done : goal.returns-clause-done
 returns-clause-done g c =
@@ -46,7 +46,7 @@ returns-clause-stands g c =
     (record { disk = c.self.inside.disk; view = c.self.inside.archive; views = c.self.inside.views; stale = c.self.inside.stale }) c.args.self.now c.self.view_is c.law_of_recovery.ensures.caches
     (record { disk = c.command_keeping-answer.new.disk; view = c.command_keeping-answer.new.self; views = c.follow-followed.new.views; stale = c.is_left_stale-self-inside.result })
     wanted (cache_left c.args.command.now) reply (kept-or-none c.args.command.now) (λ needs. stale_is ∙ needs-stale (needs_opening reply) ok needs)
-    (λ a cache store. c.command_keeping-answer.ensures.taken.any_moment a cache store room) c.command_keeping-answer.ensures.taken.between (λ a cache store. c.command_keeping-answer.ensures.taken.done a cache store room)
+    (λ a cache store. c.command_keeping-answer.ensures.taken.crash a cache store room) c.command_keeping-answer.ensures.taken.crash_between (λ a cache store. c.command_keeping-answer.ensures.taken.done a cache store room)
     (λ a cache store old_is.
     kept-up a c.args.command.now c.args.moment c.command_keeping-answer.new.kept.text c.command_keeping-answer.new.gone c.command_keeping-answer.new.self cache (cache_left c.args.command.now cache) (g.D.Disk.content c.command_keeping-answer.new.disk) c.self.inside.views c.follow-followed.new.views (not c.is_left_stale-self-inside.result) ok reply
     (store_keeps c.self.inside.archive cache a (g.D.Disk.content c.self.inside.disk) store).valid old_is (c.command_keeping-answer.ensures.taken.done a cache store room)

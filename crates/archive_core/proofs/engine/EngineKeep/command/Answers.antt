@@ -9,7 +9,7 @@ use Rattle.store_finding.specs.Kept.{IsStoreWith}
 use Rattle.epoch_store.specs.Commands.{RecoversOneOf}
 use Rattle.archive_core.specs.Commands.{DoneBy, IfRemoval, IfUnreadFor, OnDone, cache_left, is_delivery}
 use Rattle.archive_core.specs.DamageTold.{TellsDamage}
-use Rattle.archive_core.specs.Engines.{Owning, Holds, IfRefused, ReadsOn, is_ready}
+use Rattle.archive_core.specs.Engines.{Owning, HoldsArchive, IfRefused, OnlyReadsOn, is_ready}
 use Rattle.archive_core.proofs.Engines.{not_true, commanded-after, refused-comes, refused-for, refused-ready, refused-cause, ready-after}
 use Rattle.archive_core.proofs.engine.EngineKeep.command.Goals as goal
 
@@ -36,7 +36,7 @@ returns-in-Ok-clause-reads g c = λ ready.
 pub returns-in-Ok-clause-unread : goal.returns-in-Ok-clause-unread
 returns-in-Ok-clause-unread g c = λ a store ready unknown.
     let same = (c.in-Ok.ensures.nothing ready).1 in
-    let held = subst (λ (o : Owning g.row.D.Denot). Holds g.D.Disk.content o a) (sym same) store in
+    let held = subst (λ (o : Owning g.row.D.Denot). HoldsArchive g.D.Disk.content o a) (sym same) store in
     c.take.ensures.unread a held.0 held.1 unknown ∙ ap (λ (o : Owning g.row.D.Denot). g.D.Disk.reads o.disk) same
 
 pub returns-in-Err-clause-done : goal.returns-in-Err-clause-done
@@ -56,10 +56,10 @@ returns-in-Err-clause-reads g c = λ ready. absurd (false≢true (c.in-Err.ensur
 pub returns-in-Err-clause-unread : goal.returns-in-Err-clause-unread
 returns-in-Err-clause-unread g c = λ a store ready unknown. absurd (false≢true (c.in-Err.ensures.nothing ready).0)
 
-pub returns-in-Ok-clause-any_moment : goal.returns-in-Ok-clause-any_moment
-returns-in-Ok-clause-any_moment g c = λ a cache ready.
+pub returns-in-Ok-clause-crash : goal.returns-in-Ok-clause-crash
+returns-in-Ok-clause-crash g c = λ a cache ready.
     subst (λ (o : Owning g.row.D.Denot). IsStoreWith o.view cache a (g.D.Disk.content o.disk) → LeavesOnly g.D.Disk.moment g.D.Disk.left_since o.disk c.take.new.self.disk (RecoversOneOf cache a (cache_left c.args.command.now cache) (applied a c.args.command.now c.args.moment).archive)) (c.in-Ok.ensures.nothing ready).1
-    (c.take.ensures.any_moment a cache)
+    (c.take.ensures.crash a cache)
 
 pub returns-in-Ok-clause-store : goal.returns-in-Ok-clause-store
 returns-in-Ok-clause-store g c = λ a cache ready.
@@ -68,11 +68,11 @@ returns-in-Ok-clause-store g c = λ a cache ready.
 
 pub returns-in-Ok-clause-removed : goal.returns-in-Ok-clause-removed
 returns-in-Ok-clause-removed g c = λ ready.
-    subst (λ (o : Owning g.row.D.Denot). IfRemoval (is_delivery c.args.command.now) ((a : Archive) → Holds g.D.Disk.content o a → OnDone c.take.result (Holds g.D.Disk.content c.take.new.self (applied a c.args.command.now c.args.moment).archive))) (c.in-Ok.ensures.nothing ready).1 c.take.ensures.removed
+    subst (λ (o : Owning g.row.D.Denot). IfRemoval (is_delivery c.args.command.now) ((a : Archive) → HoldsArchive g.D.Disk.content o a → OnDone c.take.result (HoldsArchive g.D.Disk.content c.take.new.self (applied a c.args.command.now c.args.moment).archive))) (c.in-Ok.ensures.nothing ready).1 c.take.ensures.removed
 
 pub returns-in-Ok-clause-untouched : goal.returns-in-Ok-clause-untouched
 returns-in-Ok-clause-untouched g c = λ ready.
-    subst (λ (o : Owning g.row.D.Denot). IfRefused c.take.result (ReadsOn g.D.Disk.content g.D.Disk.moment g.D.Disk.left_since o c.take.new.self)) (c.in-Ok.ensures.nothing ready).1 c.take.ensures.untouched
+    subst (λ (o : Owning g.row.D.Denot). IfRefused c.take.result (OnlyReadsOn g.D.Disk.content g.D.Disk.moment g.D.Disk.left_since o c.take.new.self)) (c.in-Ok.ensures.nothing ready).1 c.take.ensures.untouched
 
 pub returns-in-Ok-clause-unmoved : goal.returns-in-Ok-clause-unmoved
 returns-in-Ok-clause-unmoved g c = λ ready. subst (λ (o : Owning g.row.D.Denot). IfUnreadFor c.args.command.now c.take.result (c.take.new.self ≡ o)) (c.in-Ok.ensures.nothing ready).1 c.take.ensures.unmoved
@@ -83,8 +83,8 @@ returns-in-Ok-clause-damage g c = λ ready. subst (λ (o : Owning g.row.D.Denot)
 pub returns-in-Err-clause-for_command : goal.returns-in-Err-clause-for_command
 returns-in-Err-clause-for_command g c = refused-for c.args.command.now c.in-Err.refusal c.answer.result c.answer.ensures
 
-pub returns-in-Err-clause-any_moment : goal.returns-in-Err-clause-any_moment
-returns-in-Err-clause-any_moment g c = λ a cache ready own. absurd (false≢true (c.in-Err.ensures.nothing ready).0)
+pub returns-in-Err-clause-crash : goal.returns-in-Err-clause-crash
+returns-in-Err-clause-crash g c = λ a cache ready own. absurd (false≢true (c.in-Err.ensures.nothing ready).0)
 
 pub returns-in-Err-clause-store : goal.returns-in-Err-clause-store
 returns-in-Err-clause-store g c = λ a cache ready own. absurd (false≢true (c.in-Err.ensures.nothing ready).0)

@@ -8,8 +8,8 @@ returns-then-not-self-clause-found g c = λ s fits. ready-at g.D.Disk.content g.
     (still-ready g.D.Disk.content g.D.Disk.moment g.D.Disk.left_since g.met.D.Disk.counts_now g.met.D.Disk.only_now g.met.D.Disk.reads_fit
     (record { disk = c.self.inside.disk; view = c.self.inside.archive; views = c.self.inside.views; stale = c.self.inside.stale }) c.args.self.now c.self.view_is c.if-not-self.true) fits
 
-pub returns-then-not-self-clause-any_moment : goal.returns-then-not-self-clause-any_moment
-returns-then-not-self-clause-any_moment g c = λ s fits start may has left. left
+pub returns-then-not-self-clause-crash : goal.returns-then-not-self-clause-crash
+returns-then-not-self-clause-crash g c = λ s fits start may has left. left
 
 pub returns-then-not-self-clause-ready : goal.returns-then-not-self-clause-ready
 returns-then-not-self-clause-ready g c = still-ready g.D.Disk.content g.D.Disk.moment g.D.Disk.left_since g.met.D.Disk.counts_now g.met.D.Disk.only_now g.met.D.Disk.reads_fit
@@ -22,12 +22,12 @@ returns-in-Ok-clause-nothing g c = λ ready. absurd (still-stale g.D.Disk.conten
 pub returns-in-Ok-clause-found : goal.returns-in-Ok-clause-found
 returns-in-Ok-clause-found g c = opened-from g.D.Disk.content g.D.Disk.moment g.D.Disk.left_since g.met.D.Disk.counts_now g.met.D.Disk.only_now g.met.D.Disk.reads_fit
     (record { disk = c.self.inside.disk; view = c.self.inside.archive; views = c.self.inside.views; stale = c.self.inside.stale }) c.args.self.now c.self.view_is c.law_of_recovery.ensures.some_one
-    (record { disk = c.open.new.disk; view = c.in-Ok.field-0.archive; views = c.in-Ok.field-0.views; stale = false }) (c.open.ensures.opened.before, c.open.ensures.opened.between) (λ a cache reads. (c.in-Ok.ensures.opened.done a cache reads, c.in-Ok.ensures.rows a cache reads)) c.in-Ok.ensures.opened.settled
+    (record { disk = c.open.new.disk; view = c.in-Ok.field-0.archive; views = c.in-Ok.field-0.views; stale = false }) (c.open.ensures.opened.before, c.open.ensures.opened.crash_between) (λ a cache reads. (c.in-Ok.ensures.opened.done a cache reads, c.in-Ok.ensures.rows a cache reads)) c.in-Ok.ensures.opened.settled
 
-pub returns-in-Ok-clause-any_moment : goal.returns-in-Ok-clause-any_moment
-returns-in-Ok-clause-any_moment g c = passes-from g.D.Disk.content g.D.Disk.moment g.D.Disk.left_since g.met.D.Disk.counts_now g.met.D.Disk.only_now g.met.D.Disk.reads_fit
+pub returns-in-Ok-clause-crash : goal.returns-in-Ok-clause-crash
+returns-in-Ok-clause-crash g c = passes-from g.D.Disk.content g.D.Disk.moment g.D.Disk.left_since g.met.D.Disk.counts_now g.met.D.Disk.only_now g.met.D.Disk.reads_fit
     (record { disk = c.self.inside.disk; view = c.self.inside.archive; views = c.self.inside.views; stale = c.self.inside.stale }) c.args.self.now c.self.view_is c.law_of_recovery.ensures.some_one
-    (record { disk = c.open.new.disk; view = c.in-Ok.field-0.archive; views = c.in-Ok.field-0.views; stale = false }) (c.open.ensures.opened.before, c.open.ensures.opened.between)
+    (record { disk = c.open.new.disk; view = c.in-Ok.field-0.archive; views = c.in-Ok.field-0.views; stale = false }) (c.open.ensures.opened.before, c.open.ensures.opened.crash_between)
 
 pub returns-in-Ok-clause-cause : goal.returns-in-Ok-clause-cause
 returns-in-Ok-clause-cause g c = opened-cause-from g.D.Disk.content g.D.Disk.moment g.D.Disk.left_since g.met.D.Disk.counts_now g.met.D.Disk.only_now g.met.D.Disk.reads_fit
@@ -41,12 +41,12 @@ returns-in-Err-clause-nothing g c = λ ready. absurd (still-stale g.D.Disk.conte
 pub returns-in-Err-clause-found : goal.returns-in-Err-clause-found
 returns-in-Err-clause-found g c = unopened-from g.D.Disk.content g.D.Disk.moment g.D.Disk.left_since g.met.D.Disk.counts_now g.met.D.Disk.only_now g.met.D.Disk.reads_fit
     (record { disk = c.self.inside.disk; view = c.self.inside.archive; views = c.self.inside.views; stale = c.self.inside.stale }) c.args.self.now c.self.view_is c.law_of_recovery.ensures.some_one
-    (record { disk = c.open.new.disk; view = c.self.inside.archive; views = c.self.inside.views; stale = c.self.inside.stale }) c.in-Err.refusal (c.open.ensures.opened.before, c.open.ensures.opened.between) c.in-Err.ensures.opened.well c.in-Err.ensures.refused (ap not c.if-not-self.false)
+    (record { disk = c.open.new.disk; view = c.self.inside.archive; views = c.self.inside.views; stale = c.self.inside.stale }) c.in-Err.refusal (c.open.ensures.opened.before, c.open.ensures.opened.crash_between) c.in-Err.ensures.opened.well c.in-Err.ensures.refused (ap not c.if-not-self.false)
 
-pub returns-in-Err-clause-any_moment : goal.returns-in-Err-clause-any_moment
-returns-in-Err-clause-any_moment g c = passes-from g.D.Disk.content g.D.Disk.moment g.D.Disk.left_since g.met.D.Disk.counts_now g.met.D.Disk.only_now g.met.D.Disk.reads_fit
+pub returns-in-Err-clause-crash : goal.returns-in-Err-clause-crash
+returns-in-Err-clause-crash g c = passes-from g.D.Disk.content g.D.Disk.moment g.D.Disk.left_since g.met.D.Disk.counts_now g.met.D.Disk.only_now g.met.D.Disk.reads_fit
     (record { disk = c.self.inside.disk; view = c.self.inside.archive; views = c.self.inside.views; stale = c.self.inside.stale }) c.args.self.now c.self.view_is c.law_of_recovery.ensures.some_one
-    (record { disk = c.open.new.disk; view = c.self.inside.archive; views = c.self.inside.views; stale = c.self.inside.stale }) (c.open.ensures.opened.before, c.open.ensures.opened.between)
+    (record { disk = c.open.new.disk; view = c.self.inside.archive; views = c.self.inside.views; stale = c.self.inside.stale }) (c.open.ensures.opened.before, c.open.ensures.opened.crash_between)
 
 pub returns-in-Err-clause-ready : goal.returns-in-Err-clause-ready
 returns-in-Err-clause-ready g c = ap not c.if-not-self.false

@@ -10,7 +10,7 @@ returns-clause-blob g c = λ a store.
 pub returns-clause-shelf : goal.returns-clause-shelf
 returns-clause-shelf g c = stays-from g.D.Disk.content g.D.Disk.moment g.D.Disk.left_since g.met.D.Disk.counts_now g.met.D.Disk.only_now g.met.D.Disk.reads_fit
     (record { disk = c.self.inside.disk; view = c.self.inside.archive; views = c.self.inside.views; stale = c.self.inside.stale }) c.args.self.now c.self.view_is
-    g.D.Disk.faults c.blob.new.disk c.requires.ready c.blob.ensures.same c.blob.ensures.any_moment c.blob.ensures.cause.later
+    g.D.Disk.faults c.blob.new.disk c.requires.ready c.blob.ensures.same c.blob.ensures.crash c.blob.ensures.cause.later
 
 pub returns-clause-cause : goal.returns-clause-cause
 returns-clause-cause g c = cause-from g.D.Disk.content g.D.Disk.moment g.D.Disk.left_since g.met.D.Disk.counts_now g.met.D.Disk.only_now g.met.D.Disk.reads_fit

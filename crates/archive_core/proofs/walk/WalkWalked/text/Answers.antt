@@ -29,7 +29,7 @@ returns-clause-walk g c =
     let old = g.D.Disk.content c.args.self.now.disk.now in
     let new = g.D.Disk.content c.text.new.disk in
     record {
-      same = (refl, refl, record { same = c.text.ensures.same; any_moment = c.text.ensures.any_moment });
+      same = (refl, refl, record { same = c.text.ensures.same; crash = c.text.ensures.crash });
       kept = λ a store. (store.0, still_own v store.0 a old new c.text.ensures.same store.1);
       sounds = λ sound. subst (IsSound v) (sym (unchanged-is old new c.text.ensures.same)) sound;
       lines_are = refl;

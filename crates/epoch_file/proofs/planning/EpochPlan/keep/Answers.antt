@@ -4,7 +4,7 @@ use Rattle.std.proofs.lemmas.Result.{err_from_is_err_and}
 use Rattle.disk_model.specs.Disk.{WhereTold}
 use Rattle.root_change.specs.Rewriting.{Plan, plan_count}
 use Rattle.epoch_file.specs.Planning.{Checks, CopiesEntry, KeepsNext, Planned, TellsLack}
-use Rattle.epoch_file.specs.Lying.{LiesIn}
+use Rattle.epoch_file.specs.Lying.{EntryLiesIn}
 use Rattle.epoch_file.specs.Planning.{IsPlannedIn, KeepsIn}
 use Rattle.epoch_file.proofs.Lying.{keeps_copied_in, keeps_in_place}
 use Rattle.epoch_file.proofs.Planned.{checks_copied, checks_refused, checks_same, keep_copied, keep_refused, keep_same}

@@ -1,7 +1,7 @@
 -- The first entry that is left out begins a plan.
 use Rattle.std.proofs.Common.{◌≡◌, ◌∙◌, Some, ap, refl, false, is_some, rules, subst}
 use Rattle.root_change.specs.Rewriting.{Plan, with_range}
-use Rattle.epoch_file.specs.Planning.{IsPlannedIn, LeavesIn, LeavesNext, Planned}
+use Rattle.epoch_file.specs.Planning.{IsPlannedIn, LeftOutIn, LeavesNext, Planned}
 use Rattle.epoch_file.proofs.Lying.{leaves_first_in}
 use Rattle.epoch_file.proofs.Planned.{first_plan, leaves_first, not_some}
 use Rattle.epoch_file.proofs.planning.EpochPlan.leave_out.Goals as goal
@@ -25,4 +25,4 @@ returns-clause-lies c = λ from most lies in_.
     let isnt : is_some inside.changed ≡ false = search rules in
     let made : c.push_range.new.self ≡ first_plan inside.file seen.at = c.in_ok-push_range.ensures.ok ∙ ap (λ (p : Plan). with_range p inside.file 0 seen.at) c.new-plan.ensures.plan in
     let now : Planned = record { file = inside.file; changed = Some c.push_range.new.self; end_ = seen.at; parent = inside.parent } in
-    subst (λ (p : Planned). LeavesIn from most p seen now) c.self.view_is (leaves_first_in from most was now seen (not_some inside.changed isnt) (ap Some made) refl refl lies)
+    subst (λ (p : Planned). LeftOutIn from most p seen now) c.self.view_is (leaves_first_in from most was now seen (not_some inside.changed isnt) (ap Some made) refl refl lies)

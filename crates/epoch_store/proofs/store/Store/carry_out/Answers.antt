@@ -3,7 +3,7 @@ use Rattle.std.proofs.Common.{◌≡◌, List, refl, rules, sym, ap, subst, ◌�
 use Rattle.root_change.specs.Rewriting.{Plan}
 use Rattle.store_finding.specs.Extents.{AreNamed, AreNamedAfter}
 use Rattle.store_planning.specs.Planning.{Planning}
-use Rattle.store_finding.specs.Kept.{InEpochs, View}
+use Rattle.store_finding.specs.Kept.{InEpochs, StoreState}
 use Rattle.epoch_store.proofs.Changing.{carried_done, carried_failed, carried_short, unstarted}
 use Rattle.epoch_store.proofs.EntryExtents.{named_after}
 use Rattle.epoch_store.proofs.store.Store.carry_out.Goals as goal
@@ -26,6 +26,6 @@ invariant_of-self g c =
     let p = c.args.planned in
     let plans : c.plans.result.now ≡ p.plans = c.plans.ensures in
     let entries = sym c.into_entries.ensures in
-    let named = subst (λ (u : View). AreNamedAfter u.root p.plans p.entries) (sym c.self.view_is) c.requires.named in
+    let named = subst (λ (u : StoreState). AreNamedAfter u.root p.plans p.entries) (sym c.self.view_is) c.requires.named in
     let after = named_after old c.plans.result.now c.args.next c.in-Ok.root p.entries c.in-Ok.ensures.carried.root_is c.requires.epochs (subst (λ (l : List Plan). AreNamedAfter old l p.entries) (sym plans) named) in
     (c.in-Ok.ensures.carried.valid, subst InEpochs entries c.requires.epochs, subst (AreNamed c.in-Ok.root) entries after)

@@ -2,7 +2,7 @@
 use Rattle.std.proofs.Common.{refl, rules, ◌≡◌, ◌∙◌, ◌+◌, ◌++◌, ◌∷◌, [], ℕ, List, length, sym, ap, subst, is_ok, ◌≤◌, arith}
 use Rattle.disk_model.specs.Disk.{WhereTold}
 use Rattle.epoch_file.specs.Appending.{appended}
-use Rattle.epoch_file.specs.Lying.{LiesIn}
+use Rattle.epoch_file.specs.Lying.{EntryLiesIn}
 use Rattle.epoch_file.specs.declared.entry.NewEntry.{NewEntry}
 use Rattle.epoch_file.specs.declared.entry.Written.{Written}
 use Rattle.root_slots.specs.declared.root.Root.{Root}
@@ -10,8 +10,8 @@ use Rattle.root_slots.specs.Slots.{slot_number}
 use Rattle.root_change.specs.Texts.{HasPartSizes}
 use Rattle.store_finding.specs.declared.entries.StoredEntry.{StoredEntry}
 use Rattle.store_finding.specs.Extents.{AreNamed, AreUpToEpoch}
-use Rattle.epoch_store.specs.Commands.{GoesOn, place_of}
-use Rattle.store_finding.specs.Kept.{InEpochs, View}
+use Rattle.epoch_store.specs.Commands.{RootGoesOn, place_of}
+use Rattle.store_finding.specs.Kept.{InEpochs, StoreState}
 use Rattle.epoch_store.proofs.Carrying.{part_sizes, sizes_of_parts}
 use Rattle.epoch_store.proofs.Changing.{stopped, unless_short, unstarted}
 use Rattle.epoch_store.proofs.Delivering.{enters_leaves, enters_store}
@@ -30,7 +30,7 @@ pub returns-in_default-clause-changes : goal.returns-in_default-clause-changes
 returns-in_default-clause-changes g c = unstarted (g.met.D.Disk.only_now c.args.disk.now) (search rules) refl
 
 pub write_entry-requires-clause-sizes : goal.write_entry-requires-clause-sizes
-write_entry-requires-clause-sizes g c = subst (λ (v : View). WhereTold (HasPartSizes v.root) (g.D.Disk.content c.args.disk.now)) (sym c.self.view_is) (part_sizes c.args.self.now (g.D.Disk.content c.args.disk.now) c.requires.sizes)
+write_entry-requires-clause-sizes g c = subst (λ (v : StoreState). WhereTold (HasPartSizes v.root) (g.D.Disk.content c.args.disk.now)) (sym c.self.view_is) (part_sizes c.args.self.now (g.D.Disk.content c.args.disk.now) c.requires.sizes)
 
 pub returns-in_err-root-clause-changes : goal.returns-in_err-root-clause-changes
 returns-in_err-root-clause-changes g c =
@@ -39,8 +39,8 @@ returns-in_err-root-clause-changes g c =
     let said = c.in_err-root.ensures in
     stopped why (search rules)
     (λ a b cache store room enters.
-    enters_leaves e (g.D.Disk.content c.args.disk.now) (same_view _ _ _ _ c.reserve.ensures.items ∙ c.self.view_is) c.other-free.ensures c.next_place-place.ensures.next refl a b cache store room enters g.D.Disk.moment g.D.Disk.left_since c.args.disk.now c.write_entry.new.disk c.write_entry.ensures.any_moment)
-    (search rules) (unless_short why said.refused said.undamaged) said.undamaged (none_told _ why said.undamaged) (search rules) said.count c.write_entry.ensures.between
+    enters_leaves e (g.D.Disk.content c.args.disk.now) (same_view _ _ _ _ c.reserve.ensures.items ∙ c.self.view_is) c.other-free.ensures c.next_place-place.ensures.next refl a b cache store room enters g.D.Disk.moment g.D.Disk.left_since c.args.disk.now c.write_entry.new.disk c.write_entry.ensures.crash)
+    (search rules) (unless_short why said.refused said.undamaged) said.undamaged (none_told _ why said.undamaged) (search rules) said.count c.write_entry.ensures.crash_between
 
 pub returns-clause-changes : goal.returns-clause-changes
 returns-clause-changes g c =
@@ -52,13 +52,13 @@ returns-clause-changes g c =
     let full = c.in-Ok.ensures.ok in
     let more = pushed (is_ok c.push.result) c.reserve.new.self.items c.push.new.self.items c.new_entry-stored.result c.push.ensures.items (c.push.ensures.succeeds (omega (arith, full))) in
     record {
-      any_moment = λ a b cache store room enters.
-          enters_leaves e k0 same c.other-free.ensures c.next_place-place.ensures.next refl a b cache store room enters g.D.Disk.moment g.D.Disk.left_since c.args.disk.now c.write_entry.new.disk c.write_entry.ensures.any_moment;
+      crash = λ a b cache store room enters.
+          enters_leaves e k0 same c.other-free.ensures c.next_place-place.ensures.next refl a b cache store room enters g.D.Disk.moment g.D.Disk.left_since c.args.disk.now c.write_entry.new.disk c.write_entry.ensures.crash;
       done = λ a b cache store room enters.
           enters_store e k0 same c.other-free.ensures c.next_place-place.ensures.next refl a b cache store room enters root c.push.new.self.items c.new_entry-stored.result k3 c.in_ok-root.ensures.root more c.new_entry-stored.ensures.stored c.in_ok-root.ensures.done;
       settled = c.in_ok-root.ensures.settled;
       sizes = sizes_of_parts root (slot_number c.other-free.result) c.push.new.self.items k3 c.in_ok-root.ensures.sizes;
-      goes_on = subst (λ (u : View). GoesOn u.root root) c.self.view_is c.in_ok-root.ensures.goes_on;
+      goes_on = subst (λ (u : StoreState). RootGoesOn u.root root) c.self.view_is c.in_ok-root.ensures.goes_on;
       slot = search rules;
       same = tt;
       untouched = tt;
@@ -67,7 +67,7 @@ returns-clause-changes g c =
       cause = search rules;
       count = c.in_ok-root.ensures.count;
       rooted = c.in_ok-root.ensures.rooted;
-      between = c.write_entry.ensures.between;
+      crash_between = c.write_entry.ensures.crash_between;
     }
 
 pub invariant_of-self-3 : goal.invariant_of-self-3
@@ -81,10 +81,10 @@ invariant_of-self-3 g c =
     let low : stored.epoch ≤ 63 = omega (arith, epoch_is, small) in
     let p = c.next_place-place.result in
     let e : NewEntry = record { kind = c.args.kind; text = c.args.text; ids = c.args.ids.now; moment = c.args.moment; parent = p.parent } in
-    let w : View = record { root = c.self.inside.root; slot = slot_number c.self.inside.slot; entries = c.self.inside.entries.items } in
-    let place = subst (λ (u : View). p ≡ place_of u.root p.epoch p.parent) (sym c.self.view_is) c.next_place-place.ensures.place in
-    let last = subst (λ (u : View). AreUpToEpoch p.epoch u.entries) (sym c.self.view_is) c.next_place-place.ensures.last in
+    let w : StoreState = record { root = c.self.inside.root; slot = slot_number c.self.inside.slot; entries = c.self.inside.entries.items } in
+    let place = subst (λ (u : StoreState). p ≡ place_of u.root p.epoch p.parent) (sym c.self.view_is) c.next_place-place.ensures.place in
+    let last = subst (λ (u : StoreState). AreUpToEpoch p.epoch u.entries) (sym c.self.view_is) c.next_place-place.ensures.last in
     let epochs = ap (λ (r : Root). r.epochs) c.in_ok-root.ensures.root in
-    let lies = subst (λ (n : ℕ). LiesIn p.length n stored.seen) (ap (λ (x : Written). x.end) c.in_ok-root.ensures.written) c.new_entry-stored.ensures.lies in
+    let lies = subst (λ (n : ℕ). EntryLiesIn p.length n stored.seen) (ap (λ (x : Written). x.end) c.in_ok-root.ensures.written) c.new_entry-stored.ensures.lies in
     let named = written_named w.root c.in_ok-root.root p (p.length + length (appended p.length e)) w.entries stored c.root_fits.ensures.count small place epochs epoch_is last lies c.self.invariant.2 in
     (c.in_ok-root.ensures.valid, subst InEpochs (sym more) (in_epochs_more c.self.inside.entries.items stored c.self.invariant.1 low), subst (AreNamed c.in_ok-root.root) (sym more) named)

@@ -1,7 +1,7 @@
 -- The next epoch.
 use Rattle.std.proofs.Common.{◌≤◌, ◌<◌, ◌+◌, sym, arith, subst, get_or}
 use Rattle.root_slots.specs.Valid.{no_place}
-use Rattle.store_finding.specs.Kept.{View}
+use Rattle.store_finding.specs.Kept.{StoreState}
 use Rattle.store_finding.specs.Extents.{AreUpToEpoch}
 use Rattle.store_planning.specs.declared.next.NextPlace.{NextPlace}
 use Rattle.epoch_store.proofs.Ends.{next_after}
@@ -15,7 +15,7 @@ returns-clause-next c = λ a keeps.
     let other = c.if-end-eq-LAST_EPOCH.false in
     let below : end_.epoch < 63 = omega (arith, small, other) in
     rw c.place_in-2.ensures
-    (next_after c.args.self.now a end_ keeps (c.end-end.ensures.end a keeps) below (subst (λ (v : View). v.root.config.limit ≤ (get_or v.root.epochs end_.epoch no_place).length) c.self.view_is c.if-place-self.false))
+    (next_after c.args.self.now a end_ keeps (c.end-end.ensures.end a keeps) below (subst (λ (v : StoreState). v.root.config.limit ≤ (get_or v.root.epochs end_.epoch no_place).length) c.self.view_is c.if-place-self.false))
 
 pub returns-clause-last : goal.returns-clause-last
 returns-clause-last c =

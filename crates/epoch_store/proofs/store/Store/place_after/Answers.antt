@@ -1,6 +1,6 @@
 -- The next epoch.
 use Rattle.std.proofs.Common.{◌≤◌, ◌<◌, ◌+◌, arith, subst}
-use Rattle.store_finding.specs.Kept.{View}
+use Rattle.store_finding.specs.Kept.{StoreState}
 use Rattle.epoch_store.proofs.EntryExtents.{up_to_later}
 use Rattle.epoch_store.proofs.Placed.{place_next}
 use Rattle.epoch_store.proofs.store.Store.place_after.Goals as goal
@@ -12,7 +12,7 @@ returns-clause-place c =
     let other = c.if-end-eq-LAST_EPOCH.false in
     let below : end_.epoch < 63 = omega (arith, small, other) in
     place_next c.args.self.now.root c.args.planned.now end_ c.end-end.ensures.end c.planned_length-length.result c.planned_length.result c.planned_length-length.ensures c.planned_length.ensures below
-    (subst (λ (v : View). v.root.config.limit ≤ c.planned_length-length.result) c.self.view_is c.if-length-self.false)
+    (subst (λ (v : StoreState). v.root.config.limit ≤ c.planned_length-length.result) c.self.view_is c.if-length-self.false)
 
 pub returns-clause-last : goal.returns-clause-last
 returns-clause-last c = λ lie.

@@ -8,7 +8,7 @@ use Rattle.store_finding.specs.declared.entries.StoredEntry.{StoredEntry}
 use Rattle.store_finding.specs.Extents.{AreNamed}
 use Rattle.store_planning.specs.Planning.{ArePlansIn, IsTakenUpTo, Planning, PlansFirst, is_anew, loses}
 use Rattle.store_planning.specs.Dropping.{KeptOf, without_blob}
-use Rattle.store_finding.specs.Kept.{View}
+use Rattle.store_finding.specs.Kept.{StoreState}
 use Rattle.store_finding.proofs.FindingTold.{reads_none, reads_both}
 use Rattle.epoch_store.proofs.LosingAll.{lost_more}
 use Rattle.epoch_store.proofs.Purged.{entry_at, first_none, first_more, first_stops, first_whole, kept_more, plans_none, rose_later_than}
@@ -26,7 +26,7 @@ loop-entry-init g c =
       kept = subst (λ (p : Planning). AllZip KeptOf (without_blob (take 0 v.entries) blob.0) p.entries) none tt;
       plans = subst (ArePlansIn v.root) none (plans_none v.root);
       taken =
-          let named : AreNamed v.root v.entries = subst (λ (u : View). AreNamed u.root u.entries) c.self.view_is c.self.invariant.2 in
+          let named : AreNamed v.root v.entries = subst (λ (u : StoreState). AreNamed u.root u.entries) c.self.view_is c.self.invariant.2 in
           record { epoch = 0; from = 0; taken = subst (IsTakenUpTo v.root 0 0) none (taken_none v.root); lie = named.lie; ends = named.ends };
       changes = λ e. ap (λ (p : Planning). is_anew p e) c.requires.none;
       first = subst (λ (p : Planning). WhereTold (PlansFirst v blob 0 p) (g.D.Disk.content c.args.disk.now)) none (first_none v blob (g.D.Disk.content c.args.disk.now));
@@ -83,21 +83,21 @@ loop-entry-preserved g c =
 pub returns-clause-kept : goal.returns-clause-kept
 returns-clause-kept g c =
     let v = c.args.self.now in
-    let same : c.as_slice-entry-items.result.now ≡ v.entries = c.as_slice-entry-items.ensures.value ∙ ap (λ (u : View). u.entries) c.self.view_is in
+    let same : c.as_slice-entry-items.result.now ≡ v.entries = c.as_slice-entry-items.ensures.value ∙ ap (λ (u : StoreState). u.entries) c.self.view_is in
     let size : length c.as_slice-entry-items.result.now ≡ length v.entries = ap length same in
     subst (λ (es : List StoredEntry). AllZip KeptOf (without_blob es c.args.blob.now.0) c.loop-entry.planned.entries) (take_all c.loop-entry.entry-index v.entries (omega (arith, c.loop-entry-test.false, size))) c.loop-entry.invariant.kept
 
 pub returns-clause-changes : goal.returns-clause-changes
 returns-clause-changes g c = λ n.
     let v = c.args.self.now in
-    let same : c.as_slice-entry-items.result.now ≡ v.entries = c.as_slice-entry-items.ensures.value ∙ ap (λ (u : View). u.entries) c.self.view_is in
+    let same : c.as_slice-entry-items.result.now ≡ v.entries = c.as_slice-entry-items.ensures.value ∙ ap (λ (u : StoreState). u.entries) c.self.view_is in
     let size : length c.as_slice-entry-items.result.now ≡ length v.entries = ap length same in
     subst (λ (es : List StoredEntry). is_anew c.loop-entry.planned n ≡ loses es c.args.blob.now.0 n) (take_all c.loop-entry.entry-index v.entries (omega (arith, c.loop-entry-test.false, size))) (c.loop-entry.invariant.changes n)
 
 pub returns-clause-all : goal.returns-clause-all
 returns-clause-all g c =
     let v = c.args.self.now in
-    let same : c.as_slice-entry-items.result.now ≡ v.entries = c.as_slice-entry-items.ensures.value ∙ ap (λ (u : View). u.entries) c.self.view_is in
+    let same : c.as_slice-entry-items.result.now ≡ v.entries = c.as_slice-entry-items.ensures.value ∙ ap (λ (u : StoreState). u.entries) c.self.view_is in
     let size : length c.as_slice-entry-items.result.now ≡ length v.entries = ap length same in
     first_whole v c.args.blob.now c.loop-entry.entry-index c.loop-entry.planned (g.D.Disk.content c.args.disk.now) (omega (arith, c.loop-entry-test.false, size)) c.loop-entry.invariant.first
 

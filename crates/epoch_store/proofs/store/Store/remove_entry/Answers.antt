@@ -2,7 +2,7 @@
 use Rattle.std.proofs.Common.{arith}
 use Rattle.std.proofs.lemmas.Result.{on_ok_weaker}
 use Rattle.git_objects.specs.declared.entry_kind.EntryKind.TheVariants.{Deletion}
-use Rattle.epoch_store.specs.Entering.{KeepsEntry}
+use Rattle.epoch_store.specs.Entering.{EntersEntry}
 use Rattle.epoch_store.specs.Commands.{EndsEntry}
 use Rattle.epoch_store.proofs.Delivering.{changes_so, deletion_enters}
 use Rattle.epoch_store.proofs.store.Store.remove_entry.Goals as goal
@@ -12,7 +12,7 @@ returns-clause-changes g c = changes_so (λ a b keeps ends. deletion_enters c.ar
 
 pub returns-clause-ended : goal.returns-clause-ended
 returns-clause-ended g c =
-    let ends : KeepsEntry Deletion c.args.number c.args.text.now c.args.self.now c.enter.new.self → EndsEntry c.args.self.now c.enter.new.self c.args.number c.args.text.now = λ kept. record {
+    let ends : EntersEntry Deletion c.args.number c.args.text.now c.args.self.now c.enter.new.self → EndsEntry c.args.self.now c.enter.new.self c.args.number c.args.text.now = λ kept. record {
       entry = kept.entry;
       entries = kept.entries;
       kind = kept.kind;

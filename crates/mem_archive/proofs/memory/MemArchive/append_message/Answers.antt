@@ -3,7 +3,7 @@ use Rattle.git_objects.specs.declared.entry_kind.EntryKind.TheVariants.{Message}
 use Rattle.mail_reader.specs.Ids.{own_id}
 use Rattle.arch_judge.specs.declared.index.Owner.{Owner}
 use Rattle.mem_archive.specs.declared.kept.Kept.{Kept}
-use Rattle.mem_archive.specs.declared.kept.Place.{Place}
+use Rattle.mem_archive.specs.declared.kept.KeptPlace.{KeptPlace}
 use Rattle.mem_archive.proofs.Keeping.{keeps, is-message}
 use Rattle.mem_archive.proofs.RowsKept.{row-kept, row-left}
 use Rattle.mem_archive.proofs.memory.MemArchive.append_message.Goals as goal
@@ -25,7 +25,7 @@ invariant_of-self-2 c =
       (keeps c.self.inside.config c.self.inside.kept.items c.self.inside.places.items c.self.inside.index c.insert.new.self c.self.inside.end c.args.end c.args.entry c.as_slice.result.now c.args.ids.now c.in_ok-id.id.items
           c.owner_of-owner.result c.len-index.result c.args.self.now c.self.view_is c.self.invariant.0 c.requires.follows c.requires.number c.requires.ends c.in_ok-id.ensures c.as_slice.ensures
           c.owner_of-owner.ensures c.requires.ids count c.in_default.ensures.ok c.push.new.self.items held c.push-2.new.self.items
-          (c.in_ok-push-2.ensures.items ∙ ap (λ (ps : List (Option Place)). ps ++ Some (record { entry = c.len-index.result; live = true }) ∷ []) c.in_ok-reserve.ensures.items)).0,
+          (c.in_ok-push-2.ensures.items ∙ ap (λ (ps : List (Option KeptPlace)). ps ++ Some (record { entry = c.len-index.result; live = true }) ∷ []) c.in_ok-reserve.ensures.items)).0,
       row-kept c.self.inside.config c.self.inside.kept.items c.self.inside.places.items c.self.inside.index c.self.inside.end c.args.self.now c.self.view_is c.self.invariant.0 c.self.inside.views c.self.invariant.1 c.owner_of-owner.result.number
           (ap (λ (o : Owner). o.number) c.owner_of-owner.ensures) c.as_slice-2.result.now c.args.entry.moment c.add_if_stored.new.views c.in_ok-add_if_stored.ensures.ok
           c.args.entry kind (c.requires.number ∙ sym (ap (λ (o : Owner). o.number) c.owner_of-owner.ensures)) refl c.as_slice-2.ensures c.push.new.self.items held,
@@ -38,4 +38,4 @@ returns-clause-ok c =
     (keeps c.self.inside.config c.self.inside.kept.items c.self.inside.places.items c.self.inside.index c.insert.new.self c.self.inside.end c.args.end c.args.entry c.as_slice.result.now c.args.ids.now c.in_ok-id.id.items
     c.owner_of-owner.result c.len-index.result c.args.self.now c.self.view_is c.self.invariant.0 c.requires.follows c.requires.number c.requires.ends c.in_ok-id.ensures c.as_slice.ensures
     c.owner_of-owner.ensures c.requires.ids count c.in_default.ensures.ok c.push.new.self.items held c.push-2.new.self.items
-    (c.in_ok-push-2.ensures.items ∙ ap (λ (ps : List (Option Place)). ps ++ Some (record { entry = c.len-index.result; live = true }) ∷ []) c.in_ok-reserve.ensures.items)).1
+    (c.in_ok-push-2.ensures.items ∙ ap (λ (ps : List (Option KeptPlace)). ps ++ Some (record { entry = c.len-index.result; live = true }) ∷ []) c.in_ok-reserve.ensures.items)).1

@@ -2,7 +2,7 @@ use Rattle.std.proofs.Common.{◌++◌, length, Some}
 use Rattle.line_door.specs.Acts.{outside}
 use Rattle.line_door.specs.Course.{talk, Going}
 use Rattle.arch_model.specs.Archives.{Archive}
-use Rattle.arch_model.specs.Shelves.{Stays, ReadsAhead}
+use Rattle.arch_model.specs.Shelves.{ShelfStays, ReadsAhead}
 use Rattle.nntp_reader.specs.Counting.{texts_for_bytes}
 use Rattle.nntp_reader.specs.Door.{said, has_request, with_piece}
 use Rattle.nntp_reader.proofs.session.NntpSession.feed.Given as goal
@@ -17,7 +17,7 @@ invariant-loop-taken g l = record {
   reads :
       (a : Archive) → g.S.Shelf.holds l.fn.shelf a →
       ReadsAhead (texts_for_bytes l.moment a (l.fn.self.bytes ++ l.fn.piece)) (texts_for_bytes l.moment a (l.self.bytes ++ l.rest)) (g.S.Shelf.reads l.fn.shelf) (g.S.Shelf.reads l.shelf);
-  shelf : Stays g.S.Shelf.holds g.S.Shelf.ready g.S.Shelf.alike g.S.Shelf.faults l.fn.shelf l.shelf;
+  shelf : ShelfStays g.S.Shelf.holds g.S.Shelf.ready g.S.Shelf.alike g.S.Shelf.faults l.fn.shelf l.shelf;
   sink : g.O.Sink.alike l.fn.out l.out;
 }
 

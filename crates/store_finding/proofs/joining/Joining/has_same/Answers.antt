@@ -4,7 +4,7 @@ use Rattle.std.specs.Str.{bytes_eq}
 use Rattle.arch_base.specs.declared.ids.Id20.{Id20}
 use Rattle.arch_judge.specs.Indexes.{number_in}
 use Rattle.number_map.specs.declared.line.Record.{Record}
-use Rattle.store_finding.specs.Joined.{Joined, IsMessageOf, IsRecorded}
+use Rattle.store_finding.specs.Joined.{JoinedEntries, IsMessageOf, IsRecorded}
 use Rattle.store_finding.proofs.Comparing.{both_read}
 use Rattle.store_finding.proofs.joining.Joining.has_same.Goals as goal
 
@@ -12,17 +12,17 @@ pub message-older-requires : goal.message-older-requires
 message-older-requires g c =
     let found : number_in c.self.inside.index.blobs c.args.seen.now.blob.0 ≡ Some c.in-Some.number = search rules in
     let so = c.self.invariant.3.indexes.blobs c.args.seen.now.blob.0 c.in-Some.number found in
-    subst (λ (w : Joined). (line : Record) × IsRecorded w c.in-Some.number line) c.self.view_is (so.0, so.1)
+    subst (λ (w : JoinedEntries). (line : Record) × IsRecorded w c.in-Some.number line) c.self.view_is (so.0, so.1)
 
 pub returns-clause-compared : goal.returns-clause-compared
 returns-clause-compared g c =
-    let v : Joined = c.args.self.now in
+    let v : JoinedEntries = c.args.self.now in
     let seen = c.args.seen.now in
     let older = c.message-older.result.now in
     let of : IsMessageOf v.entries c.in-Some.number older = c.message-older.ensures.of in
     let found : number_in c.self.inside.index.blobs seen.blob.0 ≡ Some c.in-Some.number = search rules in
     let so = c.self.invariant.3.indexes.blobs seen.blob.0 c.in-Some.number found in
-    let line : IsRecorded v c.in-Some.number so.0 = subst (λ (w : Joined). IsRecorded w c.in-Some.number so.0) c.self.view_is so.1 in
+    let line : IsRecorded v c.in-Some.number so.0 = subst (λ (w : JoinedEntries). IsRecorded w c.in-Some.number so.0) c.self.view_is so.1 in
     let bytes : older.seen.blob.0 ≡ seen.blob.0 = ap (λ (b : Id20). b.0) (c.message-older.ensures.blob so.0 line) ∙ so.2 in
     let blob : older.seen.blob ≡ seen.blob = ap (λ (l : List ℕ). let b : Id20 = record { 0 = l } in b) bytes in
     let same : c.eq.result ≡ bytes_eq c.in_ok-old.old.items c.in_ok-new.new.items = search rules in

@@ -5,15 +5,15 @@ use Rattle.std.proofs.lemmas.List.Sorted.{IsPartitionPoint-from_clause}
 use Rattle.std.proofs.lemmas.Option.{slice_get-get_or}
 use Rattle.number_map.specs.declared.line.Record.{Record}
 use Rattle.store_finding.specs.declared.entries.StoredEntry.{StoredEntry}
-use Rattle.store_finding.specs.Joined.{IsMessageOf, IsRecorded, Joined, NumbersRise}
+use Rattle.store_finding.specs.Joined.{IsMessageOf, IsRecorded, JoinedEntries, NumbersRise}
 use Rattle.store_finding.proofs.Recorded.{IsPoint, found_blob, found_message, parted, place_within, point_within}
 use Rattle.store_finding.proofs.joining.Joining.message.Goals as goal
 
 pub index-place-requires : goal.index-place-requires
 index-place-requires c =
-    let v : Joined = record { records = c.self.inside.records.items; entries = c.self.inside.entries.items } in
+    let v : JoinedEntries = record { records = c.self.inside.records.items; entries = c.self.inside.entries.items } in
     let joining = c.self.invariant.3 in
-    let of = subst (λ (w : Joined). (line : Record) × IsRecorded w c.args.number line) (sym c.self.view_is) c.requires in
+    let of = subst (λ (w : JoinedEntries). (line : Record) × IsRecorded w c.args.number line) (sym c.self.view_is) c.requires in
     let rise : NumbersRise c.deref.result.now = subst NumbersRise (sym c.deref.ensures.value) joining.rise in
     let point : IsPoint c.deref.result.now c.args.number c.partition_point-at.result =
     IsPartitionPoint-from_clause (λ (r : Record). nat_lt r.number c.args.number) _ _ c.partition_point-at.ensures.partitioned (parted c.deref.result.now c.args.number rise) (λ a r q k. search rules) in
@@ -23,11 +23,11 @@ index-place-requires c =
 
 pub index-requires : goal.index-requires
 index-requires c =
-    let v : Joined = record { records = c.self.inside.records.items; entries = c.self.inside.entries.items } in
+    let v : JoinedEntries = record { records = c.self.inside.records.items; entries = c.self.inside.entries.items } in
     let joining = c.self.invariant.3 in
     let places = c.self.inside.places.items in
     let at = c.partition_point-at.result in
-    let of = subst (λ (w : Joined). (line : Record) × IsRecorded w c.args.number line) (sym c.self.view_is) c.requires in
+    let of = subst (λ (w : JoinedEntries). (line : Record) × IsRecorded w c.args.number line) (sym c.self.view_is) c.requires in
     let rise : NumbersRise c.deref.result.now = subst NumbersRise (sym c.deref.ensures.value) joining.rise in
     let point : IsPoint c.deref.result.now c.args.number at =
     IsPartitionPoint-from_clause (λ (r : Record). nat_lt r.number c.args.number) _ _ c.partition_point-at.ensures.partitioned (parted c.deref.result.now c.args.number rise) (λ a r q k. search rules) in
@@ -41,11 +41,11 @@ index-requires c =
 
 pub returns-clause-of : goal.returns-clause-of
 returns-clause-of c =
-    let v : Joined = record { records = c.self.inside.records.items; entries = c.self.inside.entries.items } in
+    let v : JoinedEntries = record { records = c.self.inside.records.items; entries = c.self.inside.entries.items } in
     let joining = c.self.invariant.3 in
     let places = c.self.inside.places.items in
     let at = c.partition_point-at.result in
-    let of = subst (λ (w : Joined). (line : Record) × IsRecorded w c.args.number line) (sym c.self.view_is) c.requires in
+    let of = subst (λ (w : JoinedEntries). (line : Record) × IsRecorded w c.args.number line) (sym c.self.view_is) c.requires in
     let rise : NumbersRise c.deref.result.now = subst NumbersRise (sym c.deref.ensures.value) joining.rise in
     let point : IsPoint c.deref.result.now c.args.number at =
     IsPartitionPoint-from_clause (λ (r : Record). nat_lt r.number c.args.number) _ _ c.partition_point-at.ensures.partitioned (parted c.deref.result.now c.args.number rise) (λ a r q k. search rules) in
@@ -56,15 +56,15 @@ returns-clause-of c =
     let inside = place_within v places c.self.inside.index c.args.number at of.0 joining c.self.invariant.2 of.1 so place at_is in
     let e = c.index.result.now in
     let here : slice_get v.entries place ≡ Some e = slice_get-get_or v.entries place e inside ∙ ap (λ (f : StoredEntry). Some f) (sym c.index.ensures) in
-    subst (λ (w : Joined). IsMessageOf w.entries c.args.number e) c.self.view_is (found_message v places c.self.inside.index c.args.number at of.0 joining c.self.invariant.2 of.1 so place at_is e here)
+    subst (λ (w : JoinedEntries). IsMessageOf w.entries c.args.number e) c.self.view_is (found_message v places c.self.inside.index c.args.number at of.0 joining c.self.invariant.2 of.1 so place at_is e here)
 
 pub returns-clause-blob : goal.returns-clause-blob
 returns-clause-blob c = λ line also.
-    let v : Joined = record { records = c.self.inside.records.items; entries = c.self.inside.entries.items } in
+    let v : JoinedEntries = record { records = c.self.inside.records.items; entries = c.self.inside.entries.items } in
     let joining = c.self.invariant.3 in
     let places = c.self.inside.places.items in
     let at = c.partition_point-at.result in
-    let of = subst (λ (w : Joined). IsRecorded w c.args.number line) (sym c.self.view_is) also in
+    let of = subst (λ (w : JoinedEntries). IsRecorded w c.args.number line) (sym c.self.view_is) also in
     let rise : NumbersRise c.deref.result.now = subst NumbersRise (sym c.deref.ensures.value) joining.rise in
     let point : IsPoint c.deref.result.now c.args.number at =
     IsPartitionPoint-from_clause (λ (r : Record). nat_lt r.number c.args.number) _ _ c.partition_point-at.ensures.partitioned (parted c.deref.result.now c.args.number rise) (λ a r q k. search rules) in

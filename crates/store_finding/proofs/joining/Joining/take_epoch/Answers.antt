@@ -5,7 +5,7 @@ use Rattle.std.specs.Vec.Iter.{into_iter_items}
 use Rattle.store_finding.specs.declared.entries.StoredEntry.{StoredEntry}
 use Rattle.epoch_file.specs.Lying.{LieIn, tree_end}
 use Rattle.store_finding.specs.Damage.{named_length}
-use Rattle.store_finding.specs.Joined.{Joined, JoinsByText, TakesEpoch}
+use Rattle.store_finding.specs.Joined.{JoinedEntries, JoinsByText, TakesEpoch}
 use Rattle.arch_model.proofs.ValidArchives.{all_weaker}
 use Rattle.store_finding.proofs.FindingTold.{told_any, told_so, told_both, reads_none, reads_both}
 use Rattle.store_finding.proofs.Extents.{AreJoinedTo, joined_more, joined_none}
@@ -51,7 +51,7 @@ loop-entry-preserved g c =
           let most = named_length root epoch in
           let lie_so : LieIn so.0 most (c.in-Some.entry ∷ after) = subst (LieIn so.0 most) c.in-Some.ensures.steps.0 so.1 in
           let grown = c.in-Ok.ensures.grown in
-          let entries = ap (λ (j : Joined). j.entries) grown.1 in
+          let entries = ap (λ (j : JoinedEntries). j.entries) grown.1 in
           (tree_end c.in-Some.entry, lie_so.1, subst (AreJoinedTo epoch (tree_end c.in-Some.entry) (named_length root)) (sym entries) (joined_more most epoch so.0 (named_length root) now.entries grown.0 c.in-Some.entry after refl lie_so so.2));
       come = told_both (Come root c.args.self epoch c.args.seen now items) (JoinsByText root now epoch c.in-Some.entry (Ok next)) (Come root c.args.self epoch c.args.seen next after)
           (g.D.Disk.content c.args.disk.now) (g.D.Disk.content c.loop-entry.disk) inv.reads.same inv.come c.in-Ok.ensures.joined

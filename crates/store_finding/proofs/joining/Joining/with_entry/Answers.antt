@@ -3,7 +3,7 @@ use Rattle.std.proofs.Common.{◌≡◌, ◌∙◌, ◌++◌, ◌∷◌, ℕ, Li
 use Rattle.git_objects.specs.declared.entry_kind.EntryKind.TheVariants.{Message}
 use Rattle.store_finding.specs.declared.entries.StoredEntry.{StoredEntry}
 use Rattle.store_finding.specs.Indexes.{IndexesStored}
-use Rattle.store_finding.specs.Joined.{IsJoining, IsWanted, Joined, entry_seen, message_count, places_with, with_seen}
+use Rattle.store_finding.specs.Joined.{IsJoining, IsWantedRecord, JoinedEntries, entry_seen, message_count, places_with, with_seen}
 use Rattle.store_finding.proofs.Indexes.{indexes_more}
 use Rattle.store_finding.proofs.Recorded.{joining_more, places_count}
 use Rattle.store_finding.proofs.joining.Joining.with_entry.Goals as goal
@@ -12,8 +12,8 @@ pub invariant_of-result : goal.invariant_of-result
 invariant_of-result c =
     let old = c.self.inside in
     let entry = entry_seen c.args.number c.args.epoch c.args.seen in
-    let before : Joined = record { records = old.records.items; entries = old.entries.items } in
-    let wanted = subst (λ (v : Joined). c.args.seen.kind ≡ Message → IsWanted v c.args.epoch c.args.seen c.args.number) (sym c.self.view_is) c.requires in
+    let before : JoinedEntries = record { records = old.records.items; entries = old.entries.items } in
+    let wanted = subst (λ (v : JoinedEntries). c.args.seen.kind ≡ Message → IsWantedRecord v c.args.epoch c.args.seen c.args.number) (sym c.self.view_is) c.requires in
     let long : c.len.result ≡ length old.entries.items = search rules in
     let pushed : c.push_place.new.places.items ≡ places_with c.args.seen.kind old.places.items c.len.result = c.in_ok-push_place.ensures in
     let places : c.push_place.new.places.items ≡ places_with c.args.seen.kind old.places.items (length old.entries.items) = pushed ∙ ap (places_with c.args.seen.kind old.places.items) long in

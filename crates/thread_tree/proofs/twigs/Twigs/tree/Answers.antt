@@ -1,5 +1,5 @@
 use Rattle.std.proofs.Common.{◌≡◌, ◌≤◌, ℕ, ◌<◌, length, Bool, List, arith}
-use Rattle.thread_tree.specs.Trees.{Prints, nodes, roots}
+use Rattle.thread_tree.specs.Trees.{PrintsNodes, nodes, roots}
 use Rattle.thread_tree.specs.Laid.{tree_lines}
 use Rattle.thread_model.specs.Members.{Among}
 use Rattle.thread_tree.specs.declared.twigs.Twig.{Twig}
@@ -8,7 +8,7 @@ use Rattle.std.specs.Global.{Vec}
 use Rattle.std.proofs.lemmas.Result.{IfOk-weaker}
 use Rattle.std.proofs.lemmas.List.{length-map}
 use Rattle.thread_tree.specs.Facts.{kept_up}
-use Rattle.thread_tree.specs.Nodes.{AreClosed, AreRoots, AreUnder, AreUps, IsForest, Walks, count_up, flag_at, kept_line, node_at, nodes_in, under_at}
+use Rattle.thread_tree.specs.Nodes.{AreClosed, AreRoots, AreUnder, AreUps, IsForest, WalksNodes, count_up, flag_at, kept_line, node_at, nodes_in, under_at}
 use Rattle.thread_tree.proofs.Ordered.{closed-ups}
 use Rattle.thread_tree.proofs.Grown.{lists-size, tree-forest, tree-prints, walk-inside}
 use Rattle.thread_tree.proofs.Laying.{by-both, laid}
@@ -57,8 +57,8 @@ lines_of-requires c =
     (subst (λ (os : List (Option ℕ)). AreUnder os flags lists (length os)) c.as_slice-3.ensures.value
     (subst (λ (fs : List Bool). AreUnder us fs lists (length us)) c.as_slice-4.ensures.value c.in_ok-under.ensures))
     walked
-    (subst (λ (rs : List ℕ). Walks (under_at lists) 0 rs walked) first
-    (subst (λ (ls : List (Vec ℕ)). Walks (under_at ls) 0 c.as_slice-7.result.now walked) c.as_slice-6.ensures.value c.in_ok-walked.ensures.walks))
+    (subst (λ (rs : List ℕ). WalksNodes (under_at lists) 0 rs walked) first
+    (subst (λ (ls : List (Vec ℕ)). WalksNodes (under_at ls) 0 c.as_slice-7.result.now walked) c.as_slice-6.ensures.value c.in_ok-walked.ensures.walks))
     x (subst (λ (ws : List (ℕ × ℕ)). Among ws x) c.as_slice-9.ensures.value h))
 
 -- src/twigs.rt:96:5
@@ -73,15 +73,15 @@ returns-clause-prints c =
     let walked = c.in_ok-walked.walked.items in
     let first = c.as_slice-7.ensures.value ∙ c.in_ok-roots.ensures ∙ ap (λ (fs : List Bool). filter (flag_at fs) (count_up (length fs))) c.as_slice-5.ensures.value in
     IfOk-weaker c.lines_of.result _ _
-    (λ lines e. subst (λ (ts : List Twig). Prints ts 0 (roots ts) lines) (c.as_slice-twigs.ensures.value ∙ c.self.view_is)
+    (λ lines e. subst (λ (ts : List Twig). PrintsNodes ts 0 (roots ts) lines) (c.as_slice-twigs.ensures.value ∙ c.self.view_is)
     (tree-prints c.as_slice-twigs.result.now facts list ups flags lists c.in_ok-facts.ensures c.in_ok-nodes.ensures.nodes c.in_ok-nodes.ensures.ids
     (subst (λ (ns : List (ℕ × ℕ × Vec ℕ)). AreUps (kept_up facts) (nodes_in ns) ups) c.as_slice.ensures.value c.in_ok-ups.ensures)
     (subst (λ (os : List (Option ℕ)). AreRoots os flags) c.as_slice-2.ensures.value c.in_ok-flags.ensures)
     (subst (λ (os : List (Option ℕ)). AreUnder os flags lists (length os)) c.as_slice-3.ensures.value
     (subst (λ (fs : List Bool). AreUnder us fs lists (length us)) c.as_slice-4.ensures.value c.in_ok-under.ensures))
     walked
-    (subst (λ (rs : List ℕ). Walks (under_at lists) 0 rs walked) first
-    (subst (λ (ls : List (Vec ℕ)). Walks (under_at ls) 0 c.as_slice-7.result.now walked) c.as_slice-6.ensures.value c.in_ok-walked.ensures.walks))
+    (subst (λ (rs : List ℕ). WalksNodes (under_at lists) 0 rs walked) first
+    (subst (λ (ls : List (Vec ℕ)). WalksNodes (under_at ls) 0 c.as_slice-7.result.now walked) c.as_slice-6.ensures.value c.in_ok-walked.ensures.walks))
     lines
     (e ∙ ap (λ (ns : List (ℕ × ℕ × Vec ℕ)). map (λ (x : ℕ × ℕ). kept_line facts x.0 (node_at (nodes_in ns) x.1)) c.as_slice-9.result.now) c.as_slice-8.ensures.value
     ∙ ap (map (λ (x : ℕ × ℕ). kept_line facts x.0 (node_at (nodes_in list) x.1))) c.as_slice-9.ensures.value)))
@@ -106,7 +106,7 @@ returns-clause-laid c =
     ap length c.as_slice-6.ensures.value ∙ sizes ∙ ap length c.in_ok-nodes.ensures.nodes ∙ ap (λ (ts : List Twig). length (nodes ts)) (c.as_slice-twigs.ensures.value ∙ c.self.view_is) in
     let walked : length c.as_slice-9.result.now ≡ length c.in_ok-walked.walked.items = ap length c.as_slice-9.ensures.value in
     let few : length c.in_ok-walked.walked.items ≤ length c.as_slice-6.result.now = c.in_ok-walked.ensures.few in
-    by-both c.lines_of.result (λ lines. Prints c.args.self.now 0 (roots c.args.self.now) lines) (λ lines. length lines ≤ length (nodes c.args.self.now)) (λ lines. lines ≡ tree_lines c.args.self.now)
+    by-both c.lines_of.result (λ lines. PrintsNodes c.args.self.now 0 (roots c.args.self.now) lines) (λ lines. length lines ≤ length (nodes c.args.self.now)) (λ lines. lines ≡ tree_lines c.args.self.now)
     (λ lines prints short. laid c.args.self.now lines prints short)
     (returns-clause-prints c)
     (IfOk-weaker c.lines_of.result _ _ (λ lines e.

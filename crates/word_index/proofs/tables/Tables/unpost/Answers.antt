@@ -2,7 +2,7 @@ use Rattle.std.proofs.Common.{sym, subst}
 use Rattle.word_index.specs.Rows.{shown}
 use Rattle.word_index.specs.Postings.{posted}
 use Rattle.word_index.specs.Days.{dated}
-use Rattle.word_index.specs.Tables.{rows_of, in_subject, in_from, in_body, is_of, IsIndex}
+use Rattle.word_index.specs.Tables.{rows_of, in_subject, in_from, in_body, is_of, IsWordIndex}
 use Rattle.word_index.proofs.TableLemmas.{unposts}
 use Rattle.word_index.proofs.DayLemmas.{dated-less}
 use Rattle.word_index.proofs.tables.Tables.unpost.Goals as goal
@@ -14,7 +14,7 @@ returns-clause-index c =
     let n = c.args.n in
     let row = shown c.args.row.now in
     let day = c.args.row.now.day in
-    subst IsIndex (sym c.free_words.ensures)
+    subst IsWordIndex (sym c.free_words.ensures)
     (record {
       rising = c.requires.posted.rising;
       by_subject = unposts in_subject rows (posted old.subject) (posted c.remove_all.new.postings) n row c.requires.new (rw (c.as_slice.ensures.value) at c.remove_all.ensures) c.requires.posted.by_subject;
