@@ -114,6 +114,7 @@ fn answered<D: Disk>(
     ensures for_command { IsForCommand command.now result }
     ensures cause { RoseIf (result ≡ Answer.DiskFault) (D.faults disk.old) (D.faults disk.new) }
 {
+    // After the last sequence of 64 bits nothing is done. No archive takes so many commands.
     if !archive.has_next_root() {
         return Answer::NoMemory;
     }

@@ -84,6 +84,7 @@ fn counts_over<K: Keep + Drop>(
     let mut keep = keep;
     match load(alloc, &mut keep, count, seed) {
         Ok(counts) => Ok(counts),
+        // A disk in memory fails only where an allocation does.
         Err(_refused) => Err(NoMemory),
     }
 }

@@ -304,6 +304,7 @@ impl DiskArchive {
         ensures { result ≡ damaged_place self.now (slice_get self.now.entries index) }
     {
         match self.store.place(index) {
+            // The entry at the index of a message is there, and so is its place.
             None => Answer::NoMemory,
             Some((file, at)) => Answer::Damaged { file, at },
         }

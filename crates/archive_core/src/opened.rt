@@ -91,6 +91,7 @@ impl DiskArchive {
             TextRefusal::DiskFault => OpenRefusal::DiskFault,
             TextRefusal::NoMemory => OpenRefusal::NoMemory,
             TextRefusal::Damaged { .. } => match self.store.place(unread.index) {
+                // A message that was walked through has an entry, so its place is there.
                 None => OpenRefusal::NoMemory,
                 Some((file, at)) => OpenRefusal::Damaged { file, at },
             },

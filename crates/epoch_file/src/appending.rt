@@ -50,6 +50,7 @@ pub fn append_entry<D: Disk>(
 {
     let (piece, ids) = entry_piece(alloc, at, entry)?;
     let bytes = piece.as_slice();
+    // No memory holds so many bytes.
     if bytes.len() > MOST {
         return Err(StoreRefusal::NoMemory);
     }

@@ -295,6 +295,7 @@ impl MemArchive {
             Verdict::Refuse(answer) => Verdict::Refuse(answer),
             Verdict::Take { text, ids, number } => Verdict::Take { text, ids, number },
             Verdict::Compare { text, ids, number } => match self.text_once(number) {
+                // The index names only numbers that have a message.
                 None => Verdict::Refuse(Answer::NoMemory),
                 Some(kept) => compared(&self.config, next, text, ids, number, kept),
             },

@@ -169,7 +169,9 @@ impl PartPlan {
     }
 }
 
-/// Returns a sum below 2^62, or `NoMemory` if it isn't.
+/// Returns a sum below 2^62.
+///
+/// `NoMemory` if it isn't: no memory holds so many bytes.
 fn more(count: u64, added: u64) -> Result<u64, NoMemory>
     ensures sum { IfOk result (λ sum. sum ≡ count + added) }
     ensures short { IfOk result (λ sum. sum < 2 ^ 62) }
