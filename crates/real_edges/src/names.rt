@@ -18,9 +18,9 @@ pub fn path_in(alloc: Global, folder: &str, name: FileName) -> Result<String, Al
     match name.kind {
         FileKind::Root if number == 0 && generation == 0 => format!(in alloc; "{folder}/{word}"),
         FileKind::Map | FileKind::Cache if number == 0 => format!(in alloc;
-            "{folder}/{word}.{gen_}"
+            "{folder}/{word}.{generation}"
         ),
-        _ => format!(in alloc; "{folder}/{word}-{number}.{gen_}"),
+        _ => format!(in alloc; "{folder}/{word}-{number}.{generation}"),
     }
 }
 
