@@ -1,2 +1,4 @@
 pub mod BareTexts
+pub mod Binding
+pub mod LiteralTexts
 pub mod QuotedTexts

@@ -1,11 +1,9 @@
 -- Texts in quotes: what is spelled is read, and what is read is spelled.
-use Rattle.std.proofs.Common.{◌≡◌, ◌<◌, ℕ, Bool, true, false, not, ◌&&◌, ◌||◌, ◌==◌, nat_lt, List, [], ◌∷◌, ◌++◌, Option, Some, None, if◌then◌else◌, refl, sym, ap, subst, ◌∙◌, append_assoc, eqb-true, arith}
+use Rattle.std.proofs.Common.{◌≡◌, ℕ, Bool, true, false, not, ◌&&◌, ◌||◌, ◌==◌, nat_lt, List, [], ◌∷◌, ◌++◌, Option, Some, None, if◌then◌else◌, refl, sym, ap, subst, ◌∙◌, append_assoc, eqb-true, arith}
 use Rattle.std.specs.List.{list_all}
-use Rattle.std.proofs.lemmas.Grind.{common_steps}
 use Rattle.std.proofs.lemmas.Bool.Decides.{nat_tests}
-use Rattle.imap_words.specs.Reading.{◌>>=◌, byte_at}
-use Rattle.imap_words.specs.Strings.{quoting_of, put_first, quoted_by, quoted_from, quoted_at}
-use Rattle.imap_words.specs.declared.strings.Quoting.{Quoting}
+use Rattle.imap_words.specs.Reading.{◌>>=◌}
+use Rattle.imap_words.specs.Strings.{put_first, quoted_by, quoted_from, quoted_at}
 use Rattle.imap_words.specs.declared.strings.Quoting.TheVariants as quoting
 use Rattle.imap_laws.specs.Spelling.{is_quoted_octet, escaped, SpellsQuoted, BeginsQuoted}
 
