@@ -7,17 +7,17 @@ use imap_syntax::{Date, Key, SeqSet, SetEnd, SetRange};
 use std::alloc::Global;
 
 /// Returns whether a message with the number 4, the third of three, matches a key.
-fn is_found(alloc: Global, text: &[u8], key: &Key) -> bool {
+fn is_found(alloc: Global, text: &[u8], key: Key) -> bool {
     matches!(
-        matches(alloc, text, &row(alloc, 4, 109), 3, 3, 4, key),
+        matches(alloc, text, &row(alloc, 4, 109), 3, 3, 4, &key),
         Ok(true)
     )
 }
 
 /// Returns whether a message is known not to match a key.
-fn is_missed(alloc: Global, text: &[u8], key: &Key) -> bool {
+fn is_missed(alloc: Global, text: &[u8], key: Key) -> bool {
     matches!(
-        matches(alloc, text, &row(alloc, 4, 109), 3, 3, 4, key),
+        matches(alloc, text, &row(alloc, 4, 109), 3, 3, 4, &key),
         Ok(false)
     )
 }
@@ -36,50 +36,68 @@ fn not(alloc: Global, key: Key) -> Result<Key, NoMemory> {
     Ok(Key::Not(Box::new(alloc, key)?))
 }
 
-/// Returns whether NOT SUBJECT FIRST misses the plain message, and SUBJECT finds it.
-fn subjects(alloc: Global) -> Result<bool, NoMemory> {
-    let found = Key::Subject(bytes(alloc, b"FIRST")?);
-    let missed = not(alloc, Key::Subject(bytes(alloc, b"FIRST")?))?;
-    Ok(is_found(alloc, PLAIN, &found) && is_missed(alloc, PLAIN, &missed))
+/// Returns the key that finds a text in the subject.
+fn subject(alloc: Global, piece: &[u8]) -> Result<Key, NoMemory> {
+    Ok(Key::Subject(bytes(alloc, piece)?))
 }
 
-/// Returns whether texts are found in the header as it is sent and in the body, and not across.
-fn texts(alloc: Global) -> Result<bool, NoMemory> {
-    let inside = both(
-        alloc,
-        Key::Text(bytes(alloc, b"ID: <a@X>\r\n")?),
-        Key::Text(bytes(alloc, b"One\n")?),
-    )?;
-    let again = both(
-        alloc,
-        Key::Body(bytes(alloc, b"one")?),
-        Key::Body(bytes(alloc, b"NE")?),
-    )?;
-    let across = Key::Text(bytes(alloc, b"\r\n\r\n")?);
-    Ok(
-        is_found(alloc, PLAIN, &inside)
-            && is_found(alloc, PLAIN, &again)
-            && is_missed(alloc, PLAIN, &across),
-    )
+/// Returns the key that finds a text in the header as it is sent or in the body.
+fn text(alloc: Global, piece: &[u8]) -> Result<Key, NoMemory> {
+    Ok(Key::Text(bytes(alloc, piece)?))
 }
 
-/// Returns whether fields are found by their names, twice by the same one.
-fn fields(alloc: Global) -> Result<bool, NoMemory> {
-    let twice = both(
-        alloc,
-        Key::From(bytes(alloc, b"ann")?),
-        Key::From(bytes(alloc, b"example")?),
-    )?;
-    let absent = Key::Header(bytes(alloc, b"X-None")?, bytes(alloc, b"")?);
-    Ok(is_found(alloc, PLAIN, &twice) && is_missed(alloc, PLAIN, &absent))
+/// Returns the key that finds a text in a field with a name.
+fn header(alloc: Global, name: &[u8], piece: &[u8]) -> Result<Key, NoMemory> {
+    let name = bytes(alloc, name)?;
+    Ok(Key::Header(name, bytes(alloc, piece)?))
+}
+
+/// Returns whether a key is there, and finds the plain message.
+fn finds(alloc: Global, key: Result<Key, NoMemory>) -> bool {
+    match key {
+        Ok(key) => is_found(alloc, PLAIN, key),
+        Err(NoMemory) => false,
+    }
+}
+
+/// Returns whether a key is there, and misses the plain message.
+fn misses(alloc: Global, key: Result<Key, NoMemory>) -> bool {
+    match key {
+        Ok(key) => is_missed(alloc, PLAIN, key),
+        Err(NoMemory) => false,
+    }
+}
+
+/// Returns NOT SUBJECT FIRST.
+fn not_first(alloc: Global) -> Result<Key, NoMemory> {
+    not(alloc, subject(alloc, b"FIRST")?)
+}
+
+/// Returns the keys of two texts, of which the second is looked for in what is kept.
+fn two_texts(alloc: Global) -> Result<Key, NoMemory> {
+    let first = text(alloc, b"ID: <a@X>\r\n")?;
+    both(alloc, first, text(alloc, b"One\n")?)
+}
+
+/// Returns the keys of two texts in one field.
+fn two_pieces(alloc: Global) -> Result<Key, NoMemory> {
+    let first = header(alloc, b"from", b"ann")?;
+    both(alloc, first, header(alloc, b"from", b"EXAMPLE")?)
 }
 
 #[test]
 fn texts_of_a_message_are_found(rt: HostRuntime) {
     let alloc = rt.alloc();
-    assert!(rt; matches!(subjects(alloc), Ok(true)));
-    assert!(rt; matches!(texts(alloc), Ok(true)));
-    assert!(rt; matches!(fields(alloc), Ok(true)));
+    assert!(rt; misses(alloc, not_first(alloc)));
+    assert!(rt; finds(alloc, two_texts(alloc)));
+    assert!(rt; misses(alloc, text(alloc, b"\r\n\r\n")));
+}
+
+#[test]
+fn fields_of_a_message_are_found(rt: HostRuntime) {
+    let alloc = rt.alloc();
+    assert!(rt; finds(alloc, two_pieces(alloc)));
+    assert!(rt; misses(alloc, header(alloc, b"X-None", b"")));
 }
 
 /// Returns the first of February 2024.
@@ -94,10 +112,10 @@ fn day() -> Date {
 #[test]
 fn days_are_compared(rt: HostRuntime) {
     let alloc = rt.alloc();
-    assert!(rt; is_found(alloc, PLAIN, &Key::SentOn(day())));
-    assert!(rt; is_found(alloc, PLAIN, &Key::Since(day())));
-    assert!(rt; is_missed(alloc, PLAIN, &Key::Before(day())));
-    assert!(rt; is_missed(alloc, ONE_PART, &Key::SentBefore(day())));
+    assert!(rt; is_found(alloc, PLAIN, Key::SentOn(day())));
+    assert!(rt; is_found(alloc, PLAIN, Key::Since(day())));
+    assert!(rt; is_missed(alloc, PLAIN, Key::Before(day())));
+    assert!(rt; is_missed(alloc, ONE_PART, Key::SentBefore(day())));
 }
 
 /// Returns the set of the UIDs from 9 to the greatest.
@@ -110,20 +128,30 @@ fn from_nine(alloc: Global) -> Result<SeqSet, NoMemory> {
     Ok(SeqSet::new(ranges))
 }
 
-/// Returns whether sets of UIDs have the message, and sizes are compared strictly.
-fn rows(alloc: Global) -> Result<bool, NoMemory> {
-    let found = both(alloc, Key::Uid(from_nine(alloc)?), Key::Larger(108))?;
-    let missed = not(alloc, Key::Smaller(109))?;
-    let reads = not(alloc, Key::Subject(bytes(alloc, b"x")?))?;
-    Ok(
-        is_found(alloc, b"", &found)
-            && is_found(alloc, b"", &missed)
-            && !reads_text(&found)
-            && reads_text(&reads),
-    )
+/// Returns the key of these UIDs.
+fn uids(alloc: Global) -> Result<Key, NoMemory> {
+    Ok(Key::Uid(from_nine(alloc)?))
+}
+
+/// Returns whether a key reads the text of a message.
+fn reads(key: Result<Key, NoMemory>) -> bool {
+    match key {
+        Ok(key) => reads_text(&key),
+        Err(NoMemory) => false,
+    }
 }
 
 #[test]
 fn rows_are_asked_without_a_text(rt: HostRuntime) {
-    assert!(rt; matches!(rows(rt.alloc()), Ok(true)));
+    let alloc = rt.alloc();
+    assert!(rt; finds(alloc, uids(alloc)));
+    assert!(rt; is_found(alloc, b"", Key::Larger(108)));
+    assert!(rt; is_missed(alloc, b"", Key::Larger(109)));
+}
+
+#[test]
+fn keys_that_read_a_text_are_known(rt: HostRuntime) {
+    let alloc = rt.alloc();
+    assert!(rt; reads(not_first(alloc)));
+    assert!(rt; !reads(uids(alloc)));
 }

@@ -72,9 +72,18 @@ fn shown_by_parts(alloc: Global, text: &[u8], asked: &Item) -> Result<Bytes, NoM
 }
 
 /// Returns whether both calls give this item of a message, with ample memory.
-pub(crate) fn is_item(alloc: Global, text: &[u8], asked: &Item, wanted: &[u8]) -> bool {
+pub(crate) fn is_item(alloc: Global, text: &[u8], asked: Item, wanted: &[u8]) -> bool {
+    is_shown(alloc, text, &asked, wanted) && is_shown_by_parts(alloc, text, &asked, wanted)
+}
+
+/// Returns whether the call that divides the message gives this item.
+fn is_shown(alloc: Global, text: &[u8], asked: &Item, wanted: &[u8]) -> bool {
     is_text(&shown(alloc, text, asked), wanted)
-        && is_text(&shown_by_parts(alloc, text, asked), wanted)
+}
+
+/// Returns whether the call over its parts gives this item.
+fn is_shown_by_parts(alloc: Global, text: &[u8], asked: &Item, wanted: &[u8]) -> bool {
+    is_text(&shown_by_parts(alloc, text, asked), wanted)
 }
 
 /// Returns whether a result is this text, after the bytes that were there.
@@ -86,8 +95,8 @@ fn is_text(made: &Result<Bytes, NoMemory>, wanted: &[u8]) -> bool {
 }
 
 /// Returns whether an item is read off the parts of a message.
-pub(crate) fn is_divided(asked: &Item) -> bool {
-    divides(asked)
+pub(crate) fn is_divided(asked: Item) -> bool {
+    divides(&asked)
 }
 
 /// Returns bytes in a list of their own.

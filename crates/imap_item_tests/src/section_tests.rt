@@ -28,7 +28,7 @@ fn is_section(
     wanted: &[u8],
 ) -> bool {
     match section(alloc, numbers, text, None) {
-        Ok(asked) => is_item(alloc, mail, &asked, wanted),
+        Ok(asked) => is_item(alloc, mail, asked, wanted),
         Err(NoMemory) => false,
     }
 }
@@ -37,7 +37,7 @@ fn is_section(
 fn is_cut(alloc: Global, offset: u32, wanted: &[u8]) -> bool {
     let partial = Some(Partial { offset, count: 10 });
     match section(alloc, &[], SectionText::Text, partial) {
-        Ok(asked) => is_item(alloc, ONE_PART, &asked, wanted),
+        Ok(asked) => is_item(alloc, ONE_PART, asked, wanted),
         Err(NoMemory) => false,
     }
 }
@@ -117,7 +117,7 @@ fn a_message_without_parts_has_one(rt: HostRuntime) {
         is_item(
             alloc,
             PLAIN,
-            &Item::Rfc822Text,
+            Item::Rfc822Text,
             b"RFC822.TEXT {5}\r\none\r\n"
         )
     );

@@ -9,8 +9,8 @@ ghost use Rattle.imap_items.specs.Kept.{lower_decoded, lower_values, lower_heade
 
 use crate::searching::{has_piece, lower};
 use arch_base::{Bytes, NoMemory, Texts};
-use mail_forms::{header, is_same_name, wire};
-use mail_reader::{fields, flat};
+use mail_forms::{header, wire};
+use mail_reader::{fields, flat, is_same_name};
 use mime_parts::body_text;
 use mime_words::decode;
 use std::alloc::Global;

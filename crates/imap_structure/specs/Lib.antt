@@ -4,3 +4,4 @@ pub mod Forests
 pub mod Structures
 pub mod Laws
 pub mod Opened
+pub mod Gathered

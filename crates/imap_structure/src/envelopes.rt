@@ -3,7 +3,8 @@
 ghost use Rattle.std.specs.Prelude.{◌≡◌, ◌++◌, IfOk, OnOk, codes};
 ghost use Rattle.std.specs.List.{flat_map};
 ghost use Rattle.mail_address.specs.declared.address.AddressKind.TheVariants.{Mailbox};
-ghost use Rattle.imap_structure.specs.Envelopes.{addresses_in, name_text, address_by, address_text, addresses_text, or_else, field_text, field_addresses, field_or_from, envelope_texts, envelope_senders, envelope_recipients, envelope_ids, envelope_front, envelope_of};
+ghost use Rattle.imap_structure.specs.Envelopes.{addresses_in, name_text, address_by, address_text, addresses_text, field_text, field_addresses, field_or_from, envelope_texts, envelope_senders, envelope_recipients, envelope_ids, envelope_front, envelope_of};
+ghost use Rattle.imap_structure.specs.Gathered.{text_or};
 
 use crate::strings::{push_nstring, push_string};
 use arch_base::{Bytes, NoMemory};
@@ -50,16 +51,26 @@ fn push_texts(alloc: Global, bytes: &[u8], into: &mut Bytes) -> Result<(), NoMem
     push_field_text(alloc, bytes, b"Subject", into)
 }
 
-/// Appends the authors, the sender, and whom an answer is sent to.
+/// Appends the authors, the sender, and whom an answer is sent to. The authors are read once.
 #[tactic(auto, unfolding(crate::specs::Envelopes::envelope_senders))]
 fn push_senders(alloc: Global, bytes: &[u8], into: &mut Bytes) -> Result<(), NoMemory>
     ensures { OnOk result (into.new ≡ into.old ++ envelope_senders bytes.now) }
 {
-    push_field_addresses(alloc, bytes, b"From", into)?;
+    let authors = authors_text(alloc, bytes)?;
+    into.push_slice(authors.as_slice())?;
     into.push(b' ')?;
-    push_field_or_from(alloc, bytes, b"Sender", into)?;
+    push_field_or_from(alloc, bytes, b"Sender", authors.as_slice(), into)?;
     into.push(b' ')?;
-    push_field_or_from(alloc, bytes, b"Reply-To", into)
+    push_field_or_from(alloc, bytes, b"Reply-To", authors.as_slice(), into)
+}
+
+/// Returns what an envelope has of the authors.
+fn authors_text(alloc: Global, bytes: &[u8]) -> Result<Bytes, NoMemory>
+    ensures { IfOk result (λ made. made ≡ field_addresses (codes "From") bytes.now) }
+{
+    let mut made = Bytes::new(alloc);
+    push_field_addresses(alloc, bytes, b"From", &mut made)?;
+    Ok(made)
 }
 
 /// Appends the recipients.
@@ -115,28 +126,35 @@ fn push_field_addresses(
     push_addresses(alloc, addresses.as_slice(), into)
 }
 
-/// Appends the addresses of the fields with a name, or those of the authors if there are none.
+/// Appends the addresses of the fields with a name, or the text of the authors if there are none.
+#[tactic(auto, using(crate::proofs::Authors::text_or_is))]
 fn push_field_or_from(
     alloc: Global,
     bytes: &[u8],
     name: &[u8],
+    authors: &[u8],
     into: &mut Bytes,
 ) -> Result<(), NoMemory>
+    requires { authors.now ≡ field_addresses (codes "From") bytes.now }
     ensures { OnOk result (into.new ≡ into.old ++ field_or_from name.now bytes.now) }
 {
     let addresses = addresses_in(alloc, bytes, name)?;
-    let addresses = or_from(alloc, bytes, addresses)?;
-    push_addresses(alloc, addresses.as_slice(), into)
+    push_or_from(alloc, addresses.as_slice(), authors, into)
 }
 
-/// Returns these addresses, or those of the authors if there are none.
-fn or_from(alloc: Global, bytes: &[u8], addresses: Addresses) -> Result<Addresses, NoMemory>
-    ensures { IfOk result (λ found. found ≡ or_else addresses (addresses_in (codes "From") bytes.now)) }
+/// Appends addresses, or the text of the authors if there are none.
+fn push_or_from(
+    alloc: Global,
+    addresses: &[Address],
+    authors: &[u8],
+    into: &mut Bytes,
+) -> Result<(), NoMemory>
+    ensures { OnOk result (into.new ≡ into.old ++ text_or authors.now addresses.now) }
 {
-    if addresses.as_slice().is_empty() {
-        return addresses_in(alloc, bytes, b"From");
+    match addresses {
+        [] => into.push_slice(authors),
+        _ => push_addresses(alloc, addresses, into),
     }
-    Ok(addresses)
 }
 
 /// Returns the addresses of the fields with a name, whose values are read as one list.
