@@ -22,7 +22,6 @@ use Rattle.control_door.specs.Door.{Waiting}
 use Rattle.control_door.specs.Requests.{Request, Delivers, Shows, Removes, Purges, Edits, Threads, Lists, Reindexes, Quits, Mistakes, Exceeds, Ahead, Asked, Unfinished, ahead}
 use Rattle.nntp_reader.specs.Door as news
 use Rattle.nntp_reader.specs.Door.{Reader}
-use Rattle.http_front.specs.Reading.{asked_in}
 use Rattle.http_front.proofs.Staying.{archive-stays}
 use Rattle.node_serve.specs.Doors.{SessionAtWork, Came, AtControl, AtNews, AtHttp, said, is_asked, unopened_words, with_piece}
 use Rattle.node_serve.specs.Turns.{Turn, CameTo, TurnedBy, Turned, Served, passed_in}
@@ -159,7 +158,7 @@ module _ (itself : FollowsItself) (commands : CommandFollows) where
   said-follows moment s (AtNews r) way kept =
       subst (λ (a : Archive). FollowsIn s.archive (standing a s.in_doubt)) (sym (read-after moment s.archive r (skipping_front longest_line r.bytes) way)) (stays s kept)
   said-follows moment s (AtHttp bytes) way kept =
-      subst (λ (a : Archive). FollowsIn s.archive (standing a s.in_doubt)) (sym (archive-stays asked_in moment s.archive bytes way)) (stays s kept)
+      subst (λ (a : Archive). FollowsIn s.archive (standing a s.in_doubt)) (sym (archive-stays moment s.archive bytes way)) (stays s kept)
 
   -- An act.
   acts-follow : {H : Type 0} (words : Departure → Said H LastKnown) (a : Archive) (i : ConnectionState) (held : Option H) (t : LastKnown) (j : ConnectionState) → ((way : Departure) → FollowsIn a (words way).after) → Acts words i held t j → FollowsIn a t
