@@ -8,7 +8,7 @@ use Rattle.imap_words.specs.Reading.{run_at}
 use Rattle.imap_laws.specs.Spelling.{StopsKind, SpellsBare}
 
 -- The first octets and those after them, unless there are none of the first.
-abbrev cut_by : Bool → ℕ → List ℕ → Option (List ℕ × List ℕ)
+abbrev pub cut_by : Bool → ℕ → List ℕ → Option (List ℕ × List ℕ)
 cut_by none n octets = if none then None else Some (take n octets, drop n octets)
 
 module _ (kind : ℕ → Bool) where
@@ -53,9 +53,9 @@ module _ (kind : ℕ → Bool) where
       (record { of_kind = rw t r.of_kind; long = ap suc r.long; stops = r.stops })
   run-by false b bs t r = record { of_kind = refl; long = refl; stops = t }
 
-  is-run : (octets : List ℕ) → IsRun octets (prefix_len kind octets)
-  is-run [] = record { of_kind = refl; long = refl; stops = tt }
-  is-run (b ∷ bs) = run-by (kind b) b bs refl (is-run bs)
+  pub is_run : (octets : List ℕ) → IsRun octets (prefix_len kind octets)
+  is_run [] = record { of_kind = refl; long = refl; stops = tt }
+  is_run (b ∷ bs) = run-by (kind b) b bs refl (is_run bs)
 
   spelled-by : (none : Bool) (n : ℕ) (octets text rest : List ℕ) → (n == 0) ≡ none → IsRun octets n
       → cut_by none n octets ≡ Some (text, rest) → SpellsBare kind octets text rest
@@ -75,4 +75,4 @@ module _ (kind : ℕ → Bool) where
 
   pub bare_spelled : (octets text rest : List ℕ) → run_at kind octets ≡ Some (text, rest) → SpellsBare kind octets text rest
   bare_spelled octets text rest h =
-      spelled-by (prefix_len kind octets == 0) (prefix_len kind octets) octets text rest refl (is-run octets) h
+      spelled-by (prefix_len kind octets == 0) (prefix_len kind octets) octets text rest refl (is_run octets) h

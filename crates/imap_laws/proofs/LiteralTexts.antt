@@ -11,7 +11,7 @@ use Rattle.imap_words.specs.Reading.{run_at, byte_at, line_end_at}
 use Rattle.imap_words.specs.Strings.{octets_at, literal_at}
 use Rattle.imap_laws.proofs.BareTexts.{bare_read, bare_spelled}
 use Rattle.imap_laws.proofs.Binding.{bind_some, byte_some}
-use Rattle.imap_laws.specs.Spelling.{SpellsBare, IsLineEnd, SpellsLiteral, BeginsLiteral}
+use Rattle.imap_laws.specs.Spelling.{SpellsBare, SpellsLineEnd, SpellsLiteral, BeginsLiteral}
 
 -- Digits are read as their number.
 pub number_read : (digits rest : List ℕ) (n : ℕ) → SpellsBare is_digit (digits ++ rest) digits rest → number_of digits ≡ Some n
@@ -35,20 +35,20 @@ number_spelled octets rest n h =
     )
 
 -- A line end is read.
-pub line_read : (ending rest : List ℕ) → IsLineEnd ending → line_end_at (ending ++ rest) ≡ Some rest
+pub line_read : (ending rest : List ℕ) → SpellsLineEnd ending → line_end_at (ending ++ rest) ≡ Some rest
 line_read ending rest (inl e) = ap (λ l. line_end_at (l ++ rest)) e
 line_read ending rest (inr e) = ap (λ l. line_end_at (l ++ rest)) e
 
 -- What is read as a line end is one.
 line-by : (t : Bool) (c : ℕ) (cs rest : List ℕ) → (c == 13) ≡ t
     → (if t then byte_at 10 cs else byte_at 10 (c ∷ cs)) ≡ Some rest
-    → (ending : List ℕ) × IsLineEnd ending × (c ∷ cs ≡ ending ++ rest)
+    → (ending : List ℕ) × SpellsLineEnd ending × (c ∷ cs ≡ ending ++ rest)
 line-by true c cs rest t h =
     (13 ∷ 10 ∷ [], inr refl, ap (λ k. k ∷ cs) (eqb-true c 13 t) ∙ ap (λ l. 13 ∷ l) (byte_some 10 cs rest h))
 line-by false c cs rest t h = (10 ∷ [], inl refl, byte_some 10 (c ∷ cs) rest h)
 
 pub line_spelled : (octets rest : List ℕ) → line_end_at octets ≡ Some rest
-    → (ending : List ℕ) × IsLineEnd ending × (octets ≡ ending ++ rest)
+    → (ending : List ℕ) × SpellsLineEnd ending × (octets ≡ ending ++ rest)
 line_spelled [] rest h = cc
 line_spelled (c ∷ cs) rest h = line-by (c == 13) c cs rest refl h
 

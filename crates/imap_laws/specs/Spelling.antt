@@ -53,17 +53,18 @@ pub record BareTextsAreRead : Type 0 where
       → SpellsBare kind octets text rest
 
 -- A line end (RFC 3501, section 9, CRLF); a line feed alone is one as well.
-abbrev pub IsLineEnd : List ℕ → Type 0
-IsLineEnd ending = (ending ≡ 10 ∷ []) ⊎ (ending ≡ 13 ∷ 10 ∷ [])
+abbrev pub SpellsLineEnd : List ℕ → Type 0
+SpellsLineEnd ending = (ending ≡ 10 ∷ []) ⊎ (ending ≡ 13 ∷ 10 ∷ [])
 
--- The octets are the number of a text's octets in braces, a line end and the text (RFC 3501, section 9, literal).
+-- The octets are the number of a text's octets in braces, a line end and the text (RFC 3501, section
+-- 9, literal).
 pub record SpellsLiteral (text spelling : List ℕ) : Type 0 where
   pub digits : List ℕ
   pub ending : List ℕ
   pub are_digits : list_all is_digit digits ≡ true
   pub some : 0 < length digits
   pub counted : number_of digits ≡ Some (length text)
-  pub ends : IsLineEnd ending
+  pub ends : SpellsLineEnd ending
   pub octets : list_all is_octet text ≡ true
   pub spelled : spelling ≡ 123 ∷ (digits ++ 125 ∷ (ending ++ text))
 

@@ -1,5 +1,5 @@
 -- Keys by their first octet, and keys read one after another.
-use Rattle.std.proofs.Common.{◌≡◌, ◌-◌, ◌+◌, ◌||◌, ◌==◌, ℕ, suc, false, List, slice_index, refl, sym, ap, ◌∙◌, ne_eqb, arith}
+use Rattle.std.proofs.Common.{◌≡◌, ◌-◌, ◌==◌, ℕ, suc, false, List, slice_index, refl, sym, ap, ◌∙◌, ne_eqb, arith}
 use Rattle.imap_words.specs.Kinds.{is_digit}
 use Rattle.imap_syntax.specs.Keys.{named_at, key_by, key_at}
 

@@ -1,2 +1,4 @@
 pub mod KeyLemmas
+pub mod KeyParts
+pub mod NestedKeys
 pub mod SetLemmas

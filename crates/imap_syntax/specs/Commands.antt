@@ -22,7 +22,6 @@ use Rattle.imap_syntax.specs.declared.command_names.ListCommand.{ListCommand}
 use Rattle.imap_syntax.specs.declared.command_names.MailboxCommand.{MailboxCommand}
 use Rattle.imap_syntax.specs.declared.command_names.NumberedCommand.{NumberedCommand}
 use Rattle.imap_syntax.specs.declared.command_names.NumberedCommand.TheVariants as numbered
-use Rattle.imap_syntax.specs.declared.command_names.PlainCommand.{PlainCommand}
 use Rattle.imap_syntax.specs.declared.dates.DateTime.{DateTime}
 
 -- A command whose arguments end with the command.

@@ -1,5 +1,5 @@
 -- Dates of commands (RFC 3501, section 9, date and date-time).
-use Rattle.std.specs.Prelude.{ℕ, Bool, true, false, List, [], ◌∷◌, codes, Option, Some, None, if◌then◌else◌}
+use Rattle.std.specs.Prelude.{ℕ, Bool, true, false, List, codes, Option, Some, None, if◌then◌else◌}
 use Rattle.imap_words.specs.Kinds.{is_digit}
 use Rattle.imap_words.specs.Numbers.{day_of, pair_at, four_at, padded_pair_at}
 use Rattle.imap_words.specs.Reading.{◌>>=◌, with_rest, byte_at, run_at, word_of, behind_word}

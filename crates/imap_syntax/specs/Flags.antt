@@ -2,7 +2,7 @@
 use Rattle.std.specs.Prelude.{ℕ, Bool, true, false, not, ◌&&◌, ◌==◌, List, [], ◌∷◌, length, slice_index, codes, Option, Some, None, if◌then◌else◌}
 use Rattle.std.specs.List.{list_all}
 use Rattle.imap_words.specs.Kinds.{is_atom_byte, is_flag_byte}
-use Rattle.imap_words.specs.Reading.{◌>>=◌, byte_at, run_at, many_at, with_rest, word_of, behind_word}
+use Rattle.imap_words.specs.Reading.{◌>>=◌, byte_at, run_at, many_at, word_of, behind_word}
 use Rattle.imap_words.specs.Words.{is_keyword}
 use Rattle.imap_syntax.specs.declared.flags.FlagChange.{FlagChange}
 use Rattle.imap_syntax.specs.declared.flags.FlagChange.TheVariants as change

@@ -1,5 +1,5 @@
 -- The grammar of search keys (RFC 3501, section 9, search-key).
-use Rattle.std.specs.Prelude.{◌≡◌, ℕ, zero, suc, Bool, true, false, ◌||◌, ◌==◌, List, [], ◌∷◌, length, map, slice_index, codes, Option, Some, None, option_map, Result, Ok, Err, if◌then◌else◌}
+use Rattle.std.specs.Prelude.{◌≡◌, ℕ, zero, suc, ◌||◌, ◌==◌, List, length, map, slice_index, codes, Option, Some, None, Result, Ok, Err, if◌then◌else◌}
 use Rattle.std.specs.Global.{Vec}
 use Rattle.std.specs.Option.{option_or}
 use Rattle.imap_words.specs.Kinds.{is_digit}
@@ -13,13 +13,11 @@ use Rattle.imap_syntax.specs.Sets.{set_at, set_argument_at}
 use Rattle.imap_syntax.specs.Trees.{KeyTest, Plain, Text, Header, Flag, Day, Size, Uid, Numbers, KeyTree, Single, Opposite, Either, Every, trees, tree_of}
 use Rattle.imap_syntax.specs.declared.key_names.DayKey.{DayKey}
 use Rattle.imap_syntax.specs.declared.key_names.DayKey.TheVariants as day
-use Rattle.imap_syntax.specs.declared.key_names.FlagKey.{FlagKey}
 use Rattle.imap_syntax.specs.declared.key_names.FlagKey.TheVariants as flag
 use Rattle.imap_syntax.specs.declared.key_names.KeyName.{KeyName}
 use Rattle.imap_syntax.specs.declared.key_names.KeyName.TheVariants as name
 use Rattle.imap_syntax.specs.declared.key_names.PlainKey.{PlainKey}
 use Rattle.imap_syntax.specs.declared.key_names.PlainKey.TheVariants as plain
-use Rattle.imap_syntax.specs.declared.key_names.SizeKey.{SizeKey}
 use Rattle.imap_syntax.specs.declared.key_names.SizeKey.TheVariants as size
 use Rattle.imap_syntax.specs.declared.key_names.TextKey.{TextKey}
 use Rattle.imap_syntax.specs.declared.key_names.TextKey.TheVariants as text

@@ -6,3 +6,4 @@ pub mod Trees
 pub mod Keys
 pub mod Requests
 pub mod Commands
+pub mod SpellingKeys
