@@ -1,4 +1,4 @@
--- Private: the octets that spell a text (RFC 3501, section 9, string and astring).
+-- The octets that spell a text (RFC 3501, section 9, string and astring).
 use Rattle.std.specs.Prelude.{◌≡◌, ◌<◌, ℕ, Bool, true, false, not, ◌||◌, ◌==◌, nat_lt, List, [], ◌∷◌, ◌++◌, length, Some, if◌then◌else◌, ◌⊎◌}
 use Rattle.std.specs.List.{list_all}
 use Rattle.imap_words.specs.Reading.{run_at}
