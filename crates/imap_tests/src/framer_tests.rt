@@ -83,7 +83,7 @@ fn note(found: &Found, into: &mut Bytes) -> Result<bool, NoMemory> {
 }
 
 /// Appends a command.
-fn note_command(command: &[u8], into: &mut Bytes) -> Result<(), NoMemory> {
+pub(crate) fn note_command(command: &[u8], into: &mut Bytes) -> Result<(), NoMemory> {
     into.push(b'<')?;
     into.push_slice(command)?;
     into.push(b'>')
@@ -98,7 +98,7 @@ fn after(piece: &[u8], used: usize) -> &[u8] {
 }
 
 /// Feeds a piece, and appends what is found. Returns whether the connection goes on.
-fn fed(
+pub(crate) fn fed(
     framer: &mut Framer,
     piece: &[u8],
     literals: bool,

@@ -7,6 +7,8 @@ mod framer_tests;
 #[cfg(test)]
 mod limit_tests;
 #[cfg(test)]
+mod random_tests;
+#[cfg(test)]
 mod reading_tests;
 #[cfg(test)]
 mod speed_tests;
