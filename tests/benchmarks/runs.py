@@ -9,13 +9,12 @@ import struct
 import subprocess
 import time
 from contextlib import contextmanager
-from importlib.machinery import SourceFileLoader
 
 from benchmarks import mails
+from lib.served import Server, free_port as any_free_port
 
 TESTS = os.path.dirname(os.path.dirname(os.path.realpath(__file__)))
 ROUNDS = 3
-serve = SourceFileLoader("serve", f"{TESTS}/serve").load_module()
 
 
 def seconds(work, *given):
@@ -172,7 +171,7 @@ def sums(folder):
 
 
 def free_port():
-    return serve.free_port(random.Random())
+    return any_free_port(random.Random())
 
 
 def wait_for(port, is_running, lasting=120):
@@ -191,7 +190,7 @@ def wait_for(port, is_running, lasting=120):
 @contextmanager
 def serving(program, folder):
     """Gives a running server of an archive, and ends it."""
-    server = serve.Server(program, folder, free_port())
+    server = Server(program, folder, free_port())
     try:
         wait_for(server.port, lambda: server.child.poll() is None)
         yield server

@@ -1,7 +1,7 @@
 //! Writes the lines of damaged files.
 //! Pure.
 ghost use Rattle.std.specs.Prelude.{◌++◌, ◌∷◌, codes, decimal};
-ghost use Rattle.edge_io.specs.Phrases.{Says};
+ghost use Rattle.edge_io.specs.Phrases.{SaysTo};
 ghost use Rattle.arch_model.specs.Delivery.{file_words};
 ghost use Rattle.answer_lines.specs.Lines.{whole_line};
 
@@ -12,8 +12,8 @@ use itoa::Buffer;
 
 /// Writes the line of the answer that a file is damaged.
 pub(crate) fn say_damaged<O: Sink>(file: FileName, at: u64, out: &mut O) -> Result<(), SinkFault>
-    ensures said { Says (whole_line (codes "11 damaged " ++ (file_words file ++ 32 ∷ decimal at)))
-        (O.taken out.old) (O.faults out.old) (O.taken out.new) (O.faults out.new) result }
+    ensures said { SaysTo O.Sink (whole_line (codes "11 damaged "
+        ++ (file_words file ++ 32 ∷ decimal at))) out.old out.new result }
     ensures sink { O.alike out.old out.new }
 {
     say(b"11 ", out)?;
@@ -22,8 +22,8 @@ pub(crate) fn say_damaged<O: Sink>(file: FileName, at: u64, out: &mut O) -> Resu
 
 /// Writes a line that names a damaged file of an archive and the offset of the damage.
 pub fn say_damage<O: Sink>(file: FileName, at: u64, out: &mut O) -> Result<(), SinkFault>
-    ensures said { Says (whole_line (codes "damaged " ++ (file_words file ++ 32 ∷ decimal at)))
-        (O.taken out.old) (O.faults out.old) (O.taken out.new) (O.faults out.new) result }
+    ensures said { SaysTo O.Sink (whole_line (codes "damaged "
+        ++ (file_words file ++ 32 ∷ decimal at))) out.old out.new result }
     ensures sink { O.alike out.old out.new }
 {
     say(b"damaged ", out)?;
@@ -33,8 +33,7 @@ pub fn say_damage<O: Sink>(file: FileName, at: u64, out: &mut O) -> Result<(), S
 
 /// Writes the words for a file of an archive.
 fn say_file<O: Sink>(file: FileName, out: &mut O) -> Result<(), SinkFault>
-    ensures said { Says (file_words file) (O.taken out.old) (O.faults out.old) (O.taken out.new)
-        (O.faults out.new) result }
+    ensures said { SaysTo O.Sink (file_words file) out.old out.new result }
     ensures sink { O.alike out.old out.new }
 {
     match file.kind {
@@ -47,8 +46,7 @@ fn say_file<O: Sink>(file: FileName, out: &mut O) -> Result<(), SinkFault>
 
 /// Writes the word for an epoch, and its number.
 fn say_epoch<O: Sink>(number: u32, out: &mut O) -> Result<(), SinkFault>
-    ensures said { Says (codes "epoch " ++ decimal number) (O.taken out.old) (O.faults out.old)
-        (O.taken out.new) (O.faults out.new) result }
+    ensures said { SaysTo O.Sink (codes "epoch " ++ decimal number) out.old out.new result }
     ensures sink { O.alike out.old out.new }
 {
     let mut buffer = Buffer::new();

@@ -2,7 +2,7 @@
 //! Pure.
 ghost use Rattle.std.specs.Prelude.{◌++◌, ◌∷◌, [], decimal};
 ghost use Rattle.hex.specs.Hex.{encode_lower};
-ghost use Rattle.edge_io.specs.Phrases.{Says};
+ghost use Rattle.edge_io.specs.Phrases.{SaysTo};
 
 use arch_base::{ObjectId, hex_of};
 use edge_io::{Sink, SinkFault, say, say_line};
@@ -10,8 +10,7 @@ use itoa::Buffer;
 
 /// Writes words, a number in decimal and a line feed.
 pub fn say_number<O: Sink>(words: &[u8], number: u64, out: &mut O) -> Result<(), SinkFault>
-    ensures said { Says (words.now ++ decimal number ++ 10 ∷ []) (O.taken out.old)
-        (O.faults out.old) (O.taken out.new) (O.faults out.new) result }
+    ensures said { SaysTo O.Sink (words.now ++ decimal number ++ 10 ∷ []) out.old out.new result }
     ensures sink { O.alike out.old out.new }
 {
     let mut buffer = Buffer::new();
@@ -21,8 +20,7 @@ pub fn say_number<O: Sink>(words: &[u8], number: u64, out: &mut O) -> Result<(),
 
 /// Writes a space, an id in hexadecimal and a line feed.
 pub(crate) fn say_id<O: Sink>(id: &ObjectId, out: &mut O) -> Result<(), SinkFault>
-    ensures said { Says (32 ∷ (encode_lower id.now.0 ++ 10 ∷ [])) (O.taken out.old)
-        (O.faults out.old) (O.taken out.new) (O.faults out.new) result }
+    ensures said { SaysTo O.Sink (32 ∷ (encode_lower id.now.0 ++ 10 ∷ [])) out.old out.new result }
     ensures sink { O.alike out.old out.new }
 {
     say(b" ", out)?;

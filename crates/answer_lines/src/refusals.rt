@@ -2,7 +2,7 @@
 //! Pure.
 ghost use Rattle.std.specs.Prelude.{◌++◌, ◌∷◌, codes};
 ghost use Rattle.hex.specs.Hex.{encode_lower};
-ghost use Rattle.edge_io.specs.Phrases.{Says};
+ghost use Rattle.edge_io.specs.Phrases.{SaysTo};
 ghost use Rattle.answer_lines.specs.Lines.{whole_line, memory_word, disk_word, unread_words, unopened_words};
 
 use crate::damage::say_damaged;
@@ -13,8 +13,7 @@ use edge_io::{Sink, SinkFault, say, say_line};
 
 /// Writes that memory ran out.
 pub fn say_memory<O: Sink>(out: &mut O) -> Result<(), SinkFault>
-    ensures said { Says memory_word (O.taken out.old) (O.faults out.old) (O.taken out.new)
-        (O.faults out.new) result }
+    ensures said { SaysTo O.Sink memory_word out.old out.new result }
     ensures sink { O.alike out.old out.new }
 {
     say_line(b"12 no memory", out)
@@ -22,8 +21,7 @@ pub fn say_memory<O: Sink>(out: &mut O) -> Result<(), SinkFault>
 
 /// Writes that the disk failed.
 pub(crate) fn say_disk<O: Sink>(out: &mut O) -> Result<(), SinkFault>
-    ensures said { Says disk_word (O.taken out.old) (O.faults out.old) (O.taken out.new)
-        (O.faults out.new) result }
+    ensures said { SaysTo O.Sink disk_word out.old out.new result }
     ensures sink { O.alike out.old out.new }
 {
     say_line(b"10 disk fault", out)
@@ -31,8 +29,7 @@ pub(crate) fn say_disk<O: Sink>(out: &mut O) -> Result<(), SinkFault>
 
 /// Writes why a text, or an epoch, was not read.
 pub fn say_unread<O: Sink>(refusal: TextRefusal, out: &mut O) -> Result<(), SinkFault>
-    ensures said { Says (unread_words refusal) (O.taken out.old) (O.faults out.old)
-        (O.taken out.new) (O.faults out.new) result }
+    ensures said { SaysTo O.Sink (unread_words refusal) out.old out.new result }
     ensures sink { O.alike out.old out.new }
 {
     match refusal {
@@ -44,9 +41,8 @@ pub fn say_unread<O: Sink>(refusal: TextRefusal, out: &mut O) -> Result<(), Sink
 
 /// Writes that a text is damaged: its id, and the id of the bytes found in its place.
 fn say_other_text<O: Sink>(named: &ObjectId, found: &ObjectId, out: &mut O) -> Result<(), SinkFault>
-    ensures said { Says (whole_line (codes "11 damaged "
-        ++ (encode_lower named.now.0 ++ 32 ∷ encode_lower found.now.0))) (O.taken out.old)
-        (O.faults out.old) (O.taken out.new) (O.faults out.new) result }
+    ensures said { SaysTo O.Sink (whole_line (codes "11 damaged "
+        ++ (encode_lower named.now.0 ++ 32 ∷ encode_lower found.now.0))) out.old out.new result }
     ensures sink { O.alike out.old out.new }
 {
     say(b"11 damaged ", out)?;
@@ -56,8 +52,7 @@ fn say_other_text<O: Sink>(named: &ObjectId, found: &ObjectId, out: &mut O) -> R
 
 /// Writes why an archive was not opened.
 pub fn say_unopened<O: Sink>(refusal: OpenRefusal, out: &mut O) -> Result<(), SinkFault>
-    ensures said { Says (unopened_words refusal) (O.taken out.old) (O.faults out.old)
-        (O.taken out.new) (O.faults out.new) result }
+    ensures said { SaysTo O.Sink (unopened_words refusal) out.old out.new result }
     ensures sink { O.alike out.old out.new }
 {
     match refusal {

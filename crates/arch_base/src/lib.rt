@@ -14,4 +14,4 @@ pub use decimals::{decimal, read_decimal};
 pub use ids::{Id20, ObjectId, hex_of, id_of_hex};
 pub use moments::{LAST_MOMENT, last_moment_is_defined};
 pub use name::Name;
-pub use sequence::{Bytes, Duplicate, NoMemory, Numbers, Sequence, Texts};
+pub use sequence::{Bytes, Duplicate, MessageNumbers, NoMemory, Numbers, Sequence, Texts};

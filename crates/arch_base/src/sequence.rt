@@ -41,8 +41,11 @@ pub type Bytes = Sequence<u8>;
 /// A list of texts.
 pub type Texts = Sequence<Bytes>;
 
-/// A list of numbers.
+/// A list of numbers: offsets, lengths, moments or counts.
 pub type Numbers = Sequence<u64>;
+
+/// A list of numbers of messages.
+pub type MessageNumbers = Sequence<u32>;
 
 /// A type whose values can be copied, which may allocate.
 pub trait Duplicate: Drop {
@@ -53,6 +56,12 @@ pub trait Duplicate: Drop {
 
 impl Duplicate for u8 {
     fn duplicate(&self) -> Result<u8, NoMemory> {
+        Ok(*self)
+    }
+}
+
+impl Duplicate for u32 {
+    fn duplicate(&self) -> Result<u32, NoMemory> {
         Ok(*self)
     }
 }

@@ -22,8 +22,9 @@ use Rattle.arch_model.specs.declared.choice.Meeting.{Meeting}
 use Rattle.arch_model.specs.declared.choice.Meeting.TheVariants.{Free, Same, Other}
 use Rattle.arch_judge.specs.declared.index.Index.{Index}
 use Rattle.arch_judge.specs.declared.index.Owner.{Owner}
-use Rattle.arch_model.proofs.Candidates.{Passed, all_made, meets, passed-more, passed-same, passed-free, not-all-passed}
-use Rattle.arch_model.proofs.MadeIds.{made-own}
+use Rattle.arch_model.proofs.Candidates.{Passed, all_made, below_or_at, meets, passed-more, passed-same, passed-free, not-all-passed}
+use Rattle.arch_model.proofs.MadeIds.{made-once, made-own}
+use Rattle.arch_judge.proofs.FreeIds.{one-free}
 
 -- A candidate meets an archive as it meets an index of it.
 pub met_known : (found : Option Owner) (own : Option Entry) (content : List ℕ) → found ≡ option_map owner_of own → met_in found content ≡ met own content
@@ -59,11 +60,29 @@ asks_made index id looked digits name text own content i object m is digits_is o
     (made, is_asked index looked own text content i m met_is (looked_is ∙ made) content_is)
 
 -- The made ids before this count are skipped in each archive with these settings and messages.
-abbrev pub PassedIn : Config → Index → ℕ → List ℕ → ℕ → Type 0
-PassedIn config index count text i = (a : Archive) → IsKnownBy config index count a.next a → Passed a text i
+abbrev pub PassedIn : Config → Index → List ℕ → ℕ → Type 0
+PassedIn config index text i = (a : Archive) → IsKnownBy config index a.next a → Passed a text i
 
-module _ (config : Config) (index : Index) (count : ℕ) (text : List ℕ) where
-  meets_known : (a : Archive) (i : ℕ) (m : Meeting) → IsKnownBy config index count a.next a → asked index config.name text i ≡ m → meets a text i ≡ m
+-- Messages with other content have the made ids before this count.
+abbrev pub TakenBelow : Index → List ℕ → List ℕ → ℕ → Type 0
+TakenBelow index name text i = (j : ℕ) → j < i → asked index name text j ≡ Other
+
+-- An id of a message with other content is in the index.
+other-in : (found : Option Owner) (content : List ℕ) → met_in found content ≡ Other → found ≡ None → ⊥
+other-in None content other none = absurd (cc)
+other-in (Some message) content other none = absurd (cc)
+
+-- Of one made id more than there are live messages, not all are those of messages.
+pub one-left : (index : Index) (name text : List ℕ) (i : ℕ) → length index.owners.entries < i → i < 2 ^ 64 → TakenBelow index name text i → ⊥
+one-left index name text i over small taken =
+    one-free index.owners (made_id name text) i over (λ j k b d same. made-once name text j k (omega (arith, b, small)) (omega (arith, d, small)) same)
+    (λ j l none. other-in (owner_in index.owners (made_id name text j)) (content_id_of text) (taken j l) none)
+
+pub taken-more : (index : Index) (name text : List ℕ) (i : ℕ) → TakenBelow index name text i → asked index name text i ≡ Other → TakenBelow index name text (i + 1)
+taken-more index name text i taken other = λ j l. below_or_at j i (λ k. asked index name text k ≡ Other) taken other (omega (arith, l))
+
+module _ (config : Config) (index : Index) (text : List ℕ) where
+  meets_known : (a : Archive) (i : ℕ) (m : Meeting) → IsKnownBy config index a.next a → asked index config.name text i ≡ m → meets a text i ≡ m
   meets_known a i m known is =
       let name : config.name ≡ a.config.name = sym (ap (λ (c : Config). c.name) known.config_is) in
       let id = made_id a.config.name text i in
@@ -79,27 +98,22 @@ module _ (config : Config) (index : Index) (count : ℕ) (text : List ℕ) where
   within : (a : Archive) (i : ℕ) → i < 2 ^ 64 → Passed a text i → i ≤ length (live a.entries)
   within a i small passed = at_most (length (live a.entries)) i (λ over. not-all-passed a text i over (omega (arith, over, small)) passed)
 
-  pub goes_on : (i : ℕ) → i ≤ count → i < 2 ^ 64 → PassedIn config index count text i → asked index config.name text i ≡ Other → PassedIn config index count text (i + 1)
-  goes_on i low small passed is a known = passed-more a text i (within a i small (passed a known)) small (passed a known) (meets_known a i Other known is)
+  pub goes_on : (i : ℕ) → i < 2 ^ 64 → PassedIn config index text i → asked index config.name text i ≡ Other → PassedIn config index text (i + 1)
+  goes_on i small passed is a known = passed-more a text i (within a i small (passed a known)) small (passed a known) (meets_known a i Other known is)
 
   -- What was found is what the made ids decide in each of these archives.
-  abbrev pub IsMade : Option Choice → Type 0
-  IsMade found = (a : Archive) → IsKnownBy config index count a.next a → found ≡ Some (all_made a text)
+  abbrev pub IsMade : Choice → Type 0
+  IsMade found = (a : Archive) → IsKnownBy config index a.next a → found ≡ all_made a text
 
-  pub repeats : (i n : ℕ) → i ≤ count → i < 2 ^ 64 → PassedIn config index count text i → asked index config.name text i ≡ Same n → IsMade (Some (Repeat n))
-  repeats i n low small passed is a known = ap Some (passed-same a text i n (within a i small (passed a known)) small (passed a known) (meets_known a i (Same n) known is))
+  pub repeats : (i n : ℕ) → i < 2 ^ 64 → PassedIn config index text i → asked index config.name text i ≡ Same n → IsMade (Repeat n)
+  repeats i n small passed is a known = passed-same a text i n (within a i small (passed a known)) small (passed a known) (meets_known a i (Same n) known is)
 
-  pub takes : (i : ℕ) (choice : Choice) (id : List ℕ) → i ≤ count → i < 2 ^ 64 → PassedIn config index count text i → asked index config.name text i ≡ Free → id ≡ made_id config.name text i
-      → choice ≡ Take (id_line id ++ text) → IsMade (Some choice)
-  takes i choice id low small passed is id_is choice_is a known =
-      ap Some
-      (choice_is
+  pub takes : (i : ℕ) (choice : Choice) (id : List ℕ) → i < 2 ^ 64 → PassedIn config index text i → asked index config.name text i ≡ Free → id ≡ made_id config.name text i
+      → choice ≡ Take (id_line id ++ text) → IsMade choice
+  takes i choice id small passed is id_is choice_is a known =
+      choice_is
       ∙ (ap (λ (q : List ℕ). Take (id_line q ++ text)) id_is
-      ∙ (ap (λ (c : Config). Take (with_made c.name text i)) (sym known.config_is) ∙ passed-free a text i (within a i small (passed a known)) (passed a known) (meets_known a i Free known is))))
-
-  -- There is always a made id that isn't skipped.
-  pub none_left : (i : ℕ) → count < i → count < 2 ^ 64 → PassedIn config index count text i → IsMade None
-  none_left i over small passed a known = let few = known.few in absurd (not-all-passed a text i (omega (arith, over, few)) (omega (arith, small, few)) (passed a known))
+      ∙ (ap (λ (c : Config). Take (with_made c.name text i)) (sym known.config_is) ∙ passed-free a text i (within a i small (passed a known)) (passed a known) (meets_known a i Free known is)))
 
 -- An own id that the index doesn't have is new.
 new_by : (index : Index) (text own : List ℕ) → own_id text ≡ Some own → owner_in index.owners own ≡ None → (id : List ℕ) → own_id text ≡ Some id → owner_in index.owners id ≡ None

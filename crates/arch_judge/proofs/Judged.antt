@@ -16,9 +16,10 @@ use Rattle.arch_model.specs.Shelves.{blob_text}
 use Rattle.arch_model.specs.Candidates.{choice_of}
 use Rattle.arch_model.specs.Keeping.{keeps_known, form_known}
 use Rattle.arch_model.specs.Delivery.{delivered, delivered_form, delivered_choice, delivered_kept, delivered_new, refused, new_epoch}
-use Rattle.arch_judge.specs.Judging.{IsKnownBy, Compares, unless_same, MayCome, MayBeKept, MayTake, TakesThis}
+use Rattle.arch_judge.specs.Judging.{IsKnownBy, Compares, unless_same, MayCome, MayBeKept, MayTake, RefusesFormed, RefusesLast, TakesThis}
 use Rattle.arch_judge.specs.declared.judging.Verdict.{Verdict}
-use Rattle.arch_judge.specs.declared.judging.Verdict.TheVariants.{Compare, Refuse, Take as Kept}
+use Rattle.arch_judge.specs.declared.judging.Verdict.TheVariants.{Refuse, Take as Kept}
+use Rattle.arch_judge.specs.declared.judging.Judgement.TheVariants.{Final}
 use Rattle.arch_judge.specs.Indexes.{number_in}
 use Rattle.arch_model.specs.declared.answer.Answer.TheVariants as answer
 use Rattle.arch_model.specs.declared.choice.Choice.{Choice}
@@ -26,7 +27,7 @@ use Rattle.arch_model.specs.declared.choice.Choice.TheVariants.{Take}
 use Rattle.arch_judge.specs.declared.index.Index.{Index}
 use Rattle.arch_model.proofs.Owners.{collision-alone, collision-first}
 
-module _ (a : Archive) (config : Config) (index : Index) (count next : ℕ) (known : IsKnownBy config index count next a) (bytes : List ℕ) where
+module _ (a : Archive) (config : Config) (index : Index) (next : ℕ) (known : IsKnownBy config index next a) (bytes : List ℕ) where
   module _ (writable : config.mirror ≡ false) where
     -- A delivery to an archive that is no mirror goes by the storage form.
     pub formed : (form : Result (List ℕ) StoredRefusal) → stored bytes ≡ form → (moment : ℕ) → delivered a bytes moment ≡ delivered_form a moment form
@@ -88,16 +89,31 @@ pub takes-new : (config : Config) (index : Index) (next : ℕ) (text : List ℕ)
 takes-new config index next text ids (Kept taken named number) may new takes =
     let kept : MayBeKept config index next text ids number = takes.2 index may in
     subst (λ (t : List ℕ). MayBeKept config index next t named number × (number_in index.blobs named.blob.0 ≡ None)) (sym takes.0) (subst (λ (i : TextIds). MayBeKept config index next text i number × (number_in index.blobs i.blob.0 ≡ None)) (sym takes.1) (kept, new))
-takes-new config index next text ids (Compare other named number) may new takes = absurd takes
 takes-new config index next text ids (Refuse reply) may new takes = takes
+
+-- After the form was found, want of numbers and another text with the blob id may refuse.
+pub last-formed : (v : Verdict) → RefusesLast v → RefusesFormed (Final v)
+last-formed (Kept text ids number) last = tt
+last-formed (Refuse (answer.Full max)) last = tt
+last-formed (Refuse (answer.Collision number)) last = tt
+last-formed (Refuse (answer.Ok number id)) last = absurd last
+last-formed (Refuse (answer.Duplicate number)) last = absurd last
+last-formed (Refuse answer.NoFields) last = absurd last
+last-formed (Refuse (answer.TooLarge len)) last = absurd last
+last-formed (Refuse (answer.NotLive number)) last = absurd last
+last-formed (Refuse (answer.NoText number)) last = absurd last
+last-formed (Refuse answer.IsMirror) last = absurd last
+last-formed (Refuse answer.DiskFault) last = absurd last
+last-formed (Refuse (answer.Damaged file at)) last = absurd last
+last-formed (Refuse answer.NoMemory) last = absurd last
 
 -- What a text is known by.
 pub known-by : (text spelled content : List ℕ) (blob : Id20) → blob ≡ blob_id_of spelled → spelled ≡ text → content ≡ content_id_of text → let ids : TextIds = record { blob = blob; content = content } in ids ≡ text_ids_of text
 known-by text spelled content blob blob_is spelled_is content_is = rw (blob_is ∙ ap blob_id_of spelled_is, content_is) refl
 
 -- What is known of an archive is known by its own next number.
-pub known-anew : (config : Config) (index : Index) (count next : ℕ) (a : Archive) → IsKnownBy config index count next a → IsKnownBy config index count a.next a
-known-anew config index count next a known = record { config_is = known.config_is; next_is = refl; few = known.few; indexed = known.indexed }
+pub known-anew : (config : Config) (index : Index) (next : ℕ) (a : Archive) → IsKnownBy config index next a → IsKnownBy config index a.next a
+known-anew config index next a known = record { config_is = known.config_is; next_is = refl; indexed = known.indexed }
 
 -- Bytes that don't differ are equal.
 pub equal-text : (x text kept : List ℕ) (t : Bool) → t ≡ not (bytes_eq x kept) → t ≡ false → x ≡ text → bytes_eq text kept ≡ true

@@ -1,5 +1,6 @@
 mod Maps
 pub mod Indexes
 pub mod Endings
+mod FreeIds
 mod Choosing
 mod Judged

@@ -1,5 +1,5 @@
 -- What the delivery of a message does, before anything is kept.
-use Rattle.std.specs.Prelude.{◌≡◌, ◌≤◌, ℕ, true, false, List, length, Option, Some, None, Ok, if◌then◌else◌}
+use Rattle.std.specs.Prelude.{◌≡◌, ◌≤◌, ℕ, true, false, List, Option, Some, None, Ok, if◌then◌else◌}
 use Rattle.std.specs.Str.{bytes_eq}
 use Rattle.arch_base.specs.declared.config.Config.{Config}
 use Rattle.arch_base.specs.declared.ids.Id20.{Id20}
@@ -8,7 +8,7 @@ use Rattle.mail_reader.specs.Stored.{stored}
 use Rattle.mail_reader.specs.Ids.{own_id}
 use Rattle.mail_commits.specs.declared.ids.TextIds.{TextIds}
 use Rattle.mail_commits.specs.Ids.{text_ids_of}
-use Rattle.arch_model.specs.Archives.{Archive, live, blob_number, with_entry}
+use Rattle.arch_model.specs.Archives.{Archive, blob_number, with_entry}
 use Rattle.arch_model.specs.Delivery.{delivered, delivered_kept, refused, new_epoch}
 use Rattle.arch_model.specs.Keeping.{form_known}
 use Rattle.arch_model.specs.Shelves.{blob_text}
@@ -20,14 +20,14 @@ use Rattle.arch_model.specs.declared.choice.Choice.{Choice}
 use Rattle.arch_model.specs.declared.choice.Choice.TheVariants as choice
 use Rattle.arch_judge.specs.declared.index.Index.{Index}
 use Rattle.arch_judge.specs.declared.judging.Verdict.{Verdict}
-use Rattle.arch_judge.specs.declared.judging.Verdict.TheVariants.{Take, Compare, Refuse}
+use Rattle.arch_judge.specs.declared.judging.Verdict.TheVariants.{Take, Refuse}
+use Rattle.arch_judge.specs.declared.judging.Judgement.{Judgement}
+use Rattle.arch_judge.specs.declared.judging.Judgement.TheVariants.{Final, Compare}
 
--- An archive has these settings, this next number, and at most `count` live messages, and the index
--- is its index.
-pub record IsKnownBy (config : Config) (index : Index) (count next : ℕ) (a : Archive) : Type 0 where
+-- An archive has these settings and this next number, and the index is its index.
+pub record IsKnownBy (config : Config) (index : Index) (next : ℕ) (a : Archive) : Type 0 where
   pub config_is : a.config ≡ config
   pub next_is : a.next ≡ next
-  pub few : length (live a.entries) ≤ count
   pub indexed : IsArchiveIndex a.entries index
 
 -- A refusal is that of the definition, at each moment. `NoMemory` may come at any time, and an
@@ -58,8 +58,12 @@ pub record Compares (a : Archive) (bytes text : List ℕ) (blob : Id20) (number 
 abbrev pub Judges : Archive → List ℕ → Verdict → Type 0
 Judges a bytes (Take text ids number) = (moment : ℕ) → delivered a bytes moment
     ≡ record { archive = with_entry a (new_epoch a) text moment; answer = answer.Ok number ids.blob }
-Judges a bytes (Compare text ids number) = Compares a bytes text ids.blob number
 Judges a bytes (Refuse reply) = RefusesBy a bytes reply
+
+-- The verdict is that, or a text is to be compared, which decides it.
+abbrev pub JudgesOrCompares : Archive → List ℕ → Judgement → Type 0
+JudgesOrCompares a bytes (Final verdict) = Judges a bytes verdict
+JudgesOrCompares a bytes (Compare text ids number) = Compares a bytes text ids.blob number
 
 -- The text may come: the archive is not a mirror, the text is a storage text, these are its ids, and
 -- no live message has its own id.
@@ -85,33 +89,44 @@ IsForDelivery answer.DiskFault = ⊥
 IsForDelivery (answer.Damaged file offset) = ⊥
 IsForDelivery other = Unit {0}
 
--- A text that is taken may be kept, and no entry has its blob id. One that is to be compared may
--- come, and this is the number of its blob id. A refusal is for a delivery.
+-- A text that is taken may be kept, and no entry has its blob id. A refusal is for a delivery.
 abbrev pub MayTake : Config → Index → ℕ → Verdict → Type 0
 MayTake config index next (Take text ids number) =
     MayBeKept config index next text ids number × (number_in index.blobs ids.blob.0 ≡ None)
-MayTake config index next (Compare text ids number) =
-    MayCome config index text ids × (number_in index.blobs ids.blob.0 ≡ Some number)
 MayTake config index next (Refuse reply) = IsForDelivery reply
+
+-- The same, or a text that is to be compared may come, and this is the number of its blob id.
+abbrev pub MayTakeOrCompare : Config → Index → ℕ → Judgement → Type 0
+MayTakeOrCompare config index next (Final verdict) = MayTake config index next verdict
+MayTakeOrCompare config index next (Compare text ids number) =
+    MayCome config index text ids × (number_in index.blobs ids.blob.0 ≡ Some number)
+
+-- A refusal of a message that has a storage form, by an archive that takes deliveries: it repeats a
+-- message, another text has its blob id, no number is left, or memory ran out.
+abbrev pub RefusesFormed : Judgement → Type 0
+RefusesFormed (Compare text ids number) = Unit {0}
+RefusesFormed (Final (Take text ids number)) = Unit {0}
+RefusesFormed (Final (Refuse (answer.Duplicate number))) = Unit {0}
+RefusesFormed (Final (Refuse (answer.Full max))) = Unit {0}
+RefusesFormed (Final (Refuse (answer.Collision number))) = Unit {0}
+RefusesFormed (Final (Refuse answer.NoMemory)) = Unit {0}
+RefusesFormed (Final (Refuse other)) = ⊥
 
 -- This text is taken if it may come, or there is a refusal for a delivery.
 abbrev pub TakesThis : Config → ℕ → List ℕ → TextIds → Verdict → Type 0
 TakesThis config next text ids (Take taken named number) = (taken ≡ text) × (named ≡ ids)
     × ((index : Index) → MayCome config index text ids
     → MayBeKept config index next text ids number)
-TakesThis config next text ids (Compare other named number) = ⊥
 TakesThis config next text ids (Refuse reply) = IsForDelivery reply
 
 -- A text is taken only if it is the same as one that was kept.
 abbrev pub TakesSame : List ℕ → List ℕ → Verdict → Type 0
 TakesSame text kept (Take taken named number) = kept ≡ text
-TakesSame text kept (Compare other named number) = ⊥
 TakesSame text kept (Refuse reply) = Unit {0}
 
 -- After the texts were compared, only another text with the blob id and want of numbers refuse.
 abbrev pub RefusesLast : Verdict → Type 0
 RefusesLast (Take text ids number) = Unit {0}
-RefusesLast (Compare text ids number) = Unit {0}
 RefusesLast (Refuse (answer.Full max)) = Unit {0}
 RefusesLast (Refuse (answer.Collision number)) = Unit {0}
 RefusesLast (Refuse other) = ⊥

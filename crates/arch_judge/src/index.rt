@@ -1,6 +1,6 @@
 //! An index of an archive's live messages by their own ids, and of its entries by their blob ids.
 //! Allocates.
-ghost use Rattle.std.specs.Prelude.{◌≡◌, ◌≢◌, [], OnOk, OnErr, Some, None};
+ghost use Rattle.std.specs.Prelude.{◌≡◌, ◌≢◌, ◌<◌, ◌^◌, [], OnOk, OnErr, Some, None, length};
 ghost use Rattle.mail_reader.specs.Ids.{own_id as own_id_in};
 ghost use Rattle.arch_judge.specs.Indexes.{IndexPuts, IndexLoses, LosesIfOf, TakesBack, HasSame, met_owner, met_in, met_own, owner_in, number_in};
 
@@ -57,6 +57,14 @@ impl Index {
         ensures { result ≡ owner_in self.now.owners id.now }
     {
         self.owners.get(id).copied()
+    }
+
+    /// Returns how many live messages it has.
+    pub(crate) fn len(&self) -> usize
+        ensures len { result ≡ length self.now.owners.entries }
+        ensures small { result < 2 ^ 63 }
+    {
+        self.owners.len()
     }
 
     /// Returns how a candidate id meets the message that has it, if there is one.

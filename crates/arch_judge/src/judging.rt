@@ -1,14 +1,16 @@
 //! Decides what a delivery does, before anything is kept. Each kind of archive uses it.
 //! Allocates.
-ghost use Rattle.std.specs.Prelude.{◌≡◌, List, ℕ, Ok, Some, IfOk, IfSome, false, length};
+ghost use Rattle.std.specs.Prelude.{◌≡◌, List, ℕ, Ok, IfOk, false, length};
 ghost use Rattle.mail_reader.specs.Content.{content_id_of};
 ghost use Rattle.mail_reader.specs.Stored.{stored as stored_of};
 ghost use Rattle.mail_commits.specs.Ids.{text_ids_of};
 ghost use Rattle.arch_model.specs.Archives.{Archive, live};
 ghost use Rattle.arch_model.specs.Delivery.{delivered, delivered_kept, delivered_new};
 ghost use Rattle.arch_model.specs.Candidates.{choice_of, made_choice};
-ghost use Rattle.arch_judge.specs.Judging.{IsKnownBy, IsNewText, IsStored, Judges, MayTake, RefusesLast, TakesNewText, TakesThis, TakesSame, unless_same};
+ghost use Rattle.arch_judge.specs.Judging.{IsKnownBy, IsNewText, IsStored, Judges, JudgesOrCompares, MayTakeOrCompare, RefusesFormed, RefusesLast, TakesNewText, TakesThis, TakesSame, unless_same};
 ghost use Rattle.arch_model.specs.declared.choice.Choice.TheVariants.{Take};
+ghost use Rattle.arch_judge.specs.declared.judging.Judgement.TheVariants.{Final};
+ghost use Rattle.arch_judge.specs.declared.judging.Verdict.TheVariants.{Refuse};
 
 use crate::index::Index;
 use crate::made::{made_id, with_id};
@@ -29,6 +31,15 @@ pub enum Verdict {
         ids: TextIds,
         number: u32,
     },
+    /// Keeps nothing, and gives this answer.
+    Refuse(Answer),
+}
+
+/// What is known of a delivery before any text that is kept is read.
+#[derive(Debug, Drop)]
+pub enum Judgement {
+    /// What it does.
+    Final(Verdict),
     /// The message with this number, live or not, is the first with the blob id of this text. Whether
     /// it has the same text decides: see `compared`.
     Compare {
@@ -36,63 +47,56 @@ pub enum Verdict {
         ids: TextIds,
         number: u32,
     },
-    /// Keeps nothing, and gives this answer.
-    Refuse(Answer),
 }
 
-/// Decides what the delivery of a message does.
+/// Decides what the delivery of a message does, unless a text that is kept has to be compared.
 ///
-/// The archive has these settings and at most `count` live messages, and the index is its index.
-/// `next` is its next number. Refuses with `NoMemory` if an allocation fails.
-pub fn judge(
-    alloc: Global,
-    config: &Config,
-    index: &Index,
-    count: usize,
-    next: u32,
-    bytes: &[u8],
-) -> Verdict
+/// The archive has these settings, and the index is its index. `next` is its next number. Refuses
+/// with `NoMemory` if an allocation fails.
+pub fn judge(alloc: Global, config: &Config, index: &Index, next: u32, bytes: &[u8]) -> Judgement
     // For each archive with these settings, messages and next number, the definition decides the
     // same.
-    ensures judged { (a : Archive) → IsKnownBy config.now index.now count next a
-        → Judges a bytes.now result }
+    ensures judged { (a : Archive) → IsKnownBy config.now index.now next a
+        → JudgesOrCompares a bytes.now result }
     // For any index: a text that is taken may be kept.
-    ensures taken { MayTake config.now index.now next result }
+    ensures taken { MayTakeOrCompare config.now index.now next result }
+    // For any index: a message with a form is refused for no want of one.
+    ensures formed { (text : List ℕ) → config.now.mirror ≡ false → stored_of bytes.now ≡ Ok text
+        → RefusesFormed result }
 {
     if config.mirror {
-        return Verdict::Refuse(Answer::IsMirror);
+        return refuse(Answer::IsMirror);
     }
     match stored(alloc, bytes) {
-        Err(StoredRefusal::NoFields) => Verdict::Refuse(Answer::NoFields),
-        Err(StoredRefusal::TooLarge(len)) => Verdict::Refuse(Answer::TooLarge(len)),
-        Err(StoredRefusal::NoMemory) => Verdict::Refuse(Answer::NoMemory),
-        Ok(text) => judge_text(alloc, config, index, count, next, text),
+        Err(StoredRefusal::NoFields) => refuse(Answer::NoFields),
+        Err(StoredRefusal::TooLarge(len)) => refuse(Answer::TooLarge(len)),
+        Err(StoredRefusal::NoMemory) => refuse(Answer::NoMemory),
+        Ok(text) => judge_text(alloc, config, index, next, text),
     }
+}
+
+/// Returns the judgement that refuses with an answer.
+fn refuse(answer: Answer) -> Judgement
+    ensures { result ≡ Final (Refuse answer) }
+{
+    Judgement::Final(Verdict::Refuse(answer))
 }
 
 /// Decides what the delivery of a storage text does.
-fn judge_text(
-    alloc: Global,
-    config: &Config,
-    index: &Index,
-    count: usize,
-    next: u32,
-    text: Bytes,
-) -> Verdict
+fn judge_text(alloc: Global, config: &Config, index: &Index, next: u32, text: Bytes) -> Judgement
     requires writable { config.now.mirror ≡ false }
     requires stored { IsStored text }
-    ensures judged { (a : Archive) (bytes : List ℕ) → IsKnownBy config.now index.now count next a
-        → stored_of bytes ≡ Ok text → Judges a bytes result }
-    ensures taken { MayTake config.now index.now next result }
+    ensures judged { (a : Archive) (bytes : List ℕ) → IsKnownBy config.now index.now next a
+        → stored_of bytes ≡ Ok text → JudgesOrCompares a bytes result }
+    ensures taken { MayTakeOrCompare config.now index.now next result }
+    ensures formed { RefusesFormed result }
 {
     law_of_taken_texts();
     let content = content_id(text.as_slice());
     match index.meet_own(text.as_slice(), &content) {
         Meeting::Free => judge_new(config, index, next, text, content),
-        Meeting::Same(number) => Verdict::Refuse(Answer::Duplicate(number)),
-        Meeting::Other => {
-            judge_made(alloc, config, index, count, next, text.as_slice(), &content)
-        }
+        Meeting::Same(number) => refuse(Answer::Duplicate(number)),
+        Meeting::Other => judge_made(alloc, config, index, next, text.as_slice(), &content),
     }
 }
 
@@ -101,23 +105,23 @@ fn judge_made(
     alloc: Global,
     config: &Config,
     index: &Index,
-    count: usize,
     next: u32,
     text: &[u8],
     content: &[u8; 32],
-) -> Verdict
+) -> Judgement
     requires writable { config.now.mirror ≡ false }
     requires stored { IsStored text.now }
     requires content { content.now ≡ content_id_of text.now }
-    ensures judged { (a : Archive) (bytes : List ℕ) → IsKnownBy config.now index.now count next a
+    ensures judged { (a : Archive) (bytes : List ℕ) → IsKnownBy config.now index.now next a
         → stored_of bytes ≡ Ok text.now → choice_of a text.now
         ≡ made_choice (live a.entries) a.config.name text.now 0 (length (live a.entries))
-        → Judges a bytes result }
-    ensures taken { MayTake config.now index.now next result }
+        → JudgesOrCompares a bytes result }
+    ensures taken { MayTakeOrCompare config.now index.now next result }
+    ensures formed { RefusesFormed result }
 {
-    match choose_made(alloc, config, index, count, text, content) {
-        Err(NoMemory) => Verdict::Refuse(Answer::NoMemory),
-        Ok(Choice::Repeat(number)) => Verdict::Refuse(Answer::Duplicate(number)),
+    match choose_made(alloc, config, index, text, content) {
+        Err(NoMemory) => refuse(Answer::NoMemory),
+        Ok(Choice::Repeat(number)) => refuse(Answer::Duplicate(number)),
         Ok(Choice::Take(taken)) => {
             // It has one field more.
             let content = content_id(taken.as_slice());
@@ -126,77 +130,55 @@ fn judge_made(
     }
 }
 
-/// Returns what the made ids of a text decide.
+/// Returns what the made ids of a text decide: the first that isn't that of a message with other
+/// content.
 fn choose_made(
     alloc: Global,
     config: &Config,
     index: &Index,
-    count: usize,
     text: &[u8],
     content: &[u8; 32],
 ) -> Result<Choice, NoMemory>
     requires stored { IsStored text.now }
     requires content { content.now ≡ content_id_of text.now }
-    ensures choice { (a : Archive) → IsKnownBy config.now index.now count a.next a → IfOk result
+    ensures choice { (a : Archive) → IsKnownBy config.now index.now a.next a → IfOk result
         (λ choice. choice ≡ made_choice (live a.entries) a.config.name text.now 0 (length (live a.entries))) }
     ensures new { IfOk result (TakesNewText index.now) }
-{
-    match first_made(alloc, config, index, count, text, content)? {
-        Some(choice) => Ok(choice),
-        // No archive leads here: among n live messages one of n + 1 made ids is free.
-        None => Err(NoMemory),
-    }
-}
-
-/// Returns what the first made id that isn't skipped decides.
-///
-/// `None` if one made id more than there are live messages is skipped, which no archive allows.
-fn first_made(
-    alloc: Global,
-    config: &Config,
-    index: &Index,
-    count: usize,
-    text: &[u8],
-    content: &[u8; 32],
-) -> Result<Option<Choice>, NoMemory>
-    requires stored { IsStored text.now }
-    requires content { content.now ≡ content_id_of text.now }
-    ensures choice { (a : Archive) → IsKnownBy config.now index.now count a.next a
-        → IfOk result (λ found.
-        found ≡ Some (made_choice (live a.entries) a.config.name text.now 0 (length (live a.entries)))) }
-    ensures new { IfOk result (λ found. IfSome found (TakesNewText index.now)) }
 {
     law_of_taken_texts();
     let name = config.name.as_slice();
     let digits = hex_of(&object_id(text));
-    for tried in 0..=count {
+    let last = index.len();
+    for tried in 0..=last {
         let id = made_id(alloc, &digits, tried as u64, name)?;
         match index.meet(id.as_slice(), content) {
-            Meeting::Free => return Ok(Some(with_id(id.as_slice(), text, alloc)?)),
-            Meeting::Same(number) => return Ok(Some(Choice::Repeat(number))),
+            Meeting::Free => return with_id(id.as_slice(), text, alloc),
+            Meeting::Same(number) => return Ok(Choice::Repeat(number)),
             Meeting::Other => {}
         }
     }
-    Ok(None)
+    // Of one made id more than there are live messages, one is free.
+    unreachable!()
 }
 
 /// Decides what the delivery of a text with this content id does, if no live message has its own id.
-fn judge_new(config: &Config, index: &Index, next: u32, text: Bytes, content: [u8; 32]) -> Verdict
+fn judge_new(config: &Config, index: &Index, next: u32, text: Bytes, content: [u8; 32]) -> Judgement
     requires writable { config.now.mirror ≡ false }
     requires new { IsNewText index.now text }
     requires content { content ≡ content_id_of text }
-    ensures judged { (a : Archive) (bytes form : List ℕ) (count : ℕ)
-        → IsKnownBy config.now index.now count next a → stored_of bytes ≡ Ok form
-        → choice_of a form ≡ Take text → Judges a bytes result }
-    ensures taken { MayTake config.now index.now next result }
+    ensures judged { (a : Archive) (bytes form : List ℕ) → IsKnownBy config.now index.now next a
+        → stored_of bytes ≡ Ok form → choice_of a form ≡ Take text
+        → JudgesOrCompares a bytes result }
+    ensures taken { MayTakeOrCompare config.now index.now next result }
+    ensures formed { RefusesFormed result }
 {
     let ids = TextIds {
         blob: blob_id(text.as_slice()),
         content,
     };
     match index.number(&ids.blob) {
-        Some(number) => Verdict::Compare { text, ids, number },
-        None => judge_room(config, next, text, ids),
+        Some(number) => Judgement::Compare { text, ids, number },
+        None => Judgement::Final(judge_room(config, next, text, ids)),
     }
 }
 

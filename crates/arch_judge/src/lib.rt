@@ -7,4 +7,4 @@ mod judging;
 mod made;
 
 pub use index::{Index, Owner};
-pub use judging::{Verdict, compared, judge};
+pub use judging::{Judgement, Verdict, compared, judge};

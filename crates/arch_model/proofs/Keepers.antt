@@ -5,8 +5,8 @@ use Rattle.std.proofs.lemmas.Bool.{false≢true}
 use Rattle.arch_model.specs.Archives.{Archive}
 use Rattle.arch_model.specs.Delivery.{Done}
 use Rattle.arch_model.specs.Standing.{LastKnown, standing, unsure_of, unsure, with_doubt, one_of, IsFound}
-use Rattle.arch_model.specs.Keeping.{HasDoubt, Has, HasAll, CrashesLeaveOnly, MatchesKnown, KeeperMoves, OnlyRead, Settles, Reopens, Ending, Accepts, Refuses, Starves, Fails, Breaks, ReopeningRefused, CommandGivesBy, CommandGives, StaysReady, CauseBy, AnswerCause, OpeningWhy, opening_answer}
-use Rattle.arch_model.specs.Untold.{HoldsNone, LeavesUntold}
+use Rattle.arch_model.specs.Keeping.{HasDoubt, Has, HasAll, CrashesLeaveOnly, MatchesKnown, KeeperMoves, OnlyRead, Settles, Reopens, Ending, Accepts, Refuses, Starves, Fails, Breaks, ReopeningRefused, CommandGivesBy, CommandGives, StaysReady, CauseBy, AnswerCause, OpeningWhy, opening_answer, Keeper}
+use Rattle.arch_model.specs.Untold.{untold}
 use Rattle.arch_model.specs.declared.answer.Answer.{Answer}
 use Rattle.arch_model.specs.declared.opening.OpenRefusal.{OpenRefusal}
 use Rattle.arch_model.specs.declared.opening.OpenRefusal.TheVariants as opening
@@ -93,18 +93,18 @@ module _ {K : Type 0} (leaves : K → K → List (Option Archive) → Type 0) wh
       all-join may [] ys hx hy = hy
       all-join may (x ∷ xs) ys hx hy = (hx.0, all-join may xs ys hx.1 hy)
 
-module _ {K : Type 0} (holds files_are : K → Archive → Type 0) (ready : K → Bool) (leaves : K → K → List (Option Archive) → Type 0) where
+module _ {K : Type 0} (g : Keeper K) where
   -- A ready keeper fits the archive that it holds, and nothing is in doubt.
-  pub settled-is : (k : K) (s : LastKnown) → MatchesKnown holds files_are ready leaves k s → ready k ≡ true → (s ≡ standing s.archive None) × holds k s.archive
+  pub settled-is : (k : K) (s : LastKnown) → MatchesKnown g k s → g.ready k ≡ true → (s ≡ standing s.archive None) × g.holds k s.archive
   settled-is k s fits at_hand = let both = fits.settled at_hand in (ap (λ (in_doubt : Option Archive). standing s.archive in_doubt) both.1, both.0)
 
   -- Nothing was done.
-  pub moves-same : (k : K) (s : LastKnown) → MatchesKnown holds files_are ready leaves k s → KeeperMoves holds files_are ready leaves k s k s
+  pub moves-same : (k : K) (s : LastKnown) → MatchesKnown g k s → KeeperMoves g k s k s
   moves-same k s fits = record { fits = fits; passes = λ start may has left. left }
 
   -- What isn't ready fits whatever a crash may have left, if its files are right where nothing is in doubt.
-  pub moves-stale : ((start k : K) (may : List (Option Archive)) → leaves start k may → leaves k k may) → (old : K) (s : LastKnown) (new : K) (t : LastKnown) → MatchesKnown holds files_are ready leaves old s → ready new ≡ false → (t.in_doubt ≡ None → files_are new t.archive) → ((may : List (Option Archive)) → Has may t → Has may s)
-      → CrashesLeaveOnly leaves old new (s ∷ t ∷ []) → KeeperMoves holds files_are ready leaves old s new t
+  pub moves-stale : ((start k : K) (may : List (Option Archive)) → g.leaves start k may → g.leaves k k may) → (old : K) (s : LastKnown) (new : K) (t : LastKnown) → MatchesKnown g old s → g.ready new ≡ false → (t.in_doubt ≡ None → g.files_are new t.archive) → ((may : List (Option Archive)) → Has may t → Has may s)
+      → CrashesLeaveOnly g.leaves old new (s ∷ t ∷ []) → KeeperMoves g old s new t
   moves-stale leaves_now old s new t fits stale rested within passes = record {
     fits = record {
       settled = λ at_hand. absurd (false≢true (sym stale ∙ at_hand));
@@ -115,7 +115,7 @@ module _ {K : Type 0} (holds files_are : K → Archive → Type 0) (ready : K �
   }
 
   -- A reopening, and then a call on what it found.
-  pub moves-on : (old mid new : K) (s t u : LastKnown) → KeeperMoves holds files_are ready leaves old s mid t → Settles s t → KeeperMoves holds files_are ready leaves mid t new u → KeeperMoves holds files_are ready leaves old s new u
+  pub moves-on : (old mid new : K) (s t u : LastKnown) → KeeperMoves g old s mid t → Settles s t → KeeperMoves g mid t new u → KeeperMoves g old s new u
   moves-on old mid new s t u first settles second = record {
     fits = second.fits;
     passes = λ start may has left.
@@ -123,16 +123,16 @@ module _ {K : Type 0} (holds files_are : K → Archive → Type 0) (ready : K �
         second.passes start may (middle, (has.1.0, tt)) (first.passes start may (has.0, (middle, tt)) left);
   }
 
-  module _ (holds_files_are : (k : K) (a : Archive) → holds k a → files_are k a) (holds_left : (k : K) (a : Archive) (may : List (Option Archive)) → holds k a → Contains may (Some a) → leaves k k may) where
+  module _ (holds_files_are : (k : K) (a : Archive) → g.holds k a → g.files_are k a) (holds_left : (k : K) (a : Archive) (may : List (Option Archive)) → g.holds k a → Contains may (Some a) → g.leaves k k may) where
     -- A keeper that holds an archive fits it.
-    pub fits-held : (k : K) (a : Archive) → holds k a → MatchesKnown holds files_are ready leaves k (standing a None)
+    pub fits-held : (k : K) (a : Archive) → g.holds k a → MatchesKnown g k (standing a None)
     fits-held k a held = record { settled = λ at_hand. (held, refl); exact = λ none. holds_files_are k a held; left = λ may has. holds_left k a may held has.archive }
 
-    pub moves-held : (old : K) (s : LastKnown) (new : K) (a : Archive) → holds new a → CrashesLeaveOnly leaves old new (s ∷ standing a None ∷ []) → KeeperMoves holds files_are ready leaves old s new (standing a None)
+    pub moves-held : (old : K) (s : LastKnown) (new : K) (a : Archive) → g.holds new a → CrashesLeaveOnly g.leaves old new (s ∷ standing a None ∷ []) → KeeperMoves g old s new (standing a None)
     moves-held old s new a held passes = record { fits = fits-held new a held; passes = passes }
 
     -- A keeper of which only reading changed something fits the same archive.
-    pub moves-read : (old new : K) (a : Archive) → holds old a → OnlyRead holds files_are ready leaves old new → KeeperMoves holds files_are ready leaves old (standing a None) new (standing a None)
+    pub moves-read : (old new : K) (a : Archive) → g.holds old a → OnlyRead g old new → KeeperMoves g old (standing a None) new (standing a None)
     moves-read old new a held read = moves-held old (standing a None) new a (read.held a held) (λ start may has left. read.passes start may tt left)
 
 -- A command on what a reopening found.
@@ -173,5 +173,5 @@ cause-earlier before mid now Fails same rose = omega (arith, same, rose)
 cause-earlier before mid now Breaks same kept = kept ∙ same
 
 -- A keeper that tells nothing fits no standing.
-pub untold-fits : {K : Type 0} (ready : K → Bool) (k : K) (s : LastKnown) → MatchesKnown HoldsNone HoldsNone ready LeavesUntold k s → ⊥
-untold-fits ready k s fits = fits.left (one_of s) (has-own s)
+pub untold-fits : {K : Type 0} (ready : K → Bool) (reads faults : K → ℕ) (alike : K → K → Type 0) (k : K) (s : LastKnown) → MatchesKnown (untold ready reads faults alike) k s → ⊥
+untold-fits ready reads faults alike k s fits = fits.left (one_of s) (has-own s)

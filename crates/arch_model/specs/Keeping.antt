@@ -44,31 +44,43 @@ abbrev pub CrashesLeaveOnly : {K : Type 0} → (K → K → List (Option Archive
 CrashesLeaveOnly {K} leaves old new standings = (start : K) (may : List (Option Archive))
     → HasAll may standings → leaves start old may → leaves start new may
 
--- A keeper: the archives that it holds, those of which its files are exactly, whether it is ready, and
--- what each crash since a state may have left.
-module _ {K : Type 0} (holds : K → Archive → Type 0) (files_are : K → Archive → Type 0)
-    (ready : K → Bool) (leaves : K → K → List (Option Archive) → Type 0) where
+-- A keeper: the archives that it holds, whether it is ready, its counts of reads and of faults of the
+-- disk, and what reading leaves unchanged; the archives of which its files are exactly, and what each
+-- crash since a state may have left. These are the members of `Shelf` and of `Keep`, in their order, as
+-- `Self.Keep` gives them to the clauses of `Keep`.
+abbrev pub Keeper : Type 0 → Type 1
+Keeper K = record {
+  holds : K → Archive → Type 0;
+  ready : K → Bool;
+  reads : K → ℕ;
+  faults : K → ℕ;
+  alike : K → K → Type 0;
+  files_are : K → Archive → Type 0;
+  leaves : K → K → List (Option Archive) → Type 0;
+}
+
+module _ {K : Type 0} (g : Keeper K) where
   -- The keeper matches a standing: if it is ready, it holds the archive and nothing is in doubt; ready or
   -- not, if nothing is in doubt, its files are exactly the archive's; and a crash now leaves the archive
   -- or the one in doubt.
   pub record MatchesKnown (k : K) (s : LastKnown) : Type 0 where
-    pub settled : ready k ≡ true → holds k s.archive × (s.in_doubt ≡ None)
-    pub exact : s.in_doubt ≡ None → files_are k s.archive
-    pub left : (may : List (Option Archive)) → Has may s → leaves k k may
+    pub settled : g.ready k ≡ true → g.holds k s.archive × (s.in_doubt ≡ None)
+    pub exact : s.in_doubt ≡ None → g.files_are k s.archive
+    pub left : (may : List (Option Archive)) → Has may s → g.leaves k k may
 
   -- The keeper matched one standing and now matches another, and a crash meanwhile leaves an archive of
   -- one of the two.
   pub record KeeperMoves (old : K) (s : LastKnown) (new : K) (t : LastKnown) : Type 0 where
     pub fits : MatchesKnown new t
-    pub passes : CrashesLeaveOnly leaves old new (s ∷ t ∷ [])
+    pub passes : CrashesLeaveOnly g.leaves old new (s ∷ t ∷ [])
 
   -- Nothing changed but what reading changes: the archive, the files and the readiness stay, and a
   -- crash leaves nothing else.
   pub record OnlyRead (old new : K) : Type 0 where
-    pub held : (a : Archive) → holds old a → holds new a
-    pub rested : (a : Archive) → files_are old a → files_are new a
-    pub same : ready new ≡ ready old
-    pub passes : CrashesLeaveOnly leaves old new []
+    pub held : (a : Archive) → g.holds old a → g.holds new a
+    pub rested : (a : Archive) → g.files_are old a → g.files_are new a
+    pub same : g.ready new ≡ g.ready old
+    pub passes : CrashesLeaveOnly g.leaves old new []
 
 -- Reopening found the archive, or the one in doubt, and nothing is in doubt after it.
 pub record Settles (s t : LastKnown) : Type 0 where

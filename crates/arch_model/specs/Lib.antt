@@ -10,9 +10,11 @@ pub mod Next
 pub mod Overviews
 pub mod Rows
 pub mod Shelves
+pub mod OverShelf
 pub mod Standing
 pub mod Threading
 pub mod Searching
 pub mod Validity
 pub mod Walking
 pub mod Untold
+pub mod KeeperRecord

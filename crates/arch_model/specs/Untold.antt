@@ -1,8 +1,8 @@
 -- Private: a keeper that tells nothing: it holds no archive, and what a crash leaves of it isn't
 -- told.
-use Rattle.std.specs.Prelude.{◌≡◌, Bool, List, Option}
+use Rattle.std.specs.Prelude.{◌≡◌, ℕ, Bool, List, Option}
 use Rattle.arch_model.specs.Archives.{Archive}
-use Rattle.arch_model.specs.Keeping.{OnlyRead}
+use Rattle.arch_model.specs.Keeping.{Keeper, OnlyRead}
 
 -- It holds no archive, and its files are no archive's.
 abbrev pub HoldsNone : {K : Type 0} → K → Archive → Type 0
@@ -12,10 +12,22 @@ HoldsNone k a = ⊥
 abbrev pub LeavesUntold : {K : Type 0} → K → K → List (Option Archive) → Type 0
 LeavesUntold start k may = ⊥
 
+-- Such a keeper.
+abbrev pub untold : {K : Type 0} → (K → Bool) → (K → ℕ) → (K → ℕ) → (K → K → Type 0) → Keeper K
+untold ready reads faults alike = record {
+  holds = HoldsNone;
+  ready = ready;
+  reads = reads;
+  faults = faults;
+  alike = alike;
+  files_are = HoldsNone;
+  leaves = LeavesUntold;
+}
+
 -- What keeps the readiness only reads.
-pub untold-read : {K : Type 0} (ready : K → Bool) (k m : K) → ready m ≡ ready k
-    → OnlyRead HoldsNone HoldsNone ready LeavesUntold k m
-untold-read ready k m same = record {
+pub untold-read : {K : Type 0} (ready : K → Bool) (reads faults : K → ℕ) (alike : K → K → Type 0)
+    (k m : K) → ready m ≡ ready k → OnlyRead (untold ready reads faults alike) k m
+untold-read ready reads faults alike k m same = record {
   held = λ a no. no;
   rested = λ a no. no;
   same = same;

@@ -47,10 +47,10 @@ pub trait Keep: Shelf {
     fn fresh(&mut self) -> Result<(), OpenRefusal>
         ensures nothing { Self.ready self.old ≡ true
             → (is_ok result ≡ true) × (self.new ≡ self.old) }
-        ensures found { (s : LastKnown) → MatchesKnown Self.holds files_are Self.ready leaves self.old s
-            → (t : LastKnown) × KeeperMoves Self.holds files_are Self.ready leaves self.old s self.new t
+        ensures found { (s : LastKnown) → MatchesKnown Self.Keep self.old s
+            → (t : LastKnown) × KeeperMoves Self.Keep self.old s self.new t
             × Reopens s result t }
-        ensures crash { (s : LastKnown) → MatchesKnown Self.holds files_are Self.ready leaves self.old s
+        ensures crash { (s : LastKnown) → MatchesKnown Self.Keep self.old s
             → CrashesLeaveOnly leaves self.old self.new [] }
         ensures ready { Self.ready self.new ≡ is_ok result }
         ensures later { Self.faults self.old ≤ Self.faults self.new }
@@ -65,10 +65,10 @@ pub trait Keep: Shelf {
     /// refusal the keeper is stale. `DiskFault` if the disk failed, and the count of faults rose; any
     /// other result leaves the count. `NoMemory` if an allocation fails.
     fn reindex(&mut self) -> Result<u32, OpenRefusal>
-        ensures found { (s : LastKnown) → MatchesKnown Self.holds files_are Self.ready leaves self.old s
-            → (t : LastKnown) × KeeperMoves Self.holds files_are Self.ready leaves self.old s self.new t
+        ensures found { (s : LastKnown) → MatchesKnown Self.Keep self.old s
+            → (t : LastKnown) × KeeperMoves Self.Keep self.old s self.new t
             × Reopens s result t × IfOk result (λ count. count ≡ length (live t.archive.entries)) }
-        ensures crash { (s : LastKnown) → MatchesKnown Self.holds files_are Self.ready leaves self.old s
+        ensures crash { (s : LastKnown) → MatchesKnown Self.Keep self.old s
             → CrashesLeaveOnly leaves self.old self.new [] }
         ensures ready { Self.ready self.new ≡ is_ok result }
         ensures later { Self.faults self.old ≤ Self.faults self.new }
@@ -86,8 +86,8 @@ pub trait Keep: Shelf {
     /// with a blob id that no entry has.
     fn command(&mut self, command: &Command<'_>, moment: u64) -> Answer
         requires moment { moment ≤ last_moment }
-        ensures done { (s : LastKnown) → MatchesKnown Self.holds files_are Self.ready leaves self.old s
-            → (t : LastKnown) × KeeperMoves Self.holds files_are Self.ready leaves self.old s self.new t
+        ensures done { (s : LastKnown) → MatchesKnown Self.Keep self.old s
+            → (t : LastKnown) × KeeperMoves Self.Keep self.old s self.new t
             × CommandGives (Self.ready self.old) s (λ (a : Archive). applied a command.now moment) result t }
         ensures ready { StaysReady (Self.ready self.old) result (Self.ready self.new) }
         ensures later { Self.faults self.old ≤ Self.faults self.new }
@@ -126,5 +126,5 @@ pub trait Keep: Shelf {
 
     /// What only reads leaves the archive, the files, the readiness and what a crash may leave.
     ghost alike_kept: { (k m : Self) → Self.alike k m
-        → OnlyRead Self.holds files_are Self.ready leaves k m };
+        → OnlyRead Self.Keep k m };
 }

@@ -10,7 +10,7 @@ ghost use Rattle.arch_model.specs.Searching.{search};
 
 use crate::line::EntryLine;
 use crate::text_refusal::TextRefusal;
-use arch_base::{Bytes, Config, NoMemory, Numbers, ObjectId};
+use arch_base::{Bytes, Config, MessageNumbers, NoMemory, ObjectId};
 use mail_forms::Row;
 use query_lang::Query;
 
@@ -78,7 +78,7 @@ pub trait Shelf {
     /// are.
     ///
     /// `NoMemory` if an allocation fails.
-    fn order_page(&self, skip: u64, count: u64) -> Result<Numbers, NoMemory>
+    fn order_page(&self, skip: u64, count: u64) -> Result<MessageNumbers, NoMemory>
         requires ready { ready self.now ≡ true }
         ensures { (a : Archive) → holds self.now a
             → IfOk result (λ page. page ≡ take count (drop skip (listing (live a.entries)))) };
@@ -86,7 +86,7 @@ pub trait Shelf {
     /// Returns the numbers in the thread of a live message, rising, or none if the number is not live.
     ///
     /// `NoMemory` if an allocation fails.
-    fn thread_of(&self, n: u32) -> Result<Numbers, NoMemory>
+    fn thread_of(&self, n: u32) -> Result<MessageNumbers, NoMemory>
         requires ready { ready self.now ≡ true }
         ensures { (a : Archive) → holds self.now a
             → IfOk result (λ numbers. numbers ≡ thread_in (live a.entries) n) };
@@ -95,7 +95,7 @@ pub trait Shelf {
     /// `order_page`. Reads no text.
     ///
     /// `NoMemory` if an allocation fails.
-    fn search(&self, query: &Query) -> Result<Numbers, NoMemory>
+    fn search(&self, query: &Query) -> Result<MessageNumbers, NoMemory>
         requires ready { ready self.now ≡ true }
         ensures { (a : Archive) → holds self.now a
             → IfOk result (λ numbers. numbers ≡ search query.now (live a.entries)) };
@@ -104,7 +104,7 @@ pub trait Shelf {
     /// many as there are. Reads no text.
     ///
     /// `NoMemory` if an allocation fails.
-    fn search_page(&self, query: &Query, skip: u64, count: u64) -> Result<Numbers, NoMemory>
+    fn search_page(&self, query: &Query, skip: u64, count: u64) -> Result<MessageNumbers, NoMemory>
         requires ready { ready self.now ≡ true }
         ensures { (a : Archive) → holds self.now a → IfOk result (λ page. page
             ≡ take count (drop skip (search query.now (live a.entries)))) };

@@ -2,6 +2,7 @@
 use Rattle.std.specs.Prelude.{◌≡◌, ◌-◌, ◌+◌, ◌<◌, ◌≤◌, ℕ, List, length, Option, Some, None, Ok}
 use Rattle.std.proofs.Common.{◌∙◌, sym, ap, subst, inl, inr, arith}
 use Rattle.std.proofs.lemmas.Bool.{cases_eq}
+use Rattle.disk_model.specs.declared.disk.Disk.{Ghosts as Disk}
 use Rattle.disk_model.specs.Disk.{File, Files, Content, Image, BothTold, WhereTold, ReadsFit, bytes_of, overlay}
 use Rattle.disk_model.specs.Laws.{overlay-torn}
 use Rattle.disk_model.specs.Moments.{started}
@@ -105,16 +106,16 @@ commits-as way keeps fewer (Answered reply) old new less commits = done-then rep
     (λ done. (done.0, done.1, record { made = done.2.made; kept = less done.0 done.2.made done.2.kept; goes_on = done.2.goes_on; slot = done.2.slot; rooted = done.2.rooted; settled = done.2.settled })) commits
 
 -- A command that was refused leaves what opening the files left.
-pub opened-refused : {D : Type 0} (content : D → Option Content) (moment : D → ℕ) (left_since : D → ℕ → Files → Type 0) (old : Option Content) (mid new : D) (reply : Answer) → OnlySettled old (content mid) → OnRefusal reply (UnlessFault reply (OnlyLooks content moment left_since mid new)) → OnRefusal reply (UnlessFault reply (OnlySettled old (content new)))
-opened-refused content moment left_since old mid new reply settled refused = refused-then reply (OnlyLooks content moment left_since mid new) (OnlySettled old (content new))
-    (λ looks. subst (λ (k : Option Content). OnlySettled old k) (sym (unchanged-is (content mid) (content new) looks.same)) settled) refused
+pub opened-refused : {D : Type 0} (g : Disk D) (old : Option Content) (mid new : D) (reply : Answer) → OnlySettled old (g.content mid) → OnRefusal reply (UnlessFault reply (OnlyLooks g mid new)) → OnRefusal reply (UnlessFault reply (OnlySettled old (g.content new)))
+opened-refused g old mid new reply settled refused = refused-then reply (OnlyLooks g mid new) (OnlySettled old (g.content new))
+    (λ looks. subst (λ (k : Option Content). OnlySettled old k) (sym (unchanged-is (g.content mid) (g.content new) looks.same)) settled) refused
 
-module _ {D : Type 0} (content : D → Option Content) (moment : D → ℕ) (left_since : D → ℕ → Files → Type 0) where
+module _ {D : Type 0} (g : Disk D) where
   -- At each moment of a command on files that were opened the bytes between gates and bodies stay.
-  pub opened-crash_between : (v : StoreState) (old mid new : D) → ReadsFit (content old) → WhereTold (λ (k : Content). OpensFiles (as_read k) (Ok v)) (content old) → BothTold (IsSettledBy v.root v.slot) (content old) (content mid) → WhereTold IsSettled (content mid) → RunsBetween content moment left_since old mid → RunsBetween content moment left_since mid new
-      → RunsBetween content moment left_since old new
-  opened-crash_between v old mid new fit opened kept settled first second = joined_between content moment left_since old mid new first (opened-went v (content old) (content mid) fit opened kept settled) second
+  pub opened-crash_between : (v : StoreState) (old mid new : D) → ReadsFit (g.content old) → WhereTold (λ (k : Content). OpensFiles (as_read k) (Ok v)) (g.content old) → BothTold (IsSettledBy v.root v.slot) (g.content old) (g.content mid) → WhereTold IsSettled (g.content mid) → RunsBetween g old mid → RunsBetween g mid new
+      → RunsBetween g old new
+  opened-crash_between v old mid new fit opened kept settled first second = joined_between g old mid new first (opened-went v (g.content old) (g.content mid) fit opened kept settled) second
 
   -- Nothing was done.
-  pub still-crash_between : ((disk : D) (image : Files) → left_since disk (moment disk) image → Image (content disk) image) → (disk : D) → RunsBetween content moment left_since disk disk
-  still-crash_between only_now disk = looks_between content moment left_since disk disk (started moment left_since disk (Image (content disk)) (λ image now. only_now disk image now))
+  pub still-crash_between : ((disk : D) (image : Files) → g.left_since disk (g.moment disk) image → Image (g.content disk) image) → (disk : D) → RunsBetween g disk disk
+  still-crash_between only_now disk = looks_between g disk disk (started g disk (Image (g.content disk)) (λ image now. only_now disk image now))

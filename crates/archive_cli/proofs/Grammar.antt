@@ -166,7 +166,7 @@ unmarked : (settings : List Setting) → mirrors settings ≡ [] → mirror_in s
 unmarked settings none e = let plain : mirror_in settings ≡ false = ap (λ (ms : List Bool). get_or ms 0 false) none in absurd (cc (plain, e))
 
 -- The same words give the same settings.
-same_made : (words : List (List ℕ)) (settings others : List Setting) (config other : Config) → AreMakingWords words settings config → AreMakingWords words others other → settings ≡ others
+pub same_made : (words : List (List ℕ)) (settings others : List Setting) (config other : Config) → AreMakingWords words settings config → AreMakingWords words others other → settings ≡ others
 same_made words settings others config other m n =
     let spelling : map setting_word settings ≡ map setting_word others = cc (m.is, n.is) in
     same_settings settings others m.ranges n.ranges spelling

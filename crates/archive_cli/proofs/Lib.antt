@@ -1,5 +1,6 @@
 pub mod Grammar
 pub mod LoadWords
+pub mod OneJob
 pub mod LoadLines
 pub mod Printed
 pub mod Leaving

@@ -4,8 +4,9 @@ use Rattle.std.specs.List.{Contains}
 use Rattle.std.proofs.Common.{◌∙◌, sym, ap, subst, inl, inr, arith}
 use Rattle.arch_base.specs.Counts.{Rose, RoseIf}
 use Rattle.arch_base.specs.declared.config.Config.{Config}
-use Rattle.disk_model.specs.Disk.{Files, Content, Image, WhereTold, ReadsFit, LeavesOnly}
-use Rattle.disk_model.specs.Moments.{joined, weaker}
+use Rattle.disk_model.specs.declared.disk.Disk.{Ghosts as Disk}
+use Rattle.disk_model.specs.Disk.{Files, Content, Image, WhereTold, ReadsFit}
+use Rattle.disk_model.specs.Moments.{LeavesOnly, joined, weaker}
 use Rattle.disk_model.specs.Synced.{IsSettled}
 use Rattle.root_slots.specs.RootName.{root_name}
 use Rattle.root_slots.specs.Slots.{HasFirstRoot, IsShutFile}
@@ -164,6 +165,11 @@ pub opened-as : (v : StoreState) (content : Option Content) (entries live next :
 opened-as v None entries live next answer count following = tt
 opened-as v (Some k) entries live next answer count following = (v, answer, count, following)
 
+-- A reindexing ends as opened files do, whatever it counts.
+pub opened-live : (v : StoreState) (content : Option Content) (live : ℕ) → WhereTold (λ (k : Content). OpensFiles (as_read k) (Ok v)) content → WhereTold (λ (k : Content). IsOpenedAs (as_read k) (Reindexed live)) content
+opened-live v None live answer = tt
+opened-live v (Some k) live answer = (v, answer)
+
 -- A command leaves the cache that there was, or none.
 kept-by : (way : WriteKind) (cache : List ℕ) → (cache_by way cache ≡ cache) ⊎ (cache_by way cache ≡ [])
 kept-by Appends cache = inl refl
@@ -197,23 +203,23 @@ opened-none : (v : StoreState) (k : Option Content) → WhereTold (λ (c : Conte
 opened-none v None answer none = none
 opened-none v (Some k) answer none = none v answer
 
-module _ {D : Type 0} (content : D → Option Content) (moment : D → ℕ) (left_since : D → ℕ → Files → Type 0)
-    (counts_now : (disk : D) (t : ℕ) (image : Files) → t ≤ moment disk → Image (content disk) image → left_since disk t image)
-    (reads_fit : (disk : D) → ReadsFit (content disk)) where
+module _ {D : Type 0} (g : Disk D)
+    (counts_now : (disk : D) (t : ℕ) (image : Files) → t ≤ g.moment disk → Image (g.content disk) image → g.left_since disk t image)
+    (reads_fit : (disk : D) → ReadsFit (g.content disk)) where
   -- What a crash leaves after a run it leaves now.
-  now-left : (old new : D) (P : Files → Type 0) → LeavesOnly moment left_since old new P → (image : Files) → Image (content new) image → P image
-  now-left old new P run image left = run.each image (counts_now new (moment old) image run.later left)
+  now-left : (old new : D) (P : Files → Type 0) → LeavesOnly g old new P → (image : Files) → Image (g.content new) image → P image
+  now-left old new P run image left = run.each image (counts_now new (g.moment old) image run.later left)
 
   -- The disk of one archive, with its cache or with none.
-  pub one-stands : (a : Archive) (own cache : List ℕ) → (own ≡ cache) ⊎ (own ≡ []) → (disk : D) → ((image : Files) → Image (content disk) image → RecoversWith own image a) → StandsAs cache (standing a None) (content disk)
-  one-stands a own cache is disk each = all_or_bare (standing a None) cache (content disk) (λ image left. with_cache own cache (Some a ∷ []) a image is (0, omega arith, refl) (each image left))
+  pub one-stands : (a : Archive) (own cache : List ℕ) → (own ≡ cache) ⊎ (own ≡ []) → (disk : D) → ((image : Files) → Image (g.content disk) image → RecoversWith own image a) → StandsAs cache (standing a None) (g.content disk)
+  one-stands a own cache is disk each = all_or_bare (standing a None) cache (g.content disk) (λ image left. with_cache own cache (Some a ∷ []) a image is (0, omega arith, refl) (each image left))
 
   -- What was found before anything was done.
-  pub found-at : (s : LastKnown) (cache : List ℕ) (disk : D) → StandsAs cache s (content disk) → (b : Archive) × (own : List ℕ) × IsFound s b × ReadsWith own b (content disk) × ((own ≡ cache) ⊎ (own ≡ []))
-  found-at s cache disk all = found-own s cache (content disk) (reads_fit disk) all
+  pub found-at : (s : LastKnown) (cache : List ℕ) (disk : D) → StandsAs cache s (g.content disk) → (b : Archive) × (own : List ℕ) × IsFound s b × ReadsWith own b (g.content disk) × ((own ≡ cache) ⊎ (own ≡ []))
+  found-at s cache disk all = found-own s cache (g.content disk) (reads_fit disk) all
 
   -- It is the one of an archive that was synced.
-  synced-stands : (s : LastKnown) (cache : List ℕ) (old new : D) → StandsAs cache s (content old) → SyncsFirst content moment left_since old new → (t : LastKnown) × StandsAs cache t (content new) × (Settles s t × IsReadAs t.archive (content old))
+  synced-stands : (s : LastKnown) (cache : List ℕ) (old new : D) → StandsAs cache s (g.content old) → SyncsFirst g old new → (t : LastKnown) × StandsAs cache t (g.content new) × (Settles s t × IsReadAs t.archive (g.content old))
   synced-stands s cache old new all first =
       let (b, own, is, reads, kept) = found-at s cache old all in (
         standing b None,
@@ -222,64 +228,64 @@ module _ {D : Type 0} (content : D → Option Content) (moment : D → ℕ) (lef
       )
 
   -- An opening that failed leaves what it might have left before.
-  failed-stands : (s : LastKnown) (cache : List ℕ) (old new : D) → StandsAs cache s (content old) → SyncsAtMost content moment left_since old new → StandsAs cache s (content new)
-  failed-stands s cache old new all (inl only) = all_or_bare s cache (content new) (λ image left. each-of (one_of s) cache (content old) all image (now-left old new (Image (content old)) only image left))
+  failed-stands : (s : LastKnown) (cache : List ℕ) (old new : D) → StandsAs cache s (g.content old) → SyncsAtMost g old new → StandsAs cache s (g.content new)
+  failed-stands s cache old new all (inl only) = all_or_bare s cache (g.content new) (λ image left. each-of (one_of s) cache (g.content old) all image (now-left old new (Image (g.content old)) only image left))
   failed-stands s cache old new all (inr first) =
       let (b, own, is, reads, kept) = found-at s cache old all in
-      all_or_bare s cache (content new) (λ image left. with_cache own cache (one_of s) b image kept (is-among s b is) (now-left first.synced new (λ (i : Files). RecoversWith own i b) (first.after b own reads) image left))
+      all_or_bare s cache (g.content new) (λ image left. with_cache own cache (one_of s) b image kept (is-among s b is) (now-left first.synced new (λ (i : Files). RecoversWith own i b) (first.after b own reads) image left))
 
   -- An archive wasn't opened.
-  pub unopened-stands : (s : LastKnown) (cache : List ℕ) (old new : D) (why : OpenRefusal) → StandsAs cache s (content old) → SyncsAtMost content moment left_since old new → ((a : Archive) (cache : List ℕ) → ReadsWith cache a (content old) → IsWant why)
-      → OnSynced {T = StoreState} (Err why) (SyncsFirst content moment left_since old new) → (t : LastKnown) × StandsAs cache t (content new) × StaysUnopened s (content old) why t
+  pub unopened-stands : (s : LastKnown) (cache : List ℕ) (old new : D) (why : OpenRefusal) → StandsAs cache s (g.content old) → SyncsAtMost g old new → ((a : Archive) (cache : List ℕ) → ReadsWith cache a (g.content old) → IsWant why)
+      → OnSynced {T = StoreState} (Err why) (SyncsFirst g old new) → (t : LastKnown) × StandsAs cache t (g.content new) × StaysUnopened s (g.content old) why t
   unopened-stands s cache old new refusal.NoArchive all before want first = absurd (let found = found-at s cache old all in want found.0 found.1 found.3)
   unopened-stands s cache old new (refusal.Damaged file at) all before want first = absurd (let found = found-at s cache old all in want found.0 found.1 found.3)
   unopened-stands s cache old new refusal.DiskFault all before want first = (s, failed-stands s cache old new all before, refl)
   unopened-stands s cache old new refusal.NoMemory all before want first = synced-stands s cache old new all first
 
   -- A command didn't run, since the archive wasn't opened.
-  pub unopened-runs : (old new : D) (way : WriteKind) (wanted : Archive → Done) → SyncsAtMost content moment left_since old new → RunsOrStays content moment left_since old new (LeavesEither way wanted)
+  pub unopened-runs : (old new : D) (way : WriteKind) (wanted : Archive → Done) → SyncsAtMost g old new → RunsOrStays g old new (LeavesEither way wanted)
   unopened-runs old new way wanted (inl only) = inl only
   unopened-runs old new way wanted (inr first) = inr (record {
     synced = first.synced;
     only = first.only;
     before = first.before;
-    after = λ a cache reads. weaker moment left_since first.synced new (λ (i : Files). RecoversWith cache i a) (LeavesEither way wanted cache a) (first.after a cache reads) (λ image one. inl one);
+    after = λ a cache reads. weaker g first.synced new (λ (i : Files). RecoversWith cache i a) (LeavesEither way wanted cache a) (first.after a cache reads) (λ image one. inl one);
     none = first.none;
   })
 
   -- An archive was opened.
-  module _ (old opened : D) (v : StoreState) (done : (a : Archive) (cache : List ℕ) → ReadsWith cache a (content old) → IsStoreWith v cache a (content opened)) (first : SyncsFirst content moment left_since old opened) where
+  module _ (old opened : D) (v : StoreState) (done : (a : Archive) (cache : List ℕ) → ReadsWith cache a (g.content old) → IsStoreWith v cache a (g.content opened)) (first : SyncsFirst g old opened) where
     -- It is the one that was found.
-    pub opened-stands : (s : LastKnown) (cache : List ℕ) → StandsAs cache s (content old) → (t : LastKnown) × StandsAs cache t (content opened) × (Settles s t × IsReadAs t.archive (content old))
+    pub opened-stands : (s : LastKnown) (cache : List ℕ) → StandsAs cache s (g.content old) → (t : LastKnown) × StandsAs cache t (g.content opened) × (Settles s t × IsReadAs t.archive (g.content old))
     opened-stands s cache all = synced-stands s cache old opened all first
 
     -- A command was taken.
-    module _ (new : D) (way : WriteKind) (wanted : Archive → Done) (left : (a : Archive) (cache : List ℕ) → IsStoreWith v cache a (content opened) → LeavesOnly moment left_since opened new (LeavesEither way wanted cache a)) where
-      pub taken-runs : WhereTold (λ (k : Content). OpensFiles (as_read k) (Ok v)) (content old) → RunsOrStays content moment left_since old new (LeavesEither way wanted)
+    module _ (new : D) (way : WriteKind) (wanted : Archive → Done) (left : (a : Archive) (cache : List ℕ) → IsStoreWith v cache a (g.content opened) → LeavesOnly g opened new (LeavesEither way wanted cache a)) where
+      pub taken-runs : WhereTold (λ (k : Content). OpensFiles (as_read k) (Ok v)) (g.content old) → RunsOrStays g old new (LeavesEither way wanted)
       taken-runs answer = inr (record {
         synced = first.synced;
         only = first.only;
         before = first.before;
-        after = λ a cache reads. joined moment left_since first.synced opened new (λ (i : Files). RecoversWith cache i a) (LeavesEither way wanted cache a) (LeavesEither way wanted cache a) (first.after a cache reads) (left a cache (done a cache reads)) (λ image one. inl one) (λ image either. either);
-        none = λ none. absurd (opened-none v (content old) answer none);
+        after = λ a cache reads. joined g first.synced opened new (λ (i : Files). RecoversWith cache i a) (LeavesEither way wanted cache a) (LeavesEither way wanted cache a) (first.after a cache reads) (left a cache (done a cache reads)) (λ image one. inl one) (λ image either. either);
+        none = λ none. absurd (opened-none v (g.content old) answer none);
       })
 
-      module _ (s : LastKnown) (b : Archive) (own cache : List ℕ) (found : IsFound s b) (reads : ReadsWith own b (content old)) (kept : (own ≡ cache) ⊎ (own ≡ [])) where
+      module _ (s : LastKnown) (b : Archive) (own cache : List ℕ) (found : IsFound s b) (reads : ReadsWith own b (g.content old)) (kept : (own ≡ cache) ⊎ (own ≡ [])) where
         -- The disk of a store's archive, whose cache is that of the one that was found, or none.
-        own-stands : (u : StoreState) (a : Archive) (now : List ℕ) → (now ≡ own) ⊎ (now ≡ []) → IsStoreWith u now a (content new) → StandsAs cache (standing a None) (content new)
-        own-stands u a now is store = one-stands a now cache (left_is own now cache kept is) new (λ image left. stands_for u now a (content new) image store left)
+        own-stands : (u : StoreState) (a : Archive) (now : List ℕ) → (now ≡ own) ⊎ (now ≡ []) → IsStoreWith u now a (g.content new) → StandsAs cache (standing a None) (g.content new)
+        own-stands u a now is store = one-stands a now cache (left_is own now cache kept is) new (λ image left. stands_for u now a (g.content new) image store left)
 
-        stands-done : (r : Answer) (u : StoreState) (now : List ℕ) → (now ≡ own) ⊎ (now ≡ []) → IsDone u now (wanted b) r (content new) → ((t : LastKnown) → Obeys (standing b None) wanted r t → CommandGives true (standing b None) wanted r t) → (t : LastKnown) × StandsAs cache t (content new) × CommandTakes s (content old) wanted (Answered r) t
+        stands-done : (r : Answer) (u : StoreState) (now : List ℕ) → (now ≡ own) ⊎ (now ≡ []) → IsDone u now (wanted b) r (g.content new) → ((t : LastKnown) → Obeys (standing b None) wanted r t → CommandGives true (standing b None) wanted r t) → (t : LastKnown) × StandsAs cache t (g.content new) × CommandTakes s (g.content old) wanted (Answered r) t
         stands-done r u now is done comes =
             let obeys : Obeys (standing b None) wanted r (standing (wanted b).archive None) = record { found = b; is_found = inl refl; answer_is = done.answer_is; stands = refl } in
             (standing (wanted b).archive None, own-stands u (wanted b).archive now is done.store, record { found = b; is_found = found; reads = (own, reads); comes = comes (standing (wanted b).archive None) obeys })
 
-        stands-by : (r : Answer) (u : StoreState) → DoneBy u own (cache_by way own) b (wanted b) r (content new) → (t : LastKnown) × StandsAs cache t (content new) × CommandTakes s (content old) wanted (Answered r) t
+        stands-by : (r : Answer) (u : StoreState) → DoneBy u own (cache_by way own) b (wanted b) r (g.content new) → (t : LastKnown) × StandsAs cache t (g.content new) × CommandTakes s (g.content old) wanted (Answered r) t
         stands-by answer.NoMemory u store = (standing b None, own-stands u b own (inl refl) store, record { found = b; is_found = found; reads = (own, reads); comes = inr (record { found = inl refl; sure = refl }) })
         stands-by answer.DiskFault u nothing =
             let doubts : Doubts (standing b None) wanted (standing b (Some (wanted b).archive)) = record { found = b; is_found = inl refl; stands = refl } in (
               standing b (Some (wanted b).archive),
-              all_or_bare (standing b (Some (wanted b).archive)) cache (content new) (λ image now. either_of own (cache_by way own) cache (one_of (standing b (Some (wanted b).archive))) b (wanted b).archive image kept (kept-by way own) (0, omega arith, refl) (1, omega arith, refl) (now-left opened new (LeavesEither way wanted own b) (left b own (done b own reads)) image now)),
+              all_or_bare (standing b (Some (wanted b).archive)) cache (g.content new) (λ image now. either_of own (cache_by way own) cache (one_of (standing b (Some (wanted b).archive))) b (wanted b).archive image kept (kept-by way own) (0, omega arith, refl) (1, omega arith, refl) (now-left opened new (LeavesEither way wanted own b) (left b own (done b own reads)) image now)),
               record { found = b; is_found = found; reads = (own, reads); comes = inr doubts },
             )
         stands-by (answer.Ok number id) u is = stands-done (answer.Ok number id) u (cache_by way own) (kept-by way own) is (λ t obeys. obeys)
@@ -293,8 +299,8 @@ module _ {D : Type 0} (content : D → Option Content) (moment : D → ℕ) (lef
         stands-by (answer.NoText number) u is = stands-done (answer.NoText number) u own (inl refl) is (λ t obeys. obeys)
         stands-by (answer.Damaged file at) u never = absurd never
 
-      pub taken-stands : (reply : Answer) → ((a : Archive) (cache : List ℕ) → IsStoreWith v cache a (content opened) → (u : StoreState) × DoneBy u cache (cache_by way cache) a (wanted a) reply (content new))
-          → (s : LastKnown) (cache : List ℕ) → StandsAs cache s (content old) → (t : LastKnown) × StandsAs cache t (content new) × CommandTakes s (content old) wanted (Answered reply) t
+      pub taken-stands : (reply : Answer) → ((a : Archive) (cache : List ℕ) → IsStoreWith v cache a (g.content opened) → (u : StoreState) × DoneBy u cache (cache_by way cache) a (wanted a) reply (g.content new))
+          → (s : LastKnown) (cache : List ℕ) → StandsAs cache s (g.content old) → (t : LastKnown) × StandsAs cache t (g.content new) × CommandTakes s (g.content old) wanted (Answered reply) t
       taken-stands reply answers s cache all =
           let (b, own, is, reads, kept) = found-at s cache old all in
           let store = answers b own (done b own reads) in

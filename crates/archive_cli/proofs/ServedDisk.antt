@@ -4,6 +4,7 @@ use Rattle.std.specs.List.{Contains}
 use Rattle.std.proofs.lemmas.List.Elements.{Contains-append_left, Contains-append_right}
 use Rattle.std.proofs.lemmas.Bool.{false≢true}
 use Rattle.arch_base.specs.Counts.{Rose, RoseIf}
+use Rattle.disk_model.specs.declared.disk.Disk.{Ghosts as Disk}
 use Rattle.disk_model.specs.Disk.{Content, Files, Image, ReadsFit, BothTold, WhereTold}
 use Rattle.disk_model.specs.declared.name.FileName.{FileName}
 use Rattle.disk_model.specs.Synced.{IsSettled, settled_image}
@@ -12,14 +13,14 @@ use Rattle.edge_io.specs.Frames.{Outputs}
 use Rattle.edge_io.specs.Scripts.{Arrival}
 use Rattle.arch_model.specs.Archives.{Archive, live}
 use Rattle.arch_model.specs.Following.{FollowsItself}
-use Rattle.arch_model.specs.Keeping.{HasDoubt, HasAll, CrashesLeaveOnly, MatchesKnown}
+use Rattle.arch_model.specs.Keeping.{HasDoubt, HasAll, CrashesLeaveOnly, MatchesKnown, Keeper}
 use Rattle.arch_model.specs.Laws.{CommandFollows}
 use Rattle.view_set.specs.Viewed.{views_of}
 use Rattle.arch_model.specs.Standing.{LastKnown, standing, one_of}
 use Rattle.arch_model.specs.declared.opening.OpenRefusal.{OpenRefusal}
 use Rattle.arch_model.specs.declared.opening.OpenRefusal.TheVariants as opening
 use Rattle.arch_model.proofs.Keepers.{has-own, fits-held, all-split}
-use Rattle.archive_core.specs.Engines.{Owning, HoldsArchive, FilesAre, LeftWithCache, Leaves, AllRecoverOrBare, is_ready}
+use Rattle.archive_core.specs.Engines.{Owning, HoldsArchive, FilesAre, LeftWithCache, Leaves, AllRecoverOrBare, is_ready, engine_of}
 use Rattle.archive_core.proofs.Engines.{all_or_bare, cache_is, read_in, reopening-from}
 use Rattle.store_finding.specs.Files.{as_read}
 use Rattle.epoch_store.specs.Opens.{ReadsWith, RecoversOfWith, AllRecoverWith, IsOnlySynced, SyncsFirst}
@@ -65,9 +66,9 @@ pub shut-cause : (before now : ℕ) (why : OpenRefusal) → RoseIf (shut_by why 
 shut-cause before now why rose = record { later = rose.later; failed = λ is. rose.failed (ap shut_by is); kept = λ free. rose.kept (λ same. free (cc same)) }
 
 -- The disk's count of faults rose, if that is why.
-pub shut-faults : {D : Type 0} (content : D → Option Content) (moment : D → ℕ) (left_since : D → ℕ → Files → Type 0) (turns : ℕ) (run : ServeRun) (old new : D) (i j : HostGiven) (recorded recorded' : List Outputs → Type 0) → ServesDisk content moment left_since turns run old new i j recorded recorded' → run ≡ Shut opening.DiskFault → Rose i.out.disk j.out.disk
-shut-faults content moment left_since turns (Shut why) old new i j recorded recorded' shut is = shut.cause.failed (why-is why opening.DiskFault is)
-shut-faults content moment left_since turns (Ended how) old new i j recorded recorded' served is = absurd (cc is)
+pub shut-faults : {D : Type 0} (g : Disk D) (turns : ℕ) (run : ServeRun) (old new : D) (i j : HostGiven) (recorded recorded' : List Outputs → Type 0) → ServesDisk g turns run old new i j recorded recorded' → run ≡ Shut opening.DiskFault → Rose i.out.disk j.out.disk
+shut-faults g turns (Shut why) old new i j recorded recorded' shut is = shut.cause.failed (why-is why opening.DiskFault is)
+shut-faults g turns (Ended how) old new i j recorded recorded' served is = absurd (cc is)
 
 -- The disk of an engine, at each stage.
 abbrev pub disk-stage : {D : Type 0} → Stage (Owning D) → Stage D
@@ -115,10 +116,10 @@ anyway-disk (e ∷ es) p [] q never = absurd never
 anyway-disk (e ∷ es) p (m ∷ ms) q run = (goes-disk e p m run.0, anyway-disk es m ms q run.1)
 
 -- Turns by steps.
-module _ {K : Type 0} (holds files_are : K → Archive → Type 0) (ready : K → Bool) (leaves : K → K → List (Option Archive) → Type 0) where
+module _ {K : Type 0} (g : Keeper K) where
   -- A crash in them leaves an archive of one of their standings.
-  pub steps-pass : (es : List Arrival) (w : NodeState) (ms : List (Stage K)) (ts : List Turn) (v : NodeState) (k m : K) → Served es w ts v → StepsTo holds files_are ready leaves k w.standing ms ts m → CrashesLeaveOnly leaves k m (w.standing ∷ passed_in ts)
-  steps-pass [] w [] [] v k m run steps = λ start may has since. subst (λ (x : K). leaves start x may) (sym steps) since
+  pub steps-pass : (es : List Arrival) (w : NodeState) (ms : List (Stage K)) (ts : List Turn) (v : NodeState) (k m : K) → Served es w ts v → StepsTo g k w.standing ms ts m → CrashesLeaveOnly g.leaves k m (w.standing ∷ passed_in ts)
+  steps-pass [] w [] [] v k m run steps = λ start may has since. subst (λ (x : K). g.leaves start x may) (sym steps) since
   steps-pass [] w (x ∷ ms) [] v k m run never = absurd never
   steps-pass [] w ms (t ∷ ts) v k m never steps = absurd never
   steps-pass (e ∷ es) w ms [] v k m never steps = absurd never
@@ -154,54 +155,54 @@ all-images : (cache : List ℕ) (may : List (Option Archive)) (k : Option Conten
 all-images cache may None never image now = absurd never
 all-images cache may (Some k) all image now = all image now
 
-module _ {D : Type 0} (content : D → Option Content) (moment : D → ℕ) (left_since : D → ℕ → Files → Type 0)
-    (counts_now : (disk : D) (t : ℕ) (image : Files) → t ≤ moment disk → Image (content disk) image → left_since disk t image)
-    (only_now : (disk : D) (image : Files) → left_since disk (moment disk) image → Image (content disk) image) (reads_fit : (disk : D) → ReadsFit (content disk))
-    (holds_left : (k : Owning D) (a : Archive) (may : List (Option Archive)) → HoldsArchive content k a → Contains may (Some a) → Leaves content moment left_since k k may) where
+module _ {D : Type 0} (g : Disk D)
+    (counts_now : (disk : D) (t : ℕ) (image : Files) → t ≤ g.moment disk → Image (g.content disk) image → g.left_since disk t image)
+    (only_now : (disk : D) (image : Files) → g.left_since disk (g.moment disk) image → Image (g.content disk) image) (reads_fit : (disk : D) → ReadsFit (g.content disk))
+    (holds_left : (k : Owning D) (a : Archive) (may : List (Option Archive)) → HoldsArchive g.content k a → Contains may (Some a) → Leaves g k k may) where
   -- How the disk of an engine stands that fits a standing.
-  fits-stand : (k : Owning D) (s : LastKnown) → MatchesKnown (HoldsArchive content) (FilesAre content) is_ready (Leaves content moment left_since) k s → (cache : List ℕ) × AllRecoverOrBare cache (one_of s) (content k.disk)
+  fits-stand : (k : Owning D) (s : LastKnown) → MatchesKnown (engine_of g) k s → (cache : List ℕ) × AllRecoverOrBare cache (one_of s) (g.content k.disk)
   fits-stand k s fits =
       let now = fits.left (one_of s) (has-own s) in
-      (now.1.0, all_or_bare s now.1.0 (content k.disk) (λ image is. now.1.1 image (counts_now k.disk (moment k.disk) image (omega arith) is)))
+      (now.1.0, all_or_bare s now.1.0 (g.content k.disk) (λ image is. now.1.1 image (counts_now k.disk (g.moment k.disk) image (omega arith) is)))
 
   -- It is where the bytes between the gates and the bodies of the root file are followed from.
   abbrev here : Owning D → Owning D
   here k = record k { stale = false }
 
-  from-here : (k : Owning D) (may : List (Option Archive)) → Leaves content moment left_since k k may → Leaves content moment left_since (here k) k may
-  from-here k may left = (left.0, left.1, left.2, λ ready image now. between_image (content k.disk) image (only_now k.disk image now))
+  from-here : (k : Owning D) (may : List (Option Archive)) → Leaves g k k may → Leaves g (here k) k may
+  from-here k may left = (left.0, left.1, left.2, λ ready image now. between_image (g.content k.disk) image (only_now k.disk image now))
 
   -- Before some turns it stood for the archive of that moment, and a crash since then leaves that one
   -- or a later one.
-  stood-first : (es : List Arrival) (w : NodeState) (ms : List (Stage (Owning D))) (ts : List Turn) (v : NodeState) (k m : Owning D) → Served es w ts v → MatchesKnown (HoldsArchive content) (FilesAre content) is_ready (Leaves content moment left_since) k w.standing → StepsTo (HoldsArchive content) (FilesAre content) is_ready (Leaves content moment left_since) k w.standing ms ts m
-      → StoodFor content moment left_since w.standing ts m.disk
+  stood-first : (es : List Arrival) (w : NodeState) (ms : List (Stage (Owning D))) (ts : List Turn) (v : NodeState) (k m : Owning D) → Served es w ts v → MatchesKnown (engine_of g) k w.standing → StepsTo (engine_of g) k w.standing ms ts m
+      → StoodFor g w.standing ts m.disk
   stood-first es w ms ts v k m run fits steps =
       let may = archives_of (w.standing ∷ passed_in ts) in
       let own = all-own (w.standing ∷ passed_in ts) in
-      let left = steps-pass (HoldsArchive content) (FilesAre content) is_ready (Leaves content moment left_since) es w ms ts v k m run steps (here k) may own (from-here k may (fits.left may own.0)) in
+      let left = steps-pass (engine_of g) es w ms ts v k m run steps (here k) may own (from-here k may (fits.left may own.0)) in
       record { at = k.disk; stood = fits-stand k w.standing fits; rested = fits.exact; crash = (left.1.0, record { later = left.0; each = left.2 left.1.0 left.1.1 }); crash_between = left.3 refl }
 
-  stood-at : (es : List Arrival) (w : NodeState) (ms : List (Stage (Owning D))) (ts : List Turn) (v : NodeState) (k m : Owning D) → Served es w ts v → MatchesKnown (HoldsArchive content) (FilesAre content) is_ready (Leaves content moment left_since) k w.standing → StepsTo (HoldsArchive content) (FilesAre content) is_ready (Leaves content moment left_since) k w.standing ms ts m
-      → (earlier later : List Turn) → ts ≡ earlier ++ later → StoodFor content moment left_since (last_world w earlier).standing later m.disk
-  stood-at es w ms ts v k m run fits steps [] later is = subst (λ (us : List Turn). StoodFor content moment left_since w.standing us m.disk) is (stood-first es w ms ts v k m run fits steps)
+  stood-at : (es : List Arrival) (w : NodeState) (ms : List (Stage (Owning D))) (ts : List Turn) (v : NodeState) (k m : Owning D) → Served es w ts v → MatchesKnown (engine_of g) k w.standing → StepsTo (engine_of g) k w.standing ms ts m
+      → (earlier later : List Turn) → ts ≡ earlier ++ later → StoodFor g (last_world w earlier).standing later m.disk
+  stood-at es w ms ts v k m run fits steps [] later is = subst (λ (us : List Turn). StoodFor g w.standing us m.disk) is (stood-first es w ms ts v k m run fits steps)
   stood-at [] w ms [] v k m run fits steps (t ∷ earlier) later is = absurd (cc is)
   stood-at [] w ms (u ∷ us) v k m never fits steps (t ∷ earlier) later is = absurd never
   stood-at (e ∷ es) w ms [] v k m never fits steps (t ∷ earlier) later is = absurd never
   stood-at (e ∷ es) w [] (u ∷ us) v k m run fits never (t ∷ earlier) later is = absurd never
   stood-at (e ∷ es) w (x ∷ ms) (u ∷ us) v k m run fits steps (t ∷ earlier) later is =
       let same : u ≡ t = cc is in
-      subst (λ (x : Turn). StoodFor content moment left_since (last_world x.after earlier).standing later m.disk) same (stood-at es u.after ms us v x.node.keep m run.1 steps.0 steps.2 earlier later (cc is))
+      subst (λ (x : Turn). StoodFor g (last_world x.after earlier).standing later m.disk) same (stood-at es u.after ms us v x.node.keep m run.1 steps.0 steps.2 earlier later (cc is))
 
   -- An archive was opened, and events were served by a node.
-  pub served-on : RecoversSomeOne → CachesOne → FollowsItself → CommandFollows → (a : Archive) (cache : List ℕ) (old : D) (e : Owning D) (node new : Serving (Owning D)) (arrivals : List Arrival) (stages : List (Stage (Owning D))) (o p : HostState) → node.keep ≡ e → IsStoreWith e.view cache a (content e.disk) → e.views ≡ views_of (live a.entries) → WhereTold IsSettled (content e.disk)
-      → SyncsFirst content moment left_since old e.disk
-      → RunsBetween content moment left_since old e.disk → BothTold WentBetween (content old) (content e.disk)
-      → ((t : LastKnown) → MatchesKnown (HoldsArchive content) (FilesAre content) is_ready (Leaves content moment left_since) node.keep t → RunsTo (HoldsArchive content) (FilesAre content) is_ready (Leaves content moment left_since) arrivals t node o stages new p) → ReadsWith cache a (content old)
-      → ServedOn content moment left_since a old e.disk new.keep.disk arrivals (disk-stage (stage node o)) (disk-stages stages) (disk-stage (stage new p))
+  pub served-on : RecoversSomeOne → CachesOne → FollowsItself → CommandFollows → (a : Archive) (cache : List ℕ) (old : D) (e : Owning D) (node new : Serving (Owning D)) (arrivals : List Arrival) (stages : List (Stage (Owning D))) (o p : HostState) → node.keep ≡ e → IsStoreWith e.view cache a (g.content e.disk) → e.views ≡ views_of (live a.entries) → WhereTold IsSettled (g.content e.disk)
+      → SyncsFirst g old e.disk
+      → RunsBetween g old e.disk → BothTold WentBetween (g.content old) (g.content e.disk)
+      → ((t : LastKnown) → MatchesKnown (engine_of g) node.keep t → RunsTo (engine_of g) arrivals t node o stages new p) → ReadsWith cache a (g.content old)
+      → ServedOn g a old e.disk new.keep.disk arrivals (disk-stage (stage node o)) (disk-stages stages) (disk-stage (stage new p))
   served-on one caches itself commands a cache old e node new arrivals stages o p keep store rows still sync crash_beside went runs reads =
-      let held : HoldsArchive content e a = (cache, store, rows, still) in
-      let start : MatchesKnown (HoldsArchive content) (FilesAre content) is_ready (Leaves content moment left_since) node.keep (standing a None) =
-      subst (λ (k : Owning D). MatchesKnown (HoldsArchive content) (FilesAre content) is_ready (Leaves content moment left_since) k (standing a None)) (sym keep) (fits-held (HoldsArchive content) (FilesAre content) is_ready (Leaves content moment left_since) (λ k b own. (k.view, own.0, own.1, own.3)) holds_left e a held) in
+      let held : HoldsArchive g.content e a = (cache, store, rows, still) in
+      let start : MatchesKnown (engine_of g) node.keep (standing a None) =
+      subst (λ (k : Owning D). MatchesKnown (engine_of g) k (standing a None)) (sym keep) (fits-held (engine_of g) (λ k b own. (k.view, own.0, own.1, own.3)) holds_left e a held) in
       let run = runs (standing a None) start in
       let first = world_of (standing a None) (places_in node) o in
       let last = world_of run.after (places_in new) p in
@@ -209,20 +210,20 @@ module _ {D : Type 0} (content : D → Option Content) (moment : D → ℕ) (lef
       let narrow = archives_of (standing a None ∷ more) in
       let halted : Owning D = record e { disk = sync.synced; stale = true } in
       let one-from = sync.after a cache reads in
-      let from : (c : List ℕ) → ReadsWith c a (content old) → LeftWithCache left_since sync.synced (moment sync.synced) c narrow =
-      λ c is image now. inl (Some a, (0, omega arith, refl), synced-stands c a (content old) (content sync.synced) image sync.only is (only_now sync.synced image now)) in
-      let after : Leaves content moment left_since halted e narrow = (
+      let from : (c : List ℕ) → ReadsWith c a (g.content old) → LeftWithCache g.left_since sync.synced (g.moment sync.synced) c narrow =
+      λ c is image now. inl (Some a, (0, omega arith, refl), synced-stands c a (g.content old) (g.content sync.synced) image sync.only is (only_now sync.synced image now)) in
+      let after : Leaves g halted e narrow = (
         one-from.later,
         (cache, from cache reads),
         λ c all image since.
-            let there = read_in one (content sync.synced) a cache c narrow (reads_fit sync.synced) (synced-reads cache a (content old) (content sync.synced) sync.only reads) (λ im now. all im (counts_now sync.synced (moment sync.synced) im (omega arith) now)) in
-            let run-from = sync.after a there.0 (synced-read cache there.0 a (content old) (content sync.synced) sync.only reads there.1) in
+            let there = read_in one (g.content sync.synced) a cache c narrow (reads_fit sync.synced) (synced-reads cache a (g.content old) (g.content sync.synced) sync.only reads) (λ im now. all im (counts_now sync.synced (g.moment sync.synced) im (omega arith) now)) in
+            let run-from = sync.after a there.0 (synced-read cache there.0 a (g.content old) (g.content sync.synced) sync.only reads there.1) in
             there.2 image (run-from.each image since),
         λ never. absurd (false≢true (sym never)),
       ) in
-      let kept = run.passes halted narrow (all-own (standing a None ∷ more)) (subst (λ (k : Owning D). Leaves content moment left_since halted k narrow) (sym keep) after) in
+      let kept = run.passes halted narrow (all-own (standing a None ∷ more)) (subst (λ (k : Owning D). Leaves g halted k narrow) (sym keep) after) in
       let now = from-here e narrow (holds_left e a narrow held (0, omega arith, refl)) in
-      let since-opened = run.passes (here e) narrow (all-own (standing a None ∷ more)) (subst (λ (k : Owning D). Leaves content moment left_since (here e) k narrow) (sym keep) now) in
+      let since-opened = run.passes (here e) narrow (all-own (standing a None ∷ more)) (subst (λ (k : Owning D). Leaves g (here e) k narrow) (sym keep) now) in
       record {
         turns = run.turns;
         left = run.after;
@@ -231,7 +232,7 @@ module _ {D : Type 0} (content : D → Option Content) (moment : D → ℕ) (lef
         stands = fits-stand new.keep run.after run.fits;
         files_are = λ none_in c is.
             let exact = run.fits.exact none_in in
-            let own = cache_is caches exact.0 exact.1 run.after.archive (content new.keep.disk) (reads_fit new.keep.disk) exact.2 c narrow (λ image now. kept.2 c (from c is) image (counts_now new.keep.disk (moment sync.synced) image kept.0 now)) in
+            let own = cache_is caches exact.0 exact.1 run.after.archive (g.content new.keep.disk) (reads_fit new.keep.disk) exact.2 c narrow (λ image now. kept.2 c (from c is) image (counts_now new.keep.disk (g.moment sync.synced) image kept.0 now)) in
             (exact.0, exact.1, own, exact.2, exact.3);
         synced = sync.synced;
         only = sync.only;
@@ -240,13 +241,13 @@ module _ {D : Type 0} (content : D → Option Content) (moment : D → ℕ) (lef
         crash = λ may known has-found all.
             let wide = may ++ archives_of more in
             let begun : Owning D = record e { disk = old; stale = false } in
-            let at-old : LeftWithCache left_since old (moment old) known wide = λ image now. inl (all-images known wide (content old) (widened known may (archives_of more) (content old) all) image (only_now old image now)) in
-            let still-old : Leaves content moment left_since begun begun wide = (omega arith, (known, at-old), λ c covers. covers, λ ready image now. between_image (content old) image (only_now old image now)) in
-            let since : Leaves content moment left_since begun e wide = reopening-from content moment left_since counts_now only_now reads_fit one begun e (inr sync, crash_beside) a cache reads begun wide still-old in
+            let at-old : LeftWithCache g.left_since old (g.moment old) known wide = λ image now. inl (all-images known wide (g.content old) (widened known may (archives_of more) (g.content old) all) image (only_now old image now)) in
+            let still-old : Leaves g begun begun wide = (omega arith, (known, at-old), λ c covers. covers, λ ready image now. between_image (g.content old) image (only_now old image now)) in
+            let since : Leaves g begun e wide = reopening-from g counts_now only_now reads_fit one begun e (inr sync, crash_beside) a cache reads begun wide still-old in
             let has : HasAll wide (standing a None ∷ more) = (record { archive = Contains-append_left may (archives_of more) (Some a) has-found; in_doubt = tt }, all-later may (archives_of more) more (all-own more)) in
-            let left = run.passes begun wide has (subst (λ (k : Owning D). Leaves content moment left_since begun k wide) (sym keep) since) in
+            let left = run.passes begun wide has (subst (λ (k : Owning D). Leaves g begun k wide) (sym keep) since) in
             (record { later = left.0; each = left.2 known at-old }, left.3 refl);
-        crash_between = record { later = since-opened.0; each = λ image left. between_then (content old) (content e.disk) image went (since-opened.3 refl image left) };
+        crash_between = record { later = since-opened.0; each = λ image left. between_then (g.content old) (g.content e.disk) image went (since-opened.3 refl image left) };
         stood = λ earlier later is. stood-at arrivals first stages run.turns last node.keep new.keep run.served start run.steps earlier later is;
         numbers = served-follows itself commands arrivals first run.turns last run.served (λ b is. absurd (cc is));
       }

@@ -2,7 +2,9 @@
 -- `deliver`, `remove`, `purge` and `edit` are such commands.
 use Rattle.std.specs.Prelude.{◌≡◌, ◌⊎◌, ℕ, true, List, length, Option, None, Ok, Err}
 use Rattle.arch_base.specs.declared.config.Config.{Config}
-use Rattle.disk_model.specs.Disk.{Files, Content, Image, BothTold, WhereTold, LeavesOnly}
+use Rattle.disk_model.specs.declared.disk.Disk.{Ghosts as Disk}
+use Rattle.disk_model.specs.Disk.{Files, Content, Image, BothTold, WhereTold}
+use Rattle.disk_model.specs.Moments.{LeavesOnly}
 use Rattle.disk_model.specs.Synced.{IsSettled}
 use Rattle.root_slots.specs.RootName.{root_name}
 use Rattle.root_slots.specs.Slots.{HasFirstRoot, IsShutFile}
@@ -185,11 +187,11 @@ LeavesEither way wanted cache found image =
 
 -- A crash leaves what it might have left before; or the disk was synced first, and from then on it
 -- leaves this of the archive as which the files read, and of its cache.
-abbrev pub RunsOrStays : {D : Type 0} → (D → Option Content) → (D → ℕ) → (D → ℕ → Files → Type 0)
+abbrev pub RunsOrStays : {D : Type 0} → Disk D
     → D → D → (List ℕ → Archive → Files → Type 0) → Type 0
-RunsOrStays content moment left_since old new leaves =
-    LeavesOnly moment left_since old new (Image (content old))
-    ⊎ SyncsThen content moment left_since leaves old new
+RunsOrStays g old new leaves =
+    LeavesOnly g old new (Image (g.content old))
+    ⊎ SyncsThen g leaves old new
 
 -- The outcome tells that the disk failed.
 abbrev pub IsFault : Outcome → Type 0

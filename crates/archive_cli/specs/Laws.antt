@@ -1,5 +1,5 @@
--- The laws of transcripts, and of runs in order.
-use Rattle.std.specs.Prelude.{◌≡◌, ◌⊎◌, ℕ, List, Some}
+-- The laws of transcripts, of the job of a run, and of runs in order.
+use Rattle.std.specs.Prelude.{◌≡◌, ◌⊎◌, ℕ, List, Some, Option}
 use Rattle.arch_base.specs.declared.config.Config.{Config}
 use Rattle.disk_model.specs.Disk.{Files, Content, Image}
 use Rattle.edge_io.specs.Coming.{IsFirstMoment}
@@ -8,8 +8,9 @@ use Rattle.arch_model.specs.Archives.{Archive, empty_archive, live, text_of}
 use Rattle.arch_model.specs.Delivery.{delivered, removed, purged, edited}
 use Rattle.arch_model.specs.Following.{Follows}
 use Rattle.store_finding.specs.Recovery.{Recovers}
+use Rattle.archive_cli.specs.declared.words.Job.{Job}
 use Rattle.archive_cli.specs.declared.words.Job.TheVariants.{Init, Deliver, Remove, Purge, Edit}
-use Rattle.archive_cli.specs.Words.{AsksFor}
+use Rattle.archive_cli.specs.Words.{AsksFor, IsJob}
 use Rattle.archive_cli.specs.Program.{RunState, RanTo, IsInput, AsksForInit, AsksOfArchive, AsksForEdit, AsksForPurge, message_of, made_at}
 use Rattle.archive_cli.specs.Turns.{Transcript, plain_transcript}
 
@@ -91,3 +92,7 @@ RunsInARow = (first second third : List (List ℕ)) (a b : ℕ) (i j k l m n : R
     → k.content ≡ Some made → AsksOfArchive second → RanTo second a k l
     → m.content ≡ l.content → AsksOfArchive third → RanTo third b m n
     → (image : Files) → Image n.content image → IsLeft first second third i k m image
+
+-- Words ask for at most one job, and for one or for none.
+abbrev pub OneJob : Type 0
+OneJob = (words : List (List ℕ)) (a b : Option Job) → IsJob words a → IsJob words b → a ≡ b

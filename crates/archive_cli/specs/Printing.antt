@@ -2,6 +2,7 @@
 use Rattle.std.specs.Prelude.{◌≡◌, ◌<◌, ◌≤◌, ◌⊎◌, ◌+◌, ℕ, List, [], ◌++◌, length, take, codes, Option, Result, Ok, Err, is_ok, if◌then◌else◌}
 use Rattle.arch_base.specs.Counts.{Rose}
 use Rattle.arch_base.specs.declared.config.Config.{Config}
+use Rattle.edge_io.specs.declared.sink.Sink.{Ghosts as Sink}
 use Rattle.edge_io.specs.Coming.{after_first}
 use Rattle.edge_io.specs.Phrases.{Says}
 use Rattle.edge_io.specs.Scripts.{Arrival}
@@ -34,6 +35,11 @@ pub record Printed (due : Status → List ℕ → Type 0) (status : Status) (out
   pub sent : Result Unit SinkFault
   pub said : Says words out lost out' lost' sent
   pub status_is : status ≡ (if is_ok sent then due_status else exit.Edges)
+
+-- The same, said of the sink.
+abbrev pub PrintedTo : {O : Type 0} → Sink O → (Status → List ℕ → Type 0) → Status → O → O → Type 0
+PrintedTo o due status old new =
+    Printed due status (o.taken old) (o.faults old) (o.taken new) (o.faults new)
 
 -- These words are due, with this status.
 pub record Exactly (words : List ℕ) (status due_status : Status) (printed : List ℕ) : Type 0 where
@@ -130,6 +136,6 @@ InputDone place status i j =
 
 -- What is due of a run of `serve` was printed, or the output failed; and this is the number of the
 -- status.
-abbrev pub RunPrinted : ServeRun → ℕ → Option (List ℕ) → ℕ → Option (List ℕ) → ℕ → Type 0
-RunPrinted run code out lost out' lost' = (status : Status) × (code ≡ code_of status)
-    × Printed (Exactly (run_line run) (run_status run)) status out lost out' lost'
+abbrev pub RunPrinted : {O : Type 0} → Sink O → ServeRun → ℕ → O → O → Type 0
+RunPrinted o run code old new = (status : Status) × (code ≡ code_of status)
+    × PrintedTo o (Exactly (run_line run) (run_status run)) status old new

@@ -2,7 +2,12 @@
 use Rattle.std.specs.Prelude.{◌≡◌, ◌<◌, ◌≤◌, ◌⊎◌, ◌+◌, ℕ, min, max, List, [], ◌++◌, length, take, codes, decimal, Option, Some, None, MatchOption}
 use Rattle.arch_base.specs.Counts.{Rose}
 use Rattle.arch_base.specs.declared.config.Config.{Config}
-use Rattle.disk_model.specs.Disk.{Files, Content, WhereTold, LeavesOnly}
+use Rattle.disk_model.specs.declared.disk.Disk.{Ghosts as Disk}
+use Rattle.disk_model.specs.Disk.{Files, Content, WhereTold}
+use Rattle.disk_model.specs.Moments.{LeavesOnly}
+use Rattle.edge_io.specs.declared.clock.Clock.{Ghosts as Clock}
+use Rattle.edge_io.specs.declared.sink.Sink.{Ghosts as Sink}
+use Rattle.edge_io.specs.declared.source.Source.{Ghosts as Source}
 use Rattle.edge_io.specs.Coming.{Moments, IsFirstMoment, after_first}
 use Rattle.edge_io.specs.Taken.{plus}
 use Rattle.edge_io.specs.Left.{before}
@@ -111,6 +116,11 @@ all_edges left unread taken lost coming missed content broken =
       content = content;
       broken = broken;
     }
+
+-- The edges of a run at these devices.
+abbrev pub edges_of : {S O C D : Type 0} → Source S → Sink O → Clock C → Disk D → S → O → C → D → RunState
+edges_of s o c d input out clock disk = all_edges (s.left input) (s.faults input) (o.taken out) (o.faults out)
+    (c.coming clock) (c.faults clock) (d.content disk) (d.faults disk)
 
 -- The input, the clock and the disk didn't fail: their counts of faults are as before. The clock
 -- wasn't asked.
@@ -362,12 +372,13 @@ IsDue words input i j status printed = Does words input i j status printed
 abbrev pub IsInput : Option (List ℕ) → List ℕ → Type 0
 IsInput left input = MatchOption left (Unit {0}) (λ bytes. bytes ≡ input)
 
--- All was printed, and no write failed.
-pub record IsPrinted (words : List (List ℕ)) (status : Status) (i j : RunState) : Type 0 where
+-- All that is due was printed, and no write failed.
+pub record IsPrinted (ends : List ℕ → RunState → RunState → Status → List ℕ → Type 0)
+    (status : Status) (i j : RunState) : Type 0 where
   pub input : List ℕ
   pub told : IsInput i.left input
   pub printed : List ℕ
-  pub due : IsDue words input i j status printed
+  pub due : ends input i j status printed
   pub taken_is : j.taken ≡ plus i.taken printed
   pub lost_kept : j.lost ≡ i.lost
 
@@ -433,21 +444,27 @@ pub record ClockFailed (words : List (List ℕ)) (status : Status) (i j : RunSta
   pub silent : IsSilent status i j
 
 -- The output failed: its count of faults rose, and a prefix of what was due was printed.
-pub record OutputFailed (words : List (List ℕ)) (status : Status) (i j : RunState) : Type 0 where
+pub record OutputFailed (ends : List ℕ → RunState → RunState → Status → List ℕ → Type 0)
+    (status : Status) (i j : RunState) : Type 0 where
   pub status_is : status ≡ exit.Edges
   pub rose : Rose i.lost j.lost
   pub input : List ℕ
   pub told : IsInput i.left input
   pub due_status : Status
   pub printed : List ℕ
-  pub due : IsDue words input i j due_status printed
+  pub due : ends input i j due_status printed
   pub count : ℕ
   pub taken_is : j.taken ≡ plus i.taken (take count printed)
 
--- How a run of words ends, by the edges before and after it.
+-- How a run of words ends of which this is due, by the edges before and after it.
+abbrev pub RanBy : (List ℕ → RunState → RunState → Status → List ℕ → Type 0) → List (List ℕ) → Status
+    → RunState → RunState → Type 0
+RanBy ends words status i j = IsPrinted ends status i j ⊎ (InputFailed words status i j
+    ⊎ (ClockFailed words status i j ⊎ OutputFailed ends status i j))
+
+-- How a run of words ends.
 abbrev pub Ran : List (List ℕ) → Status → RunState → RunState → Type 0
-Ran words status i j = IsPrinted words status i j ⊎ (InputFailed words status i j
-    ⊎ (ClockFailed words status i j ⊎ OutputFailed words status i j))
+Ran words status i j = RanBy (IsDue words) words status i j
 
 -- A run of words ends so, and this is the number of its status.
 abbrev pub RanTo : List (List ℕ) → ℕ → RunState → RunState → Type 0
@@ -474,12 +491,11 @@ InitLeaves config coming old image = (moment : ℕ) × IsFirstMoment moment comi
     × MakingLeaves (empty_archive (made_at config moment)) old image
 
 -- The edges of a disk at a run of a job, which is carried out at the first moment to come.
-module _ {D : Type 0} (content : D → Option Content) (moment : D → ℕ)
-    (left_since : D → ℕ → Files → Type 0) where
+module _ {D : Type 0} (g : Disk D) where
   -- What a crash leaves while a command is carried out that is to make this of an archive.
   abbrev pub CommandLeaves : D → D → Option Moments → WriteKind → (ℕ → Archive → Done) → Type 0
   CommandLeaves old new coming way wanted = (at : ℕ) × IsFirstMoment at coming
-      × RunsOrStays content moment left_since old new (LeavesEither way (wanted at))
+      × RunsOrStays g old new (LeavesEither way (wanted at))
 
   -- The same for a command that takes the message on the input.
   abbrev pub MessageLeaves : D → D → Option (List ℕ) → Option Moments → WriteKind
@@ -491,7 +507,7 @@ module _ {D : Type 0} (content : D → Option Content) (moment : D → ℕ)
   -- check change no archive. Nothing is said of `serve`, which has a clause of its own.
   abbrev pub JobLeaves : Option Job → D → D → Option (List ℕ) → Option Moments → Type 0
   JobLeaves (Some (Init config)) old new left coming =
-      LeavesOnly moment left_since old new (InitLeaves config coming (content old))
+      LeavesOnly g old new (InitLeaves config coming (g.content old))
   JobLeaves (Some Deliver) old new left coming =
       MessageLeaves old new left coming Appends delivering
   JobLeaves (Some (Remove number)) old new left coming =
@@ -500,8 +516,8 @@ module _ {D : Type 0} (content : D → Option Content) (moment : D → ℕ)
       CommandLeaves old new coming Renews (purging number)
   JobLeaves (Some (Edit number)) old new left coming =
       MessageLeaves old new left coming Renews (editing number)
-  JobLeaves (Some Reindex) old new left coming = SyncsAtMost content moment left_since old new
-  JobLeaves (Some Check) old new left coming = SyncsAtMost content moment left_since old new
+  JobLeaves (Some Reindex) old new left coming = SyncsAtMost g old new
+  JobLeaves (Some Check) old new left coming = SyncsAtMost g old new
   JobLeaves (Some (Serve turns port)) old new left coming = Unit {0}
   JobLeaves other old new left coming = new ≡ old
 

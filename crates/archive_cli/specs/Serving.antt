@@ -2,7 +2,10 @@
 use Rattle.std.specs.Prelude.{◌≡◌, ◌≤◌, ℕ, List, [], ◌∷◌, ◌++◌, Bool, Option, Some, None, Err}
 use Rattle.std.specs.List.{Contains}
 use Rattle.arch_base.specs.Counts.{RoseIf}
-use Rattle.disk_model.specs.Disk.{Content, Files, Image, LeavesOnly, BothTold, WhereTold}
+use Rattle.disk_model.specs.declared.disk.Disk.{Ghosts as Disk}
+use Rattle.disk_model.specs.Disk.{Files, Image, BothTold, WhereTold}
+use Rattle.disk_model.specs.Moments.{LeavesOnly}
+use Rattle.edge_io.specs.declared.host.Host.{Ghosts as Host}
 use Rattle.edge_io.specs.Frames.{Outputs}
 use Rattle.edge_io.specs.Hosts as hosts
 use Rattle.edge_io.specs.Scripts.{Arrival}
@@ -22,7 +25,7 @@ use Rattle.node_serve.specs.Ends.{ServingEnds, given_after, before_all}
 use Rattle.node_serve.specs.Nodes.{Stage, Along, GoesAnyway, AreAt, outputs_noted, places_in, world_at}
 use Rattle.node_serve.specs.Plain.{last_world}
 use Rattle.node_serve.specs.Turns.{Turn, Served, passed_in}
-use Rattle.node_serve.specs.World.{HostState}
+use Rattle.node_serve.specs.World.{HostState, at_host}
 use Rattle.node_serve.specs.declared.serving.ServeEnd.{ServeEnd}
 use Rattle.node_serve.specs.declared.serving.ServeEnd.TheVariants as end
 use Rattle.archive_cli.specs.DiskCommands.{StandsAs, StaysUnopened}
@@ -105,20 +108,20 @@ pub record IsFirstStage {K : Type 0} (first : Stage K) (out : HostState) : Type 
   pub out_is : first.out ≡ out
 
 -- A disk, by its content and by what each crash since a moment may have left.
-module _ {D : Type 0} (content : D → Option Content) (moment : D → ℕ)
-    (left_since : D → ℕ → Files → Type 0) where
+module _ {D : Type 0} (g : Disk D) where
   -- A crash since the first state leaves files that stand for one of these archives, with a cache of
   -- these bytes or with none.
   pub record CrashLeaves (old new : D) (cache : List ℕ) (may : List (Option Archive)) : Type 0 where
-    pub later : moment old ≤ moment new
-    pub each : (image : Files) → left_since new (moment old) image → RecoversOrBare cache may image
+    pub later : g.moment old ≤ g.moment new
+    pub each : (image : Files) → g.left_since new (g.moment old) image
+        → RecoversOrBare cache may image
 
   -- Each crash since a later state has left a root file with the bytes between its gates and its bodies
   -- of one that a crash of the first state might have left.
   pub record StaysBetween (old opened new : D) : Type 0 where
-    pub later : moment opened ≤ moment new
-    pub each : (image : Files) → left_since new (moment opened) image
-        → BetweenStays (content old) image
+    pub later : g.moment opened ≤ g.moment new
+    pub each : (image : Files) → g.left_since new (g.moment opened) image
+        → BetweenStays (g.content old) image
 
   -- The disk stood for the archive of a standing, or for the one in doubt there; if nothing was, it had
   -- exactly the archive's files. A crash since then leaves one of the two, or an archive of a standing
@@ -126,10 +129,10 @@ module _ {D : Type 0} (content : D → Option Content) (moment : D → ℕ)
   -- the bodies of the root file stayed.
   pub record StoodFor (s : LastKnown) (later : List Turn) (new : D) : Type 0 where
     pub at : D
-    pub stood : (cache : List ℕ) × AllRecoverOrBare cache (one_of s) (content at)
-    pub rested : s.in_doubt ≡ None → FilesAreOn s.archive (content at)
+    pub stood : (cache : List ℕ) × AllRecoverOrBare cache (one_of s) (g.content at)
+    pub rested : s.in_doubt ≡ None → FilesAreOn s.archive (g.content at)
     pub crash : (cache : List ℕ) × CrashLeaves at new cache (archives_of (s ∷ passed_in later))
-    pub crash_between : BetweenSince content moment left_since at new
+    pub crash_between : BetweenSince g at new
 
   -- This archive was found, and the events were taken to their end, one after another through these
   -- stages, each with its replies over the archive of that moment.
@@ -149,18 +152,18 @@ module _ {D : Type 0} (content : D → Option Content) (moment : D → ℕ)
     pub left : LastKnown
     pub served : Served arrivals (world_at (standing found None) first) turns (world_at left last)
     pub at : AreAt stages turns
-    pub stands : (cache : List ℕ) × AllRecoverOrBare cache (one_of left) (content new)
-    pub files_are : left.in_doubt ≡ None → (cache : List ℕ) → ReadsWith cache found (content old)
-        → FilesAreWith cache left.archive (content new)
+    pub stands : (cache : List ℕ) × AllRecoverOrBare cache (one_of left) (g.content new)
+    pub files_are : left.in_doubt ≡ None → (cache : List ℕ) → ReadsWith cache found (g.content old)
+        → FilesAreWith cache left.archive (g.content new)
     pub synced : D
-    pub only : BothTold IsOnlySynced (content old) (content synced)
-    pub before : LeavesOnly moment left_since old synced (Image (content old))
-    pub after : (cache : List ℕ) → ReadsWith cache found (content old)
+    pub only : BothTold IsOnlySynced (g.content old) (g.content synced)
+    pub before : LeavesOnly g old synced (Image (g.content old))
+    pub after : (cache : List ℕ) → ReadsWith cache found (g.content old)
         → CrashLeaves synced new cache (archives_of (standing found None ∷ passed_in turns))
     pub crash : (may : List (Option Archive)) (cache : List ℕ) → Contains may (Some found)
-        → AllRecoverWith cache may (content old)
+        → AllRecoverWith cache may (g.content old)
         → CrashLeaves old new cache (may ++ archives_of (passed_in turns))
-        × BetweenSince content moment left_since old new
+        × BetweenSince g old new
     pub crash_between : StaysBetween old opened new
     pub stood : (earlier later : List Turn) → turns ≡ earlier ++ later
         → StoodFor (last_world (world_at (standing found None) first) earlier).standing later new
@@ -171,12 +174,13 @@ module _ {D : Type 0} (content : D → Option Content) (moment : D → ℕ)
   pub record ShutOut (why : OpenRefusal) (old new : D) (i j : HostGiven)
       (recorded recorded' : List Outputs → Type 0) : Type 0 where
     pub kept : HostKept i j
-    pub answer : WhereTold (λ k. OpensFiles (as_read k) (Err why)) (content old)
-    pub unopened : LeavesKindly why (content old) (content new)
-    pub crash : SyncsAtMost content moment left_since old new
-    pub crash_between : RunsBetween content moment left_since old new
-    pub stands : (s : LastKnown) (cache : List ℕ) → StandsAs cache s (content old) → (t : LastKnown)
-        × StandsAs cache t (content new) × StaysUnopened s (content old) why t
+    pub answer : WhereTold (λ k. OpensFiles (as_read k) (Err why)) (g.content old)
+    pub unopened : LeavesKindly why (g.content old) (g.content new)
+    pub crash : SyncsAtMost g old new
+    pub crash_between : RunsBetween g old new
+    pub stands : (s : LastKnown) (cache : List ℕ) → StandsAs cache s (g.content old)
+        → (t : LastKnown)
+        × StandsAs cache t (g.content new) × StaysUnopened s (g.content old) why t
     pub cause : RoseIf (why ≡ opening.DiskFault) i.out.disk j.out.disk
     pub records : (past : List Outputs) → recorded past → recorded' past
 
@@ -195,9 +199,9 @@ module _ {D : Type 0} (content : D → Option Content) (moment : D → ℕ)
     pub none : Bool
     pub ends : ServingEnds how none arrivals turns j.left i.faults j.faults
     pub opened : D
-    pub settles : OnlySettled (content old) (content opened)
-    pub crash : SyncsFirst content moment left_since old opened
-    pub crash_between : RunsBetween content moment left_since old opened
+    pub settles : OnlySettled (g.content old) (g.content opened)
+    pub crash : SyncsFirst g old opened
+    pub crash_between : RunsBetween g old opened
     pub first : Stage D
     pub begins : IsFirstStage first i.out
     pub stages : List (Stage D)
@@ -207,7 +211,7 @@ module _ {D : Type 0} (content : D → Option Content) (moment : D → ℕ)
     pub anyway : Along GoesAnyway arrivals first stages last
     pub records : (past : List Outputs) → recorded past
         → recorded' (past ++ outputs_noted none first stages last)
-    pub served : (found : Archive) (cache : List ℕ) → ReadsWith cache found (content old)
+    pub served : (found : Archive) (cache : List ℕ) → ReadsWith cache found (g.content old)
         → ServedOn found old opened new arrivals first stages last
 
   -- What a run of `serve` did, by how it ended.
@@ -217,3 +221,13 @@ module _ {D : Type 0} (content : D → Option Content) (moment : D → ℕ)
       ShutOut why old new i j recorded recorded'
   ServesDisk turns (Ended how) old new i j recorded recorded' =
       ServedBy how turns old new i j recorded recorded'
+
+-- What a host gave, and the outside, at this disk.
+abbrev pub hosted_at : {D H : Type 0} → Disk D → Host H → D → H → HostGiven
+hosted_at d h disk host =
+    hosted (h.given host) (h.left host) (h.faults host) (at_host h host (d.faults disk))
+
+-- What a run of `serve` did, said of the disk and of the host.
+abbrev pub ServesDiskAt : {D H : Type 0} → Disk D → Host H → ℕ → ServeRun → D → H → D → H → Type 0
+ServesDiskAt d h turns run old i new j = ServesDisk d turns run old new (hosted_at d h old i)
+    (hosted_at d h new j) (h.recorded i) (h.recorded j)

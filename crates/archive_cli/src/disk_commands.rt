@@ -6,7 +6,8 @@ ghost use Rattle.std.specs.Prelude.{◌≡◌, ◌≤◌, ℕ, List};
 ghost use Rattle.arch_base.specs.Configs.{IsConfig};
 ghost use Rattle.arch_base.specs.Counts.{RoseIf};
 ghost use Rattle.arch_base.specs.Moments.{last_moment};
-ghost use Rattle.disk_model.specs.Disk.{WhereTold, LeavesOnly};
+ghost use Rattle.disk_model.specs.Disk.{WhereTold};
+ghost use Rattle.disk_model.specs.Moments.{LeavesOnly};
 ghost use Rattle.arch_model.specs.Archives.{Archive, empty_archive};
 ghost use Rattle.arch_model.specs.Standing.{LastKnown};
 ghost use Rattle.arch_model.specs.declared.answer.Answer.{Answer};
@@ -31,7 +32,7 @@ use std::alloc::Global;
 /// Makes an archive with these settings on a disk that has none.
 pub(crate) fn make<D: Disk>(alloc: Global, disk: D, config: &Config) -> (Outcome, D)
     requires config { IsConfig config.now }
-    ensures crash { LeavesOnly D.moment D.left_since disk result.1
+    ensures crash { LeavesOnly D.Disk disk result.1
         (MakingLeaves (empty_archive config.now) (D.content disk)) }
     ensures made { MakesDisk config.now result.0 (D.content disk) (D.content result.1) }
     ensures cause { RoseIf (IsFault result.0) (D.faults disk) (D.faults result.1) }
@@ -61,9 +62,9 @@ pub(crate) fn take<D: Disk>(
     moment: u64,
 ) -> (Outcome, D)
     requires moment { moment ≤ last_moment }
-    ensures crash { RunsOrStays D.content D.moment D.left_since disk result.1
+    ensures crash { RunsOrStays D.Disk disk result.1
         (LeavesEither (way_of command.now) (taking command.now moment)) }
-    ensures crash_between { RunsBetween D.content D.moment D.left_since disk result.1 }
+    ensures crash_between { RunsBetween D.Disk disk result.1 }
     ensures stands { (s : LastKnown) (cache : List ℕ) → StandsAs cache s (D.content disk)
         → (t : LastKnown) × StandsAs cache t (D.content result.1)
         × CommandTakes s (D.content disk) (taking command.now moment) result.0 t }
@@ -100,7 +101,7 @@ fn answered<D: Disk>(
     requires sizes { WhereTold (StoreHasSizes archive) (D.content disk.old) }
     ensures crash { (a : Archive) (cache : List ℕ)
         → IsStoreWith archive cache a (D.content disk.old)
-        → LeavesOnly D.moment D.left_since disk.old disk.new
+        → LeavesOnly D.Disk disk.old disk.new
         (LeavesEither (way_of command.now) (taking command.now moment) cache a) }
     ensures done { (a : Archive) (cache : List ℕ)
         → IsStoreWith archive cache a (D.content disk.old) → (v : StoreState)
@@ -109,8 +110,8 @@ fn answered<D: Disk>(
     ensures commits { OnDone result (CommitsOne (way_of command.now) (FilesFor command.now) archive
         (D.content disk.old) (D.content disk.new)) }
     ensures untouched { OnRefusal result (UnlessFault result
-        (OnlyLooks D.content D.moment D.left_since disk.old disk.new)) }
-    ensures crash_between { RunsBetween D.content D.moment D.left_since disk.old disk.new }
+        (OnlyLooks D.Disk disk.old disk.new)) }
+    ensures crash_between { RunsBetween D.Disk disk.old disk.new }
     ensures for_command { IsForCommand command.now result }
     ensures cause { RoseIf (result ≡ Answer.DiskFault) (D.faults disk.old) (D.faults disk.new) }
 {
@@ -128,8 +129,8 @@ fn answered<D: Disk>(
 /// Opening the archive rebuilds all of these from the number map and the epochs, and nothing of them
 /// outlives a run, so it is opened and counted.
 pub(crate) fn reindex<D: Disk>(alloc: Global, disk: D) -> (Outcome, D)
-    ensures crash { SyncsAtMost D.content D.moment D.left_since disk result.1 }
-    ensures crash_between { RunsBetween D.content D.moment D.left_since disk result.1 }
+    ensures crash { SyncsAtMost D.Disk disk result.1 }
+    ensures crash_between { RunsBetween D.Disk disk result.1 }
     ensures stands { (s : LastKnown) (cache : List ℕ) → StandsAs cache s (D.content disk)
         → (t : LastKnown) × StandsAs cache t (D.content result.1)
         × ReindexesOn s (D.content disk) result.0 t }
@@ -151,8 +152,8 @@ pub(crate) fn reindex<D: Disk>(alloc: Global, disk: D) -> (Outcome, D)
 
 /// Reads the whole archive on a disk, and counts its entries and live messages.
 pub(crate) fn check<D: Disk>(alloc: Global, disk: D) -> (Outcome, D)
-    ensures crash { SyncsAtMost D.content D.moment D.left_since disk result.1 }
-    ensures crash_between { RunsBetween D.content D.moment D.left_since disk result.1 }
+    ensures crash { SyncsAtMost D.Disk disk result.1 }
+    ensures crash_between { RunsBetween D.Disk disk result.1 }
     ensures stands { (s : LastKnown) (cache : List ℕ) → StandsAs cache s (D.content disk)
         → (t : LastKnown) × StandsAs cache t (D.content result.1)
         × ChecksOn s (D.content disk) result.0 t }

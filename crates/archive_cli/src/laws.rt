@@ -1,6 +1,6 @@
-//! The laws of scripts, for all events, and of runs in order, for all words, inputs and faults.
+//! The laws of scripts, for all events, and of runs, for all words, inputs and faults.
 //! Pure.
-ghost use Rattle.archive_cli.specs.Laws.{PlainIsTranscript, RunsInARow};
+ghost use Rattle.archive_cli.specs.Laws.{OneJob, PlainIsTranscript, RunsInARow};
 
 use arch_model::{law_of_commands, law_of_numbers, numbers_keep_their_texts};
 use node_serve::plain_law;
@@ -12,6 +12,12 @@ pub fn plain_is_transcript()
 {
     plain_law();
 }
+
+/// Shows that words ask for at most one job, or for none. So what a run promises of a job is all that
+/// it promises of the words that ask for it.
+pub fn words_ask_for_one_job()
+    ensures one { OneJob }
+{}
 
 /// Shows what a crash leaves after `init` and two jobs on one disk, each `deliver`, `remove`, `purge`,
 /// `edit`, `reindex` or `check`, by the clause `ends` of `run` alone.

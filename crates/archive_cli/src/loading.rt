@@ -7,7 +7,7 @@ ghost use Rattle.arch_model.specs.Validity.{IsArchive};
 ghost use Rattle.load_run.specs.Counted.{counts_of};
 ghost use Rattle.load_run.specs.Loads.{greatest_load, loaded};
 ghost use Rattle.archive_cli.specs.Loading.{load_archive, load_config, loaded_line};
-ghost use Rattle.archive_cli.specs.Printing.{Printed, IsLoadDue};
+ghost use Rattle.archive_cli.specs.Printing.{IsLoadDue, PrintedTo};
 ghost use Rattle.archive_cli.specs.Words.{config_of};
 
 use crate::program::{print, print_no_memory};
@@ -27,8 +27,7 @@ use std::alloc::Global;
 /// If an allocation fails, also one of the disk, prints that instead.
 pub(crate) fn load_and_print<O: Sink>(alloc: Global, count: u32, seed: u64, out: &mut O) -> Status
     requires { count ≤ greatest_load }
-    ensures printed { Printed (IsLoadDue count seed) result (O.taken out.old) (O.faults out.old)
-        (O.taken out.new) (O.faults out.new) }
+    ensures printed { PrintedTo O.Sink (IsLoadDue count seed) result out.old out.new }
     ensures sink { O.alike out.old out.new }
 {
     match line_of_load(alloc, count, seed) {

@@ -1,7 +1,7 @@
 //! How a command over the archive on a disk ends, and what is printed of it.
 //! Pure.
 ghost use Rattle.std.specs.Prelude.{◌≡◌, ◌++◌, codes, decimal};
-ghost use Rattle.edge_io.specs.Phrases.{Says};
+ghost use Rattle.edge_io.specs.Phrases.{SaysTo};
 ghost use Rattle.answer_lines.specs.Lines.{whole_line};
 ghost use Rattle.archive_cli.specs.Outcomes.{outcome_line, reply_line, refusal_line, reindexed_line, checked_line, status_of, answer_status, refusal_status};
 
@@ -45,8 +45,7 @@ impl Outcome {
 
     /// Writes the line of the outcome.
     pub(crate) fn say<O: Sink>(&self, out: &mut O) -> Result<(), SinkFault>
-        ensures said { Says (whole_line (outcome_line self.now)) (O.taken out.old) (O.faults out.old)
-            (O.taken out.new) (O.faults out.new) result }
+        ensures said { SaysTo O.Sink (whole_line (outcome_line self.now)) out.old out.new result }
         ensures sink { O.alike out.old out.new }
     {
         match self {
@@ -90,8 +89,7 @@ fn status_of_refusal(refusal: &OpenRefusal) -> Status
 
 /// Writes that an archive with this name was made.
 fn say_made<O: Sink>(name: &Name, out: &mut O) -> Result<(), SinkFault>
-    ensures said { Says (whole_line (codes "made " ++ name.now)) (O.taken out.old) (O.faults out.old)
-        (O.taken out.new) (O.faults out.new) result }
+    ensures said { SaysTo O.Sink (whole_line (codes "made " ++ name.now)) out.old out.new result }
     ensures sink { O.alike out.old out.new }
 {
     say(b"made ", out)?;
@@ -100,8 +98,7 @@ fn say_made<O: Sink>(name: &Name, out: &mut O) -> Result<(), SinkFault>
 
 /// Writes how many messages are live after a reindexing.
 fn say_reindexed<O: Sink>(live: u32, out: &mut O) -> Result<(), SinkFault>
-    ensures said { Says (whole_line (reindexed_line live)) (O.taken out.old) (O.faults out.old)
-        (O.taken out.new) (O.faults out.new) result }
+    ensures said { SaysTo O.Sink (whole_line (reindexed_line live)) out.old out.new result }
     ensures sink { O.alike out.old out.new }
 {
     say_number(b"reindexed ", u64::from(live), out)
@@ -109,8 +106,8 @@ fn say_reindexed<O: Sink>(live: u32, out: &mut O) -> Result<(), SinkFault>
 
 /// Writes the counts of an archive's entries and messages, and its next number.
 fn say_checked<O: Sink>(entries: u64, live: u32, next: u32, out: &mut O) -> Result<(), SinkFault>
-    ensures said { Says (whole_line (checked_line entries live next)) (O.taken out.old)
-        (O.faults out.old) (O.taken out.new) (O.faults out.new) result }
+    ensures said { SaysTo O.Sink (whole_line (checked_line entries live next)) out.old out.new
+        result }
     ensures sink { O.alike out.old out.new }
 {
     let mut buffer = Buffer::new();
@@ -121,9 +118,8 @@ fn say_checked<O: Sink>(entries: u64, live: u32, next: u32, out: &mut O) -> Resu
 
 /// Writes the count of an archive's messages, and its next number.
 fn say_numbers<O: Sink>(live: u32, next: u32, out: &mut O) -> Result<(), SinkFault>
-    ensures said { Says (whole_line (codes " live "
-        ++ (decimal live ++ (codes " next " ++ decimal next)))) (O.taken out.old) (O.faults out.old)
-        (O.taken out.new) (O.faults out.new) result }
+    ensures said { SaysTo O.Sink (whole_line (codes " live "
+        ++ (decimal live ++ (codes " next " ++ decimal next)))) out.old out.new result }
     ensures sink { O.alike out.old out.new }
 {
     let mut buffer = Buffer::new();
@@ -135,8 +131,7 @@ fn say_numbers<O: Sink>(live: u32, next: u32, out: &mut O) -> Result<(), SinkFau
 /// Writes the line of an answer to a command: of damage that it found the line of a damaged file,
 /// without a number in front.
 pub fn say_reply<O: Sink>(answer: Answer, out: &mut O) -> Result<(), SinkFault>
-    ensures said { Says (whole_line (reply_line answer)) (O.taken out.old) (O.faults out.old)
-        (O.taken out.new) (O.faults out.new) result }
+    ensures said { SaysTo O.Sink (whole_line (reply_line answer)) out.old out.new result }
     ensures sink { O.alike out.old out.new }
 {
     match answer {
@@ -147,8 +142,7 @@ pub fn say_reply<O: Sink>(answer: Answer, out: &mut O) -> Result<(), SinkFault>
 
 /// Writes why an archive could not be opened.
 fn say_refusal<O: Sink>(refusal: &OpenRefusal, out: &mut O) -> Result<(), SinkFault>
-    ensures said { Says (whole_line (refusal_line refusal.now)) (O.taken out.old) (O.faults out.old)
-        (O.taken out.new) (O.faults out.new) result }
+    ensures said { SaysTo O.Sink (whole_line (refusal_line refusal.now)) out.old out.new result }
     ensures sink { O.alike out.old out.new }
 {
     match refusal {

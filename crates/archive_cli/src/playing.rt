@@ -4,10 +4,10 @@ ghost use Rattle.std.specs.Prelude.{◌≡◌, ◌≤◌, ◌++◌, ℕ, List, A
 ghost use Rattle.arch_base.specs.declared.config.Config.{Config};
 ghost use Rattle.arch_model.specs.Archives.{empty_archive};
 ghost use Rattle.answer_lines.specs.Lines.{whole_line};
-ghost use Rattle.edge_io.specs.Phrases.{Says};
+ghost use Rattle.edge_io.specs.Phrases.{SaysTo};
 ghost use Rattle.edge_io.specs.Scripts.{Arrival, IsArrival, IsScript};
 ghost use Rattle.edge_io.specs.ScriptHosts.{IsNewScriptHost};
-ghost use Rattle.archive_cli.specs.Printing.{Printed, IsPlayedAs, IsReplayDue};
+ghost use Rattle.archive_cli.specs.Printing.{IsPlayedAs, IsReplayDue, PrintedTo};
 ghost use Rattle.archive_cli.specs.Program.{input_limit};
 
 use crate::program::{print, print_no_memory};
@@ -59,8 +59,7 @@ pub fn play_script<K: CountedKeep + Drop, O: Sink>(
     requires script { All IsArrival events }
     ensures printed { (config : Config) → K.holds keep (empty_archive config)
         → (text : List ℕ) → IsScript events text → length text ≤ input_limit
-        → Printed (IsReplayDue config text) result (O.taken out.old) (O.faults out.old)
-        (O.taken out.new) (O.faults out.new) }
+        → PrintedTo O.Sink (IsReplayDue config text) result out.old out.new }
     ensures sink { O.alike out.old out.new }
 {
     if keep.failed() > 0 {
@@ -116,8 +115,7 @@ fn print_played<O: Sink>(played: Played, out: &mut O) -> Status
     ensures printed { (config : Config) (text : List ℕ) (arrivals : List Arrival)
         → IsPlayedAs config text arrivals played → IsScript arrivals text
         → length text ≤ input_limit
-        → Printed (IsReplayDue config text) result (O.taken out.old) (O.faults out.old)
-        (O.taken out.new) (O.faults out.new) }
+        → PrintedTo O.Sink (IsReplayDue config text) result out.old out.new }
     ensures sink { O.alike out.old out.new }
 {
     match played {
@@ -128,8 +126,8 @@ fn print_played<O: Sink>(played: Played, out: &mut O) -> Status
 
 /// Writes frames, and that memory ran out.
 fn say_cut<O: Sink>(frames: &[u8], out: &mut O) -> Result<(), SinkFault>
-    ensures said { Says (frames.now ++ whole_line (codes "12 no memory")) (O.taken out.old)
-        (O.faults out.old) (O.taken out.new) (O.faults out.new) result }
+    ensures said { SaysTo O.Sink (frames.now ++ whole_line (codes "12 no memory")) out.old out.new
+        result }
     ensures sink { O.alike out.old out.new }
 {
     say(frames, out)?;

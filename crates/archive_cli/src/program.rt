@@ -1,7 +1,7 @@
 //! All that the program does, over the disk, host, input, output and clock that it is given.
 //! Writes the disk; syncs.
 ghost use Rattle.std.specs.Prelude.{◌≡◌, ◌≤◌, ◌+◌, ◌++◌, ℕ, List, All, None, length, codes, decimal};
-ghost use Rattle.disk_model.specs.Disk.{LeavesOnly};
+ghost use Rattle.disk_model.specs.Moments.{LeavesOnly};
 ghost use Rattle.root_slots.specs.Between.{RunsBetween};
 ghost use Rattle.answer_lines.specs.Lines.{whole_line};
 ghost use Rattle.archive_cli.specs.Words.{spelled, AsksFor};
@@ -12,11 +12,10 @@ ghost use Rattle.archive_core.specs.Commands.{FilesFor, IsForCommand, way_of};
 ghost use Rattle.store_finding.specs.Kept.{StoreState};
 ghost use Rattle.archive_cli.specs.DiskCommands.{taking};
 ghost use Rattle.archive_cli.specs.Outcomes.{outcome_line, status_of};
-ghost use Rattle.archive_cli.specs.Program.{RanTo, AsksForInit, AsksForMoment, TakesInput, TookAtMost, CommandActs, InitActs, InitLeaves, CommandLeaves, MessageLeaves, WordsLeave, putting, putting_answers, putting_files, putting_way, all_edges, edges, input_limit, message_limit, made_at};
-ghost use Rattle.archive_cli.specs.Printing.{Printed, Exactly, IsReplayDue, Replayed, JobDone, InputDone, RunPrinted};
+ghost use Rattle.archive_cli.specs.Program.{RanTo, AsksForInit, AsksForMoment, TakesInput, TookAtMost, CommandActs, InitActs, InitLeaves, CommandLeaves, MessageLeaves, WordsLeave, putting, putting_answers, putting_files, putting_way, all_edges, edges, input_limit, message_limit, made_at, edges_of};
+ghost use Rattle.archive_cli.specs.Printing.{Exactly, IsReplayDue, Replayed, JobDone, InputDone, RunPrinted, PrintedTo};
 ghost use Rattle.arch_base.specs.Configs.{IsConfig};
-ghost use Rattle.archive_cli.specs.Serving.{ServeRun, ServesDisk, hosted};
-ghost use Rattle.node_serve.specs.World.{outer};
+ghost use Rattle.archive_cli.specs.Serving.{ServeRun, ServesDiskAt};
 ghost use Rattle.edge_io.specs.Scripts.{IsArrival, IsScript};
 
 use crate::disk_commands::{check, make, reindex, take};
@@ -50,35 +49,25 @@ pub fn run<D: Disk, H: Host, S: Source, O: Sink, C: Clock>(
     clock: &mut C,
 ) -> (u8, D)
     ensures ends { RanTo (spelled words.now) result.0
-        (all_edges (S.left input.old) (S.faults input.old) (O.taken out.old) (O.faults out.old)
-        (C.coming clock.old) (C.faults clock.old) (D.content disk) (D.faults disk))
-        (all_edges (S.left input.new) (S.faults input.new) (O.taken out.new) (O.faults out.new)
-        (C.coming clock.new) (C.faults clock.new) (D.content result.1) (D.faults result.1)) }
+        (edges_of S.Source O.Sink C.Clock D.Disk input.old out.old clock.old disk)
+        (edges_of S.Source O.Sink C.Clock D.Disk input.new out.new clock.new result.1) }
     ensures input { TakesInput (spelled words.now) (S.left input.old) (S.faults input.old)
         (S.left input.new) (S.faults input.new) }
     ensures sink { O.alike out.old out.new }
     // What the job of the words does to the disk, and what a crash leaves at each moment of it.
-    ensures crash { WordsLeave D.content D.moment D.left_since (spelled words.now) disk result.1
+    ensures crash { WordsLeave D.Disk (spelled words.now) disk result.1
         (S.left input.old) (C.coming clock.old) }
     // Unless an archive is made, the bytes of the root file between its gates and its bodies are at
     // each moment as before. While one is served, the next clause says so.
     ensures crash_between { (AsksForInit (spelled words.now) → ⊥)
         → ((turns port : ℕ) → AsksFor (spelled words.now) (Serve turns port) → ⊥)
-        → RunsBetween D.content D.moment D.left_since disk result.1 }
+        → RunsBetween D.Disk disk result.1 }
     // What serving did: the events that it took, the replies to each over the archive of that moment,
     // the disk then, what a crash leaves, and why it ended. Its status and what is printed are those
     // of how it ended, unless the output failed.
     ensures serve { (turns port : ℕ) → AsksFor (spelled words.now) (Serve turns port)
-        → (run : ServeRun) × RunPrinted run result.0 (O.taken out.old) (O.faults out.old)
-        (O.taken out.new) (O.faults out.new)
-        × ServesDisk D.content D.moment D.left_since turns run disk result.1
-        (hosted (H.given host.old) (H.left host.old) (H.faults host.old)
-        (outer (H.taken host.old) (H.closings host.old) (D.faults disk) (H.lost host.old)
-        (H.closed_at host.old)))
-        (hosted (H.given host.new) (H.left host.new) (H.faults host.new)
-        (outer (H.taken host.new) (H.closings host.new) (D.faults result.1) (H.lost host.new)
-        (H.closed_at host.new)))
-        (H.recorded host.old) (H.recorded host.new) }
+        → (run : ServeRun) × RunPrinted O.Sink run result.0 out.old out.new
+        × ServesDiskAt D.Disk H.Host turns run disk host.old result.1 host.new }
     // Only serving asks the host.
     ensures host { ((turns port : ℕ) → AsksFor (spelled words.now) (Serve turns port) → ⊥)
         → host.new ≡ host.old }
@@ -144,7 +133,7 @@ fn init<D: Disk, O: Sink, C: Clock>(
         (C.faults clock.old) (D.content disk) (D.faults disk))
         (all_edges None 0 (O.taken out.new) (O.faults out.new) (C.coming clock.new)
         (C.faults clock.new) (D.content result.1) (D.faults result.1)) }
-    ensures crash { LeavesOnly D.moment D.left_since disk result.1
+    ensures crash { LeavesOnly D.Disk disk result.1
         (InitLeaves config (C.coming clock.old) (D.content disk)) }
     ensures disk_later { D.faults disk ≤ D.faults result.1 }
     ensures clock_later { C.faults clock.old ≤ C.faults clock.new }
@@ -180,15 +169,13 @@ fn put_input<D: Disk, S: Source, O: Sink, C: Clock>(
     clock: &mut C,
 ) -> (Status, D)
     ensures ends { InputDone place result.0
-        (all_edges (S.left input.old) (S.faults input.old) (O.taken out.old) (O.faults out.old)
-        (C.coming clock.old) (C.faults clock.old) (D.content disk) (D.faults disk))
-        (all_edges (S.left input.new) (S.faults input.new) (O.taken out.new) (O.faults out.new)
-        (C.coming clock.new) (C.faults clock.new) (D.content result.1) (D.faults result.1)) }
+        (edges_of S.Source O.Sink C.Clock D.Disk input.old out.old clock.old disk)
+        (edges_of S.Source O.Sink C.Clock D.Disk input.new out.new clock.new result.1) }
     ensures later { S.faults input.old ≤ S.faults input.new }
     ensures few { TookAtMost message_limit (S.left input.old) (S.left input.new) }
-    ensures crash { MessageLeaves D.content D.moment D.left_since disk result.1
+    ensures crash { MessageLeaves D.Disk disk result.1
         (S.left input.old) (C.coming clock.old) (putting_way place) (putting place) }
-    ensures crash_between { RunsBetween D.content D.moment D.left_since disk result.1 }
+    ensures crash_between { RunsBetween D.Disk disk result.1 }
     ensures disk_later { D.faults disk ≤ D.faults result.1 }
     ensures clock_later { C.faults clock.old ≤ C.faults clock.new }
     ensures sink { O.alike out.old out.new }
@@ -237,9 +224,9 @@ fn carry_out<D: Disk, O: Sink, C: Clock>(
         (C.faults clock.old) (D.content disk) (D.faults disk))
         (all_edges None 0 (O.taken out.new) (O.faults out.new) (C.coming clock.new)
         (C.faults clock.new) (D.content result.1) (D.faults result.1)) }
-    ensures crash { CommandLeaves D.content D.moment D.left_since disk result.1
+    ensures crash { CommandLeaves D.Disk disk result.1
         (C.coming clock.old) (way_of command.now) (taking command.now) }
-    ensures crash_between { RunsBetween D.content D.moment D.left_since disk result.1 }
+    ensures crash_between { RunsBetween D.Disk disk result.1 }
     ensures disk_later { D.faults disk ≤ D.faults result.1 }
     ensures clock_later { C.faults clock.old ≤ C.faults clock.new }
     ensures sink { O.alike out.old out.new }
@@ -254,9 +241,8 @@ fn carry_out<D: Disk, O: Sink, C: Clock>(
 
 /// Prints how a command over the disk ended, and returns its status.
 pub(crate) fn print_outcome<O: Sink>(outcome: &Outcome, out: &mut O) -> Status
-    ensures printed { Printed (Exactly (whole_line (outcome_line outcome.now))
-        (status_of outcome.now)) result (O.taken out.old) (O.faults out.old) (O.taken out.new)
-        (O.faults out.new) }
+    ensures printed { PrintedTo O.Sink (Exactly (whole_line (outcome_line outcome.now))
+        (status_of outcome.now)) result out.old out.new }
     ensures sink { O.alike out.old out.new }
 {
     outcome.status().if_taken(outcome.say(out))
@@ -284,8 +270,7 @@ fn replay<S: Source, O: Sink>(alloc: Global, config: Config, input: &mut S, out:
 fn replay_text<O: Sink>(alloc: Global, config: Config, text: &[u8], out: &mut O) -> Status
     requires valid { IsConfig config }
     requires short { length text.now ≤ input_limit }
-    ensures printed { Printed (IsReplayDue config text.now) result (O.taken out.old)
-        (O.faults out.old) (O.taken out.new) (O.faults out.new) }
+    ensures printed { PrintedTo O.Sink (IsReplayDue config text.now) result out.old out.new }
     ensures sink { O.alike out.old out.new }
 {
     match script(alloc, text) {
@@ -301,8 +286,7 @@ fn replay_script<O: Sink>(alloc: Global, config: Config, events: Script, out: &m
     requires valid { IsConfig config }
     requires script { All IsArrival events }
     ensures printed { (text : List ℕ) → IsScript events text → length text ≤ input_limit →
-        Printed (IsReplayDue config text) result (O.taken out.old) (O.faults out.old)
-        (O.taken out.new) (O.faults out.new) }
+        PrintedTo O.Sink (IsReplayDue config text) result out.old out.new }
     ensures sink { O.alike out.old out.new }
 {
     let disk = MemDisk::new(alloc, Numbers::new(alloc));
@@ -314,9 +298,8 @@ fn replay_script<O: Sink>(alloc: Global, config: Config, events: Script, out: &m
 
 /// Prints the line of a script that is bad at an event.
 fn print_bad<O: Sink>(event: u64, out: &mut O) -> Status
-    ensures printed { Printed (Exactly (whole_line (codes "bad script " ++ decimal event))
-        Status.Script) result (O.taken out.old) (O.faults out.old) (O.taken out.new)
-        (O.faults out.new) }
+    ensures printed { PrintedTo O.Sink (Exactly (whole_line (codes "bad script " ++ decimal event))
+        Status.Script) result out.old out.new }
     ensures sink { O.alike out.old out.new }
 {
     Status::Script.if_taken(say_number(b"bad script ", event, out))
@@ -325,8 +308,8 @@ fn print_bad<O: Sink>(event: u64, out: &mut O) -> Status
 /// Prints that memory ran out, and returns the status to end with: `Memory`, or `Edges` if the output
 /// failed.
 pub fn print_no_memory<O: Sink>(out: &mut O) -> Status
-    ensures printed { Printed (Exactly (whole_line (codes "12 no memory")) Status.Memory) result
-        (O.taken out.old) (O.faults out.old) (O.taken out.new) (O.faults out.new) }
+    ensures printed { PrintedTo O.Sink (Exactly (whole_line (codes "12 no memory")) Status.Memory)
+        result out.old out.new }
     ensures sink { O.alike out.old out.new }
 {
     Status::Memory.if_taken(say_memory(out))
@@ -334,8 +317,7 @@ pub fn print_no_memory<O: Sink>(out: &mut O) -> Status
 
 /// Prints bytes, and returns the status if all were taken, otherwise `Edges`.
 pub(crate) fn print<O: Sink>(bytes: &[u8], status: Status, out: &mut O) -> Status
-    ensures printed { Printed (Exactly bytes.now status) result (O.taken out.old) (O.faults out.old)
-        (O.taken out.new) (O.faults out.new) }
+    ensures printed { PrintedTo O.Sink (Exactly bytes.now status) result out.old out.new }
     ensures sink { O.alike out.old out.new }
 {
     status.if_taken(say(bytes, out))

@@ -1,9 +1,8 @@
 //! Serves the archive on a disk.
 //! Writes the disk; syncs.
 ghost use Rattle.std.specs.Prelude.{◌≡◌, ◌≤◌};
-ghost use Rattle.archive_cli.specs.Printing.{Printed, Exactly};
-ghost use Rattle.archive_cli.specs.Serving.{ServeRun, ServesDisk, end_line, end_status, hosted, run_line, run_status};
-ghost use Rattle.node_serve.specs.World.{outer};
+ghost use Rattle.archive_cli.specs.Printing.{Exactly, PrintedTo};
+ghost use Rattle.archive_cli.specs.Serving.{ServeRun, end_line, end_status, run_line, run_status, ServesDiskAt};
 
 use crate::outcome::Outcome;
 use crate::program::{print_no_memory, print_outcome};
@@ -27,17 +26,9 @@ pub(crate) fn serve_disk<D: Disk, H: Host, O: Sink>(
     host: &mut H,
     out: &mut O,
 ) -> (Status, D)
-    ensures serves { (run : ServeRun) × ServesDisk D.content D.moment D.left_since turns run disk
-        result.1
-        (hosted (H.given host.old) (H.left host.old) (H.faults host.old)
-        (outer (H.taken host.old) (H.closings host.old) (D.faults disk) (H.lost host.old)
-        (H.closed_at host.old)))
-        (hosted (H.given host.new) (H.left host.new) (H.faults host.new)
-        (outer (H.taken host.new) (H.closings host.new) (D.faults result.1) (H.lost host.new)
-        (H.closed_at host.new)))
-        (H.recorded host.old) (H.recorded host.new)
-        × Printed (Exactly (run_line run) (run_status run)) result.0 (O.taken out.old)
-        (O.faults out.old) (O.taken out.new) (O.faults out.new) }
+    ensures serves { (run : ServeRun) × ServesDiskAt D.Disk H.Host turns run disk host.old result.1
+        host.new
+        × PrintedTo O.Sink (Exactly (run_line run) (run_status run)) result.0 out.old out.new }
     ensures later { D.faults disk ≤ D.faults result.1 }
     ensures sink { O.alike out.old out.new }
 {
@@ -56,8 +47,8 @@ pub(crate) fn serve_disk<D: Disk, H: Host, O: Sink>(
 
 /// Prints how serving ended, and returns its status.
 fn print_end<O: Sink>(end: ServeEnd, out: &mut O) -> Status
-    ensures printed { Printed (Exactly (end_line end) (end_status end)) result (O.taken out.old)
-        (O.faults out.old) (O.taken out.new) (O.faults out.new) }
+    ensures printed { PrintedTo O.Sink (Exactly (end_line end) (end_status end)) result out.old
+        out.new }
     ensures sink { O.alike out.old out.new }
 {
     match end {

@@ -20,7 +20,7 @@ use Rattle.archive_core.specs.Placing.{message_places, PlacesFrom, PlacesRise, l
 use Rattle.archive_core.specs.declared.placing.MessagePlace.{MessagePlace}
 use Rattle.archive_core.proofs.Places.{places-rise, places-low, places-one, places-tell, live-places, message-place}
 use Rattle.archive_core.proofs.ByBlob.{message-of}
-use Rattle.archive_core.proofs.Stored.{has_live-is, kept-at, shown-at, contains-number, live-number}
+use Rattle.archive_core.proofs.Stored.{has_live-is, kept-at, shown-at, contains-number}
 
 not_true : (t : Bool) → (t ≡ true → ⊥) → t ≡ false
 not_true true never = absurd (never refl)
@@ -133,6 +133,17 @@ module _ (v : StoreState) (places : List MessagePlace) (placed : places ≡ mess
       let told = places-tell 0 v.entries at p (ap (λ (ps : List MessagePlace). slice_get ps at) (sym placed) ∙ there) in
       record { message = message-found at n p there same; is_live = told.is_live live }
 
+  -- A number with a live place is live, and where numbers rise one without isn't.
+  pub found-kept : (at n : ℕ) (p : MessagePlace) → slice_get places at ≡ Some p → p.number ≡ n → p.live ≡ true → has_live v.entries n ≡ true
+  found-kept at n p there same live = sym (live-known n) ∙ subst (λ (m : ℕ). live_place places m ≡ true) same (place-live places at p there live)
+
+  module _ (rise : PlacesRise places) where
+    pub unfound-kept : (n : ℕ) → IsPlaceOfNumber places n None → has_live v.entries n ≡ false
+    unfound-kept n none = sym (live-known n) ∙ not_true (live_place places n) (λ has. let at = live-at places n has in none rise at.index at.place at.there at.number_is)
+
+    pub unlive-kept : (at n : ℕ) (p : MessagePlace) → slice_get places at ≡ Some p → p.number ≡ n → p.live ≡ false → has_live v.entries n ≡ false
+    unlive-kept at n p there same dead = sym (live-known n) ∙ subst (λ (m : ℕ). live_place places m ≡ false) same ((places-one 0 places at p rise there).1 ∙ dead)
+
   module _ (a : Archive) (keeps : KeepsArchive v a) where
     pub rises : PlacesRise places
     rises = subst PlacesRise (sym (placed ∙ ap (message_places 0) keeps.kept)) (places-low 0 1 (message_places 0 (stored_after [] a.entries)) (omega arith) (places-rise [] a.entries 0 1 0 keeps.valid.order))
@@ -197,14 +208,6 @@ module _ (v : StoreState) (a : Archive) (keeps : KeepsArchive v a) (n i : ℕ) (
 pub text-kept : (v : StoreState) (k : Option Content) (n i : ℕ) (old new : List ℕ) (r : Result Unit TextRefusal) → IsMessageAt v.entries n i → ((s : StoredEntry) → slice_get v.entries i ≡ Some s → GivesText s old new r)
     → ((s : StoredEntry) → slice_get v.entries i ≡ Some s → WhereTold (FindsText v.root s old new r) k) → GivesTextKept v k n old new r
 text-kept v k n i old new r at given found = record { index = i; entry = at.entry; at = at.there; met = at.number_is; gives = given at.entry at.there; finds = found at.entry at.there }
-
--- Running out of memory leaves the bytes.
-nothing_found : (v : StoreState) (k : Option Content) (s : StoredEntry) (old new : List ℕ) → WhereTold (FindsText v.root s old new (Err NoMemory)) k
-nothing_found v None s old new = tt
-nothing_found v (Some k) s old new = tt
-
-pub wanting-kept : (v : StoreState) (k : Option Content) (n : ℕ) (old : List ℕ) → has_live v.entries n ≡ true → GivesTextKept v k n old old (Err NoMemory)
-wanting-kept v k n old has = let at = live-number v.entries n has in record { index = at.index; entry = at.entry; at = at.there; met = at.number_is; gives = refl; finds = nothing_found v k at.entry old old }
 
 -- If bytes with another id were found, the two ids differ.
 pub tells-other : (meets : StoredEntry → Type 0) (v : StoreState) (k : Option Content) (old new : List ℕ) (r : Result Unit TextRefusal) → GivesKept meets v k old new r → TellsOther r

@@ -5,9 +5,10 @@ use Rattle.std.proofs.Common.{◌∙◌, sym, ap, subst, inl, inr, arith}
 use Rattle.std.proofs.lemmas.Bool.{false≢true}
 use Rattle.arch_base.specs.Counts.{RoseIf}
 use Rattle.arch_base.specs.declared.ids.Id20.{Id20}
+use Rattle.disk_model.specs.declared.disk.Disk.{Ghosts as Disk}
 use Rattle.disk_model.specs.declared.name.FileName.{FileName}
-use Rattle.disk_model.specs.Disk.{Files, Content, Image, BothTold, WhereTold, Unchanged, ReadsFit, LeavesOnly}
-use Rattle.disk_model.specs.Moments.{started, joined, weaker}
+use Rattle.disk_model.specs.Disk.{Files, Content, Image, BothTold, WhereTold, Unchanged, ReadsFit}
+use Rattle.disk_model.specs.Moments.{LeavesOnly, started, joined, weaker}
 use Rattle.root_slots.specs.Between.{BetweenStays, RunsBetween, between_image}
 use Rattle.disk_model.specs.Synced.{IsSettled}
 use Rattle.arch_model.specs.Archives.{Archive, live}
@@ -34,7 +35,7 @@ use Rattle.store_finding.specs.Recovery.{RecoversWith, RecoversSomeWith}
 use Rattle.store_finding.specs.Kept.{StoreState, KeepsArchive, IsStoreWith}
 use Rattle.epoch_store.specs.Commands.{RecoversOneOf}
 use Rattle.archive_core.specs.Commands.{AnswersDelivery, AnswersEdit, AnswersPurge, AnswersRemoval, DoneBy, OnDone, OnRefusal, UnlessFault, IfUnread, IfUnreadEdit, IfUnreadFor, IfDelivery, IfRemoval, IsForCommand, IsGone, KeepsTextFor, OnlyLooks, cache_left, is_delivery}
-use Rattle.archive_core.specs.Engines.{Owning, needs_opening, RecoversOrBare, AllRecoverOrBare, BetweenSince, HoldsArchive, FilesAre, LeftWithCache, ViewsKeepUp, IfRefused, is_ready, Leaves, OnlyReadsOn, reading-same, store-left, holds-rest, now-left, unchanged-is, reading-kept}
+use Rattle.archive_core.specs.Engines.{Owning, needs_opening, RecoversOrBare, AllRecoverOrBare, BetweenSince, HoldsArchive, FilesAre, LeftWithCache, ViewsKeepUp, IfRefused, is_ready, Leaves, OnlyReadsOn, reading-same, store-left, holds-rest, now-left, unchanged-is, reading-kept, engine_of}
 use Rattle.archive_core.specs.Numbers.{GivesBlobKept, TellsOther}
 use Rattle.archive_core.specs.Openings.{LeavesKindly}
 use Rattle.archive_core.specs.Walks.{ViewsAfter}
@@ -189,69 +190,69 @@ ready-after was now Starves ready = λ at_hand. ready refl
 ready-after was now Fails ready = ready
 ready-after was now Breaks ready = ready
 
-module _ {D : Type 0} (content : D → Option Content) (moment : D → ℕ) (left_since : D → ℕ → Files → Type 0)
-    (counts_now : (disk : D) (t : ℕ) (image : Files) → t ≤ moment disk → Image (content disk) image → left_since disk t image)
-    (only_now : (disk : D) (image : Files) → left_since disk (moment disk) image → Image (content disk) image)
-    (reads_fit : (disk : D) → ReadsFit (content disk)) where
+module _ {D : Type 0} (g : Disk D)
+    (counts_now : (disk : D) (t : ℕ) (image : Files) → t ≤ g.moment disk → Image (g.content disk) image → g.left_since disk t image)
+    (only_now : (disk : D) (image : Files) → g.left_since disk (g.moment disk) image → Image (g.content disk) image)
+    (reads_fit : (disk : D) → ReadsFit (g.content disk)) where
   -- It stands so, and it moves so.
   abbrev pub Stands : Owning D → LastKnown → Type 0
-  Stands = MatchesKnown (HoldsArchive content) (FilesAre content) is_ready (Leaves content moment left_since)
+  Stands = MatchesKnown (engine_of g)
 
   abbrev pub Going : Owning D → LastKnown → Owning D → LastKnown → Type 0
-  Going = KeeperMoves (HoldsArchive content) (FilesAre content) is_ready (Leaves content moment left_since)
+  Going = KeeperMoves (engine_of g)
 
   -- The files of one that holds an archive are the archive's.
-  at-rest : (e : Owning D) (a : Archive) → HoldsArchive content e a → FilesAre content e a
-  at-rest = holds-rest content moment left_since counts_now only_now
+  at-rest : (e : Owning D) (a : Archive) → HoldsArchive g.content e a → FilesAre g.content e a
+  at-rest = holds-rest g counts_now only_now
 
   -- What a crash leaves after a run it leaves now.
-  left_after : (old new : D) (P : Files → Type 0) → LeavesOnly moment left_since old new P → (image : Files) → left_since new (moment new) image → P image
-  left_after old new P run image left = run.each image (counts_now new (moment old) image run.later (only_now new image left))
+  left_after : (old new : D) (P : Files → Type 0) → LeavesOnly g old new P → (image : Files) → g.left_since new (g.moment new) image → P image
+  left_after old new P run image left = run.each image (counts_now new (g.moment old) image run.later (only_now new image left))
 
   -- Each crash of an archive that stands so leaves one of the archives that are there.
-  fits_all : (e : Owning D) (s : LastKnown) → Stands e s → (cache : List ℕ) × AllRecoverOrBare cache (one_of s) (content e.disk)
+  fits_all : (e : Owning D) (s : LastKnown) → Stands e s → (cache : List ℕ) × AllRecoverOrBare cache (one_of s) (g.content e.disk)
   fits_all e s fits =
       let left = fits.left (one_of s) (has-own s) in
-      (left.1.0, all_or_bare s left.1.0 (content e.disk) (λ image now. left.1.1 image (counts_now e.disk (moment e.disk) image (omega arith) now)))
+      (left.1.0, all_or_bare s left.1.0 (g.content e.disk) (λ image now. left.1.1 image (counts_now e.disk (g.moment e.disk) image (omega arith) now)))
 
   -- The archive as which the disk of one reads.
-  found_in : (e : Owning D) (s : LastKnown) → Stands e s → (b : Archive) × (c : List ℕ) × IsFound s b × ReadsWith c b (content e.disk)
-  found_in e s fits = let all = fits_all e s fits in reads_bare s all.0 (content e.disk) (reads_fit e.disk) all.1
+  found_in : (e : Owning D) (s : LastKnown) → Stands e s → (b : Archive) × (c : List ℕ) × IsFound s b × ReadsWith c b (g.content e.disk)
+  found_in e s fits = let all = fits_all e s fits in reads_bare s all.0 (g.content e.disk) (reads_fit e.disk) all.1
 
   -- What reopening leaves at each moment.
   abbrev pub Reopening : Owning D → D → Type 0
-  Reopening e disk = SyncsAtMost content moment left_since e.disk disk × RunsBetween content moment left_since e.disk disk
+  Reopening e disk = SyncsAtMost g e.disk disk × RunsBetween g e.disk disk
 
   -- The bytes between gates and bodies that a crash of a state might have left, one of an earlier state might have left.
-  crash_between-earlier : (start e : Owning D) → moment start.disk ≤ moment e.disk → BetweenSince content moment left_since start.disk e.disk → (image : Files) → BetweenStays (content e.disk) image → BetweenStays (content start.disk) image
-  crash_between-earlier start e later since = crash_between-over (content start.disk) (content e.disk) (reads_fit e.disk) (λ image now. since image (counts_now e.disk (moment start.disk) image later now))
+  crash_between-earlier : (start e : Owning D) → g.moment start.disk ≤ g.moment e.disk → BetweenSince g start.disk e.disk → (image : Files) → BetweenStays (g.content e.disk) image → BetweenStays (g.content start.disk) image
+  crash_between-earlier start e later since = crash_between-over (g.content start.disk) (g.content e.disk) (reads_fit e.disk) (λ image now. since image (counts_now e.disk (g.moment start.disk) image later now))
 
   -- They stay in a run that keeps them.
-  crash_between-on : (start e : Owning D) (disk : D) → moment start.disk ≤ moment e.disk → BetweenSince content moment left_since start.disk e.disk → RunsBetween content moment left_since e.disk disk → BetweenSince content moment left_since start.disk disk
-  crash_between-on start e disk later since run image left = elim (run.before (moment start.disk) image later left) [
+  crash_between-on : (start e : Owning D) (disk : D) → g.moment start.disk ≤ g.moment e.disk → BetweenSince g start.disk e.disk → RunsBetween g e.disk disk → BetweenSince g start.disk disk
+  crash_between-on start e disk later since run image left = elim (run.before (g.moment start.disk) image later left) [
     | inl past
         ↦ since image past
     | inr stays ↦ crash_between-earlier start e later since image stays
   ]
 
   -- That is what it might have left before, or the archive as which the disk reads.
-  reopened : (e : Owning D) (disk : D) (b : Archive) (cache : List ℕ) → ReadsWith cache b (content e.disk) → SyncsAtMost content moment left_since e.disk disk → LeavesOnly moment left_since e.disk disk (λ (image : Files). Image (content e.disk) image ⊎ RecoversWith cache image b)
-  reopened e disk b cache reads (inl only) = weaker moment left_since e.disk disk (Image (content e.disk)) (λ (image : Files). Image (content e.disk) image ⊎ RecoversWith cache image b) only (λ image now. inl now)
+  reopened : (e : Owning D) (disk : D) (b : Archive) (cache : List ℕ) → ReadsWith cache b (g.content e.disk) → SyncsAtMost g e.disk disk → LeavesOnly g e.disk disk (λ (image : Files). Image (g.content e.disk) image ⊎ RecoversWith cache image b)
+  reopened e disk b cache reads (inl only) = weaker g e.disk disk (Image (g.content e.disk)) (λ (image : Files). Image (g.content e.disk) image ⊎ RecoversWith cache image b) only (λ image now. inl now)
   reopened e disk b cache reads (inr first) =
-      joined moment left_since e.disk first.synced disk (Image (content e.disk)) (λ (image : Files). RecoversWith cache image b) (λ (image : Files). Image (content e.disk) image ⊎ RecoversWith cache image b) first.before (first.after b cache reads)
+      joined g e.disk first.synced disk (Image (g.content e.disk)) (λ (image : Files). RecoversWith cache image b) (λ (image : Files). Image (g.content e.disk) image ⊎ RecoversWith cache image b) first.before (first.after b cache reads)
       (λ image now. inl now) (λ image stands. inr stands)
 
   -- It leaves nothing that could not have been left before.
-  pub reopening-from : RecoversSomeOne → (e new : Owning D) → Reopening e new.disk → (b : Archive) (own : List ℕ) → ReadsWith own b (content e.disk) → (start : Owning D) (may : List (Option Archive)) → Leaves content moment left_since start e may → Leaves content moment left_since start new may
+  pub reopening-from : RecoversSomeOne → (e new : Owning D) → Reopening e new.disk → (b : Archive) (own : List ℕ) → ReadsWith own b (g.content e.disk) → (start : Owning D) (may : List (Option Archive)) → Leaves g start e may → Leaves g start new may
   reopening-from one e new run b own reads start may left =
       let first = reopened e new.disk b own reads run.0 in (
         omega (arith, left.0, first.later),
         left.1,
         λ c all.
-            let before : (image : Files) → Image (content e.disk) image → RecoversOrBare c may image = λ image now. left.2 c all image (counts_now e.disk (moment start.disk) image left.0 now) in
-            let there = read_in one (content e.disk) b own c may (reads_fit e.disk) reads before in
+            let before : (image : Files) → Image (g.content e.disk) image → RecoversOrBare c may image = λ image now. left.2 c all image (counts_now e.disk (g.moment start.disk) image left.0 now) in
+            let there = read_in one (g.content e.disk) b own c may (reads_fit e.disk) reads before in
             let ran = reopened e new.disk b there.0 there.1 run.0 in
-            λ image since. elim (ran.before (moment start.disk) image left.0 since) [
+            λ image since. elim (ran.before (g.moment start.disk) image left.0 since) [
               | inl past
                   ↦ left.2 c all image past
               | inr either ↦
@@ -264,18 +265,18 @@ module _ {D : Type 0} (content : D → Option Content) (moment : D → ℕ) (lef
         λ ready. crash_between-on start e new.disk left.0 (left.3 ready) run.1,
       )
 
-  pub reopening-passes : RecoversSomeOne → (e new : Owning D) → Reopening e new.disk → (s : LastKnown) → Stands e s → CrashesLeaveOnly (Leaves content moment left_since) e new []
+  pub reopening-passes : RecoversSomeOne → (e new : Owning D) → Reopening e new.disk → (s : LastKnown) → Stands e s → CrashesLeaveOnly (Leaves g) e new []
   reopening-passes one e new run s fits = λ start may has left. let found = found_in e s fits in reopening-from one e new run found.0 found.1 found.3 start may left
 
   -- A reopening found the archive or the one in doubt.
-  pub opened-at : RecoversSomeOne → (e new : Owning D) → Reopening e new.disk → ((a : Archive) (cache : List ℕ) → ReadsWith cache a (content e.disk) → IsStoreWith new.view cache a (content new.disk) × (new.views ≡ views_of (live a.entries))) → WhereTold IsSettled (content new.disk) → (s : LastKnown) → Stands e s → (t : LastKnown) × Going e s new t × Settles s t
+  pub opened-at : RecoversSomeOne → (e new : Owning D) → Reopening e new.disk → ((a : Archive) (cache : List ℕ) → ReadsWith cache a (g.content e.disk) → IsStoreWith new.view cache a (g.content new.disk) × (new.views ≡ views_of (live a.entries))) → WhereTold IsSettled (g.content new.disk) → (s : LastKnown) → Stands e s → (t : LastKnown) × Going e s new t × Settles s t
   opened-at one e new run opened still s fits =
       let found = found_in e s fits in
       let both = opened found.0 found.1 found.3 in
-      let store : HoldsArchive content new found.0 = (found.1, both.0, both.1, still) in (
+      let store : HoldsArchive g.content new found.0 = (found.1, both.0, both.1, still) in (
         standing found.0 None,
         record {
-          fits = record { settled = λ ready. (store, refl); exact = λ none. at-rest new found.0 store; left = λ may has. store-left content moment left_since counts_now only_now new found.0 may (store.0, store.1) has.archive };
+          fits = record { settled = λ ready. (store, refl); exact = λ none. at-rest new found.0 store; left = λ may has. store-left g counts_now only_now new found.0 may (store.0, store.1) has.archive };
           passes = λ start may has left. reopening-passes one e new run s fits start may tt left;
         },
         record { found = found.2; sure = refl },
@@ -283,18 +284,18 @@ module _ {D : Type 0} (content : D → Option Content) (moment : D → ℕ) (lef
 
   -- A reopening was refused, and all stands as before, but that after a fault of the disk the archive is
   -- in doubt.
-  pub unopened-at : RecoversSomeOne → (e new : Owning D) (why : OpenRefusal) → Reopening e new.disk → ((a : Archive) (cache : List ℕ) → ReadsWith cache a (content e.disk) → IsWant why) → LeavesKindly why (content e.disk) (content new.disk) → is_ready new ≡ false → (s : LastKnown) → Stands e s
+  pub unopened-at : RecoversSomeOne → (e new : Owning D) (why : OpenRefusal) → Reopening e new.disk → ((a : Archive) (cache : List ℕ) → ReadsWith cache a (g.content e.disk) → IsWant why) → LeavesKindly why (g.content e.disk) (g.content new.disk) → is_ready new ≡ false → (s : LastKnown) → Stands e s
       → (t : LastKnown) × Going e s new t × ReopeningRefused s why t
   unopened-at one e new why run well kindly unready s fits = let found = found_in e s fits in of_why why (well found.0 found.1 found.3) kindly
     where
-      stays : (t : LastKnown) → (t.in_doubt ≡ None → FilesAre content new t.archive) → ((may : List (Option Archive)) → Has may t → Has may s) → Going e s new t
-      stays t rested within = moves-stale (HoldsArchive content) (FilesAre content) is_ready (Leaves content moment left_since) (now-left content moment left_since counts_now only_now) e s new t fits unready rested within (λ start may has left. reopening-passes one e new run s fits start may tt left)
+      stays : (t : LastKnown) → (t.in_doubt ≡ None → FilesAre g.content new t.archive) → ((may : List (Option Archive)) → Has may t → Has may s) → Going e s new t
+      stays t rested within = moves-stale (engine_of g) (now-left g counts_now only_now) e s new t fits unready rested within (λ start may has left. reopening-passes one e new run s fits start may tt left)
 
-      of_why : (w : OpenRefusal) → IsWant w → LeavesKindly w (content e.disk) (content new.disk) → (t : LastKnown) × Going e s new t × ReopeningRefused s w t
+      of_why : (w : OpenRefusal) → IsWant w → LeavesKindly w (g.content e.disk) (g.content new.disk) → (t : LastKnown) × Going e s new t × ReopeningRefused s w t
       of_why refusal.NoArchive want left = absurd want
       of_why (refusal.Damaged file at) want left = absurd want
       of_why refusal.DiskFault want left = (unsure s, stays (unsure s) (λ none. absurd (unsure-doubts s none)) (λ may has. has-unsure-of may s has), refl)
-      of_why refusal.NoMemory want left = (s, stays s (λ none. kindly_rests s.archive (content e.disk) (content new.disk) (reads_fit e.disk) left (fits.exact none)) (λ may has. has), refl)
+      of_why refusal.NoMemory want left = (s, stays s (λ none. kindly_rests s.archive (g.content e.disk) (g.content new.disk) (reads_fit e.disk) left (fits.exact none)) (λ may has. has), refl)
 
   -- Nothing was reopened, since it was ready.
   pub ready-at : (e : Owning D) (s : LastKnown) → is_ready e ≡ true → Stands e s → (t : LastKnown) × Going e s e t × Settles s t
@@ -302,25 +303,25 @@ module _ {D : Type 0} (content : D → Option Content) (moment : D → ℕ) (lef
       let both = fits.settled ready in (
         standing s.archive None,
         record {
-          fits = record { settled = λ at_hand. (both.0, refl); exact = λ none. at-rest e s.archive both.0; left = λ may has. store-left content moment left_since counts_now only_now e s.archive may (both.0.0, both.0.1) has.archive };
+          fits = record { settled = λ at_hand. (both.0, refl); exact = λ none. at-rest e s.archive both.0; left = λ may has. store-left g counts_now only_now e s.archive may (both.0.0, both.0.1) has.archive };
           passes = λ start may has left. left;
         },
         record { found = inl refl; sure = refl },
       )
 
   -- A command on the archive that is held.
-  module _ (caches : CachesOne) (e new : Owning D) (a : Archive) (cache left_cache : List ℕ) (kept : (left_cache ≡ cache) ⊎ (left_cache ≡ [])) (store : IsStoreWith e.view cache a (content e.disk)) (settled : WhereTold IsSettled (content e.disk)) (wanted : Archive → Done) (run : LeavesOnly moment left_since e.disk new.disk (RecoversOneOf cache a left_cache (wanted a).archive))
-      (crash_beside : RunsBetween content moment left_since e.disk new.disk) where
+  module _ (caches : CachesOne) (e new : Owning D) (a : Archive) (cache left_cache : List ℕ) (kept : (left_cache ≡ cache) ⊎ (left_cache ≡ [])) (store : IsStoreWith e.view cache a (g.content e.disk)) (settled : WhereTold IsSettled (g.content e.disk)) (wanted : Archive → Done) (run : LeavesOnly g e.disk new.disk (RecoversOneOf cache a left_cache (wanted a).archive))
+      (crash_beside : RunsBetween g e.disk new.disk) where
     -- The cache of what a crash before may have left is the same, or there is none.
-    one-cache : (start : Owning D) (may : List (Option Archive)) (c : List ℕ) → Leaves content moment left_since start e may → LeftWithCache left_since start.disk (moment start.disk) c may → (cache ≡ c) ⊎ (cache ≡ [])
-    one-cache start may c left all = cache_is caches e.view cache a (content e.disk) (reads_fit e.disk) store c may (λ image now. left.2 c all image (counts_now e.disk (moment start.disk) image left.0 now))
+    one-cache : (start : Owning D) (may : List (Option Archive)) (c : List ℕ) → Leaves g start e may → LeftWithCache g.left_since start.disk (g.moment start.disk) c may → (cache ≡ c) ⊎ (cache ≡ [])
+    one-cache start may c left all = cache_is caches e.view cache a (g.content e.disk) (reads_fit e.disk) store c may (λ image now. left.2 c all image (counts_now e.disk (g.moment start.disk) image left.0 now))
 
     -- What a crash in it leaves.
-    taken-passes : (start : Owning D) (may : List (Option Archive)) → Contains may (Some a) → Contains may (Some (wanted a).archive) → Leaves content moment left_since start e may → Leaves content moment left_since start new may
+    taken-passes : (start : Owning D) (may : List (Option Archive)) → Contains may (Some a) → Contains may (Some (wanted a).archive) → Leaves g start e may → Leaves g start new may
     taken-passes start may has_a has_b left = (
       omega (arith, left.0, run.later),
       left.1,
-      λ c all image since. elim (run.before (moment start.disk) image left.0 since) [
+      λ c all image since. elim (run.before (g.moment start.disk) image left.0 since) [
         | inl past
             ↦ left.2 c all image past
         | inr either ↦ either_of cache left_cache c may a (wanted a).archive image (one-cache start may c left all) kept has_a has_b either
@@ -329,27 +330,27 @@ module _ {D : Type 0} (content : D → Option Content) (moment : D → ℕ) (lef
     )
 
     -- After nothing but reads all that they give is still on the disk.
-    still-settled : OnlyLooks content moment left_since e.disk new.disk → WhereTold IsSettled (content new.disk)
-    still-settled looks = subst (λ (k : Option Content). WhereTold IsSettled k) (sym (unchanged-is (content e.disk) (content new.disk) looks.same)) settled
+    still-settled : OnlyLooks g e.disk new.disk → WhereTold IsSettled (g.content new.disk)
+    still-settled looks = subst (λ (k : Option Content). WhereTold IsSettled k) (sym (unchanged-is (g.content e.disk) (g.content new.disk) looks.same)) settled
 
     -- It was carried out, or refused.
-    taken-done : (now : List ℕ) → IsStoreWith new.view now (wanted a).archive (content new.disk) → (is_ready new ≡ true → new.views ≡ views_of (live (wanted a).archive.entries)) → WhereTold IsSettled (content new.disk) → Going e (standing a None) new (standing (wanted a).archive None)
+    taken-done : (now : List ℕ) → IsStoreWith new.view now (wanted a).archive (g.content new.disk) → (is_ready new ≡ true → new.views ≡ views_of (live (wanted a).archive.entries)) → WhereTold IsSettled (g.content new.disk) → Going e (standing a None) new (standing (wanted a).archive None)
     taken-done now own rows still = record {
-      fits = record { settled = λ ready. ((now, own, rows ready, still), refl); exact = λ none. (new.view, now, own, still); left = λ may has. store-left content moment left_since counts_now only_now new (wanted a).archive may (now, own) has.archive };
+      fits = record { settled = λ ready. ((now, own, rows ready, still), refl); exact = λ none. (new.view, now, own, still); left = λ may has. store-left g counts_now only_now new (wanted a).archive may (now, own) has.archive };
       passes = λ start may has left. taken-passes start may has.0.archive has.1.0.archive left;
     }
 
     -- Memory ran out before anything was done.
-    taken-none : OnlyLooks content moment left_since e.disk new.disk → IsStoreWith new.view cache a (content new.disk) → new.views ≡ views_of (live a.entries) → Going e (standing a None) new (standing a None)
+    taken-none : OnlyLooks g e.disk new.disk → IsStoreWith new.view cache a (g.content new.disk) → new.views ≡ views_of (live a.entries) → Going e (standing a None) new (standing a None)
     taken-none looks own rows = record {
-      fits = record { settled = λ ready. ((cache, own, rows, still-settled looks), refl); exact = λ none. (new.view, cache, own, still-settled looks); left = λ may has. store-left content moment left_since counts_now only_now new a may (cache, own) has.archive };
+      fits = record { settled = λ ready. ((cache, own, rows, still-settled looks), refl); exact = λ none. (new.view, cache, own, still-settled looks); left = λ may has. store-left g counts_now only_now new a may (cache, own) has.archive };
       passes = λ start may has left. (
         omega (arith, left.0, looks.crash.later),
         left.1,
-        λ c all image since. elim (looks.crash.before (moment start.disk) image left.0 since) [
+        λ c all image since. elim (looks.crash.before (g.moment start.disk) image left.0 since) [
           | inl past
               ↦ left.2 c all image past
-          | inr now ↦ left.2 c all image (counts_now e.disk (moment start.disk) image left.0 now)
+          | inr now ↦ left.2 c all image (counts_now e.disk (g.moment start.disk) image left.0 now)
         ],
         λ ready. crash_between-on start e new.disk left.0 (left.3 ready) crash_beside,
       );
@@ -365,14 +366,14 @@ module _ {D : Type 0} (content : D → Option Content) (moment : D → ℕ) (lef
           omega arith,
           (cache, λ image left. either_of cache left_cache cache may a (wanted a).archive image (inl refl) kept has.archive has.in_doubt (left_after e.disk new.disk (RecoversOneOf cache a left_cache (wanted a).archive) run image left)),
           λ c all. all,
-          λ ready image left. between_image (content new.disk) image (only_now new.disk image left),
+          λ ready image left. between_image (g.content new.disk) image (only_now new.disk image left),
         );
       };
       passes = λ start may has left. taken-passes start may has.1.0.archive has.1.0.in_doubt left;
     }
 
-    pub taken-at : (reply : Answer) → (needs_opening reply ≡ true → new.stale ≡ true) → DoneBy new.view cache left_cache a (wanted a) reply (content new.disk) → ViewsKeepUp reply (is_ready new) new.views a (wanted a).archive
-        → OnRefusal reply (UnlessFault reply (OnlyLooks content moment left_since e.disk new.disk)) → OnDone reply (WhereTold IsSettled (content new.disk)) → (t : LastKnown) × Going e (standing a None) new t × CommandGives true (standing a None) wanted reply t
+    pub taken-at : (reply : Answer) → (needs_opening reply ≡ true → new.stale ≡ true) → DoneBy new.view cache left_cache a (wanted a) reply (g.content new.disk) → ViewsKeepUp reply (is_ready new) new.views a (wanted a).archive
+        → OnRefusal reply (UnlessFault reply (OnlyLooks g e.disk new.disk)) → OnDone reply (WhereTold IsSettled (g.content new.disk)) → (t : LastKnown) × Going e (standing a None) new t × CommandGives true (standing a None) wanted reply t
     taken-at answer.NoMemory stale done rows untouched still = (standing a None, taken-none untouched done rows, inr (record { found = inl refl; sure = refl }))
     taken-at answer.DiskFault stale done rows untouched still = (standing a (Some (wanted a).archive), taken-failed (ap not (stale refl)), inr (record { found = a; is_found = inl refl; stands = refl }))
     taken-at (answer.Ok number id) stale done rows untouched still =
@@ -396,10 +397,10 @@ module _ {D : Type 0} (content : D → Option Content) (moment : D → ℕ) (lef
     taken-at (answer.Damaged file at) stale never rows untouched still = absurd never
 
   -- A removal or a purge that was done leaves the archive after it held.
-  removed_by : (e new : Owning D) (a : Archive) (command : Command) (arrived : ℕ) (text : List ℕ) (lost : Option ℕ) (left_cache : List ℕ) (reply : Answer) → (held : HoldsArchive content e a) → DoneBy new.view held.0 left_cache a (applied a command arrived) reply (content new.disk)
-      → IfDelivery (is_delivery command) (KeepsTextFor command a (applied a command arrived) arrived text) → OnDone reply (IsGone a command lost) → ViewsAfter command lost reply text arrived e.views new.views → OnDone reply (WhereTold IsSettled (content new.disk)) → OnDone reply (HoldsArchive content new (applied a command arrived).archive)
+  removed_by : (e new : Owning D) (a : Archive) (command : Command) (arrived : ℕ) (text : List ℕ) (lost : Option ℕ) (left_cache : List ℕ) (reply : Answer) → (held : HoldsArchive g.content e a) → DoneBy new.view held.0 left_cache a (applied a command arrived) reply (g.content new.disk)
+      → IfDelivery (is_delivery command) (KeepsTextFor command a (applied a command arrived) arrived text) → OnDone reply (IsGone a command lost) → ViewsAfter command lost reply text arrived e.views new.views → OnDone reply (WhereTold IsSettled (g.content new.disk)) → OnDone reply (HoldsArchive g.content new (applied a command arrived).archive)
   removed_by e new a command arrived text lost left_cache (answer.Ok number id) held done kept taken rows still =
-      (left_cache, done.store, done-views a command arrived number id text lost e.views new.views (store_keeps e.view held.0 a (content e.disk) held.1).valid done.answer_is kept taken held.2 rows, still)
+      (left_cache, done.store, done-views a command arrived number id text lost e.views new.views (store_keeps e.view held.0 a (g.content e.disk) held.1).valid done.answer_is kept taken held.2 rows, still)
   removed_by e new a command arrived text lost left_cache answer.NoMemory held done kept taken rows still = tt
   removed_by e new a command arrived text lost left_cache (answer.Duplicate number) held done kept taken rows still = tt
   removed_by e new a command arrived text lost left_cache answer.NoFields held done kept taken rows still = tt
@@ -412,9 +413,9 @@ module _ {D : Type 0} (content : D → Option Content) (moment : D → ℕ) (lef
   removed_by e new a command arrived text lost left_cache answer.DiskFault held done kept taken rows still = tt
   removed_by e new a command arrived text lost left_cache (answer.Damaged file at) held done kept taken rows still = tt
 
-  pub removed-at : (e new : Owning D) (command : Command) (arrived : ℕ) (text : List ℕ) (lost : Option ℕ) (reply : Answer) → ((a : Archive) (cache : List ℕ) → IsStoreWith e.view cache a (content e.disk) → DoneBy new.view cache (cache_left command cache) a (applied a command arrived) reply (content new.disk))
-      → ((a : Archive) (cache : List ℕ) → IsStoreWith e.view cache a (content e.disk) → OnDone reply (IsGone a command lost))
-      → IfRemoval (is_delivery command) (ViewsAfter command lost reply text arrived e.views new.views) → OnDone reply (WhereTold IsSettled (content new.disk)) → IfRemoval (is_delivery command) ((a : Archive) → HoldsArchive content e a → OnDone reply (HoldsArchive content new (applied a command arrived).archive))
+  pub removed-at : (e new : Owning D) (command : Command) (arrived : ℕ) (text : List ℕ) (lost : Option ℕ) (reply : Answer) → ((a : Archive) (cache : List ℕ) → IsStoreWith e.view cache a (g.content e.disk) → DoneBy new.view cache (cache_left command cache) a (applied a command arrived) reply (g.content new.disk))
+      → ((a : Archive) (cache : List ℕ) → IsStoreWith e.view cache a (g.content e.disk) → OnDone reply (IsGone a command lost))
+      → IfRemoval (is_delivery command) (ViewsAfter command lost reply text arrived e.views new.views) → OnDone reply (WhereTold IsSettled (g.content new.disk)) → IfRemoval (is_delivery command) ((a : Archive) → HoldsArchive g.content e a → OnDone reply (HoldsArchive g.content new (applied a command arrived).archive))
   removed-at e new (Deliver bytes) arrived text lost reply done taken rows still = tt
   removed-at e new (Remove n) arrived text lost reply done taken rows still = λ a held. removed_by e new a (Remove n) arrived text lost held.0 reply held (done a held.0 held.1) tt (taken a held.0 held.1) rows still
   removed-at e new (Purge n) arrived text lost reply done taken rows still = λ a held. removed_by e new a (Purge n) arrived text lost [] reply held (done a held.0 held.1) tt (taken a held.0 held.1) rows still
@@ -422,14 +423,14 @@ module _ {D : Type 0} (content : D → Option Content) (moment : D → ℕ) (lef
 
   -- A refusal leaves all but the disk as it was, and the disk was only read.
   module _ (e new : Owning D) (ok : Bool) (command : Command) (gone : Option ℕ) (text : List ℕ) (arrived : ℕ) where
-    only-reads : new.view ≡ e.view → new.views ≡ e.views → new.stale ≡ e.stale → OnlyLooks content moment left_since e.disk new.disk → OnlyReadsOn content moment left_since e new
+    only-reads : new.view ≡ e.view → new.views ≡ e.views → new.stale ≡ e.stale → OnlyLooks g e.disk new.disk → OnlyReadsOn g e new
     only-reads view views stale looks = record { view_is = view; views_are = views; stale_is = stale; files = looks.same; run = looks.crash }
 
     same-owning : new.disk ≡ e.disk → new.view ≡ e.view → new.views ≡ e.views → new.stale ≡ e.stale → new ≡ e
     same-owning disk view views stale = λ i. record { disk = disk i; view = view i; views = views i; stale = stale i }
 
     pub refused-at : (reply : Answer) → e.stale ≡ false → new.stale ≡ (needs_opening reply || not ok) → OnRefusal reply (ok ≡ true) → OnRefusal reply (new.view ≡ e.view) → (ok ≡ true → ViewsAfter command gone reply text arrived e.views new.views)
-        → OnRefusal reply (UnlessFault reply (OnlyLooks content moment left_since e.disk new.disk)) → IfRefused reply (OnlyReadsOn content moment left_since e new)
+        → OnRefusal reply (UnlessFault reply (OnlyLooks g e.disk new.disk)) → IfRefused reply (OnlyReadsOn g e new)
     refused-at (answer.Ok n id) ready stale followed view rows looks = tt
     refused-at answer.DiskFault ready stale followed view rows looks = tt
     refused-at (answer.Damaged file at) ready stale followed view rows looks = tt
@@ -450,11 +451,11 @@ module _ {D : Type 0} (content : D → Option Content) (moment : D → ℕ) (lef
     unmoved-at reply ready stale followed view rows disk = unread-for command reply (new.disk ≡ e.disk) (new ≡ e) (unmoved reply ready stale followed view rows) disk
 
   -- Memory ran out, and nothing was done on the archive that is held.
-  pub starved-at : (e : Owning D) (a : Archive) (wanted : Archive → Done) → HoldsArchive content e a → (t : LastKnown) × Going e (standing a None) e t × CommandGives true (standing a None) wanted answer.NoMemory t
+  pub starved-at : (e : Owning D) (a : Archive) (wanted : Archive → Done) → HoldsArchive g.content e a → (t : LastKnown) × Going e (standing a None) e t × CommandGives true (standing a None) wanted answer.NoMemory t
   starved-at e a wanted store = (
     standing a None,
     record {
-      fits = record { settled = λ ready. (store, refl); exact = λ none. at-rest e a store; left = λ may has. store-left content moment left_since counts_now only_now e a may (store.0, store.1) has.archive };
+      fits = record { settled = λ ready. (store, refl); exact = λ none. at-rest e a store; left = λ may has. store-left g counts_now only_now e a may (store.0, store.1) has.archive };
       passes = λ start may has left. left;
     },
     inr (record { found = inl refl; sure = refl }),
@@ -462,35 +463,35 @@ module _ {D : Type 0} (content : D → Option Content) (moment : D → ℕ) (lef
 
   -- A command on what a reopening found.
   pub commanded-after : (was_ready : Bool) (old mid new : Owning D) (s t : LastKnown) (wanted : Archive → Done) (reply : Answer) → Going old s mid t → Settles s t → is_ready mid ≡ true
-      → ((a : Archive) → HoldsArchive content mid a → (u : LastKnown) × Going mid (standing a None) new u × CommandGives true (standing a None) wanted reply u) → (u : LastKnown) × Going old s new u × CommandGives was_ready s wanted reply u
+      → ((a : Archive) → HoldsArchive g.content mid a → (u : LastKnown) × Going mid (standing a None) new u × CommandGives true (standing a None) wanted reply u) → (u : LastKnown) × Going old s new u × CommandGives was_ready s wanted reply u
   commanded-after was_ready old mid new s t wanted reply opened settles ready taken =
       let both = opened.fits.settled ready in
       let same : t ≡ standing t.archive None = ap (λ (d : Option Archive). standing t.archive d) both.1 in
       let done = taken t.archive both.0 in (
         done.0,
-        moves-on (HoldsArchive content) (FilesAre content) is_ready (Leaves content moment left_since) old mid new s t done.0 opened settles (subst (λ (x : LastKnown). Going mid x new done.0) (sym same) done.1),
+        moves-on (engine_of g) old mid new s t done.0 opened settles (subst (λ (x : LastKnown). Going mid x new done.0) (sym same) done.1),
         comes-by was_ready s t wanted reply done.0 (ending reply) settles done.2,
       )
 
   -- A call that only reads.
-  pub stays-at : (faults : D → ℕ) (e : Owning D) (disk : D) → is_ready e ≡ true → BothTold Unchanged (content e.disk) (content disk) → LeavesOnly moment left_since e.disk disk (Image (content e.disk)) → faults e.disk ≤ faults disk
-      → ShelfStays (HoldsArchive content) is_ready (OnlyReadsOn content moment left_since) (λ (o : Owning D). faults o.disk) e (record { disk = disk; view = e.view; views = e.views; stale = e.stale })
+  pub stays-at : (faults : D → ℕ) (e : Owning D) (disk : D) → is_ready e ≡ true → BothTold Unchanged (g.content e.disk) (g.content disk) → LeavesOnly g e.disk disk (Image (g.content e.disk)) → faults e.disk ≤ faults disk
+      → ShelfStays (HoldsArchive g.content) is_ready (OnlyReadsOn g) (λ (o : Owning D). faults o.disk) e (record { disk = disk; view = e.view; views = e.views; stale = e.stale })
   stays-at faults e disk ready files run later =
-      let read : OnlyReadsOn content moment left_since e (record { disk = disk; view = e.view; views = e.views; stale = e.stale }) = record { view_is = refl; views_are = refl; stale_is = refl; files = files; run = run } in
+      let read : OnlyReadsOn g e (record { disk = disk; view = e.view; views = e.views; stale = e.stale }) = record { view_is = refl; views_are = refl; stale_is = refl; files = files; run = run } in
       record {
         same = read;
-        kept = (reading-kept content moment left_since counts_now only_now e (record { disk = disk; view = e.view; views = e.views; stale = e.stale }) read).held;
+        kept = (reading-kept g counts_now only_now e (record { disk = disk; view = e.view; views = e.views; stale = e.stale }) read).held;
         at_hand = ready;
         later = later;
       }
 
   -- A call that does nothing.
-  pub stays-still : (faults : D → ℕ) (e : Owning D) → is_ready e ≡ true → ShelfStays (HoldsArchive content) is_ready (OnlyReadsOn content moment left_since) (λ (o : Owning D). faults o.disk) e e
-  stays-still faults e ready = record { same = reading-same content moment left_since counts_now only_now e; kept = λ a store. store; at_hand = ready; later = omega arith }
+  pub stays-still : (faults : D → ℕ) (e : Owning D) → is_ready e ≡ true → ShelfStays (HoldsArchive g.content) is_ready (OnlyReadsOn g) (λ (o : Owning D). faults o.disk) e e
+  stays-still faults e ready = record { same = reading-same g counts_now only_now e; kept = λ a store. store; at_hand = ready; later = omega arith }
 
   -- Nothing is done, and a crash leaves the archive that is held.
-  pub still-left : (e : Owning D) (a b : Archive) (cache left_cache : List ℕ) → IsStoreWith e.view cache a (content e.disk) → LeavesOnly moment left_since e.disk e.disk (RecoversOneOf cache a left_cache b)
-  still-left e a b cache left_cache store = started moment left_since e.disk (RecoversOneOf cache a left_cache b) (λ image left. inl (stands_for e.view cache a (content e.disk) image store (only_now e.disk image left)))
+  pub still-left : (e : Owning D) (a b : Archive) (cache left_cache : List ℕ) → IsStoreWith e.view cache a (g.content e.disk) → LeavesOnly g e.disk e.disk (RecoversOneOf cache a left_cache b)
+  still-left e a b cache left_cache store = started g e.disk (RecoversOneOf cache a left_cache b) (λ image left. inl (stands_for e.view cache a (g.content e.disk) image store (only_now e.disk image left)))
 
   -- Here `inside` is the value by its parts.
   module _ (inside old : Owning D) (is : inside ≡ old) where
@@ -500,34 +501,34 @@ module _ {D : Type 0} (content : D → Option Content) (moment : D → ℕ) (lef
     pub still-stale : inside.stale ≡ true → is_ready old ≡ true → ⊥
     still-stale stale ready = let now : not true ≡ true = sym (ap not stale) ∙ ap (λ (o : Owning D). is_ready o) is ∙ ready in false≢true now
 
-    pub held-inside : (a : Archive) → HoldsArchive content old a → HoldsArchive content inside a
-    held-inside a = subst (λ (o : Owning D). HoldsArchive content o a) (sym is)
+    pub held-inside : (a : Archive) → HoldsArchive g.content old a → HoldsArchive g.content inside a
+    held-inside a = subst (λ (o : Owning D). HoldsArchive g.content o a) (sym is)
 
     -- The views are those of the live messages.
-    pub views-inside : (a : Archive) → HoldsArchive content old a → inside.views ≡ views_of (live a.entries)
+    pub views-inside : (a : Archive) → HoldsArchive g.content old a → inside.views ≡ views_of (live a.entries)
     views-inside a held = let own = held-inside a held in own.2
 
-    pub kept-inside : (a : Archive) → HoldsArchive content old a → KeepsArchive inside.view a
-    kept-inside a held = let own = held-inside a held in store_keeps inside.view own.0 a (content inside.disk) own.1
+    pub kept-inside : (a : Archive) → HoldsArchive g.content old a → KeepsArchive inside.view a
+    kept-inside a held = let own = held-inside a held in store_keeps inside.view own.0 a (g.content inside.disk) own.1
 
-    pub left-from : (disk : D) (wanted : Archive → Archive) (left : List ℕ → List ℕ) → ((a : Archive) (cache : List ℕ) → IsStoreWith inside.view cache a (content inside.disk) → LeavesOnly moment left_since inside.disk disk (RecoversOneOf cache a (left cache) (wanted a)))
-        → (a : Archive) (cache : List ℕ) → IsStoreWith old.view cache a (content old.disk) → LeavesOnly moment left_since old.disk disk (RecoversOneOf cache a (left cache) (wanted a))
-    left-from disk wanted left run = subst (λ (o : Owning D). (a : Archive) (cache : List ℕ) → IsStoreWith o.view cache a (content o.disk) → LeavesOnly moment left_since o.disk disk (RecoversOneOf cache a (left cache) (wanted a))) is run
+    pub left-from : (disk : D) (wanted : Archive → Archive) (left : List ℕ → List ℕ) → ((a : Archive) (cache : List ℕ) → IsStoreWith inside.view cache a (g.content inside.disk) → LeavesOnly g inside.disk disk (RecoversOneOf cache a (left cache) (wanted a)))
+        → (a : Archive) (cache : List ℕ) → IsStoreWith old.view cache a (g.content old.disk) → LeavesOnly g old.disk disk (RecoversOneOf cache a (left cache) (wanted a))
+    left-from disk wanted left run = subst (λ (o : Owning D). (a : Archive) (cache : List ℕ) → IsStoreWith o.view cache a (g.content o.disk) → LeavesOnly g o.disk disk (RecoversOneOf cache a (left cache) (wanted a))) is run
 
-    pub removed-from : (new : Owning D) (command : Command) (arrived : ℕ) (text : List ℕ) (gone : Option ℕ) (reply : Answer) → ((a : Archive) (cache : List ℕ) → IsStoreWith inside.view cache a (content inside.disk) → DoneBy new.view cache (cache_left command cache) a (applied a command arrived) reply (content new.disk))
-        → ((a : Archive) (cache : List ℕ) → IsStoreWith inside.view cache a (content inside.disk) → OnDone reply (IsGone a command gone))
-        → IfRemoval (is_delivery command) (ViewsAfter command gone reply text arrived inside.views new.views) → OnDone reply (WhereTold IsSettled (content new.disk)) → IfRemoval (is_delivery command) ((a : Archive) → HoldsArchive content old a → OnDone reply (HoldsArchive content new (applied a command arrived).archive))
-    removed-from new command arrived text gone reply done taken rows still = subst (λ (o : Owning D). IfRemoval (is_delivery command) ((a : Archive) → HoldsArchive content o a → OnDone reply (HoldsArchive content new (applied a command arrived).archive))) is (removed-at inside new command arrived text gone reply done taken rows still)
+    pub removed-from : (new : Owning D) (command : Command) (arrived : ℕ) (text : List ℕ) (gone : Option ℕ) (reply : Answer) → ((a : Archive) (cache : List ℕ) → IsStoreWith inside.view cache a (g.content inside.disk) → DoneBy new.view cache (cache_left command cache) a (applied a command arrived) reply (g.content new.disk))
+        → ((a : Archive) (cache : List ℕ) → IsStoreWith inside.view cache a (g.content inside.disk) → OnDone reply (IsGone a command gone))
+        → IfRemoval (is_delivery command) (ViewsAfter command gone reply text arrived inside.views new.views) → OnDone reply (WhereTold IsSettled (g.content new.disk)) → IfRemoval (is_delivery command) ((a : Archive) → HoldsArchive g.content old a → OnDone reply (HoldsArchive g.content new (applied a command arrived).archive))
+    removed-from new command arrived text gone reply done taken rows still = subst (λ (o : Owning D). IfRemoval (is_delivery command) ((a : Archive) → HoldsArchive g.content o a → OnDone reply (HoldsArchive g.content new (applied a command arrived).archive))) is (removed-at inside new command arrived text gone reply done taken rows still)
 
-    pub done-from : (view : StoreState) (disk : D) (wanted : Archive → Done) (left : List ℕ → List ℕ) (reply : Answer) → ((a : Archive) (cache : List ℕ) → IsStoreWith inside.view cache a (content inside.disk) → DoneBy view cache (left cache) a (wanted a) reply (content disk))
-        → (a : Archive) (cache : List ℕ) → IsStoreWith old.view cache a (content old.disk) → DoneBy view cache (left cache) a (wanted a) reply (content disk)
-    done-from view disk wanted left reply done = subst (λ (o : Owning D). (a : Archive) (cache : List ℕ) → IsStoreWith o.view cache a (content o.disk) → DoneBy view cache (left cache) a (wanted a) reply (content disk)) is done
+    pub done-from : (view : StoreState) (disk : D) (wanted : Archive → Done) (left : List ℕ → List ℕ) (reply : Answer) → ((a : Archive) (cache : List ℕ) → IsStoreWith inside.view cache a (g.content inside.disk) → DoneBy view cache (left cache) a (wanted a) reply (g.content disk))
+        → (a : Archive) (cache : List ℕ) → IsStoreWith old.view cache a (g.content old.disk) → DoneBy view cache (left cache) a (wanted a) reply (g.content disk)
+    done-from view disk wanted left reply done = subst (λ (o : Owning D). (a : Archive) (cache : List ℕ) → IsStoreWith o.view cache a (g.content o.disk) → DoneBy view cache (left cache) a (wanted a) reply (g.content disk)) is done
 
     pub cause-from : {T : Type 0} (faults : D → ℕ) (disk : D) (r : Result T TextRefusal) → RoseIf (r ≡ Err reading.DiskFault) (faults inside.disk) (faults disk) → TellsOther r → ReadCause (faults old.disk) (faults disk) r
     cause-from faults disk r rose other = subst (λ (o : Owning D). ReadCause (faults o.disk) (faults disk) r) is (read-cause (faults inside.disk) (faults disk) r rose other)
 
-    pub blob-ids-from : (id : Id20) (had has : List ℕ) (r : Result Bool TextRefusal) → GivesBlobKept inside.view (content inside.disk) id had has r → GivesBlobKept old.view (content old.disk) id had has r
-    blob-ids-from id had has r kept = subst (λ (o : Owning D). GivesBlobKept o.view (content o.disk) id had has r) is kept
+    pub blob-ids-from : (id : Id20) (had has : List ℕ) (r : Result Bool TextRefusal) → GivesBlobKept inside.view (g.content inside.disk) id had has r → GivesBlobKept old.view (g.content old.disk) id had has r
+    blob-ids-from id had has r kept = subst (λ (o : Owning D). GivesBlobKept o.view (g.content o.disk) id had has r) is kept
 
     pub once-from : (reads : D → ℕ) (disk : D) → reads inside.disk ≤ reads disk → reads disk ≤ reads inside.disk + 1 → ReadsOnce (reads old.disk) (reads disk)
     once-from reads disk later most = subst (λ (o : Owning D). ReadsOnce (reads o.disk) (reads disk)) is (record { later = later; most = most })
@@ -541,15 +542,15 @@ module _ {D : Type 0} (content : D → Option Content) (moment : D → ℕ) (lef
     pub answer-cause-from : (faults : D → ℕ) (disk : D) (reply : Answer) → RoseIf (reply ≡ answer.DiskFault) (faults inside.disk) (faults disk) → AnswerCause (faults old.disk) (faults disk) reply
     answer-cause-from faults disk reply rose = subst (λ (o : Owning D). AnswerCause (faults o.disk) (faults disk) reply) is (answer-cause (faults inside.disk) (faults disk) reply rose)
 
-    pub opened-from : RecoversSomeOne → (new : Owning D) → Reopening inside new.disk → ((a : Archive) (cache : List ℕ) → ReadsWith cache a (content inside.disk) → IsStoreWith new.view cache a (content new.disk) × (new.views ≡ views_of (live a.entries))) → WhereTold IsSettled (content new.disk) → (s : LastKnown) → Stands old s → (t : LastKnown) × Going old s new t × Settles s t
+    pub opened-from : RecoversSomeOne → (new : Owning D) → Reopening inside new.disk → ((a : Archive) (cache : List ℕ) → ReadsWith cache a (g.content inside.disk) → IsStoreWith new.view cache a (g.content new.disk) × (new.views ≡ views_of (live a.entries))) → WhereTold IsSettled (g.content new.disk) → (s : LastKnown) → Stands old s → (t : LastKnown) × Going old s new t × Settles s t
     opened-from one new run opened still = subst (λ (o : Owning D). (s : LastKnown) → Stands o s → (t : LastKnown) × Going o s new t × Settles s t) is (opened-at one inside new run opened still)
 
-    pub unopened-from : RecoversSomeOne → (new : Owning D) (why : OpenRefusal) → Reopening inside new.disk → ((a : Archive) (cache : List ℕ) → ReadsWith cache a (content inside.disk) → IsWant why) → LeavesKindly why (content inside.disk) (content new.disk) → is_ready new ≡ false → (s : LastKnown) → Stands old s
+    pub unopened-from : RecoversSomeOne → (new : Owning D) (why : OpenRefusal) → Reopening inside new.disk → ((a : Archive) (cache : List ℕ) → ReadsWith cache a (g.content inside.disk) → IsWant why) → LeavesKindly why (g.content inside.disk) (g.content new.disk) → is_ready new ≡ false → (s : LastKnown) → Stands old s
         → (t : LastKnown) × Going old s new t × ReopeningRefused s why t
     unopened-from one new why run well kindly unready = subst (λ (o : Owning D). (s : LastKnown) → Stands o s → (t : LastKnown) × Going o s new t × ReopeningRefused s why t) is (unopened-at one inside new why run well kindly unready)
 
-    pub passes-from : RecoversSomeOne → (new : Owning D) → Reopening inside new.disk → (s : LastKnown) → Stands old s → CrashesLeaveOnly (Leaves content moment left_since) old new []
-    passes-from one new run = subst (λ (o : Owning D). (s : LastKnown) → Stands o s → CrashesLeaveOnly (Leaves content moment left_since) o new []) is (reopening-passes one inside new run)
+    pub passes-from : RecoversSomeOne → (new : Owning D) → Reopening inside new.disk → (s : LastKnown) → Stands old s → CrashesLeaveOnly (Leaves g) old new []
+    passes-from one new run = subst (λ (o : Owning D). (s : LastKnown) → Stands o s → CrashesLeaveOnly (Leaves g) o new []) is (reopening-passes one inside new run)
 
     -- Out of use, it fits what it did, since a crash leaves of its disk alone.
     abbrev pub shelved : Owning D
@@ -558,17 +559,17 @@ module _ {D : Type 0} (content : D → Option Content) (moment : D → ℕ) (lef
     pub shelved-fits : (s : LastKnown) → Stands old s → Stands shelved s
     shelved-fits s fits =
         let own : Stands inside s = subst (λ (o : Owning D). Stands o s) (sym is) fits in
-        record { settled = λ ready. absurd (false≢true ready); exact = λ none. own.exact none; left = λ may has. let left = own.left may has in (left.0, left.1, left.2, λ ready image now. between_image (content inside.disk) image (only_now inside.disk image now)) }
+        record { settled = λ ready. absurd (false≢true ready); exact = λ none. own.exact none; left = λ may has. let left = own.left may has in (left.0, left.1, left.2, λ ready image now. between_image (g.content inside.disk) image (only_now inside.disk image now)) }
 
     -- What happens to it then happens to what it was.
-    pub shelved-passes : (new : Owning D) (ss : List LastKnown) → CrashesLeaveOnly (Leaves content moment left_since) shelved new ss → CrashesLeaveOnly (Leaves content moment left_since) old new ss
-    shelved-passes new ss passes = λ start may has left. passes start may has (subst (λ (o : Owning D). Leaves content moment left_since start o may) (sym is) left)
+    pub shelved-passes : (new : Owning D) (ss : List LastKnown) → CrashesLeaveOnly (Leaves g) shelved new ss → CrashesLeaveOnly (Leaves g) old new ss
+    shelved-passes new ss passes = λ start may has left. passes start may has (subst (λ (o : Owning D). Leaves g start o may) (sym is) left)
 
     pub shelved-moves : (new : Owning D) (s t : LastKnown) → Going shelved s new t → Going old s new t
     shelved-moves new s t moves = record { fits = moves.fits; passes = shelved-passes new (s ∷ t ∷ []) moves.passes }
 
     -- It was read again, and counted.
-    pub reread-from : (new : Owning D) (count : ℕ) → ((s : LastKnown) → Stands shelved s → (t : LastKnown) × Going shelved s new t × Settles s t) → is_ready new ≡ true → ((a : Archive) → HoldsArchive content new a → count ≡ length (live a.entries)) → (s : LastKnown) → Stands old s
+    pub reread-from : (new : Owning D) (count : ℕ) → ((s : LastKnown) → Stands shelved s → (t : LastKnown) × Going shelved s new t × Settles s t) → is_ready new ≡ true → ((a : Archive) → HoldsArchive g.content new a → count ≡ length (live a.entries)) → (s : LastKnown) → Stands old s
         → (t : LastKnown) × Going old s new t × Settles s t × (count ≡ length (live t.archive.entries))
     reread-from new count found ready counted s fits =
         let got = found s (shelved-fits s fits) in
@@ -580,28 +581,28 @@ module _ {D : Type 0} (content : D → Option Content) (moment : D → ℕ) (lef
     unread-from new why found s fits = let got = found s (shelved-fits s fits) in (got.0, shelved-moves new s got.0 got.1, got.2, tt)
 
     -- What a crash leaves of it meanwhile.
-    pub reread-passes : (new : Owning D) → ((s : LastKnown) → Stands shelved s → CrashesLeaveOnly (Leaves content moment left_since) shelved new []) → (s : LastKnown) → Stands old s → CrashesLeaveOnly (Leaves content moment left_since) old new []
+    pub reread-passes : (new : Owning D) → ((s : LastKnown) → Stands shelved s → CrashesLeaveOnly (Leaves g) shelved new []) → (s : LastKnown) → Stands old s → CrashesLeaveOnly (Leaves g) old new []
     reread-passes new passes s fits = shelved-passes new [] (passes s (shelved-fits s fits))
 
-    pub taken-from : CachesOne → (new : Owning D) (wanted : Archive → Done) (left : List ℕ → List ℕ) (reply : Answer) → ((cache : List ℕ) → (left cache ≡ cache) ⊎ (left cache ≡ [])) → (needs_opening reply ≡ true → new.stale ≡ true) → ((a : Archive) (cache : List ℕ) → IsStoreWith inside.view cache a (content inside.disk) → LeavesOnly moment left_since inside.disk new.disk (RecoversOneOf cache a (left cache) (wanted a).archive))
-        → RunsBetween content moment left_since inside.disk new.disk
-        → ((a : Archive) (cache : List ℕ) → IsStoreWith inside.view cache a (content inside.disk) → DoneBy new.view cache (left cache) a (wanted a) reply (content new.disk))
-        → ((a : Archive) (cache : List ℕ) → IsStoreWith inside.view cache a (content inside.disk) → inside.views ≡ views_of (live a.entries) → ViewsKeepUp reply (is_ready new) new.views a (wanted a).archive)
-        → OnRefusal reply (UnlessFault reply (OnlyLooks content moment left_since inside.disk new.disk)) → OnDone reply (WhereTold IsSettled (content new.disk)) → (a : Archive) → HoldsArchive content old a → (t : LastKnown) × Going old (standing a None) new t × CommandGives true (standing a None) wanted reply t
+    pub taken-from : CachesOne → (new : Owning D) (wanted : Archive → Done) (left : List ℕ → List ℕ) (reply : Answer) → ((cache : List ℕ) → (left cache ≡ cache) ⊎ (left cache ≡ [])) → (needs_opening reply ≡ true → new.stale ≡ true) → ((a : Archive) (cache : List ℕ) → IsStoreWith inside.view cache a (g.content inside.disk) → LeavesOnly g inside.disk new.disk (RecoversOneOf cache a (left cache) (wanted a).archive))
+        → RunsBetween g inside.disk new.disk
+        → ((a : Archive) (cache : List ℕ) → IsStoreWith inside.view cache a (g.content inside.disk) → DoneBy new.view cache (left cache) a (wanted a) reply (g.content new.disk))
+        → ((a : Archive) (cache : List ℕ) → IsStoreWith inside.view cache a (g.content inside.disk) → inside.views ≡ views_of (live a.entries) → ViewsKeepUp reply (is_ready new) new.views a (wanted a).archive)
+        → OnRefusal reply (UnlessFault reply (OnlyLooks g inside.disk new.disk)) → OnDone reply (WhereTold IsSettled (g.content new.disk)) → (a : Archive) → HoldsArchive g.content old a → (t : LastKnown) × Going old (standing a None) new t × CommandGives true (standing a None) wanted reply t
     taken-from caches new wanted left reply kept stale run crash_beside done rows untouched settled =
-        subst (λ (o : Owning D). (a : Archive) → HoldsArchive content o a → (t : LastKnown) × Going o (standing a None) new t × CommandGives true (standing a None) wanted reply t) is
+        subst (λ (o : Owning D). (a : Archive) → HoldsArchive g.content o a → (t : LastKnown) × Going o (standing a None) new t × CommandGives true (standing a None) wanted reply t) is
         (λ a held. taken-at caches inside new a held.0 (left held.0) (kept held.0) held.1 held.3 wanted (run a held.0 held.1) crash_beside reply stale (done a held.0 held.1) (rows a held.0 held.1 held.2) untouched settled)
 
-    pub stays-from : (faults : D → ℕ) (disk : D) → is_ready old ≡ true → BothTold Unchanged (content inside.disk) (content disk) → LeavesOnly moment left_since inside.disk disk (Image (content inside.disk)) → faults inside.disk ≤ faults disk
-        → ShelfStays (HoldsArchive content) is_ready (OnlyReadsOn content moment left_since) (λ (o : Owning D). faults o.disk) old (record { disk = disk; view = inside.view; views = inside.views; stale = inside.stale })
+    pub stays-from : (faults : D → ℕ) (disk : D) → is_ready old ≡ true → BothTold Unchanged (g.content inside.disk) (g.content disk) → LeavesOnly g inside.disk disk (Image (g.content inside.disk)) → faults inside.disk ≤ faults disk
+        → ShelfStays (HoldsArchive g.content) is_ready (OnlyReadsOn g) (λ (o : Owning D). faults o.disk) old (record { disk = disk; view = inside.view; views = inside.views; stale = inside.stale })
     stays-from faults disk ready files run later =
-        subst (λ (o : Owning D). is_ready o ≡ true → ShelfStays (HoldsArchive content) is_ready (OnlyReadsOn content moment left_since) (λ (p : Owning D). faults p.disk) o (record { disk = disk; view = inside.view; views = inside.views; stale = inside.stale })) is
+        subst (λ (o : Owning D). is_ready o ≡ true → ShelfStays (HoldsArchive g.content) is_ready (OnlyReadsOn g) (λ (p : Owning D). faults p.disk) o (record { disk = disk; view = inside.view; views = inside.views; stale = inside.stale })) is
         (λ at_hand. stays-at faults inside disk at_hand files run later) ready
 
     pub refused-from : (new : Owning D) (ok : Bool) (command : Command) (gone : Option ℕ) (text : List ℕ) (arrived : ℕ) (reply : Answer) → old.stale ≡ false → new.stale ≡ (needs_opening reply || not ok) → OnRefusal reply (ok ≡ true) → OnRefusal reply (new.view ≡ inside.view)
-        → (ok ≡ true → ViewsAfter command gone reply text arrived inside.views new.views) → OnRefusal reply (UnlessFault reply (OnlyLooks content moment left_since inside.disk new.disk)) → IfRefused reply (OnlyReadsOn content moment left_since old new)
+        → (ok ≡ true → ViewsAfter command gone reply text arrived inside.views new.views) → OnRefusal reply (UnlessFault reply (OnlyLooks g inside.disk new.disk)) → IfRefused reply (OnlyReadsOn g old new)
     refused-from new ok command gone text arrived reply ready stale followed view rows looks =
-        subst (λ (o : Owning D). o.stale ≡ false → IfRefused reply (OnlyReadsOn content moment left_since o new)) is (λ at_hand. refused-at inside new ok command gone text arrived reply at_hand stale followed view rows looks) ready
+        subst (λ (o : Owning D). o.stale ≡ false → IfRefused reply (OnlyReadsOn g o new)) is (λ at_hand. refused-at inside new ok command gone text arrived reply at_hand stale followed view rows looks) ready
 
     pub unmoved-from : (new : Owning D) (ok : Bool) (command : Command) (gone : Option ℕ) (text : List ℕ) (arrived : ℕ) (reply : Answer) → old.stale ≡ false → new.stale ≡ (needs_opening reply || not ok) → OnRefusal reply (ok ≡ true) → OnRefusal reply (new.view ≡ inside.view)
         → (ok ≡ true → ViewsAfter command gone reply text arrived inside.views new.views) → IfUnreadFor command reply (new.disk ≡ inside.disk) → IfUnreadFor command reply (new ≡ old)

@@ -2,8 +2,9 @@
 use Rattle.std.specs.Prelude.{◌≡◌, ◌≤◌, ℕ, List, Option, Some, None, Result, Ok, Err, refl}
 use Rattle.std.proofs.Common.{sym, ap, subst, inl, inr}
 use Rattle.arch_base.specs.Counts.{RoseIf}
-use Rattle.disk_model.specs.Disk.{Files, Content, Image, BothTold, WhereTold, Unchanged, LeavesOnly}
-use Rattle.disk_model.specs.Moments.{joined}
+use Rattle.disk_model.specs.declared.disk.Disk.{Ghosts as Disk}
+use Rattle.disk_model.specs.Disk.{Files, Content, Image, BothTold, WhereTold, Unchanged}
+use Rattle.disk_model.specs.Moments.{LeavesOnly, joined}
 use Rattle.disk_model.specs.Synced.{IsSettled}
 use Rattle.root_slots.specs.Between.{BetweenStays}
 use Rattle.arch_model.specs.Archives.{Archive}
@@ -27,51 +28,51 @@ use Rattle.archive_core.specs.Openings.{StillReads, LeavesKindly}
 use Rattle.archive_core.specs.Walks.{IsSound, unread_opening}
 use Rattle.archive_core.proofs.Standing.{still_own}
 
-module _ {D : Type 0} (content : D → Option Content) (moment : D → ℕ) (left_since : D → ℕ → Files → Type 0) (faults : D → ℕ)
-    (counts_now : (disk : D) (t : ℕ) (image : Files) → t ≤ moment disk → Image (content disk) image → left_since disk t image) where
+module _ {D : Type 0} (g : Disk D)
+    (counts_now : (disk : D) (t : ℕ) (image : Files) → t ≤ g.moment disk → Image (g.content disk) image → g.left_since disk t image) where
   -- What a crash leaves of a run, and of reads after it.
-  run-read : (old mid new : D) (P : Files → Type 0) → LeavesOnly moment left_since old mid P → OnlyLooks content moment left_since mid new → LeavesOnly moment left_since old new P
-  run-read old mid new P run looks = joined moment left_since old mid new P (Image (content mid)) P run looks.crash (λ image has. has) (λ image now. run.each image (counts_now mid (moment old) image run.later now))
+  run-read : (old mid new : D) (P : Files → Type 0) → LeavesOnly g old mid P → OnlyLooks g mid new → LeavesOnly g old new P
+  run-read old mid new P run looks = joined g old mid new P (Image (g.content mid)) P run looks.crash (λ image has. has) (λ image now. run.each image (counts_now mid (g.moment old) image run.later now))
 
-  first-read : (old mid new : D) → SyncsFirst content moment left_since old mid → OnlyLooks content moment left_since mid new → SyncsFirst content moment left_since old new
+  first-read : (old mid new : D) → SyncsFirst g old mid → OnlyLooks g mid new → SyncsFirst g old new
   first-read old mid new first looks = record {
     synced = first.synced;
     only = first.only;
     before = first.before;
     after = λ a cache reads. run-read first.synced mid new (λ (image : Files). RecoversWith cache image a) (first.after a cache reads) looks;
-    none = λ none. run-read first.synced mid new (Image (content first.synced)) (first.none none) looks;
+    none = λ none. run-read first.synced mid new (Image (g.content first.synced)) (first.none none) looks;
   }
 
-  before-read : (old mid new : D) → SyncsAtMost content moment left_since old mid → OnlyLooks content moment left_since mid new → SyncsAtMost content moment left_since old new
-  before-read old mid new (inl only) looks = inl (run-read old mid new (Image (content old)) only looks)
+  before-read : (old mid new : D) → SyncsAtMost g old mid → OnlyLooks g mid new → SyncsAtMost g old new
+  before-read old mid new (inl only) looks = inl (run-read old mid new (Image (g.content old)) only looks)
   before-read old mid new (inr first) looks = inr (first-read old mid new first looks)
 
-  module _ (old mid new : D) (v : StoreState) (opened : OpensArchive content moment left_since faults old mid (Ok v)) (looks : OnlyLooks content moment left_since mid new) where
-    same : content new ≡ content mid
-    same = unchanged-is (content mid) (content new) looks.same
+  module _ (old mid new : D) (v : StoreState) (opened : OpensArchive g old mid (Ok v)) (looks : OnlyLooks g mid new) where
+    same : g.content new ≡ g.content mid
+    same = unchanged-is (g.content mid) (g.content new) looks.same
 
     -- The rows were read.
-    pub opened-read : faults new ≡ faults mid → OpensArchive content moment left_since faults old new (Ok v)
+    pub opened-read : g.faults new ≡ g.faults mid → OpensArchive g old new (Ok v)
     opened-read steady = record {
       crash = λ may cache all. run-read old mid new (RecoversOfWith cache may) (opened.crash may cache all) looks;
       answer = opened.answer;
-      done = λ a cache reads. still_own v cache a (content mid) (content new) looks.same (opened.done a cache reads);
+      done = λ a cache reads. still_own v cache a (g.content mid) (g.content new) looks.same (opened.done a cache reads);
       well = opened.well;
       first = first-read old mid new opened.first looks;
       before = before-read old mid new opened.before looks;
       settled = subst (WhereTold IsSettled) (sym same) opened.settled;
-      kept = subst (λ (k : Option Content). BothTold (IsSettledBy v.root v.slot) (content old) k) (sym same) opened.kept;
+      kept = subst (λ (k : Option Content). BothTold (IsSettledBy v.root v.slot) (g.content old) k) (sym same) opened.kept;
       sizes = subst (WhereTold (StoreHasSizes v)) (sym same) opened.sizes;
-      cause = subst (λ (n : ℕ). RoseIf (◌≡◌ {A = Result StoreState OpenRefusal} (Ok v) (Err opening.DiskFault)) (faults old) n) (sym steady) opened.cause;
-      crash_between = run-read old mid new (BetweenStays (content old)) opened.crash_between looks;
+      cause = subst (λ (n : ℕ). RoseIf (◌≡◌ {A = Result StoreState OpenRefusal} (Ok v) (Err opening.DiskFault)) (g.faults old) n) (sym steady) opened.cause;
+      crash_between = run-read old mid new (BetweenStays (g.content old)) opened.crash_between looks;
     }
 
     -- They weren't, and the archive isn't opened.
-    pub unopened-read : (why : OpenRefusal) → ((a : Archive) (cache : List ℕ) → IsStoreWith v cache a (content mid) → OpensWell {T = StoreState} (Err why)) → (IsSound v (content mid) → OpensWell {T = StoreState} (Err why)) → WhereTold (HasTexts v) (content mid)
-        → RoseIf (◌≡◌ {A = Result StoreState OpenRefusal} (Err why) (Err opening.DiskFault)) (faults mid) (faults new) → OpensArchive content moment left_since faults old new (Err why)
+    pub unopened-read : (why : OpenRefusal) → ((a : Archive) (cache : List ℕ) → IsStoreWith v cache a (g.content mid) → OpensWell {T = StoreState} (Err why)) → (IsSound v (g.content mid) → OpensWell {T = StoreState} (Err why)) → WhereTold (HasTexts v) (g.content mid)
+        → RoseIf (◌≡◌ {A = Result StoreState OpenRefusal} (Err why) (Err opening.DiskFault)) (g.faults mid) (g.faults new) → OpensArchive g old new (Err why)
     unopened-read why well sound texts cause = record {
       crash = λ may cache all. run-read old mid new (RecoversOfWith cache may) (opened.crash may cache all) looks;
-      answer = answered (content old) (content mid) why opened.kept texts sound;
+      answer = answered (g.content old) (g.content mid) why opened.kept texts sound;
       done = λ a cache reads. tt;
       well = λ a cache reads. well a cache (opened.done a cache reads);
       first = by_why why;
@@ -79,11 +80,11 @@ module _ {D : Type 0} (content : D → Option Content) (moment : D → ℕ) (lef
       settled = tt;
       kept = tt;
       sizes = tt;
-      cause = subst (λ (n : ℕ). RoseIf (◌≡◌ {A = Result StoreState OpenRefusal} (Err why) (Err opening.DiskFault)) n (faults new)) (opened.cause.kept (λ never. absurd (cc never))) cause;
-      crash_between = run-read old mid new (BetweenStays (content old)) opened.crash_between looks;
+      cause = subst (λ (n : ℕ). RoseIf (◌≡◌ {A = Result StoreState OpenRefusal} (Err why) (Err opening.DiskFault)) n (g.faults new)) (opened.cause.kept (λ never. absurd (cc never))) cause;
+      crash_between = run-read old mid new (BetweenStays (g.content old)) opened.crash_between looks;
     }
       where
-        by_why : (w : OpenRefusal) → OnSynced {T = StoreState} (Err w) (SyncsFirst content moment left_since old new)
+        by_why : (w : OpenRefusal) → OnSynced {T = StoreState} (Err w) (SyncsFirst g old new)
         by_why opening.NoArchive = first-read old mid new opened.first looks
         by_why (opening.Damaged file at) = first-read old mid new opened.first looks
         by_why opening.DiskFault = tt
@@ -101,8 +102,8 @@ module _ {D : Type 0} (content : D → Option Content) (moment : D → ℕ) (lef
         answered (Some k) (Some m) w told texts_are is_sound = quiet k w (is_sound texts_are)
 
 -- The disk that was lent is the one that was only read.
-pub looked : {D : Type 0} (content : D → Option Content) (moment : D → ℕ) (left_since : D → ℕ → Files → Type 0) (old new last : D) → last ≡ new → OnlyLooks content moment left_since old new → OnlyLooks content moment left_since old last
-looked content moment left_since old new last same looks = subst (λ d. OnlyLooks content moment left_since old d) (sym same) looks
+pub looked : {D : Type 0} (g : Disk D) (old new last : D) → last ≡ new → OnlyLooks g old new → OnlyLooks g old last
+looked g old new last same looks = subst (λ d. OnlyLooks g old d) (sym same) looks
 
 pub caused : {D : Type 0} (faults : D → ℕ) (P : Type 0) (old new last : D) → last ≡ new → RoseIf P (faults old) (faults new) → RoseIf P (faults old) (faults last)
 caused faults P old new last same cause = subst (λ d. RoseIf P (faults old) (faults d)) (sym same) cause

@@ -1,10 +1,12 @@
 -- What the calls of a purge and an edit promise, by the calls of the store.
-use Rattle.std.specs.Prelude.{◌≡◌, ◌+◌, ◌<◌, ◌^◌, ℕ, List, [], Option, Some, None, Result, Ok, Err, refl}
+use Rattle.std.specs.Prelude.{◌≡◌, ◌+◌, ◌<◌, ◌^◌, ℕ, List, [], Some, None, Result, Ok, Err, refl}
 use Rattle.std.proofs.Common.{sym, ap, subst, arith}
 use Rattle.arch_base.specs.Counts.{RoseIf}
 use Rattle.arch_base.specs.declared.ids.Id20.{Id20}
 use Rattle.mail_commits.specs.declared.ids.TextIds.{TextIds}
-use Rattle.disk_model.specs.Disk.{Files, Content, Image, WhereTold, LeavesOnly}
+use Rattle.disk_model.specs.declared.disk.Disk.{Ghosts as Disk}
+use Rattle.disk_model.specs.Disk.{Files, Image, WhereTold}
+use Rattle.disk_model.specs.Moments.{LeavesOnly}
 use Rattle.disk_model.specs.declared.name.FileName.{FileName}
 use Rattle.git_objects.specs.Objects.{blob_id_of}
 use Rattle.arch_model.specs.Archives.{Archive, live, text_of, with_entry, without_entries}
@@ -27,66 +29,33 @@ use Rattle.archive_core.specs.Commands.{AnswersDelivery, DoneBy, IfUnreadEdit, J
 use Rattle.archive_core.specs.DamageTold.{TellsEntry}
 use Rattle.archive_core.specs.Engines.{unchanged-is}
 use Rattle.archive_core.specs.Kept.{IndexesKept}
-use Rattle.archive_core.specs.Rewriting.{EditsAs, late_answer}
+use Rattle.archive_core.specs.Rewriting.{EditsAs, IsLate}
 use Rattle.archive_core.specs.Walks.{looks-same}
 use Rattle.archive_core.proofs.KeptTexts.{error-done, error-then}
 use Rattle.archive_core.proofs.Replies.{when-refused, unless-failed}
 use Rattle.archive_core.proofs.Standing.{not-started, only-read, read-first, still_own, store_keeps}
 use Rattle.archive_core.proofs.Taking.{error-cause, error-unless, failed-done, rooted-read, still-sized, store-looks}
-use Rattle.archive_core.proofs.TellingDamage.{late-damage, store-damage}
+use Rattle.archive_core.proofs.TellingDamage.{entry-damage, store-damage}
 use Rattle.archive_core.proofs.WithoutText.{index-without, live-message-is, message-agrees, purge-blob, refused-edit, unless-taken}
 
--- What a refusal that comes late is, by the one that was given.
-late-then : (reply : Answer) (P : Answer → Type 0) → ((n : ℕ) → P (answer.Duplicate n)) → ((max : ℕ) → P (answer.Full max)) → ((n : ℕ) → P (answer.Collision n)) → P answer.DiskFault → ((file : FileName) (at : ℕ) → P (answer.Damaged file at)) → P answer.NoMemory → P (late_answer reply)
-late-then (answer.Ok n id) P same full other fault damage short = short
-late-then answer.NoMemory P same full other fault damage short = short
-late-then answer.DiskFault P same full other fault damage short = fault
-late-then (answer.Duplicate n) P same full other fault damage short = same n
-late-then answer.NoFields P same full other fault damage short = short
-late-then (answer.TooLarge len) P same full other fault damage short = short
-late-then (answer.Full max) P same full other fault damage short = full max
-late-then (answer.Collision n) P same full other fault damage short = other n
-late-then (answer.NotLive n) P same full other fault damage short = short
-late-then (answer.NoText n) P same full other fault damage short = short
-late-then answer.IsMirror P same full other fault damage short = short
-late-then (answer.Damaged file at) P same full other fault damage short = damage file at
+-- What holds of each refusal that comes late.
+late-then : (reply : Answer) (P : Answer → Type 0) → IsLate reply → ((n : ℕ) → P (answer.Duplicate n)) → ((max : ℕ) → P (answer.Full max)) → ((n : ℕ) → P (answer.Collision n)) → P answer.DiskFault → ((file : FileName) (at : ℕ) → P (answer.Damaged file at)) → P answer.NoMemory → P reply
+late-then answer.NoMemory P late same full other fault damage short = short
+late-then answer.DiskFault P late same full other fault damage short = fault
+late-then (answer.Duplicate n) P late same full other fault damage short = same n
+late-then (answer.Full max) P late same full other fault damage short = full max
+late-then (answer.Collision n) P late same full other fault damage short = other n
+late-then (answer.Damaged file at) P late same full other fault damage short = damage file at
+late-then reply P late same full other fault damage short = absurd late
 
-late-never : (reply : Answer) (P : Type 0) → OnDone (late_answer reply) P
-late-never reply P = late-then reply (λ (r : Answer). OnDone r P) (λ n. tt) (λ max. tt) (λ n. tt) tt (λ file at. tt) tt
+late-never : (reply : Answer) (P : Type 0) → IsLate reply → OnDone reply P
+late-never reply P late = late-then reply (λ (r : Answer). OnDone r P) late (λ n. tt) (λ max. tt) (λ n. tt) tt (λ file at. tt) tt
 
-late-read : (reply : Answer) → IfUnreadEdit (late_answer reply) ⊥
-late-read reply = late-then reply (λ (r : Answer). IfUnreadEdit r ⊥) (λ n. tt) (λ max. tt) (λ n. tt) tt (λ file at. tt) tt
+late-read : (reply : Answer) → IsLate reply → IfUnreadEdit reply ⊥
+late-read reply late = late-then reply (λ (r : Answer). IfUnreadEdit r ⊥) late (λ n. tt) (λ max. tt) (λ n. tt) tt (λ file at. tt) tt
 
-late-delivery : (reply : Answer) → AnswersDelivery (late_answer reply)
-late-delivery reply = late-then reply AnswersDelivery (λ n. tt) (λ max. tt) (λ n. tt) tt (λ file at. tt) tt
-
-late-cause : (reply : Answer) (before now : ℕ) → RoseIf (reply ≡ answer.DiskFault) before now → RoseIf (late_answer reply ≡ answer.DiskFault) before now
-late-cause (answer.Ok n id) before now rose = record { later = rose.later; failed = λ fault. absurd (cc fault); kept = λ never. rose.kept (λ fault. absurd (cc fault)) }
-late-cause answer.NoMemory before now rose = record { later = rose.later; failed = λ fault. absurd (cc fault); kept = λ never. rose.kept (λ fault. absurd (cc fault)) }
-late-cause answer.DiskFault before now rose = rose
-late-cause (answer.Duplicate n) before now rose = record { later = rose.later; failed = λ fault. absurd (cc fault); kept = λ never. rose.kept (λ fault. absurd (cc fault)) }
-late-cause answer.NoFields before now rose = record { later = rose.later; failed = λ fault. absurd (cc fault); kept = λ never. rose.kept (λ fault. absurd (cc fault)) }
-late-cause (answer.TooLarge len) before now rose = record { later = rose.later; failed = λ fault. absurd (cc fault); kept = λ never. rose.kept (λ fault. absurd (cc fault)) }
-late-cause (answer.Full max) before now rose = record { later = rose.later; failed = λ fault. absurd (cc fault); kept = λ never. rose.kept (λ fault. absurd (cc fault)) }
-late-cause (answer.Collision n) before now rose = record { later = rose.later; failed = λ fault. absurd (cc fault); kept = λ never. rose.kept (λ fault. absurd (cc fault)) }
-late-cause (answer.NotLive n) before now rose = record { later = rose.later; failed = λ fault. absurd (cc fault); kept = λ never. rose.kept (λ fault. absurd (cc fault)) }
-late-cause (answer.NoText n) before now rose = record { later = rose.later; failed = λ fault. absurd (cc fault); kept = λ never. rose.kept (λ fault. absurd (cc fault)) }
-late-cause answer.IsMirror before now rose = record { later = rose.later; failed = λ fault. absurd (cc fault); kept = λ never. rose.kept (λ fault. absurd (cc fault)) }
-late-cause (answer.Damaged file at) before now rose = record { later = rose.later; failed = λ fault. absurd (cc fault); kept = λ never. rose.kept (λ fault. absurd (cc fault)) }
-
-late-done : (v : StoreState) (cache left : List ℕ) (a : Archive) (d : Done) (k : Option Content) (reply : Answer) → IsStoreWith v cache a k → DoneBy v cache left a d reply k → DoneBy v cache left a d (late_answer reply) k
-late-done v cache left a d k (answer.Ok n id) store done = store
-late-done v cache left a d k answer.NoMemory store done = done
-late-done v cache left a d k answer.DiskFault store done = done
-late-done v cache left a d k (answer.Duplicate n) store done = done
-late-done v cache left a d k answer.NoFields store done = store
-late-done v cache left a d k (answer.TooLarge len) store done = store
-late-done v cache left a d k (answer.Full max) store done = done
-late-done v cache left a d k (answer.Collision n) store done = done
-late-done v cache left a d k (answer.NotLive n) store done = store
-late-done v cache left a d k (answer.NoText n) store done = store
-late-done v cache left a d k answer.IsMirror store done = store
-late-done v cache left a d k (answer.Damaged file at) store done = done
+late-delivery : (reply : Answer) → IsLate reply → AnswersDelivery reply
+late-delivery reply late = late-then reply AnswersDelivery late (λ n. tt) (λ max. tt) (λ n. tt) tt (λ file at. tt) tt
 
 -- The index of the entries that stay is that of the archive without the text.
 edit-index : (v : StoreState) (a : Archive) (n : ℕ) (blob : Id20) (index : Index) (gone : List ℕ) → KeepsArchive v a → MayPurge v n blob → IndexesKept (without_blob v.entries blob.0) index → text_of (live a.entries) n ≡ Some gone → IsArchiveIndex (without_entries a gone).entries index
@@ -94,100 +63,100 @@ edit-index v a n blob index gone keeps may indexed shown =
     let is = live-message-is a n gone keeps.valid shown in
     index-without v a index blob gone keeps (message-agrees a n gone keeps.valid is) (purge-blob v a n blob gone keeps may is) indexed
 
-module _ {D : Type 0} (content : D → Option Content) (moment : D → ℕ) (left_since : D → ℕ → Files → Type 0) (faults : D → ℕ)
-    (only_now : (disk : D) (image : Files) → left_since disk (moment disk) image → Image (content disk) image) where
+module _ {D : Type 0} (g : Disk D)
+    (only_now : (disk : D) (image : Files) → g.left_since disk (g.moment disk) image → Image (g.content disk) image) where
   -- A delivery in place of a text was refused, after the disk was only read.
-  pub edits-refused : StoreRecovers → (old mid : D) (v : StoreState) (index : Index) (blob : Id20) (number : ℕ) (bytes : List ℕ) (arrived : ℕ) (reply : Answer) → MayPurge v number blob → IndexesKept (without_blob v.entries blob.0) index → WhereTold (StoreHasSizes v) (content old)
-      → JudgesOn content old v index bytes (Refuse reply) → OnlyLooks content moment left_since old mid → RoseIf (reply ≡ answer.DiskFault) (faults old) (faults mid) → TellsEntry v (content old) reply → EditsAs content moment left_since faults old mid v v number bytes arrived (late_answer reply)
-  edits-refused law old mid v index blob number bytes arrived reply may indexed sizes judges looks cause damage = record {
-    crash = λ a cache gone store room shown. only-read moment left_since law v cache [] a (unless_refused a (delivered (without_entries a gone) bytes arrived)).archive (content old) old mid store looks.crash;
+  pub edits-refused : StoreRecovers → (old mid : D) (v : StoreState) (index : Index) (blob : Id20) (number : ℕ) (bytes : List ℕ) (arrived : ℕ) (reply : Answer) → MayPurge v number blob → IndexesKept (without_blob v.entries blob.0) index → WhereTold (StoreHasSizes v) (g.content old)
+      → JudgesOn g.content old v index bytes (Refuse reply) → OnlyLooks g old mid → RoseIf (reply ≡ answer.DiskFault) (g.faults old) (g.faults mid) → TellsEntry v (g.content old) reply → IsLate reply → EditsAs g old mid v v number bytes arrived reply
+  edits-refused law old mid v index blob number bytes arrived reply may indexed sizes judges looks cause damage late = record {
+    crash = λ a cache gone store room shown. only-read g law v cache [] a (unless_refused a (delivered (without_entries a gone) bytes arrived)).archive (g.content old) old mid store looks.crash;
     done = λ a cache gone store room shown. (
-        let own = still_own v cache a (content old) (content mid) looks.same store in
-        let judged = judges a cache (Some gone) store (edit-index v a number blob index gone (store_keeps v cache a (content old) store) may indexed shown) in
-        late-done v cache [] a (unless_refused a (delivered (without_entries a gone) bytes arrived)) (content mid) reply own (refused-edit v cache [] a (without_entries a gone) bytes arrived (content mid) reply own judged.0));
-    settled = late-never reply _;
-    goes_on = late-never reply _;
-    slot = late-never reply _;
-    same = when-refused (late_answer reply) (v ≡ v) refl;
-    untouched = when-refused (late_answer reply) _ (unless-failed (late_answer reply) _ looks);
-    late = late-read reply;
-    sizes = unless-failed (late_answer reply) _ (subst (WhereTold (StoreHasSizes v)) (sym (unchanged-is (content old) (content mid) looks.same)) sizes);
-    cause = late-cause reply (faults old) (faults mid) cause;
-    for_command = late-delivery reply;
-    rooted = late-never reply _;
-    crash_between = looks_between content moment left_since old mid looks.crash;
-    damage = late-damage v (content old) reply damage;
+        let own = still_own v cache a (g.content old) (g.content mid) looks.same store in
+        let judged = judges a cache (Some gone) store (edit-index v a number blob index gone (store_keeps v cache a (g.content old) store) may indexed shown) in
+        refused-edit v cache [] a (without_entries a gone) bytes arrived (g.content mid) reply own judged.0);
+    settled = late-never reply _ late;
+    goes_on = late-never reply _ late;
+    slot = late-never reply _ late;
+    same = when-refused reply (v ≡ v) refl;
+    untouched = when-refused reply _ (unless-failed reply _ looks);
+    late = late-read reply late;
+    sizes = unless-failed reply _ (subst (WhereTold (StoreHasSizes v)) (sym (unchanged-is (g.content old) (g.content mid) looks.same)) sizes);
+    cause = cause;
+    for_command = late-delivery reply late;
+    rooted = late-never reply _ late;
+    crash_between = looks_between g old mid looks.crash;
+    damage = entry-damage v (g.content old) reply damage;
   }
 
   -- Memory ran out before the verdict.
-  pub edits-none : StoreRecovers → (disk : D) (v : StoreState) (number : ℕ) (bytes : List ℕ) (arrived : ℕ) → WhereTold (StoreHasSizes v) (content disk) → EditsAs content moment left_since faults disk disk v v number bytes arrived answer.NoMemory
+  pub edits-none : StoreRecovers → (disk : D) (v : StoreState) (number : ℕ) (bytes : List ℕ) (arrived : ℕ) → WhereTold (StoreHasSizes v) (g.content disk) → EditsAs g disk disk v v number bytes arrived answer.NoMemory
   edits-none law disk v number bytes arrived sizes = record {
-    crash = λ a cache gone store room shown. not-started moment left_since law v cache [] a (unless_refused a (delivered (without_entries a gone) bytes arrived)).archive (content disk) disk store (only_now disk);
+    crash = λ a cache gone store room shown. not-started g law v cache [] a (unless_refused a (delivered (without_entries a gone) bytes arrived)).archive (g.content disk) disk store (only_now disk);
     done = λ a cache gone store room shown. store;
     settled = tt;
     goes_on = tt;
     slot = tt;
     same = refl;
-    untouched = looks-same content moment left_since only_now disk;
+    untouched = looks-same g only_now disk;
     late = tt;
     sizes = sizes;
     cause = record { later = omega arith; failed = λ fault. absurd (cc fault); kept = λ never. refl };
     for_command = tt;
     rooted = tt;
-    crash_between = (let looks = looks-same content moment left_since only_now disk in looks_between content moment left_since disk disk looks.crash);
+    crash_between = (let looks = looks-same g only_now disk in looks_between g disk disk looks.crash);
     damage = tt;
   }
 
   -- The verdict was to keep a text.
   module _ (law : StoreRecovers) (old mid new : D) (v after : StoreState) (index : Index) (blob : Id20) (number : ℕ) (bytes text : List ℕ) (arrived n : ℕ) (ids : TextIds) (may : MayPurge v number blob) (indexed : IndexesKept (without_blob v.entries blob.0) index)
-      (judges : JudgesOn content old v index bytes (Take text ids n)) (looks : OnlyLooks content moment left_since old mid) (steady : faults mid ≡ faults old) where
+      (judges : JudgesOn g.content old v index bytes (Take text ids n)) (looks : OnlyLooks g old mid) (steady : g.faults mid ≡ g.faults old) where
     -- The archive after it, and that no other text has its blob id.
-    taken_is : (a : Archive) (cache gone : List ℕ) → IsStoreWith v cache a (content old) → text_of (live a.entries) number ≡ Some gone
+    taken_is : (a : Archive) (cache gone : List ℕ) → IsStoreWith v cache a (g.content old) → text_of (live a.entries) number ≡ Some gone
         → (unless_refused a (delivered (without_entries a gone) bytes arrived) ≡ record { archive = with_entry (without_entries a gone) (new_epoch (without_entries a gone)) text arrived; answer = answer.Ok n ids.blob }) × (blob_id_of gone ≡ blob) × (collision (without_entries a gone).entries text ≡ None)
     taken_is a cache gone store shown =
-        let keeps = store_keeps v cache a (content old) store in
+        let keeps = store_keeps v cache a (g.content old) store in
         let judged = judges a cache (Some gone) store (edit-index v a number blob index gone keeps may indexed shown) in
         (unless-taken a (with_entry (without_entries a gone) (new_epoch (without_entries a gone)) text arrived) (delivered (without_entries a gone) bytes arrived) n ids.blob (judged.0 arrived), purge-blob v a number blob gone keeps may (live-message-is a number gone keeps.valid shown), judged.1)
 
-    run_after : {reads : D → ℕ} (r : Result (Unit {0}) StoreRefusal) → ChangesStore content moment left_since faults reads mid new v after Renews (Replaces blob text arrived) r → (a : Archive) (cache gone : List ℕ) → IsStoreWith v cache a (content old) → v.root.sequence + 1 < 2 ^ 64 → text_of (live a.entries) number ≡ Some gone
-        → LeavesOnly moment left_since old new (RecoversOneOf cache a [] (unless_refused a (delivered (without_entries a gone) bytes arrived)).archive)
+    run_after : (r : Result (Unit {0}) StoreRefusal) → ChangesStore g mid new v after Renews (Replaces blob text arrived) r → (a : Archive) (cache gone : List ℕ) → IsStoreWith v cache a (g.content old) → v.root.sequence + 1 < 2 ^ 64 → text_of (live a.entries) number ≡ Some gone
+        → LeavesOnly g old new (RecoversOneOf cache a [] (unless_refused a (delivered (without_entries a gone) bytes arrived)).archive)
     run_after r keeps a cache gone store room shown =
         let is = taken_is a cache gone store shown in
-        let own = still_own v cache a (content old) (content mid) looks.same store in
-        read-first moment left_since law v cache [] a (unless_refused a (delivered (without_entries a gone) bytes arrived)).archive (content old) old mid new store looks.crash
-        (subst (λ (b : Archive). LeavesOnly moment left_since mid new (RecoversOneOf cache a [] b)) (sym (ap (λ (d : Done). d.archive) is.0)) (keeps.crash a (with_entry (without_entries a gone) (new_epoch (without_entries a gone)) text arrived) cache own room (record { number = number; gone = gone; shown = shown; blob_is = is.1; alone = is.2; is = refl })))
+        let own = still_own v cache a (g.content old) (g.content mid) looks.same store in
+        read-first g law v cache [] a (unless_refused a (delivered (without_entries a gone) bytes arrived)).archive (g.content old) old mid new store looks.crash
+        (subst (λ (b : Archive). LeavesOnly g mid new (RecoversOneOf cache a [] b)) (sym (ap (λ (d : Done). d.archive) is.0)) (keeps.crash a (with_entry (without_entries a gone) (new_epoch (without_entries a gone)) text arrived) cache own room (record { number = number; gone = gone; shown = shown; blob_is = is.1; alone = is.2; is = refl })))
 
     -- The store refused it.
-    pub edits-failed : {reads : D → ℕ} (why : StoreRefusal) (reply : Answer) → reply ≡ refusal_answer why → WhereTold (StoreHasSizes v) (content old) → ChangesStore content moment left_since faults reads mid new v after Renews (Replaces blob text arrived) (Err why) → EditsAs content moment left_since faults old new v after number bytes arrived reply
-    edits-failed why reply reply_is sizes keeps = let looked = store-looks content moment left_since only_now Renews why looks keeps in subst (λ (r : Answer). EditsAs content moment left_since faults old new v after number bytes arrived r) (sym reply_is) (record {
+    pub edits-failed : (why : StoreRefusal) (reply : Answer) → reply ≡ refusal_answer why → WhereTold (StoreHasSizes v) (g.content old) → ChangesStore g mid new v after Renews (Replaces blob text arrived) (Err why) → EditsAs g old new v after number bytes arrived reply
+    edits-failed why reply reply_is sizes keeps = let looked = store-looks g only_now Renews why looks keeps in subst (λ (r : Answer). EditsAs g old new v after number bytes arrived r) (sym reply_is) (record {
       crash = run_after (Err why) keeps;
       done = λ a cache gone store room shown. (
-          let own = still_own v cache a (content old) (content mid) looks.same store in
-          failed-done content moment left_since old new v after cache [] a (unless_refused a (delivered (without_entries a gone) bytes arrived)) why keeps.same looked (keeps.undamaged a cache own) store);
+          let own = still_own v cache a (g.content old) (g.content mid) looks.same store in
+          failed-done g old new v after cache [] a (unless_refused a (delivered (without_entries a gone) bytes arrived)) why keeps.same looked (keeps.undamaged a cache own) store);
       settled = error-done why (refusal_answer why) _ refl;
       goes_on = error-done why (refusal_answer why) _ refl;
       slot = error-done why (refusal_answer why) _ refl;
       same = when-refused (refusal_answer why) _ keeps.same;
       untouched = when-refused (refusal_answer why) _ (error-unless why _ _ (λ is. is) looked);
       late = error-then why (λ r. IfUnreadEdit r ⊥) tt tt (λ file at. tt);
-      sizes = error-unless why _ _ (still-sized content moment left_since old new v after keeps.same sizes) looked;
-      cause = subst (λ (m : ℕ). RoseIf (refusal_answer why ≡ answer.DiskFault) m (faults new)) steady (error-cause why (faults mid) (faults new) keeps.cause);
+      sizes = error-unless why _ _ (still-sized g old new v after keeps.same sizes) looked;
+      cause = subst (λ (m : ℕ). RoseIf (refusal_answer why ≡ answer.DiskFault) m (g.faults new)) steady (error-cause why (g.faults mid) (g.faults new) keeps.cause);
       for_command = error-then why AnswersDelivery tt tt (λ file at. tt);
       rooted = error-done why (refusal_answer why) _ refl;
-      crash_between = read_between content moment left_since old mid new looks.same looks.crash keeps.crash_between;
-      damage = store-damage v (content old) (content mid) why (refusal_answer why) refl looks.same keeps.damage;
+      crash_between = read_between g old mid new looks.same looks.crash keeps.crash_between;
+      damage = store-damage v (g.content old) (g.content mid) why (refusal_answer why) refl looks.same keeps.damage;
     })
 
     -- It was kept.
-    pub edits-done : {reads : D → ℕ} → ChangesStore content moment left_since faults reads mid new v after Renews (Replaces blob text arrived) (Ok tt) → EditsAs content moment left_since faults old new v after number bytes arrived (answer.Ok n ids.blob)
+    pub edits-done : ChangesStore g mid new v after Renews (Replaces blob text arrived) (Ok tt) → EditsAs g old new v after number bytes arrived (answer.Ok n ids.blob)
     edits-done keeps = record {
       crash = run_after (Ok tt) keeps;
       done = λ a cache gone store room shown. (
           let is = taken_is a cache gone store shown in
-          let own = still_own v cache a (content old) (content mid) looks.same store in
+          let own = still_own v cache a (g.content old) (g.content mid) looks.same store in
           record {
             answer_is = ap (λ (d : Done). d.answer) is.0;
-            store = subst (λ (b : Archive). IsStoreWith after [] b (content new)) (sym (ap (λ (d : Done). d.archive) is.0)) (keeps.done a (with_entry (without_entries a gone) (new_epoch (without_entries a gone)) text arrived) cache own room (record { number = number; gone = gone; shown = shown; blob_is = is.1; alone = is.2; is = refl }));
+            store = subst (λ (b : Archive). IsStoreWith after [] b (g.content new)) (sym (ap (λ (d : Done). d.archive) is.0)) (keeps.done a (with_entry (without_entries a gone) (new_epoch (without_entries a gone)) text arrived) cache own room (record { number = number; gone = gone; shown = shown; blob_is = is.1; alone = is.2; is = refl }));
           });
       settled = keeps.settled;
       goes_on = keeps.goes_on;
@@ -196,9 +165,9 @@ module _ {D : Type 0} (content : D → Option Content) (moment : D → ℕ) (lef
       untouched = tt;
       late = tt;
       sizes = keeps.sizes;
-      cause = subst (λ (m : ℕ). RoseIf (answer.Ok n ids.blob ≡ answer.DiskFault) m (faults new)) steady (record { later = keeps.cause.later; failed = λ fault. absurd (cc fault); kept = λ never. keeps.cause.kept (λ fault. absurd (cc fault)) });
+      cause = subst (λ (m : ℕ). RoseIf (answer.Ok n ids.blob ≡ answer.DiskFault) m (g.faults new)) steady (record { later = keeps.cause.later; failed = λ fault. absurd (cc fault); kept = λ never. keeps.cause.kept (λ fault. absurd (cc fault)) });
       for_command = tt;
-      rooted = rooted-read after.slot (spelling after.root) (content old) (content mid) (content new) looks.same keeps.rooted;
-      crash_between = read_between content moment left_since old mid new looks.same looks.crash keeps.crash_between;
+      rooted = rooted-read after.slot (spelling after.root) (g.content old) (g.content mid) (g.content new) looks.same keeps.rooted;
+      crash_between = read_between g old mid new looks.same looks.crash keeps.crash_between;
       damage = tt;
     }

@@ -1,8 +1,9 @@
 -- What a store keeps, and what its own disk leaves while it is only read.
 use Rattle.std.specs.Prelude.{◌≡◌, ◌++◌, ◌∷◌, [], ℕ, Bool, true, List, Option, Some, None, Err, if◌then◌else◌}
 use Rattle.std.proofs.Common.{◌∙◌, sym, ap, subst, inl}
-use Rattle.disk_model.specs.Disk.{Files, Content, Image, BothTold, Unchanged, LeavesOnly}
-use Rattle.disk_model.specs.Moments.{joined, started, weaker}
+use Rattle.disk_model.specs.declared.disk.Disk.{Ghosts as Disk}
+use Rattle.disk_model.specs.Disk.{Files, Content, Image, BothTold, Unchanged}
+use Rattle.disk_model.specs.Moments.{LeavesOnly, joined, started, weaker}
 use Rattle.arch_model.specs.Archives.{Archive, with_entry}
 use Rattle.arch_model.specs.Delivery.{Done, collision, delivered, refused, new_epoch}
 use Rattle.arch_model.specs.declared.answer.Answer.{Answer}
@@ -32,19 +33,19 @@ pub stands : StoreRecovers → (v : StoreState) (cache left : List ℕ) (a b : A
 stands law v cache left a b None image store now = absurd store
 stands law v cache left a b (Some k) image store now = inl ((law v cache a k store).0 image now)
 
-module _ {D : Type 0} (moment : D → ℕ) (left_since : D → ℕ → Files → Type 0) where
+module _ {D : Type 0} (g : Disk D) where
   -- So it does while nothing is done.
-  pub not-started : StoreRecovers → (v : StoreState) (cache left : List ℕ) (a b : Archive) (k : Option Content) (disk : D) → IsStoreWith v cache a k → ((image : Files) → left_since disk (moment disk) image → Image k image) → LeavesOnly moment left_since disk disk (RecoversOneOf cache a left b)
-  not-started law v cache left a b k disk store now = started moment left_since disk (RecoversOneOf cache a left b) (λ image is. stands law v cache left a b k image store (now image is))
+  pub not-started : StoreRecovers → (v : StoreState) (cache left : List ℕ) (a b : Archive) (k : Option Content) (disk : D) → IsStoreWith v cache a k → ((image : Files) → g.left_since disk (g.moment disk) image → Image k image) → LeavesOnly g disk disk (RecoversOneOf cache a left b)
+  not-started law v cache left a b k disk store now = started g disk (RecoversOneOf cache a left b) (λ image is. stands law v cache left a b k image store (now image is))
 
   -- And after the disk was only read.
-  pub only-read : StoreRecovers → (v : StoreState) (cache left : List ℕ) (a b : Archive) (k : Option Content) (old new : D) → IsStoreWith v cache a k → LeavesOnly moment left_since old new (Image k) → LeavesOnly moment left_since old new (RecoversOneOf cache a left b)
-  only-read law v cache left a b k old new store run = weaker moment left_since old new (Image k) (RecoversOneOf cache a left b) run (λ image is. stands law v cache left a b k image store is)
+  pub only-read : StoreRecovers → (v : StoreState) (cache left : List ℕ) (a b : Archive) (k : Option Content) (old new : D) → IsStoreWith v cache a k → LeavesOnly g old new (Image k) → LeavesOnly g old new (RecoversOneOf cache a left b)
+  only-read law v cache left a b k old new store run = weaker g old new (Image k) (RecoversOneOf cache a left b) run (λ image is. stands law v cache left a b k image store is)
 
   -- And after it was read, and then more was done.
-  pub read-first : StoreRecovers → (v : StoreState) (cache left : List ℕ) (a b : Archive) (k : Option Content) (old mid new : D) → IsStoreWith v cache a k → LeavesOnly moment left_since old mid (Image k) → LeavesOnly moment left_since mid new (RecoversOneOf cache a left b)
-      → LeavesOnly moment left_since old new (RecoversOneOf cache a left b)
-  read-first law v cache left a b k old mid new store run more = joined moment left_since old mid new (Image k) (RecoversOneOf cache a left b) (RecoversOneOf cache a left b) run more (λ image is. stands law v cache left a b k image store is) (λ image is. is)
+  pub read-first : StoreRecovers → (v : StoreState) (cache left : List ℕ) (a b : Archive) (k : Option Content) (old mid new : D) → IsStoreWith v cache a k → LeavesOnly g old mid (Image k) → LeavesOnly g mid new (RecoversOneOf cache a left b)
+      → LeavesOnly g old new (RecoversOneOf cache a left b)
+  read-first law v cache left a b k old mid new store run more = joined g old mid new (Image k) (RecoversOneOf cache a left b) (RecoversOneOf cache a left b) run more (λ image is. stands law v cache left a b k image store is) (λ image is. is)
 
 -- If a delivery is judged to take a text, the archive after it is the one with that text.
 pub archive_taken : (a : Archive) (text slice : List ℕ) (moment : ℕ) (wanted : Done) (reply : Answer) → slice ≡ text

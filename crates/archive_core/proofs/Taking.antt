@@ -2,7 +2,9 @@
 use Rattle.std.specs.Prelude.{◌≡◌, ◌+◌, ◌<◌, ◌^◌, ℕ, Bool, true, false, List, Option, Some, None, Result, Ok, Err, is_some, refl, if◌then◌else◌}
 use Rattle.std.proofs.Common.{◌∙◌, sym, ap, subst, arith}
 use Rattle.arch_base.specs.Counts.{RoseIf}
-use Rattle.disk_model.specs.Disk.{Files, Content, Image, BothTold, Unchanged, WhereTold, LeavesOnly}
+use Rattle.disk_model.specs.declared.disk.Disk.{Ghosts as Disk}
+use Rattle.disk_model.specs.Disk.{Files, Content, Image, BothTold, Unchanged, WhereTold}
+use Rattle.disk_model.specs.Moments.{LeavesOnly}
 use Rattle.root_slots.specs.Between.{looks_between}
 use Rattle.root_slots.specs.Slots.{HasNewRoot}
 use Rattle.root_slots.specs.Spelling.{spelling}
@@ -77,46 +79,46 @@ rooted-read free body k m o same rooted = subst (λ (c : Option Content). BothTo
 pub steady-cause : (P : Type 0) (before now : ℕ) → (P → ⊥) → now ≡ before → RoseIf P before now
 steady-cause P before now never is = record { later = omega arith; failed = λ fault. absurd (never fault); kept = λ _. is }
 
-module _ {D : Type 0} (content : D → Option Content) (moment : D → ℕ) (left_since : D → ℕ → Files → Type 0) where
+module _ {D : Type 0} (g : Disk D) where
   -- The store did nothing more, or only read, unless the disk failed.
-  pub store-looks : ((disk : D) (image : Files) → left_since disk (moment disk) image → Image (content disk) image) → {faults reads : D → ℕ} {old mid new : D} {v after : StoreState} {Makes : Archive → Archive → Type 0} (way : WriteKind) (why : StoreRefusal) → OnlyLooks content moment left_since old mid → ChangesStore content moment left_since faults reads mid new v after way Makes (Err why)
-      → UnlessFailed {T = Unit {0}} (Err why) (OnlyLooks content moment left_since old new)
-  store-looks only_now {faults} {old = old} {mid} {new} way why looks changes = by why changes.untouched where
-    more : (way : WriteKind) → StaysBy way content moment left_since faults mid new → OnlyLooks content moment left_since old new
-    more Appends still = subst (λ (d : D). OnlyLooks content moment left_since old d) (sym still) looks
-    more Renews reads = looks-joined content moment left_since only_now old mid new looks (record { same = reads.same; crash = reads.crash })
+  pub store-looks : ((disk : D) (image : Files) → g.left_since disk (g.moment disk) image → Image (g.content disk) image) → {old mid new : D} {v after : StoreState} {Makes : Archive → Archive → Type 0} (way : WriteKind) (why : StoreRefusal) → OnlyLooks g old mid → ChangesStore g mid new v after way Makes (Err why)
+      → UnlessFailed {T = Unit {0}} (Err why) (OnlyLooks g old new)
+  store-looks only_now {old = old} {mid} {new} way why looks changes = by why changes.untouched where
+    more : (way : WriteKind) → StaysBy way g mid new → OnlyLooks g old new
+    more Appends still = subst (λ (d : D). OnlyLooks g old d) (sym still) looks
+    more Renews reads = looks-joined g only_now old mid new looks (record { same = reads.same; crash = reads.crash })
 
-    by : (why : StoreRefusal) → UnlessFailed {T = Unit {0}} (Err why) (StaysBy way content moment left_since faults mid new) → UnlessFailed {T = Unit {0}} (Err why) (OnlyLooks content moment left_since old new)
+    by : (why : StoreRefusal) → UnlessFailed {T = Unit {0}} (Err why) (StaysBy way g mid new) → UnlessFailed {T = Unit {0}} (Err why) (OnlyLooks g old new)
     by refusal.DiskFault still = tt
     by refusal.NoMemory still = more way still
     by (refusal.Damaged file at) still = more way still
 
   -- It found no damage.
-  pub store-sound : {faults reads : D → ℕ} {mid new : D} {v after : StoreState} {Makes : Archive → Archive → Type 0} (way : WriteKind) (why : StoreRefusal) → ChangesStore content moment left_since faults reads mid new v after way Makes (Err why) → (cache : List ℕ) (a : Archive) → IsStoreWith v cache a (content mid) → IsUndamagedStore why
+  pub store-sound : {mid new : D} {v after : StoreState} {Makes : Archive → Archive → Type 0} (way : WriteKind) (why : StoreRefusal) → ChangesStore g mid new v after way Makes (Err why) → (cache : List ℕ) (a : Archive) → IsStoreWith v cache a (g.content mid) → IsUndamagedStore why
   store-sound Appends why changes cache a own = changes.undamaged
   store-sound Renews why changes cache a own = changes.undamaged a cache own
 
   -- The archive after an error of the store.
-  pub failed-done : (old new : D) (v after : StoreState) (cache left : List ℕ) (a : Archive) (d : Done) (why : StoreRefusal) → after ≡ v → UnlessFailed {T = Unit {0}} (Err why) (OnlyLooks content moment left_since old new) → IsUndamagedStore why
-      → IsStoreWith v cache a (content old) → DoneBy after cache left a d (refusal_answer why) (content new)
+  pub failed-done : (old new : D) (v after : StoreState) (cache left : List ℕ) (a : Archive) (d : Done) (why : StoreRefusal) → after ≡ v → UnlessFailed {T = Unit {0}} (Err why) (OnlyLooks g old new) → IsUndamagedStore why
+      → IsStoreWith v cache a (g.content old) → DoneBy after cache left a d (refusal_answer why) (g.content new)
   failed-done old new v after cache left a d refusal.DiskFault same looks fine store = tt
-  failed-done old new v after cache left a d refusal.NoMemory same looks fine store = subst (λ (u : StoreState). IsStoreWith u cache a (content new)) (sym same) (still_own v cache a (content old) (content new) looks.same store)
+  failed-done old new v after cache left a d refusal.NoMemory same looks fine store = subst (λ (u : StoreState). IsStoreWith u cache a (g.content new)) (sym same) (still_own v cache a (g.content old) (g.content new) looks.same store)
   failed-done old new v after cache left a d (refusal.Damaged file at) same looks fine store = absurd fine
 
   -- The files have their sizes.
-  pub still-sized : (old new : D) (v after : StoreState) → after ≡ v → WhereTold (StoreHasSizes v) (content old) → OnlyLooks content moment left_since old new → WhereTold (StoreHasSizes after) (content new)
-  still-sized old new v after same sizes looks = subst (λ (u : StoreState). WhereTold (StoreHasSizes u) (content new)) (sym same) (subst (WhereTold (StoreHasSizes v)) (sym (unchanged-is (content old) (content new) looks.same)) sizes)
+  pub still-sized : (old new : D) (v after : StoreState) → after ≡ v → WhereTold (StoreHasSizes v) (g.content old) → OnlyLooks g old new → WhereTold (StoreHasSizes after) (g.content new)
+  still-sized old new v after same sizes looks = subst (λ (u : StoreState). WhereTold (StoreHasSizes u) (g.content new)) (sym same) (subst (WhereTold (StoreHasSizes v)) (sym (unchanged-is (g.content old) (g.content new) looks.same)) sizes)
 
-module _ {D : Type 0} (content : D → Option Content) (moment : D → ℕ) (left_since : D → ℕ → Files → Type 0) (faults reads : D → ℕ)
-    (only_now : (disk : D) (image : Files) → left_since disk (moment disk) image → Image (content disk) image) (law : StoreRecovers) (m : Command) (wanted : Archive → Done) where
+module _ {D : Type 0} (g : Disk D)
+    (only_now : (disk : D) (image : Files) → g.left_since disk (g.moment disk) image → Image (g.content disk) image) (law : StoreRecovers) (m : Command) (wanted : Archive → Done) where
   -- It was refused, after the disk was only read.
-  pub refused-taken : (old new : D) (v : StoreState) (reply : Answer) → OnDone reply ⊥ → WhereTold (StoreHasSizes v) (content old) → OnlyLooks content moment left_since old new
-      → ((a : Archive) (cache : List ℕ) → IsStoreWith v cache a (content old) → IsStoreWith v cache a (content new) → DoneBy v cache (cache_left m cache) a (wanted a) reply (content new))
-      → IfUnreadFor m reply (new ≡ old) → RoseIf (reply ≡ answer.DiskFault) (faults old) (faults new) → IsForCommand m reply → ReadsFor m (reads old) (reads new)
-      → TellsDamage v (content old) reply → TakesCommand content moment left_since faults reads old new v v m wanted reply
+  pub refused-taken : (old new : D) (v : StoreState) (reply : Answer) → OnDone reply ⊥ → WhereTold (StoreHasSizes v) (g.content old) → OnlyLooks g old new
+      → ((a : Archive) (cache : List ℕ) → IsStoreWith v cache a (g.content old) → IsStoreWith v cache a (g.content new) → DoneBy v cache (cache_left m cache) a (wanted a) reply (g.content new))
+      → IfUnreadFor m reply (new ≡ old) → RoseIf (reply ≡ answer.DiskFault) (g.faults old) (g.faults new) → IsForCommand m reply → ReadsFor m (g.reads old) (g.reads new)
+      → TellsDamage v (g.content old) reply → TakesCommand g old new v v m wanted reply
   refused-taken old new v reply never sizes looks done unmoved cause for_command count damage = record {
-    crash = λ a cache store room. only-read moment left_since law v cache (cache_left m cache) a (wanted a).archive (content old) old new store looks.crash;
-    done = λ a cache store room. done a cache store (still_own v cache a (content old) (content new) looks.same store);
+    crash = λ a cache store room. only-read g law v cache (cache_left m cache) a (wanted a).archive (g.content old) old new store looks.crash;
+    done = λ a cache store room. done a cache store (still_own v cache a (g.content old) (g.content new) looks.same store);
     settled = done-then reply ⊥ _ (λ wrong. absurd wrong) never;
     goes_on = done-then reply ⊥ _ (λ wrong. absurd wrong) never;
     files = done-then reply ⊥ _ (λ wrong. absurd wrong) never;
@@ -124,40 +126,40 @@ module _ {D : Type 0} (content : D → Option Content) (moment : D → ℕ) (lef
     same = when-refused reply (v ≡ v) refl;
     untouched = when-refused reply _ (unless-failed reply _ looks);
     unmoved = unmoved;
-    sizes = unless-failed reply _ (still-sized content moment left_since old new v v refl sizes looks);
+    sizes = unless-failed reply _ (still-sized g old new v v refl sizes looks);
     cause = cause;
     for_command = for_command;
     count = count;
     rooted = done-then reply ⊥ _ (λ wrong. absurd wrong) never;
-    crash_between = looks_between content moment left_since old new looks.crash;
+    crash_between = looks_between g old new looks.crash;
     damage = damage;
   }
 
   -- It was refused before anything was read.
-  pub quiet-taken : (disk : D) (v : StoreState) (reply : Answer) → OnDone reply ⊥ → is_accepted reply ≡ false → is_damage reply ≡ false → (reply ≡ answer.DiskFault → ⊥) → WhereTold (StoreHasSizes v) (content disk) → ((a : Archive) → KeepsArchive v a → wanted a ≡ refused a reply)
-      → IfUnreadFor m reply (disk ≡ disk) → IsForCommand m reply → TakesCommand content moment left_since faults reads disk disk v v m wanted reply
+  pub quiet-taken : (disk : D) (v : StoreState) (reply : Answer) → OnDone reply ⊥ → is_accepted reply ≡ false → is_damage reply ≡ false → (reply ≡ answer.DiskFault → ⊥) → WhereTold (StoreHasSizes v) (g.content disk) → ((a : Archive) → KeepsArchive v a → wanted a ≡ refused a reply)
+      → IfUnreadFor m reply (disk ≡ disk) → IsForCommand m reply → TakesCommand g disk disk v v m wanted reply
   quiet-taken disk v reply never declined fine sound sizes is unmoved for_command =
-      refused-taken disk disk v reply never sizes (looks-same content moment left_since only_now disk)
-      (λ a cache store own. left-done v cache (cache_left m cache) a (wanted a) (content disk) reply own declined fine (is a (store_keeps v cache a (content disk) own)))
-      unmoved (record { later = omega arith; failed = λ fault. absurd (sound fault); kept = λ never. refl }) for_command (reads_none m (reads disk)) (none-damaged reply _ fine)
+      refused-taken disk disk v reply never sizes (looks-same g only_now disk)
+      (λ a cache store own. left-done v cache (cache_left m cache) a (wanted a) (g.content disk) reply own declined fine (is a (store_keeps v cache a (g.content disk) own)))
+      unmoved (record { later = omega arith; failed = λ fault. absurd (sound fault); kept = λ never. refl }) for_command (reads_none m (g.reads disk)) (none-damaged reply _ fine)
 
   -- The store was asked, after the disk was only read.
-  module _ (old mid new : D) (v after : StoreState) (Makes : Archive → Archive → Type 0) (looks : OnlyLooks content moment left_since old mid) (steady : faults mid ≡ faults old)
-      (makes : (a : Archive) (cache : List ℕ) → IsStoreWith v cache a (content old) → Makes a (wanted a).archive) (count : ReadsFor m (reads old) (reads new)) where
-    still : (a : Archive) (cache : List ℕ) → IsStoreWith v cache a (content old) → IsStoreWith v cache a (content mid)
-    still a cache store = still_own v cache a (content old) (content mid) looks.same store
+  module _ (old mid new : D) (v after : StoreState) (Makes : Archive → Archive → Type 0) (looks : OnlyLooks g old mid) (steady : g.faults mid ≡ g.faults old)
+      (makes : (a : Archive) (cache : List ℕ) → IsStoreWith v cache a (g.content old) → Makes a (wanted a).archive) (count : ReadsFor m (g.reads old) (g.reads new)) where
+    still : (a : Archive) (cache : List ℕ) → IsStoreWith v cache a (g.content old) → IsStoreWith v cache a (g.content mid)
+    still a cache store = still_own v cache a (g.content old) (g.content mid) looks.same store
 
-    run : (r : Result (Unit {0}) StoreRefusal) → ChangesStore content moment left_since faults reads mid new v after (way_of m) Makes r → (a : Archive) (cache : List ℕ) → IsStoreWith v cache a (content old) → v.root.sequence + 1 < 2 ^ 64 → LeavesOnly moment left_since old new (RecoversOneOf cache a (cache_left m cache) (wanted a).archive)
-    run r changes a cache store room = read-first moment left_since law v cache (cache_left m cache) a (wanted a).archive (content old) old mid new store looks.crash (changes.crash a (wanted a).archive cache (still a cache store) room (makes a cache store))
+    run : (r : Result (Unit {0}) StoreRefusal) → ChangesStore g mid new v after (way_of m) Makes r → (a : Archive) (cache : List ℕ) → IsStoreWith v cache a (g.content old) → v.root.sequence + 1 < 2 ^ 64 → LeavesOnly g old new (RecoversOneOf cache a (cache_left m cache) (wanted a).archive)
+    run r changes a cache store room = read-first g law v cache (cache_left m cache) a (wanted a).archive (g.content old) old mid new store looks.crash (changes.crash a (wanted a).archive cache (still a cache store) room (makes a cache store))
 
     -- It failed.
-    pub failed-taken : (why : StoreRefusal) (reply : Answer) → reply ≡ refusal_answer why → WhereTold (StoreHasSizes v) (content old) → ChangesStore content moment left_since faults reads mid new v after (way_of m) Makes (Err why) → IfUnreadFor m (refusal_answer why) (new ≡ old) → IsForCommand m (refusal_answer why)
-        → TakesCommand content moment left_since faults reads old new v after m wanted reply
+    pub failed-taken : (why : StoreRefusal) (reply : Answer) → reply ≡ refusal_answer why → WhereTold (StoreHasSizes v) (g.content old) → ChangesStore g mid new v after (way_of m) Makes (Err why) → IfUnreadFor m (refusal_answer why) (new ≡ old) → IsForCommand m (refusal_answer why)
+        → TakesCommand g old new v after m wanted reply
     failed-taken why reply reply_is sizes changes unmoved for_command =
-        let looked = store-looks content moment left_since only_now (way_of m) why looks changes in
-        subst (λ (r : Answer). TakesCommand content moment left_since faults reads old new v after m wanted r) (sym reply_is) (record {
+        let looked = store-looks g only_now (way_of m) why looks changes in
+        subst (λ (r : Answer). TakesCommand g old new v after m wanted r) (sym reply_is) (record {
           crash = run (Err why) changes;
-          done = λ a cache store room. failed-done content moment left_since old new v after cache (cache_left m cache) a (wanted a) why changes.same looked (store-sound content moment left_since (way_of m) why changes cache a (still a cache store)) store;
+          done = λ a cache store room. failed-done g old new v after cache (cache_left m cache) a (wanted a) why changes.same looked (store-sound g (way_of m) why changes cache a (still a cache store)) store;
           settled = error-done why (refusal_answer why) _ refl;
           goes_on = error-done why (refusal_answer why) _ refl;
           files = error-done why (refusal_answer why) _ refl;
@@ -165,18 +167,18 @@ module _ {D : Type 0} (content : D → Option Content) (moment : D → ℕ) (lef
           same = when-refused (refusal_answer why) _ changes.same;
           untouched = when-refused (refusal_answer why) _ (error-unless why _ _ (λ is. is) looked);
           unmoved = unmoved;
-          sizes = error-unless why _ _ (still-sized content moment left_since old new v after changes.same sizes) looked;
-          cause = subst (λ (n : ℕ). RoseIf (refusal_answer why ≡ answer.DiskFault) n (faults new)) steady (error-cause why (faults mid) (faults new) changes.cause);
+          sizes = error-unless why _ _ (still-sized g old new v after changes.same sizes) looked;
+          cause = subst (λ (n : ℕ). RoseIf (refusal_answer why ≡ answer.DiskFault) n (g.faults new)) steady (error-cause why (g.faults mid) (g.faults new) changes.cause);
           for_command = for_command;
           count = count;
           rooted = error-done why (refusal_answer why) _ refl;
-          crash_between = read_between content moment left_since old mid new looks.same looks.crash changes.crash_between;
-          damage = store-damage v (content old) (content mid) why (refusal_answer why) refl looks.same changes.damage;
+          crash_between = read_between g old mid new looks.same looks.crash changes.crash_between;
+          damage = store-damage v (g.content old) (g.content mid) why (refusal_answer why) refl looks.same changes.damage;
         })
 
     -- It was carried out.
-    pub done-taken : (number : ℕ) (id : Id20) → ChangesStore content moment left_since faults reads mid new v after (way_of m) Makes (Ok tt) → ((a : Archive) (cache : List ℕ) → IsStoreWith v cache a (content old) → (wanted a).answer ≡ answer.Ok number id) → FilesFor m v after → IfUnreadFor m (answer.Ok number id) (new ≡ old) → IsForCommand m (answer.Ok number id)
-        → TakesCommand content moment left_since faults reads old new v after m wanted (answer.Ok number id)
+    pub done-taken : (number : ℕ) (id : Id20) → ChangesStore g mid new v after (way_of m) Makes (Ok tt) → ((a : Archive) (cache : List ℕ) → IsStoreWith v cache a (g.content old) → (wanted a).answer ≡ answer.Ok number id) → FilesFor m v after → IfUnreadFor m (answer.Ok number id) (new ≡ old) → IsForCommand m (answer.Ok number id)
+        → TakesCommand g old new v after m wanted (answer.Ok number id)
     done-taken number id changes answers files unmoved for_command = record {
       crash = run (Ok tt) changes;
       done = λ a cache store room. record { answer_is = answers a cache store; store = changes.done a (wanted a).archive cache (still a cache store) room (makes a cache store) };
@@ -191,7 +193,7 @@ module _ {D : Type 0} (content : D → Option Content) (moment : D → ℕ) (lef
       cause = steady-cause _ _ _ (λ fault. absurd (cc fault)) (changes.cause.kept (λ fault. absurd (cc fault)) ∙ steady);
       for_command = for_command;
       count = count;
-      rooted = rooted-read after.slot (spelling after.root) (content old) (content mid) (content new) looks.same changes.rooted;
-      crash_between = read_between content moment left_since old mid new looks.same looks.crash changes.crash_between;
+      rooted = rooted-read after.slot (spelling after.root) (g.content old) (g.content mid) (g.content new) looks.same changes.rooted;
+      crash_between = read_between g old mid new looks.same looks.crash changes.crash_between;
       damage = tt;
     }

@@ -8,9 +8,11 @@ use Rattle.arch_model.specs.declared.answer.Answer.{Answer}
 use Rattle.arch_model.specs.declared.answer.Answer.TheVariants as answer
 use Rattle.arch_model.specs.declared.text_refusal.TextRefusal.{TextRefusal}
 use Rattle.arch_model.specs.declared.text_refusal.TextRefusal.TheVariants as reading
-use Rattle.arch_judge.specs.Judging.{IsForDelivery, RefusesLast}
+use Rattle.arch_base.specs.declared.config.Config.{Config}
+use Rattle.arch_judge.specs.Judging.{IsForDelivery, MayTake, RefusesLast}
+use Rattle.arch_judge.specs.declared.index.Index.{Index}
 use Rattle.arch_judge.specs.declared.judging.Verdict.{Verdict}
-use Rattle.arch_judge.specs.declared.judging.Verdict.TheVariants.{Take, Compare, Refuse}
+use Rattle.arch_judge.specs.declared.judging.Verdict.TheVariants.{Take, Refuse}
 use Rattle.epoch_file.specs.declared.refusal.StoreRefusal.{StoreRefusal}
 use Rattle.epoch_file.specs.declared.refusal.StoreRefusal.TheVariants as refusal
 use Rattle.store_finding.specs.declared.entries.StoredEntry.{StoredEntry}
@@ -21,7 +23,6 @@ use Rattle.store_finding.specs.Kept.{StoreState}
 use Rattle.archive_core.specs.Commands.{IsNamed, IsTextAt, damaged_place, refusal_answer, unread_answer}
 use Rattle.archive_core.specs.DamageTold.{OnDamage, RefusesVerdict, TellsDamage, TellsEntry}
 use Rattle.archive_core.specs.Engines.{unchanged-is}
-use Rattle.archive_core.specs.Rewriting.{late_answer}
 use Rattle.archive_core.proofs.WithoutText.{is_damage}
 
 -- Damage that is told holds of less.
@@ -92,8 +93,9 @@ for_delivery v k answer.DiskFault is = tt
 for_delivery v k answer.NoMemory is = tt
 for_delivery v k (answer.Damaged file at) never = absurd never
 
-pub judged-damage : (v : StoreState) (k : Option Content) (reply : Answer) → IsForDelivery reply → RefusesVerdict v k (Refuse reply)
-judged-damage v k reply is = for_delivery v k reply is
+pub judged-damage : (v : StoreState) (k : Option Content) (config : Config) (index : Index) (next : ℕ) (verdict : Verdict) → MayTake config index next verdict → RefusesVerdict v k verdict
+judged-damage v k config index next (Take text ids number) is = tt
+judged-damage v k config index next (Refuse reply) is = for_delivery v k reply is
 
 last_damage : (v : StoreState) (k : Option Content) (reply : Answer) → RefusesLast (Refuse reply) → TellsEntry v k reply
 last_damage v k (answer.Ok number id) is = tt
@@ -111,10 +113,4 @@ last_damage v k (answer.Damaged file at) never = absurd never
 
 pub compared-damage : (v : StoreState) (k : Option Content) (verdict : Verdict) → RefusesLast verdict → RefusesVerdict v k verdict
 compared-damage v k (Take text ids number) is = tt
-compared-damage v k (Compare text ids number) is = tt
 compared-damage v k (Refuse reply) is = last_damage v k reply is
-
--- A refusal that comes late.
-pub late-damage : (v : StoreState) (k : Option Content) (reply : Answer) → TellsEntry v k reply → TellsDamage v k (late_answer reply)
-late-damage v k (answer.Damaged file at) is = inl (inl is)
-late-damage v k other is = tt

@@ -9,7 +9,7 @@ use Rattle.arch_model.specs.declared.text_refusal.TextRefusal.{TextRefusal}
 use Rattle.arch_model.specs.declared.text_refusal.TextRefusal.TheVariants as reading
 use Rattle.arch_judge.specs.Judging.{RefusesLast}
 use Rattle.arch_judge.specs.declared.judging.Verdict.{Verdict}
-use Rattle.arch_judge.specs.declared.judging.Verdict.TheVariants.{Take, Compare, Refuse}
+use Rattle.arch_judge.specs.declared.judging.Verdict.TheVariants.{Take, Refuse}
 use Rattle.epoch_file.specs.declared.refusal.StoreRefusal.{StoreRefusal}
 use Rattle.epoch_file.specs.declared.refusal.StoreRefusal.TheVariants as refusal
 use Rattle.store_finding.specs.Kept.{StoreState}
@@ -55,10 +55,14 @@ if-none-read (answer.NoText number) P never = absurd never
 if-none-read answer.IsMirror P never = absurd never
 if-none-read other P never = tt
 
+-- A verdict before any text was read.
+pub if-final : (v : Verdict) (P : Type 0) → P → IfRefusedUnread v P
+if-final (Take text ids n) P is = tt
+if-final (Refuse reply) P is = if-unread reply P is
+
 -- A verdict after the texts were compared.
 pub if-compared : (v : Verdict) (P : Type 0) → RefusesLast v → IfRefusedUnread v P
 if-compared (Take text ids n) P is = tt
-if-compared (Compare text blob n) P is = tt
 if-compared (Refuse (answer.Ok number id)) P never = tt
 if-compared (Refuse (answer.Duplicate number)) P never = absurd never
 if-compared (Refuse answer.NoFields) P never = absurd never

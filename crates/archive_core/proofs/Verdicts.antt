@@ -1,8 +1,9 @@
 -- The verdict on the delivery of a message to an archive on a disk.
-use Rattle.std.specs.Prelude.{◌≡◌, ℕ, Bool, true, List, [], Some, None, Ok, Err, if◌then◌else◌}
+use Rattle.std.specs.Prelude.{◌≡◌, ℕ, Bool, true, List, [], Some, None, Ok, Err, refl, if◌then◌else◌}
 use Rattle.std.specs.Str.{bytes_eq}
-use Rattle.std.proofs.Common.{◌∙◌, sym, ap, subst}
+use Rattle.std.proofs.Common.{◌∙◌, sym, ap, subst, arith}
 use Rattle.std.proofs.lemmas.Slice.Eq.{bytes_eq-Decides}
+use Rattle.arch_base.specs.Counts.{RoseIf}
 use Rattle.arch_base.specs.declared.config.Config.{Config}
 use Rattle.arch_base.specs.declared.ids.Id20.{Id20}
 use Rattle.mail_commits.specs.Ids.{text_ids_of}
@@ -14,17 +15,19 @@ use Rattle.arch_model.specs.Delivery.{delivered, delivered_kept, collision}
 use Rattle.arch_model.proofs.Owners.{collision-alone, collision-first}
 use Rattle.arch_model.specs.declared.text_refusal.TextRefusal.{TextRefusal}
 use Rattle.arch_model.specs.declared.text_refusal.TextRefusal.TheVariants as reading
-use Rattle.arch_judge.specs.Judging.{Judges, Compares, unless_same, MayCome, MayBeKept, TakesThis, TakesSame, IsForDelivery}
+use Rattle.arch_judge.specs.Judging.{Judges, Compares, unless_same, MayCome, MayBeKept, MayTake, RefusesFormed, RefusesLast, TakesThis, TakesSame, IsForDelivery}
 use Rattle.arch_model.specs.Validity.{BlobsAgree}
 use Rattle.arch_judge.specs.Indexes.{IsArchiveIndex, number_in}
 use Rattle.arch_judge.specs.declared.index.Index.{Index}
 use Rattle.arch_judge.specs.declared.judging.Verdict.{Verdict}
-use Rattle.arch_judge.specs.declared.judging.Verdict.TheVariants.{Take, Compare, Refuse}
+use Rattle.arch_judge.specs.declared.judging.Verdict.TheVariants.{Take, Refuse}
+use Rattle.arch_judge.specs.declared.judging.Judgement.TheVariants.{Final}
 use Rattle.arch_model.specs.declared.answer.Answer.{Answer}
 use Rattle.arch_model.specs.declared.answer.Answer.TheVariants as answer
 use Rattle.epoch_store.specs.Reads.{GivesTextOf}
 use Rattle.store_finding.specs.Kept.{StoreState, KeepsArchive}
-use Rattle.archive_core.specs.Commands.{ReadsMessage, JudgesRead, IsAlone, IsTextUnread, unread_answer}
+use Rattle.archive_core.specs.Commands.{ReadsMessage, JudgesRead, IsAlone, IsFaultRead, IsTextUnread, unread_answer}
+use Rattle.archive_core.specs.Rewriting.{IsLate, RefusesLate}
 use Rattle.archive_core.specs.Numbers.{IsMessageAt}
 use Rattle.store_finding.specs.Indexes.{IndexesStored}
 use Rattle.archive_core.specs.Kept.{IsNewTo, MayGoIn, TakesWhatMay}
@@ -54,8 +57,43 @@ taken-by v config index next text ids number config_is next_is may =
 pub compared-by : (v : StoreState) (config : Config) (index : Index) (next : ℕ) (text : List ℕ) (ids : TextIds) (verdict : Verdict) → config ≡ v.root.config → next ≡ v.root.next → MayCome config index text ids → TakesThis config next text ids verdict → TakesWhatMay v index verdict
 compared-by v config index next text ids (Take took named number) config_is next_is may this =
     subst (λ (t : List ℕ). TakesWhatMay v index (Take t named number)) (sym this.0) (subst (λ (i : TextIds). TakesWhatMay v index (Take text i number)) (sym this.1) (taken-by v config index next text ids number config_is next_is (this.2 index may)))
-compared-by v config index next text ids (Compare other named number) config_is next_is may this = absurd this
 compared-by v config index next text ids (Refuse reply) config_is next_is may this = refuses-by v index reply this
+
+-- What needs no comparison.
+pub judged-by : (v : StoreState) (config : Config) (index : Index) (next : ℕ) (verdict : Verdict) → config ≡ v.root.config → next ≡ v.root.next → MayTake config index next verdict → TakesWhatMay v index verdict
+judged-by v config index next (Take text ids number) config_is next_is may = taken-by v config index next text ids number config_is next_is may.0
+judged-by v config index next (Refuse reply) config_is next_is may = refuses-by v index reply may
+
+-- It tells of no read that failed.
+pub judged-cause : (config : Config) (index : Index) (next faults : ℕ) (verdict : Verdict) → MayTake config index next verdict → RoseIf (IsFaultRead verdict) faults faults
+judged-cause config index next faults verdict may = record { later = omega arith; failed = λ fault. absurd (never verdict may fault); kept = λ steady. refl } where
+  never : (w : Verdict) → MayTake config index next w → IsFaultRead w → ⊥
+  never (Take text ids number) may fault = fault
+  never (Refuse reply) may fault = subst IsForDelivery fault may
+
+-- A message with a form is refused for no want of one: before a text was read, after that wasn't, and
+-- after it was compared.
+pub final-late : (verdict : Verdict) → RefusesFormed (Final verdict) → RefusesLate verdict
+final-late (Take text ids number) is = tt
+final-late (Refuse (answer.Duplicate number)) is = tt
+final-late (Refuse (answer.Full max)) is = tt
+final-late (Refuse (answer.Collision number)) is = tt
+final-late (Refuse answer.NoMemory) is = tt
+final-late (Refuse answer.DiskFault) is = tt
+final-late (Refuse (answer.Damaged file at)) is = tt
+final-late (Refuse other) is = absurd is
+
+pub unread-late : (reply : Answer) → IsTextUnread reply → IsLate reply
+unread-late answer.NoMemory is = tt
+unread-late answer.DiskFault is = tt
+unread-late (answer.Damaged file at) is = tt
+unread-late other is = absurd is
+
+pub last-late : (verdict : Verdict) → RefusesLast verdict → RefusesLate verdict
+last-late (Take text ids number) is = tt
+last-late (Refuse (answer.Full max)) is = tt
+last-late (Refuse (answer.Collision number)) is = tt
+last-late (Refuse other) is = absurd is
 
 -- A text that may be kept would be accepted.
 pub may-go : (v : StoreState) (index : Index) (text : List ℕ) (ids : TextIds) (number : ℕ) → IndexesStored v.entries index → MayBeKept v.root.config index v.root.next text ids number → MayGoIn v text ids
@@ -103,6 +141,10 @@ alone-new a index text ids indexed ids_are none =
     collision-alone a.entries text
     (subst (λ (i : TextIds). blob_number a.entries i.blob.0 ≡ None) ids_are (sym (indexed.blobs ids.blob.0) ∙ none))
 
+pub alone-final : (a : Archive) (config : Config) (index : Index) (next : ℕ) (verdict : Verdict) → IsArchiveIndex a.entries index → MayTake config index next verdict → IsAlone a verdict
+alone-final a config index next (Take text ids number) indexed may = alone-new a index text ids indexed may.0.comes.ids_are may.1
+alone-final a config index next (Refuse reply) indexed may = tt
+
 pub alone-same : (a : Archive) (config : Config) (index : Index) (next : ℕ) (text kept : List ℕ) (ids : TextIds) (number : ℕ) (verdict : Verdict) → BlobsAgree a.entries → IsArchiveIndex a.entries index → ids ≡ text_ids_of text → number_in index.blobs ids.blob.0 ≡ Some number → ReadsMessage a number (Ok kept)
     → TakesThis config next text ids verdict → TakesSame text kept verdict → IsAlone a verdict
 alone-same a config index next text kept ids number (Take taken named n) agree indexed ids_are known reads this same =
@@ -112,5 +154,4 @@ alone-same a config index next text kept ids number (Take taken named n) agree i
     let equal : bytes_eq text kept ≡ true = (bytes_eq-Decides text kept).1 (sym same) in
     subst (λ (t : List ℕ). collision a.entries t ≡ None) (sym this.0)
     (collision-first a.entries text kept number agree at_text read ∙ ap (λ (t : Bool). if t then None else Some number) equal)
-alone-same a config index next text kept ids number (Compare other named n) agree indexed ids_are known reads this same = absurd this
 alone-same a config index next text kept ids number (Refuse reply) agree indexed ids_are known reads this same = tt

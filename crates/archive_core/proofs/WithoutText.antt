@@ -1,9 +1,8 @@
 -- An archive without the entries of a text, by what a store keeps of it; and what purges and edits give.
-use Rattle.std.specs.Prelude.{◌≡◌, ◌<◌, ◌≤◌, ℕ, Bool, true, false, not, List, [], ◌∷◌, ◌++◌, length, get_or, slice_get, slice_index_or, count_by, Option, Some, None, is_some, IsSome, unwrap_or, Result, Ok, Err, if◌then◌else◌, refl}
+use Rattle.std.specs.Prelude.{◌≡◌, ◌<◌, ◌≤◌, ℕ, Bool, true, false, not, List, [], ◌∷◌, ◌++◌, length, get_or, slice_get, slice_index_or, Option, Some, None, is_some, IsSome, unwrap_or, Result, Ok, Err, if◌then◌else◌, refl}
 use Rattle.std.specs.List.{AllByRecursion, AllZip}
 use Rattle.std.specs.Str.{bytes_eq}
 use Rattle.std.proofs.Common.{◌∙◌, sym, ap, subst, inl, inr, arith}
-use Rattle.std.proofs.lemmas.List.Sums.{length-filter, count_by-le-length}
 use Rattle.std.proofs.lemmas.Option.{slice_get_within, slice_get-get_or, same_Some}
 use Rattle.std.proofs.lemmas.Slice.Eq.{bytes_eq-Decides}
 use Rattle.arch_base.specs.declared.config.Config.{Config}
@@ -29,7 +28,6 @@ use Rattle.arch_judge.specs.Indexes.{IsArchiveIndex}
 use Rattle.arch_judge.specs.Judging.{IsKnownBy, MayBeKept}
 use Rattle.arch_judge.specs.declared.index.Index.{Index}
 use Rattle.arch_judge.specs.declared.judging.Verdict.TheVariants.{Refuse}
-use Rattle.arch_judge.proofs.Endings.{live-few}
 use Rattle.arch_judge.proofs.Indexes.{unowned}
 use Rattle.store_finding.specs.declared.entries.StoredEntry.{StoredEntry}
 use Rattle.epoch_store.specs.Reads.{text_if}
@@ -48,7 +46,6 @@ use Rattle.archive_core.proofs.ByNumber.{live-at, live-found, live-shown, entry-
 use Rattle.archive_core.proofs.Dropping.{first-stays, first-goes}
 use Rattle.archive_core.proofs.Indexes.{in-order}
 use Rattle.archive_core.proofs.Removing.{all_at}
-use Rattle.archive_core.proofs.Stored.{stored-length}
 
 -- Each of some entries with the blob id of a text has that text.
 abbrev pub AgreesWith : List ℕ → List Entry → Type 0
@@ -230,22 +227,15 @@ left-done v cache left a d k (answer.Damaged file at) store never fine is = absu
 left-done v cache left a d k other store never fine is = record { answer_is = ap (λ (x : Done). x.answer) is; store = subst (λ (b : Archive). IsStoreWith v cache b k) (sym (ap (λ (x : Done). x.archive) is)) store }
 
 -- What an index of the archive with all its entries, or without a text, knows of it.
-pub known-left : (v : StoreState) (a : Archive) (config : Config) (index : Index) (count next : ℕ) (gone : Option (List ℕ)) → KeepsArchive v a → config ≡ v.root.config → next ≡ v.root.next → count ≡ length v.entries → IsArchiveIndex (left_without a gone).entries index → IsKnownBy config index count next (left_without a gone)
-known-left v a config index count next None keeps config_is next_is count_is indexed = record {
+pub known-left : (v : StoreState) (a : Archive) (config : Config) (index : Index) (next : ℕ) (gone : Option (List ℕ)) → KeepsArchive v a → config ≡ v.root.config → next ≡ v.root.next → IsArchiveIndex (left_without a gone).entries index → IsKnownBy config index next (left_without a gone)
+known-left v a config index next None keeps config_is next_is indexed = record {
   config_is = sym (config_is ∙ keeps.names.config);
   next_is = sym (next_is ∙ keeps.names.next);
-  few = (let same : count ≡ length a.entries = count_is ∙ ap length keeps.kept ∙ stored-length [] a.entries in let most : length (live a.entries) ≤ length a.entries = live-few a.entries in omega (arith, same, most));
   indexed = indexed;
 }
-known-left v a config index count next (Some text) keeps config_is next_is count_is indexed = record {
+known-left v a config index next (Some text) keeps config_is next_is indexed = record {
   config_is = sym (config_is ∙ keeps.names.config);
   next_is = sym (next_is ∙ keeps.names.next);
-  few = (let same : count ≡ length a.entries = count_is ∙ ap length keeps.kept ∙ stored-length [] a.entries in
-      let test : Entry → Bool = λ (e : Entry). not (bytes_eq text e.text) in
-      let lives : length (live (without_text a.entries text)) ≤ length (without_text a.entries text) = live-few (without_text a.entries text) in
-      let counted : length (without_text a.entries text) ≡ count_by test a.entries = length-filter test a.entries in
-      let fewer : count_by test a.entries ≤ length a.entries = count_by-le-length test a.entries in
-      omega (arith, same, lives, counted, fewer));
   indexed = indexed;
 }
 

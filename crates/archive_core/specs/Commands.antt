@@ -2,7 +2,9 @@
 use Rattle.std.specs.Prelude.{◌≡◌, ◌+◌, ◌-◌, ◌<◌, ◌^◌, ℕ, Bool, true, false, List, slice_get, Option, Some, None, Result, Ok, Err}
 use Rattle.std.specs.List.{Contains}
 use Rattle.arch_base.specs.Counts.{RoseIf}
-use Rattle.disk_model.specs.Disk.{Files, Content, WhereTold, LeavesOnly, BothTold, Unchanged, Image}
+use Rattle.disk_model.specs.declared.disk.Disk.{Ghosts as Disk}
+use Rattle.disk_model.specs.Disk.{Content, WhereTold, BothTold, Unchanged, Image}
+use Rattle.disk_model.specs.Moments.{LeavesOnly}
 use Rattle.mail_reader.specs.Content.{content_id_of}
 use Rattle.mail_reader.specs.Ids.{own_id}
 use Rattle.mail_reader.specs.StorageTexts.{IsStorageText}
@@ -14,7 +16,7 @@ use Rattle.arch_judge.specs.Indexes.{IsArchiveIndex}
 use Rattle.arch_judge.specs.Judging.{Judges}
 use Rattle.arch_judge.specs.declared.index.Index.{Index}
 use Rattle.arch_judge.specs.declared.judging.Verdict.{Verdict}
-use Rattle.arch_judge.specs.declared.judging.Verdict.TheVariants.{Take, Compare, Refuse}
+use Rattle.arch_judge.specs.declared.judging.Verdict.TheVariants.{Take, Refuse}
 use Rattle.store_finding.specs.declared.entries.StoredEntry.{StoredEntry}
 use Rattle.store_finding.specs.Files.{epoch_file_of}
 use Rattle.arch_model.specs.Keeping.{ReadsFor}
@@ -84,7 +86,6 @@ IfUnread other P = P
 -- The same of a verdict.
 abbrev pub IfRefusedUnread : Verdict → Type 0 → Type 0
 IfRefusedUnread (Take text ids number) P = Unit {0}
-IfRefusedUnread (Compare text ids number) P = Unit {0}
 IfRefusedUnread (Refuse reply) P = IfUnread reply P
 
 -- The answers to a delivery.
@@ -181,8 +182,8 @@ refusal_answer refusal.DiskFault = answer.DiskFault
 refusal_answer refusal.NoMemory = answer.NoMemory
 refusal_answer (refusal.Damaged file offset) = answer.Damaged file offset
 
--- The answer that names the file and the offset of an entry that is damaged. Without an entry it is that
--- memory ran out.
+-- The answer that names the file and the offset of an entry that is damaged. It is asked only of an
+-- entry that is there; of none it is that memory ran out.
 abbrev pub damaged_place : StoreState → Option StoredEntry → Answer
 damaged_place v None = answer.NoMemory
 damaged_place v (Some e) = answer.Damaged (epoch_file_of v.root e.epoch) e.seen.at
@@ -222,7 +223,6 @@ IsTextUnread other = ⊥
 -- The verdict is that a read failed.
 abbrev pub IsFaultRead : Verdict → Type 0
 IsFaultRead (Take text ids number) = ⊥
-IsFaultRead (Compare text ids number) = ⊥
 IsFaultRead (Refuse reply) = reply ≡ answer.DiskFault
 
 -- The verdict is what the definition says of the delivery, unless a read failed.
@@ -233,7 +233,6 @@ JudgesRead a bytes verdict = Judges a bytes verdict
 -- No other text has the blob id of a text that is taken.
 abbrev pub IsAlone : Archive → Verdict → Type 0
 IsAlone a (Take text ids number) = collision a.entries text ≡ None
-IsAlone a (Compare text ids number) = Unit {0}
 IsAlone a (Refuse reply) = Unit {0}
 
 -- An archive with all its entries, or without those of a text.
@@ -251,10 +250,9 @@ JudgesOn content disk v index bytes verdict = (a : Archive) (cache : List ℕ) (
 
 -- The disk was read, and nothing else: its content is the same, and a crash leaves what it might have
 -- left before.
-pub record OnlyLooks {D : Type 0} (content : D → Option Content) (moment : D → ℕ)
-    (left_since : D → ℕ → Files → Type 0) (old new : D) : Type 0 where
-  pub same : BothTold Unchanged (content old) (content new)
-  pub crash : LeavesOnly moment left_since old new (Image (content old))
+pub record OnlyLooks {D : Type 0} (g : Disk D) (old new : D) : Type 0 where
+  pub same : BothTold Unchanged (g.content old) (g.content new)
+  pub crash : LeavesOnly g old new (Image (g.content old))
 
 -- What a command promises, by its answer and the archive after it, of each archive before it. While
 -- the root's sequence can be raised, at each moment a crash leaves the archive before the command or
@@ -264,34 +262,33 @@ pub record OnlyLooks {D : Type 0} (content : D → Option Content) (moment : D �
 -- memory, and, but for a fault, the content of the disk; one before which no text is read leaves the
 -- disk as it was. The command fails only if the count of faults rose, and reads as often as the
 -- command may. Damage is told with the place of an entry that was kept, or with a file that is too short.
-pub record TakesCommand {D : Type 0} (content : D → Option Content) (moment : D → ℕ)
-    (left_since : D → ℕ → Files → Type 0) (faults reads : D → ℕ) (old new : D)
+pub record TakesCommand {D : Type 0} (g : Disk D) (old new : D)
     (before after : StoreState) (command : Command) (wanted : Archive → Done) (reply : Answer)
     : Type 0 where
-  pub crash : (a : Archive) (cache : List ℕ) → IsStoreWith before cache a (content old)
+  pub crash : (a : Archive) (cache : List ℕ) → IsStoreWith before cache a (g.content old)
       → before.root.sequence + 1 < 2 ^ 64
-      → LeavesOnly moment left_since old new
+      → LeavesOnly g old new
       (RecoversOneOf cache a (cache_left command cache) (wanted a).archive)
-  pub done : (a : Archive) (cache : List ℕ) → IsStoreWith before cache a (content old)
+  pub done : (a : Archive) (cache : List ℕ) → IsStoreWith before cache a (g.content old)
       → before.root.sequence + 1 < 2 ^ 64
-      → DoneBy after cache (cache_left command cache) a (wanted a) reply (content new)
-  pub settled : OnDone reply (WhereTold IsSettled (content new))
+      → DoneBy after cache (cache_left command cache) a (wanted a) reply (g.content new)
+  pub settled : OnDone reply (WhereTold IsSettled (g.content new))
   pub goes_on : OnDone reply (GoesOnBy (way_of command) before.root after.root)
   pub files : OnDone reply (FilesFor command before after)
   pub slot : OnDone reply (after.slot ≡ 1 - before.slot)
   pub same : OnRefusal reply (after ≡ before)
-  pub untouched : OnRefusal reply (UnlessFault reply (OnlyLooks content moment left_since old new))
+  pub untouched : OnRefusal reply (UnlessFault reply (OnlyLooks g old new))
   pub unmoved : IfUnreadFor command reply (new ≡ old)
-  pub sizes : UnlessFault reply (WhereTold (StoreHasSizes after) (content new))
-  pub cause : RoseIf (reply ≡ answer.DiskFault) (faults old) (faults new)
+  pub sizes : UnlessFault reply (WhereTold (StoreHasSizes after) (g.content new))
+  pub cause : RoseIf (reply ≡ answer.DiskFault) (g.faults old) (g.faults new)
   pub for_command : IsForCommand command reply
-  pub count : ReadsFor command (reads old) (reads new)
+  pub count : ReadsFor command (g.reads old) (g.reads new)
   -- The root file has the new root in its slot, whose gate is open, and is otherwise as it was.
   pub rooted : OnDone reply
-      (BothTold (HasNewRoot after.slot (spelling after.root)) (content old) (content new))
+      (BothTold (HasNewRoot after.slot (spelling after.root)) (g.content old) (g.content new))
   -- At each moment its bytes between the gates and the bodies are as before.
-  pub crash_between : RunsBetween content moment left_since old new
-  pub damage : TellsDamage before (content old) reply
+  pub crash_between : RunsBetween g old new
+  pub damage : TellsDamage before (g.content old) reply
 
 -- The command delivers a message: it is a delivery or an edit.
 abbrev pub is_delivery : Command → Bool

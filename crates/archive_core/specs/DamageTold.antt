@@ -6,7 +6,7 @@ use Rattle.mail_reader.specs.Ids.{own_id}
 use Rattle.arch_model.specs.declared.answer.Answer.{Answer}
 use Rattle.arch_model.specs.declared.answer.Answer.TheVariants as answer
 use Rattle.arch_judge.specs.declared.judging.Verdict.{Verdict}
-use Rattle.arch_judge.specs.declared.judging.Verdict.TheVariants.{Take, Compare, Refuse}
+use Rattle.arch_judge.specs.declared.judging.Verdict.TheVariants.{Take, Refuse}
 use Rattle.store_finding.specs.declared.entries.StoredEntry.{StoredEntry}
 use Rattle.store_planning.specs.DamagedTexts.{IsDamageIn, IsDamagedEntry}
 use Rattle.store_finding.specs.Files.{epoch_file_of}
@@ -39,7 +39,6 @@ TellsEntry v content reply =
 -- The same of a verdict that refuses.
 abbrev pub RefusesVerdict : StoreState → Option Content → Verdict → Type 0
 RefusesVerdict v content (Take text ids number) = Unit {0}
-RefusesVerdict v content (Compare text ids number) = Unit {0}
 RefusesVerdict v content (Refuse reply) = TellsEntry v content reply
 
 -- The answer is damaged only so, or with a file that is shorter than the root says, or with the place of

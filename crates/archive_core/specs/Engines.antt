@@ -3,13 +3,14 @@ use Rattle.std.specs.Prelude.{◌≡◌, ◌⊎◌, ◌≤◌, ℕ, Bool, true, 
 use Rattle.std.specs.List.{Contains}
 use Rattle.std.proofs.Common.{◌∙◌, sym, ap, subst, inl, inr}
 use native.Mathlib.Omega.{arith}
+use Rattle.disk_model.specs.declared.disk.Disk.{Ghosts as Disk}
 use Rattle.disk_model.specs.declared.name.FileName.{FileName}
-use Rattle.disk_model.specs.Disk.{Files, Content, Image, BothTold, WhereTold, Unchanged, LeavesOnly}
-use Rattle.disk_model.specs.Moments.{started, joined}
+use Rattle.disk_model.specs.Disk.{Files, Content, Image, BothTold, WhereTold, Unchanged}
+use Rattle.disk_model.specs.Moments.{LeavesOnly, started, joined}
 use Rattle.root_slots.specs.Between.{BetweenStays, between_image}
 use Rattle.disk_model.specs.Synced.{IsSettled}
 use Rattle.arch_model.specs.Archives.{Archive, live}
-use Rattle.arch_model.specs.Keeping.{OnlyRead}
+use Rattle.arch_model.specs.Keeping.{OnlyRead, Keeper}
 use Rattle.arch_model.specs.declared.answer.Answer.{Answer}
 use Rattle.arch_model.specs.declared.answer.Answer.TheVariants as answer
 use Rattle.epoch_store.specs.Opens.{RecoversOfWith}
@@ -78,10 +79,9 @@ AllRecoverOrBare cache may (Some k) = (image : Files) → Image (Some k) image
 
 -- Each crash since the first disk has left a root file with the bytes between its gates and its bodies
 -- of one that a crash of the first might have left.
-abbrev pub BetweenSince : {D : Type 0} → (D → Option Content) → (D → ℕ) → (D → ℕ → Files → Type 0)
-    → D → D → Type 0
-BetweenSince content moment left_since old new =
-    (image : Files) → left_since new (moment old) image → BetweenStays (content old) image
+abbrev pub BetweenSince : {D : Type 0} → Disk D → D → D → Type 0
+BetweenSince g old new =
+    (image : Files) → g.left_since new (g.moment old) image → BetweenStays (g.content old) image
 
 -- Each crash of a disk since a moment has left files that stand for one of these archives, with a cache
 -- of these bytes or with none.
@@ -94,13 +94,12 @@ LeftWithCache left_since disk since cache may =
 -- archives, with one cache or with none; and each crash since then has left such files, with no other
 -- cache. If the first needn't be reopened, the bytes between the gates and the bodies of the root file
 -- stayed, too.
-abbrev pub Leaves : {D : Type 0} → (D → Option Content) → (D → ℕ) → (D → ℕ → Files → Type 0)
-    → Owning D → Owning D → List (Option Archive) → Type 0
-Leaves content moment left_since start e may = (moment start.disk ≤ moment e.disk)
-    × ((cache : List ℕ) × LeftWithCache left_since start.disk (moment start.disk) cache may)
-    × ((cache : List ℕ) → LeftWithCache left_since start.disk (moment start.disk) cache may
-    → LeftWithCache left_since e.disk (moment start.disk) cache may)
-    × (start.stale ≡ false → BetweenSince content moment left_since start.disk e.disk)
+abbrev pub Leaves : {D : Type 0} → Disk D → Owning D → Owning D → List (Option Archive) → Type 0
+Leaves g start e may = (g.moment start.disk ≤ g.moment e.disk)
+    × ((cache : List ℕ) × LeftWithCache g.left_since start.disk (g.moment start.disk) cache may)
+    × ((cache : List ℕ) → LeftWithCache g.left_since start.disk (g.moment start.disk) cache may
+    → LeftWithCache g.left_since e.disk (g.moment start.disk) cache may)
+    × (start.stale ≡ false → BetweenSince g start.disk e.disk)
 
 -- The views keep up with a command that was answered so: they are those of the archive after it, unless
 -- the engine has to be reopened after `Ok`. Out of memory they are those of the archive before it. After
@@ -120,13 +119,24 @@ IfRefused (answer.Damaged file at) P = Unit {0}
 IfRefused other P = P
 
 -- Only reads of the disk lead from one state to the other.
-pub record OnlyReadsOn {D : Type 0} (content : D → Option Content) (moment : D → ℕ)
-    (left_since : D → ℕ → Files → Type 0) (old new : Owning D) : Type 0 where
+pub record OnlyReadsOn {D : Type 0} (g : Disk D) (old new : Owning D) : Type 0 where
   pub view_is : new.view ≡ old.view
   pub views_are : new.views ≡ old.views
   pub stale_is : new.stale ≡ old.stale
-  pub files : BothTold Unchanged (content old.disk) (content new.disk)
-  pub run : LeavesOnly moment left_since old.disk new.disk (Image (content old.disk))
+  pub files : BothTold Unchanged (g.content old.disk) (g.content new.disk)
+  pub run : LeavesOnly g old.disk new.disk (Image (g.content old.disk))
+
+-- A disk and its archive, as a keeper.
+abbrev pub engine_of : {D : Type 0} → Disk D → Keeper (Owning D)
+engine_of g = record {
+  holds = HoldsArchive g.content;
+  ready = is_ready;
+  reads = λ e. g.reads e.disk;
+  faults = λ e. g.faults e.disk;
+  alike = OnlyReadsOn g;
+  files_are = FilesAre g.content;
+  leaves = Leaves g;
+}
 
 -- Laws of such a keeper.
 
@@ -150,82 +160,82 @@ store-recovers v cache a None may image store has left = absurd store
 store-recovers v cache a (Some k) may image store has left =
     (Some a, has, disk_recovers v cache a k image store left)
 
-module _ {D : Type 0} (content : D → Option Content) (moment : D → ℕ)
-    (left_since : D → ℕ → Files → Type 0)
-    (counts_now : (disk : D) (t : ℕ) (image : Files) → t ≤ moment disk → Image (content disk) image
-    → left_since disk t image)
-    (only_now : (disk : D) (image : Files) → left_since disk (moment disk) image
-    → Image (content disk) image) where
+module _ {D : Type 0} (g : Disk D)
+    (counts_now : (disk : D) (t : ℕ) (image : Files) → t ≤ g.moment disk
+    → Image (g.content disk) image
+    → g.left_since disk t image)
+    (only_now : (disk : D) (image : Files) → g.left_since disk (g.moment disk) image
+    → Image (g.content disk) image) where
   -- No read at all leads from a state to itself.
-  pub reading-same : (e : Owning D) → OnlyReadsOn content moment left_since e e
+  pub reading-same : (e : Owning D) → OnlyReadsOn g e e
   reading-same e = record {
     view_is = refl;
     views_are = refl;
     stale_is = refl;
-    files = told-same (content e.disk);
-    run = started moment left_since e.disk (Image (content e.disk))
-        (λ image left. only_now e.disk image left);
+    files = told-same (g.content e.disk);
+    run = started g e.disk (Image (g.content e.disk)) (λ image left. only_now e.disk image left);
   }
 
   -- Reads after reads are reads.
-  pub reading-joined : (d e f : Owning D) → OnlyReadsOn content moment left_since d e
-      → OnlyReadsOn content moment left_since e f → OnlyReadsOn content moment left_since d f
+  pub reading-joined : (d e f : Owning D) → OnlyReadsOn g d e
+      → OnlyReadsOn g e f → OnlyReadsOn g d f
   reading-joined d e f first second =
-      let one = unchanged-is (content d.disk) (content e.disk) first.files in
-      let two = unchanged-is (content e.disk) (content f.disk) second.files in
+      let one = unchanged-is (g.content d.disk) (g.content e.disk) first.files in
+      let two = unchanged-is (g.content e.disk) (g.content f.disk) second.files in
       record {
         view_is = second.view_is ∙ first.view_is;
         views_are = second.views_are ∙ first.views_are;
         stale_is = second.stale_is ∙ first.stale_is;
-        files = subst (λ (k : Option Content). BothTold Unchanged (content d.disk) k) (sym (two ∙ one))
-            (told-same (content d.disk));
-        run = joined moment left_since d.disk e.disk f.disk (Image (content d.disk))
-            (Image (content e.disk)) (Image (content d.disk)) first.run second.run
+        files = subst (λ (k : Option Content). BothTold Unchanged (g.content d.disk) k)
+            (sym (two ∙ one))
+            (told-same (g.content d.disk));
+        run = joined g d.disk e.disk f.disk (Image (g.content d.disk))
+            (Image (g.content e.disk)) (Image (g.content d.disk)) first.run second.run
             (λ image left. left)
             (λ image left. subst (λ (k : Option Content). Image k image) one left);
       }
 
   -- A crash of a disk that is an archive's own leaves the archive.
-  pub store-left : (e : Owning D) (a : Archive) (may : List (Option Archive)) → Owns content e a
-      → Contains may (Some a) → Leaves content moment left_since e e may
+  pub store-left : (e : Owning D) (a : Archive) (may : List (Option Archive)) → Owns g.content e a
+      → Contains may (Some a) → Leaves g e e may
   store-left e a may store has = (
     omega arith,
     (
       store.0,
-      λ image left. inl (store-recovers e.view store.0 a (content e.disk) may image store.1 has
+      λ image left. inl (store-recovers e.view store.0 a (g.content e.disk) may image store.1 has
           (only_now e.disk image left)),
     ),
     λ cache all. all,
-    λ ready image left. between_image (content e.disk) image (only_now e.disk image left),
+    λ ready image left. between_image (g.content e.disk) image (only_now e.disk image left),
   )
 
   -- The files of one that holds an archive are the archive's.
-  pub holds-rest : (e : Owning D) (a : Archive) → HoldsArchive content e a → FilesAre content e a
+  pub holds-rest : (e : Owning D) (a : Archive) → HoldsArchive g.content e a
+      → FilesAre g.content e a
   holds-rest e a store = (e.view, store.0, store.1, store.3)
 
   -- What each crash since a state may have left, a crash now may leave.
   pub now-left : (start e : Owning D) (may : List (Option Archive))
-      → Leaves content moment left_since start e may → Leaves content moment left_since e e may
+      → Leaves g start e may → Leaves g e e may
   now-left start e may left = (
     omega arith,
     (
       left.1.0,
       λ image now. left.2 left.1.0 left.1.1 image
-          (counts_now e.disk (moment start.disk) image left.0 (only_now e.disk image now)),
+          (counts_now e.disk (g.moment start.disk) image left.0 (only_now e.disk image now)),
     ),
     λ cache all. all,
-    λ ready image now. between_image (content e.disk) image (only_now e.disk image now),
+    λ ready image now. between_image (g.content e.disk) image (only_now e.disk image now),
   )
 
   -- Reads leave the archive that is held, the files, the readiness and what a crash may leave.
-  pub reading-kept : (d e : Owning D) → OnlyReadsOn content moment left_since d e
-      → OnlyRead (HoldsArchive content) (FilesAre content) is_ready (Leaves content moment left_since) d e
+  pub reading-kept : (d e : Owning D) → OnlyReadsOn g d e → OnlyRead (engine_of g) d e
   reading-kept d e read =
-      let same = unchanged-is (content d.disk) (content e.disk) read.files in
+      let same = unchanged-is (g.content d.disk) (g.content e.disk) read.files in
       record {
         held = λ a store. (
           store.0,
-          subst (λ (v : StoreState). IsStoreWith v store.0 a (content e.disk)) (sym read.view_is)
+          subst (λ (v : StoreState). IsStoreWith v store.0 a (g.content e.disk)) (sym read.view_is)
               (subst (λ (k : Option Content). IsStoreWith d.view store.0 a k) (sym same) store.1),
           read.views_are ∙ store.2,
           subst (λ (k : Option Content). WhereTold IsSettled k) (sym same) store.3,
@@ -235,17 +245,17 @@ module _ {D : Type 0} (content : D → Option Content) (moment : D → ℕ)
         passes = λ start may has left. (
           omega (arith, left.0, read.run.later),
           left.1,
-          λ cache all image since. elim (read.run.before (moment start.disk) image left.0 since) [
+          λ cache all image since. elim (read.run.before (g.moment start.disk) image left.0 since) [
             | inl past
                 ↦ left.2 cache all image past
             | inr now
-                ↦ left.2 cache all image (counts_now d.disk (moment start.disk) image left.0 now)
+                ↦ left.2 cache all image (counts_now d.disk (g.moment start.disk) image left.0 now)
           ],
-          λ ready image since. elim (read.run.before (moment start.disk) image left.0 since) [
+          λ ready image since. elim (read.run.before (g.moment start.disk) image left.0 since) [
             | inl past
                 ↦ left.3 ready image past
             | inr now
-                ↦ left.3 ready image (counts_now d.disk (moment start.disk) image left.0 now)
+                ↦ left.3 ready image (counts_now d.disk (g.moment start.disk) image left.0 now)
           ],
         );
       }

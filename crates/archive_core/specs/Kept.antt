@@ -13,7 +13,7 @@ use Rattle.arch_judge.specs.Judging.{IsForDelivery, MayBeKept}
 use Rattle.arch_model.specs.declared.answer.Answer.TheVariants as answer
 use Rattle.arch_judge.specs.declared.index.Index.{Index}
 use Rattle.arch_judge.specs.declared.judging.Verdict.{Verdict}
-use Rattle.arch_judge.specs.declared.judging.Verdict.TheVariants.{Take, Compare, Refuse}
+use Rattle.arch_judge.specs.declared.judging.Verdict.TheVariants.{Take, Refuse}
 use Rattle.store_finding.specs.declared.entries.StoredEntry.{StoredEntry}
 use Rattle.store_finding.specs.Indexes.{AreOf, IndexesStored}
 use Rattle.store_finding.specs.Kept.{StoreState}
@@ -51,12 +51,11 @@ pub record MayGoIn (v : StoreState) (text : List ℕ) (ids : TextIds) : Type 0 w
   pub new_id : IsNewTo v.entries text
   pub ids_are : ids ≡ text_ids_of text
 
--- A text that is taken by an index may be kept, and none is still to be compared. A refusal is an
--- answer to a delivery, or tells of a read that failed.
+-- A text that is taken by an index may be kept. A refusal is an answer to a delivery, or tells of a
+-- read that failed.
 abbrev pub TakesWhatMay : StoreState → Index → Verdict → Type 0
 TakesWhatMay v index (Take text ids number) =
     MayBeKept v.root.config index v.root.next text ids number
-TakesWhatMay v index (Compare text ids number) = ⊥
 TakesWhatMay v index (Refuse answer.DiskFault) = Unit {0}
 TakesWhatMay v index (Refuse (answer.Damaged file at)) = Unit {0}
 TakesWhatMay v index (Refuse reply) = IsForDelivery reply

@@ -1,8 +1,10 @@
 -- Private: purges and edits of an archive on a disk.
-use Rattle.std.specs.Prelude.{◌≡◌, ◌+◌, ◌-◌, ◌<◌, ◌^◌, ℕ, Bool, List, [], Option, Some, Result, Ok, Err}
+use Rattle.std.specs.Prelude.{◌≡◌, ◌+◌, ◌-◌, ◌<◌, ◌^◌, ℕ, Bool, List, [], Some, Result, Ok, Err}
 use Rattle.arch_base.specs.Counts.{RoseIf}
 use Rattle.arch_base.specs.declared.ids.Id20.{Id20}
-use Rattle.disk_model.specs.Disk.{Files, Content, BothTold, WhereTold, LeavesOnly}
+use Rattle.disk_model.specs.declared.disk.Disk.{Ghosts as Disk}
+use Rattle.disk_model.specs.Disk.{BothTold, WhereTold}
+use Rattle.disk_model.specs.Moments.{LeavesOnly}
 use Rattle.disk_model.specs.Synced.{IsSettled}
 use Rattle.root_slots.specs.Between.{RunsBetween}
 use Rattle.root_slots.specs.Slots.{HasNewRoot}
@@ -15,6 +17,8 @@ use Rattle.arch_model.specs.Archives.{Archive, live, text_of, without_entries}
 use Rattle.arch_model.specs.Delivery.{delivered, is_form, unless_refused}
 use Rattle.arch_model.specs.declared.answer.Answer.{Answer}
 use Rattle.arch_model.specs.declared.answer.Answer.TheVariants as answer
+use Rattle.arch_judge.specs.declared.judging.Verdict.{Verdict}
+use Rattle.arch_judge.specs.declared.judging.Verdict.TheVariants.{Take, Refuse}
 use Rattle.epoch_file.specs.declared.refusal.StoreRefusal.{StoreRefusal}
 use Rattle.store_finding.specs.Kept.{StoreState, IsStoreWith}
 use Rattle.epoch_store.specs.Commands.{StoreHasSizes, MayEdit, RecoversOneOf, GoesOnAnew}
@@ -40,15 +44,20 @@ ComparesForm a number form (Err answer.NoMemory) = Unit {0}
 ComparesForm a number form (Err answer.DiskFault) = Unit {0}
 ComparesForm a number form (Err other) = ⊥
 
--- A refusal of a delivery whose form was found before, on an archive that takes deliveries. The other
--- refusals, which never come then, are answered as if memory ran out.
-abbrev pub late_answer : Answer → Answer
-late_answer (answer.Duplicate number) = answer.Duplicate number
-late_answer (answer.Full max) = answer.Full max
-late_answer (answer.Collision number) = answer.Collision number
-late_answer answer.DiskFault = answer.DiskFault
-late_answer (answer.Damaged file at) = answer.Damaged file at
-late_answer other = answer.NoMemory
+-- A refusal of a delivery whose form was found before, by an archive that takes deliveries.
+abbrev pub IsLate : Answer → Type 0
+IsLate (answer.Duplicate number) = Unit {0}
+IsLate (answer.Full max) = Unit {0}
+IsLate (answer.Collision number) = Unit {0}
+IsLate answer.NoMemory = Unit {0}
+IsLate answer.DiskFault = Unit {0}
+IsLate (answer.Damaged file at) = Unit {0}
+IsLate other = ⊥
+
+-- The same of a verdict that refuses.
+abbrev pub RefusesLate : Verdict → Type 0
+RefusesLate (Take text ids number) = Unit {0}
+RefusesLate (Refuse reply) = IsLate reply
 
 -- A message may be kept in place of a text: an edit would be accepted, and these are its ids.
 pub record MayReplace (v : StoreState) (old : Id20) (text : List ℕ) (ids : TextIds) : Type 0 where
@@ -63,27 +72,26 @@ bare (Err why) = Err why
 
 -- What a delivery in place of a text promises: the answer is that of the delivery on the archive
 -- without it, and a refusal leaves all as it was. Its answers come after the form was found.
-pub record EditsAs {D : Type 0} (content : D → Option Content) (moment : D → ℕ)
-    (left_since : D → ℕ → Files → Type 0) (faults : D → ℕ) (old new : D) (before after : StoreState)
+pub record EditsAs {D : Type 0} (g : Disk D) (old new : D) (before after : StoreState)
     (number : ℕ) (bytes : List ℕ) (arrived : ℕ) (reply : Answer) : Type 0 where
-  pub crash : (a : Archive) (cache gone : List ℕ) → IsStoreWith before cache a (content old)
+  pub crash : (a : Archive) (cache gone : List ℕ) → IsStoreWith before cache a (g.content old)
       → before.root.sequence + 1 < 2 ^ 64 → text_of (live a.entries) number ≡ Some gone
-      → LeavesOnly moment left_since old new (RecoversOneOf cache a []
+      → LeavesOnly g old new (RecoversOneOf cache a []
       (unless_refused a (delivered (without_entries a gone) bytes arrived)).archive)
-  pub done : (a : Archive) (cache gone : List ℕ) → IsStoreWith before cache a (content old)
+  pub done : (a : Archive) (cache gone : List ℕ) → IsStoreWith before cache a (g.content old)
       → before.root.sequence + 1 < 2 ^ 64 → text_of (live a.entries) number ≡ Some gone
       → DoneBy after cache [] a (unless_refused a (delivered (without_entries a gone) bytes arrived))
-      reply (content new)
-  pub settled : OnDone reply (WhereTold IsSettled (content new))
+      reply (g.content new)
+  pub settled : OnDone reply (WhereTold IsSettled (g.content new))
   pub goes_on : OnDone reply (GoesOnAnew before.root after.root)
   pub slot : OnDone reply (after.slot ≡ 1 - before.slot)
   pub same : OnRefusal reply (after ≡ before)
-  pub untouched : OnRefusal reply (UnlessFault reply (OnlyLooks content moment left_since old new))
+  pub untouched : OnRefusal reply (UnlessFault reply (OnlyLooks g old new))
   pub late : IfUnreadEdit reply ⊥
-  pub sizes : UnlessFault reply (WhereTold (StoreHasSizes after) (content new))
-  pub cause : RoseIf (reply ≡ answer.DiskFault) (faults old) (faults new)
+  pub sizes : UnlessFault reply (WhereTold (StoreHasSizes after) (g.content new))
+  pub cause : RoseIf (reply ≡ answer.DiskFault) (g.faults old) (g.faults new)
   pub for_command : AnswersDelivery reply
   pub rooted : OnDone reply
-      (BothTold (HasNewRoot after.slot (spelling after.root)) (content old) (content new))
-  pub crash_between : RunsBetween content moment left_since old new
-  pub damage : TellsDamage before (content old) reply
+      (BothTold (HasNewRoot after.slot (spelling after.root)) (g.content old) (g.content new))
+  pub crash_between : RunsBetween g old new
+  pub damage : TellsDamage before (g.content old) reply

@@ -2,6 +2,7 @@
 -- command.
 use Rattle.std.specs.Prelude.{◌≡◌, ℕ, List, [], ◌∷◌, Option, Some, None}
 use Rattle.std.proofs.Common.{◌∙◌, sym, subst}
+use Rattle.disk_model.specs.declared.disk.Disk.{Ghosts as Disk}
 use Rattle.disk_model.specs.Disk.{Files, Content, Image, BothTold, Unchanged}
 use Rattle.disk_model.specs.Moments.{started, joined}
 use Rattle.mime_parts.specs.Words.{mail_words}
@@ -72,27 +73,25 @@ store-valid v cache a None store = absurd store
 store-valid v cache a (Some k) store = store.keeps.valid
 
 -- Laws of a disk that is only read.
-module _ {D : Type 0} (content : D → Option Content) (moment : D → ℕ)
-    (left_since : D → ℕ → Files → Type 0)
-    (only_now : (disk : D) (image : Files) → left_since disk (moment disk) image
-    → Image (content disk) image) where
+module _ {D : Type 0} (g : Disk D)
+    (only_now : (disk : D) (image : Files) → g.left_since disk (g.moment disk) image
+    → Image (g.content disk) image) where
   -- No look at all is one.
-  pub looks-same : (d : D) → OnlyLooks content moment left_since d d
+  pub looks-same : (d : D) → OnlyLooks g d d
   looks-same d = record {
-    same = told-same (content d);
-    crash = started moment left_since d (Image (content d)) (λ image left. only_now d image left);
+    same = told-same (g.content d);
+    crash = started g d (Image (g.content d)) (λ image left. only_now d image left);
   }
 
   -- A look after a look is one.
-  pub looks-joined : (d e f : D) → OnlyLooks content moment left_since d e
-      → OnlyLooks content moment left_since e f → OnlyLooks content moment left_since d f
+  pub looks-joined : (d e f : D) → OnlyLooks g d e → OnlyLooks g e f → OnlyLooks g d f
   looks-joined d e f first second =
-      let one = unchanged-is (content d) (content e) first.same in
-      let two = unchanged-is (content e) (content f) second.same in
+      let one = unchanged-is (g.content d) (g.content e) first.same in
+      let two = unchanged-is (g.content e) (g.content f) second.same in
       record {
-        same = subst (λ (k : Option Content). BothTold Unchanged (content d) k) (sym (two ∙ one))
-            (told-same (content d));
-        crash = joined moment left_since d e f (Image (content d)) (Image (content e))
-            (Image (content d)) first.crash second.crash (λ image left. left)
+        same = subst (λ (k : Option Content). BothTold Unchanged (g.content d) k) (sym (two ∙ one))
+            (told-same (g.content d));
+        crash = joined g d e f (Image (g.content d)) (Image (g.content e))
+            (Image (g.content d)) first.crash second.crash (λ image left. left)
             (λ image left. subst (λ (k : Option Content). Image k image) one left);
       }

@@ -1,10 +1,11 @@
 //! An archive on a disk that is handed in. Each of its commands has the result of the definition.
 //! Writes the disk; syncs.
-ghost use Rattle.std.specs.Prelude.{true, false, Some, None, ◌≡◌, ◌≤◌, ◌<◌, ◌+◌, ◌-◌, ◌^◌, ℕ, length, slice_get, Err, IfOk, IfErr, List, Option};
+ghost use Rattle.std.specs.Prelude.{true, false, Some, None, ◌≡◌, ◌≤◌, ◌<◌, ◌+◌, ◌-◌, ◌^◌, ℕ, length, slice_get, Ok, Err, IfOk, IfErr, List, Option};
 ghost use Rattle.arch_base.specs.Configs.{IsConfig};
 ghost use Rattle.arch_base.specs.Counts.{RoseIf};
 ghost use Rattle.arch_judge.specs.Indexes.{IsArchiveIndex};
-ghost use Rattle.disk_model.specs.Disk.{BothTold, WhereTold, LeavesOnly};
+ghost use Rattle.disk_model.specs.Disk.{BothTold, WhereTold};
+ghost use Rattle.disk_model.specs.Moments.{LeavesOnly};
 ghost use Rattle.disk_model.specs.Synced.{IsSettled};
 ghost use Rattle.root_slots.specs.Between.{RunsBetween};
 ghost use Rattle.root_slots.specs.Slots.{HasNewRoot};
@@ -16,6 +17,7 @@ ghost use Rattle.arch_model.specs.Shelves.{ReadsOnce};
 ghost use Rattle.mail_reader.specs.Stored.{stored};
 ghost use Rattle.archive_core.specs.Numbers.{IsLiveAt};
 ghost use Rattle.archive_core.specs.Kept.{MayGoIn, TakesWhatMay};
+ghost use Rattle.archive_core.specs.Rewriting.{RefusesLate};
 ghost use Rattle.arch_model.specs.declared.answer.Answer.{Answer};
 ghost use Rattle.arch_model.specs.declared.command.Command.TheVariants as command;
 ghost use Rattle.arch_base.specs.Moments.{last_moment};
@@ -30,7 +32,7 @@ ghost use Rattle.archive_core.specs.Commands.{DoneBy, OnDone, OnRefusal, UnlessF
 use crate::placing::{MessagePlace, are_rising, end_place, may_follow, places_of};
 use crate::texts::{KeptText, end_text, put_text, take_text};
 use arch_base::{Bytes, Config, NoMemory};
-use arch_judge::{Index, Verdict, compared, judge};
+use arch_judge::{Index, Judgement, Verdict, compared, judge};
 use arch_model::{Answer, Command, OpenRefusal, TextRefusal};
 use disk_model::Disk;
 use epoch_file::StoreRefusal;
@@ -75,7 +77,7 @@ impl DiskArchive {
         config: &Config,
     ) -> Result<DiskArchive, InitRefusal>
         requires config { IsConfig config.now }
-        ensures made { MakesArchive D.content D.moment D.left_since D.faults disk.old disk.new
+        ensures made { MakesArchive D.Disk disk.old disk.new
             config.now result }
     {
         let store = Store::init(alloc, disk, config)?;
@@ -94,7 +96,7 @@ impl DiskArchive {
     /// still stand for the archive that they stood for, and where none can be opened, all files read as
     /// before.
     pub fn open<D: Disk>(alloc: Global, disk: &mut D) -> Result<DiskArchive, OpenRefusal>
-        ensures opened { OpensArchive D.content D.moment D.left_since D.faults disk.old disk.new
+        ensures opened { OpensArchive D.Disk disk.old disk.new
             result }
         ensures refused { RefusesKindly result (D.content disk.old) (D.content disk.new) }
         ensures texts { IfOk result (λ archive. WhereTold (HasTexts archive) (D.content disk.new)) }
@@ -107,7 +109,7 @@ impl DiskArchive {
         let Ok(places) = places_of(alloc, store.stored()) else {
             return Err(OpenRefusal::NoMemory);
         };
-        // The numbers of an archive's messages rise.
+        // The numbers of an archive's messages rise. No clause of a store says so of what it keeps.
         if !are_rising(places.as_slice()) {
             return Err(OpenRefusal::NoMemory);
         }
@@ -125,7 +127,7 @@ impl DiskArchive {
     pub fn command<D: Disk>(&mut self, disk: &mut D, command: &Command<'_>, moment: u64) -> Answer
         requires moment { moment ≤ last_moment }
         requires sizes { WhereTold (StoreHasSizes self.old) (D.content disk.old) }
-        ensures taken { TakesCommand D.content D.moment D.left_since D.faults D.reads disk.old
+        ensures taken { TakesCommand D.Disk disk.old
             disk.new self.old self.new command.now (λ a. applied a command.now moment) result }
         // A delivery whose blob id no entry has reads nothing.
         ensures unread { (a : Archive) (cache : List ℕ)
@@ -170,7 +172,7 @@ impl DiskArchive {
         requires none { gone.old ≡ None }
         requires moment { moment ≤ last_moment }
         requires sizes { WhereTold (StoreHasSizes self.old) (D.content disk.old) }
-        ensures taken { TakesCommand D.content D.moment D.left_since D.faults D.reads disk.old
+        ensures taken { TakesCommand D.Disk disk.old
             disk.new self.old self.new command.now (λ a. applied a command.now moment) result }
         // A delivery whose blob id no entry has reads nothing.
         ensures unread { (a : Archive) (cache : List ℕ)
@@ -203,7 +205,7 @@ impl DiskArchive {
     ) -> Answer
         requires moment { moment ≤ last_moment }
         requires sizes { WhereTold (StoreHasSizes self.old) (D.content disk.old) }
-        ensures taken { TakesCommand D.content D.moment D.left_since D.faults D.reads disk.old
+        ensures taken { TakesCommand D.Disk disk.old
             disk.new self.old self.new (command.Deliver bytes.entry)
             (λ a. delivered a bytes.now moment) result }
         ensures unread { (a : Archive) (cache : List ℕ)
@@ -217,8 +219,6 @@ impl DiskArchive {
         law_of_stores();
         match self.verdict(disk, &self.index, bytes) {
             Verdict::Refuse(answer) => answer,
-            // The texts were compared before.
-            Verdict::Compare { .. } => Answer::NoMemory,
             Verdict::Take { text, ids, number } => {
                 match self.keep(disk, text.as_slice(), &ids, moment) {
                     Ok(()) => {
@@ -243,7 +243,10 @@ impl DiskArchive {
         ensures judged { JudgesOn D.content disk.old self.now index.now bytes.now result }
         // For any index: a text that is taken may be kept.
         ensures taken { TakesWhatMay self.now index.now result }
-        ensures looks { OnlyLooks D.content D.moment D.left_since disk.old disk.new }
+        // For any index: a message with a form is refused for no want of one.
+        ensures formed { (form : List ℕ) → self.now.root.config.mirror ≡ false
+            → stored bytes.now ≡ Ok form → RefusesLate result }
+        ensures looks { OnlyLooks D.Disk disk.old disk.new }
         ensures unmoved { IfRefusedUnread result (disk.new ≡ disk.old) }
         ensures cause { RoseIf (IsFaultRead result) (D.faults disk.old) (D.faults disk.new) }
         ensures damage { RefusesVerdict self.now (D.content disk.old) result }
@@ -254,13 +257,11 @@ impl DiskArchive {
             → form_known (left_without a gone) (stored bytes.now) ≡ false
             → D.reads disk.new ≡ D.reads disk.old }
     {
-        let count = self.store.stored().len();
         let next = self.store.next_number();
         let config = self.store.config();
-        match judge(self.alloc, config, index, count, next, bytes) {
-            Verdict::Refuse(answer) => Verdict::Refuse(answer),
-            Verdict::Take { text, ids, number } => Verdict::Take { text, ids, number },
-            Verdict::Compare { text, ids, number } => match self.message_text(disk, number) {
+        match judge(self.alloc, config, index, next, bytes) {
+            Judgement::Final(verdict) => verdict,
+            Judgement::Compare { text, ids, number } => match self.message_text(disk, number) {
                 Ok(kept) => compared(config, next, text, ids, number, kept.as_slice()),
                 Err(answer) => Verdict::Refuse(answer),
             },
@@ -273,12 +274,12 @@ impl DiskArchive {
             → IsStoreWith self.now cache a (D.content disk.old) → ReadsMessage a number result }
         ensures unread { IfErr result IsTextUnread }
         ensures damage { IfErr result (TellsEntry self.now (D.content disk.old)) }
-        ensures looks { OnlyLooks D.content D.moment D.left_since disk.old disk.new }
+        ensures looks { OnlyLooks D.Disk disk.old disk.new }
         ensures cause { RoseIf (result ≡ Err Answer.DiskFault) (D.faults disk.old) (D.faults disk.new) }
         ensures count { ReadsOnce (D.reads disk.old) (D.reads disk.new) }
     {
         let Some(index) = self.message_index(number) else {
-            // Numbers of messages rise, so the place of one that is there is found.
+            // In an archive it is a message's. No clause of a store says so of what it keeps.
             return Err(Answer::NoMemory);
         };
         let mut text = Bytes::new(self.alloc);
@@ -290,6 +291,7 @@ impl DiskArchive {
 
     /// Returns the answer where the text of the entry at an index wasn't read.
     pub(crate) fn unread(&self, index: u64, refusal: &TextRefusal) -> Answer
+        requires there { index < length self.now.entries }
         ensures { result ≡ unread_answer self.now index refusal.now }
     {
         match refusal {
@@ -301,11 +303,11 @@ impl DiskArchive {
 
     /// Returns the answer that the entry at an index is damaged.
     fn damaged(&self, index: u64) -> Answer
+        requires there { index < length self.now.entries }
         ensures { result ≡ damaged_place self.now (slice_get self.now.entries index) }
     {
         match self.store.place(index) {
-            // The entry at the index of a message is there, and so is its place.
-            None => Answer::NoMemory,
+            None => unreachable!(),
             Some((file, at)) => Answer::Damaged { file, at },
         }
     }
@@ -326,7 +328,7 @@ impl DiskArchive {
     fn remove<D: Disk>(&mut self, disk: &mut D, number: u32, moment: u64) -> Answer
         requires moment { moment ≤ last_moment }
         requires sizes { WhereTold (StoreHasSizes self.old) (D.content disk.old) }
-        ensures taken { TakesCommand D.content D.moment D.left_since D.faults D.reads disk.old
+        ensures taken { TakesCommand D.Disk disk.old
             disk.new self.old self.new (command.Remove number) (λ a. removed a number moment) result }
     {
         law_of_stores();
@@ -364,7 +366,7 @@ impl DiskArchive {
             → IsStoreWith self.old cache a (D.content disk.old)
             → self.old.root.sequence + 1 < 2 ^ 64
             → text_of (live a.entries) number ≡ Some text.now
-            → LeavesOnly D.moment D.left_since disk.old disk.new
+            → LeavesOnly D.Disk disk.old disk.new
             (RecoversEitherWith cache a (removed a number moment).archive) }
         ensures done { (a : Archive) (cache : List ℕ)
             → IsStoreWith self.old cache a (D.content disk.old)
@@ -385,7 +387,7 @@ impl DiskArchive {
         ensures count { D.reads disk.new ≡ D.reads disk.old }
         ensures rooted { OnDone result (BothTold (HasNewRoot self.new.slot (spelling self.new.root))
             (D.content disk.old) (D.content disk.new)) }
-        ensures crash_between { RunsBetween D.content D.moment D.left_since disk.old disk.new }
+        ensures crash_between { RunsBetween D.Disk disk.old disk.new }
     {
         if !self.is_named(index, text) {
             return self.damaged(index);
@@ -421,7 +423,7 @@ impl DiskArchive {
         requires may { MayGoIn self.old text.now ids.now }
         requires moment { moment ≤ last_moment }
         requires sizes { WhereTold (StoreHasSizes self.old) (D.content disk.old) }
-        ensures changes { ChangesStore D.content D.moment D.left_since D.faults D.reads disk.old disk.new
+        ensures changes { ChangesStore D.Disk disk.old disk.new
             self.old self.new Appends (AddsMessage text.now moment) result }
     {
         let number = self.store.next_number();
@@ -429,7 +431,8 @@ impl DiskArchive {
         let Ok(()) = self.places.reserve(1) else {
             return Err(StoreRefusal::NoMemory);
         };
-        // The next number of an archive is above those of its messages.
+        // The next number of an archive is above those of its messages. No clause of a store says
+        // so of what it keeps.
         if !may_follow(self.places.as_slice(), number) {
             return Err(StoreRefusal::NoMemory);
         }

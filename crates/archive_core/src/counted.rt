@@ -41,7 +41,7 @@ impl CountedArchive {
     ///
     /// The promises and the refusals are those of `DiskArchive::open`.
     pub fn open<D: Disk>(alloc: Global, disk: &mut D) -> Result<CountedArchive, OpenRefusal>
-        ensures opened { OpensArchive D.content D.moment D.left_since D.faults disk.old disk.new
+        ensures opened { OpensArchive D.Disk disk.old disk.new
             result }
         ensures refused { RefusesKindly result (D.content disk.old) (D.content disk.new) }
     {

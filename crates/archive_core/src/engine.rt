@@ -3,7 +3,7 @@
 ghost use Rattle.std.specs.Prelude.{◌≡◌, ◌≤◌, true, false, IfOk, IfErr, OnErr, Err, List, None, not, ◌||◌, is_ok, is_some, length, ℕ};
 ghost use Rattle.arch_base.specs.Configs.{IsConfig};
 ghost use Rattle.arch_base.specs.Moments.{last_moment};
-ghost use Rattle.disk_model.specs.Disk.{LeavesOnly};
+ghost use Rattle.disk_model.specs.Moments.{LeavesOnly};
 ghost use Rattle.arch_model.specs.Archives.{Archive, live, text_of};
 ghost use Rattle.arch_model.specs.Delivery.{applied};
 ghost use Rattle.arch_model.specs.Keeping.{MatchesKnown, KeeperMoves, CommandGives, StaysReady, AnswerCause, ReadsFor, text_known};
@@ -15,7 +15,7 @@ ghost use Rattle.store_finding.specs.Kept.{IsStoreWith};
 ghost use Rattle.epoch_store.specs.Commands.{RecoversOneOf};
 ghost use Rattle.archive_core.specs.Commands.{DoneBy, OnDone, IfUnreadFor, IfRemoval, cache_left, IsForCommand, is_delivery};
 ghost use Rattle.archive_core.specs.DamageTold.{TellsDamage};
-ghost use Rattle.archive_core.specs.Engines.{HoldsArchive, FilesAre, IfRefused, Leaves, OnlyReadsOn, is_ready, needs_opening as needs_opening_after, reading-same, reading-joined, store-left, holds-rest, now-left, reading-kept};
+ghost use Rattle.archive_core.specs.Engines.{HoldsArchive, FilesAre, IfRefused, Leaves, OnlyReadsOn, is_ready, needs_opening as needs_opening_after, reading-same, reading-joined, store-left, holds-rest, now-left, reading-kept, engine_of};
 ghost use Rattle.archive_core.specs.HandedBack.{disk_made, made_or_why, disk_opened, opened_or_why};
 ghost use Rattle.archive_core.specs.Numbers.{GivesTextKept, GivesBlobKept, NamesId};
 ghost use Rattle.archive_core.specs.Openings.{RefusesKindly};
@@ -26,7 +26,7 @@ use crate::not_made::{NotMade, NotOpened};
 use crate::opened::Opened;
 use crate::rows::follow;
 use crate::texts::KeptText;
-use arch_base::{Bytes, Config, NoMemory, Numbers, ObjectId};
+use arch_base::{Bytes, Config, MessageNumbers, NoMemory, ObjectId};
 use arch_model::{Answer, Command, EntryLine, Keep, OpenRefusal, Query, Row, Shelf, TextRefusal};
 use disk_model::Disk;
 use epoch_store::law_of_recovery;
@@ -66,8 +66,7 @@ impl<D: Disk> Engine<D> {
     /// The promises and the errors are those of `Store::init`. An error hands the disk back.
     pub fn make(alloc: Global, disk: D, config: &Config) -> Result<Engine<D>, NotMade<D>>
         requires config { IsConfig config.now }
-        ensures made { MakesArchive D.content D.moment D.left_since D.faults disk
-            (disk_made result) config.now (made_or_why result) }
+        ensures made { MakesArchive D.Disk disk (disk_made result) config.now (made_or_why result) }
         ensures rows { IfOk result (λ made. made.views ≡ no_mails) }
         ensures ready { IfOk result (λ made. made.stale ≡ false) }
     {
@@ -88,8 +87,7 @@ impl<D: Disk> Engine<D> {
     ///
     /// The promises and the errors are those of `DiskArchive::open`. An error hands the disk back.
     pub fn open(alloc: Global, disk: D) -> Result<Engine<D>, NotOpened<D>>
-        ensures opened { OpensArchive D.content D.moment D.left_since D.faults disk
-            (disk_opened result) (opened_or_why result) }
+        ensures opened { OpensArchive D.Disk disk (disk_opened result) (opened_or_why result) }
         ensures refused { RefusesKindly (opened_or_why result) (D.content disk)
             (D.content (disk_opened result)) }
         ensures rows { (a : Archive) (cache : List ℕ) → ReadsWith cache a (D.content disk)
@@ -162,7 +160,7 @@ impl<D: Disk> Engine<D> {
         // A crash in it leaves the archive before the command, or the one after it.
         ensures crash { (a : Archive) (cache : List ℕ)
             → IsStoreWith self.old.view cache a (D.content self.old.disk)
-            → LeavesOnly D.moment D.left_since self.old.disk self.new.disk
+            → LeavesOnly D.Disk self.old.disk self.new.disk
             (RecoversOneOf cache a (cache_left command.now cache) (applied a command.now moment).archive) }
         ensures done { (a : Archive) (cache : List ℕ)
             → IsStoreWith self.old.view cache a (D.content self.old.disk)
@@ -171,8 +169,7 @@ impl<D: Disk> Engine<D> {
             (D.content self.new.disk) }
         // As a keeper's.
         ensures stands { (a : Archive) → HoldsArchive D.content self.old a → (t : LastKnown)
-            × KeeperMoves (HoldsArchive D.content) (FilesAre D.content) is_ready
-            (Leaves D.content D.moment D.left_since) self.old (standing a None) self.new t
+            × KeeperMoves (engine_of D.Disk) self.old (standing a None) self.new t
             × CommandGives true (standing a None) (λ (b : Archive). applied b command.now moment) result t }
         ensures ready { StaysReady true result (is_ready self.new) }
         // After a removal or a purge that was done the archive after it is held, rows included, even if the
@@ -182,7 +179,7 @@ impl<D: Disk> Engine<D> {
             → OnDone result (HoldsArchive D.content self.new (applied a command.now moment).archive)) }
         // A refusal by the rules, and `NoMemory`, change nothing but what reading changes, and a
         // refusal before which no text is read changes nothing at all.
-        ensures untouched { IfRefused result (OnlyReadsOn D.content D.moment D.left_since self.old
+        ensures untouched { IfRefused result (OnlyReadsOn D.Disk self.old
             self.new) }
         ensures unmoved { IfUnreadFor command.now result (self.new ≡ self.old) }
         ensures for_command { IsForCommand command.now result }
@@ -230,7 +227,7 @@ impl<D: Disk> Shelf for Engine<D> {
 
     ghost faults = { λ e. D.faults e.disk };
 
-    ghost alike = { OnlyReadsOn D.content D.moment D.left_since };
+    ghost alike = { OnlyReadsOn D.Disk };
 
     fn config(&self) -> &Config {
         self.archive.config()
@@ -260,19 +257,24 @@ impl<D: Disk> Shelf for Engine<D> {
         self.views.live_count(low, high)
     }
 
-    fn order_page(&self, skip: u64, count: u64) -> Result<Numbers, NoMemory> {
+    fn order_page(&self, skip: u64, count: u64) -> Result<MessageNumbers, NoMemory> {
         self.views.page(skip, count)
     }
 
-    fn thread_of(&self, n: u32) -> Result<Numbers, NoMemory> {
+    fn thread_of(&self, n: u32) -> Result<MessageNumbers, NoMemory> {
         self.views.thread_of(n)
     }
 
-    fn search(&self, query: &Query) -> Result<Numbers, NoMemory> {
+    fn search(&self, query: &Query) -> Result<MessageNumbers, NoMemory> {
         self.views.search(query)
     }
 
-    fn search_page(&self, query: &Query, skip: u64, count: u64) -> Result<Numbers, NoMemory> {
+    fn search_page(
+        &self,
+        query: &Query,
+        skip: u64,
+        count: u64,
+    ) -> Result<MessageNumbers, NoMemory> {
         self.views.search_page(query, skip, count)
     }
 
@@ -289,7 +291,7 @@ impl<D: Disk> Shelf for Engine<D> {
         ensures refused { OnErr result (into.new ≡ into.old) }
         ensures appends { AppendsTo into.old into.new }
         ensures shelf { ShelfStays (HoldsArchive D.content) is_ready
-            (OnlyReadsOn D.content D.moment D.left_since)
+            (OnlyReadsOn D.Disk)
             (λ e. D.faults e.disk) self.old self.new }
         ensures cause { ReadCause (D.faults self.old.disk) (D.faults self.new.disk) result }
         ensures reads { ReadsOnce (D.reads self.old.disk) (D.reads self.new.disk) }
@@ -312,7 +314,7 @@ impl<D: Disk> Shelf for Engine<D> {
         ensures kept { KeepsUnlessFound into.old into.new result }
         ensures appends { AppendsTo into.old into.new }
         ensures shelf { ShelfStays (HoldsArchive D.content) is_ready
-            (OnlyReadsOn D.content D.moment D.left_since)
+            (OnlyReadsOn D.Disk)
             (λ e. D.faults e.disk) self.old self.new }
         ensures cause { ReadCause (D.faults self.old.disk) (D.faults self.new.disk) result }
         ensures reads { ReadsOnce (D.reads self.old.disk) (D.reads self.new.disk) }
@@ -324,16 +326,16 @@ impl<D: Disk> Shelf for Engine<D> {
         self.archive.blob(&mut self.disk, id, into)
     }
 
-    ghost alike_same = { λ e. reading-same D.content D.moment D.left_since D.counts_now D.only_now e };
+    ghost alike_same = { λ e. reading-same D.Disk.own D.counts_now D.only_now e };
 
     ghost alike_joined = { λ d e f first second.
-        reading-joined D.content D.moment D.left_since D.counts_now D.only_now d e f first second };
+        reading-joined D.Disk.own D.counts_now D.only_now d e f first second };
 }
 
 impl<D: Disk> Keep for Engine<D> {
     ghost files_are = { FilesAre D.content };
 
-    ghost leaves = { Leaves D.content D.moment D.left_since };
+    ghost leaves = { Leaves D.Disk };
 
     fn is_stale(&self) -> bool {
         self.stale
@@ -373,10 +375,8 @@ impl<D: Disk> Keep for Engine<D> {
     fn command(&mut self, command: &Command<'_>, moment: u64) -> Answer
         requires moment { moment ≤ last_moment }
         ensures done { (s : LastKnown)
-            → MatchesKnown (HoldsArchive D.content) (FilesAre D.content) is_ready
-            (Leaves D.content D.moment D.left_since) self.old s
-            → (t : LastKnown) × KeeperMoves (HoldsArchive D.content) (FilesAre D.content) is_ready
-            (Leaves D.content D.moment D.left_since) self.old s self.new t
+            → MatchesKnown (engine_of D.Disk) self.old s
+            → (t : LastKnown) × KeeperMoves (engine_of D.Disk) self.old s self.new t
             × CommandGives (is_ready self.old) s (λ (a : Archive). applied a command.now moment) result t }
         ensures ready { StaysReady (is_ready self.old) result (is_ready self.new) }
         ensures later { D.faults self.old.disk ≤ D.faults self.new.disk }
@@ -392,7 +392,7 @@ impl<D: Disk> Keep for Engine<D> {
         // with this cache.
         ensures crash { (a : Archive) (cache : List ℕ) → is_ready self.old ≡ true
             → IsStoreWith self.old.view cache a (D.content self.old.disk)
-            → LeavesOnly D.moment D.left_since self.old.disk self.new.disk
+            → LeavesOnly D.Disk self.old.disk self.new.disk
             (RecoversOneOf cache a (cache_left command.now cache) (applied a command.now moment).archive) }
         ensures store { (a : Archive) (cache : List ℕ) → is_ready self.old ≡ true
             → IsStoreWith self.old.view cache a (D.content self.old.disk)
@@ -406,7 +406,7 @@ impl<D: Disk> Keep for Engine<D> {
         // A refusal by the rules, and `NoMemory`, change nothing but what reading changes, and a
         // refusal before which no text is read changes nothing at all.
         ensures untouched { is_ready self.old ≡ true
-            → IfRefused result (OnlyReadsOn D.content D.moment D.left_since self.old self.new) }
+            → IfRefused result (OnlyReadsOn D.Disk self.old self.new) }
         ensures unmoved { is_ready self.old ≡ true
             → IfUnreadFor command.now result (self.new ≡ self.old) }
         // `Damaged` has the place of an entry whose text isn't there, or a file that is too short.
@@ -424,16 +424,16 @@ impl<D: Disk> Keep for Engine<D> {
     }
 
     ghost holds_files_are = { λ e a store.
-        holds-rest D.content D.moment D.left_since D.counts_now D.only_now e a store };
+        holds-rest D.Disk.own D.counts_now D.only_now e a store };
 
     ghost holds_left = { λ e a may store has.
-        store-left D.content D.moment D.left_since D.counts_now D.only_now e a may (store.0, store.1) has };
+        store-left D.Disk.own D.counts_now D.only_now e a may (store.0, store.1) has };
 
     ghost leaves_now = { λ start e may left.
-        now-left D.content D.moment D.left_since D.counts_now D.only_now start e may left };
+        now-left D.Disk.own D.counts_now D.only_now start e may left };
 
     ghost alike_kept = { λ d e read.
-        reading-kept D.content D.moment D.left_since D.counts_now D.only_now d e read };
+        reading-kept D.Disk.own D.counts_now D.only_now d e read };
 }
 
 /// Returns whether an archive has to be reopened after this answer.

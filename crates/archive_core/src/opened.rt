@@ -1,6 +1,6 @@
 //! An archive that was opened on a disk, with the rows, threads and words of its live messages.
 //! Writes the disk; syncs.
-ghost use Rattle.std.specs.Prelude.{◌≡◌, ℕ, List, Err, IfOk, slice_get};
+ghost use Rattle.std.specs.Prelude.{◌≡◌, ◌<◌, ℕ, List, Err, IfOk, length, slice_get};
 ghost use Rattle.arch_base.specs.Counts.{RoseIf};
 ghost use Rattle.arch_model.specs.Archives.{Archive, live};
 ghost use Rattle.arch_model.specs.declared.opening.OpenRefusal.{OpenRefusal};
@@ -37,8 +37,7 @@ impl Opened {
     /// offset of an entry whose text had another id when it was read again, which never happens on a
     /// disk that tells its content.
     pub(crate) fn open<D: Disk>(alloc: Global, disk: &mut D) -> Result<Opened, OpenRefusal>
-        ensures opened { OpensArchive D.content D.moment D.left_since D.faults disk.old disk.new
-            (view_opened result) }
+        ensures opened { OpensArchive D.Disk disk.old disk.new (view_opened result) }
         ensures refused { RefusesKindly result (D.content disk.old) (D.content disk.new) }
         ensures rows { (a : Archive) (cache : List ℕ) → ReadsWith cache a (D.content disk.old)
             → IfOk result (λ opened. opened.views ≡ views_of (live a.entries)) }
@@ -68,7 +67,7 @@ impl DiskArchive {
         ensures well { (a : Archive) (cache : List ℕ)
             → IsStoreWith self.now cache a (D.content disk.old) → OpensWell result }
         ensures sound { IsSound self.now (D.content disk.old) → OpensWell result }
-        ensures looks { OnlyLooks D.content D.moment D.left_since disk.old disk.new }
+        ensures looks { OnlyLooks D.Disk disk.old disk.new }
         ensures cause { RoseIf (result ≡ Err OpenRefusal.DiskFault) (D.faults disk.old)
             (D.faults disk.new) }
     {
@@ -84,6 +83,7 @@ impl DiskArchive {
 
     /// Returns why an archive wasn't opened, a text of which wasn't read.
     fn unopened(&self, unread: &Unread) -> OpenRefusal
+        requires there { unread.now.index < length self.now.entries }
         ensures { result ≡ unread_opening self.now (slice_get self.now.entries unread.now.index)
             unread.now.why }
     {
@@ -91,8 +91,7 @@ impl DiskArchive {
             TextRefusal::DiskFault => OpenRefusal::DiskFault,
             TextRefusal::NoMemory => OpenRefusal::NoMemory,
             TextRefusal::Damaged { .. } => match self.store.place(unread.index) {
-                // A message that was walked through has an entry, so its place is there.
-                None => OpenRefusal::NoMemory,
+                None => unreachable!(),
                 Some((file, at)) => OpenRefusal::Damaged { file, at },
             },
         }

@@ -2,7 +2,8 @@
 //! Reads the disk.
 ghost use Rattle.std.specs.Prelude.{◌≡◌, ◌≤◌, ◌<◌, ◌+◌, ◌^◌, ◌↔◌, ℕ, List, true, Err, IsTrue, IfSome, OnErr, is_some};
 ghost use Rattle.arch_base.specs.Counts.{RoseIf};
-ghost use Rattle.disk_model.specs.Disk.{Image, BothTold, Unchanged, LeavesOnly};
+ghost use Rattle.disk_model.specs.Disk.{Image, BothTold, Unchanged};
+ghost use Rattle.disk_model.specs.Moments.{LeavesOnly};
 ghost use Rattle.arch_model.specs.Archives.{Archive, live, messages, in_epoch, text_of, blob_number};
 ghost use Rattle.arch_model.specs.Shelves.{line_at, GivesBlobIn, AppendsTo};
 ghost use Rattle.arch_model.specs.Standing.{GivesTextIn, GivesEpochIn, KeepsUnlessFound};
@@ -40,6 +41,7 @@ impl DiskArchive {
     /// Returns the index of the entry of a live message, or `None` if its number isn't live.
     pub(crate) fn live_index(&self, n: u32) -> Option<u64>
         ensures known { IfSome result (IsLiveAt self.now.entries n) }
+        ensures found { is_some result ≡ has_live self.now.entries n }
         ensures live { (a : Archive) → KeepsArchive self.now a
             → is_some (text_of (live a.entries) n) ≡ is_some result }
     {
@@ -87,16 +89,14 @@ impl DiskArchive {
         ensures kept { GivesTextKept self.now (D.content disk.old) n into.old into.new result }
         ensures refused { OnErr result (into.new ≡ into.old) }
         ensures same { BothTold Unchanged (D.content disk.old) (D.content disk.new) }
-        ensures crash { LeavesOnly D.moment D.left_since disk.old disk.new
-            (Image (D.content disk.old)) }
+        ensures crash { LeavesOnly D.Disk disk.old disk.new (Image (D.content disk.old)) }
         ensures cause { RoseIf (result ≡ Err TextRefusal.DiskFault) (D.faults disk.old)
             (D.faults disk.new) }
         ensures fewest { D.reads disk.old ≤ D.reads disk.new }
         ensures count { D.reads disk.new ≤ D.reads disk.old + 1 }
     {
         match self.live_index(n) {
-            // Numbers of messages rise, so the place of one that is live is found.
-            None => Err(TextRefusal::NoMemory),
+            None => unreachable!(),
             Some(index) => self.store.text(disk, index, into),
         }
     }
@@ -121,8 +121,7 @@ impl DiskArchive {
         ensures kept { KeepsUnlessFound into.old into.new result }
         ensures appends { AppendsTo into.old into.new }
         ensures same { BothTold Unchanged (D.content disk.old) (D.content disk.new) }
-        ensures crash { LeavesOnly D.moment D.left_since disk.old disk.new
-            (Image (D.content disk.old)) }
+        ensures crash { LeavesOnly D.Disk disk.old disk.new (Image (D.content disk.old)) }
         ensures cause { RoseIf (result ≡ Err TextRefusal.DiskFault) (D.faults disk.old)
             (D.faults disk.new) }
         ensures fewest { D.reads disk.old ≤ D.reads disk.new }
@@ -191,8 +190,7 @@ impl DiskArchive {
         ensures appends { AppendsTo into.old into.new }
         ensures undamaged { AnswersQuietly result }
         ensures same { BothTold Unchanged (D.content disk.old) (D.content disk.new) }
-        ensures crash { LeavesOnly D.moment D.left_since disk.old disk.new
-            (Image (D.content disk.old)) }
+        ensures crash { LeavesOnly D.Disk disk.old disk.new (Image (D.content disk.old)) }
         ensures cause { RoseIf (result ≡ Err TextRefusal.DiskFault) (D.faults disk.old)
             (D.faults disk.new) }
         ensures fewest { D.reads disk.old ≤ D.reads disk.new }

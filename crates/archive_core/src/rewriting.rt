@@ -1,6 +1,6 @@
 //! Purges and edits of an archive on a disk.
 //! Writes the disk; syncs.
-ghost use Rattle.std.specs.Prelude.{Some, None, ◌≡◌, ◌≤◌, ℕ, Err, IfErr, IfOk, OnOk, List};
+ghost use Rattle.std.specs.Prelude.{Some, None, ◌≡◌, ◌≤◌, ℕ, Ok, Err, IfErr, IfOk, OnOk, List};
 ghost use Rattle.arch_base.specs.Counts.{RoseIf};
 ghost use Rattle.arch_base.specs.Moments.{last_moment};
 ghost use Rattle.disk_model.specs.Disk.{WhereTold};
@@ -16,7 +16,7 @@ ghost use Rattle.archive_core.specs.Commands.{IfUnread, IsGone, IsLiveOf, KeepsT
 ghost use Rattle.archive_core.specs.DamageTold.{TellsEntry};
 ghost use Rattle.archive_core.specs.Numbers.{IsLiveAt};
 ghost use Rattle.archive_core.specs.Kept.{IndexesKept};
-ghost use Rattle.archive_core.specs.Rewriting.{ComparesForm, EditsAs, IsUnformed, MayReplace, bare, late_answer};
+ghost use Rattle.archive_core.specs.Rewriting.{ComparesForm, EditsAs, IsUnformed, MayReplace, bare};
 ghost use Rattle.arch_model.specs.declared.command.Command.TheVariants as command;
 
 use crate::archive::{DiskArchive, answer_of};
@@ -44,7 +44,7 @@ impl DiskArchive {
     ) -> Answer
         requires none { gone.old ≡ None }
         requires sizes { WhereTold (StoreHasSizes self.old) (D.content disk.old) }
-        ensures taken { TakesCommand D.content D.moment D.left_since D.faults D.reads disk.old
+        ensures taken { TakesCommand D.Disk disk.old
             disk.new self.old self.new (command.Purge number) (λ a. purged a number) result }
         ensures gone { (a : Archive) (cache : List ℕ)
             → IsStoreWith self.old cache a (D.content disk.old)
@@ -78,7 +78,7 @@ impl DiskArchive {
     ) -> Result<Option<u32>, StoreRefusal>
         requires may { (number : ℕ) × MayPurge self.old number blob.now }
         requires sizes { WhereTold (StoreHasSizes self.old) (D.content disk.old) }
-        ensures changes { ChangesStore D.content D.moment D.left_since D.faults D.reads disk.old disk.new
+        ensures changes { ChangesStore D.Disk disk.old disk.new
             self.old self.new Renews (Drops blob.now) (bare result) }
         ensures kept_files { OnOk result (KeepsFiles self.old self.new blob.now) }
         ensures lives { (number : ℕ) (a : Archive) (text : List ℕ) → KeepsArchive self.old a
@@ -116,7 +116,7 @@ impl DiskArchive {
         requires none { gone.old ≡ None }
         requires moment { moment ≤ last_moment }
         requires sizes { WhereTold (StoreHasSizes self.old) (D.content disk.old) }
-        ensures taken { TakesCommand D.content D.moment D.left_since D.faults D.reads disk.old
+        ensures taken { TakesCommand D.Disk disk.old
             disk.new self.old self.new (command.Edit number bytes.entry)
             (λ a. edited a number bytes.now moment) result }
         ensures text { TellsText result kept.new }
@@ -159,8 +159,9 @@ impl DiskArchive {
             → IsStoreWith self.now cache a (D.content disk.old)
             → ComparesForm a number (stored_of bytes.now) result }
         ensures refused { IfErr result IsUnformed }
+        ensures formed { IfOk result (λ same. (form : List ℕ) × (stored_of bytes.now ≡ Ok form)) }
         ensures damage { IfErr result (TellsEntry self.now (D.content disk.old)) }
-        ensures looks { OnlyLooks D.content D.moment D.left_since disk.old disk.new }
+        ensures looks { OnlyLooks D.Disk disk.old disk.new }
         ensures unmoved { IfErr result (λ reply. IfUnread reply (disk.new ≡ disk.old)) }
         ensures cause { RoseIf (result ≡ Err Answer.DiskFault) (D.faults disk.old) (D.faults disk.new) }
         ensures fewest { D.reads disk.old ≤ D.reads disk.new }
@@ -181,7 +182,8 @@ impl DiskArchive {
         }
     }
 
-    /// Delivers a message on the archive without the entries with a blob id, in one step, or refuses.
+    /// Delivers a message that has a storage form on the archive without the entries with a blob id, in
+    /// one step, or refuses.
     fn replace<D: Disk>(
         &mut self,
         disk: &mut D,
@@ -193,9 +195,10 @@ impl DiskArchive {
         gone: &mut Option<u32>,
     ) -> Answer
         requires may { MayPurge self.old number blob.now }
+        requires formed { (form : List ℕ) × (stored_of bytes.now ≡ Ok form) }
         requires moment { moment ≤ last_moment }
         requires sizes { WhereTold (StoreHasSizes self.old) (D.content disk.old) }
-        ensures edits { EditsAs D.content D.moment D.left_since D.faults disk.old disk.new self.old
+        ensures edits { EditsAs D.Disk disk.old disk.new self.old
             self.new number bytes.now moment result }
         ensures kept_files { OnDone result (EditsFiles self.old self.new blob.now) }
         ensures text { TellsText result kept.new }
@@ -212,9 +215,7 @@ impl DiskArchive {
             return Answer::NoMemory;
         };
         match self.verdict(disk, &index, bytes) {
-            Verdict::Refuse(answer) => late_refusal(answer),
-            // The texts were compared before.
-            Verdict::Compare { .. } => Answer::NoMemory,
+            Verdict::Refuse(answer) => answer,
             Verdict::Take {
                 text,
                 ids,
@@ -253,7 +254,7 @@ impl DiskArchive {
         requires index { IndexesKept (without_blob self.old.entries old.now.0) index }
         requires moment { moment ≤ last_moment }
         requires sizes { WhereTold (StoreHasSizes self.old) (D.content disk.old) }
-        ensures changes { ChangesStore D.content D.moment D.left_since D.faults D.reads disk.old disk.new
+        ensures changes { ChangesStore D.Disk disk.old disk.new
             self.old self.new Renews (Replaces old.now text.now moment) result }
         ensures kept_files { OnOk result (EditsFiles self.old self.new old.now) }
     {
@@ -265,7 +266,8 @@ impl DiskArchive {
         let Ok(mut places) = places_without(self.alloc, self.store.stored(), old) else {
             return Err(StoreRefusal::NoMemory);
         };
-        // The next number of an archive is above those of its messages.
+        // The next number of an archive is above those of its messages. No clause of a store says
+        // so of what it keeps.
         if !may_follow(places.as_slice(), new) {
             return Err(StoreRefusal::NoMemory);
         }
@@ -288,18 +290,5 @@ impl DiskArchive {
             }
             Err(refusal) => Err(refusal),
         }
-    }
-}
-
-/// Returns a refusal of a delivery whose form was found before, on an archive that takes deliveries.
-///
-/// The other refusals, which never come then, are answered as if memory ran out.
-fn late_refusal(answer: Answer) -> Answer
-    ensures { result ≡ late_answer answer }
-{
-    match answer {
-        Answer::Duplicate(_) | Answer::Full(_) | Answer::Collision(_) => answer,
-        Answer::DiskFault | Answer::Damaged { .. } => answer,
-        _never => Answer::NoMemory,
     }
 }

@@ -33,7 +33,7 @@ impl<'a, D: Disk> Walked for Walk<'a, D> {
 
     // The disk is the same one, and was only read.
     ghost alike = { λ w x. (x.disk.ghost_name ≡ w.disk.ghost_name) × (x.store ≡ w.store)
-        × OnlyLooks D.content D.moment D.left_since w.disk.now x.disk.now };
+        × OnlyLooks D.Disk w.disk.now x.disk.now };
 
     fn entry(&self, index: u64) -> Option<EntryLine> {
         self.store.entry(index)
@@ -46,12 +46,12 @@ impl<'a, D: Disk> Walked for Walk<'a, D> {
     ghost holds_valid = { λ w a store. store-valid w.store.now store.0 a (D.content w.disk.now) store.1 };
 
     ghost alike_same = { λ w.
-        (refl, refl, looks-same D.content D.moment D.left_since D.only_now w.disk.now) };
+        (refl, refl, looks-same D.Disk.own D.only_now w.disk.now) };
 
     ghost alike_joined = { λ w x y p q. (
       q.0 ∙ p.0,
       q.1 ∙ p.1,
-      looks-joined D.content D.moment D.left_since D.only_now w.disk.now x.disk.now y.disk.now
+      looks-joined D.Disk.own D.only_now w.disk.now x.disk.now y.disk.now
           p.2 q.2,
     ) };
 }

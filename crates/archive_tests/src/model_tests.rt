@@ -1,7 +1,7 @@
 //! Deliveries in memory, answer by answer, against texts and ids worked out by hand and by git.
 use crate::archives::accepted;
 use arch_base::{Bytes, Config, NoMemory};
-use arch_judge::{Index, Owner, Verdict, compared, judge};
+use arch_judge::{Index, Judgement, Owner, Verdict, compared, judge};
 use arch_model::{Answer, Command};
 use epoch_tests::{FIRST, FIRST_ID, MOMENT, OTHER, OTHER_ID, SECOND};
 use git_objects::blob_id;
@@ -93,17 +93,17 @@ fn refusal(
     next: u32,
     bytes: &[u8],
 ) -> Option<Answer> {
-    match judge(alloc, config, index, 1, next, bytes) {
-        Verdict::Refuse(answer) => Some(answer),
-        Verdict::Take { .. } | Verdict::Compare { .. } => None,
+    match judge(alloc, config, index, next, bytes) {
+        Judgement::Final(Verdict::Refuse(answer)) => Some(answer),
+        Judgement::Final(Verdict::Take { .. }) | Judgement::Compare { .. } => None,
     }
 }
 
 /// Returns whether `SECOND` is to be kept unchanged under the number 2.
 fn takes_second(alloc: Global, config: &Config, index: &Index) -> bool {
-    match judge(alloc, config, index, 1, 2, SECOND) {
-        Verdict::Refuse(_) | Verdict::Compare { .. } => false,
-        Verdict::Take { text, ids, number } => {
+    match judge(alloc, config, index, 2, SECOND) {
+        Judgement::Final(Verdict::Refuse(_)) | Judgement::Compare { .. } => false,
+        Judgement::Final(Verdict::Take { text, ids, number }) => {
             let known = ids.blob == blob_id(SECOND) && ids.content == content_id(SECOND);
             text.as_slice() == SECOND && known && number == 2
         }
@@ -139,9 +139,9 @@ fn verdict_beside(
     next: u32,
     kept: &[u8],
 ) -> Option<Verdict> {
-    match judge(alloc, config, index, 1, next, FIRST) {
-        Verdict::Refuse(_) | Verdict::Take { .. } => None,
-        Verdict::Compare { text, ids, number } => {
+    match judge(alloc, config, index, next, FIRST) {
+        Judgement::Final(_) => None,
+        Judgement::Compare { text, ids, number } => {
             Some(compared(config, next, text, ids, number, kept))
         }
     }

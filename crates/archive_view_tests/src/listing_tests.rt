@@ -30,7 +30,7 @@ fn takes_four<K: Keep>(keep: &mut K) -> Result<bool, OpenRefusal> {
 }
 
 /// Returns whether a part of the listing has these numbers.
-fn page_is<K: Keep>(keep: &mut K, skip: u64, count: u64, wanted: &[u64]) -> Result<bool, Fail> {
+fn page_is<K: Keep>(keep: &mut K, skip: u64, count: u64, wanted: &[u32]) -> Result<bool, Fail> {
     keep.fresh()?;
     let page = keep.order_page(skip, count)?;
     Ok(page.as_slice() == wanted)

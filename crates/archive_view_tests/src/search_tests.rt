@@ -22,7 +22,7 @@ const MAILS: [&[u8]; 3] = [
 #[derive(Drop)]
 struct Search {
     text: &'static [u8],
-    found: &'static [u64],
+    found: &'static [u32],
 }
 
 /// Searches of all three mails.
@@ -115,7 +115,7 @@ fn finds<K: Keep>(alloc: Global, keep: &mut K, search: &Search) -> Result<bool, 
 }
 
 /// Returns whether pages of a search are parts of these numbers.
-fn has_pages<K: Keep>(keep: &K, query: &Query, found: &[u64]) -> Result<bool, NoMemory>
+fn has_pages<K: Keep>(keep: &K, query: &Query, found: &[u32]) -> Result<bool, NoMemory>
     requires { K.ready keep.now ≡ true }
 {
     let mut all = true;

@@ -14,7 +14,7 @@ const OTHER: &[u8] = b"Message-ID: <b@x>\n\ntwo\n";
 const LINK: &[u8] = b"Message-ID: <c@x>\nReferences: <g@x> <a@x> <b@x>\n\nthree\n";
 
 /// Returns whether the thread of a number has these numbers.
-fn thread_is<K: Keep>(keep: &mut K, n: u32, wanted: &[u64]) -> Result<bool, Fail> {
+fn thread_is<K: Keep>(keep: &mut K, n: u32, wanted: &[u32]) -> Result<bool, Fail> {
     keep.fresh()?;
     let found = keep.thread_of(n)?;
     Ok(found.as_slice() == wanted)

@@ -8,7 +8,7 @@ use Rattle.edge_io.specs.declared.sink.SinkFault.{SinkFault}
 use Rattle.line_door.proofs.Acting.{acts-by_held, acts-closing, acts-silent}
 use Rattle.arch_model.specs.Archives.{Archive, live, text_of}
 use Rattle.arch_model.specs.Delivery.{applied, answer_line}
-use Rattle.arch_model.specs.Keeping.{KeeperMoves, OnlyRead, CommandGives, AnswerCause, Settles, ReopeningRefused, OpeningWhy}
+use Rattle.arch_model.specs.Keeping.{KeeperMoves, OnlyRead, CommandGives, AnswerCause, Settles, ReopeningRefused, OpeningWhy, Keeper}
 use Rattle.arch_model.specs.Shelves.{IsUndamaged, ReadingWhy}
 use Rattle.arch_model.specs.Standing.{LastKnown, standing}
 use Rattle.arch_model.specs.declared.command.Command.{Command}
@@ -161,14 +161,14 @@ acts-commanded moment a command rest t reply i j sent comes cause later said =
     commanded (said_to moment s (request_for command) rest) (waiting rest false) (λ (r : Answer). whole_line (answer_line r)) a (λ (b : Archive). applied b command moment) (command-plain moment s command rest) (command-memory moment s command rest) (command-disk moment s command rest) reply t i j sent
     comes cause later said
 
-module _ {K : Type 0} (holds files_are : K → Archive → Type 0) (ready : K → Bool) (leaves : K → K → List (Option Archive) → Type 0) where
+module _ {K : Type 0} (g : Keeper K) where
   -- A request was answered.
-  pub turns-answered : (moment : ℕ) (old piece : List ℕ) (request : Request) (n : ℕ) (k k' : K) (i j : ConnectionState) (new : List ℕ) (goes : Bool) → ready k ≡ true → ahead (old ++ piece) ≡ Asked request (drop n piece) → new ≡ []
-      → AnswersRequest holds files_are ready leaves moment request k i goes k' j → ControlActs holds files_are ready leaves moment true old piece k i (if goes then Went n else Closed) new k' j
+  pub turns-answered : (moment : ℕ) (old piece : List ℕ) (request : Request) (n : ℕ) (k k' : K) (i j : ConnectionState) (new : List ℕ) (goes : Bool) → g.ready k ≡ true → ahead (old ++ piece) ≡ Asked request (drop n piece) → new ≡ []
+      → AnswersRequest g moment request k i goes k' j → ControlActs g moment true old piece k i (if goes then Went n else Closed) new k' j
   turns-answered moment old piece request n k k' i j new goes at_hand stands none acts = λ s fits.
-      let is = settled-is holds files_are ready leaves k s fits at_hand in
+      let is = settled-is g k s fits at_hand in
       let done = acts s.archive (drop n piece) is.1 in
-      subst (λ (x : LastKnown). (t : LastKnown) × KeeperMoves holds files_are ready leaves k x k' t × IsControlAct moment true x old piece i (if goes then Went n else Closed) t new j) (sym is.0) (
+      subst (λ (x : LastKnown). (t : LastKnown) × KeeperMoves g k x k' t × IsControlAct moment true x old piece i (if goes then Went n else Closed) t new j) (sym is.0) (
         done.0,
         done.1,
         turn-went moment (standing s.archive None) old piece request n i done.0 new j goes stands none done.2,
@@ -176,22 +176,22 @@ module _ {K : Type 0} (holds files_are : K → Archive → Type 0) (ready : K �
 
   -- The archive was reopened before a request, or not.
   pub turns-opened : (moment : ℕ) (old piece : List ℕ) (request : Request) (n : ℕ) (k k' : K) (i j : ConnectionState) (done : Bool) → ahead (old ++ piece) ≡ Asked request (drop n piece)
-      → ReopensForCommand holds files_are ready leaves k i done k' j → ControlActs holds files_are ready leaves moment false old piece k i (if done then Opened else Closed) old k' j
+      → ReopensForCommand g k i done k' j → ControlActs g moment false old piece k i (if done then Opened else Closed) old k' j
   turns-opened moment old piece request n k k' i j done stands opens = λ s fits.
       let o = opens s (old ++ piece) fits in
       (o.0, o.1, turn-opened moment s old piece request n i o.0 j done stands o.2)
 
   -- Nothing was asked of the keeper.
-  pub turns-held : (moment : ℕ) (opened : Bool) (held piece : List ℕ) (k : K) (i : ConnectionState) (turn : Act) (new : List ℕ) (j : ConnectionState) → ((s : LastKnown) → IsControlAct moment opened s held piece i turn s new j) → ControlActs holds files_are ready leaves moment opened held piece k i turn new k j
-  turns-held moment opened held piece k i turn new j done = λ s fits. (s, moves-same holds files_are ready leaves k s fits, done s)
+  pub turns-held : (moment : ℕ) (opened : Bool) (held piece : List ℕ) (k : K) (i : ConnectionState) (turn : Act) (new : List ℕ) (j : ConnectionState) → ((s : LastKnown) → IsControlAct moment opened s held piece i turn s new j) → ControlActs g moment opened held piece k i turn new k j
+  turns-held moment opened held piece k i turn new j done = λ s fits. (s, moves-same g k s fits, done s)
 
-  module _ (holds_files_are : (k : K) (a : Archive) → holds k a → files_are k a) (holds_left : (k : K) (a : Archive) (may : List (Option Archive)) → holds k a → Contains may (Some a) → leaves k k may) where
+  module _ (holds_files_are : (k : K) (a : Archive) → g.holds k a → g.files_are k a) (holds_left : (k : K) (a : Archive) (may : List (Option Archive)) → g.holds k a → Contains may (Some a) → g.leaves k k may) where
     -- A request that only reads was answered.
-    pub answers-read : (moment : ℕ) (request : Request) (k k' : K) (i j : ConnectionState) (goes : Bool) → OnlyRead holds files_are ready leaves k k' → ((a : Archive) (rest : List ℕ) → holds k a → Acts (said_to moment (standing a None) request rest) i (held_if goes (waiting rest false)) (standing a None) j)
-        → AnswersRequest holds files_are ready leaves moment request k i goes k' j
-    answers-read moment request k k' i j goes read acts = λ a rest held. (standing a None, moves-read holds files_are ready leaves holds_files_are holds_left k k' a held read, acts a rest held)
+    pub answers-read : (moment : ℕ) (request : Request) (k k' : K) (i j : ConnectionState) (goes : Bool) → OnlyRead g k k' → ((a : Archive) (rest : List ℕ) → g.holds k a → Acts (said_to moment (standing a None) request rest) i (held_if goes (waiting rest false)) (standing a None) j)
+        → AnswersRequest g moment request k i goes k' j
+    answers-read moment request k k' i j goes read acts = λ a rest held. (standing a None, moves-read g holds_files_are holds_left k k' a held read, acts a rest held)
 
     -- A request was answered without the keeper.
     pub answers-held : (moment : ℕ) (request : Request) (k : K) (i j : ConnectionState) (goes : Bool) → ((a : Archive) (rest : List ℕ) → Acts (said_to moment (standing a None) request rest) i (held_if goes (waiting rest false)) (standing a None) j)
-        → AnswersRequest holds files_are ready leaves moment request k i goes k j
-    answers-held moment request k i j goes acts = λ a rest held. (standing a None, moves-same holds files_are ready leaves k (standing a None) (fits-held holds files_are ready leaves holds_files_are holds_left k a held), acts a rest)
+        → AnswersRequest g moment request k i goes k j
+    answers-held moment request k i j goes acts = λ a rest held. (standing a None, moves-same g k (standing a None) (fits-held g holds_files_are holds_left k a held), acts a rest)

@@ -6,7 +6,7 @@ use Rattle.line_door.specs.Course.{talk}
 use Rattle.keep_course.specs.Answering as answering
 use Rattle.keep_course.specs.Courses.{SessionRunLeft}
 use Rattle.arch_model.specs.Archives.{Archive}
-use Rattle.arch_model.specs.Keeping.{MatchesKnown, KeeperMoves}
+use Rattle.arch_model.specs.Keeping.{MatchesKnown, KeeperMoves, Keeper}
 use Rattle.arch_model.specs.Standing.{LastKnown, standing}
 use Rattle.arch_model.specs.declared.command.Command.{Command}
 use Rattle.arch_model.specs.declared.command.Command.TheVariants.{Deliver, Remove, Purge, Edit}
@@ -115,20 +115,17 @@ TakesRequest opened piece (Went n) = (0 < n) × (n ≤ length piece)
 TakesRequest opened piece Kept = Unit {0}
 TakesRequest opened piece Closed = Unit {0}
 
--- A keeper: the archives that it holds, those of which its files are exactly, whether it is ready, and
--- what each crash since a state may have left.
-module _ {K : Type 0} (holds files_are : K → Archive → Type 0) (ready : K → Bool)
-    (leaves : K → K → List (Option Archive) → Type 0) where
+module _ {K : Type 0} (g : Keeper K) where
   -- Whichever archive is held, a request to it is answered, and the keeper matches the archive after
   -- it.
   abbrev pub AnswersRequest : ℕ → Request → K → ConnectionState → Bool → K → ConnectionState → Type 0
-  AnswersRequest moment request old i goes_on new j = answering.ActsOnArchive holds files_are ready leaves
+  AnswersRequest moment request old i goes_on new j = answering.ActsOnArchive g
       (λ (a : Archive) (rest : List ℕ) (way : Departure). said_to moment (standing a None) request rest way)
       (λ (rest : List ℕ). waiting rest false) old i goes_on new j
 
   -- Whatever the keeper matches, it is reopened, or reopening is refused.
   abbrev pub ReopensForCommand : K → ConnectionState → Bool → K → ConnectionState → Type 0
-  ReopensForCommand old i opened new j = answering.ReopensBy holds files_are ready leaves
+  ReopensForCommand old i opened new j = answering.ReopensBy g
       (λ (s : LastKnown) (bytes : List ℕ) (way : Departure). said_opening s bytes way)
       (λ (bytes : List ℕ). waiting bytes true) old i opened new j
 
@@ -136,8 +133,8 @@ module _ {K : Type 0} (holds files_are : K → Archive → Type 0) (ready : K �
   abbrev pub ControlActs : ℕ → Bool → List ℕ → List ℕ → K → ConnectionState → Act → List ℕ → K
       → ConnectionState → Type 0
   ControlActs moment opened held piece old i turn left new j =
-      (s : LastKnown) → MatchesKnown holds files_are ready leaves old s → (t : LastKnown)
-      × KeeperMoves holds files_are ready leaves old s new t
+      (s : LastKnown) → MatchesKnown g old s → (t : LastKnown)
+      × KeeperMoves g old s new t
       × IsControlAct moment opened s held piece i turn t left j
 
   -- Whatever the keeper matches, these bytes of a session are answered by a course, and the keeper matches
@@ -145,7 +142,8 @@ module _ {K : Type 0} (holds files_are : K → Archive → Type 0) (ready : K �
   -- there.
   abbrev pub AnswersCommands : ℕ → List ℕ → K → ConnectionState → Bool → List ℕ → K → ConnectionState → Type 0
   AnswersCommands moment bytes old i goes_on left new j =
-      (s : LastKnown) → MatchesKnown holds files_are ready leaves old s → (t : LastKnown) × (opened : Bool)
-      × MatchesKnown holds files_are ready leaves new t
-      × SessionRunLeft leaves (said moment) has_request old new (talk (Some (waiting bytes true)) s i)
+      (s : LastKnown) → MatchesKnown g old s → (t : LastKnown) × (opened : Bool)
+      × MatchesKnown g new t
+      × SessionRunLeft g.leaves (said moment) has_request old new
+      (talk (Some (waiting bytes true)) s i)
       (talk (held_if goes_on (waiting left opened)) t j)

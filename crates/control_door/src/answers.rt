@@ -1,11 +1,12 @@
 //! Answers the requests of a control connection from a keeper.
 //! Writes the disk; syncs.
 ghost use Rattle.std.specs.Prelude.{◌≡◌, ◌≤◌, ◌++◌, ℕ, List, length, drop, true, false, is_ok};
-ghost use Rattle.line_door.specs.Acts.{outside, Acts, held_if};
+ghost use Rattle.line_door.specs.Acts.{Acts, held_if, at_sink};
+ghost use Rattle.arch_model.specs.OverShelf.{ShelfKept};
 ghost use Rattle.arch_model.specs.Archives.{Archive};
 ghost use Rattle.arch_base.specs.Moments.{last_moment};
 ghost use Rattle.arch_model.specs.Next.{continues};
-ghost use Rattle.arch_model.specs.Shelves.{ShelfStays, ReadsOnce, ReadsUpTo};
+ghost use Rattle.arch_model.specs.Shelves.{ReadsOnce, ReadsUpTo};
 ghost use Rattle.arch_model.specs.Standing.{standing};
 ghost use Rattle.control_door.specs.Counting.{Meets, request_asks, closes_session};
 ghost use Rattle.control_door.specs.Door.{waiting, said_to};
@@ -27,10 +28,10 @@ use std::alloc::Global;
 ///
 /// Does nothing if no command is in doubt. Writes the reason if reopening fails.
 pub(crate) fn reopen<K: Keep, O: Sink>(keep: &mut K, out: &mut O) -> Next
-    ensures acts { ReopensForCommand K.holds K.files_are K.ready K.leaves keep.old
-        (outside (O.taken out.old) (K.faults keep.old) (O.faults out.old))
+    ensures acts { ReopensForCommand K.Keep keep.old
+        (at_sink O.Sink out.old (K.faults keep.old))
         (continues result) keep.new
-        (outside (O.taken out.new) (K.faults keep.new) (O.faults out.new)) }
+        (at_sink O.Sink out.new (K.faults keep.new)) }
     ensures ready { continues result ≡ true → K.ready keep.new ≡ true }
     ensures nothing { K.ready keep.old ≡ true
         → (continues result ≡ true) × (keep.new ≡ keep.old) }
@@ -60,11 +61,10 @@ pub(crate) fn say_requested<K: Keep, O: Sink>(
     requires ready { K.ready keep.old ≡ true }
     requires moment { moment ≤ last_moment }
     requires starts { StartsWithin held.old request }
-    ensures acts { AnswersRequest K.holds K.files_are K.ready K.leaves moment
-        (request_of held.old request.entry) keep.old
-        (outside (O.taken out.old) (K.faults keep.old) (O.faults out.old))
+    ensures acts { AnswersRequest K.Keep moment (request_of held.old request.entry) keep.old
+        (at_sink O.Sink out.old (K.faults keep.old))
         (continues result) keep.new
-        (outside (O.taken out.new) (K.faults keep.new) (O.faults out.new)) }
+        (at_sink O.Sink out.new (K.faults keep.new)) }
     ensures later { K.faults keep.old ≤ K.faults keep.new }
     ensures reads { Meets (request_asks (request_of held.old request.entry)) (K.ready keep.new)
         (K.reads keep.old) (K.reads keep.new) }
@@ -117,11 +117,10 @@ fn say_commanded<K: Keep, O: Sink>(
 ) -> Result<(), SinkFault>
     requires ready { K.ready keep.old ≡ true }
     requires moment { moment ≤ last_moment }
-    ensures acts { AnswersRequest K.holds K.files_are K.ready K.leaves moment
-        (request_for command.now) keep.old
-        (outside (O.taken out.old) (K.faults keep.old) (O.faults out.old))
+    ensures acts { AnswersRequest K.Keep moment (request_for command.now) keep.old
+        (at_sink O.Sink out.old (K.faults keep.old))
         (is_ok result) keep.new
-        (outside (O.taken out.new) (K.faults keep.new) (O.faults out.new)) }
+        (at_sink O.Sink out.new (K.faults keep.new)) }
     ensures later { K.faults keep.old ≤ K.faults keep.new }
     ensures reads { Meets (request_asks (request_for command.now)) (K.ready keep.new)
         (K.reads keep.old) (K.reads keep.new) }
@@ -147,11 +146,11 @@ fn say_joined<K: Keep, O: Sink>(
     requires ready { K.ready keep.old ≡ true }
     requires moment { moment ≤ last_moment }
     requires starts { start ≤ length held.old }
-    ensures acts { AnswersRequest K.holds K.files_are K.ready K.leaves moment
+    ensures acts { AnswersRequest K.Keep moment
         (request_with aim (drop start (held.old ++ last.now))) keep.old
-        (outside (O.taken out.old) (K.faults keep.old) (O.faults out.old))
+        (at_sink O.Sink out.old (K.faults keep.old))
         (is_ok result) keep.new
-        (outside (O.taken out.new) (K.faults keep.new) (O.faults out.new)) }
+        (at_sink O.Sink out.new (K.faults keep.new)) }
     ensures later { K.faults keep.old ≤ K.faults keep.new }
     ensures reads { Meets (request_asks (request_with aim (drop start (held.old ++ last.now))))
         (K.ready keep.new) (K.reads keep.old) (K.reads keep.new) }
@@ -174,10 +173,10 @@ fn say_message<S: Shelf, O: Sink>(
     requires { S.ready shelf.old ≡ true }
     ensures acts { (moment : ℕ) (a : Archive) (rest : List ℕ) → S.holds shelf.old a
         → Acts (said_to moment (standing a None) (Shows number) rest)
-        (outside (O.taken out.old) (S.faults shelf.old) (O.faults out.old))
+        (at_sink O.Sink out.old (S.faults shelf.old))
         (held_if (is_ok result) (waiting rest false)) (standing a None)
-        (outside (O.taken out.new) (S.faults shelf.new) (O.faults out.new)) }
-    ensures shelf { ShelfStays S.holds S.ready S.alike S.faults shelf.old shelf.new }
+        (at_sink O.Sink out.new (S.faults shelf.new)) }
+    ensures shelf { ShelfKept S.Shelf shelf.old shelf.new }
     ensures reads { ReadsOnce (S.reads shelf.old) (S.reads shelf.new) }
     ensures sink { O.alike out.old out.new }
 {
@@ -203,9 +202,9 @@ fn say_thread<S: Shelf, O: Sink>(
     requires { S.ready shelf.now ≡ true }
     ensures acts { (moment : ℕ) (a : Archive) (rest : List ℕ) → S.holds shelf.now a
         → Acts (said_to moment (standing a None) (Threads number) rest)
-        (outside (O.taken out.old) (S.faults shelf.now) (O.faults out.old))
+        (at_sink O.Sink out.old (S.faults shelf.now))
         (held_if (is_ok result) (waiting rest false)) (standing a None)
-        (outside (O.taken out.new) (S.faults shelf.now) (O.faults out.new)) }
+        (at_sink O.Sink out.new (S.faults shelf.now)) }
     ensures sink { O.alike out.old out.new }
 {
     if !is_live(number, shelf) {
@@ -222,10 +221,10 @@ fn say_epochs<K: Keep, O: Sink>(alloc: Global, keep: &mut K, out: &mut O) -> Res
     requires { K.ready keep.old ≡ true }
     ensures acts { (moment : ℕ) (a : Archive) (rest : List ℕ) → K.holds keep.old a
         → Acts (said_to moment (standing a None) Lists rest)
-        (outside (O.taken out.old) (K.faults keep.old) (O.faults out.old))
+        (at_sink O.Sink out.old (K.faults keep.old))
         (held_if (is_ok result) (waiting rest false)) (standing a None)
-        (outside (O.taken out.new) (K.faults keep.new) (O.faults out.new)) }
-    ensures shelf { ShelfStays K.holds K.ready K.alike K.faults keep.old keep.new }
+        (at_sink O.Sink out.new (K.faults keep.new)) }
+    ensures shelf { ShelfKept K.Shelf keep.old keep.new }
     ensures reads { ReadsUpTo epoch_count (K.reads keep.old) (K.reads keep.new) }
     ensures sink { O.alike out.old out.new }
 {
@@ -240,11 +239,11 @@ fn say_epochs<K: Keep, O: Sink>(alloc: Global, keep: &mut K, out: &mut O) -> Res
 /// A refusal leaves the keeper stale.
 fn say_reindexing<K: Keep, O: Sink>(keep: &mut K, out: &mut O) -> Result<(), SinkFault>
     requires { K.ready keep.old ≡ true }
-    ensures acts { (moment : ℕ) → AnswersRequest K.holds K.files_are K.ready K.leaves moment
+    ensures acts { (moment : ℕ) → AnswersRequest K.Keep moment
         Reindexes keep.old
-        (outside (O.taken out.old) (K.faults keep.old) (O.faults out.old))
+        (at_sink O.Sink out.old (K.faults keep.old))
         (is_ok result) keep.new
-        (outside (O.taken out.new) (K.faults keep.new) (O.faults out.new)) }
+        (at_sink O.Sink out.new (K.faults keep.new)) }
     ensures later { K.faults keep.old ≤ K.faults keep.new }
     ensures sink { O.alike out.old out.new }
 {

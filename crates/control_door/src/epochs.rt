@@ -2,8 +2,9 @@
 //! Reads the disk.
 ghost use Rattle.std.specs.Prelude.{◌≡◌, ◌++◌, [], true, OnOk};
 ghost use Rattle.disk_model.specs.Sizes.{epoch_count};
+ghost use Rattle.arch_model.specs.OverShelf.{ShelfKept};
 ghost use Rattle.arch_model.specs.Archives.{Archive, in_epoch};
-ghost use Rattle.arch_model.specs.Shelves.{ShelfStays, ReadCause, ReadsOnce, ReadsUpTo};
+ghost use Rattle.arch_model.specs.Shelves.{ReadCause, ReadsOnce, ReadsUpTo};
 ghost use Rattle.control_door.specs.Door.{listed, listed_below, epoch_words, epochs_words};
 ghost use Rattle.control_door.specs.Refusals.{AppendsWords, MakesWords};
 
@@ -19,7 +20,7 @@ use std::alloc::Global;
 pub(crate) fn epochs_of<K: Keep>(alloc: Global, keep: &mut K) -> Result<Bytes, TextRefusal>
     requires { K.ready keep.old ≡ true }
     ensures words { (a : Archive) → K.holds keep.old a → MakesWords (epochs_words a.entries) result }
-    ensures shelf { ShelfStays K.holds K.ready K.alike K.faults keep.old keep.new }
+    ensures shelf { ShelfKept K.Shelf keep.old keep.new }
     ensures cause { ReadCause (K.faults keep.old) (K.faults keep.new) result }
     ensures reads { ReadsUpTo epoch_count (K.reads keep.old) (K.reads keep.new) }
 {
@@ -42,7 +43,7 @@ fn push_epochs<K: Keep>(alloc: Global, keep: &mut K, into: &mut Bytes) -> Result
     requires empty { into.old ≡ [] }
     ensures words { (a : Archive) → K.holds keep.old a
         → AppendsWords (listed_below epoch_count a.entries) [] into.new result }
-    ensures shelf { ShelfStays K.holds K.ready K.alike K.faults keep.old keep.new }
+    ensures shelf { ShelfKept K.Shelf keep.old keep.new }
     ensures cause { ReadCause (K.faults keep.old) (K.faults keep.new) result }
     ensures reads { ReadsUpTo epoch_count (K.reads keep.old) (K.reads keep.new) }
 {
@@ -67,7 +68,7 @@ fn push_listed<K: Keep>(
     requires { K.ready keep.old ≡ true }
     ensures words { (a : Archive) → K.holds keep.old a
         → AppendsWords (listed epoch (in_epoch a.entries epoch)) into.old into.new result }
-    ensures shelf { ShelfStays K.holds K.ready K.alike K.faults keep.old keep.new }
+    ensures shelf { ShelfKept K.Shelf keep.old keep.new }
     ensures cause { ReadCause (K.faults keep.old) (K.faults keep.new) result }
     ensures reads { ReadsOnce (K.reads keep.old) (K.reads keep.new) }
 {

@@ -1,7 +1,7 @@
 //! Writes the replies that only the control door has.
 //! Pure.
 ghost use Rattle.std.specs.Prelude.{Some, None};
-ghost use Rattle.edge_io.specs.Phrases.{Says};
+ghost use Rattle.edge_io.specs.Phrases.{SaysTo};
 ghost use Rattle.control_door.specs.Door.{bad_word, busy_word, shown, reindexed_words};
 
 use answer_lines::say_number;
@@ -9,8 +9,7 @@ use edge_io::{Sink, SinkFault, say, say_line};
 
 /// Writes that a line is not an order.
 pub(crate) fn say_bad<O: Sink>(out: &mut O) -> Result<(), SinkFault>
-    ensures said { Says bad_word (O.taken out.old) (O.faults out.old) (O.taken out.new)
-        (O.faults out.new) result }
+    ensures said { SaysTo O.Sink bad_word out.old out.new result }
     ensures sink { O.alike out.old out.new }
 {
     say_line(b"13 bad line", out)
@@ -18,8 +17,7 @@ pub(crate) fn say_bad<O: Sink>(out: &mut O) -> Result<(), SinkFault>
 
 /// Writes that as many sessions are open as there may be. The connection has none.
 pub fn say_busy<O: Sink>(out: &mut O) -> Result<(), SinkFault>
-    ensures said { Says busy_word (O.taken out.old) (O.faults out.old) (O.taken out.new)
-        (O.faults out.new) result }
+    ensures said { SaysTo O.Sink busy_word out.old out.new result }
     ensures sink { O.alike out.old out.new }
 {
     say_line(b"14 busy", out)
@@ -27,8 +25,7 @@ pub fn say_busy<O: Sink>(out: &mut O) -> Result<(), SinkFault>
 
 /// Writes that a number has no text.
 pub(crate) fn say_not_live<O: Sink>(number: u32, out: &mut O) -> Result<(), SinkFault>
-    ensures said { Says (shown number None) (O.taken out.old) (O.faults out.old) (O.taken out.new)
-        (O.faults out.new) result }
+    ensures said { SaysTo O.Sink (shown number None) out.old out.new result }
     ensures sink { O.alike out.old out.new }
 {
     say_number(b"7 not live ", u64::from(number), out)
@@ -36,8 +33,7 @@ pub(crate) fn say_not_live<O: Sink>(number: u32, out: &mut O) -> Result<(), Sink
 
 /// Writes a line with the length of a text, and then the text.
 pub(crate) fn say_text<O: Sink>(text: &[u8], out: &mut O) -> Result<(), SinkFault>
-    ensures said { Says (shown 0 (Some text.now)) (O.taken out.old) (O.faults out.old)
-        (O.taken out.new) (O.faults out.new) result }
+    ensures said { SaysTo O.Sink (shown 0 (Some text.now)) out.old out.new result }
     ensures sink { O.alike out.old out.new }
 {
     say_number(b"text ", text.len() as u64, out)?;
@@ -46,8 +42,7 @@ pub(crate) fn say_text<O: Sink>(text: &[u8], out: &mut O) -> Result<(), SinkFaul
 
 /// Writes how many messages are live after a reindexing.
 pub(crate) fn say_reindexed<O: Sink>(live: u32, out: &mut O) -> Result<(), SinkFault>
-    ensures said { Says (reindexed_words live) (O.taken out.old) (O.faults out.old) (O.taken out.new)
-        (O.faults out.new) result }
+    ensures said { SaysTo O.Sink (reindexed_words live) out.old out.new result }
     ensures sink { O.alike out.old out.new }
 {
     say_number(b"reindexed ", u64::from(live), out)

@@ -2,7 +2,7 @@
 //! Writes the disk; syncs.
 ghost use Rattle.std.specs.Prelude.{◌≡◌, ◌⊎◌, ◌+◌, ◌<◌, ◌≤◌, ℕ, [], ◌++◌, length, take, drop, Bool, true, false, if◌then◌else◌};
 ghost use Rattle.line_door.specs.Lines.{front, Whole, content};
-ghost use Rattle.line_door.specs.Acts.{outside};
+ghost use Rattle.line_door.specs.Acts.{at_sink};
 ghost use Rattle.arch_base.specs.Moments.{last_moment};
 ghost use Rattle.arch_model.specs.Next.{continues};
 ghost use Rattle.arch_model.specs.Standing.{LastKnown};
@@ -113,11 +113,10 @@ impl Session {
     ) -> Next
         requires ready { K.ready keep.old ≡ true }
         requires moment { moment ≤ last_moment }
-        ensures fed { AnswersCommands K.holds K.files_are K.ready K.leaves moment
-            (self.old ++ piece.now) keep.old
-            (outside (O.taken out.old) (K.faults keep.old) (O.faults out.old))
+        ensures fed { AnswersCommands K.Keep moment (self.old ++ piece.now) keep.old
+            (at_sink O.Sink out.old (K.faults keep.old))
             (continues result) self.new keep.new
-            (outside (O.taken out.new) (K.faults keep.new) (O.faults out.new)) }
+            (at_sink O.Sink out.new (K.faults keep.new)) }
         ensures later { K.faults keep.old ≤ K.faults keep.new }
         ensures reads { Meets (asks_for (self.old ++ piece.now)) (K.ready keep.new)
             (K.reads keep.old) (K.reads keep.new) }
@@ -151,11 +150,11 @@ impl Session {
     ) -> Act
         requires ready { opened ≡ true → K.ready keep.old ≡ true }
         requires moment { moment ≤ last_moment }
-        ensures turn { ControlActs K.holds K.files_are K.ready K.leaves moment opened self.old
+        ensures turn { ControlActs K.Keep moment opened self.old
             piece.now keep.old
-            (outside (O.taken out.old) (K.faults keep.old) (O.faults out.old))
+            (at_sink O.Sink out.old (K.faults keep.old))
             result self.new keep.new
-            (outside (O.taken out.new) (K.faults keep.new) (O.faults out.new)) }
+            (at_sink O.Sink out.new (K.faults keep.new)) }
         ensures takes { TakesRequest opened piece.now result }
         ensures ready { result ≡ Act.Opened → K.ready keep.new ≡ true }
         ensures held { result ≡ Act.Opened → self.new ≡ self.old }
@@ -185,9 +184,9 @@ impl Session {
         requires { IsHeldRequest (self.old ++ piece.now) payload }
         ensures turn { (moment disk : ℕ) (opened : Bool) (s : LastKnown)
             → IsControlAct moment opened s self.old piece.now
-            (outside (O.taken out.old) disk (O.faults out.old))
+            (at_sink O.Sink out.old disk)
             result s self.new
-            (outside (O.taken out.new) disk (O.faults out.new)) }
+            (at_sink O.Sink out.new disk) }
         ensures ends { (result ≡ Act.Kept) ⊎ (result ≡ Act.Closed) }
         ensures sink { O.alike out.old out.new }
     {

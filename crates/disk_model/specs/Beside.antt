@@ -1,7 +1,9 @@
 -- Runs of a disk's calls that change each file only from a bound on.
 use Rattle.std.specs.Prelude.{ℕ, ◌≤◌, Option, Some, None}
+use Rattle.disk_model.specs.declared.disk.Disk.{Ghosts as Disk}
 use Rattle.disk_model.specs.declared.name.FileName.{FileName}
-use Rattle.disk_model.specs.Disk.{File, Files, Survival, Content, MaySurvive, BothTold, LeavesOnly}
+use Rattle.disk_model.specs.Disk.{File, Files, Survival, Content, MaySurvive, BothTold}
+use Rattle.disk_model.specs.Moments.{LeavesOnly}
 use Rattle.disk_model.specs.Laws.{FrontOrigin}
 
 -- The offset from which on each file may be changed, none if it may not be changed.
@@ -35,7 +37,6 @@ pub record WentBeside (bounds : Bounds) (old new : Content) : Type 0 where
 
 -- A run changes each file only from its bound on: so does what a crash leaves at each of its
 -- moments, and what a crash may leave after it.
-pub record RunsBeside {D : Type 0} (content : D → Option Content) (moment : D → ℕ)
-    (left_since : D → ℕ → Files → Type 0) (bounds : Bounds) (old new : D) : Type 0 where
-  pub moments : LeavesOnly moment left_since old new (Beside bounds (content old))
-  pub told : BothTold (WentBeside bounds) (content old) (content new)
+pub record RunsBeside {D : Type 0} (g : Disk D) (bounds : Bounds) (old new : D) : Type 0 where
+  pub moments : LeavesOnly g old new (Beside bounds (g.content old))
+  pub told : BothTold (WentBeside bounds) (g.content old) (g.content new)

@@ -3,6 +3,7 @@
 use Rattle.std.specs.Prelude.{◌≡◌, ◌≢◌, ℕ, ◌≤◌, Option, Some, None, List, length, take, Result, Ok, Err, OnOk, OnErr, refl}
 use Rattle.std.proofs.Common.{◌∙◌, sym, ap, subst, inl, inr, arith, length-take}
 use Rattle.std.proofs.lemmas.Grind.{common_steps}
+use Rattle.disk_model.specs.declared.disk.Disk.{Ghosts as Disk}
 use Rattle.disk_model.specs.declared.name.FileName.{FileName}
 use Rattle.disk_model.specs.Disk.{File, Files, Survival, Kept, Content, Image, BothTold, WhereTold, OneFile, Unchanged, Wrote, Tore, CutTo, TornCut, Removed, TornRemoval, Synced, NotSynced, MaySurvive, Within, ReadsFit, IsAtMostLength, Elapses, bytes_of, exact, write_sure, cut_sure}
 use Rattle.disk_model.specs.Laws.{FrontOrigin, MaySurvive-Within, MaySurvive-exact, write_front}
@@ -273,61 +274,60 @@ told_first : (bounds : Bounds) (old : Option Content) → BothTold (WentBeside b
 told_first bounds None = tt
 told_first bounds (Some k) = unchanged_beside bounds k k (λ name. refl)
 
-module _ {D : Type 0} (content : D → Option Content)
-    (moment : D → ℕ) (left_since : D → ℕ → Files → Type 0) where
+module _ {D : Type 0} (g : Disk D) where
   -- A run before its first call.
-  pub run_started : (bounds : Bounds) (old : D) → ((image : Files) → left_since old (moment old)
-      image → Image (content old) image) → RunsBeside content moment left_since bounds old old
+  pub run_started : (bounds : Bounds) (old : D) → ((image : Files) → g.left_since old (g.moment old)
+      image → Image (g.content old) image) → RunsBeside g bounds old old
   run_started bounds old now = record {
-    moments = started moment left_since old (Beside bounds (content old)) (λ image since.
-        beside_first bounds (content old) image (now image since));
-    told = told_first bounds (content old);
+    moments = started g old (Beside bounds (g.content old)) (λ image since.
+        beside_first bounds (g.content old) image (now image since));
+    told = told_first bounds (g.content old);
   }
 
   -- A run and one more call.
-  pub run_on : (bounds : Bounds) (old mid new : D) → RunsBeside content moment left_since bounds old
-      mid → Elapses (moment mid) (moment new) (left_since mid) (left_since new) (content new)
-      → BothTold (WentBeside bounds) (content mid) (content new)
-      → RunsBeside content moment left_since bounds old new
+  pub run_on : (bounds : Bounds) (old mid new : D) → RunsBeside g bounds old
+      mid → Elapses (g.moment mid) (g.moment new) (g.left_since mid) (g.left_since new) (g.content new)
+      → BothTold (WentBeside bounds) (g.content mid) (g.content new)
+      → RunsBeside g bounds old new
   run_on bounds old mid new run time call =
-      let all : BothTold (WentBeside bounds) (content old) (content new) =
-      told_then (WentBeside bounds) (WentBeside bounds) (WentBeside bounds) (content old)
-      (content mid) (content new)
+      let all : BothTold (WentBeside bounds) (g.content old) (g.content new) =
+      told_then (WentBeside bounds) (WentBeside bounds) (WentBeside bounds) (g.content old)
+      (g.content mid) (g.content new)
       (λ k m o is told first second. beside_then bounds k m o first second) run.told call in
       record {
-        moments = goes_on moment left_since old mid new (Beside bounds (content old)) (content new)
+        moments = goes_on g old mid new (Beside bounds (g.content old)) (g.content new)
             run.moments time (λ image left.
-            beside_now bounds (content old) (content new) image all left);
+            beside_now bounds (g.content old) (g.content new) image all left);
         told = all;
       }
 
   -- A run of one call.
-  pub run_call : (bounds : Bounds) (old new : D) → ((image : Files) → left_since old (moment old)
-      image → Image (content old) image) → Elapses (moment old) (moment new) (left_since old)
-      (left_since new) (content new) → BothTold (WentBeside bounds) (content old) (content new)
-      → RunsBeside content moment left_since bounds old new
+  pub run_call : (bounds : Bounds) (old new : D) → ((image : Files) → g.left_since old (g.moment old)
+      image → Image (g.content old) image) → Elapses (g.moment old) (g.moment new) (g.left_since old)
+      (g.left_since new) (g.content new) → BothTold (WentBeside bounds) (g.content old) (g.content new)
+      → RunsBeside g bounds old new
   run_call bounds old new now time call =
       run_on bounds old old new (run_started bounds old now) time call
 
   -- A run of one call that changes nothing.
   pub run_unchanged : (bounds : Bounds) (old new : D)
-      → ((image : Files) → left_since old (moment old)
-      image → Image (content old) image) → Elapses (moment old) (moment new) (left_since old)
-      (left_since new) (content new) → BothTold Unchanged (content old) (content new)
-      → RunsBeside content moment left_since bounds old new
+      → ((image : Files) → g.left_since old (g.moment old)
+      image → Image (g.content old) image) → Elapses (g.moment old) (g.moment new) (g.left_since old)
+      (g.left_since new) (g.content new) → BothTold Unchanged (g.content old) (g.content new)
+      → RunsBeside g bounds old new
   run_unchanged bounds old new now time same =
-      run_call bounds old new now time (unchanged_told bounds (content old) (content new) same)
+      run_call bounds old new now time (unchanged_told bounds (g.content old) (g.content new) same)
 
   -- Two runs, one after the other.
-  pub run_joined : (bounds : Bounds) (old mid new : D) → RunsBeside content moment left_since bounds
-      old mid → RunsBeside content moment left_since bounds mid new
-      → RunsBeside content moment left_since bounds old new
+  pub run_joined : (bounds : Bounds) (old mid new : D) → RunsBeside g bounds
+      old mid → RunsBeside g bounds mid new
+      → RunsBeside g bounds old new
   run_joined bounds old mid new first second = record {
-    moments = joined moment left_since old mid new (Beside bounds (content old))
-        (Beside bounds (content mid)) (Beside bounds (content old)) first.moments second.moments
+    moments = joined g old mid new (Beside bounds (g.content old))
+        (Beside bounds (g.content mid)) (Beside bounds (g.content old)) first.moments second.moments
         (λ image crash_beside. crash_beside) (λ image crash_beside.
-        beside_later bounds (content old) (content mid) image first.told crash_beside);
-    told = told_then (WentBeside bounds) (WentBeside bounds) (WentBeside bounds) (content old)
-        (content mid) (content new) (λ k m o is told one two.
+        beside_later bounds (g.content old) (g.content mid) image first.told crash_beside);
+    told = told_then (WentBeside bounds) (WentBeside bounds) (WentBeside bounds) (g.content old)
+        (g.content mid) (g.content new) (λ k m o is told one two.
         beside_then bounds k m o one two) first.told second.told;
   }

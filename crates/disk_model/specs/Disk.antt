@@ -227,15 +227,6 @@ pub record Elapses (before now : ℕ) (past since : ℕ → Files → Type 0) (c
       ⊎ Image content image
   pub keeps : (t : ℕ) (image : Files) → t ≤ before → past t image → since t image
 
--- A crash at any moment since the first state leaves files that have a property.
-pub record LeavesOnly {D : Type 0} (moment : D → ℕ) (left_since : D → ℕ → Files → Type 0)
-    (old new : D) (P : Files → Type 0) : Type 0 where
-  pub later : moment old ≤ moment new
-  pub each : (image : Files) → left_since new (moment old) image → P image
-  -- For a run that began earlier: an image is one of those before this run, or has the property.
-  pub before : (t : ℕ) (image : Files) → t ≤ moment old → left_since new t image
-      → left_since old t image ⊎ P image
-
 -- The files as they read are one of the images.
 abbrev pub ReadsFit : Option Content → Type 0
 ReadsFit content = (k : Content) → content ≡ Some k → (name : FileName)

@@ -9,8 +9,8 @@ pub mod Plan
 pub mod Record
 pub mod Applied
 pub mod Memory
-pub mod Beside
 pub mod Moments
+pub mod Beside
 pub mod Images
 pub mod Cuts
 pub mod Tells

@@ -2,7 +2,8 @@
 //! Writes the disk; syncs.
 ghost use Rattle.std.specs.Prelude.{◌≡◌, ◌<◌, ◌+◌, ◌^◌, length, OnOk};
 ghost use Rattle.arch_base.specs.Counts.{HasCause};
-ghost use Rattle.disk_model.specs.Disk.{BothTold, WhereTold, IsAtMostLength, LeavesOnly};
+ghost use Rattle.disk_model.specs.Disk.{BothTold, WhereTold, IsAtMostLength};
+ghost use Rattle.disk_model.specs.Moments.{LeavesOnly};
 ghost use Rattle.disk_model.specs.Synced.{WritingLeaves, IsWritten};
 
 use crate::{Disk, DiskFault, FileName};
@@ -19,7 +20,7 @@ pub fn write_and_sync<D: Disk>(
 ) -> Result<(), DiskFault>
     requires inside { WhereTold (IsAtMostLength name offset) (D.content disk.old) }
     requires end { offset + length bytes.now < 2 ^ 63 }
-    ensures crash { LeavesOnly D.moment D.left_since disk.old disk.new
+    ensures crash { LeavesOnly D.Disk disk.old disk.new
         (WritingLeaves name offset (length bytes.now) (D.content disk.old)) }
     ensures written { OnOk result
         (BothTold (IsWritten name offset bytes.now) (D.content disk.old) (D.content disk.new)) }

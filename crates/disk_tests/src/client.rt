@@ -1,7 +1,8 @@
 //! Replaces a text in a file safely against crashes.
 ghost use Rattle.std.specs.Prelude.{ℕ, List, OnOk};
 ghost use Rattle.arch_base.specs.Counts.{HasCause};
-ghost use Rattle.disk_model.specs.Disk.{WhereTold, LeavesOnly};
+ghost use Rattle.disk_model.specs.Disk.{WhereTold};
+ghost use Rattle.disk_model.specs.Moments.{LeavesOnly};
 ghost use Rattle.disk_model.specs.declared.name.FileName.{FileName};
 ghost use Rattle.disk_tests.specs.Texts.{HasSeventeen, EachFile, IsReadyFile, StandsForText, StandsForEitherText};
 
@@ -15,7 +16,7 @@ pub fn change_text<D: Disk>(disk: &mut D, name: FileName, text: &[u8; 8]) -> Res
     requires size { WhereTold (HasSeventeen name) (D.content disk.old) }
     // A crash at any moment leaves the old text or the new one.
     ensures crash { (old : List ℕ) → EachFile name (IsReadyFile old) (D.content disk.old)
-        → LeavesOnly D.moment D.left_since disk.old disk.new (StandsForEitherText name old text.now) }
+        → LeavesOnly D.Disk disk.old disk.new (StandsForEitherText name old text.now) }
     // After Ok it leaves the new one.
     ensures done { (old : List ℕ) → EachFile name (IsReadyFile old) (D.content disk.old)
         → OnOk result (EachFile name (StandsForText text.now) (D.content disk.new)) }

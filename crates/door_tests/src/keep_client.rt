@@ -20,8 +20,7 @@ fn deliver_three<K: Keep>(
     keep: &mut K,
 ) -> (Answer, Answer, Answer)
     requires { moment ≤ last_moment }
-    ensures { (s : LastKnown) → MatchesKnown K.holds K.files_are K.ready K.leaves keep.old s
-        → Chain K.holds K.files_are K.ready K.leaves keep.old keep.new s }
+    ensures { (s : LastKnown) → MatchesKnown K.Keep keep.old s → Chain K.Keep keep.old keep.new s }
 {
     let first = keep.command(&Command::Deliver(messages[0]), moment);
     let second = keep.command(&Command::Deliver(messages[1]), moment);

@@ -3,9 +3,9 @@
 //! Out of memory, or if the disk fails, the first text's place has a word for that. After a text the
 //! reply stops, and the connection is closed.
 ghost use Rattle.std.specs.Prelude.{◌≡◌, ◌+◌, ◌<◌, ◌^◌, ℕ, List, true, is_ok, if◌then◌else◌};
-ghost use Rattle.line_door.specs.Acts.{outside, held_if, Acts};
+ghost use Rattle.line_door.specs.Acts.{held_if, Acts, at_sink};
+ghost use Rattle.arch_model.specs.OverShelf.{ShelfKept};
 ghost use Rattle.arch_model.specs.Archives.{Archive, live, text_of};
-ghost use Rattle.arch_model.specs.Shelves.{ShelfStays};
 ghost use Rattle.door_tests.specs.Streams.{TellsPart, texts_said};
 
 use answer_lines::say_unread;
@@ -39,9 +39,9 @@ fn say_part<S: Shelf, O: Sink>(
 ) -> Part
     requires { S.ready shelf.old ≡ true }
     ensures part { (a : Archive) → S.holds shelf.old a → TellsPart begun (text_of (live a.entries) n)
-        (outside (O.taken out.old) (S.faults shelf.old) (O.faults out.old)) result
-        (outside (O.taken out.new) (S.faults shelf.new) (O.faults out.new)) }
-    ensures shelf { ShelfStays S.holds S.ready S.alike S.faults shelf.old shelf.new }
+        (at_sink O.Sink out.old (S.faults shelf.old)) result
+        (at_sink O.Sink out.new (S.faults shelf.new)) }
+    ensures shelf { ShelfKept S.Shelf shelf.old shelf.new }
     ensures sink { O.alike out.old out.new }
 {
     if !is_live(n, shelf) {
@@ -81,9 +81,9 @@ pub fn say_texts<S: Shelf, O: Sink>(
     requires numbers { low + count < 2 ^ 32 }
     ensures acts { (a : Archive) (h : List ℕ) → S.holds shelf.old a
         → Acts (texts_said a low count h)
-        (outside (O.taken out.old) (S.faults shelf.old) (O.faults out.old)) (held_if result h) a
-        (outside (O.taken out.new) (S.faults shelf.new) (O.faults out.new)) }
-    ensures shelf { ShelfStays S.holds S.ready S.alike S.faults shelf.old shelf.new }
+        (at_sink O.Sink out.old (S.faults shelf.old)) (held_if result h) a
+        (at_sink O.Sink out.new (S.faults shelf.new)) }
+    ensures shelf { ShelfKept S.Shelf shelf.old shelf.new }
     ensures sink { O.alike out.old out.new }
 {
     let mut at: u32 = 0;

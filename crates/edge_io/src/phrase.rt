@@ -1,7 +1,7 @@
 //! Writes words to a sink.
 //! Pure.
 ghost use Rattle.std.specs.Prelude.{◌++◌, ◌∷◌, []};
-ghost use Rattle.edge_io.specs.Phrases.{Says};
+ghost use Rattle.edge_io.specs.Phrases.{SaysTo};
 
 use crate::{Sink, SinkFault};
 
@@ -10,8 +10,7 @@ use crate::{Sink, SinkFault};
 /// `SinkFault` if a prefix of them was taken. The sink's count of faults rose, and a session closes
 /// then.
 pub fn say<O: Sink>(words: &[u8], out: &mut O) -> Result<(), SinkFault>
-    ensures said { Says words.now (O.taken out.old) (O.faults out.old) (O.taken out.new)
-        (O.faults out.new) result }
+    ensures said { SaysTo O.Sink words.now out.old out.new result }
     ensures sink { O.alike out.old out.new }
 {
     out.write(words)
@@ -21,8 +20,7 @@ pub fn say<O: Sink>(words: &[u8], out: &mut O) -> Result<(), SinkFault>
 ///
 /// `SinkFault` if a prefix of them was taken. The sink's count of faults rose.
 pub fn say_line<O: Sink>(words: &[u8], out: &mut O) -> Result<(), SinkFault>
-    ensures said { Says (words.now ++ 10 ∷ []) (O.taken out.old) (O.faults out.old)
-        (O.taken out.new) (O.faults out.new) result }
+    ensures said { SaysTo O.Sink (words.now ++ 10 ∷ []) out.old out.new result }
     ensures sink { O.alike out.old out.new }
 {
     say(words, out)?;

@@ -1,16 +1,17 @@
 -- Calls that only read a disk.
-use Rattle.std.specs.Prelude.{◌≡◌, ℕ, ◌≤◌, Option, Result, Ok, Err}
+use Rattle.std.specs.Prelude.{◌≡◌, ℕ, ◌≤◌, Result, Ok, Err}
 use Rattle.arch_base.specs.Counts.{Rose}
+use Rattle.disk_model.specs.declared.disk.Disk.{Ghosts as Disk}
 use Rattle.disk_model.specs.declared.refusal.WalkRefusal.{WalkRefusal}
 use Rattle.disk_model.specs.declared.refusal.WalkRefusal.TheVariants.{DiskFault, NoMemory, Damaged}
-use Rattle.disk_model.specs.Disk.{Files, Content, Image, BothTold, Unchanged, LeavesOnly}
+use Rattle.disk_model.specs.Disk.{Image, BothTold, Unchanged}
+use Rattle.disk_model.specs.Moments.{LeavesOnly}
 
 -- A call changes no file, leaves nothing else to a crash, and no count of faults falls.
-pub record OnlyReads {D : Type 0} (content : D → Option Content) (moment : D → ℕ)
-    (left_since : D → ℕ → Files → Type 0) (faults : D → ℕ) (old new : D) : Type 0 where
-  pub same : BothTold Unchanged (content old) (content new)
-  pub crash : LeavesOnly moment left_since old new (Image (content old))
-  pub later : faults old ≤ faults new
+pub record OnlyReads {D : Type 0} (g : Disk D) (old new : D) : Type 0 where
+  pub same : BothTold Unchanged (g.content old) (g.content new)
+  pub crash : LeavesOnly g old new (Image (g.content old))
+  pub later : g.faults old ≤ g.faults new
 
 -- The count of faults rose if the disk failed, and otherwise stays the same.
 abbrev pub FaultRose : {T : Type 0} → ℕ → ℕ → Result T WalkRefusal → Type 0

@@ -42,7 +42,7 @@ pub fn append_entry<D: Disk>(
     ensures left { AppendLeaves file at (appended at entry.now) D.content disk.old disk.new result }
     // All that is before the offset stays at each moment.
     ensures crash_beside { (bounds : Bounds) → RespectsBound (bounds file) at
-        → RunsBeside D.content D.moment D.left_since bounds disk.old disk.new }
+        → RunsBeside D.Disk bounds disk.old disk.new }
     ensures time { Elapses (D.moment disk.old) (D.moment disk.new) (D.left_since disk.old)
         (D.left_since disk.new) (D.content disk.new) }
     ensures cause { RoseIf (result ≡ Err StoreRefusal.DiskFault) (D.faults disk.old) (D.faults disk.new) }

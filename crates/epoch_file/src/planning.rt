@@ -3,7 +3,8 @@
 ghost use Rattle.std.specs.Prelude.{◌≡◌, ◌≤◌, ◌+◌, ℕ, true, None, Err, is_some, length, IfOk, IfErr, OnOk, OnErr};
 ghost use Rattle.arch_base.specs.declared.ids.Id20.{Id20};
 ghost use Rattle.arch_base.specs.Counts.{RoseIf};
-ghost use Rattle.disk_model.specs.Disk.{Image, BothTold, WhereTold, Unchanged, LeavesOnly};
+ghost use Rattle.disk_model.specs.Disk.{Image, BothTold, WhereTold, Unchanged};
+ghost use Rattle.disk_model.specs.Moments.{LeavesOnly};
 ghost use Rattle.epoch_file.specs.Lying.{EntryLiesIn};
 ghost use Rattle.epoch_file.specs.Planning.{Checks, CommitsAnew, CopiesEntry, FinishesPlan, FinishesIn, IsAnewOf, IsMoved, IsOfEpoch, IsPlannedIn, KeepsIn, KeepsNext, LeftOutIn, LeavesNext, TellsLack};
 ghost use Rattle.epoch_file.specs.Sights.{tree_size};
@@ -90,8 +91,7 @@ impl EpochPlan {
         ensures lies { IfOk result (λ made. (from : ℕ) (most : ℕ) → EntryLiesIn from most seen.now
             → IsPlannedIn most self.old → KeepsIn from most self.old seen.now self.new made) }
         ensures same { BothTold Unchanged (D.content disk.old) (D.content disk.new) }
-        ensures crash { LeavesOnly D.moment D.left_since disk.old disk.new
-            (Image (D.content disk.old)) }
+        ensures crash { LeavesOnly D.Disk disk.old disk.new (Image (D.content disk.old)) }
         ensures fewest { D.reads disk.old ≤ D.reads disk.new }
         ensures cause { RoseIf (result ≡ Err WalkRefusal.DiskFault) (D.faults disk.old)
             (D.faults disk.new) }
@@ -197,8 +197,7 @@ fn new_commit<D: Disk>(
     ensures commit { WhereTold (CommitsAnew file seen.now parent result) (D.content disk.old) }
     ensures damage { IfErr result (TellsLack file seen.now (D.content disk.old)) }
     ensures same { BothTold Unchanged (D.content disk.old) (D.content disk.new) }
-    ensures crash { LeavesOnly D.moment D.left_since disk.old disk.new
-        (Image (D.content disk.old)) }
+    ensures crash { LeavesOnly D.Disk disk.old disk.new (Image (D.content disk.old)) }
     ensures fewest { D.reads disk.old ≤ D.reads disk.new }
     ensures cause { RoseIf (result ≡ Err WalkRefusal.DiskFault) (D.faults disk.old)
         (D.faults disk.new) }
@@ -220,8 +219,7 @@ fn commit_read<D: Disk>(
     ensures commit { WhereTold (CommitsAnew file seen.now parent result) (D.content disk.old) }
     ensures damage { IfErr result (TellsLack file seen.now (D.content disk.old)) }
     ensures same { BothTold Unchanged (D.content disk.old) (D.content disk.new) }
-    ensures crash { LeavesOnly D.moment D.left_since disk.old disk.new
-        (Image (D.content disk.old)) }
+    ensures crash { LeavesOnly D.Disk disk.old disk.new (Image (D.content disk.old)) }
     ensures fewest { D.reads disk.old ≤ D.reads disk.new }
     ensures cause { RoseIf (result ≡ Err WalkRefusal.DiskFault) (D.faults disk.old)
         (D.faults disk.new) }

@@ -3,7 +3,8 @@
 ghost use Rattle.std.specs.Prelude.{◌≡◌, ◌≢◌, Err, IfOk};
 ghost use Rattle.arch_base.specs.Counts.{RoseIf};
 ghost use Rattle.disk_model.specs.Beside.{Bounds, RespectsBound, RunsBeside};
-ghost use Rattle.disk_model.specs.Disk.{Image, BothTold, WhereTold, Unchanged, LeavesOnly};
+ghost use Rattle.disk_model.specs.Disk.{Image, BothTold, WhereTold, Unchanged};
+ghost use Rattle.disk_model.specs.Moments.{LeavesOnly};
 ghost use Rattle.disk_model.specs.declared.name.FileKind.TheVariants as kind;
 ghost use Rattle.root_change.specs.declared.plan.Target.TheVariants as target;
 ghost use Rattle.root_change.specs.Copying.{OtherFilesStay};
@@ -37,8 +38,7 @@ fn take_entry<D: Disk>(
         (D.content disk.old) }
     ensures file { plan.new.file ≡ plan.old.file }
     ensures same { BothTold Unchanged (D.content disk.old) (D.content disk.new) }
-    ensures crash { LeavesOnly D.moment D.left_since disk.old disk.new
-        (Image (D.content disk.old)) }
+    ensures crash { LeavesOnly D.Disk disk.old disk.new (Image (D.content disk.old)) }
     ensures cause { RoseIf (result ≡ Err WalkRefusal.DiskFault) (D.faults disk.old)
         (D.faults disk.new) }
 {
@@ -61,8 +61,7 @@ fn plan_entries<D: Disk>(
     ensures of { IfOk result (IsOfEpoch from) }
     ensures planned { WhereTold (PlansWhole from seen.now gone.now result) (D.content disk.old) }
     ensures same { BothTold Unchanged (D.content disk.old) (D.content disk.new) }
-    ensures crash { LeavesOnly D.moment D.left_since disk.old disk.new
-        (Image (D.content disk.old)) }
+    ensures crash { LeavesOnly D.Disk disk.old disk.new (Image (D.content disk.old)) }
     ensures cause { RoseIf (result ≡ Err WalkRefusal.DiskFault) (D.faults disk.old)
         (D.faults disk.new) }
 {
@@ -103,8 +102,7 @@ fn plan_file<D: Disk>(
     ensures planned { WhereTold (PlansFile from count seen.now gone.now result)
         (D.content disk.old) }
     ensures same { BothTold Unchanged (D.content disk.old) (D.content disk.new) }
-    ensures crash { LeavesOnly D.moment D.left_since disk.old disk.new
-        (Image (D.content disk.old)) }
+    ensures crash { LeavesOnly D.Disk disk.old disk.new (Image (D.content disk.old)) }
     ensures cause { RoseIf (result ≡ Err WalkRefusal.DiskFault) (D.faults disk.old)
         (D.faults disk.new) }
 {
@@ -137,7 +135,7 @@ pub fn rewrite<D: Disk>(
         (D.content disk.new) }
     ensures others { BothTold (OtherFilesStay to) (D.content disk.old) (D.content disk.new) }
     ensures crash_beside { (bounds : Bounds) → RespectsBound (bounds to) 0
-        → RunsBeside D.content D.moment D.left_since bounds disk.old disk.new }
+        → RunsBeside D.Disk bounds disk.old disk.new }
     ensures cause { RoseIf (result ≡ Err WalkRefusal.DiskFault) (D.faults disk.old) (D.faults disk.new) }
 {
     let seen = walk(alloc, disk, from, count)?;

@@ -2,7 +2,8 @@
 //! Reads the disk.
 ghost use Rattle.std.specs.Prelude.{◌≡◌, ◌+◌, ◌<◌, ◌≤◌, length, min, Err, IfOk};
 ghost use Rattle.arch_base.specs.Counts.{RoseIf};
-ghost use Rattle.disk_model.specs.Disk.{Image, BothTold, WhereTold, Unchanged, LeavesOnly, bytes_of};
+ghost use Rattle.disk_model.specs.Disk.{Image, BothTold, WhereTold, Unchanged, bytes_of};
+ghost use Rattle.disk_model.specs.Moments.{LeavesOnly};
 ghost use Rattle.epoch_file.specs.Lying.{LieIn};
 ghost use Rattle.epoch_file.specs.Walking.{WalksEpoch};
 ghost use Rattle.epoch_file.specs.Runs.{OnlyReads, FaultRose, StopRose};
@@ -39,8 +40,7 @@ pub fn walk<D: Disk>(
     // Also where the disk doesn't tell its content.
     ensures lie { IfOk result (LieIn 0 length) }
     ensures same { BothTold Unchanged (D.content disk.old) (D.content disk.new) }
-    ensures crash { LeavesOnly D.moment D.left_since disk.old disk.new
-        (Image (D.content disk.old)) }
+    ensures crash { LeavesOnly D.Disk disk.old disk.new (Image (D.content disk.old)) }
     ensures cause { RoseIf (result ≡ Err WalkRefusal.DiskFault) (D.faults disk.old) (D.faults disk.new) }
 {
     let mut piece = piece_room(alloc, length)?;
@@ -63,7 +63,7 @@ fn begin<D: Disk>(
     ensures begins { WhereTold (λ k.
         BeginsWalk count (bytes_of (k file).seen) result) (D.content disk.old) }
     ensures inside { BeginsIn file count result }
-    ensures reads { OnlyReads D.content D.moment D.left_since D.faults disk.old disk.new }
+    ensures reads { OnlyReads D.Disk disk.old disk.new }
     ensures fault { StopRose (D.faults disk.old) (D.faults disk.new) result }
 {
     let size = disk.length(file)?;
@@ -92,7 +92,7 @@ fn begin_in<D: Disk>(
     ensures begins { WhereTold (λ k.
         BeginsAt part.now.end (bytes_of (k part.now.file).seen) result) (D.content disk.old) }
     ensures inside { BeginsIn part.now.file part.now.end result }
-    ensures reads { OnlyReads D.content D.moment D.left_since D.faults disk.old disk.new }
+    ensures reads { OnlyReads D.Disk disk.old disk.new }
     ensures fault { StopRose (D.faults disk.old) (D.faults disk.new) result }
 {
     let mut window = Window::new(alloc);
@@ -145,7 +145,7 @@ fn go_on<D: Disk>(
     ensures lie { IfOk result (LieIn 0 count) }
     ensures walked { WhereTold (λ k.
         WalkGoesOn count (bytes_of (k start.part.file).seen) start result) (D.content disk.old) }
-    ensures reads { OnlyReads D.content D.moment D.left_since D.faults disk.old disk.new }
+    ensures reads { OnlyReads D.Disk disk.old disk.new }
     ensures fault { FaultRose (D.faults disk.old) (D.faults disk.new) result }
 {
     let mut state = start;
@@ -182,7 +182,7 @@ fn turn<D: Disk>(
     ensures turns { WhereTold (WalkTurns state.old state.new result) (D.content disk.old) }
     ensures moves { WalkMoves state.old state.new result }
     ensures part { SamePart state.old.part state.new.part }
-    ensures reads { OnlyReads D.content D.moment D.left_since D.faults disk.old disk.new }
+    ensures reads { OnlyReads D.Disk disk.old disk.new }
     ensures fault { StopRose (D.faults disk.old) (D.faults disk.new) result }
 {
     let part = state.part;
@@ -229,7 +229,7 @@ fn bring<D: Disk>(
     requires inside { IsInsidePart part.now window.old }
     ensures brings { WhereTold (Brings part.now window.old window.new result) (D.content disk.old) }
     ensures inside { IsInsidePart part.now window.new }
-    ensures reads { OnlyReads D.content D.moment D.left_since D.faults disk.old disk.new }
+    ensures reads { OnlyReads D.Disk disk.old disk.new }
     ensures fault { StopRose (D.faults disk.old) (D.faults disk.new) result }
 {
     loop {

@@ -115,7 +115,7 @@ pub(crate) fn read_on<D: Disk>(
         (D.content disk.old) }
     ensures grows { WindowGrows window.old window.new result }
     ensures inside { IsInsidePart part.now window.new }
-    ensures reads { OnlyReads D.content D.moment D.left_since D.faults disk.old disk.new }
+    ensures reads { OnlyReads D.Disk disk.old disk.new }
     ensures fault { StopRose (D.faults disk.old) (D.faults disk.new) result }
 {
     let left = part.end - part.offset - window.as_slice().len() as u64;
@@ -137,7 +137,7 @@ fn read_into<D: Disk>(
         (D.content disk.old) }
     ensures grows { WindowGrows window.old window.new result }
     ensures inside { IsInsidePart part.now window.new }
-    ensures reads { OnlyReads D.content D.moment D.left_since D.faults disk.old disk.new }
+    ensures reads { OnlyReads D.Disk disk.old disk.new }
     ensures fault { StopRose (D.faults disk.old) (D.faults disk.new) result }
 {
     let offset = part.offset + window.as_slice().len() as u64;

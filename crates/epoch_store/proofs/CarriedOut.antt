@@ -8,7 +8,8 @@ use Rattle.std.proofs.lemmas.Option.{same_Some}
 use Rattle.std.proofs.lemmas.Result.{on_ok_weaker}
 use Rattle.arch_base.specs.declared.ids.Id20.{Id20}
 use Rattle.arch_base.specs.Moments.{last_moment}
-use Rattle.disk_model.specs.Disk.{Content, Files, Kept, BothTold, Unchanged, WhereTold, bytes_of}
+use Rattle.disk_model.specs.declared.disk.Disk.{Ghosts as Disk}
+use Rattle.disk_model.specs.Disk.{Content, Kept, BothTold, Unchanged, WhereTold, bytes_of}
 use Rattle.disk_model.specs.Tells.{told_then}
 use Rattle.mail_reader.specs.StorageTexts.{IsStorageText}
 use Rattle.arch_model.specs.Archives.{Entry, Archive, IsFree, in_epoch, live, with_entry, without_entries, without_text}
@@ -61,9 +62,9 @@ unless_weaker P Q (Err NoMemory) less p = less p
 unless_weaker P Q (Err (Damaged file at)) less p = less p
 
 -- A disk that was only read, and then what is carried out.
-module _ {D : Type 0} (content : D → Option Content) (moment : D → ℕ) (left_since : D → ℕ → Files → Type 0) (faults : D → ℕ) where
-  pub reads_then : {T : Type 0} (result : Result T StoreRefusal) (old mid new : D) → OnlyReads content moment left_since faults old mid → UnlessFailed result (OnlyReads content moment left_since faults mid new) → UnlessFailed result (OnlyReads content moment left_since faults old new)
-  reads_then result old mid new first then_ = unless_weaker (OnlyReads content moment left_since faults mid new) (OnlyReads content moment left_since faults old new) result (λ more. reads_both content moment left_since faults old mid new first more) then_
+module _ {D : Type 0} (g : Disk D) where
+  pub reads_then : {T : Type 0} (result : Result T StoreRefusal) (old mid new : D) → OnlyReads g old mid → UnlessFailed result (OnlyReads g mid new) → UnlessFailed result (OnlyReads g old new)
+  reads_then result old mid new first then_ = unless_weaker (OnlyReads g mid new) (OnlyReads g old new) result (λ more. reads_both g old mid new first more) then_
 
 -- The archive without a text is planned.
 pub purged_archive : (v : StoreState) (cache : List ℕ) (a : Archive) (text : List ℕ) (p : Planning) → KeepsArchive v a → PlansWithout v.root cache a text p.plans × (p.entries ≡ stored_after [] (without_text a.entries text)) → PlansArchive v.root cache a (without_entries a text) p v.root.next

@@ -2,10 +2,12 @@
 use Rattle.std.specs.Prelude.{◌≡◌, ◌≢◌, ◌⊎◌, ◌+◌, ◌-◌, ◌≤◌, nat_lt, ℕ, Bool, true, false, if◌then◌else◌, List, [], length, get_or, Option, Some, None, refl}
 use Rattle.std.proofs.Common.{◌∙◌, sym, ap, subst, inl, inr, arith}
 use Rattle.std.proofs.lemmas.Bool.{cases_lt}
+use Rattle.disk_model.specs.declared.disk.Disk.{Ghosts as Disk}
 use Rattle.disk_model.specs.declared.name.FileKind.{FileKind}
 use Rattle.disk_model.specs.declared.name.FileKind.TheVariants as kind
 use Rattle.disk_model.specs.declared.name.FileName.{FileName}
-use Rattle.disk_model.specs.Disk.{Files, Content, WhereTold, LeavesOnly, bytes_of}
+use Rattle.disk_model.specs.Disk.{Content, WhereTold, bytes_of}
+use Rattle.disk_model.specs.Moments.{LeavesOnly}
 use Rattle.root_slots.specs.declared.root.Place.{Place}
 use Rattle.root_slots.specs.declared.root.Root.{Root}
 use Rattle.root_slots.specs.RootName.{root_name}
@@ -41,8 +43,8 @@ module _ (v : StoreState) (cache : List ℕ) (a b : Archive) (p : Planning) (nex
   }
 
   -- What a crash leaves.
-  pub carried_leaves : {D : Type 0} (moment : D → ℕ) (left_since : D → ℕ → Files → Type 0) (disk new : D) → ((parts : Parts) → IsOwnOfParts v.root (1 - v.slot) parts k → LeavesOnly moment left_since disk new (RecoversPlanned v.root p.plans next parts)) → LeavesOnly moment left_since disk new (RecoversOneOf cache a [] b)
-  carried_leaves moment left_since disk new leaves = next_leaves _ _ [] b planned_next moment left_since disk new v cache a k store (leaves (parts_of a cache) (store_owns v cache a k store))
+  pub carried_leaves : {D : Type 0} (g : Disk D) (disk new : D) → ((parts : Parts) → IsOwnOfParts v.root (1 - v.slot) parts k → LeavesOnly g disk new (RecoversPlanned v.root p.plans next parts)) → LeavesOnly g disk new (RecoversOneOf cache a [] b)
+  carried_leaves g disk new leaves = next_leaves _ _ [] b planned_next g disk new v cache a k store (leaves (parts_of a cache) (store_owns v cache a k store))
 
   -- What the store has then.
   pub carried_store : (root : Root) (m : Option Content) → IsRootAfter v.root p.plans next root → ((parts : Parts) → IsOwnOfParts v.root (1 - v.slot) parts k → IsOwnOfParts root (1 - (1 - v.slot)) (rewritten v.root p.plans parts) m) → IsStoreWith (record { root = root; slot = 1 - v.slot; entries = p.entries }) [] b m

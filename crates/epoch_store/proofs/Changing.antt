@@ -2,10 +2,11 @@
 use Rattle.std.specs.Prelude.{◌≡◌, ◌+◌, ◌-◌, ◌≤◌, ◌<◌, ◌^◌, ℕ, List, [], Option, Some, None, Result, Ok, Err, refl}
 use Rattle.std.proofs.Common.{◌∙◌, sym, ap, subst, inr, arith}
 use Rattle.arch_base.specs.Counts.{RoseIf}
+use Rattle.disk_model.specs.declared.disk.Disk.{Ghosts as Disk}
 use Rattle.disk_model.specs.declared.name.FileName.{FileName}
 use Rattle.disk_model.specs.Beside.{Beside, Bounds, RunsBeside, WentBeside}
-use Rattle.disk_model.specs.Disk.{Content, Files, Image, LeavesOnly, BothTold, Unchanged, WhereTold}
-use Rattle.disk_model.specs.Moments.{joined, started, weaker}
+use Rattle.disk_model.specs.Disk.{Content, Files, Image, BothTold, Unchanged, WhereTold}
+use Rattle.disk_model.specs.Moments.{LeavesOnly, joined, started, weaker}
 use Rattle.arch_model.specs.Archives.{Archive}
 use Rattle.epoch_file.specs.Runs.{OnlyReads}
 use Rattle.epoch_file.specs.declared.refusal.StoreRefusal.{StoreRefusal}
@@ -58,27 +59,27 @@ short_unchanged bounds None None whole went = tt
 short_unchanged bounds None (Some m) whole went = absurd went
 short_unchanged bounds (Some k) m whole went = absurd (whole tt)
 
-short_reads : {D : Type 0} {content : D → Option Content} {moment : D → ℕ} {left_since : D → ℕ → Files → Type 0} {faults : D → ℕ} {old new : D} (bounds : Bounds) → WhereTold (λ (c : Content). Unit {0} → ⊥) (content old) → RunsBeside content moment left_since bounds old new → faults old ≤ faults new
-    → OnlyReads content moment left_since faults old new
-short_reads {D} {content} {moment} {left_since} {faults} {old} {new} bounds whole run later = record {
-  same = short_unchanged bounds (content old) (content new) whole run.told;
-  crash = weaker moment left_since old new (Beside bounds (content old)) (Image (content old)) run.moments (λ image crash_beside. short_image (content old) image whole);
+short_reads : {D : Type 0} {g : Disk D} {old new : D} (bounds : Bounds) → WhereTold (λ (c : Content). Unit {0} → ⊥) (g.content old) → RunsBeside g bounds old new → g.faults old ≤ g.faults new
+    → OnlyReads g old new
+short_reads {D} {g} {old} {new} bounds whole run later = record {
+  same = short_unchanged bounds (g.content old) (g.content new) whole run.told;
+  crash = weaker g old new (Beside bounds (g.content old)) (Image (g.content old)) run.moments (λ image crash_beside. short_image (g.content old) image whole);
   later = later;
 }
 
 -- What a crash leaves of the archive on the disk while files are read.
-read_leaves : {D : Type 0} {content : D → Option Content} {moment : D → ℕ} {left_since : D → ℕ → Files → Type 0} {faults : D → ℕ} {old mid : D} (only : OnlyReads content moment left_since faults old mid) (v : StoreState) (cache : List ℕ) (a b : Archive) → IsStoreWith v cache a (content old)
-    → LeavesOnly moment left_since old mid (RecoversOneOf cache a [] b)
-read_leaves {D} {content} {moment} {left_since} {faults} {old} {mid} only v cache a b store =
-    weaker moment left_since old mid (Image (content old)) (RecoversOneOf cache a [] b) only.crash (λ image now. stands_now v cache [] a b (content old) image store now)
+read_leaves : {D : Type 0} {g : Disk D} {old mid : D} (only : OnlyReads g old mid) (v : StoreState) (cache : List ℕ) (a b : Archive) → IsStoreWith v cache a (g.content old)
+    → LeavesOnly g old mid (RecoversOneOf cache a [] b)
+read_leaves {D} {g} {old} {mid} only v cache a b store =
+    weaker g old mid (Image (g.content old)) (RecoversOneOf cache a [] b) only.crash (λ image now. stands_now v cache [] a b (g.content old) image store now)
 
-module _ {D : Type 0} {content : D → Option Content} {moment : D → ℕ} {left_since : D → ℕ → Files → Type 0} {faults reads : D → ℕ} where
+module _ {D : Type 0} {g : Disk D} where
   -- An error, by what a crash leaves until then.
   pub stopped : {old new : D} {before after : StoreState} {way : WriteKind} {Makes : Archive → Archive → Type 0} {result : Result (Unit {0}) StoreRefusal} (why : StoreRefusal) → result ≡ Err why
-      → ((a b : Archive) (cache : List ℕ) → IsStoreWith before cache a (content old) → before.root.sequence + 1 < 2 ^ 64 → Makes a b → LeavesOnly moment left_since old new (RecoversOneOf cache a (cache_by way cache) b))
-      → after ≡ before → UnlessFailed {T = Unit {0}} (Err why) (StaysBy way content moment left_since faults old new) → UndamagedBy {T = Unit {0}} way before (Err why) (content old) → DamageBy why (λ (file : FileName) (at : ℕ). IsDamageIn before file at (content old)) → RoseIf (result ≡ Err DiskFault) (faults old) (faults new) → ReadsByKind way (reads old) (reads new) → RunsBetween content moment left_since old new
-      → ChangesStore content moment left_since faults reads old new before after way Makes result
-  stopped {old} {new} {before} {after} {way} {Makes} {result} why is run same still sound told cause count crash_between = subst (λ (r : Result (Unit {0}) StoreRefusal). ChangesStore content moment left_since faults reads old new before after way Makes r) (sym is) (record {
+      → ((a b : Archive) (cache : List ℕ) → IsStoreWith before cache a (g.content old) → before.root.sequence + 1 < 2 ^ 64 → Makes a b → LeavesOnly g old new (RecoversOneOf cache a (cache_by way cache) b))
+      → after ≡ before → UnlessFailed {T = Unit {0}} (Err why) (StaysBy way g old new) → UndamagedBy {T = Unit {0}} way before (Err why) (g.content old) → DamageBy why (λ (file : FileName) (at : ℕ). IsDamageIn before file at (g.content old)) → RoseIf (result ≡ Err DiskFault) (g.faults old) (g.faults new) → ReadsByKind way (g.reads old) (g.reads new) → RunsBetween g old new
+      → ChangesStore g old new before after way Makes result
+  stopped {old} {new} {before} {after} {way} {Makes} {result} why is run same still sound told cause count crash_between = subst (λ (r : Result (Unit {0}) StoreRefusal). ChangesStore g old new before after way Makes r) (sym is) (record {
     crash = run;
     done = λ a b cache store room made. tt;
     settled = tt;
@@ -88,7 +89,7 @@ module _ {D : Type 0} {content : D → Option Content} {moment : D → ℕ} {lef
     same = same;
     untouched = still;
     undamaged = sound;
-    cause = subst (λ (r : Result (Unit {0}) StoreRefusal). RoseIf (r ≡ Err DiskFault) (faults old) (faults new)) is cause;
+    cause = subst (λ (r : Result (Unit {0}) StoreRefusal). RoseIf (r ≡ Err DiskFault) (g.faults old) (g.faults new)) is cause;
     count = count;
     rooted = tt;
     crash_between = crash_between;
@@ -96,78 +97,78 @@ module _ {D : Type 0} {content : D → Option Content} {moment : D → ℕ} {lef
   })
 
   -- Memory ran out before anything was done.
-  pub unstarted : {disk : D} {before after : StoreState} {way : WriteKind} {Makes : Archive → Archive → Type 0} {result : Result (Unit {0}) StoreRefusal} → ((image : Files) → left_since disk (moment disk) image → Image (content disk) image) → after ≡ before → result ≡ Err NoMemory
-      → ChangesStore content moment left_since faults reads disk disk before after way Makes result
+  pub unstarted : {disk : D} {before after : StoreState} {way : WriteKind} {Makes : Archive → Archive → Type 0} {result : Result (Unit {0}) StoreRefusal} → ((image : Files) → g.left_since disk (g.moment disk) image → Image (g.content disk) image) → after ≡ before → result ≡ Err NoMemory
+      → ChangesStore g disk disk before after way Makes result
   unstarted {disk} {before} {after} {way} {Makes} {result} now same is =
-      stopped NoMemory is (λ a b cache store room made. started moment left_since disk (RecoversOneOf cache a (cache_by way cache) b) (λ image left. stands_now before cache (cache_by way cache) a b (content disk) image store (now image left))) same
+      stopped NoMemory is (λ a b cache store room made. started g disk (RecoversOneOf cache a (cache_by way cache) b) (λ image left. stands_now before cache (cache_by way cache) a b (g.content disk) image store (now image left))) same
       (still way) (sound way) tt (record { later = omega arith; failed = λ fault. absurd (cc (sym is ∙ fault)); kept = λ never. refl }) (count way)
-      (looks_between content moment left_since disk disk (started moment left_since disk (Image (content disk)) now)) where
-        still : (way : WriteKind) → StaysBy way content moment left_since faults disk disk
+      (looks_between g disk disk (started g disk (Image (g.content disk)) now)) where
+        still : (way : WriteKind) → StaysBy way g disk disk
         still Appends = refl
-        still Renews = reads_none content moment left_since faults disk now
+        still Renews = reads_none g disk now
 
-        sound : (way : WriteKind) → UndamagedBy {T = Unit {0}} way before (Err NoMemory) (content disk)
+        sound : (way : WriteKind) → UndamagedBy {T = Unit {0}} way before (Err NoMemory) (g.content disk)
         sound Appends = tt
         sound Renews = λ a cache store. tt
 
-        count : (way : WriteKind) → ReadsByKind way (reads disk) (reads disk)
+        count : (way : WriteKind) → ReadsByKind way (g.reads disk) (g.reads disk)
         count Appends = refl
         count Renews = omega arith
 
-  module _ {old mid : D} {before : StoreState} (only : OnlyReads content moment left_since faults old mid) where
+  module _ {old mid : D} {before : StoreState} (only : OnlyReads g old mid) where
     -- Planning failed.
-    pub unplanned : {Makes : Archive → Archive → Type 0} {result : Result (Unit {0}) StoreRefusal} (why : StoreRefusal) → result ≡ Err why → PlansUndamaged {T = Unit {0}} before (Err why) (content old) → DamageBy why (λ (file : FileName) (at : ℕ). IsDamageIn before file at (content old)) → RoseIf (result ≡ Err DiskFault) (faults old) (faults mid) → reads old ≤ reads mid
-        → ChangesStore content moment left_since faults reads old mid before before Renews Makes result
-    unplanned why is sound told cause count = stopped why is (λ a b cache store room made. read_leaves only before cache a b store) refl (unless_any why only) sound told cause count (looks_between content moment left_since old mid only.crash)
+    pub unplanned : {Makes : Archive → Archive → Type 0} {result : Result (Unit {0}) StoreRefusal} (why : StoreRefusal) → result ≡ Err why → PlansUndamaged {T = Unit {0}} before (Err why) (g.content old) → DamageBy why (λ (file : FileName) (at : ℕ). IsDamageIn before file at (g.content old)) → RoseIf (result ≡ Err DiskFault) (g.faults old) (g.faults mid) → g.reads old ≤ g.reads mid
+        → ChangesStore g old mid before before Renews Makes result
+    unplanned why is sound told cause count = stopped why is (λ a b cache store room made. read_leaves only before cache a b store) refl (unless_any why only) sound told cause count (looks_between g old mid only.crash)
 
     -- What was planned was carried out, or wasn't.
-    pub planned : {new : D} {after : StoreState} {Makes : Archive → Archive → Type 0} {result : Result (Unit {0}) StoreRefusal} (plans : Planning) (next : ℕ) → ((a b : Archive) (cache : List ℕ) → IsStoreWith before cache a (content old) → Makes a b → PlansArchive before.root cache a b plans next)
-        → faults mid ≡ faults old → reads old ≤ reads mid → ChangesStore content moment left_since faults reads mid new before after Renews (λ a b. (cache : List ℕ) → IsStoreWith before cache a (content mid) → PlansArchive before.root cache a b plans next) result
-        → ChangesStore content moment left_since faults reads old new before after Renews Makes result
+    pub planned : {new : D} {after : StoreState} {Makes : Archive → Archive → Type 0} {result : Result (Unit {0}) StoreRefusal} (plans : Planning) (next : ℕ) → ((a b : Archive) (cache : List ℕ) → IsStoreWith before cache a (g.content old) → Makes a b → PlansArchive before.root cache a b plans next)
+        → g.faults mid ≡ g.faults old → g.reads old ≤ g.reads mid → ChangesStore g mid new before after Renews (λ a b. (cache : List ℕ) → IsStoreWith before cache a (g.content mid) → PlansArchive before.root cache a b plans next) result
+        → ChangesStore g old new before after Renews Makes result
     planned {new} {after} {Makes} {result} plans next makes steady fewest carried = record {
       crash = λ a b cache store room made.
-          joined moment left_since old mid new (RecoversOneOf cache a [] b) (RecoversOneOf cache a [] b) (RecoversOneOf cache a [] b) (read_leaves only before cache a b store) (carried.crash a b cache (still cache a store) room (planned_so a b made)) (λ image stands. stands) (λ image stands. stands);
+          joined g old mid new (RecoversOneOf cache a [] b) (RecoversOneOf cache a [] b) (RecoversOneOf cache a [] b) (read_leaves only before cache a b store) (carried.crash a b cache (still cache a store) room (planned_so a b made)) (λ image stands. stands) (λ image stands. stands);
       done = λ a b cache store room made. carried.done a b cache (still cache a store) room (planned_so a b made);
       settled = carried.settled;
       sizes = carried.sizes;
       goes_on = carried.goes_on;
       slot = carried.slot;
       same = carried.same;
-      untouched = reads_then content moment left_since faults result old mid new only carried.untouched;
+      untouched = reads_then g result old mid new only carried.untouched;
       undamaged = λ a cache store. carried.undamaged a cache (still cache a store);
-      cause = subst (λ (n : ℕ). RoseIf (result ≡ Err DiskFault) n (faults new)) steady carried.cause;
+      cause = subst (λ (n : ℕ). RoseIf (result ≡ Err DiskFault) n (g.faults new)) steady carried.cause;
       count = (let more = carried.count in omega (arith, fewest, more));
-      rooted = rooted_since result after.slot (spelling after.root) (content old) (content mid) (content new) only.same carried.rooted;
-      crash_between = read_between content moment left_since old mid new only.same only.crash carried.crash_between;
-      damage = subst (λ (k : Option Content). IfDamaged result (λ (file : FileName) (at : ℕ). IsDamageIn before file at k)) (content_is (content old) (content mid) only.same) carried.damage;
+      rooted = rooted_since result after.slot (spelling after.root) (g.content old) (g.content mid) (g.content new) only.same carried.rooted;
+      crash_between = read_between g old mid new only.same only.crash carried.crash_between;
+      damage = subst (λ (k : Option Content). IfDamaged result (λ (file : FileName) (at : ℕ). IsDamageIn before file at k)) (content_is (g.content old) (g.content mid) only.same) carried.damage;
     } where
-      still : (cache : List ℕ) (a : Archive) → IsStoreWith before cache a (content old) → IsStoreWith before cache a (content mid)
-      still cache a store = store_same before cache a (content old) (content mid) only.same store
+      still : (cache : List ℕ) (a : Archive) → IsStoreWith before cache a (g.content old) → IsStoreWith before cache a (g.content mid)
+      still cache a store = store_same before cache a (g.content old) (g.content mid) only.same store
 
-      planned_so : (a b : Archive) → Makes a b → (cache : List ℕ) → IsStoreWith before cache a (content mid) → PlansArchive before.root cache a b plans next
-      planned_so a b made cache own = makes a b cache (store_back before cache a (content old) (content mid) only.same own) made
+      planned_so : (a b : Archive) → Makes a b → (cache : List ℕ) → IsStoreWith before cache a (g.content mid) → PlansArchive before.root cache a b plans next
+      planned_so a b made cache own = makes a b cache (store_back before cache a (g.content old) (g.content mid) only.same own) made
 
 -- What carrying out promises, by the view of the store and of the planner.
-by_views : {D : Type 0} {content : D → Option Content} {moment : D → ℕ} {left_since : D → ℕ → Files → Type 0} {faults : D → ℕ} {old new : D} {w v : StoreState} {free next : ℕ} {plans all : List Plan} {result : Result Root RewriteRefusal} → w ≡ v → free ≡ 1 - w.slot → plans ≡ all
-    → CarriesOut content moment left_since faults old new w.root free plans next result → CarriesOut content moment left_since faults old new v.root (1 - v.slot) all next result
-by_views {content = content} {moment} {left_since} {faults} {old} {new} {w} {v} {free} {next} {plans} {all} {result} same free_is plans_are carried =
-    subst (λ (u : StoreState). CarriesOut content moment left_since faults old new u.root (1 - u.slot) all next result) same
-    (subst (λ (l : List Plan). CarriesOut content moment left_since faults old new w.root (1 - w.slot) l next result) plans_are
-    (subst (λ (n : ℕ). CarriesOut content moment left_since faults old new w.root n plans next result) free_is carried))
+by_views : {D : Type 0} {g : Disk D} {old new : D} {w v : StoreState} {free next : ℕ} {plans all : List Plan} {result : Result Root RewriteRefusal} → w ≡ v → free ≡ 1 - w.slot → plans ≡ all
+    → CarriesOut g old new w.root free plans next result → CarriesOut g old new v.root (1 - v.slot) all next result
+by_views {g = g} {old} {new} {w} {v} {free} {next} {plans} {all} {result} same free_is plans_are carried =
+    subst (λ (u : StoreState). CarriesOut g old new u.root (1 - u.slot) all next result) same
+    (subst (λ (l : List Plan). CarriesOut g old new w.root (1 - w.slot) l next result) plans_are
+    (subst (λ (n : ℕ). CarriesOut g old new w.root n plans next result) free_is carried))
 
-module _ {D : Type 0} {content : D → Option Content} {moment : D → ℕ} {left_since : D → ℕ → Files → Type 0} {faults reads : D → ℕ} {old new : D} {w v : StoreState} {free next : ℕ} {plans : List Plan} {p : Planning}
-    (same : w ≡ v) (free_is : free ≡ 1 - w.slot) (plans_are : plans ≡ p.plans) (fewest : reads old ≤ reads new) where
+module _ {D : Type 0} {g : Disk D} {old new : D} {w v : StoreState} {free next : ℕ} {plans : List Plan} {p : Planning}
+    (same : w ≡ v) (free_is : free ≡ 1 - w.slot) (plans_are : plans ≡ p.plans) (fewest : g.reads old ≤ g.reads new) where
   -- Plans were carried out.
-  pub carried_done : {root : Root} {entries : List StoredEntry} → entries ≡ p.entries → IsReadyPlan v.root p.plans next → CarriesOut content moment left_since faults old new w.root free plans next (Ok root)
-      → ChangesStore content moment left_since faults reads old new v (record { root = root; slot = free; entries = entries }) Renews (λ a b. (cache : List ℕ) → IsStoreWith v cache a (content old) → PlansArchive v.root cache a b p next) (Ok tt)
+  pub carried_done : {root : Root} {entries : List StoredEntry} → entries ≡ p.entries → IsReadyPlan v.root p.plans next → CarriesOut g old new w.root free plans next (Ok root)
+      → ChangesStore g old new v (record { root = root; slot = free; entries = entries }) Renews (λ a b. (cache : List ℕ) → IsStoreWith v cache a (g.content old) → PlansArchive v.root cache a b p next) (Ok tt)
   carried_done {root} {entries} entries_are ready carries =
       let carried = by_views same free_is plans_are carries in
       let slot : 1 - v.slot ≡ free = sym (free_is ∙ ap (λ (u : StoreState). 1 - u.slot) same) in
       subst (λ (n : ℕ). Changed (record { root = root; slot = n; entries = entries })) slot (subst (λ (es : List StoredEntry). Changed (record { root = root; slot = 1 - v.slot; entries = es })) (sym entries_are) (record {
-        crash = λ a b cache store room made. carried_leaves v cache a b p next (content old) store (made cache store) moment left_since old new carried.crash;
-        done = λ a b cache store room made. carried_store v cache a b p next (content old) store (made cache store) root (content new) carried.root_is carried.done;
+        crash = λ a b cache store room made. carried_leaves v cache a b p next (g.content old) store (made cache store) g old new carried.crash;
+        done = λ a b cache store room made. carried_store v cache a b p next (g.content old) store (made cache store) root (g.content new) carried.root_is carried.done;
         settled = carried.settled;
-        sizes = sizes_carried root (1 - v.slot) p.entries (content new) carried.sizes;
+        sizes = sizes_carried root (1 - v.slot) p.entries (g.content new) carried.sizes;
         goes_on = carried_on v.root root p.plans next ready carried.root_is;
         slot = refl;
         same = tt;
@@ -180,21 +181,21 @@ module _ {D : Type 0} {content : D → Option Content} {moment : D → ℕ} {lef
         damage = tt;
       })) where
         Changed : StoreState → Type 0
-        Changed after = ChangesStore content moment left_since faults reads old new v after Renews (λ a b. (cache : List ℕ) → IsStoreWith v cache a (content old) → PlansArchive v.root cache a b p next) (Ok tt)
+        Changed after = ChangesStore g old new v after Renews (λ a b. (cache : List ℕ) → IsStoreWith v cache a (g.content old) → PlansArchive v.root cache a b p next) (Ok tt)
 
   -- The disk failed.
-  pub carried_failed : {refused : RewriteRefusal} → refused ≡ rewrite.DiskFault → CarriesOut content moment left_since faults old new w.root free plans next (Err refused)
-      → ChangesStore content moment left_since faults reads old new v v Renews (λ a b. (cache : List ℕ) → IsStoreWith v cache a (content old) → PlansArchive v.root cache a b p next) (Err DiskFault)
+  pub carried_failed : {refused : RewriteRefusal} → refused ≡ rewrite.DiskFault → CarriesOut g old new w.root free plans next (Err refused)
+      → ChangesStore g old new v v Renews (λ a b. (cache : List ℕ) → IsStoreWith v cache a (g.content old) → PlansArchive v.root cache a b p next) (Err DiskFault)
   carried_failed {refused = rewrite.Short file at} is carries = absurd (cc is)
   carried_failed {refused = rewrite.DiskFault} is carries =
       let carried = by_views same free_is plans_are carries in
-      stopped DiskFault refl (λ a b cache store room made. carried_leaves v cache a b p next (content old) store (made cache store) moment left_since old new carried.crash) refl tt (λ a cache store. tt) tt
+      stopped DiskFault refl (λ a b cache store room made. carried_leaves v cache a b p next (g.content old) store (made cache store) g old new carried.crash) refl tt (λ a cache store. tt) tt
       (record { later = carried.cause.later; failed = λ fault. carried.cause.failed tt; kept = λ never. absurd (never refl) }) fewest carried.crash_between
 
   -- A range was short.
-  pub carried_short : {refused : RewriteRefusal} {file : FileName} {at : ℕ} → refused ≡ rewrite.Short file at → IsReadyPlan v.root p.plans next → CarriesOut content moment left_since faults old new w.root free plans next (Err refused)
-      → ChangesStore content moment left_since faults reads old new v v Renews (λ a b. (cache : List ℕ) → IsStoreWith v cache a (content old) → PlansArchive v.root cache a b p next) (Err (Damaged file at))
+  pub carried_short : {refused : RewriteRefusal} {file : FileName} {at : ℕ} → refused ≡ rewrite.Short file at → IsReadyPlan v.root p.plans next → CarriesOut g old new w.root free plans next (Err refused)
+      → ChangesStore g old new v v Renews (λ a b. (cache : List ℕ) → IsStoreWith v cache a (g.content old) → PlansArchive v.root cache a b p next) (Err (Damaged file at))
   carried_short {refused} {file} {at} is ready carries =
-      let carried = by_views same free_is plans_are (subst (λ (r : RewriteRefusal). CarriesOut content moment left_since faults old new w.root free plans next (Err r)) is carries) in
-      unplanned (short_reads (bounds_of v.root) carried.whole (carried.crash_beside tt) carried.cause.later) (Damaged file at) refl (never_short v (Damaged file at) (content old) carried.whole) (inr (short_told v p next file at (content old) ready carried.whole carried.short))
+      let carried = by_views same free_is plans_are (subst (λ (r : RewriteRefusal). CarriesOut g old new w.root free plans next (Err r)) is carries) in
+      unplanned (short_reads (bounds_of v.root) carried.whole (carried.crash_beside tt) carried.cause.later) (Damaged file at) refl (never_short v (Damaged file at) (g.content old) carried.whole) (inr (short_told v p next file at (g.content old) ready carried.whole carried.short))
       (record { later = carried.cause.later; failed = λ fault. absurd (cc fault); kept = λ never. carried.cause.kept (λ wrong. wrong) }) fewest

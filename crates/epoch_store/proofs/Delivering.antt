@@ -7,9 +7,11 @@ use Rattle.std.proofs.lemmas.List.{append-nil}
 use Rattle.arch_base.specs.declared.config.Config.{Config}
 use Rattle.arch_base.specs.declared.ids.Id20.{Id20}
 use Rattle.arch_base.specs.Moments.{last_moment}
+use Rattle.disk_model.specs.declared.disk.Disk.{Ghosts as Disk}
 use Rattle.disk_model.specs.declared.name.FileKind.{FileKind}
 use Rattle.disk_model.specs.declared.name.FileKind.TheVariants as file_kind
-use Rattle.disk_model.specs.Disk.{Files, Content, LeavesOnly}
+use Rattle.disk_model.specs.Disk.{Content}
+use Rattle.disk_model.specs.Moments.{LeavesOnly}
 use Rattle.git_objects.specs.Objects.{blob_id_of}
 use Rattle.git_objects.specs.declared.entry_kind.EntryKind.TheVariants.{Message, Deletion}
 use Rattle.mail_reader.specs.StorageTexts.{IsStorageText}
@@ -135,8 +137,8 @@ module _ (e : NewEntry) {w v : StoreState} {p : NextPlace} {free number : ℕ} (
   is_next : IsNext (λ root. root ≡ root_with w.root p e) (parts_with w.root p e (parts_of a cache)) cache b
   is_next = entry_next w a b cache p e number keeps_now place_now parent enters (store_cache w cache a k store_now)
 
-  pub enters_leaves : {D : Type 0} (moment : D → ℕ) (left_since : D → ℕ → Files → Type 0) (disk after : D) → ((parts : Parts) → IsOwnOfParts w.root free parts k → w.root.sequence + 1 < 2 ^ 64 → LeavesOnly moment left_since disk after (RecoversEntered w.root p e parts)) → LeavesOnly moment left_since disk after (RecoversOneOf cache a cache b)
-  enters_leaves moment left_since disk after leaves = next_leaves _ _ cache b is_next moment left_since disk after w cache a k store_now (leaves (parts_of a cache) own_now room_now)
+  pub enters_leaves : {D : Type 0} (g : Disk D) (disk after : D) → ((parts : Parts) → IsOwnOfParts w.root free parts k → w.root.sequence + 1 < 2 ^ 64 → LeavesOnly g disk after (RecoversEntered w.root p e parts)) → LeavesOnly g disk after (RecoversOneOf cache a cache b)
+  enters_leaves g disk after leaves = next_leaves _ _ cache b is_next g disk after w cache a k store_now (leaves (parts_of a cache) own_now room_now)
 
   pub enters_store : (root : Root) (entries : List StoredEntry) (stored : StoredEntry) (m : Option Content) → root ≡ root_with w.root p e → entries ≡ w.entries ++ stored ∷ []
       → ((c : Archive) → KeepsArchive w c → IsNextPlace w.root c (next_sequence w.root.sequence) p → stored ≡ stored_at c.entries (record { kind = e.kind; number = number; epoch = p.epoch; text = e.text.now; moment = e.moment }))
@@ -147,11 +149,11 @@ module _ (e : NewEntry) {w v : StoreState} {p : NextPlace} {free number : ℕ} (
       (done (parts_of a cache) own_now room_now)
 
 -- A command that makes an archive of another one makes each that it comes to.
-pub changes_so : {D : Type 0} {content : D → Option Content} {moment : D → ℕ} {left_since : D → ℕ → Files → Type 0} {faults reads : D → ℕ} {old new : D} {before after : StoreState} {way : WriteKind} {Makes Other : Archive → Archive → Type 0} {result : Result (Unit {0}) StoreRefusal} → ((a b : Archive) → KeepsArchive before a → Makes a b → Other a b)
-    → ChangesStore content moment left_since faults reads old new before after way Other result → ChangesStore content moment left_since faults reads old new before after way Makes result
-changes_so {content = content} {old = old} {before = before} so changes = record {
-  crash = λ a b cache store room makes. changes.crash a b cache store room (so a b (store_keeps before cache a (content old) store) makes);
-  done = λ a b cache store room makes. changes.done a b cache store room (so a b (store_keeps before cache a (content old) store) makes);
+pub changes_so : {D : Type 0} {g : Disk D} {old new : D} {before after : StoreState} {way : WriteKind} {Makes Other : Archive → Archive → Type 0} {result : Result (Unit {0}) StoreRefusal} → ((a b : Archive) → KeepsArchive before a → Makes a b → Other a b)
+    → ChangesStore g old new before after way Other result → ChangesStore g old new before after way Makes result
+changes_so {g = g} {old = old} {before = before} so changes = record {
+  crash = λ a b cache store room makes. changes.crash a b cache store room (so a b (store_keeps before cache a (g.content old) store) makes);
+  done = λ a b cache store room makes. changes.done a b cache store room (so a b (store_keeps before cache a (g.content old) store) makes);
   settled = changes.settled;
   sizes = changes.sizes;
   goes_on = changes.goes_on;

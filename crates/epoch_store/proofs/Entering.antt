@@ -4,13 +4,14 @@ use Rattle.std.proofs.Common.{◌∙◌, sym, ap, subst, inl, inr, arith, length
 use Rattle.std.proofs.lemmas.Bool.{cases_lt}
 use Rattle.std.proofs.lemmas.List.{nil_from_length}
 use Rattle.arch_base.specs.declared.ids.Id20.{Id20}
+use Rattle.disk_model.specs.declared.disk.Disk.{Ghosts as Disk}
 use Rattle.disk_model.specs.declared.name.FileKind.{FileKind}
 use Rattle.disk_model.specs.declared.name.FileKind.TheVariants as kind
 use Rattle.disk_model.specs.declared.name.FileName.{FileName}
 use Rattle.disk_model.specs.Beside.{RespectsBound, RunsBeside}
-use Rattle.disk_model.specs.Disk.{File, Files, Content, BothTold, WhereTold, OneFile, Wrote, IsAtMostLength, LeavesOnly, bytes_of}
+use Rattle.disk_model.specs.Disk.{File, Content, BothTold, WhereTold, OneFile, Wrote, IsAtMostLength, bytes_of}
 use Rattle.disk_model.specs.Images.{same_or_other}
-use Rattle.disk_model.specs.Moments.{weaker}
+use Rattle.disk_model.specs.Moments.{LeavesOnly, weaker}
 use Rattle.disk_model.specs.Tells.{told_then, told_weaker, told_where}
 use Rattle.git_objects.specs.Objects.{blob_id_of, blob_spelling}
 use Rattle.git_objects.specs.declared.entry_kind.EntryKind.{EntryKind}
@@ -355,30 +356,30 @@ module _ (root : Root) (p : NextPlace) (is : p ≡ place_at root p.epoch p.paren
       entered_told free (Some k) (Some m) made fits room made_is on wrote = (reads_so_far fits room free k m on wrote, subst (λ (r : Root). BecomesRoot root (so_far fits room free k m on wrote) r (texts_of r next)) (sym made_is) (becomes_next fits room free k m on wrote))
 
     -- What a crash leaves while the root is replaced, and what the disk is then.
-    module _ {D : Type 0} (content : D → Option Content) (moment : D → ℕ) (left_since : D → ℕ → Files → Type 0) (disk d1 d2 : D) (free : ℕ) (run : RunsBeside content moment left_since (bounds_of root) disk d1) (wrote : BothTold (Entered root p e) (content disk) (content d1)) (made : Root) (made_is : made ≡ new) (valid : IsRoot made) (fits : RootFits made) (parts : Parts) (own : IsOwnOfParts root free parts (content disk)) (room : root.sequence + 1 < 2 ^ 64) where
-      written : WhereTold (ReadsAsTexts root (reading parts own.long (content d1))) (content d1) × BecomesRoot root (reading parts own.long (content d1)) made (texts_of made (parts_with root p e parts))
-      written = entered_told parts own.long free (content disk) (content d1) made own.fits room made_is own.on wrote
+    module _ {D : Type 0} (g : Disk D) (disk d1 d2 : D) (free : ℕ) (run : RunsBeside g (bounds_of root) disk d1) (wrote : BothTold (Entered root p e) (g.content disk) (g.content d1)) (made : Root) (made_is : made ≡ new) (valid : IsRoot made) (fits : RootFits made) (parts : Parts) (own : IsOwnOfParts root free parts (g.content disk)) (room : root.sequence + 1 < 2 ^ 64) where
+      written : WhereTold (ReadsAsTexts root (reading parts own.long (g.content d1))) (g.content d1) × BecomesRoot root (reading parts own.long (g.content d1)) made (texts_of made (parts_with root p e parts))
+      written = entered_told parts own.long free (g.content disk) (g.content d1) made own.fits room made_is own.on wrote
 
       made_long : PartsFit made (parts_with root p e parts)
       made_long = subst (λ (r : Root). PartsFit r (parts_with root p e parts)) (sym made_is) (parts_long parts own.long)
 
-      pub entered_leaves : ((old nexts : Texts) → ToReplace free root old made nexts (content d1) → LeavesOnly moment left_since d1 d2 (StandsForEither root old made nexts)) → LeavesOnly moment left_since disk d2 (RecoversEntered root p e parts)
+      pub entered_leaves : ((old nexts : Texts) → ToReplace free root old made nexts (g.content d1) → LeavesOnly g d1 d2 (StandsForEither root old made nexts)) → LeavesOnly g disk d2 (RecoversEntered root p e parts)
       entered_leaves replaces =
-          weaker moment left_since disk d2 _ (RecoversEntered root p e parts)
-          (changing_by free root made parts (parts_with root p e parts) content moment left_since disk d1 own run (reading parts own.long (content d1)) written.0 written.1 valid fits made_long d2 replaces)
+          weaker g disk d2 _ (RecoversEntered root p e parts)
+          (changing_by free root made parts (parts_with root p e parts) g disk d1 own run (reading parts own.long (g.content d1)) written.0 written.1 valid fits made_long d2 replaces)
           (λ image either. elim either [ inl stands ↦ inl stands | inr stands ↦ inr (made, made_is, stands) ])
 
-      pub entered_done : ((old nexts : Texts) → ToReplace free root old made nexts (content d1) → OnDisk made (1 - free) nexts (content d2)) → IsOwnOfParts made (1 - free) (parts_with root p e parts) (content d2)
+      pub entered_done : ((old nexts : Texts) → ToReplace free root old made nexts (g.content d1) → OnDisk made (1 - free) nexts (g.content d2)) → IsOwnOfParts made (1 - free) (parts_with root p e parts) (g.content d2)
       entered_done done =
-          changed free root made parts (parts_with root p e parts) content moment left_since disk d1 own run (reading parts own.long (content d1)) written.0 written.1 valid fits made_long d2
-          (done (texts_of root parts) (texts_of made (parts_with root p e parts)) (to_replace free root made parts (parts_with root p e parts) content moment left_since disk d1 own run (reading parts own.long (content d1)) written.0 written.1 valid fits made_long))
+          changed free root made parts (parts_with root p e parts) g disk d1 own run (reading parts own.long (g.content d1)) written.0 written.1 valid fits made_long d2
+          (done (texts_of root parts) (texts_of made (parts_with root p e parts)) (to_replace free root made parts (parts_with root p e parts) g disk d1 own run (reading parts own.long (g.content d1)) written.0 written.1 valid fits made_long))
 
 -- What a crash leaves while files are written beside the root.
-pub stopped_leaves : {D : Type 0} (content : D → Option Content) (moment : D → ℕ) (left_since : D → ℕ → Files → Type 0) (root : Root) (p : NextPlace) (e : NewEntry) (free : ℕ) (disk d1 : D) → RunsBeside content moment left_since (bounds_of root) disk d1 → (parts : Parts) → IsOwnOfParts root free parts (content disk) → LeavesOnly moment left_since disk d1 (RecoversEntered root p e parts)
-stopped_leaves content moment left_since root p e free disk d1 run parts own =
-    weaker moment left_since disk d1 (RecoversPartsBy root parts) (RecoversEntered root p e parts) (writing_by free root root parts parts content moment left_since disk d1 own run) (λ image stands. inl stands)
+pub stopped_leaves : {D : Type 0} (g : Disk D) (root : Root) (p : NextPlace) (e : NewEntry) (free : ℕ) (disk d1 : D) → RunsBeside g (bounds_of root) disk d1 → (parts : Parts) → IsOwnOfParts root free parts (g.content disk) → LeavesOnly g disk d1 (RecoversEntered root p e parts)
+stopped_leaves g root p e free disk d1 run parts own =
+    weaker g disk d1 (RecoversPartsBy root parts) (RecoversEntered root p e parts) (writing_by free root root parts parts g disk d1 own run) (λ image stands. inl stands)
 
 -- The bytes of the root file between its gates and its bodies, while files are written beside a root and it is replaced.
-pub replaced_between : {D : Type 0} (content : D → Option Content) (moment : D → ℕ) (left_since : D → ℕ → Files → Type 0) (root : Root) (disk mid new : D) → RunsBeside content moment left_since (bounds_of root) disk mid → RunsBetween content moment left_since mid new → RunsBetween content moment left_since disk new
-replaced_between content moment left_since root disk mid new run replaces =
-    joined_between content moment left_since disk mid new (beside_between content moment left_since root disk mid run) (beside_went root (content disk) (content mid) run.told) replaces
+pub replaced_between : {D : Type 0} (g : Disk D) (root : Root) (disk mid new : D) → RunsBeside g (bounds_of root) disk mid → RunsBetween g mid new → RunsBetween g disk new
+replaced_between g root disk mid new run replaces =
+    joined_between g disk mid new (beside_between g root disk mid run) (beside_went root (g.content disk) (g.content mid) run.told) replaces

@@ -7,12 +7,13 @@ use Rattle.store_finding.specs.Listing.{AreAllNames}
 use Rattle.arch_base.specs.declared.config.Config.{Config}
 use Rattle.arch_base.specs.Configs.{IsConfig}
 use Rattle.arch_base.specs.Names.{IsArchiveName}
+use Rattle.disk_model.specs.declared.disk.Disk.{Ghosts as Disk}
 use Rattle.disk_model.specs.declared.name.FileKind.{FileKind}
 use Rattle.disk_model.specs.declared.name.FileKind.TheVariants as kind
 use Rattle.disk_model.specs.declared.name.FileName.{FileName}
-use Rattle.disk_model.specs.Disk.{File, Files, Kept, Content, Image, BothTold, WhereTold, Unchanged, Synced, MaySurvive, exact, bytes_of, ReadsFit, Elapses, LeavesOnly}
+use Rattle.disk_model.specs.Disk.{File, Files, Kept, Content, Image, BothTold, WhereTold, Unchanged, Synced, MaySurvive, exact, bytes_of, ReadsFit, Elapses}
 use Rattle.disk_model.specs.Synced.{IsSettled}
-use Rattle.disk_model.specs.Moments.{started, goes_on, joined}
+use Rattle.disk_model.specs.Moments.{LeavesOnly, started, goes_on, joined}
 use Rattle.disk_model.specs.Tells.{told_where}
 use Rattle.disk_model.specs.Laws.{MaySurvive-Within, MaySurvive-exact, sync_image}
 use Rattle.arch_model.specs.Archives.{empty_archive}
@@ -169,15 +170,15 @@ none_before (Some k) (Some m) (Some n) synced same none = let wrong : Some n ≡
 -- An archive is made on a disk on which there is none, from the clauses of the calls.
 module _ (config : Config) (name : IsArchiveName config.name) (valid : IsConfig config) (root : Root) (root_is : root ≡ first_root_of config) (k0 k1 k2 : Option Content) (synced : BothTold Synced k0 k1) (same : BothTold Unchanged k1 k2) (shut : WhereTold (λ k. IsShutFile (k root_name).seen) k0) where
   -- What a crash leaves at each moment of it.
-  pub making_leaves : {D : Type 0} (moment : D → ℕ) (left_since : D → ℕ → Files → Type 0) (disk d1 d2 new : D) → ReadsFit k0 → LeavesOnly moment left_since disk d1 (Image k0) → LeavesOnly moment left_since d1 d2 (Image k1)
-      → (EachShut k2 → LeavesOnly moment left_since d2 new (MakesRoot (spelling root) k2)) → LeavesOnly moment left_since disk new (MakingLeaves (empty_archive config) k0)
-  making_leaves moment left_since disk d1 d2 new fit looks lists makes =
+  pub making_leaves : {D : Type 0} (g : Disk D) (disk d1 d2 new : D) → ReadsFit k0 → LeavesOnly g disk d1 (Image k0) → LeavesOnly g d1 d2 (Image k1)
+      → (EachShut k2 → LeavesOnly g d2 new (MakesRoot (spelling root) k2)) → LeavesOnly g disk new (MakingLeaves (empty_archive config) k0)
+  making_leaves g disk d1 d2 new fit looks lists makes =
       let P = MakingLeaves (empty_archive config) k0 in
       let body = spelling (first_root_of config) in
-      let first = joined moment left_since disk d1 d2 (Image k0) (Image k1) P looks lists (λ image left. inl left) (λ image left. inl (synced_fewer k0 k1 image fit synced left)) in
-      let made : LeavesOnly moment left_since d2 new (MakesRoot body k2) =
-      subst (λ (r : Root). LeavesOnly moment left_since d2 new (MakesRoot (spelling r) k2)) root_is (makes (shut_unchanged k1 k2 same (shut_synced k0 k1 synced shut))) in
-      joined moment left_since disk d2 new P (MakesRoot body k2) P first made (λ image leaves. leaves) (λ image. makes_empty config k0 k2 image name valid (none_before k0 k1 k2 synced same) shut)
+      let first = joined g disk d1 d2 (Image k0) (Image k1) P looks lists (λ image left. inl left) (λ image left. inl (synced_fewer k0 k1 image fit synced left)) in
+      let made : LeavesOnly g d2 new (MakesRoot body k2) =
+      subst (λ (r : Root). LeavesOnly g d2 new (MakesRoot (spelling r) k2)) root_is (makes (shut_unchanged k1 k2 same (shut_synced k0 k1 synced shut))) in
+      joined g disk d2 new P (MakesRoot body k2) P first made (λ image leaves. leaves) (λ image. makes_empty config k0 k2 image name valid (none_before k0 k1 k2 synced same) shut)
 
 -- At the end only the root is there.
 pub makes_only : (config : Config) (root : Root) → root ≡ first_root_of config → (names listed : List FileName) → names ≡ listed → (k1 k2 k3 : Option Content) → BothTold Unchanged k1 k2 → WhereTold (AreAllNames listed) k1
@@ -187,8 +188,8 @@ makes_only config root root_is names listed names_are k1 k2 k3 same all done =
     subst (λ (r : Root). WhereTold (HasOnly (spelling r)) k3) root_is (done named (subst (λ (r : Root). 0 < r.sequence) (sym root_is) (omega arith)))
 
 -- A sync and a read after it leave what a crash before might have left.
-pub looking_leaves : {D : Type 0} (moment : D → ℕ) (left_since : D → ℕ → Files → Type 0) (disk mid new : D) (k0 k1 : Option Content) → ((image : Files) → left_since disk (moment disk) image → Image k0 image) → Elapses (moment disk) (moment mid) (left_since disk) (left_since mid) k1
-    → ((image : Files) → Image k1 image → Image k0 image) → LeavesOnly moment left_since mid new (Image k1) → LeavesOnly moment left_since disk new (Image k0)
-looking_leaves moment left_since disk mid new k0 k1 now time fewer looks =
-    let first = goes_on moment left_since disk disk mid (Image k0) k1 (started moment left_since disk (Image k0) now) time fewer in
-    joined moment left_since disk mid new (Image k0) (Image k1) (Image k0) first looks (λ image left. left) fewer
+pub looking_leaves : {D : Type 0} (g : Disk D) (disk mid new : D) (k0 k1 : Option Content) → ((image : Files) → g.left_since disk (g.moment disk) image → Image k0 image) → Elapses (g.moment disk) (g.moment mid) (g.left_since disk) (g.left_since mid) k1
+    → ((image : Files) → Image k1 image → Image k0 image) → LeavesOnly g mid new (Image k1) → LeavesOnly g disk new (Image k0)
+looking_leaves g disk mid new k0 k1 now time fewer looks =
+    let first = goes_on g disk disk mid (Image k0) k1 (started g disk (Image k0) now) time fewer in
+    joined g disk mid new (Image k0) (Image k1) (Image k0) first looks (λ image left. left) fewer

@@ -7,9 +7,10 @@ use Rattle.arch_base.specs.Configs.{IsConfig}
 use Rattle.arch_base.specs.declared.config.Config.{Config}
 use Rattle.root_slots.specs.declared.root.Place.{Place}
 use Rattle.root_slots.specs.Valid.{IsRoot, PlaceIsValid, no_place}
+use Rattle.disk_model.specs.declared.disk.Disk.{Ghosts as Disk}
 use Rattle.disk_model.specs.declared.name.FileName.{FileName}
-use Rattle.disk_model.specs.Moments.{joined, weaker}
-use Rattle.disk_model.specs.Disk.{LeavesOnly, File, Files, Kept, Content, Image, BothTold, WhereTold, MaySurvive, Survival, remove_sure, exact, bytes_of}
+use Rattle.disk_model.specs.Moments.{LeavesOnly, joined, weaker}
+use Rattle.disk_model.specs.Disk.{File, Files, Kept, Content, Image, BothTold, WhereTold, MaySurvive, Survival, remove_sure, exact, bytes_of}
 use Rattle.disk_model.specs.Laws.{MaySurvive-Within, MaySurvive-exact}
 use Rattle.store_finding.specs.Listing.{AreAllNames}
 use Rattle.store_finding.proofs.NameLists.{contains_or_not}
@@ -119,13 +120,13 @@ module _ (body : List ℕ) (names : List FileName) where
   told_through (Some k) (Some m) (Some n) (Some o) a b c = tt
 
 -- One more step; a disk that doesn't tell its content promises nothing for it.
-pub first_step : {D : Type 0} (moment : D → ℕ) (left_since : D → ℕ → Files → Type 0) (content : D → Option Content) (old mid begun new : D) (body : List ℕ) (names : List FileName) (k m n : Option Content) → BothTold (AreRemoved names) k m → BothTold IsBegun m n
-    → LeavesOnly moment left_since old begun (MakesRoot body k) → (EachRoot AreZeros n → LeavesOnly moment left_since begun new (ShutOrFirst body n)) → moment begun ≤ moment new → LeavesOnly moment left_since old new (MakesRoot body k)
-first_step moment left_since content old mid begun new body names None m n removed is_begun first last later = weaker moment left_since old new (λ image. Unit {0}) (MakesRoot body None) (record { later = (let a = first.later in omega (arith, a, later)); each = λ image left. tt; before = λ t image low left. inr tt }) (λ image left. left)
-first_step moment left_since content old mid begun new body names (Some k) None n removed is_begun first last later = absurd removed
-first_step moment left_since content old mid begun new body names (Some k) (Some m) None removed is_begun first last later = absurd is_begun
-first_step moment left_since content old mid begun new body names (Some k) (Some m) (Some n) removed is_begun first last later =
-    joined moment left_since old begun new (MakesRoot body (Some k)) (ShutOrFirst body (Some n)) (MakesRoot body (Some k)) first (last (zeros_each body names (Some m) (Some n) tt (λ none. (let wrong : Some m ≡ None = none in cc)) is_begun))
+pub first_step : {D : Type 0} (g : Disk D) (old mid begun new : D) (body : List ℕ) (names : List FileName) (k m n : Option Content) → BothTold (AreRemoved names) k m → BothTold IsBegun m n
+    → LeavesOnly g old begun (MakesRoot body k) → (EachRoot AreZeros n → LeavesOnly g begun new (ShutOrFirst body n)) → g.moment begun ≤ g.moment new → LeavesOnly g old new (MakesRoot body k)
+first_step g old mid begun new body names None m n removed is_begun first last later = weaker g old new (λ image. Unit {0}) (MakesRoot body None) (record { later = (let a = first.later in omega (arith, a, later)); each = λ image left. tt; before = λ t image low left. inr tt }) (λ image left. left)
+first_step g old mid begun new body names (Some k) None n removed is_begun first last later = absurd removed
+first_step g old mid begun new body names (Some k) (Some m) None removed is_begun first last later = absurd is_begun
+first_step g old mid begun new body names (Some k) (Some m) (Some n) removed is_begun first last later =
+    joined g old begun new (MakesRoot body (Some k)) (ShutOrFirst body (Some n)) (MakesRoot body (Some k)) first (last (zeros_each body names (Some m) (Some n) tt (λ none. (let wrong : Some m ≡ None = none in cc)) is_begun))
     (λ image makes. makes)
     (λ image. first_made body names (Some k) (Some m) (Some n) image removed is_begun)
 

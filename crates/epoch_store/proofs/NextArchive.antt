@@ -1,10 +1,11 @@
 -- An archive that comes after another one, by a root that names its parts.
 use Rattle.std.specs.Prelude.{◌≡◌, ◌⊎◌, ◌-◌, ℕ, List, [], length, Option, Some, None}
 use Rattle.std.proofs.Common.{sym, subst, inl, inr}
+use Rattle.disk_model.specs.declared.disk.Disk.{Ghosts as Disk}
 use Rattle.disk_model.specs.declared.name.FileKind.{FileKind}
 use Rattle.disk_model.specs.declared.name.FileKind.TheVariants as kind
-use Rattle.disk_model.specs.Disk.{Files, Content, LeavesOnly}
-use Rattle.disk_model.specs.Moments.{weaker}
+use Rattle.disk_model.specs.Disk.{Files, Content}
+use Rattle.disk_model.specs.Moments.{LeavesOnly, weaker}
 use Rattle.arch_model.specs.Archives.{Archive}
 use Rattle.arch_model.specs.Validity.{IsArchive}
 use Rattle.root_slots.specs.declared.root.Root.{Root}
@@ -54,11 +55,11 @@ module _ (After : Root → Type 0) (parts : Parts) (cache : List ℕ) (b : Archi
     }
 
   -- What a crash leaves of a store's own disk, or of the next archive.
-  pub next_leaves : {D : Type 0} (moment : D → ℕ) (left_since : D → ℕ → Files → Type 0) (disk new : D) (v : StoreState) (old : List ℕ) (a : Archive) (k : Option Content) → IsStoreWith v old a k
-      → LeavesOnly moment left_since disk new (λ image. RecoversParts v.root (parts_of a old) image ⊎ ((made : Root) × After made × RecoversParts made parts image)) → LeavesOnly moment left_since disk new (RecoversOneOf old a cache b)
-  next_leaves moment left_since disk new v old a k store leaves =
+  pub next_leaves : {D : Type 0} (g : Disk D) (disk new : D) (v : StoreState) (old : List ℕ) (a : Archive) (k : Option Content) → IsStoreWith v old a k
+      → LeavesOnly g disk new (λ image. RecoversParts v.root (parts_of a old) image ⊎ ((made : Root) × After made × RecoversParts made parts image)) → LeavesOnly g disk new (RecoversOneOf old a cache b)
+  next_leaves g disk new v old a k store leaves =
       let keeps = store_keeps v old a k store in
-      weaker moment left_since disk new _ (RecoversOneOf old a cache b) leaves (λ image either. elim either [
+      weaker g disk new _ (RecoversOneOf old a cache b) leaves (λ image either. elim either [
         | inl by ↦ inl (v.root, record { valid = keeps.valid; names = keeps.names; cache_long = store_cache v old a k store; stands = by.stands })
         | inr r ↦ inr (recovers_next r.0 r.1 image r.2)
       ])

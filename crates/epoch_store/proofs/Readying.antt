@@ -2,9 +2,10 @@
 use Rattle.std.specs.Prelude.{◌≡◌, ◌≢◌, ◌⊎◌, ◌+◌, ◌-◌, ◌<◌, ◌≤◌, ℕ, zero, suc, true, false, List, [], ◌∷◌, ◌++◌, length, take, drop, Option, Some, None, refl}
 use Rattle.std.proofs.Common.{◌∙◌, sym, ap, subst, inl, inr, arith, length-append}
 use Rattle.std.proofs.lemmas.List.{length-take-le, take-append-le, take_at, drop_at, drop-drop}
-use Rattle.disk_model.specs.Disk.{File, Files, Kept, Content, Image, BothTold, WhereTold, Unchanged, MaySurvive, Within, LeavesOnly, exact, bytes_of, overlay, ReadsFit}
+use Rattle.disk_model.specs.declared.disk.Disk.{Ghosts as Disk}
+use Rattle.disk_model.specs.Disk.{File, Files, Kept, Content, Image, BothTold, WhereTold, Unchanged, MaySurvive, Within, exact, bytes_of, overlay, ReadsFit}
 use Rattle.disk_model.specs.Laws.{SameOutside, overlay-torn, overlay-size, overlay-inside, MaySurvive-exact, MaySurvive-Within}
-use Rattle.disk_model.specs.Moments.{weaker}
+use Rattle.disk_model.specs.Moments.{LeavesOnly, weaker}
 use Rattle.disk_model.specs.Synced.{WritingLeaves, IsWritten, IsSettled}
 use Rattle.disk_model.specs.Tells.{told_weaker, told_where}
 use Rattle.root_slots.specs.Between.{BetweenStays, RunsBetween, WentBetween, crash_between, between_writing, joined_between, looks_between, went_settled, went_then, went_unchanged, went_written}
@@ -208,20 +209,20 @@ fill_went slot low body k m n whole fit size same written =
     went_then k m n (went_unchanged k m same)
     (went_written (body_offset (1 - slot)) body m n (inl (omega arith)) (omega (arith, whole, low)) fit (size_still k m same size) written)
 
-pub fill_between : {D : Type 0} (content : D → Option Content) (moment : D → ℕ) (left_since : D → ℕ → Files → Type 0) (slot : ℕ) → slot < 2 → (disk mid new : D) → ReadsFit (content mid) → WhereTold HasRootSize (content disk) → BothTold Unchanged (content disk) (content mid) → LeavesOnly moment left_since disk mid (Image (content disk))
-    → LeavesOnly moment left_since mid new (WritingLeaves root_name (body_offset (1 - slot)) 1536 (content mid)) → RunsBetween content moment left_since disk new
-fill_between content moment left_since slot low disk mid new fit size same looks writes =
-    joined_between content moment left_since disk mid new (looks_between content moment left_since disk mid looks) (went_unchanged (content disk) (content mid) same)
-    (weaker moment left_since mid new (WritingLeaves root_name (body_offset (1 - slot)) 1536 (content mid)) (BetweenStays (content mid)) writes
-    (λ image. between_writing (body_offset (1 - slot)) 1536 (content mid) image (inl (omega arith)) (omega arith) (omega (arith, low)) fit (size_still (content disk) (content mid) same size)))
+pub fill_between : {D : Type 0} (g : Disk D) (slot : ℕ) → slot < 2 → (disk mid new : D) → ReadsFit (g.content mid) → WhereTold HasRootSize (g.content disk) → BothTold Unchanged (g.content disk) (g.content mid) → LeavesOnly g disk mid (Image (g.content disk))
+    → LeavesOnly g mid new (WritingLeaves root_name (body_offset (1 - slot)) 1536 (g.content mid)) → RunsBetween g disk new
+fill_between g slot low disk mid new fit size same looks writes =
+    joined_between g disk mid new (looks_between g disk mid looks) (went_unchanged (g.content disk) (g.content mid) same)
+    (weaker g mid new (WritingLeaves root_name (body_offset (1 - slot)) 1536 (g.content mid)) (BetweenStays (g.content mid)) writes
+    (λ image. between_writing (body_offset (1 - slot)) 1536 (g.content mid) image (inl (omega arith)) (omega arith) (omega (arith, low)) fit (size_still (g.content disk) (g.content mid) same size)))
 
 -- The same while files are read, and in what comes after it.
-pub read_between : {D : Type 0} (content : D → Option Content) (moment : D → ℕ) (left_since : D → ℕ → Files → Type 0) (disk mid new : D) → BothTold Unchanged (content disk) (content mid) → LeavesOnly moment left_since disk mid (Image (content disk)) → RunsBetween content moment left_since mid new → RunsBetween content moment left_since disk new
-read_between content moment left_since disk mid new same looks run =
-    joined_between content moment left_since disk mid new (looks_between content moment left_since disk mid looks) (went_unchanged (content disk) (content mid) same) run
+pub read_between : {D : Type 0} (g : Disk D) (disk mid new : D) → BothTold Unchanged (g.content disk) (g.content mid) → LeavesOnly g disk mid (Image (g.content disk)) → RunsBetween g mid new → RunsBetween g disk new
+read_between g disk mid new same looks run =
+    joined_between g disk mid new (looks_between g disk mid looks) (went_unchanged (g.content disk) (g.content mid) same) run
 
 -- While a disk is synced, and in what comes after it.
-pub synced_between : {D : Type 0} (content : D → Option Content) (moment : D → ℕ) (left_since : D → ℕ → Files → Type 0) (disk mid new : D) → ReadsFit (content disk) → BothTold IsOnlySynced (content disk) (content mid) → LeavesOnly moment left_since disk mid (Image (content disk)) → RunsBetween content moment left_since mid new → RunsBetween content moment left_since disk new
-synced_between content moment left_since disk mid new fit synced looks run =
-    joined_between content moment left_since disk mid new (looks_between content moment left_since disk mid looks)
-    (told_weaker IsOnlySynced WentBetween (content disk) (content mid) (λ a b is told one. went_settled a b (λ k same. fit k (is ∙ same)) one.settled (ap (λ (f : File). crash_between (bytes_of f)) (one.seen root_name))) synced) run
+pub synced_between : {D : Type 0} (g : Disk D) (disk mid new : D) → ReadsFit (g.content disk) → BothTold IsOnlySynced (g.content disk) (g.content mid) → LeavesOnly g disk mid (Image (g.content disk)) → RunsBetween g mid new → RunsBetween g disk new
+synced_between g disk mid new fit synced looks run =
+    joined_between g disk mid new (looks_between g disk mid looks)
+    (told_weaker IsOnlySynced WentBetween (g.content disk) (g.content mid) (λ a b is told one. went_settled a b (λ k same. fit k (is ∙ same)) one.settled (ap (λ (f : File). crash_between (bytes_of f)) (one.seen root_name))) synced) run

@@ -3,10 +3,11 @@ use Rattle.std.specs.Prelude.{◌≡◌, ◌⊎◌, ◌-◌, ℕ, List, length, 
 use Rattle.std.specs.List.{Contains}
 use Rattle.std.proofs.Common.{◌∙◌, sym, ap, subst, inl, inr}
 use Rattle.store_finding.specs.Listing.{AreAllNames}
+use Rattle.disk_model.specs.declared.disk.Disk.{Ghosts as Disk}
 use Rattle.disk_model.specs.declared.name.FileName.{FileName}
-use Rattle.disk_model.specs.Disk.{File, Files, Content, Image, BothTold, WhereTold, Unchanged, LeavesOnly, bytes_of}
+use Rattle.disk_model.specs.Disk.{File, Files, Content, Image, BothTold, WhereTold, Unchanged, bytes_of}
 use Rattle.disk_model.specs.Images.{same_or_other}
-use Rattle.disk_model.specs.Moments.{joined}
+use Rattle.disk_model.specs.Moments.{LeavesOnly, joined}
 use Rattle.disk_model.specs.Synced.{settled_image}
 use Rattle.disk_model.specs.Tells.{told_then}
 use Rattle.root_slots.specs.declared.root.Root.{Root}
@@ -79,10 +80,10 @@ found_image root slot texts (Some k) image found left =
     subst (StandsFor root texts) (sym one) found.stands
 
 -- What a crash leaves while files are listed and the disk is then swept.
-pub settling_leaves : (root : Root) (slot : ℕ) (texts : Texts) (k : Option Content) → FoundOn root slot texts k → {D : Type 0} (moment : D → ℕ) (left_since : D → ℕ → Files → Type 0) (disk mid new : D) → LeavesOnly moment left_since disk mid (Image k) → LeavesOnly moment left_since mid new (StandsFor root texts)
-    → LeavesOnly moment left_since disk new (StandsFor root texts)
-settling_leaves root slot texts k found moment left_since disk mid new lists sweeps =
-    joined moment left_since disk mid new (Image k) (StandsFor root texts) (StandsFor root texts) lists sweeps (λ image. found_image root slot texts k image found) (λ image stands. stands)
+pub settling_leaves : (root : Root) (slot : ℕ) (texts : Texts) (k : Option Content) → FoundOn root slot texts k → {D : Type 0} (g : Disk D) (disk mid new : D) → LeavesOnly g disk mid (Image k) → LeavesOnly g mid new (StandsFor root texts)
+    → LeavesOnly g disk new (StandsFor root texts)
+settling_leaves root slot texts k found g disk mid new lists sweeps =
+    joined g disk mid new (Image k) (StandsFor root texts) (StandsFor root texts) lists sweeps (λ image. found_image root slot texts k image found) (λ image stands. stands)
 
 module _ (root : Root) (slot : ℕ) (names : List FileName) where
   -- The listed files after both.

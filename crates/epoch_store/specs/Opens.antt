@@ -1,8 +1,10 @@
 -- The results of opening an archive, and what they leave.
 use Rattle.std.specs.Prelude.{◌≡◌, ◌⊎◌, ℕ, List, [], Option, Some, None, Result, Ok, Err}
 use Rattle.std.specs.List.{Contains}
+use Rattle.disk_model.specs.declared.disk.Disk.{Ghosts as Disk}
 use Rattle.disk_model.specs.declared.name.FileName.{FileName}
-use Rattle.disk_model.specs.Disk.{Files, Content, Image, BothTold, LeavesOnly}
+use Rattle.disk_model.specs.Disk.{Files, Content, Image, BothTold}
+use Rattle.disk_model.specs.Moments.{LeavesOnly}
 use Rattle.disk_model.specs.Synced.{IsSettled}
 use Rattle.arch_model.specs.Archives.{Archive}
 use Rattle.arch_model.specs.declared.opening.OpenRefusal.{OpenRefusal}
@@ -105,28 +107,25 @@ OpensNone (Some k) = (v : StoreState) → IsOpenedIn (as_read k) v → ⊥
 -- The disk was synced before anything else was done. Until then a crash leaves what it might have left
 -- before, and from then on what is said of the archive as which the files read and of its cache. Where
 -- nothing can be opened it then leaves the files as they read.
-pub record SyncsThen {D : Type 0} (content : D → Option Content) (moment : D → ℕ)
-    (left_since : D → ℕ → Files → Type 0) (leaves : List ℕ → Archive → Files → Type 0) (old new : D)
+pub record SyncsThen {D : Type 0} (g : Disk D) (leaves : List ℕ → Archive → Files → Type 0)
+    (old new : D)
     : Type 0 where
   pub synced : D
-  pub only : BothTold IsOnlySynced (content old) (content synced)
-  pub before : LeavesOnly moment left_since old synced (Image (content old))
-  pub after : (a : Archive) (cache : List ℕ) → ReadsWith cache a (content old)
-      → LeavesOnly moment left_since synced new (leaves cache a)
-  pub none : OpensNone (content old)
-      → LeavesOnly moment left_since synced new (Image (content synced))
+  pub only : BothTold IsOnlySynced (g.content old) (g.content synced)
+  pub before : LeavesOnly g old synced (Image (g.content old))
+  pub after : (a : Archive) (cache : List ℕ) → ReadsWith cache a (g.content old)
+      → LeavesOnly g synced new (leaves cache a)
+  pub none : OpensNone (g.content old) → LeavesOnly g synced new (Image (g.content synced))
 
 -- From the sync on a crash leaves what stands for the archive as which the files read.
-abbrev pub SyncsFirst : {D : Type 0} → (D → Option Content) → (D → ℕ) → (D → ℕ → Files → Type 0) → D
-    → D → Type 0
-SyncsFirst content moment left_since old new =
-    SyncsThen content moment left_since (λ cache a image. RecoversWith cache image a) old new
+abbrev pub SyncsFirst : {D : Type 0} → Disk D → D → D → Type 0
+SyncsFirst g old new =
+    SyncsThen g (λ cache a image. RecoversWith cache image a) old new
 
 -- Nothing was done but to sync the disk, or it was synced first.
-abbrev pub SyncsAtMost : {D : Type 0} → (D → Option Content) → (D → ℕ) → (D → ℕ → Files → Type 0) → D
-    → D → Type 0
-SyncsAtMost content moment left_since old new = LeavesOnly moment left_since old new (Image (content old))
-    ⊎ SyncsFirst content moment left_since old new
+abbrev pub SyncsAtMost : {D : Type 0} → Disk D → D → D → Type 0
+SyncsAtMost g old new = LeavesOnly g old new (Image (g.content old))
+    ⊎ SyncsFirst g old new
 
 -- What holds after any result but a fault of the disk, which may come before the sync.
 abbrev pub OnSynced : {T : Type 0} → Result T OpenRefusal → Type 0 → Type 0

@@ -3,8 +3,10 @@ use Rattle.std.specs.Prelude.{◌≡◌, ◌+◌, ◌-◌, ◌<◌, ◌≤◌, �
 use Rattle.arch_base.specs.Counts.{RoseIf}
 use Rattle.arch_base.specs.declared.config.Config.{Config}
 use Rattle.arch_base.specs.declared.ids.Id20.{Id20}
+use Rattle.disk_model.specs.declared.disk.Disk.{Ghosts as Disk}
 use Rattle.disk_model.specs.declared.name.FileName.{FileName}
-use Rattle.disk_model.specs.Disk.{Files, Content, BothTold, WhereTold, LeavesOnly}
+use Rattle.disk_model.specs.Disk.{Content, BothTold, WhereTold}
+use Rattle.disk_model.specs.Moments.{LeavesOnly}
 use Rattle.disk_model.specs.Synced.{IsSettled}
 use Rattle.git_objects.specs.Objects.{blob_id_of}
 use Rattle.arch_model.specs.Archives.{Archive, empty_archive, live, messages, text_of, with_deletion, with_entry, without_entries}
@@ -35,22 +37,22 @@ use Rattle.store_planning.specs.Dropping.{SeesNoDamage}
 -- is by the root file as it reads, and an error comes before anything is changed. After `Ok` the
 -- disk is the archive's own, its root is the first one and in slot 0, and all that reads give is on
 -- the disk. It fails only if the count of faults rose.
-pub record MakesArchive {D : Type 0} (content : D → Option Content) (moment : D → ℕ)
-    (left_since : D → ℕ → Files → Type 0) (faults : D → ℕ) (old new : D) (config : Config)
+pub record MakesArchive {D : Type 0} (g : Disk D) (old new : D) (config : Config)
     (result : Result StoreState InitRefusal) : Type 0 where
-  pub crash : LeavesOnly moment left_since old new
-      (MakingLeaves (empty_archive config) (content old))
-  pub answer : WhereTold (MakingAnswers result) (content old)
-  pub refused : RefusesToMake result (content old) (content new)
-  pub done : IfOk result (λ (v : StoreState). WhereTold (IsDiskOf v (empty_archive config)) (content new))
-  pub settled : OnOk result (WhereTold IsSettled (content new))
-  pub sizes : IfOk result (λ (v : StoreState). WhereTold (StoreHasSizes v) (content new))
+  pub crash : LeavesOnly g old new (MakingLeaves (empty_archive config) (g.content old))
+  pub answer : WhereTold (MakingAnswers result) (g.content old)
+  pub refused : RefusesToMake result (g.content old) (g.content new)
+  pub done : IfOk result (λ (v : StoreState). WhereTold (IsDiskOf v (empty_archive config))
+      (g.content new))
+  pub settled : OnOk result (WhereTold IsSettled (g.content new))
+  pub sizes : IfOk result (λ (v : StoreState). WhereTold (StoreHasSizes v) (g.content new))
   pub first : IfOk result (λ (v : StoreState). v.root.sequence ≡ 1)
   pub slot : IfOk result (λ (v : StoreState). v.slot ≡ 0)
   pub none : IfOk result (λ (v : StoreState). v.entries ≡ [])
-  pub cause : RoseIf (result ≡ Err making.DiskFault) (faults old) (faults new)
+  pub cause : RoseIf (result ≡ Err making.DiskFault) (g.faults old) (g.faults new)
   -- The root file has the first root, and is otherwise zeros.
-  pub rooted : OnOk result (WhereTold (HasFirstRoot (spelling (first_root_of config))) (content new))
+  pub rooted : OnOk result (WhereTold (HasFirstRoot (spelling (first_root_of config)))
+      (g.content new))
 
 -- The archive on a disk is opened, with whatever cache. At each moment a crash leaves an archive
 -- that might have been there before. The answer is by the files as they read, and no archive is
@@ -58,25 +60,24 @@ pub record MakesArchive {D : Type 0} (content : D → Option Content) (moment : 
 -- as which the files read, or, where nothing can be opened, the files as they read. After `Ok` the disk
 -- is the archive's own. Whatever it held, all bytes that count stay, no other file is left, no root is
 -- committed, and all that reads give is on the disk. It fails only if the count of faults rose.
-pub record OpensArchive {D : Type 0} (content : D → Option Content) (moment : D → ℕ)
-    (left_since : D → ℕ → Files → Type 0) (faults : D → ℕ) (old new : D)
+pub record OpensArchive {D : Type 0} (g : Disk D) (old new : D)
     (result : Result StoreState OpenRefusal) : Type 0 where
   pub crash : (may : List (Option Archive)) (cache : List ℕ)
-      → AllRecoverWith cache may (content old)
-      → LeavesOnly moment left_since old new (RecoversOfWith cache may)
-  pub answer : WhereTold (λ (k : Content). OpensFiles (as_read k) result) (content old)
-  pub done : (a : Archive) (cache : List ℕ) → ReadsWith cache a (content old)
-      → IfOk result (λ (v : StoreState). IsStoreWith v cache a (content new))
-  pub well : (a : Archive) (cache : List ℕ) → ReadsWith cache a (content old) → OpensWell result
-  pub first : OnSynced result (SyncsFirst content moment left_since old new)
-  pub before : SyncsAtMost content moment left_since old new
-  pub settled : OnOk result (WhereTold IsSettled (content new))
-  pub kept : IfOk result (λ (v : StoreState). BothTold (IsSettledBy v.root v.slot) (content old)
-      (content new))
-  pub sizes : IfOk result (λ (v : StoreState). WhereTold (StoreHasSizes v) (content new))
-  pub cause : RoseIf (result ≡ Err opening.DiskFault) (faults old) (faults new)
+      → AllRecoverWith cache may (g.content old)
+      → LeavesOnly g old new (RecoversOfWith cache may)
+  pub answer : WhereTold (λ (k : Content). OpensFiles (as_read k) result) (g.content old)
+  pub done : (a : Archive) (cache : List ℕ) → ReadsWith cache a (g.content old)
+      → IfOk result (λ (v : StoreState). IsStoreWith v cache a (g.content new))
+  pub well : (a : Archive) (cache : List ℕ) → ReadsWith cache a (g.content old) → OpensWell result
+  pub first : OnSynced result (SyncsFirst g old new)
+  pub before : SyncsAtMost g old new
+  pub settled : OnOk result (WhereTold IsSettled (g.content new))
+  pub kept : IfOk result (λ (v : StoreState). BothTold (IsSettledBy v.root v.slot) (g.content old)
+      (g.content new))
+  pub sizes : IfOk result (λ (v : StoreState). WhereTold (StoreHasSizes v) (g.content new))
+  pub cause : RoseIf (result ≡ Err opening.DiskFault) (g.faults old) (g.faults new)
   -- At each moment the bytes of the root file between its gates and its bodies are as before.
-  pub crash_between : RunsBetween content moment left_since old new
+  pub crash_between : RunsBetween g old new
 
 -- How a command changes the files of an archive: it appends to them, or writes some of them anew.
 pub data WriteKind : Type 0 where
@@ -94,11 +95,10 @@ GoesOnBy Appends old new = RootGoesOn old new
 GoesOnBy Renews old new = GoesOnAnew old new
 
 -- What was done where nothing was written: nothing at all, or files were only read.
-abbrev pub StaysBy : {D : Type 0} → WriteKind → (D → Option Content) → (D → ℕ)
-    → (D → ℕ → Files → Type 0) → (D → ℕ) → D → D → Type 0
-StaysBy Appends content moment left_since faults old new = new ≡ old
-StaysBy Renews content moment left_since faults old new =
-    OnlyReads content moment left_since faults old new
+abbrev pub StaysBy : {D : Type 0} → WriteKind → Disk D → D → D → Type 0
+StaysBy Appends g old new = new ≡ old
+StaysBy Renews g old new =
+    OnlyReads g old new
 
 -- Where no damage is found: anywhere, if nothing is read, and else on a store's own disk.
 abbrev pub UndamagedBy : {T : Type 0} → WriteKind → StoreState → Result T StoreRefusal
@@ -146,29 +146,28 @@ pub record Replaces (blob : Id20) (text : List ℕ) (arrived : ℕ) (a b : Archi
 -- memory; but for a fault it comes before anything is written, where the disk tells its content. It fails
 -- only if the count of faults rose. Damage is told with the place of an entry that was kept and whose text
 -- isn't there, or with a file that is shorter than the root says.
-pub record ChangesStore {D : Type 0} (content : D → Option Content) (moment : D → ℕ)
-    (left_since : D → ℕ → Files → Type 0) (faults reads : D → ℕ) (old new : D) (before after : StoreState)
+pub record ChangesStore {D : Type 0} (g : Disk D) (old new : D) (before after : StoreState)
     (way : WriteKind) (Makes : Archive → Archive → Type 0) (result : Result (Unit {0}) StoreRefusal)
     : Type 0 where
-  pub crash : (a b : Archive) (cache : List ℕ) → IsStoreWith before cache a (content old)
+  pub crash : (a b : Archive) (cache : List ℕ) → IsStoreWith before cache a (g.content old)
       → before.root.sequence + 1 < 2 ^ 64 → Makes a b
-      → LeavesOnly moment left_since old new (RecoversOneOf cache a (cache_by way cache) b)
-  pub done : (a b : Archive) (cache : List ℕ) → IsStoreWith before cache a (content old)
+      → LeavesOnly g old new (RecoversOneOf cache a (cache_by way cache) b)
+  pub done : (a b : Archive) (cache : List ℕ) → IsStoreWith before cache a (g.content old)
       → before.root.sequence + 1 < 2 ^ 64 → Makes a b
-      → OnOk result (IsStoreWith after (cache_by way cache) b (content new))
-  pub settled : OnOk result (WhereTold IsSettled (content new))
-  pub sizes : OnOk result (WhereTold (StoreHasSizes after) (content new))
+      → OnOk result (IsStoreWith after (cache_by way cache) b (g.content new))
+  pub settled : OnOk result (WhereTold IsSettled (g.content new))
+  pub sizes : OnOk result (WhereTold (StoreHasSizes after) (g.content new))
   pub goes_on : OnOk result (GoesOnBy way before.root after.root)
   pub slot : OnOk result (after.slot ≡ 1 - before.slot)
   pub same : OnErr result (after ≡ before)
-  pub untouched : UnlessFailed result (StaysBy way content moment left_since faults old new)
-  pub undamaged : UndamagedBy way before result (content old)
-  pub cause : RoseIf (result ≡ Err refusal.DiskFault) (faults old) (faults new)
-  pub count : ReadsByKind way (reads old) (reads new)
+  pub untouched : UnlessFailed result (StaysBy way g old new)
+  pub undamaged : UndamagedBy way before result (g.content old)
+  pub cause : RoseIf (result ≡ Err refusal.DiskFault) (g.faults old) (g.faults new)
+  pub count : ReadsByKind way (g.reads old) (g.reads new)
   -- The root file has the new root in its slot, whose gate is open, and is otherwise as it was.
   pub rooted : OnOk result
-      (BothTold (HasNewRoot after.slot (spelling after.root)) (content old) (content new))
+      (BothTold (HasNewRoot after.slot (spelling after.root)) (g.content old) (g.content new))
   -- At each moment its bytes between the gates and the bodies are as before.
-  pub crash_between : RunsBetween content moment left_since old new
+  pub crash_between : RunsBetween g old new
   pub damage : IfDamaged result
-      (λ (file : FileName) (at : ℕ). IsDamageIn before file at (content old))
+      (λ (file : FileName) (at : ℕ). IsDamageIn before file at (g.content old))

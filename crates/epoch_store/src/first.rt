@@ -2,7 +2,8 @@
 //! Writes the disk; syncs.
 ghost use Rattle.std.specs.Prelude.{◌≡◌, ◌≢◌, ◌<◌, ◌≤◌, Err, IfOk, OnOk};
 ghost use Rattle.arch_base.specs.Counts.{RoseIf, HasCause};
-ghost use Rattle.disk_model.specs.Disk.{Image, BothTold, WhereTold, Unchanged, Synced, LeavesOnly};
+ghost use Rattle.disk_model.specs.Disk.{Image, BothTold, WhereTold, Unchanged, Synced};
+ghost use Rattle.disk_model.specs.Moments.{LeavesOnly};
 ghost use Rattle.root_slots.specs.Each.{EachRoot};
 ghost use Rattle.root_slots.specs.Slots.{HasNewRoot, HasRootSize, Ready, IsCommitted};
 ghost use Rattle.root_slots.specs.Spelling.{spelling};
@@ -54,7 +55,7 @@ pub fn first_root(config: &Config) -> Root
 pub fn make<D: Disk>(disk: &mut D, names: &[FileName], root: &Root) -> Result<(), DiskFault>
     requires root { IsRoot root.now }
     // If no crash leaves an open slot before, at each moment a crash leaves none, or the root.
-    ensures crash { EachShut (D.content disk.old) → LeavesOnly D.moment D.left_since disk.old
+    ensures crash { EachShut (D.content disk.old) → LeavesOnly D.Disk disk.old
         disk.new (MakesRoot (spelling root.now) (D.content disk.old)) }
     // After `Ok` a crash leaves the root, the other slot is ready, and there is no other file.
     ensures done { WhereTold (AreAllNames names.now) (D.content disk.old) → 0 < root.now.sequence
@@ -74,7 +75,7 @@ pub fn make<D: Disk>(disk: &mut D, names: &[FileName], root: &Root) -> Result<()
 pub fn raise_first<D: Disk>(disk: &mut D, root: &Root) -> Result<(), DiskFault>
     requires size { WhereTold HasRootSize (D.content disk.old) }
     requires root { IsRoot root.now }
-    ensures crash { EachRoot AreZeros (D.content disk.old) → LeavesOnly D.moment D.left_since
+    ensures crash { EachRoot AreZeros (D.content disk.old) → LeavesOnly D.Disk
         disk.old disk.new (ShutOrFirst (spelling root.now) (D.content disk.old)) }
     ensures time { D.moment disk.old ≤ D.moment disk.new }
     ensures done { EachRoot AreZeros (D.content disk.old) → 0 < root.now.sequence
@@ -94,8 +95,7 @@ pub fn raise_first<D: Disk>(disk: &mut D, root: &Root) -> Result<(), DiskFault>
 ///
 /// `Exists` comes exactly if a slot is open. Nothing is done but the sync.
 pub fn no_archive<D: Disk>(disk: &mut D) -> Result<(), InitRefusal>
-    ensures crash { LeavesOnly D.moment D.left_since disk.old disk.new
-        (Image (D.content disk.old)) }
+    ensures crash { LeavesOnly D.Disk disk.old disk.new (Image (D.content disk.old)) }
     ensures answer { WhereTold (MakingAnswers result) (D.content disk.old) }
     ensures synced { OnOk result (BothTold Synced (D.content disk.old) (D.content disk.new)) }
     ensures refused { RefusesToMake result (D.content disk.old) (D.content disk.new) }
@@ -114,8 +114,7 @@ pub fn no_archive<D: Disk>(disk: &mut D) -> Result<(), InitRefusal>
 pub fn all_names<D: Disk>(alloc: Global, disk: &mut D) -> Result<FileNames, InitRefusal>
     ensures names { IfOk result (λ names. WhereTold (AreAllNames names) (D.content disk.old)) }
     ensures same { BothTold Unchanged (D.content disk.old) (D.content disk.new) }
-    ensures crash { LeavesOnly D.moment D.left_since disk.old disk.new
-        (Image (D.content disk.old)) }
+    ensures crash { LeavesOnly D.Disk disk.old disk.new (Image (D.content disk.old)) }
     ensures cause { RoseIf (result ≡ Err InitRefusal.DiskFault) (D.faults disk.old) (D.faults disk.new) }
     ensures none { result ≢ Err InitRefusal.Exists }
 {

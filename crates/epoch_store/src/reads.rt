@@ -3,7 +3,8 @@
 ghost use Rattle.std.specs.Prelude.{◌≡◌, ◌≤◌, ◌<◌, ◌+◌, ℕ, List, Err, Some, length, slice_get};
 ghost use Rattle.arch_base.specs.Counts.{RoseIf};
 ghost use Rattle.arch_model.specs.Archives.{Archive};
-ghost use Rattle.disk_model.specs.Disk.{Image, BothTold, WhereTold, Unchanged, LeavesOnly};
+ghost use Rattle.disk_model.specs.Disk.{Image, BothTold, WhereTold, Unchanged};
+ghost use Rattle.disk_model.specs.Moments.{LeavesOnly};
 ghost use Rattle.arch_model.specs.declared.text_refusal.TextRefusal.{TextRefusal};
 ghost use Rattle.disk_model.specs.Sizes.{greatest_epoch};
 ghost use Rattle.store_finding.specs.declared.entries.StoredEntry.{StoredEntry};
@@ -96,8 +97,7 @@ impl Store {
             → IsStoreWith self.now cache a (D.content disk.old)
             → GivesTextOf a index into.old into.new result }
         ensures same { BothTold Unchanged (D.content disk.old) (D.content disk.new) }
-        ensures crash { LeavesOnly D.moment D.left_since disk.old disk.new
-            (Image (D.content disk.old)) }
+        ensures crash { LeavesOnly D.Disk disk.old disk.new (Image (D.content disk.old)) }
         ensures cause { RoseIf (result ≡ Err TextRefusal.DiskFault) (D.faults disk.old)
             (D.faults disk.new) }
         ensures fewest { D.reads disk.old ≤ D.reads disk.new }

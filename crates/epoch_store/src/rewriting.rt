@@ -59,7 +59,7 @@ impl Store {
     ) -> Result<(), StoreRefusal>
         requires may { (number : ℕ) × MayPurge self.old number blob.now }
         requires sizes { WhereTold (StoreHasSizes self.old) (D.content disk.old) }
-        ensures changes { ChangesStore D.content D.moment D.left_since D.faults D.reads disk.old disk.new
+        ensures changes { ChangesStore D.Disk disk.old disk.new
             self.old self.new Renews (Drops blob.now) result }
         ensures dropped { OnOk result (DropsEntries self.old self.new blob.now) }
         ensures kept_files { OnOk result (KeepsFiles self.old self.new blob.now) }
@@ -90,7 +90,7 @@ impl Store {
         requires ids { ids.now ≡ text_ids_of text.now }
         requires moment { moment ≤ last_moment }
         requires sizes { WhereTold (StoreHasSizes self.old) (D.content disk.old) }
-        ensures changes { ChangesStore D.content D.moment D.left_since D.faults D.reads disk.old disk.new
+        ensures changes { ChangesStore D.Disk disk.old disk.new
             self.old self.new Renews (Replaces old.now text.now moment) result }
         ensures edited { OnOk result (EditsEntries self.old self.new old.now text.now) }
         ensures kept_files { OnOk result (EditsFiles self.old self.new old.now) }
@@ -115,7 +115,7 @@ impl Store {
         ensures undamaged { PlansUndamaged self.now result (D.content disk.old) }
         ensures damage { IfDamaged result (λ file at.
             IsDamagedEntry self.now file at (D.content disk.old)) }
-        ensures reads { OnlyReads D.content D.moment D.left_since D.faults disk.old disk.new }
+        ensures reads { OnlyReads D.Disk disk.old disk.new }
         ensures fewest { D.reads disk.old ≤ D.reads disk.new }
         ensures cause { RoseIf (result ≡ Err StoreRefusal.DiskFault) (D.faults disk.old)
             (D.faults disk.new) }
@@ -149,7 +149,7 @@ impl Store {
         ensures undamaged { PlansUndamaged self.now result (D.content disk.old) }
         ensures damage { IfDamaged result (λ file at.
             IsDamagedEntry self.now file at (D.content disk.old)) }
-        ensures reads { OnlyReads D.content D.moment D.left_since D.faults disk.old disk.new }
+        ensures reads { OnlyReads D.Disk disk.old disk.new }
         ensures fewest { D.reads disk.old ≤ D.reads disk.new }
         ensures cause { RoseIf (result ≡ Err StoreRefusal.DiskFault) (D.faults disk.old)
             (D.faults disk.new) }
@@ -264,7 +264,7 @@ impl Store {
         requires epochs { InEpochs planned.entries }
         requires named { AreNamedAfter self.old.root planned.plans planned.entries }
         requires sizes { WhereTold (StoreHasSizes self.old) (D.content disk.old) }
-        ensures changes { ChangesStore D.content D.moment D.left_since D.faults D.reads disk.old disk.new
+        ensures changes { ChangesStore D.Disk disk.old disk.new
             self.old self.new Renews (λ a b. (cache : List ℕ)
             → IsStoreWith self.old cache a (D.content disk.old)
             → PlansArchive self.old.root cache a b planned next) result }

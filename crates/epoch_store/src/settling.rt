@@ -2,7 +2,8 @@
 //! Writes the disk; syncs.
 ghost use Rattle.std.specs.Prelude.{◌-◌, OnOk};
 ghost use Rattle.arch_base.specs.Counts.{HasCause};
-ghost use Rattle.disk_model.specs.Disk.{BothTold, WhereTold, LeavesOnly};
+ghost use Rattle.disk_model.specs.Disk.{BothTold, WhereTold};
+ghost use Rattle.disk_model.specs.Moments.{LeavesOnly};
 ghost use Rattle.disk_model.specs.Synced.{IsSettled};
 ghost use Rattle.root_slots.specs.Between.{RunsBetween, WentBetween};
 ghost use Rattle.root_slots.specs.Slots.{slot_number, HasRootSize};
@@ -22,7 +23,7 @@ pub(crate) fn ready_other<D: Disk>(disk: &mut D, slot: Slot, root: &Root) -> Res
     requires size { WhereTold HasRootSize (D.content disk.old) }
     requires root { IsRoot root.now }
     ensures crash { RootIsSettled (slot_number slot) (spelling root.now) (D.content disk.old)
-        → LeavesOnly D.moment D.left_since disk.old disk.new
+        → LeavesOnly D.Disk disk.old disk.new
         (StaysCurrent (slot_number slot) (spelling root.now) (D.content disk.old)) }
     ensures done { RootIsSettled (slot_number slot) (spelling root.now) (D.content disk.old)
         → OnOk result (BothTold (IsReadied (slot_number slot) (spelling root.now)) (D.content disk.old)
@@ -32,7 +33,7 @@ pub(crate) fn ready_other<D: Disk>(disk: &mut D, slot: Slot, root: &Root) -> Res
         (D.content disk.old) (D.content disk.new)) }
     // The bytes of the root file between its gates and its bodies are as before.
     ensures went { OnOk result (BothTold WentBetween (D.content disk.old) (D.content disk.new)) }
-    ensures crash_between { RunsBetween D.content D.moment D.left_since disk.old disk.new }
+    ensures crash_between { RunsBetween D.Disk disk.old disk.new }
     ensures cause { HasCause (D.faults disk.old) (D.faults disk.new) result }
 {
     let other = slot.other();
@@ -57,7 +58,7 @@ pub(crate) fn sweep<D: Disk>(
     // At each moment a crash leaves files that stand for the same texts.
     ensures crash { (texts : Texts)
         → ToSettle root.now (slot_number slot) texts names.now (D.content disk.old)
-        → LeavesOnly D.moment D.left_since disk.old disk.new (StandsFor root.now texts) }
+        → LeavesOnly D.Disk disk.old disk.new (StandsFor root.now texts) }
     // After `Ok` the disk is exactly theirs.
     ensures done { (texts : Texts)
         → ToSettle root.now (slot_number slot) texts names.now (D.content disk.old)
@@ -65,7 +66,7 @@ pub(crate) fn sweep<D: Disk>(
     ensures settled { OnOk result (WhereTold IsSettled (D.content disk.new)) }
     ensures swept { OnOk result (BothTold (IsSwept root.now (slot_number slot) names.now)
         (D.content disk.old) (D.content disk.new)) }
-    ensures crash_between { RunsBetween D.content D.moment D.left_since disk.old disk.new }
+    ensures crash_between { RunsBetween D.Disk disk.old disk.new }
     ensures cause { HasCause (D.faults disk.old) (D.faults disk.new) result }
 {
     ready_other(disk, slot, root)?;

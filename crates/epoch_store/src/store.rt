@@ -81,7 +81,7 @@ impl Store {
     /// anything is written.
     pub fn init<D: Disk>(alloc: Global, disk: &mut D, config: &Config) -> Result<Store, InitRefusal>
         requires config { IsConfig config.now }
-        ensures made { MakesArchive D.content D.moment D.left_since D.faults disk.old disk.new
+        ensures made { MakesArchive D.Disk disk.old disk.new
             config.now result }
     {
         no_archive(disk)?;
@@ -222,7 +222,7 @@ impl Store {
         requires ids { ids.now ≡ text_ids_of text.now }
         requires moment { moment ≤ last_moment }
         requires sizes { WhereTold (StoreHasSizes self.old) (D.content disk.old) }
-        ensures changes { ChangesStore D.content D.moment D.left_since D.faults D.reads disk.old disk.new
+        ensures changes { ChangesStore D.Disk disk.old disk.new
             self.old self.new Appends (Enters kind number text.now moment) result }
         ensures entered { OnOk result (EntersEntry kind number text.now self.old self.new) }
     {
@@ -273,7 +273,7 @@ impl Store {
         requires ids { ids.now ≡ text_ids_of text.now }
         requires moment { moment ≤ last_moment }
         requires sizes { WhereTold (StoreHasSizes self.old) (D.content disk.old) }
-        ensures changes { ChangesStore D.content D.moment D.left_since D.faults D.reads disk.old disk.new
+        ensures changes { ChangesStore D.Disk disk.old disk.new
             self.old self.new Appends (AddsMessage text.now moment) result }
         ensures added { OnOk result (AddsEntry self.old self.new text.now) }
     {
@@ -302,7 +302,7 @@ impl Store {
         requires ids { ids.now ≡ text_ids_of text.now }
         requires moment { moment ≤ last_moment }
         requires sizes { WhereTold (StoreHasSizes self.old) (D.content disk.old) }
-        ensures changes { ChangesStore D.content D.moment D.left_since D.faults D.reads disk.old disk.new
+        ensures changes { ChangesStore D.Disk disk.old disk.new
             self.old self.new Appends (EndsMessage number text.now moment) result }
         ensures ended { OnOk result (EndsEntry self.old self.new number text.now) }
     {

@@ -2,7 +2,8 @@
 //! Writes the disk; syncs.
 ghost use Rattle.std.specs.Prelude.{◌≡◌, ◌≢◌, ◌-◌, Err, IfOk, OnOk};
 ghost use Rattle.arch_base.specs.Counts.{Rose, RoseIf};
-ghost use Rattle.disk_model.specs.Disk.{Image, BothTold, WhereTold, Unchanged, LeavesOnly};
+ghost use Rattle.disk_model.specs.Disk.{Image, BothTold, WhereTold, Unchanged};
+ghost use Rattle.disk_model.specs.Moments.{LeavesOnly};
 ghost use Rattle.disk_model.specs.Sizes.{epoch_count};
 ghost use Rattle.disk_model.specs.Synced.{IsSettled};
 ghost use Rattle.arch_model.specs.Archives.{Archive};
@@ -43,8 +44,7 @@ fn find_synced<D: Disk>(alloc: Global, disk: &mut D) -> Result<Found, OpenRefusa
     ensures epochs { IfOk result (λ found. AreBefore epoch_count found.entries.items) }
     ensures named { IfOk result (λ found. AreNamed found.root found.entries.items) }
     ensures indexed { IfOk result (λ found. IndexesStored found.entries.items found.index) }
-    ensures crash { LeavesOnly D.moment D.left_since disk.old disk.new
-        (Image (D.content disk.old)) }
+    ensures crash { LeavesOnly D.Disk disk.old disk.new (Image (D.content disk.old)) }
     ensures cause { RoseIf (result ≡ Err OpenRefusal.DiskFault) (D.faults disk.old) (D.faults disk.new) }
 {
     disk.sync()?;
@@ -54,7 +54,7 @@ fn find_synced<D: Disk>(alloc: Global, disk: &mut D) -> Result<Found, OpenRefusa
 /// Returns the names of all files, in order. Nothing changes.
 fn present_files<D: Disk>(alloc: Global, disk: &mut D) -> Result<FileNames, OpenRefusal>
     ensures names { IfOk result (λ names. WhereTold (AreAllNames names) (D.content disk.old)) }
-    ensures reads { OnlyReads D.content D.moment D.left_since D.faults disk.old disk.new }
+    ensures reads { OnlyReads D.Disk disk.old disk.new }
     ensures well { OpensWell result }
     ensures fault { result ≡ Err OpenRefusal.DiskFault
         → Rose (D.faults disk.old) (D.faults disk.new) }
@@ -73,13 +73,13 @@ fn settle<D: Disk>(alloc: Global, disk: &mut D, slot: Slot, root: &Root) -> Resu
     requires root { IsRoot root.now }
     ensures crash { (texts : Texts)
         → FoundOn root.now (slot_number slot) texts (D.content disk.old)
-        → LeavesOnly D.moment D.left_since disk.old disk.new (StandsFor root.now texts) }
+        → LeavesOnly D.Disk disk.old disk.new (StandsFor root.now texts) }
     ensures done { (texts : Texts) → FoundOn root.now (slot_number slot) texts (D.content disk.old)
         → OnOk result (OnDisk root.now (1 - slot_number slot) texts (D.content disk.new)) }
     ensures settled { OnOk result (WhereTold IsSettled (D.content disk.new)) }
     ensures kept { OnOk result (BothTold (IsSettledBy root.now (slot_number slot)) (D.content disk.old)
         (D.content disk.new)) }
-    ensures crash_between { RunsBetween D.content D.moment D.left_since disk.old disk.new }
+    ensures crash_between { RunsBetween D.Disk disk.old disk.new }
     ensures well { OpensWell result }
     ensures unchanged { result ≡ Err OpenRefusal.NoMemory
         → BothTold Unchanged (D.content disk.old) (D.content disk.new) }
@@ -108,8 +108,7 @@ impl Store {
     /// the disk's count of faults rose, and `NoMemory` only if memory runs out. Every error but
     /// `DiskFault` leaves all files as they read.
     pub fn open<D: Disk>(alloc: Global, disk: &mut D) -> Result<(Store, Index), OpenRefusal>
-        ensures opened { OpensArchive D.content D.moment D.left_since D.faults disk.old disk.new
-            (store_of result) }
+        ensures opened { OpensArchive D.Disk disk.old disk.new (store_of result) }
         ensures indexed { IfOk result (λ opened. IndexesStored opened.0.entries opened.1) }
         ensures refused { RefusesBefore result (D.content disk.old) (D.content disk.new) }
         // Each text that was read when it was opened is in its place.

@@ -4,7 +4,8 @@ ghost use Rattle.std.specs.Prelude.{◌≡◌, ◌≤◌, ◌<◌, ◌+◌, ◌-
 ghost use Rattle.arch_base.specs.Counts.{HasCause, RoseIf};
 ghost use Rattle.arch_base.specs.Moments.{last_moment};
 ghost use Rattle.disk_model.specs.Beside.{RunsBeside};
-ghost use Rattle.disk_model.specs.Disk.{BothTold, WhereTold, IsAtMostLength, LeavesOnly};
+ghost use Rattle.disk_model.specs.Disk.{BothTold, WhereTold, IsAtMostLength};
+ghost use Rattle.disk_model.specs.Moments.{LeavesOnly};
 ghost use Rattle.disk_model.specs.Sizes.{greatest_epoch};
 ghost use Rattle.disk_model.specs.Synced.{IsSettled};
 ghost use Rattle.mail_commits.specs.Ids.{text_ids_of};
@@ -78,7 +79,7 @@ fn write_record<D: Disk>(
     requires root { IsRoot root.now }
     requires inside { WhereTold (IsAtMostLength (map_file_of root.now) root.now.map.length)
         (D.content disk.old) }
-    ensures crash_beside { RunsBeside D.content D.moment D.left_since (bounds_of root.now)
+    ensures crash_beside { RunsBeside D.Disk (bounds_of root.now)
         disk.old disk.new }
     ensures added { OnOk result (BothTold (Added (line_by kind root.now.next epoch blob)
         (map_file_of root.now) root.now.map.length) (D.content disk.old) (D.content disk.new)) }
@@ -115,7 +116,7 @@ fn write_files<D: Disk>(
     requires sizes { WhereTold (HasPartSizes root.now) (D.content disk.old) }
     requires ids { entry.now.ids ≡ text_ids_of entry.now.text.now }
     requires moment { entry.now.moment ≤ last_moment }
-    ensures crash_beside { RunsBeside D.content D.moment D.left_since (bounds_of root.now)
+    ensures crash_beside { RunsBeside D.Disk (bounds_of root.now)
         disk.old disk.new }
     ensures entered { OnOk result (BothTold (Entered root.now place.now entry.now) (D.content disk.old)
         (D.content disk.new)) }
@@ -154,7 +155,7 @@ pub(crate) fn write_entry<D: Disk>(
     // At each moment a crash leaves files that stand for the parts before, or for those with the entry.
     ensures crash { (parts : Parts)
         → IsOwnOfParts root.now (slot_number free) parts (D.content disk.old)
-        → root.now.sequence + 1 < 2 ^ 64 → LeavesOnly D.moment D.left_since disk.old disk.new
+        → root.now.sequence + 1 < 2 ^ 64 → LeavesOnly D.Disk disk.old disk.new
         (RecoversEntered root.now place.now entry.now parts) }
     // After `Ok` the disk is exactly that of the latter.
     ensures done { (parts : Parts)
@@ -174,7 +175,7 @@ pub(crate) fn write_entry<D: Disk>(
     ensures count { D.reads disk.new ≡ D.reads disk.old }
     ensures rooted { IfOk result (λ made. BothTold (HasNewRoot (slot_number free) (spelling made.0))
         (D.content disk.old) (D.content disk.new)) }
-    ensures crash_between { RunsBetween D.content D.moment D.left_since disk.old disk.new }
+    ensures crash_between { RunsBetween D.Disk disk.old disk.new }
 {
     root_fits(root);
     let written = write_files(alloc, disk, root, place, entry)?;

@@ -6,7 +6,7 @@ ghost use Rattle.arch_model.specs.Shelves.{ReadingWhy};
 ghost use Rattle.arch_model.specs.Untold.{HoldsNone, LeavesUntold, untold-read};
 ghost use Rattle.arch_base.specs.Moments.{last_moment};
 
-use arch_base::{Bytes, Config, Id20, NoMemory, Numbers, ObjectId};
+use arch_base::{Bytes, Config, Id20, MessageNumbers, NoMemory, ObjectId};
 use arch_model::{Answer, Command, EntryLine, Keep, OpenRefusal, Query, Row, Shelf, TextRefusal};
 use disk_model::{FileKind, FileName};
 use mem_archive::MemArchive;
@@ -188,19 +188,24 @@ impl Shelf for FailingKeep {
         self.archive.live_count(low, high)
     }
 
-    fn order_page(&self, skip: u64, count: u64) -> Result<Numbers, NoMemory> {
+    fn order_page(&self, skip: u64, count: u64) -> Result<MessageNumbers, NoMemory> {
         self.archive.order_page(skip, count)
     }
 
-    fn thread_of(&self, n: u32) -> Result<Numbers, NoMemory> {
+    fn thread_of(&self, n: u32) -> Result<MessageNumbers, NoMemory> {
         self.archive.thread_of(n)
     }
 
-    fn search(&self, query: &Query) -> Result<Numbers, NoMemory> {
+    fn search(&self, query: &Query) -> Result<MessageNumbers, NoMemory> {
         self.archive.search(query)
     }
 
-    fn search_page(&self, query: &Query, skip: u64, count: u64) -> Result<Numbers, NoMemory> {
+    fn search_page(
+        &self,
+        query: &Query,
+        skip: u64,
+        count: u64,
+    ) -> Result<MessageNumbers, NoMemory> {
         self.archive.search_page(query, skip, count)
     }
 
@@ -316,5 +321,5 @@ impl Keep for FailingKeep {
 
     ghost use Rattle.std.proofs.Common.{ap};
 
-    ghost alike_kept = { λ k m same. untold-read _ k m (ap not same) };
+    ghost alike_kept = { λ k m same. untold-read _ _ _ _ k m (ap not same) };
 }

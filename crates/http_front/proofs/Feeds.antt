@@ -1,5 +1,5 @@
 -- The entries and the arrivals of a feed, one after another.
-use Rattle.std.proofs.Common.{◌≡◌, ◌<◌, ◌+◌, ℕ, Bool, true, false, List, [], ◌∷◌, ◌++◌, length, take, get_or, Option, Some, None, Result, Err, refl, sym, ap, subst, ◌∙◌, append_assoc, append-nil, arith, nat_le, if◌then◌else◌}
+use Rattle.std.proofs.Common.{◌≡◌, ◌<◌, ◌+◌, ℕ, Bool, true, false, List, [], ◌∷◌, ◌++◌, length, take, get_or, Option, Some, None, is_some, Err, refl, sym, ap, ◌∙◌, append_assoc, append-nil, arith, nat_le, if◌then◌else◌}
 use Rattle.std.proofs.lemmas.List.{take_more}
 use Rattle.std.proofs.lemmas.List.Concat.{flat_map-append}
 use Rattle.arch_base.specs.Moments.{last_moment}
@@ -13,12 +13,12 @@ use Rattle.atom_mbox.specs.declared.feeds.Shown.{Shown}
 use Rattle.mail_forms.specs.declared.row.Row.{Row}
 use Rattle.mime_parts.specs.Texts.{body_text_of}
 use Rattle.http_heads.specs.declared.reply.Body.TheVariants.{Feed}
-use Rattle.http_front.specs.Views.{is_number, one_row, shown_row, shown_text, text_at, shown_by, shown_at, shown_all}
+use Rattle.http_front.specs.Views.{shown_row, shown_text, shown_by, shown_at, shown_all}
 use Rattle.http_front.specs.Asking.{Found, Gives, feed_found}
-use Rattle.http_front.specs.Feeding.{AppendsOrRefuses, arrival_of, later_of, latest_of}
+use Rattle.http_front.specs.Feeding.{arrival_of, later_of, latest_of}
 use Rattle.http_front.specs.Sessions.{FindsTarget}
 use Rattle.http_front.proofs.Arrivals.{latest-append}
-use Rattle.http_front.proofs.Pieces.{RowAndText, Neither, Both, row-and-text, text-none}
+use Rattle.http_front.proofs.Pieces.{RowAndText, Neither, Both, row-and-text}
 
 -- The mails of one more number.
 shown-more : (entries : List Entry) (numbers : List ℕ) (i d : ℕ) → i < length numbers → shown_all entries (take (i + 1) numbers) ≡ shown_all entries (take i numbers) ++ shown_at entries (get_or numbers i d)
@@ -54,41 +54,35 @@ arrival-shown row text = by (nat_le row.arrived last_moment)
     by true = refl
     by false = refl
 
-row-shown : (o : Option Row) (text : Option (List ℕ)) → RowAndText o text → (row : Row) → one_row o ≡ row ∷ [] → latest_of (shown_by o text) ≡ arrival_of row
-row-shown None None Neither row e = absurd (cc e)
-row-shown None (Some text) never row e = elim never [ ]
-row-shown (Some r) None never row e = elim never [ ]
-row-shown (Some r) (Some text) (Both r' t is) row e = let same : r ≡ row = cc in arrival-shown r text ∙ ap arrival_of same
+-- When a mail arrived, by its row.
+abbrev arrival_by : Option Row → Option ℕ
+arrival_by None = None
+arrival_by (Some row) = arrival_of row
+
+row-shown : (o : Option Row) (text : Option (List ℕ)) → RowAndText o text → latest_of (shown_by o text) ≡ arrival_by o
+row-shown None None Neither = refl
+row-shown None (Some text) never = elim never [ ]
+row-shown (Some row) None never = elim never [ ]
+row-shown (Some row) (Some text) (Both r t is) = arrival-shown row text
 
 -- When the mail of a number arrived, by its row.
-pub latest-row : (entries : List Entry) (n : ℕ) (row : Row) → row ∷ [] ≡ (if is_number n then one_row (shown_row entries n) else []) → arrival_of row ≡ latest_of (shown_at entries n)
-latest-row entries n row = by (is_number n)
-  where
-    by : (t : Bool) → row ∷ [] ≡ (if t then one_row (shown_row entries n) else []) → arrival_of row ≡ latest_of (shown_by (shown_row entries n) (if t then shown_text entries n else None))
-    by true e = sym (row-shown (shown_row entries n) (shown_text entries n) (row-and-text (live entries) n) row (sym e))
-    by false e = absurd (cc e)
+latest-is : (entries : List Entry) (n : ℕ) (row : Option Row) → row ≡ shown_row entries n → arrival_by row ≡ latest_of (shown_at entries n)
+latest-is entries n row is = ap arrival_by is ∙ sym (row-shown (shown_row entries n) (shown_text entries n) (row-and-text (live entries) n))
 
-shown-none : (o : Option Row) → shown_by o None ≡ []
-shown-none None = refl
-shown-none (Some row) = refl
+pub latest-row : (entries : List Entry) (n : ℕ) (row : Row) → Some row ≡ shown_row entries n → arrival_of row ≡ latest_of (shown_at entries n)
+latest-row entries n row is = latest-is entries n (Some row) is
 
--- A number without a text isn't shown.
-pub shown-without : (entries : List Entry) (n : ℕ) → text_at entries n ≡ None → shown_at entries n ≡ []
-shown-without entries n none = ap (shown_by (shown_row entries n)) none ∙ shown-none (shown_row entries n)
+pub latest-none : (entries : List Entry) (n : ℕ) → None ≡ shown_row entries n → None ≡ latest_of (shown_at entries n)
+latest-none entries n is = latest-is entries n None is
 
-pub latest-none : (entries : List Entry) (n : ℕ) → [] ≡ (if is_number n then one_row (shown_row entries n) else []) → None ≡ latest_of (shown_at entries n)
-latest-none entries n e = ap latest_of (sym (shown-without entries n (text-none entries n (sym e))))
+-- A number without a text isn't shown, and has no entry.
+shown-without : (row : Option Row) (text : Option (List ℕ)) → is_some text ≡ false → shown_by row text ≡ []
+shown-without None text none = refl
+shown-without (Some row) None none = refl
+shown-without (Some row) (Some text) none = absurd (cc none)
 
--- A number without a text has no entry.
-pub appends-none : (name : List ℕ) (entries : List Entry) (n : ℕ) (old : List ℕ) → text_at entries n ≡ None → old ≡ old ++ entries_of name (shown_at entries n)
-appends-none name entries n old none = sym (append-nil old) ∙ ap (λ (ms : List Shown). old ++ entries_of name ms) (sym (shown-without entries n none))
-
--- A live number has the entry of its text.
-pub appends-live : (name : List ℕ) (entries : List Entry) (n found : ℕ) (old new : List ℕ) (result : Result Unit TextRefusal) → found ≡ n → text_at entries n ≡ shown_text entries n → AppendsOrRefuses (entries_of name (shown_by (shown_row entries found) (shown_text entries found))) old new result
-    → AppendsOrRefuses (entries_of name (shown_at entries n)) old new result
-appends-live name entries n found old new result same text appended =
-    subst (λ (t : Option (List ℕ)). AppendsOrRefuses (entries_of name (shown_by (shown_row entries n) t)) old new result) (sym text)
-    (subst (λ (k : ℕ). AppendsOrRefuses (entries_of name (shown_by (shown_row entries k) (shown_text entries k))) old new result) same appended)
+pub appends-none : (name : List ℕ) (entries : List Entry) (n : ℕ) (old : List ℕ) → is_some (shown_text entries n) ≡ false → old ≡ old ++ entries_of name (shown_at entries n)
+appends-none name entries n old none = sym (append-nil old) ∙ ap (λ (ms : List Shown). old ++ entries_of name ms) (sym (shown-without (shown_row entries n) (shown_text entries n) none))
 
 -- A row and its text give the entry of a number; without a row there is none.
 pub appends-read : (name : List ℕ) (row : Option Row) (text : Option (List ℕ)) (read wanted old new : List ℕ) → text ≡ Some wanted → read ≡ wanted → new ≡ old ++ entries_of name (shown_by row (Some read)) → new ≡ old ++ entries_of name (shown_by row text)

@@ -11,14 +11,13 @@ use Rattle.html_pages.specs.Lines.{row_line, rows_shown, older_link}
 use Rattle.html_pages.specs.Pages.{listing_of, page_of}
 use Rattle.http_heads.specs.declared.reply.Body.TheVariants.{Page}
 use Rattle.mail_forms.specs.declared.row.Row.{Row}
-use Rattle.http_front.specs.Views.{is_number, one_row, row_at as row_shown, rows_at}
+use Rattle.http_front.specs.Views.{one_row, row_at as row_shown, rows_at}
 use Rattle.http_front.specs.Asking.{Gives, rows_needed}
-use Rattle.http_front.specs.Paging.{NumbersFit, ListingIsWhole}
+use Rattle.http_front.specs.Paging.{ListingIsWhole}
 
 -- A number has one row.
-pub record HasRow (entries : List Entry) (n : ℕ) : Type 0 where
-  pub number : is_number n ≡ true
-  pub row : is_some (row_in entries n) ≡ true
+abbrev HasRow : List Entry → ℕ → Type 0
+HasRow entries n = is_some (row_in entries n) ≡ true
 
 own-row : (e : Entry) (es : List Entry) (n : ℕ) → e.number ≡ n → is_some (row_in (e ∷ es) n) ≡ true
 own-row e es n same = let hit : (e.number == n) ≡ true = grind (arith, nat_tests, same) in ap (λ (t : Bool). is_some (if t then Some (row_at e) else row_in es n)) hit
@@ -53,13 +52,9 @@ unfolding listing
 listed-all P es all = All-map P number_beside (reverse (by_date es)) (reversed-all (λ (p : ℕ × ℕ). P p.1) (by_date es) (dates-all P es all))
 
 -- Rows one after another.
-row-one : (entries : List Entry) (n : ℕ) → HasRow (live entries) n → (row : Row) × (row_shown entries n ≡ row ∷ [])
-row-one entries n has = by (is_number n) (row_in (live entries) n) has.number has.row
-  where
-    by : (t : Bool) (o : Option Row) → t ≡ true → is_some o ≡ true → (row : Row) × ((if t then one_row o else []) ≡ row ∷ [])
-    by true None h there = absurd (cc there)
-    by true (Some row) h there = (row, refl)
-    by false o h there = absurd (cc h)
+row-one : (o : Option Row) → is_some o ≡ true → (row : Row) × (one_row o ≡ row ∷ [])
+row-one None there = absurd (cc there)
+row-one (Some row) there = (row, refl)
 
 row-step : (n : ℕ) (front : List Row) (row : Row) (rest more : List Row) → front ≡ row ∷ [] → rest ≡ take n more → front ++ rest ≡ take (suc n) (front ++ more)
 row-step n front row rest more is same =
@@ -70,7 +65,7 @@ rows-taken : (entries : List Entry) (ns : List ℕ) (n : ℕ) → All (HasRow (l
 rows-taken entries ns zero all = refl
 rows-taken entries [] (suc n) all = refl
 rows-taken entries (m ∷ ms) (suc n) all =
-    let one = row-one entries m (All-head (HasRow (live entries)) m ms all) in
+    let one = row-one (row_in (live entries) m) (All-head (HasRow (live entries)) m ms all) in
     row-step n (row_shown entries m) one.0 (rows_at entries (take n ms)) (rows_at entries ms) one.1 (rows-taken entries ms n (All-tail (HasRow (live entries)) m ms all))
 
 -- One row more than are shown say as much as all.
@@ -106,14 +101,7 @@ page-cut name rows skip =
     ∙ ap (λ (link : List ℕ). page_of name (flat_map (row_line name) (take rows_shown rows) ++ link)) more
 
 pub listing-whole : ListingIsWhole
-listing-whole a skip fit =
+listing-whole a skip =
     let numbers = drop skip (listing (live a.entries)) in
-    let rows = rows-taken a.entries numbers rows_needed (All-drop (HasRow (live a.entries)) skip (listing (live a.entries)) (listed-all (HasRow (live a.entries)) (live a.entries) (both (live a.entries) (live a.entries) fit (rows-there (live a.entries))))) in
+    let rows = rows-taken a.entries numbers rows_needed (All-drop (HasRow (live a.entries)) skip (listing (live a.entries)) (listed-all (HasRow (live a.entries)) (live a.entries) (rows-there (live a.entries)))) in
     ap (Gives Page) (ap (λ (rs : List Row). listing_of a.config.name rs skip) rows ∙ page-cut a.config.name (rows_at a.entries numbers) skip)
-  where
-    both : (among entries : List Entry) → NumbersFit entries → All (λ (e : Entry). is_some (row_in among e.number) ≡ true) entries → All (λ (e : Entry). HasRow among e.number) entries
-    both among [] fit rows = All-nil (λ (e : Entry). HasRow among e.number)
-    both among (e ∷ es) fit rows =
-        All-cons (λ (x : Entry). HasRow among x.number) e es
-        (record { number = All-head (λ (x : Entry). is_number x.number ≡ true) e es fit; row = All-head (λ (x : Entry). is_some (row_in among x.number) ≡ true) e es rows })
-        (both among es (All-tail (λ (x : Entry). is_number x.number ≡ true) e es fit) (All-tail (λ (x : Entry). is_some (row_in among x.number) ≡ true) e es rows))

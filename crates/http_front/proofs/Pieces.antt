@@ -8,7 +8,7 @@ use Rattle.arch_model.specs.Rows.{row_of}
 use Rattle.mail_forms.specs.Mailboxes.{mbox_of, quoted, separator}
 use Rattle.mail_reader.specs.Lines.{lines_of}
 use Rattle.mail_forms.specs.declared.row.Row.{Row}
-use Rattle.http_front.specs.Views.{is_number, one_row, shown_row, shown_text, text_at, IsNextLive}
+use Rattle.http_front.specs.Views.{shown_row, shown_text, IsNextLive}
 use Rattle.http_front.specs.Mailboxes.{piece_by, piece_at, mailbox_at, pieces_from, whole_mailbox}
 
 -- A number has a row exactly if it has a text, and the row tells the length of the text's piece.
@@ -28,37 +28,24 @@ row-and-text (e ∷ es) n = by (e.number == n) (row-and-text es n)
     by true later = Both (row_at e) e.text (mbox-is e)
     by false later = later
 
--- The rows of a number by its text.
-row-told : (row : Option Row) (text : Option (List ℕ)) → RowAndText row text → (found : Row) → one_row row ≡ found ∷ [] → length (piece_by text) ≡ found.mbox
-row-told None None Neither found e = absurd (cc e)
-row-told None (Some text) never found e = elim never [ ]
-row-told (Some row) None never found e = elim never [ ]
-row-told (Some row) (Some text) (Both r t is) found e = let same : row ≡ found = cc in sym is ∙ ap (λ (x : Row). x.mbox) same
+-- The length of the piece of a number by its row.
+abbrev pub mbox_by : Option Row → ℕ
+mbox_by None = 0
+mbox_by (Some row) = row.mbox
 
-no-row : (row : Option Row) (text : Option (List ℕ)) → RowAndText row text → one_row row ≡ [] → text ≡ None
-no-row None None Neither e = refl
-no-row None (Some text) never e = elim never [ ]
-no-row (Some row) None never e = elim never [ ]
-no-row (Some row) (Some text) (Both r t is) e = absurd (cc e)
+row-told : (row : Option Row) (text : Option (List ℕ)) → RowAndText row text → length (piece_by text) ≡ mbox_by row
+row-told None None Neither = refl
+row-told None (Some text) never = elim never [ ]
+row-told (Some row) None never = elim never [ ]
+row-told (Some row) (Some text) (Both r t is) = sym is
 
--- A number without a row has no text.
-pub text-none : (entries : List Entry) (n : ℕ) → (if is_number n then one_row (shown_row entries n) else []) ≡ [] → text_at entries n ≡ None
-text-none entries n = by (is_number n)
-  where
-    by : (t : Bool) → (if t then one_row (shown_row entries n) else []) ≡ [] → (if t then shown_text entries n else None) ≡ None
-    by true e = no-row (shown_row entries n) (shown_text entries n) (row-and-text (live entries) n) e
-    by false e = refl
+pub piece-of : (entries : List Entry) (n : ℕ) (row : Option Row) → row ≡ shown_row entries n → length (piece_at entries n) ≡ mbox_by row
+piece-of entries n row is = row-told (shown_row entries n) (shown_text entries n) (row-and-text (live entries) n) ∙ ap mbox_by (sym is)
 
--- The length of a piece by the row of its number.
-pub piece-of-row : (entries : List Entry) (n : ℕ) (row : Row) → (if is_number n then one_row (shown_row entries n) else []) ≡ row ∷ [] → length (piece_at entries n) ≡ row.mbox
-piece-of-row entries n row = by (is_number n)
-  where
-    by : (t : Bool) → (if t then one_row (shown_row entries n) else []) ≡ row ∷ [] → length (piece_by (if t then shown_text entries n else None)) ≡ row.mbox
-    by true e = row-told (shown_row entries n) (shown_text entries n) (row-and-text (live entries) n) row e
-    by false e = absurd (cc e)
-
-pub piece-of-none : (entries : List Entry) (n : ℕ) → (if is_number n then one_row (shown_row entries n) else []) ≡ [] → length (piece_at entries n) ≡ 0
-piece-of-none entries n e = ap (λ (t : Option (List ℕ)). length (piece_by t)) (text-none entries n e)
+-- A number without a text has no piece.
+pub no-piece : (text : Option (List ℕ)) → is_some text ≡ false → piece_by text ≡ []
+no-piece None none = refl
+no-piece (Some text) none = absurd (cc none)
 
 -- The pieces of the numbers from one on.
 unfoldable pub pieces_left : List Entry → ℕ → List ℕ
@@ -68,7 +55,7 @@ pub pieces-all : (entries : List Entry) → whole_mailbox entries ≡ pieces_lef
 unfolding whole_mailbox pieces_left
 pieces-all entries = let all : 4294967296 ≡ 4294967296 - 0 = omega arith in ap (pieces_from entries 0) all
 
-skip : (entries : List Entry) (low gap count : ℕ) → ((m : ℕ) → low ≤ m → m < low + gap → text_at entries m ≡ None) → pieces_from entries low (gap + count) ≡ pieces_from entries (low + gap) count
+skip : (entries : List Entry) (low gap count : ℕ) → ((m : ℕ) → low ≤ m → m < low + gap → shown_text entries m ≡ None) → pieces_from entries low (gap + count) ≡ pieces_from entries (low + gap) count
 skip entries low zero count none =
     let here : low ≡ low + 0 = omega arith in
     let size : 0 + count ≡ count = omega arith in
@@ -96,7 +83,7 @@ pub pieces-none : (entries : List Entry) (low : ℕ) → IsNextLive entries low 
 unfolding pieces_left
 pieces-none entries low none =
     let size : 4294967296 - low ≡ (4294967296 - low) + 0 = omega arith in
-    ap (pieces_from entries low) size ∙ skip entries low (4294967296 - low) 0 (λ m from to. none m from)
+    ap (pieces_from entries low) size ∙ skip entries low (4294967296 - low) 0 (λ m from to. none m from (omega (arith, from, to)))
 
 -- The pieces of a list of numbers from an index on.
 pub mailbox-next : (entries : List Entry) (numbers : List ℕ) (i d : ℕ) → i < length numbers → mailbox_at entries (drop i numbers) ≡ piece_at entries (get_or numbers i d) ++ mailbox_at entries (drop (i + 1) numbers)
@@ -128,7 +115,3 @@ pub piece-some : (text : Option (List ℕ)) → is_some text ≡ true → 0 < le
 unfolding mbox_of
 piece-some None e = absurd (cc e)
 piece-some (Some text) e = omega (arith, length-append separator (flat_map quoted (lines_of text) ++ 10 ∷ []))
-
--- The text of a live number.
-pub live-as : (entries : List Entry) (n found : ℕ) → found ≡ n → is_some (shown_text entries n) ≡ true → is_some (shown_text entries found) ≡ true
-live-as entries n found same some = ap (λ (k : ℕ). is_some (shown_text entries k)) same ∙ some

@@ -1,6 +1,6 @@
 -- A mailbox file as a streamed reply: what of it was said so far, what is still to be said, and what
 -- is left; and how its parts make an act.
-use Rattle.std.proofs.Common.{◌≡◌, ◌<◌, ◌≤◌, ◌⊎◌, inl, inr, ℕ, Bool, true, false, List, [], ◌++◌, length, Option, None, Result, Ok, Err, refl, sym, ap, subst, ◌∙◌, append_assoc, length-append, arith}
+use Rattle.std.proofs.Common.{◌≡◌, ◌<◌, ◌≤◌, ◌⊎◌, inl, inr, ℕ, Bool, true, false, List, [], ◌++◌, length, Option, None, is_some, Result, Ok, Err, refl, sym, ap, subst, ◌∙◌, append_assoc, length-append, arith}
 use Rattle.std.proofs.lemmas.List.{append-nil}
 use Rattle.arch_base.specs.Counts.{Rose}
 use Rattle.edge_io.specs.Phrases.{Says}
@@ -20,12 +20,13 @@ use Rattle.http_heads.specs.declared.reply.Status.TheVariants.{Done, ServerError
 use Rattle.http_front.specs.Replies.{reply, word}
 use Rattle.http_front.specs.Door.{replies}
 use Rattle.http_front.specs.Sessions.{SaysThen, SaysStopped, said_stream, said_mailbox}
-use Rattle.http_front.specs.Views.{shown_text, text_at}
-use Rattle.http_front.specs.Mailboxes.{piece_by, piece_at}
+use Rattle.http_front.specs.Views.{shown_text}
+use Rattle.http_front.specs.Mailboxes.{piece_at}
 use Rattle.http_front.specs.Streaming.{StopsStream, IsAdded, IsSaid, IsLost, StreamsPart}
 use Rattle.http_front.specs.declared.mailbox.Part.{Part}
 use Rattle.http_front.specs.declared.mailbox.Part.TheVariants as part
 use Rattle.http_front.proofs.Acting.{acts-replied}
+use Rattle.http_front.proofs.Pieces.{no-piece}
 
 -- Of all words some were said, these are still to be said, and others are left. `begun` tells whether
 -- any were said. The disk didn't fail.
@@ -153,12 +154,9 @@ long-said begun old new i j none some says same =
 pub long-lost : (begun : Bool) (old new : List ℕ) (i j : ConnectionState) (fault : SinkFault) → Says old i.out i.lost j.out j.lost (Err fault) → j.disk ≡ i.disk → StreamsPart [] begun old i part.Lost new j
 long-lost begun old new i j fault says same = record { fault = fault; says = said-as old (old ++ []) i.out i.out j.out i.lost i.lost j.lost (sym (append-nil old)) refl refl (Err fault) says; disk = same }
 
--- The piece of a live number, and that of one that isn't live.
-pub part-at : (entries : List Entry) (n found : ℕ) (begun : Bool) (old : List ℕ) (i : ConnectionState) (p : Part) (new : List ℕ) (k : ConnectionState) → found ≡ n → text_at entries n ≡ shown_text entries n → StreamsPart (piece_by (shown_text entries found)) begun old i p new k → StreamsPart (piece_at entries n) begun old i p new k
-part-at entries n found begun old i p new k same text is = subst (λ (t : Option (List ℕ)). StreamsPart (piece_by t) begun old i p new k) (ap (shown_text entries) same ∙ sym text) is
-
-pub part-none : (entries : List Entry) (n : ℕ) (begun : Bool) (old : List ℕ) (i : ConnectionState) → text_at entries n ≡ None → StreamsPart (piece_at entries n) begun old i (part.Put begun) old i
-part-none entries n begun old i none = inl (refl, record { added = sym (append-nil old) ∙ ap (λ (t : Option (List ℕ)). old ++ piece_by t) (sym none); out = refl; lost = refl; disk = refl })
+-- The piece of a number that isn't live.
+pub part-none : (entries : List Entry) (n : ℕ) (begun : Bool) (old : List ℕ) (i : ConnectionState) → is_some (shown_text entries n) ≡ false → StreamsPart (piece_at entries n) begun old i (part.Put begun) old i
+part-none entries n begun old i none = inl (refl, record { added = sym (append-nil old) ∙ ap (λ (w : List ℕ). old ++ w) (sym (no-piece (shown_text entries n) none)); out = refl; lost = refl; disk = refl })
 
 module _ (moment : ℕ) (a : Archive) (ends : Bool) (rest bytes : List ℕ) where
   -- The reply with a mailbox file, by its words.

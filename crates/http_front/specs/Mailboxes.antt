@@ -3,7 +3,7 @@ use Rattle.std.specs.Prelude.{ℕ, ◌+◌, zero, suc, List, [], ◌++◌, Optio
 use Rattle.std.specs.List.{flat_map}
 use Rattle.arch_model.specs.Archives.{Entry}
 use Rattle.mail_forms.specs.Mailboxes.{mbox_of}
-use Rattle.http_front.specs.Views.{text_at}
+use Rattle.http_front.specs.Views.{shown_text}
 
 -- The piece of a text, or nothing without one.
 abbrev pub piece_by : Option (List ℕ) → List ℕ
@@ -12,7 +12,7 @@ piece_by (Some text) = mbox_of text
 
 -- The piece of a number in a mailbox file.
 abbrev pub piece_at : List Entry → ℕ → List ℕ
-piece_at entries n = piece_by (text_at entries n)
+piece_at entries n = piece_by (shown_text entries n)
 
 -- The mailbox file of these numbers, in their order.
 abbrev pub mailbox_at : List Entry → List ℕ → List ℕ

@@ -1,18 +1,13 @@
 -- A page of the listing by all rows of an archive.
-use Rattle.std.specs.Prelude.{◌≡◌, ℕ, true, List, drop, None}
-use Rattle.std.specs.List.{All}
-use Rattle.arch_model.specs.Archives.{Entry, Archive, live}
+use Rattle.std.specs.Prelude.{◌≡◌, ℕ, drop, None}
+use Rattle.arch_model.specs.Archives.{Archive, live}
 use Rattle.arch_model.specs.Listings.{listing}
 use Rattle.html_pages.specs.Pages.{listing_of}
 use Rattle.http_heads.specs.declared.reply.Body.TheVariants.{Page}
-use Rattle.http_front.specs.Views.{is_number, rows_at}
+use Rattle.http_front.specs.Views.{rows_at}
 use Rattle.http_front.specs.Asking.{Gives, listing_found}
-
--- The numbers of these messages have 32 bits, as those of each archive do.
-abbrev pub NumbersFit : List Entry → Type 0
-NumbersFit entries = All (λ (e : Entry). is_number e.number ≡ true) entries
 
 -- A page of the listing is the one that all rows after the skipped ones make.
 abbrev pub ListingIsWhole : Type 0
-ListingIsWhole = (a : Archive) (skip : ℕ) → NumbersFit (live a.entries) → listing_found a None skip
+ListingIsWhole = (a : Archive) (skip : ℕ) → listing_found a None skip
     ≡ Gives Page (listing_of a.config.name (rows_at a.entries (drop skip (listing (live a.entries)))) skip)

@@ -1,5 +1,5 @@
 -- What an archive shows of its mails.
-use Rattle.std.specs.Prelude.{◌≡◌, ◌≤◌, ◌<◌, ℕ, Bool, true, is_some, nat_le, nat_lt, List, [], ◌∷◌, ◌++◌, Option, Some, None, codes, if◌then◌else◌}
+use Rattle.std.specs.Prelude.{◌≡◌, ◌≤◌, ◌<◌, ℕ, true, is_some, nat_le, List, [], ◌∷◌, ◌++◌, Option, Some, None, codes, if◌then◌else◌}
 use Rattle.std.specs.List.{flat_map}
 use Rattle.arch_base.specs.Moments.{last_moment}
 use Rattle.arch_model.specs.Archives.{Entry, live, text_of}
@@ -16,24 +16,11 @@ shown_text entries n = text_of (live entries) n
 abbrev pub shown_row : List Entry → ℕ → Option Row
 shown_row entries n = row_in (live entries) n
 
--- The number has 32 bits, as each number of an archive has.
-abbrev pub is_number : ℕ → Bool
-is_number n = nat_lt n 4294967296
-
--- The text of a number, if it is live.
-abbrev pub text_at : List Entry → ℕ → Option (List ℕ)
-text_at entries n = if is_number n then shown_text entries n else None
-
--- The number is live, or there is no text of it.
-abbrev pub IsLive : List Entry → ℕ → Option ℕ → Type 0
-IsLive entries n None = text_at entries n ≡ None
-IsLive entries n (Some found) = (found ≡ n) × (text_at entries n ≡ shown_text entries n)
-    × (is_some (shown_text entries n) ≡ true)
-
 -- The least live number from one on, of those that have 32 bits, or none.
 abbrev pub IsNextLive : List Entry → ℕ → Option ℕ → Type 0
-IsNextLive entries low None = (m : ℕ) → low ≤ m → text_at entries m ≡ None
-IsNextLive entries low (Some n) = (low ≤ n) × ((m : ℕ) → low ≤ m → m < n → text_at entries m ≡ None)
+IsNextLive entries low None = (m : ℕ) → low ≤ m → m < 4294967296 → shown_text entries m ≡ None
+IsNextLive entries low (Some n) = (low ≤ n)
+    × ((m : ℕ) → low ≤ m → m < n → shown_text entries m ≡ None)
     × (is_some (shown_text entries n) ≡ true)
 
 -- The live number of an id without its brackets.
@@ -47,7 +34,7 @@ one_row (Some row) = row ∷ []
 
 -- The row of a number, if it is live.
 abbrev pub row_at : List Entry → ℕ → List Row
-row_at entries n = if is_number n then one_row (shown_row entries n) else []
+row_at entries n = one_row (shown_row entries n)
 
 -- The rows of these numbers, in their order.
 abbrev pub rows_at : List Entry → List ℕ → List Row
@@ -64,7 +51,7 @@ shown_by (Some row) (Some text) =
 
 -- The mail of a number as a feed shows it, if it is live.
 abbrev pub shown_at : List Entry → ℕ → List Shown
-shown_at entries n = shown_by (shown_row entries n) (text_at entries n)
+shown_at entries n = shown_by (shown_row entries n) (shown_text entries n)
 
 -- The mails of these numbers, in their order.
 abbrev pub shown_all : List Entry → List ℕ → List Shown

@@ -1,10 +1,11 @@
 //! Answers whole heads from a shelf.
 //! Reads the disk.
 ghost use Rattle.std.specs.Prelude.{◌≡◌, ◌&&◌, not, true};
-ghost use Rattle.line_door.specs.Acts.{outside};
+ghost use Rattle.line_door.specs.Acts.{at_sink};
 ghost use Rattle.arch_base.specs.Moments.{IsMoment};
+ghost use Rattle.arch_model.specs.OverShelf.{ShelfKept};
 ghost use Rattle.arch_model.specs.Next.{continues};
-ghost use Rattle.arch_model.specs.Shelves.{ShelfStays, ReadsIn};
+ghost use Rattle.arch_model.specs.Shelves.{ReadsIn};
 ghost use Rattle.http_heads.specs.Heads.{shown};
 ghost use Rattle.http_front.specs.Counting.{served_texts};
 ghost use Rattle.http_front.specs.Sessions.{AnswersHead, ReadsHead, Serves, SaysWhole};
@@ -32,10 +33,10 @@ pub(crate) fn answer_head<S: Shelf, O: Sink>(
     requires ready { S.ready shelf.old ≡ true }
     requires moment { IsMoment moment }
     ensures acts { AnswersHead S.holds moment head.now shelf.old
-        (outside (O.taken out.old) (S.faults shelf.old) (O.faults out.old)) (continues result)
-        (outside (O.taken out.new) (S.faults shelf.new) (O.faults out.new)) }
+        (at_sink O.Sink out.old (S.faults shelf.old)) (continues result)
+        (at_sink O.Sink out.new (S.faults shelf.new)) }
     ensures reads { ReadsHead S.holds head.now shelf.old (S.reads shelf.old) (S.reads shelf.new) }
-    ensures shelf { ShelfStays S.holds S.ready S.alike S.faults shelf.old shelf.new }
+    ensures shelf { ShelfKept S.Shelf shelf.old shelf.new }
     ensures sink { O.alike out.old out.new }
 {
     match read_head(head) {
@@ -65,11 +66,11 @@ fn serve<S: Shelf, O: Sink>(
     requires ready { S.ready shelf.old ≡ true }
     requires moment { IsMoment moment }
     ensures acts { Serves S.holds moment (shown request.now) sends shelf.old
-        (outside (O.taken out.old) (S.faults shelf.old) (O.faults out.old)) (continues result)
-        (outside (O.taken out.new) (S.faults shelf.new) (O.faults out.new)) }
+        (at_sink O.Sink out.old (S.faults shelf.old)) (continues result)
+        (at_sink O.Sink out.new (S.faults shelf.new)) }
     ensures reads { ReadsIn S.holds (λ a. served_texts a request.now.target.now sends) shelf.old
         (S.reads shelf.old) (S.reads shelf.new) }
-    ensures shelf { ShelfStays S.holds S.ready S.alike S.faults shelf.old shelf.new }
+    ensures shelf { ShelfKept S.Shelf shelf.old shelf.new }
     ensures sink { O.alike out.old out.new }
 {
     let closes = request.closes;

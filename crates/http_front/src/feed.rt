@@ -2,8 +2,9 @@
 //! Reads the disk.
 ghost use Rattle.std.specs.Prelude.{◌≡◌, ◌++◌, length, OnOk, IfSome, Some, true, is_some};
 ghost use Rattle.arch_base.specs.Moments.{IsMoment};
+ghost use Rattle.arch_model.specs.OverShelf.{ShelfKept};
 ghost use Rattle.arch_model.specs.Archives.{Archive, live, text_of};
-ghost use Rattle.arch_model.specs.Shelves.{ShelfStays, ReadCause, ReadsOnce, ReadsUpTo};
+ghost use Rattle.arch_model.specs.Shelves.{ReadCause, ReadsOnce, ReadsUpTo};
 ghost use Rattle.atom_mbox.specs.Feeds.{feed_start, entries_of, updated_of};
 ghost use Rattle.http_front.specs.Views.{shown_row, shown_text, shown_at, shown_all, shown_by};
 ghost use Rattle.http_front.specs.Asking.{feed_found};
@@ -11,10 +12,8 @@ ghost use Rattle.http_front.specs.Feeding.{AppendsOrRefuses, arrival_of, later_o
 ghost use Rattle.http_front.specs.Sessions.{FindsIn};
 
 use crate::found::FoundBody;
-use crate::listing::row_of_number;
-use crate::numbers::live_number;
 use arch_base::{Bytes, LAST_MOMENT, Name, NoMemory, last_moment_is_defined};
-use arch_model::{Shelf, TextRefusal};
+use arch_model::{Shelf, TextRefusal, is_live};
 use atom_mbox::{push_feed_end, push_feed_entry, push_feed_start};
 use http_heads::Body;
 use mail_forms::Row;
@@ -24,13 +23,13 @@ use std::alloc::Global;
 /// Returns the feed of these numbers, in their order. Reads a text for each that is live.
 pub(crate) fn feed_at<S: Shelf>(
     alloc: Global,
-    numbers: &[u64],
+    numbers: &[u32],
     shelf: &mut S,
 ) -> Result<FoundBody, TextRefusal>
     requires { S.ready shelf.old ≡ true }
     ensures found { FindsIn S.holds (λ a. feed_found a numbers.now) (λ a. true) shelf.old
         result }
-    ensures shelf { ShelfStays S.holds S.ready S.alike S.faults shelf.old shelf.new }
+    ensures shelf { ShelfKept S.Shelf shelf.old shelf.new }
     ensures cause { ReadCause (S.faults shelf.old) (S.faults shelf.new) result }
     ensures reads { ReadsUpTo (length numbers.now) (S.reads shelf.old) (S.reads shelf.new) }
 {
@@ -50,7 +49,7 @@ pub(crate) fn feed_at<S: Shelf>(
 }
 
 /// Appends what is before the entries of the feed of these numbers.
-fn start_feed<S: Shelf>(numbers: &[u64], shelf: &S, into: &mut Bytes) -> Result<(), NoMemory>
+fn start_feed<S: Shelf>(numbers: &[u32], shelf: &S, into: &mut Bytes) -> Result<(), NoMemory>
     requires { S.ready shelf.now ≡ true }
     ensures { (a : Archive) → S.holds shelf.now a → OnOk result (into.new ≡ into.old
         ++ feed_start a.config.name (updated_of a.config.born (shown_all a.entries numbers.now))) }
@@ -60,7 +59,7 @@ fn start_feed<S: Shelf>(numbers: &[u64], shelf: &S, into: &mut Bytes) -> Result<
 
 /// Returns when the feed of these numbers was updated: at the last of their arrivals, or when the
 /// archive was created.
-fn updated<S: Shelf>(numbers: &[u64], shelf: &S) -> u64
+fn updated<S: Shelf>(numbers: &[u32], shelf: &S) -> u64
     requires { S.ready shelf.now ≡ true }
     ensures value { (a : Archive) → S.holds shelf.now a
         → result ≡ updated_of a.config.born (shown_all a.entries numbers.now) }
@@ -73,7 +72,7 @@ fn updated<S: Shelf>(numbers: &[u64], shelf: &S) -> u64
 }
 
 /// Returns the last of the arrivals of these numbers, or `None` if none of them is live.
-fn latest<S: Shelf>(numbers: &[u64], shelf: &S) -> Option<u64>
+fn latest<S: Shelf>(numbers: &[u32], shelf: &S) -> Option<u64>
     requires { S.ready shelf.now ≡ true }
     ensures value { (a : Archive) → S.holds shelf.now a
         → result ≡ latest_of (shown_all a.entries numbers.now) }
@@ -87,12 +86,12 @@ fn latest<S: Shelf>(numbers: &[u64], shelf: &S) -> Option<u64>
 }
 
 /// Returns when the mail of a number arrived, if it is live and arrived at a moment.
-fn arrival<S: Shelf>(n: u64, shelf: &S) -> Option<u64>
+fn arrival<S: Shelf>(n: u32, shelf: &S) -> Option<u64>
     requires { S.ready shelf.now ≡ true }
     ensures value { (a : Archive) → S.holds shelf.now a → result ≡ latest_of (shown_at a.entries n) }
     ensures moment { IfSome result IsMoment }
 {
-    match row_of_number(n, shelf) {
+    match shelf.row(n) {
         Some(row) => moment_of(row),
         None => None,
     }
@@ -128,14 +127,14 @@ fn later(first: Option<u64>, second: Option<u64>) -> Option<u64>
 /// A refusal may leave a part of them appended.
 fn push_mails<S: Shelf>(
     alloc: Global,
-    numbers: &[u64],
+    numbers: &[u32],
     shelf: &mut S,
     into: &mut Bytes,
 ) -> Result<(), TextRefusal>
     requires { S.ready shelf.old ≡ true }
     ensures entries { (a : Archive) → S.holds shelf.old a → AppendsOrRefuses
         (entries_of a.config.name (shown_all a.entries numbers.now)) into.old into.new result }
-    ensures shelf { ShelfStays S.holds S.ready S.alike S.faults shelf.old shelf.new }
+    ensures shelf { ShelfKept S.Shelf shelf.old shelf.new }
     ensures cause { ReadCause (S.faults shelf.old) (S.faults shelf.new) result }
     ensures reads { ReadsUpTo (length numbers.now) (S.reads shelf.old) (S.reads shelf.new) }
 {
@@ -153,20 +152,21 @@ fn push_mails<S: Shelf>(
 /// A refusal may leave a part of it appended.
 fn push_mail<S: Shelf>(
     alloc: Global,
-    n: u64,
+    n: u32,
     shelf: &mut S,
     into: &mut Bytes,
 ) -> Result<(), TextRefusal>
     requires { S.ready shelf.old ≡ true }
     ensures entry { (a : Archive) → S.holds shelf.old a → AppendsOrRefuses
         (entries_of a.config.name (shown_at a.entries n)) into.old into.new result }
-    ensures shelf { ShelfStays S.holds S.ready S.alike S.faults shelf.old shelf.new }
+    ensures shelf { ShelfKept S.Shelf shelf.old shelf.new }
     ensures cause { ReadCause (S.faults shelf.old) (S.faults shelf.new) result }
     ensures reads { ReadsOnce (S.reads shelf.old) (S.reads shelf.new) }
 {
-    match live_number(n, shelf) {
-        Some(number) => push_live(alloc, number, shelf, into),
-        None => Ok(()),
+    if is_live(n, shelf) {
+        push_live(alloc, n, shelf, into)
+    } else {
+        Ok(())
     }
 }
 
@@ -184,7 +184,7 @@ fn push_live<S: Shelf>(
         → is_some (text_of (live a.entries) n) ≡ true }
     ensures entry { (a : Archive) → S.holds shelf.old a → AppendsOrRefuses (entries_of a.config.name
         (shown_by (shown_row a.entries n) (shown_text a.entries n))) into.old into.new result }
-    ensures shelf { ShelfStays S.holds S.ready S.alike S.faults shelf.old shelf.new }
+    ensures shelf { ShelfKept S.Shelf shelf.old shelf.new }
     ensures cause { ReadCause (S.faults shelf.old) (S.faults shelf.new) result }
     ensures reads { ReadsOnce (S.reads shelf.old) (S.reads shelf.new) }
 {

@@ -1,9 +1,10 @@
 //! Finds what stands under the target of a request.
 //! Reads the disk.
 ghost use Rattle.std.specs.Prelude.{◌≡◌, IfOk, Some, true, take};
+ghost use Rattle.arch_model.specs.OverShelf.{ShelfKept};
 ghost use Rattle.arch_model.specs.Archives.{Archive, live};
 ghost use Rattle.arch_model.specs.Listings.{listing};
-ghost use Rattle.arch_model.specs.Shelves.{ShelfStays, ReadCause, ReadsIn};
+ghost use Rattle.arch_model.specs.Shelves.{ReadCause, ReadsIn};
 ghost use Rattle.http_heads.specs.Addresses.{shown};
 ghost use Rattle.http_front.specs.Views.{number_named};
 ghost use Rattle.http_front.specs.Asking.{named_found, target_found, feed_found, found_of, feed_len, reads_texts, target_reads, texts_for, target_texts};
@@ -14,7 +15,7 @@ use crate::feed::feed_at;
 use crate::listing::listing_at;
 use crate::message::{message_at, text_at};
 use crate::thread::{newest_of, oldest_of, thread_at};
-use arch_base::{Bytes, NoMemory, Numbers};
+use arch_base::{Bytes, MessageNumbers, NoMemory};
 use arch_model::{Shelf, TextRefusal};
 use http_heads::{Address, Body, address_of, segments, split_target};
 use std::alloc::Global;
@@ -27,7 +28,7 @@ pub(crate) enum FoundBody {
     /// The mailbox file of all mails.
     EveryMail,
     /// The mailbox file of these numbers.
-    Mails(Numbers),
+    Mails(MessageNumbers),
     /// Nothing.
     Nothing,
     /// That the text to search for is no query.
@@ -64,7 +65,7 @@ pub(crate) fn find_target<S: Shelf>(
     requires { S.ready shelf.old ≡ true }
     ensures found { FindsIn S.holds (λ a. target_found a target.now)
         (λ a. target_reads a target.now) shelf.old result }
-    ensures shelf { ShelfStays S.holds S.ready S.alike S.faults shelf.old shelf.new }
+    ensures shelf { ShelfKept S.Shelf shelf.old shelf.new }
     ensures cause { ReadCause (S.faults shelf.old) (S.faults shelf.new) result }
     ensures reads { ReadsIn S.holds (λ a. target_texts a target.now) shelf.old (S.reads shelf.old)
         (S.reads shelf.new) }
@@ -90,7 +91,7 @@ fn find_address<S: Shelf>(
     requires { S.ready shelf.old ≡ true }
     ensures found { FindsIn S.holds (λ a. named_found a query.now (shown address.entry))
         (λ a. reads_texts (shown address.entry)) shelf.old result }
-    ensures shelf { ShelfStays S.holds S.ready S.alike S.faults shelf.old shelf.new }
+    ensures shelf { ShelfKept S.Shelf shelf.old shelf.new }
     ensures cause { ReadCause (S.faults shelf.old) (S.faults shelf.new) result }
     ensures reads { ReadsIn S.holds (λ a. texts_for (shown address.entry)) shelf.old (S.reads shelf.old)
         (S.reads shelf.new) }
@@ -116,7 +117,7 @@ fn find_newest<S: Shelf>(alloc: Global, shelf: &mut S) -> Result<FoundBody, Text
     requires { S.ready shelf.old ≡ true }
     ensures found { FindsIn S.holds (λ a. feed_found a (take feed_len (listing (live a.entries))))
         (λ a. true) shelf.old result }
-    ensures shelf { ShelfStays S.holds S.ready S.alike S.faults shelf.old shelf.new }
+    ensures shelf { ShelfKept S.Shelf shelf.old shelf.new }
     ensures cause { ReadCause (S.faults shelf.old) (S.faults shelf.new) result }
     ensures reads { ReadsIn S.holds (λ a. feed_len) shelf.old (S.reads shelf.old)
         (S.reads shelf.new) }
@@ -139,7 +140,7 @@ fn find_mail<S: Shelf>(
     ensures found { FindsIn S.holds
         (λ a. found_of (number_named a.entries id.now) (form_found a form))
         (λ a. form_reads form) shelf.old result }
-    ensures shelf { ShelfStays S.holds S.ready S.alike S.faults shelf.old shelf.new }
+    ensures shelf { ShelfKept S.Shelf shelf.old shelf.new }
     ensures cause { ReadCause (S.faults shelf.old) (S.faults shelf.new) result }
     ensures reads { ReadsIn S.holds (λ a. form_texts form) shelf.old (S.reads shelf.old)
         (S.reads shelf.new) }
@@ -176,7 +177,7 @@ fn find_number<S: Shelf>(
     requires { S.ready shelf.old ≡ true }
     ensures found { FindsIn S.holds (λ a. form_found a form n) (λ a. form_reads form)
         shelf.old result }
-    ensures shelf { ShelfStays S.holds S.ready S.alike S.faults shelf.old shelf.new }
+    ensures shelf { ShelfKept S.Shelf shelf.old shelf.new }
     ensures cause { ReadCause (S.faults shelf.old) (S.faults shelf.new) result }
     ensures reads { ReadsIn S.holds (λ a. form_texts form) shelf.old (S.reads shelf.old)
         (S.reads shelf.new) }

@@ -3,7 +3,7 @@
 ghost use Rattle.std.specs.Prelude.{◌≡◌, ◌++◌, IfOk, OnOk, None, true, codes, map, option_copied};
 ghost use Rattle.arch_model.specs.Archives.{Archive};
 ghost use Rattle.http_heads.specs.Parameters.{parameter as parameter_of, skipped};
-ghost use Rattle.http_front.specs.Views.{one_row, row_at, rows_at};
+ghost use Rattle.http_front.specs.Views.{one_row, rows_at};
 ghost use Rattle.http_front.specs.Asking.{Gives, listing_found};
 ghost use Rattle.http_front.specs.Sessions.{MakesPage};
 
@@ -78,7 +78,7 @@ fn skip_in(alloc: Global, query: &[u8]) -> Result<u64, NoMemory>
 /// Returns the rows of these numbers, in their order.
 pub(crate) fn rows_of<'a, S: Shelf>(
     alloc: Global,
-    numbers: &[u64],
+    numbers: &[u32],
     shelf: &'a S,
 ) -> Result<Vec<&'a Row>, NoMemory>
     requires { S.ready shelf.now ≡ true }
@@ -87,7 +87,7 @@ pub(crate) fn rows_of<'a, S: Shelf>(
 {
     let mut rows = Vec::new(alloc);
     for n in numbers {
-        push_found(row_of_number(*n, shelf), &mut rows)?;
+        push_found(shelf.row(*n), &mut rows)?;
     }
     Ok(rows)
 }
@@ -103,18 +103,5 @@ fn push_found<'a>(found: Option<&'a Row>, rows: &mut Vec<&'a Row>) -> Result<(),
             Ok(())
         }
         None => Ok(()),
-    }
-}
-
-/// Returns the row of a number, if it is live. Numbers of more than 32 bits aren't.
-pub(crate) fn row_of_number<S: Shelf>(n: u64, shelf: &S) -> Option<&Row>
-    requires { S.ready shelf.now ≡ true }
-    ensures { (a : Archive) → S.holds shelf.now a
-        → one_row (option_copied result) ≡ row_at a.entries n }
-{
-    if n <= u64::from(u32::MAX) {
-        shelf.row(n as u32)
-    } else {
-        None
     }
 }

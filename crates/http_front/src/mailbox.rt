@@ -1,12 +1,13 @@
 //! Mailbox files, as streamed replies whose length is said first.
 //! Reads the disk.
 ghost use Rattle.std.specs.Prelude.{◌≡◌, ◌++◌, ◌<◌, ◌^◌, ℕ, [], length, true, false, is_some, IfOk, OnErr, Result};
-ghost use Rattle.line_door.specs.Acts.{outside};
+ghost use Rattle.line_door.specs.Acts.{at_sink};
 ghost use Rattle.arch_base.specs.Moments.{IsMoment};
+ghost use Rattle.arch_model.specs.OverShelf.{ShelfKept};
 ghost use Rattle.arch_model.specs.Archives.{Archive, live, text_of};
 ghost use Rattle.arch_model.specs.Next.{continues};
-ghost use Rattle.arch_model.specs.Shelves.{ShelfStays, ReadCause, ReadsOnce, ReadsUpTo, ReadsIn};
-ghost use Rattle.edge_io.specs.Phrases.{Says};
+ghost use Rattle.arch_model.specs.Shelves.{ReadCause, ReadsOnce, ReadsUpTo, ReadsIn};
+ghost use Rattle.edge_io.specs.Phrases.{Says, SaysTo};
 ghost use Rattle.edge_io.specs.declared.sink.SinkFault.{SinkFault};
 ghost use Rattle.http_heads.specs.Replies.{reply_head};
 ghost use Rattle.http_front.specs.Views.{shown_text};
@@ -18,11 +19,10 @@ ghost use Rattle.http_front.specs.Sessions.{SaysThen, ServesMailbox, StreamsOn, 
 ghost use Rattle.http_front.specs.Streaming.{StreamsPart};
 
 use crate::answer::next_after;
-use crate::listing::row_of_number;
-use crate::numbers::{live_from, live_number};
+use crate::numbers::live_from;
 use crate::replies::{say_status, say_unread};
 use arch_base::{Bytes, NoMemory};
-use arch_model::{Next, Shelf, TextRefusal};
+use arch_model::{Next, Shelf, TextRefusal, is_live};
 use atom_mbox::mbox_piece;
 use edge_io::{Sink, SinkFault, say};
 use http_heads::{Body, Status, push_reply_head};
@@ -66,11 +66,11 @@ pub(crate) fn say_every_mail<S: Shelf, O: Sink>(
     requires ready { S.ready shelf.old ≡ true }
     requires moment { IsMoment moment }
     ensures acts { ServesMailbox S.holds (λ a. whole_mailbox a.entries) moment sends closes shelf.old
-        (outside (O.taken out.old) (S.faults shelf.old) (O.faults out.old)) (continues result)
-        (outside (O.taken out.new) (S.faults shelf.new) (O.faults out.new)) }
+        (at_sink O.Sink out.old (S.faults shelf.old)) (continues result)
+        (at_sink O.Sink out.new (S.faults shelf.new)) }
     ensures reads { ReadsIn S.holds (λ a. body_texts sends (length (live a.entries))) shelf.old
         (S.reads shelf.old) (S.reads shelf.new) }
-    ensures shelf { ShelfStays S.holds S.ready S.alike S.faults shelf.old shelf.new }
+    ensures shelf { ShelfKept S.Shelf shelf.old shelf.new }
     ensures sink { O.alike out.old out.new }
 {
     let len = every_len(shelf);
@@ -91,7 +91,7 @@ pub(crate) fn say_every_mail<S: Shelf, O: Sink>(
 /// One text is in memory at a time.
 pub(crate) fn say_mails<S: Shelf, O: Sink>(
     alloc: Global,
-    numbers: &[u64],
+    numbers: &[u32],
     moment: u64,
     sends: bool,
     closes: bool,
@@ -101,12 +101,12 @@ pub(crate) fn say_mails<S: Shelf, O: Sink>(
     requires ready { S.ready shelf.old ≡ true }
     requires moment { IsMoment moment }
     ensures acts { ServesMailbox S.holds (λ a. mailbox_at a.entries numbers.now) moment sends closes
-        shelf.old (outside (O.taken out.old) (S.faults shelf.old) (O.faults out.old))
+        shelf.old (at_sink O.Sink out.old (S.faults shelf.old))
         (continues result)
-        (outside (O.taken out.new) (S.faults shelf.new) (O.faults out.new)) }
+        (at_sink O.Sink out.new (S.faults shelf.new)) }
     ensures reads { ReadsUpTo (body_texts sends (length numbers.now)) (S.reads shelf.old)
         (S.reads shelf.new) }
-    ensures shelf { ShelfStays S.holds S.ready S.alike S.faults shelf.old shelf.new }
+    ensures shelf { ShelfKept S.Shelf shelf.old shelf.new }
     ensures sink { O.alike out.old out.new }
 {
     let len = len_of(numbers, shelf);
@@ -135,8 +135,8 @@ fn head_of(alloc: Global, len: u128, moment: u64, closes: bool) -> Result<Bytes,
 /// Writes that memory ran out, in place of a reply, and ends the session.
 fn end_without_memory<O: Sink>(moment: u64, sends: bool, out: &mut O) -> Next
     requires { IsMoment moment }
-    ensures said { (sent : Result Unit SinkFault) × Says (word Status.Unavailable moment sends true)
-        (O.taken out.old) (O.faults out.old) (O.taken out.new) (O.faults out.new) sent }
+    ensures said { (sent : Result Unit SinkFault) × SaysTo O.Sink
+        (word Status.Unavailable moment sends true) out.old out.new sent }
     ensures next { continues result ≡ false }
     ensures sink { O.alike out.old out.new }
 {
@@ -153,13 +153,13 @@ fn every_len<S: Shelf>(shelf: &S) -> u128
     let mut low: u64 = 0;
     while let Some(n) = live_from(low, shelf) {
         len += piece_len(n, shelf);
-        low = n + 1;
+        low = u64::from(n) + 1;
     }
     len
 }
 
 /// Returns the length of the mailbox file of these numbers, in bytes.
-fn len_of<S: Shelf>(numbers: &[u64], shelf: &S) -> u128
+fn len_of<S: Shelf>(numbers: &[u32], shelf: &S) -> u128
     requires { S.ready shelf.now ≡ true }
     ensures { (a : Archive) → S.holds shelf.now a
         → result ≡ length (mailbox_at a.entries numbers.now) }
@@ -172,12 +172,12 @@ fn len_of<S: Shelf>(numbers: &[u64], shelf: &S) -> u128
 }
 
 /// Returns the length of the piece of a number, as its row tells it.
-fn piece_len<S: Shelf>(n: u64, shelf: &S) -> u128
+fn piece_len<S: Shelf>(n: u32, shelf: &S) -> u128
     requires { S.ready shelf.now ≡ true }
     ensures value { (a : Archive) → S.holds shelf.now a → result ≡ length (piece_at a.entries n) }
     ensures small { result < 2 ^ 64 }
 {
-    match row_of_number(n, shelf) {
+    match shelf.row(n) {
         Some(row) => widened(row.mbox),
         None => 0,
     }
@@ -203,11 +203,11 @@ fn say_every_piece<S: Shelf, O: Sink>(
     requires moment { IsMoment manner.moment }
     ensures acts { StreamsOn S.holds (λ a. unsaid ++ whole_mailbox a.entries) manner.moment
         manner.closes shelf.old
-        (outside (O.taken out.old) (S.faults shelf.old) (O.faults out.old)) (continues result)
-        (outside (O.taken out.new) (S.faults shelf.new) (O.faults out.new)) }
+        (at_sink O.Sink out.old (S.faults shelf.old)) (continues result)
+        (at_sink O.Sink out.new (S.faults shelf.new)) }
     ensures reads { ReadsIn S.holds (λ a. length (live a.entries)) shelf.old (S.reads shelf.old)
         (S.reads shelf.new) }
-    ensures shelf { ShelfStays S.holds S.ready S.alike S.faults shelf.old shelf.new }
+    ensures shelf { ShelfKept S.Shelf shelf.old shelf.new }
     ensures sink { O.alike out.old out.new }
 {
     let mut begun = false;
@@ -216,7 +216,7 @@ fn say_every_piece<S: Shelf, O: Sink>(
         match say_part(alloc, n, begun, &mut unsaid, shelf, out) {
             Part::Put(said) => {
                 begun = said;
-                low = n + 1;
+                low = u64::from(n) + 1;
             }
             Part::Lost => return Next::Close,
             Part::Unread(refusal) => return stop(alloc, begun, refusal, manner.moment, out),
@@ -228,7 +228,7 @@ fn say_every_piece<S: Shelf, O: Sink>(
 /// Writes what is to be said and then the pieces of these numbers.
 fn say_pieces<S: Shelf, O: Sink>(
     alloc: Global,
-    numbers: &[u64],
+    numbers: &[u32],
     manner: Manner,
     mut unsaid: Bytes,
     shelf: &mut S,
@@ -238,10 +238,10 @@ fn say_pieces<S: Shelf, O: Sink>(
     requires moment { IsMoment manner.moment }
     ensures acts { StreamsOn S.holds (λ a. unsaid ++ mailbox_at a.entries numbers.now) manner.moment
         manner.closes shelf.old
-        (outside (O.taken out.old) (S.faults shelf.old) (O.faults out.old)) (continues result)
-        (outside (O.taken out.new) (S.faults shelf.new) (O.faults out.new)) }
+        (at_sink O.Sink out.old (S.faults shelf.old)) (continues result)
+        (at_sink O.Sink out.new (S.faults shelf.new)) }
     ensures reads { ReadsUpTo (length numbers.now) (S.reads shelf.old) (S.reads shelf.new) }
-    ensures shelf { ShelfStays S.holds S.ready S.alike S.faults shelf.old shelf.new }
+    ensures shelf { ShelfKept S.Shelf shelf.old shelf.new }
     ensures sink { O.alike out.old out.new }
 {
     let mut begun = false;
@@ -258,7 +258,7 @@ fn say_pieces<S: Shelf, O: Sink>(
 /// Puts the piece of a number after what is to be said, and says that if it is long.
 fn say_part<S: Shelf, O: Sink>(
     alloc: Global,
-    n: u64,
+    n: u32,
     begun: bool,
     unsaid: &mut Bytes,
     shelf: &mut S,
@@ -266,15 +266,16 @@ fn say_part<S: Shelf, O: Sink>(
 ) -> Part
     requires { S.ready shelf.old ≡ true }
     ensures part { (a : Archive) → S.holds shelf.old a → StreamsPart (piece_at a.entries n) begun unsaid.old
-        (outside (O.taken out.old) (S.faults shelf.old) (O.faults out.old)) result unsaid.new
-        (outside (O.taken out.new) (S.faults shelf.new) (O.faults out.new)) }
+        (at_sink O.Sink out.old (S.faults shelf.old)) result unsaid.new
+        (at_sink O.Sink out.new (S.faults shelf.new)) }
     ensures reads { ReadsOnce (S.reads shelf.old) (S.reads shelf.new) }
-    ensures shelf { ShelfStays S.holds S.ready S.alike S.faults shelf.old shelf.new }
+    ensures shelf { ShelfKept S.Shelf shelf.old shelf.new }
     ensures sink { O.alike out.old out.new }
 {
-    match live_number(n, shelf) {
-        Some(number) => say_piece(alloc, number, begun, unsaid, shelf, out),
-        None => Part::Put(begun),
+    if is_live(n, shelf) {
+        say_piece(alloc, n, begun, unsaid, shelf, out)
+    } else {
+        Part::Put(begun)
     }
 }
 
@@ -292,10 +293,10 @@ fn say_piece<S: Shelf, O: Sink>(
         → is_some (text_of (live a.entries) n) ≡ true }
     ensures part { (a : Archive) → S.holds shelf.old a
         → StreamsPart (piece_by (shown_text a.entries n)) begun unsaid.old
-        (outside (O.taken out.old) (S.faults shelf.old) (O.faults out.old)) result unsaid.new
-        (outside (O.taken out.new) (S.faults shelf.new) (O.faults out.new)) }
+        (at_sink O.Sink out.old (S.faults shelf.old)) result unsaid.new
+        (at_sink O.Sink out.new (S.faults shelf.new)) }
     ensures reads { ReadsOnce (S.reads shelf.old) (S.reads shelf.new) }
-    ensures shelf { ShelfStays S.holds S.ready S.alike S.faults shelf.old shelf.new }
+    ensures shelf { ShelfKept S.Shelf shelf.old shelf.new }
     ensures sink { O.alike out.old out.new }
 {
     match push_piece(alloc, n, unsaid, shelf) {
@@ -307,8 +308,8 @@ fn say_piece<S: Shelf, O: Sink>(
 /// Says what is to be said if it is long.
 fn say_long<O: Sink>(begun: bool, unsaid: &mut Bytes, out: &mut O) -> Part
     ensures part { (disk : ℕ) → StreamsPart [] begun unsaid.old
-        (outside (O.taken out.old) disk (O.faults out.old)) result unsaid.new
-        (outside (O.taken out.new) disk (O.faults out.new)) }
+        (at_sink O.Sink out.old disk) result unsaid.new
+        (at_sink O.Sink out.new disk) }
     ensures sink { O.alike out.old out.new }
 {
     if unsaid.as_slice().len() < PART_LEN {
@@ -339,7 +340,7 @@ fn push_piece<S: Shelf>(
         → AppendsOrRefuses (piece_by (shown_text a.entries n)) into.old into.new result }
     ensures refused { OnErr result (into.new ≡ into.old) }
     ensures reads { ReadsOnce (S.reads shelf.old) (S.reads shelf.new) }
-    ensures shelf { ShelfStays S.holds S.ready S.alike S.faults shelf.old shelf.new }
+    ensures shelf { ShelfKept S.Shelf shelf.old shelf.new }
     ensures cause { ReadCause (S.faults shelf.old) (S.faults shelf.new) result }
 {
     let mut text = Bytes::new(alloc);

@@ -1,8 +1,9 @@
 //! The page and the text of a message.
 //! Reads the disk.
 ghost use Rattle.std.specs.Prelude.{◌≡◌, Some, true};
+ghost use Rattle.arch_model.specs.OverShelf.{ShelfKept};
 ghost use Rattle.arch_model.specs.Archives.{Archive};
-ghost use Rattle.arch_model.specs.Shelves.{ShelfStays, ReadCause, ReadsOnce};
+ghost use Rattle.arch_model.specs.Shelves.{ReadCause, ReadsOnce};
 ghost use Rattle.http_front.specs.Views.{shown_row, shown_text};
 ghost use Rattle.http_front.specs.Asking.{message_found, text_found};
 ghost use Rattle.http_front.specs.Sessions.{FindsIn, MakesPage};
@@ -25,7 +26,7 @@ pub(crate) fn text_at<S: Shelf>(
     requires { S.ready shelf.old ≡ true }
     ensures found { FindsIn S.holds (λ a. text_found (shown_text a.entries n)) (λ a. true)
         shelf.old result }
-    ensures shelf { ShelfStays S.holds S.ready S.alike S.faults shelf.old shelf.new }
+    ensures shelf { ShelfKept S.Shelf shelf.old shelf.new }
     ensures cause { ReadCause (S.faults shelf.old) (S.faults shelf.new) result }
     ensures reads { ReadsOnce (S.reads shelf.old) (S.reads shelf.new) }
 {
@@ -49,7 +50,7 @@ pub(crate) fn message_at<S: Shelf>(
     ensures found { FindsIn S.holds
         (λ a. message_found a (shown_row a.entries n) (shown_text a.entries n)) (λ a. true)
         shelf.old result }
-    ensures shelf { ShelfStays S.holds S.ready S.alike S.faults shelf.old shelf.new }
+    ensures shelf { ShelfKept S.Shelf shelf.old shelf.new }
     ensures cause { ReadCause (S.faults shelf.old) (S.faults shelf.new) result }
     ensures reads { ReadsOnce (S.reads shelf.old) (S.reads shelf.new) }
 {

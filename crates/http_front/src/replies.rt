@@ -2,7 +2,7 @@
 //! Allocates.
 ghost use Rattle.std.specs.Prelude.{◌≡◌, ◌≤◌, ◌+◌, ◌++◌, ℕ, length, decimal, IfOk, OnOk, true};
 ghost use Rattle.arch_base.specs.Moments.{IsMoment};
-ghost use Rattle.edge_io.specs.Phrases.{Says};
+ghost use Rattle.edge_io.specs.Phrases.{SaysTo};
 ghost use Rattle.http_front.specs.Sessions.{PageSaysUnread};
 ghost use Rattle.http_heads.specs.Dates.{reply_date};
 ghost use Rattle.http_heads.specs.Replies.{allow_line as allow, close_line as close};
@@ -52,8 +52,7 @@ pub(crate) fn say_status<O: Sink>(
     out: &mut O,
 ) -> Result<(), SinkFault>
     requires { IsMoment moment }
-    ensures said { Says (word status moment sends closes) (O.taken out.old) (O.faults out.old)
-        (O.taken out.new) (O.faults out.new) result }
+    ensures said { SaysTo O.Sink (word status moment sends closes) out.old out.new result }
     ensures sink { O.alike out.old out.new }
 {
     say_words(status, status_line(status), moment, sends, closes, out)
@@ -69,8 +68,8 @@ pub(crate) fn say_words<O: Sink>(
     out: &mut O,
 ) -> Result<(), SinkFault>
     requires { IsMoment moment }
-    ensures said { Says (word_of status words.now moment sends closes) (O.taken out.old)
-        (O.faults out.old) (O.taken out.new) (O.faults out.new) result }
+    ensures said { SaysTo O.Sink (word_of status words.now moment sends closes) out.old out.new
+        result }
     ensures sink { O.alike out.old out.new }
 {
     say_dated(status, words, &date_at(moment), sends, closes, out)
@@ -86,8 +85,7 @@ fn say_dated<'a, O: Sink>(
     out: &mut O,
 ) -> Result<(), SinkFault>
     ensures said { (moment : ℕ) → date.now ≡ reply_date moment
-        → Says (word_of status words.now moment sends closes) (O.taken out.old) (O.faults out.old)
-        (O.taken out.new) (O.faults out.new) result }
+        → SaysTo O.Sink (word_of status words.now moment sends closes) out.old out.new result }
     ensures sink { O.alike out.old out.new }
 {
     send(
@@ -121,8 +119,9 @@ pub(crate) fn say_damaged_file<'a, O: Sink>(
 ) -> Result<(), SinkFault>
     requires moment { IsMoment moment }
     requires short { length name.now + length number.now ≤ 64 }
-    ensures said { Says (word_of Status.ServerError (file_line (name.now ++ number.now) at) moment
-        true true) (O.taken out.old) (O.faults out.old) (O.taken out.new) (O.faults out.new) result }
+    ensures said { SaysTo O.Sink (word_of Status.ServerError
+        (file_line (name.now ++ number.now) at) moment
+        true true) out.old out.new result }
     ensures sink { O.alike out.old out.new }
 {
     let mut digits = Buffer::new();
@@ -142,8 +141,8 @@ fn say_file_line<'a, O: Sink>(
 ) -> Result<(), SinkFault>
     requires { len ≡ length name.now + length number.now + length offset.now + 10 }
     ensures said { (moment at : ℕ) → date.now ≡ reply_date moment → offset.now ≡ decimal at
-        → Says (word_of Status.ServerError (file_line (name.now ++ number.now) at) moment true true)
-        (O.taken out.old) (O.faults out.old) (O.taken out.new) (O.faults out.new) result }
+        → SaysTo O.Sink (word_of Status.ServerError
+        (file_line (name.now ++ number.now) at) moment true true) out.old out.new result }
     ensures sink { O.alike out.old out.new }
 {
     let status = Status::ServerError;

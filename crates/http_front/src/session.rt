@@ -1,11 +1,11 @@
 //! A connection for pages: the bytes that are not answered yet, and the answer to a piece.
 //! Reads the disk.
 ghost use Rattle.std.specs.Prelude.{◌≡◌, ◌⊎◌, ◌≤◌, ◌+◌, ◌++◌, ℕ, [], length, true, if◌then◌else◌};
-ghost use Rattle.line_door.specs.Acts.{outside};
+ghost use Rattle.line_door.specs.Acts.{at_sink};
 ghost use Rattle.arch_base.specs.Moments.{IsMoment};
+ghost use Rattle.arch_model.specs.OverShelf.{ShelfKept};
 ghost use Rattle.arch_model.specs.Archives.{Archive};
 ghost use Rattle.arch_model.specs.Next.{continues};
-ghost use Rattle.arch_model.specs.Shelves.{ShelfStays};
 ghost use Rattle.http_front.specs.Fronts.{head_limit};
 
 use crate::answer::answer_head;
@@ -100,14 +100,14 @@ impl HttpSession {
         requires ready { S.ready shelf.old ≡ true }
         requires moment { IsMoment moment }
         ensures fed { AnswersPages S.holds moment (self.old ++ piece.now) shelf.old
-            (outside (O.taken out.old) (S.faults shelf.old) (O.faults out.old))
+            (at_sink O.Sink out.old (S.faults shelf.old))
             (continues result) self.new
-            (outside (O.taken out.new) (S.faults shelf.new) (O.faults out.new)) }
+            (at_sink O.Sink out.new (S.faults shelf.new)) }
         ensures reads { ReadsBytes S.holds (self.old ++ piece.now) shelf.old (S.reads shelf.old)
             (S.reads shelf.new) }
         ensures unread { ReadsNothing S.holds (self.old ++ piece.now) shelf.old (S.reads shelf.old)
             (S.reads shelf.new) }
-        ensures shelf { ShelfStays S.holds S.ready S.alike S.faults shelf.old shelf.new }
+        ensures shelf { ShelfKept S.Shelf shelf.old shelf.new }
         ensures sink { O.alike out.old out.new }
     {
         let mut rest = piece;
@@ -131,12 +131,12 @@ impl HttpSession {
         requires ready { S.ready shelf.old ≡ true }
         requires moment { IsMoment moment }
         ensures turn { PageActs S.holds moment self.old piece.now shelf.old
-            (outside (O.taken out.old) (S.faults shelf.old) (O.faults out.old)) result self.new
-            (outside (O.taken out.new) (S.faults shelf.new) (O.faults out.new)) }
+            (at_sink O.Sink out.old (S.faults shelf.old)) result self.new
+            (at_sink O.Sink out.new (S.faults shelf.new)) }
         ensures takes { TakesHead piece.now result }
         ensures reads { ReadsTurn S.holds self.old piece.now shelf.old result self.new
             (S.reads shelf.old) (S.reads shelf.new) }
-        ensures shelf { ShelfStays S.holds S.ready S.alike S.faults shelf.old shelf.new }
+        ensures shelf { ShelfKept S.Shelf shelf.old shelf.new }
         ensures sink { O.alike out.old out.new }
     {
         match head_in(self.held.as_slice(), self.seen, piece) {
@@ -164,13 +164,13 @@ impl HttpSession {
         requires moment { IsMoment moment }
         requires room { length self.old + length last.now ≤ head_limit }
         ensures acts { AnswersHead S.holds moment (self.old ++ last.now) shelf.old
-            (outside (O.taken out.old) (S.faults shelf.old) (O.faults out.old))
+            (at_sink O.Sink out.old (S.faults shelf.old))
             (continues result)
-            (outside (O.taken out.new) (S.faults shelf.new) (O.faults out.new)) }
+            (at_sink O.Sink out.new (S.faults shelf.new)) }
         ensures empty { self.new ≡ [] }
         ensures reads { ReadsHead S.holds (self.old ++ last.now) shelf.old (S.reads shelf.old)
             (S.reads shelf.new) }
-        ensures shelf { ShelfStays S.holds S.ready S.alike S.faults shelf.old shelf.new }
+        ensures shelf { ShelfKept S.Shelf shelf.old shelf.new }
         ensures sink { O.alike out.old out.new }
     {
         if self.held.len() == 0 {
@@ -190,8 +190,8 @@ impl HttpSession {
         requires moment { IsMoment moment }
         ensures turn { (a : Archive) (disk : ℕ)
             → IsPageAct moment a self.old piece.now
-            (outside (O.taken out.old) disk (O.faults out.old)) result self.new
-            (outside (O.taken out.new) disk (O.faults out.new)) }
+            (at_sink O.Sink out.old disk) result self.new
+            (at_sink O.Sink out.new disk) }
         ensures ends { (result ≡ Act.Kept) ⊎ (result ≡ Act.Closed) }
         ensures sink { O.alike out.old out.new }
     {

@@ -13,7 +13,7 @@ ghost use Rattle.http_front.specs.Sessions.{MakesPage};
 
 use crate::found::FoundBody;
 use crate::listing::rows_of;
-use arch_base::{NoMemory, Numbers};
+use arch_base::{MessageNumbers, NoMemory};
 use arch_model::Shelf;
 use html_pages::{ThreadEntry, ThreadLine, thread_page};
 use http_heads::Body;
@@ -27,15 +27,19 @@ use thread_tree::{Line, Who};
 type Place = (u64, u32);
 
 /// Returns the numbers of the thread of a number, by date and then by number. Reads no text.
-pub(crate) fn oldest_of<S: Shelf>(alloc: Global, n: u32, shelf: &S) -> Result<Numbers, NoMemory>
+pub(crate) fn oldest_of<S: Shelf>(
+    alloc: Global,
+    n: u32,
+    shelf: &S,
+) -> Result<MessageNumbers, NoMemory>
     requires { S.ready shelf.now ≡ true }
     ensures { (a : Archive) → S.holds shelf.now a
         → IfOk result (λ numbers. numbers ≡ oldest_first (thread_rows a.entries n)) }
 {
     let mut places = places_of(alloc, n, shelf)?;
-    let mut numbers = Numbers::new(alloc);
+    let mut numbers = MessageNumbers::new(alloc);
     while let Some(place) = places.pop_first() {
-        numbers.push(u64::from(place.1))?;
+        numbers.push(place.1)?;
     }
     Ok(numbers)
 }
@@ -47,7 +51,7 @@ pub(crate) fn newest_of<S: Shelf>(
     n: u32,
     count: usize,
     shelf: &S,
-) -> Result<Numbers, NoMemory>
+) -> Result<MessageNumbers, NoMemory>
     requires { S.ready shelf.now ≡ true }
     ensures { (a : Archive) → S.holds shelf.now a → IfOk result (λ numbers.
         numbers ≡ take count (reverse (oldest_first (thread_rows a.entries n)))) }
@@ -55,7 +59,7 @@ pub(crate) fn newest_of<S: Shelf>(
     let mut numbers = oldest_of(alloc, n, shelf)?.into_vec();
     numbers.as_mut_slice().reverse();
     numbers.truncate(count);
-    Ok(Numbers::from_vec(numbers))
+    Ok(MessageNumbers::from_vec(numbers))
 }
 
 /// Returns the places of the mails in the thread of a number.

@@ -5,7 +5,7 @@
 ghost use Rattle.std.specs.Prelude.{◌++◌, true, codes, decimal};
 ghost use Rattle.arch_base.specs.Moments.{IsMoment};
 ghost use Rattle.arch_model.specs.Delivery.{file_words};
-ghost use Rattle.edge_io.specs.Phrases.{Says};
+ghost use Rattle.edge_io.specs.Phrases.{SaysTo};
 ghost use Rattle.http_front.specs.Replies.{word, word_of, file_line, unopened_word};
 
 use crate::replies::{say_damaged_file, say_status};
@@ -19,8 +19,8 @@ use itoa::Buffer;
 /// in seconds since 1970 UTC.
 pub fn say_busy<O: Sink>(moment: u64, out: &mut O) -> Result<(), SinkFault>
     requires { IsMoment moment }
-    ensures said { Says (word Status.TooManyRequests moment true true) (O.taken out.old)
-        (O.faults out.old) (O.taken out.new) (O.faults out.new) result }
+    ensures said { SaysTo O.Sink (word Status.TooManyRequests moment true true) out.old out.new
+        result }
     ensures sink { O.alike out.old out.new }
 {
     say_status(Status::TooManyRequests, moment, true, true, out)
@@ -30,8 +30,7 @@ pub fn say_busy<O: Sink>(moment: u64, out: &mut O) -> Result<(), SinkFault>
 /// since 1970 UTC.
 pub fn say_no_memory<O: Sink>(moment: u64, out: &mut O) -> Result<(), SinkFault>
     requires { IsMoment moment }
-    ensures said { Says (word Status.Unavailable moment true true) (O.taken out.old)
-        (O.faults out.old) (O.taken out.new) (O.faults out.new) result }
+    ensures said { SaysTo O.Sink (word Status.Unavailable moment true true) out.old out.new result }
     ensures sink { O.alike out.old out.new }
 {
     say_status(Status::Unavailable, moment, true, true, out)
@@ -45,8 +44,7 @@ pub fn say_unopened<O: Sink>(
     out: &mut O,
 ) -> Result<(), SinkFault>
     requires { IsMoment moment }
-    ensures said { Says (unopened_word refusal moment) (O.taken out.old) (O.faults out.old)
-        (O.taken out.new) (O.faults out.new) result }
+    ensures said { SaysTo O.Sink (unopened_word refusal moment) out.old out.new result }
     ensures sink { O.alike out.old out.new }
 {
     match refusal {
@@ -60,8 +58,8 @@ pub fn say_unopened<O: Sink>(
 /// Writes that a file of the archive is damaged, and at which offset.
 fn say_damaged<O: Sink>(file: FileName, at: u64, moment: u64, out: &mut O) -> Result<(), SinkFault>
     requires { IsMoment moment }
-    ensures said { Says (word_of Status.ServerError (file_line (file_words file) at) moment true true)
-        (O.taken out.old) (O.faults out.old) (O.taken out.new) (O.faults out.new) result }
+    ensures said { SaysTo O.Sink (word_of Status.ServerError
+        (file_line (file_words file) at) moment true true) out.old out.new result }
     ensures sink { O.alike out.old out.new }
 {
     match file.kind {
@@ -80,9 +78,8 @@ fn say_damaged_epoch<O: Sink>(
     out: &mut O,
 ) -> Result<(), SinkFault>
     requires { IsMoment moment }
-    ensures said { Says (word_of Status.ServerError
-        (file_line (codes "epoch " ++ decimal number) at) moment true true)
-        (O.taken out.old) (O.faults out.old) (O.taken out.new) (O.faults out.new) result }
+    ensures said { SaysTo O.Sink (word_of Status.ServerError
+        (file_line (codes "epoch " ++ decimal number) at) moment true true) out.old out.new result }
     ensures sink { O.alike out.old out.new }
 {
     let mut digits = Buffer::new();

@@ -8,7 +8,7 @@ use Rattle.line_door.proofs.Courses.{Requests-more, Last-done}
 use Rattle.line_door.proofs.Lifting.{fed-over}
 use Rattle.arch_model.specs.Archives.{Archive}
 use Rattle.arch_model.specs.Standing.{LastKnown, standing, one_of}
-use Rattle.arch_model.specs.Keeping.{HasDoubt, Has, HasAll, CrashesLeaveOnly, MatchesKnown, OnlyRead}
+use Rattle.arch_model.specs.Keeping.{HasDoubt, Has, HasAll, CrashesLeaveOnly, MatchesKnown, OnlyRead, Keeper}
 use Rattle.arch_model.proofs.Keepers.{has-own, all-split}
 use Rattle.keep_course.specs.Courses.{afters, LeftBy, archives_of, archives_in, SessionRunning, SessionRun, SessionRunLeft}
 
@@ -98,32 +98,32 @@ module _ {K H : Type 0} (leaves : K → K → List (Option Archive) → Type 0) 
         course.left start may (last-has may w coming.acts m coming.each (has.0, parts.0), parts.1) (coming.left start may (has.0, parts.0) since);
   }
 
-  module _ (holds files_are : K → Archive → Type 0) (ready : K → Bool) where
-    -- A crash since the start leaves an archive, or one in doubt, of one of the talks.
-    pub crash-in : (old new : K) (w : SessionState H LastKnown) (ms : List (SessionState H LastKnown)) → MatchesKnown holds files_are ready leaves old w.after → LeftBy leaves old new w ms → leaves old new (archives_in w ms)
-    crash-in old new w ms fits left =
-        let own = all-own (w.after ∷ afters ms) in
-        left old (archives_in w ms) own (fits.left (archives_in w ms) own.0)
+module _ {K H : Type 0} (g : Keeper K) (said : LastKnown → H → Departure → Said H LastKnown) (is_request : H → Bool) where
+  -- A crash since the start leaves an archive, or one in doubt, of one of the talks.
+  pub crash-in : (old new : K) (w : SessionState H LastKnown) (ms : List (SessionState H LastKnown)) → MatchesKnown g old w.after → LeftBy g.leaves old new w ms → g.leaves old new (archives_in w ms)
+  crash-in old new w ms fits left =
+      let own = all-own (w.after ∷ afters ms) in
+      left old (archives_in w ms) own (fits.left (archives_in w ms) own.0)
 
-    -- The last act of a course, and what a crash since its start leaves.
-    pub ended : (old mid new : K) (w : SessionState H LastKnown) (h : H) (s : LastKnown) (i : ConnectionState) (held : Option H) (t : LastKnown) (j : ConnectionState) → MatchesKnown holds files_are ready leaves old w.after → SessionRunning leaves said is_request old mid w (talk (Some h) s i) → Acts (said s h) i held t j
-        → (held ≡ None) ⊎ ((is_request h ≡ false) × (j.disk ≡ i.disk)) → CrashesLeaveOnly leaves mid new (s ∷ t ∷ []) → SessionRunLeft leaves said is_request old new w (talk held t j)
-    ended old mid new w h s i held t j fits coming acts ends passes = record {
-      course = record {
-        acts = coming.acts;
-        before = talk (Some h) s i;
-        each = coming.each;
-        last = Last-done said is_request h s i held t j acts ends;
-        left = left-more old mid new w coming.acts (talk (Some h) s i) (talk held t j) coming.each coming.left passes;
-      };
-      crash = crash-in old new w (coming.acts ++ talk held t j ∷ []) fits (left-more old mid new w coming.acts (talk (Some h) s i) (talk held t j) coming.each coming.left passes);
-    }
+  -- The last act of a course, and what a crash since its start leaves.
+  pub ended : (old mid new : K) (w : SessionState H LastKnown) (h : H) (s : LastKnown) (i : ConnectionState) (held : Option H) (t : LastKnown) (j : ConnectionState) → MatchesKnown g old w.after → SessionRunning g.leaves said is_request old mid w (talk (Some h) s i) → Acts (said s h) i held t j
+      → (held ≡ None) ⊎ ((is_request h ≡ false) × (j.disk ≡ i.disk)) → CrashesLeaveOnly g.leaves mid new (s ∷ t ∷ []) → SessionRunLeft g.leaves said is_request old new w (talk held t j)
+  ended old mid new w h s i held t j fits coming acts ends passes = record {
+    course = record {
+      acts = coming.acts;
+      before = talk (Some h) s i;
+      each = coming.each;
+      last = Last-done said is_request h s i held t j acts ends;
+      left = left-more g.leaves said is_request old mid new w coming.acts (talk (Some h) s i) (talk held t j) coming.each coming.left passes;
+    };
+    crash = crash-in old new w (coming.acts ++ talk held t j ∷ []) fits (left-more g.leaves said is_request old mid new w coming.acts (talk (Some h) s i) (talk held t j) coming.each coming.left passes);
+  }
 
 -- The course of a reading door, whose archive stays, is one over the keeper that was lent to it as a
 -- shelf.
-pub reading-course : {K H J : Type 0} (holds files_are : K → Archive → Type 0) (ready : K → Bool) (leaves : K → K → List (Option Archive) → Type 0) (into : H → J) (said : Archive → H → Departure → Said H Archive) (is_request : H → Bool) (other : LastKnown → J → Departure → Said J LastKnown) (is_other : J → Bool)
+pub reading-course : {K H J : Type 0} (g : Keeper K) (into : H → J) (said : Archive → H → Departure → Said H Archive) (is_request : H → Bool) (other : LastKnown → J → Departure → Said J LastKnown) (is_other : J → Bool)
     → ((a : Archive) (h : H) (way : Departure) → other (standing a None) (into h) way ≡ said_over (λ (x : Archive). standing x None) into (said a h way)) → ((h : H) → is_other (into h) ≡ is_request h)
-    → (old new : K) (w v : SessionState H Archive) → OnlyRead holds files_are ready leaves old new → Fed said is_request w v → SessionRun leaves other is_other old new (talk_over (λ (x : Archive). standing x None) into w) (talk_over (λ (x : Archive). standing x None) into v)
-reading-course holds files_are ready leaves into said is_request other is_other same asks old new w v read fed =
+    → (old new : K) (w v : SessionState H Archive) → OnlyRead g old new → Fed said is_request w v → SessionRun g.leaves other is_other old new (talk_over (λ (x : Archive). standing x None) into w) (talk_over (λ (x : Archive). standing x None) into v)
+reading-course g into said is_request other is_other same asks old new w v read fed =
     let lifted = fed-over (λ (x : Archive). standing x None) into said is_request other is_other same asks w v fed in
     record { acts = lifted.0; before = lifted.1; each = lifted.2; last = lifted.3; left = λ start may has since. read.passes start may tt since }

@@ -4,7 +4,7 @@ use Rattle.line_door.specs.Acts.{ConnectionState, Said, Departure, Plain, Memory
 use Rattle.line_door.specs.Making.{says, closes}
 use Rattle.arch_model.specs.Archives.{Archive}
 use Rattle.arch_model.specs.Standing.{LastKnown, standing, unsure}
-use Rattle.arch_model.specs.Keeping.{MatchesKnown, KeeperMoves}
+use Rattle.arch_model.specs.Keeping.{MatchesKnown, KeeperMoves, Keeper}
 use Rattle.arch_model.specs.declared.opening.OpenRefusal.{OpenRefusal}
 use Rattle.arch_model.specs.declared.opening.OpenRefusal.TheVariants as opening
 
@@ -27,23 +27,20 @@ said_reopening line s h Newer = says (standing (newer s) None) h []
 said_reopening line s h Memory = closes s (line opening.NoMemory)
 said_reopening line s h Disk = closes (unsure s) (line opening.DiskFault)
 
--- A keeper: the archives that it holds, those of which its files are exactly, whether it is ready, and
--- what each crash since a state may have left.
-module _ {K : Type 0} (holds files_are : K → Archive → Type 0) (ready : K → Bool)
-    (leaves : K → K → List (Option Archive) → Type 0) where
+module _ {K : Type 0} (g : Keeper K) where
   -- Whichever archive is held, an act of these words is done, and the keeper matches what it leaves. The
   -- session after it, if it is open, is `after` of what follows the request.
   abbrev pub ActsOnArchive : {H R : Type 0} → (Archive → R → Departure → Said H LastKnown) → (R → H) → K
       → ConnectionState → Bool → K → ConnectionState → Type 0
   ActsOnArchive {H} {R} words after old i goes_on new j =
-      (a : Archive) (rest : R) → holds old a → (t : LastKnown)
-      × KeeperMoves holds files_are ready leaves old (standing a None) new t
+      (a : Archive) (rest : R) → g.holds old a → (t : LastKnown)
+      × KeeperMoves g old (standing a None) new t
       × Acts (words a rest) i (held_if goes_on (after rest)) t j
 
   -- Whatever the keeper matches, an act of these words is done, and the keeper matches what it leaves.
   abbrev pub ReopensBy : {H R : Type 0} → (LastKnown → R → Departure → Said H LastKnown) → (R → H) → K
       → ConnectionState → Bool → K → ConnectionState → Type 0
   ReopensBy {H} {R} words after old i opened new j =
-      (s : LastKnown) (rest : R) → MatchesKnown holds files_are ready leaves old s → (t : LastKnown)
-      × KeeperMoves holds files_are ready leaves old s new t
+      (s : LastKnown) (rest : R) → MatchesKnown g old s → (t : LastKnown)
+      × KeeperMoves g old s new t
       × Acts (words s rest) i (held_if opened (after rest)) t j

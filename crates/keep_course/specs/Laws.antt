@@ -6,7 +6,7 @@ use Rattle.line_door.specs.Acts.{Said, Departure}
 use Rattle.line_door.specs.Course.{SessionState}
 use Rattle.arch_model.specs.Archives.{Archive}
 use Rattle.arch_model.specs.Standing.{LastKnown}
-use Rattle.arch_model.specs.Keeping.{CrashesLeaveOnly, MatchesKnown}
+use Rattle.arch_model.specs.Keeping.{Keeper, CrashesLeaveOnly, MatchesKnown}
 use Rattle.keep_course.specs.Courses.{SessionRun, archives_in}
 
 -- It holds its last archive.
@@ -25,11 +25,23 @@ history_ready k = true
 abbrev pub HistoryLeaves : List Archive → List Archive → List (Option Archive) → Type 0
 HistoryLeaves start k may = (a : Archive) → Contains k a → Contains may (Some a)
 
+-- The small keeper. It reads no disk.
+abbrev pub history : Keeper (List Archive)
+history = record {
+  holds = HistoryHolds;
+  ready = history_ready;
+  reads = λ k. 0;
+  faults = λ k. 0;
+  alike = λ k m. k ≡ m;
+  files_are = HistoryRests;
+  leaves = HistoryLeaves;
+}
+
 -- A crash since the start of a course leaves an archive of one of its talks, or one in doubt there.
 abbrev pub CourseLaw : Type 0
 CourseLaw = (said : LastKnown → ℕ → Departure → Said ℕ LastKnown) (is_request : ℕ → Bool)
     (old new : List Archive) (w v : SessionState ℕ LastKnown)
-    → MatchesKnown HistoryHolds HistoryRests history_ready HistoryLeaves old w.after
+    → MatchesKnown history old w.after
     → (course : SessionRun HistoryLeaves said is_request old new w v)
     → HistoryLeaves old new (archives_in w (course.acts ++ v ∷ []))
 

@@ -11,13 +11,13 @@ use Rattle.line_door.proofs.Acting.{stops-over, stops-closed, acts-from}
 
 -- What is said, and then what follows it.
 module _ {H A : Type 0} where
-  then-none : (s : Said H A) (f : A → H → Said H A) → s.next ≡ None → then_say s f ≡ s
+  pub then-none : (s : Said H A) (f : A → H → Said H A) → s.next ≡ None → then_say s f ≡ s
   then-none s f e = ap (λ (o : Option H). then_by o s f) e
 
-  then-some : (s : Said H A) (f : A → H → Said H A) (k : H) → s.next ≡ Some k → then_say s f ≡ said_after s.words (f s.after k)
+  pub then-some : (s : Said H A) (f : A → H → Said H A) (k : H) → s.next ≡ Some k → then_say s f ≡ said_after s.words (f s.after k)
   then-some s f k e = ap (λ (o : Option H). then_by o s f) e
 
-  said_after-then : (words : List ℕ) (s : Said H A) (f : A → H → Said H A) (o : Option H) → s.next ≡ o → then_say (said_after words s) f ≡ said_after words (then_say s f)
+  pub said_after-then : (words : List ℕ) (s : Said H A) (f : A → H → Said H A) (o : Option H) → s.next ≡ o → then_say (said_after words s) f ≡ said_after words (then_say s f)
   said_after-then words s f None e = then-none (said_after words s) f e ∙ ap (said_after words) (sym (then-none s f e))
   said_after-then words s f (Some k) e =
       then-some (said_after words s) f k e
@@ -25,10 +25,10 @@ module _ {H A : Type 0} where
       ∙ ap (said_after words) (sym (then-some s f k e))
 
 module _ {H A : Type 0} (said : A → H → Departure → Said H A) (is_request : H → Bool) (more : List ℕ → H → H) (size : H → ℕ) where
-  at-request : (n : ℕ) (a : A) (h : H) → is_request h ≡ true → plain_from said is_request (suc n) a h ≡ then_say (said a h Plain) (plain_from said is_request n)
+  pub at-request : (n : ℕ) (a : A) (h : H) → is_request h ≡ true → plain_from said is_request (suc n) a h ≡ then_say (said a h Plain) (plain_from said is_request n)
   at-request n a h e = ap (λ (b : Bool). if_request b said (plain_from said is_request n) a h) e
 
-  at-rest : (n : ℕ) (a : A) (h : H) → is_request h ≡ false → plain_from said is_request n a h ≡ silent a h
+  pub at-rest : (n : ℕ) (a : A) (h : H) → is_request h ≡ false → plain_from said is_request n a h ≡ silent a h
   at-rest zero a h e = refl
   at-rest (suc n) a h e = ap (λ (b : Bool). if_request b said (plain_from said is_request n) a h) e
 
@@ -46,7 +46,7 @@ module _ {H A : Type 0} (said : A → H → Departure → Said H A) (is_request 
         ∙ sym (then-some (said a h Plain) (plain_from said is_request m) k next)
         ∙ sym (at-request m a h e)
 
-    enough : (n m : ℕ) (a : A) (h : H) → size h < n → size h < m → plain_from said is_request n a h ≡ plain_from said is_request m a h
+    pub enough : (n m : ℕ) (a : A) (h : H) → size h < n → size h < m → plain_from said is_request n a h ≡ plain_from said is_request m a h
     enough zero m a h p q = absurd (omega arith)
     enough (suc n) zero a h p q = absurd (omega arith)
     enough (suc n) (suc m) a h p q = enough-at n m a h (is_request h) refl (said a h Plain).next refl (λ c k l. enough n m c k (omega arith) (omega arith))

@@ -7,3 +7,8 @@ pub mod Passages
 pub mod Clipping
 pub mod Cutting
 pub mod Echoes
+pub mod Reading
+pub mod Turning
+pub mod Costing
+pub mod Updating
+pub mod Watching

@@ -1,6 +1,7 @@
 -- One act of a session: it answers a request, or keeps a rest.
 use Rattle.std.specs.Prelude.{◌≡◌, ◌≤◌, ◌<◌, ◌⊎◌, ℕ, List, length, take, Option, Some, None, Bool, true, false}
 use Rattle.arch_base.specs.Counts.{Rose}
+use Rattle.edge_io.specs.declared.sink.Sink.{Ghosts as Sink}
 use Rattle.edge_io.specs.Taken.{plus}
 
 -- The outside of a session: the bytes that the connection took, if it is told, the disk's count of
@@ -13,6 +14,10 @@ pub record ConnectionState : Type 0 where
 -- The outside of these three parts.
 abbrev pub outside : Option (List ℕ) → ℕ → ℕ → ConnectionState
 outside out disk lost = record { out = out; disk = disk; lost = lost }
+
+-- The outside of a session at this sink, where the disk has this count of faults.
+abbrev pub at_sink : {O : Type 0} → Sink O → O → ℕ → ConnectionState
+at_sink o out disk = outside (o.taken out) disk (o.faults out)
 
 -- What an act says: the session after it (None if it is closed), the words, whether they are
 -- streamed, and what requests read and change.

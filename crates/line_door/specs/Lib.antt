@@ -10,3 +10,8 @@ pub mod Ahead
 pub mod Skipping
 pub mod Clipped
 pub mod Echo
+pub mod Readers
+pub mod Costs
+pub mod Updates
+pub mod Watched
+pub mod Turns

@@ -1,9 +1,11 @@
 //! Laws of doors, stated at a small door, and the law of the line at the front.
 //! Pure.
 ghost use Rattle.line_door.specs.Clipped.{ClippedLaw};
+ghost use Rattle.line_door.specs.Costs.{LinesCostLaw};
 ghost use Rattle.line_door.specs.Echo.{EchoCut, EchoPieces, EchoCalls, EchoPlain, EchoLifts};
 ghost use Rattle.line_door.specs.LineLaws.{LineLaw};
 ghost use Rattle.line_door.specs.Skipping.{SkippingLaw};
+ghost use Rattle.line_door.specs.Watched.{WatchLaws, WatchUpdates};
 
 /// Shows that feeding one piece and then another has the same result as feeding both at once.
 ///
@@ -66,4 +68,27 @@ pub fn clipped_law()
 /// holds for every door.
 pub fn lifting_law()
     ensures { EchoLifts }
+{}
+
+/// Shows that a line costs what it asks for, and then come the lines after it, and that a line that
+/// is too long costs nothing.
+pub fn line_cost_law()
+    ensures { LinesCostLaw }
+{}
+
+/// Shows the laws of cuts and of plain courses for a door of lines, whatever its replies are.
+///
+/// Stated at a small door of lines. The same proof holds for every one.
+pub fn reader_law()
+    ensures { WatchLaws }
+{}
+
+/// Shows that the cuts of a connection's bytes change nothing where a session is given an update
+/// after each piece.
+///
+/// Feeding one piece and then another, with the update of the session after each, says and leaves the
+/// same as feeding both at once and one update. Stated at the same door. The same proof holds for
+/// every door whose updates tell what the reply to the next request would tell first.
+pub fn update_law()
+    ensures { WatchUpdates }
 {}

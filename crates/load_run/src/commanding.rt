@@ -22,9 +22,8 @@ pub(crate) const FIRST_MOMENT: u64 = 1_700_000_000;
 /// Carries out a command, whatever the rules answer.
 fn obey<K: Keep>(keep: &mut K, command: &Command<'_>, moment: u64) -> Result<(), LoadRefusal>
     requires { moment ≤ last_moment }
-    ensures kept { (a : Archive) → MatchesKnown K.holds K.files_are K.ready K.leaves keep.old
-        (standing a None)
-        → GivesUndamaged result (λ done. MatchesKnown K.holds K.files_are K.ready K.leaves keep.new
+    ensures kept { (a : Archive) → MatchesKnown K.Keep keep.old (standing a None)
+        → GivesUndamaged result (λ done. MatchesKnown K.Keep keep.new
         (standing (applied a command.now moment).archive None)) }
     ensures later { K.faults keep.old ≤ K.faults keep.new }
     ensures cause { LoadCause (K.faults keep.old) (K.faults keep.new) result }
@@ -45,9 +44,8 @@ pub(crate) fn deliver_all<K: Keep>(
     seed: u64,
 ) -> Result<(), LoadRefusal>
     requires { count ≤ greatest_load }
-    ensures kept { (a : Archive) → MatchesKnown K.holds K.files_are K.ready K.leaves keep.old
-        (standing a None)
-        → GivesUndamaged result (λ done. MatchesKnown K.holds K.files_are K.ready K.leaves keep.new
+    ensures kept { (a : Archive) → MatchesKnown K.Keep keep.old (standing a None)
+        → GivesUndamaged result (λ done. MatchesKnown K.Keep keep.new
         (standing (delivered_to a seed count) None)) }
     ensures later { K.faults keep.old ≤ K.faults keep.new }
     ensures cause { LoadCause (K.faults keep.old) (K.faults keep.new) result }
@@ -68,9 +66,8 @@ pub(crate) fn deliver_all<K: Keep>(
 /// buffer.
 fn deliver<K: Keep>(i: u64, r: u64, mail: &mut Bytes, keep: &mut K) -> Result<(), LoadRefusal>
     requires { i ≤ greatest_load }
-    ensures kept { (a : Archive) → MatchesKnown K.holds K.files_are K.ready K.leaves keep.old
-        (standing a None)
-        → GivesUndamaged result (λ done. MatchesKnown K.holds K.files_are K.ready K.leaves keep.new
+    ensures kept { (a : Archive) → MatchesKnown K.Keep keep.old (standing a None)
+        → GivesUndamaged result (λ done. MatchesKnown K.Keep keep.new
         (standing (delivered a (mail_with i r) (moment_of i)).archive None)) }
     ensures later { K.faults keep.old ≤ K.faults keep.new }
     ensures cause { LoadCause (K.faults keep.old) (K.faults keep.new) result }
@@ -86,9 +83,8 @@ fn deliver<K: Keep>(i: u64, r: u64, mail: &mut Bytes, keep: &mut K) -> Result<()
 pub(crate) fn remove_all<K: Keep>(keep: &mut K, count: u32, moment: u64) -> Result<(), LoadRefusal>
     requires few { count ≤ greatest_load }
     requires moment { moment ≤ last_moment }
-    ensures kept { (a : Archive) → MatchesKnown K.holds K.files_are K.ready K.leaves keep.old
-        (standing a None)
-        → GivesUndamaged result (λ done. MatchesKnown K.holds K.files_are K.ready K.leaves keep.new
+    ensures kept { (a : Archive) → MatchesKnown K.Keep keep.old (standing a None)
+        → GivesUndamaged result (λ done. MatchesKnown K.Keep keep.new
         (standing (removed_to a moment (count / 10)) None)) }
     ensures later { K.faults keep.old ≤ K.faults keep.new }
     ensures cause { LoadCause (K.faults keep.old) (K.faults keep.new) result }
@@ -106,9 +102,8 @@ pub(crate) fn remove_all<K: Keep>(keep: &mut K, count: u32, moment: u64) -> Resu
 pub(crate) fn purge_all<K: Keep>(keep: &mut K, count: u32, moment: u64) -> Result<(), LoadRefusal>
     requires few { count ≤ greatest_load }
     requires moment { moment ≤ last_moment }
-    ensures kept { (a : Archive) → MatchesKnown K.holds K.files_are K.ready K.leaves keep.old
-        (standing a None)
-        → GivesUndamaged result (λ done. MatchesKnown K.holds K.files_are K.ready K.leaves keep.new
+    ensures kept { (a : Archive) → MatchesKnown K.Keep keep.old (standing a None)
+        → GivesUndamaged result (λ done. MatchesKnown K.Keep keep.new
         (standing (purged_to a (count / 25)) None)) }
     ensures later { K.faults keep.old ≤ K.faults keep.new }
     ensures cause { LoadCause (K.faults keep.old) (K.faults keep.new) result }
@@ -124,12 +119,10 @@ pub(crate) fn purge_all<K: Keep>(keep: &mut K, count: u32, moment: u64) -> Resul
 
 /// Rebuilds what is kept beside the files, and returns the number of live messages.
 pub(crate) fn reindex<K: Keep>(keep: &mut K) -> Result<u32, LoadRefusal>
-    ensures live { (a : Archive) → MatchesKnown K.holds K.files_are K.ready K.leaves keep.old
-        (standing a None)
+    ensures live { (a : Archive) → MatchesKnown K.Keep keep.old (standing a None)
         → GivesUndamaged result (λ count. count ≡ length (live a.entries)) }
-    ensures kept { (a : Archive) → MatchesKnown K.holds K.files_are K.ready K.leaves keep.old
-        (standing a None)
-        → GivesUndamaged result (λ count. MatchesKnown K.holds K.files_are K.ready K.leaves keep.new
+    ensures kept { (a : Archive) → MatchesKnown K.Keep keep.old (standing a None)
+        → GivesUndamaged result (λ count. MatchesKnown K.Keep keep.new
         (standing a None)) }
     ensures ready { OnOk result (K.ready keep.new ≡ true) }
     ensures later { K.faults keep.old ≤ K.faults keep.new }

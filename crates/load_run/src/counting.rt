@@ -64,11 +64,11 @@ fn leads<S: Shelf>(n: u32, shelf: &S) -> Result<bool, NoMemory>
         → IfOk result (λ leads. leads ≡ first_is n (thread_in (live_of a.entries) n)) }
 {
     let thread = shelf.thread_of(n)?;
-    Ok(is_first(u64::from(n), thread.as_slice()))
+    Ok(is_first(n, thread.as_slice()))
 }
 
 /// Returns whether the first of some numbers is this one.
-fn is_first(n: u64, numbers: &[u64]) -> bool
+fn is_first(n: u32, numbers: &[u32]) -> bool
     ensures { result ≡ first_is n numbers.now }
 {
     match numbers.first() {

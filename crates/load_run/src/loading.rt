@@ -44,12 +44,11 @@ pub fn load<K: Keep>(
 ) -> Result<LoadCounts, LoadRefusal>
     requires { count ≤ greatest_load }
     ensures counts { (a : Archive) → IsArchive a
-        → MatchesKnown K.holds K.files_are K.ready K.leaves keep.old (standing a None)
+        → MatchesKnown K.Keep keep.old (standing a None)
         → GivesUndamaged result (λ counts. counts ≡ counts_of (loaded a count seed)) }
-    ensures kept { (a : Archive) → MatchesKnown K.holds K.files_are K.ready K.leaves keep.old
-        (standing a None)
+    ensures kept { (a : Archive) → MatchesKnown K.Keep keep.old (standing a None)
         → GivesUndamaged result (λ counts.
-        MatchesKnown K.holds K.files_are K.ready K.leaves keep.new (standing (loaded a count seed) None)) }
+        MatchesKnown K.Keep keep.new (standing (loaded a count seed) None)) }
     ensures ready { OnOk result (K.ready keep.new ≡ true) }
     ensures later { K.faults keep.old ≤ K.faults keep.new }
     ensures cause { LoadCause (K.faults keep.old) (K.faults keep.new) result }

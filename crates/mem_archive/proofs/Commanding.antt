@@ -1,6 +1,7 @@
 -- The archive in memory as a keeper of itself.
 use Rattle.std.proofs.Common.{◌≡◌, ℕ, Bool, true, List, ◌++◌, length, Option, Some, None, is_some, Ok, inl, inr, refl, sym, ap, subst, ◌∙◌}
 use Rattle.std.specs.List.{Contains}
+use Rattle.mem_archive.specs.Crashes.{in_memory}
 use Rattle.arch_model.specs.Archives.{Archive, live, text_of}
 use Rattle.arch_model.specs.Delivery.{Done, Delivers}
 use Rattle.arch_model.specs.Standing.{LastKnown, standing, GivesTextIn}
@@ -8,40 +9,26 @@ use Rattle.arch_model.specs.Keeping.{MatchesKnown, KeeperMoves, Settles, Command
 use Rattle.arch_model.specs.declared.answer.Answer.{Answer}
 use Rattle.arch_model.specs.declared.answer.Answer.TheVariants as answer
 
--- It holds itself, is always ready, and a crash leaves it.
-abbrev pub Holds : Archive → Archive → Type 0
-Holds m a = a ≡ m
-
--- It rests on itself.
-abbrev pub Rests : Archive → Archive → Type 0
-Rests m a = a ≡ m
-
-abbrev pub at_hand : Archive → Bool
-at_hand m = true
-
-abbrev pub Leaves : Archive → Archive → List (Option Archive) → Type 0
-Leaves start m may = Contains may (Some m)
-
-fits-itself : (m n : Archive) → n ≡ m → MatchesKnown Holds Rests at_hand Leaves n (standing m None)
+fits-itself : (m n : Archive) → n ≡ m → MatchesKnown in_memory n (standing m None)
 fits-itself m n same = record { settled = λ ready. (sym same, refl); exact = λ none. sym same; left = λ may has. subst (λ (x : Archive). Contains may (Some x)) (sym same) has.archive }
 
-moves-itself : (m n : Archive) (s : LastKnown) (a : Archive) → n ≡ a → KeeperMoves Holds Rests at_hand Leaves m s n (standing a None)
+moves-itself : (m n : Archive) (s : LastKnown) (a : Archive) → n ≡ a → KeeperMoves in_memory m s n (standing a None)
 moves-itself m n s a same = record { fits = fits-itself a n same; passes = λ start may has left. subst (λ (x : Archive). Contains may (Some x)) (sym same) has.1.0.archive }
 
 -- Reopening does nothing.
-pub fresh-done : (m : Archive) (s : LastKnown) → MatchesKnown Holds Rests at_hand Leaves m s → (t : LastKnown) × KeeperMoves Holds Rests at_hand Leaves m s m t × Settles s t
+pub fresh-done : (m : Archive) (s : LastKnown) → MatchesKnown in_memory m s → (t : LastKnown) × KeeperMoves in_memory m s m t × Settles s t
 fresh-done m s fits = (standing m None, moves-itself m m s m refl, record { found = inl (sym (fits.settled refl).0); sure = refl })
 
 -- Rebuilding counts the live messages.
-pub reindex-done : (m : Archive) (s : LastKnown) → MatchesKnown Holds Rests at_hand Leaves m s → (count : ℕ) → count ≡ length (live m.entries) → (t : LastKnown) × KeeperMoves Holds Rests at_hand Leaves m s m t × Settles s t × (count ≡ length (live t.archive.entries))
+pub reindex-done : (m : Archive) (s : LastKnown) → MatchesKnown in_memory m s → (count : ℕ) → count ≡ length (live m.entries) → (t : LastKnown) × KeeperMoves in_memory m s m t × Settles s t × (count ≡ length (live t.archive.entries))
 reindex-done m s fits count is = (standing m None, moves-itself m m s m refl, record { found = inl (sym (fits.settled refl).0); sure = refl }, is)
 
 -- The answer to a command is that of its keeper.
-module _ (m n : Archive) (wanted : Archive → Done) (s : LastKnown) (fits : MatchesKnown Holds Rests at_hand Leaves m s) where
-  obeyed : (reply : Answer) → wanted m ≡ record { archive = n; answer = reply } → KeeperMoves Holds Rests at_hand Leaves m s n (standing n None) × ((wanted m).answer ≡ reply) × (standing n None ≡ standing (wanted m).archive None)
+module _ (m n : Archive) (wanted : Archive → Done) (s : LastKnown) (fits : MatchesKnown in_memory m s) where
+  obeyed : (reply : Answer) → wanted m ≡ record { archive = n; answer = reply } → KeeperMoves in_memory m s n (standing n None) × ((wanted m).answer ≡ reply) × (standing n None ≡ standing (wanted m).archive None)
   obeyed reply is = (moves-itself m n s n refl, ap (λ (d : Done). d.answer) is, ap (λ (d : Done). standing d.archive None) (sym is))
 
-  pub command-done : (reply : Answer) → Delivers m reply n (wanted m) → (t : LastKnown) × KeeperMoves Holds Rests at_hand Leaves m s n t × CommandGives true s wanted reply t
+  pub command-done : (reply : Answer) → Delivers m reply n (wanted m) → (t : LastKnown) × KeeperMoves in_memory m s n t × CommandGives true s wanted reply t
   command-done answer.NoMemory same = (standing m None, moves-itself m n s m same, inr (record { found = inl (sym (fits.settled refl).0); sure = refl }))
   command-done (answer.Ok number id) is =
       let done = obeyed (answer.Ok number id) is in

@@ -11,12 +11,11 @@ use Rattle.arch_model.specs.Delivery.{Done, Delivers, delivered, delivered_kept,
 use Rattle.arch_model.specs.Shelves.{blob_text}
 use Rattle.arch_model.specs.Validity.{BlobsAgree}
 use Rattle.arch_model.proofs.Owners.{bytes_eq-refl, collision-alone, collision-first}
-use Rattle.arch_judge.specs.Judging.{IsKnownBy, RefusesBy, Compares, unless_same, MayCome, MayBeKept, TakesThis, TakesSame}
+use Rattle.arch_judge.specs.Judging.{IsKnownBy, RefusesBy, Compares, unless_same, MayCome, MayBeKept, MayTake, TakesThis, TakesSame}
 use Rattle.arch_judge.specs.Indexes.{number_in}
 use Rattle.arch_judge.specs.declared.judging.Verdict.{Verdict}
-use Rattle.arch_judge.specs.declared.judging.Verdict.TheVariants.{Take, Compare, Refuse}
+use Rattle.arch_judge.specs.declared.judging.Verdict.TheVariants.{Take, Refuse}
 use Rattle.arch_judge.proofs.Indexes.{unowned}
-use Rattle.arch_judge.proofs.Endings.{live-few}
 use Rattle.mem_archive.specs.Memory.{IsKept, MayKeep, archive_of, entries_of}
 use Rattle.arch_model.specs.Standing.{IsUntouched}
 use Rattle.arch_model.specs.declared.answer.Answer.{Answer}
@@ -25,7 +24,7 @@ use Rattle.arch_judge.specs.declared.index.Index.{Index}
 use Rattle.mem_archive.specs.declared.kept.End.{End}
 use Rattle.mem_archive.specs.declared.kept.Kept.{Kept}
 use Rattle.mem_archive.specs.declared.kept.KeptPlace.{KeptPlace}
-use Rattle.mem_archive.proofs.Lines.{length-entries_of, blob_in-some}
+use Rattle.mem_archive.proofs.Lines.{blob_in-some}
 
 pub some-of : {X : Type 0} (o : Option X) → IsSome o → (x : X) × (o ≡ Some x)
 some-of None some = absurd (let wrong : false ≡ true = some in cc)
@@ -36,13 +35,10 @@ module _ (config : Config) (ks : List Kept) (places : List (Option KeptPlace)) (
   config_is = sym (ap (λ (b : Archive). b.config) is)
 
   -- What an archive in memory keeps tells its settings, messages and next number.
-  pub kept_known : (count next : ℕ) → count ≡ length ks → next ≡ a.next → IsKnownBy config index count next a
-  kept_known count next count_is next_is =
-      let few : length (live (entries_of ks)) ≤ length (entries_of ks) = live-few (entries_of ks) in
-      let size : length (entries_of ks) ≡ length ks = length-entries_of ks in
-      let most : length (live (entries_of ks)) ≤ count = omega (arith, few, size, count_is) in
-      let here : IsKnownBy config index count (length places + 1) (archive_of config ks places) = record { config_is = refl; next_is = refl; few = most; indexed = kept.indexed } in
-      subst (λ (n : ℕ). IsKnownBy config index count n a) (sym next_is) (subst (λ (b : Archive). IsKnownBy config index count b.next b) is here)
+  pub kept_known : (next : ℕ) → next ≡ a.next → IsKnownBy config index next a
+  kept_known next next_is =
+      let here : IsKnownBy config index (length places + 1) (archive_of config ks places) = record { config_is = refl; next_is = refl; indexed = kept.indexed } in
+      subst (λ (n : ℕ). IsKnownBy config index n a) (sym next_is) (subst (λ (b : Archive). IsKnownBy config index b.next b) is here)
 
   module _ (text : List ℕ) (ids : TextIds) (comes : MayCome config index text ids) where
     -- No live message has the own id of a text that may come.
@@ -79,8 +75,12 @@ module _ (config : Config) (ks : List Kept) (places : List (Option KeptPlace)) (
           let text_is : blob_text a.entries (blob_id_of text).0 ≡ Some text = ap (λ (i : TextIds). blob_text a.entries i.blob.0) (sym comes.ids_are) ∙ held_is ∙ ap Some same in
           let keeps : MayKeep a (Take text ids number) = keep-same number found (takes.2 index comes) first text_is in
           subst (λ (t : List ℕ). MayKeep a (Take t other number)) (sym takes.0) (subst (λ (i : TextIds). MayKeep a (Take text i number)) (sym takes.1) keeps)
-      compared-keeps found held (Compare other name number) first held_is takes same = absurd takes
       compared-keeps found held (Refuse reply) first held_is takes same = tt
+
+  -- What needs no comparison.
+  pub judged-keeps : (next : ℕ) → next ≡ a.next → (v : Verdict) → MayTake config index next v → MayKeep a v
+  judged-keeps next next_is (Take text ids number) may = keep-new text ids may.0.comes next next_is number may.0 may.1
+  judged-keeps next next_is (Refuse reply) may = tt
 
   -- The text that is compared is that of the first entry with the blob id.
   pub compared-with : (blob : Id20) (found : ℕ) (held : List ℕ) → number_in index.blobs blob.0 ≡ Some found → Some held ≡ text_of (messages a.entries) found → blob_text a.entries blob.0 ≡ Some held

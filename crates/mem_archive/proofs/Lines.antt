@@ -1,6 +1,8 @@
 -- Kept entries without their texts, and their texts by blob ids.
-use Rattle.std.proofs.Common.{◌≡◌, ◌<◌, ◌≤◌, ℕ, zero, suc, List, [], ◌∷◌, ◌++◌, length, get_or, slice_get, Option, Some, None, refl, sym, ap, ◌∙◌, arith}
+use Rattle.std.proofs.Common.{◌≡◌, ◌<◌, ◌≤◌, ℕ, zero, suc, Bool, true, false, if◌then◌else◌, List, [], ◌∷◌, ◌++◌, length, get_or, slice_get, Option, Some, None, refl, sym, ap, ◌∙◌, arith}
 use Rattle.arch_base.specs.declared.config.Config.{Config}
+use Rattle.std.specs.Str.{bytes_eq}
+use Rattle.git_objects.specs.Objects.{blob_id_of}
 use Rattle.git_objects.specs.declared.entry_kind.EntryKind.{EntryKind}
 use Rattle.arch_model.specs.Archives.{Archive, Entry, messages, text_of, blob_number}
 use Rattle.arch_model.specs.Shelves.{line_at, blob_text}
@@ -42,6 +44,15 @@ lines_of-past i [] h = refl
 lines_of-past zero (x ∷ ks) h = absurd (omega arith)
 lines_of-past (suc i) (x ∷ ks) h = lines_of-past i ks (omega arith)
 
+-- Where a number has a blob id, a text has it.
+number_step : (t : Bool) (e : Entry) (number : Option ℕ) (text : Option (List ℕ)) (n : ℕ) → (if t then Some e.number else number) ≡ Some n → (if t then Some e.text else text) ≡ None → (number ≡ Some n → text ≡ None → ⊥) → ⊥
+number_step true e number text n some none rest = absurd (let wrong : Some e.text ≡ None = none in cc)
+number_step false e number text n some none rest = rest some none
+
+blob-both : (es : List Entry) (blob : List ℕ) (n : ℕ) → blob_number es blob ≡ Some n → blob_text es blob ≡ None → ⊥
+blob-both [] blob n some none = absurd (let wrong : None ≡ Some n = some in cc)
+blob-both (e ∷ es) blob n some none = number_step (bytes_eq blob (blob_id_of e.text).0) e (blob_number es blob) (blob_text es blob) n some none (blob-both es blob n)
+
 module _ (config : Config) (ks : List Kept) (places : List (Option KeptPlace)) (index : Index) (end_ : End) (a : Archive) (is : archive_of config ks places ≡ a) (kept : IsKept config ks places index end_) where
   same_lines : (i : ℕ) → slice_get (lines_of ks) i ≡ line_at a.entries i
   same_lines i = ap (λ (ls : List EntryLine). slice_get ls i) kept.lines ∙ ap (λ (b : Archive). line_at b.entries i) is
@@ -67,3 +78,9 @@ module _ (config : Config) (ks : List Kept) (places : List (Option KeptPlace)) (
       ∙ sym (ap (λ (b : Archive). text_of (messages b.entries) n) is)
       ∙ blob_found-text 1 (entries_of ks) blob n kept.deletions (rises-from 1 0 (entries_of ks) kept.order) (sym (numbered blob) ∙ sym some)
       ∙ ap (λ (b : Archive). blob_text b.entries blob) is
+
+  -- A number that the index has for a blob id has a message.
+  pub number_in-some : (blob : List ℕ) (n : ℕ) → number_in index.blobs blob ≡ Some n → text_of (messages a.entries) n ≡ None → ⊥
+  number_in-some blob n some none =
+      let text_is : None ≡ blob_text a.entries blob = blob_in-some blob n None (sym some) (sym none) in
+      blob-both (entries_of ks) blob n (sym (numbered blob) ∙ some) (ap (λ (b : Archive). blob_text b.entries blob) is ∙ sym text_is)

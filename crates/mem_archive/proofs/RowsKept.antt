@@ -1,5 +1,5 @@
 -- The views of the archive in memory after one more entry.
-use Rattle.std.specs.Prelude.{◌≡◌, ◌==◌, ◌+◌, ◌<◌, ◌≤◌, ℕ, Bool, true, false, List, [], ◌∷◌, ◌++◌, Option, length, Some, None, refl, if◌then◌else◌}
+use Rattle.std.specs.Prelude.{◌≡◌, ◌==◌, ◌+◌, ◌<◌, ℕ, Bool, true, false, List, [], ◌∷◌, ◌++◌, Option, length, Some, None, refl, if◌then◌else◌}
 use Rattle.std.specs.List.{AllByRecursion}
 use Rattle.std.proofs.Common.{◌∙◌, sym, ap, subst, arith}
 use Rattle.std.proofs.lemmas.Bool.{eqb-true}
@@ -18,7 +18,7 @@ use Rattle.arch_judge.proofs.Endings.{Ascend, live-ascend}
 use Rattle.arch_judge.proofs.Indexes.{IsArchiveIndex-same}
 use Rattle.overview_index.specs.Listings.{row_in}
 use Rattle.overview_index.proofs.Messages.{AllBelow, Ascends, row-is, row-number}
-use Rattle.view_set.specs.Viewed.{AreOrdered, Viewed, with_mail, without_mail, views_of, searched, AreWorded}
+use Rattle.view_set.specs.Viewed.{Viewed, with_mail, without_mail, views_of, searched, AreWorded}
 use Rattle.view_set.proofs.MailLists.{mails-added, mails-taken, mail-back, are-worded}
 use Rattle.view_set.proofs.Searching.{searched-is}
 use Rattle.arch_model.specs.Searching.{search}
@@ -116,19 +116,8 @@ module _ (config : Config) (ks : List Kept) (places : List (Option KeptPlace)) (
 pub found-kept : (config : Config) (ks : List Kept) (places : List (Option KeptPlace)) (index : Index) (end_ : End) (a : Archive) (is : archive_of config ks places ≡ a) (kept : IsKept config ks places index end_) (query : Query) → searched query (views_of (live a.entries)) ≡ search query (live a.entries)
 found-kept config ks places index end_ a is kept query =
     subst (λ (b : Archive). searched query (views_of (live b.entries)) ≡ search query (live b.entries)) is
-    (searched-is query (length places + 1) (live (entries_of ks)) small (live-all (λ (e : Entry). e.number < length places + 1) (entries_of ks) below) (ascends-of 1 (live (entries_of ks)) (live-ascend 1 0 (entries_of ks) kept.order)))
-  where
-    below : AllByRecursion (λ (e : Entry). e.number < length places + 1) (entries_of ks)
-    below = all_weaker (IsNumberUpTo (length places)) (λ (e : Entry). e.number < length places + 1) (entries_of ks) (λ e up. up.1) kept.numbered
-
-    small : length places + 1 ≤ 2147483648
-    small = (let most : config.max ≤ 2147483647 = kept.settings.max_high in let few = kept.numbers in omega (arith, most, few))
+    (searched-is query (live (entries_of ks)) (ascends-of 1 (live (entries_of ks)) (live-ascend 1 0 (entries_of ks) kept.order)))
 
 -- What is kept is in order.
-pub ordered-kept : (config : Config) (ks : List Kept) (places : List (Option KeptPlace)) (index : Index) (end_ : End) (a : Archive) → archive_of config ks places ≡ a → IsKept config ks places index end_ → AreOrdered a.entries
-ordered-kept config ks places index end_ a is kept =
-    subst (λ (b : Archive). AreOrdered b.entries) is (record {
-      order = kept.order;
-      small = all_weaker (IsNumberUpTo (length places)) (λ (e : Entry). e.number < 2147483648) (entries_of ks)
-          (λ e up. let most : config.max ≤ 2147483647 = kept.settings.max_high in let few = kept.numbers in let above = up.1 in omega (arith, most, few, above)) kept.numbered;
-    })
+pub ordered-kept : (config : Config) (ks : List Kept) (places : List (Option KeptPlace)) (index : Index) (end_ : End) (a : Archive) → archive_of config ks places ≡ a → IsKept config ks places index end_ → Rise 1 0 a.entries
+ordered-kept config ks places index end_ a is kept = subst (λ (b : Archive). Rise 1 0 b.entries) is kept.order

@@ -3,7 +3,20 @@ use Rattle.std.specs.Prelude.{◌≡◌, true, List, Option, Some, refl}
 use Rattle.std.specs.List.{Contains}
 use Rattle.std.proofs.Common.{◌∙◌, sym, subst}
 use Rattle.arch_model.specs.Archives.{Archive}
-use Rattle.arch_model.specs.Keeping.{OnlyRead}
+use Rattle.arch_model.specs.Keeping.{Keeper, OnlyRead}
+
+-- The archive in memory, as a keeper: it holds itself, is always ready, reads no disk, and a crash
+-- leaves it.
+abbrev pub in_memory : Keeper Archive
+in_memory = record {
+  holds = λ m a. a ≡ m;
+  ready = λ m. true;
+  reads = λ m. 0;
+  faults = λ m. 0;
+  alike = λ m n. n ≡ m;
+  files_are = λ m a. a ≡ m;
+  leaves = λ start m may. Contains may (Some m);
+}
 
 -- The archive that is held is left.
 pub held-left : (m a : Archive) (may : List (Option Archive)) → a ≡ m → Contains may (Some a)
@@ -11,9 +24,7 @@ pub held-left : (m a : Archive) (may : List (Option Archive)) → a ≡ m → Co
 held-left m a may same has = subst (λ (x : Archive). Contains may (Some x)) same has
 
 -- A state that is the same was only read.
-pub same-read : (m n : Archive) → n ≡ m → OnlyRead (λ (k : Archive) (a : Archive). a ≡ k)
-    (λ (k : Archive) (a : Archive). a ≡ k) (λ (k : Archive). true)
-    (λ (start : Archive) (k : Archive) (may : List (Option Archive)). Contains may (Some k)) m n
+pub same-read : (m n : Archive) → n ≡ m → OnlyRead in_memory m n
 same-read m n same = record {
   held = λ a is. is ∙ sym same;
   rested = λ a is. is ∙ sym same;

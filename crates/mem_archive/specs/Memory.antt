@@ -24,7 +24,7 @@ use Rattle.arch_base.specs.declared.sequence.NoMemory.{NoMemory}
 use Rattle.arch_judge.specs.Indexes.{IsArchiveIndex}
 use Rattle.arch_judge.specs.declared.index.Index.{Index}
 use Rattle.arch_judge.specs.declared.judging.Verdict.{Verdict}
-use Rattle.arch_judge.specs.declared.judging.Verdict.TheVariants.{Take, Compare, Refuse}
+use Rattle.arch_judge.specs.declared.judging.Verdict.TheVariants.{Take, Refuse}
 
 -- The entry that is kept so.
 abbrev pub entry_of : Kept → Entry
@@ -157,7 +157,6 @@ HasId e = IsSome (own_id e.text)
 abbrev pub MayKeep : Archive → Verdict → Type 0
 MayKeep a (Take text ids number) = IsFree (live a.entries) text × (ids ≡ text_ids_of text)
     × (collision a.entries text ≡ None) × (a.next ≤ a.config.max) × (number ≡ a.next)
-MayKeep a (Compare text ids number) = ⊥
 MayKeep a (Refuse reply) = Unit {0}
 
 -- The end holds the room and the last commit of its epoch.

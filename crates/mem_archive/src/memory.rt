@@ -22,8 +22,8 @@ ghost use Rattle.git_objects.specs.declared.entry_kind.EntryKind.{EntryKind};
 
 use crate::kept::{End, Kept, KeptPlace, push_after};
 use crate::placing::{count_live, greatest_live, hide, least_live, once_at, place_of, shown_at};
-use arch_base::{Bytes, Config, NoMemory, Numbers, ObjectId};
-use arch_judge::{Index, Owner, Verdict, compared, judge};
+use arch_base::{Bytes, Config, MessageNumbers, NoMemory, ObjectId};
+use arch_judge::{Index, Judgement, Owner, Verdict, compared, judge};
 use arch_model::{Answer, Command, EntryLine, Query, Row};
 use git_objects::{EntryKind, blob_id};
 use mail_commits::{TextIds, text_ids};
@@ -145,7 +145,7 @@ impl MemArchive {
     }
 
     /// Returns so many numbers of live messages, newest first, after so many that are skipped.
-    pub(crate) fn page(&self, skip: u64, count: u64) -> Result<Numbers, NoMemory>
+    pub(crate) fn page(&self, skip: u64, count: u64) -> Result<MessageNumbers, NoMemory>
         ensures { IfOk result (λ page.
             page ≡ take count (drop skip (listing (live self.now.entries)))) }
     {
@@ -154,14 +154,14 @@ impl MemArchive {
 
     /// Returns the numbers in the thread of a live message, rising, or none if the number is not
     /// live.
-    pub(crate) fn thread(&self, number: u32) -> Result<Numbers, NoMemory>
+    pub(crate) fn thread(&self, number: u32) -> Result<MessageNumbers, NoMemory>
         ensures { IfOk result (λ numbers. numbers ≡ thread_in (live self.now.entries) number) }
     {
         self.views.thread_of(number)
     }
 
     /// Returns the numbers of the live messages that match a query, newest first.
-    pub(crate) fn matching(&self, query: &Query) -> Result<Numbers, NoMemory>
+    pub(crate) fn matching(&self, query: &Query) -> Result<MessageNumbers, NoMemory>
         ensures { IfOk result (λ numbers. numbers ≡ search query.now (live self.now.entries)) }
     {
         self.views.search(query)
@@ -174,7 +174,7 @@ impl MemArchive {
         query: &Query,
         skip: u64,
         count: u64,
-    ) -> Result<Numbers, NoMemory>
+    ) -> Result<MessageNumbers, NoMemory>
         ensures { IfOk result (λ page. page
             ≡ take count (drop skip (search query.now (live self.now.entries)))) }
     {
@@ -279,8 +279,6 @@ impl MemArchive {
         match self.verdict(bytes) {
             Verdict::Refuse(answer) => answer,
             Verdict::Take { text, ids, number } => self.take(text, ids, number, moment),
-            // The texts were compared before.
-            Verdict::Compare { .. } => Answer::NoMemory,
         }
     }
 
@@ -289,14 +287,12 @@ impl MemArchive {
         ensures judged { Judges self.now bytes.now result }
         ensures taken { MayKeep self.now result }
     {
-        let count = self.kept.len();
         let next = self.next();
-        match judge(self.alloc, &self.config, &self.index, count, next, bytes) {
-            Verdict::Refuse(answer) => Verdict::Refuse(answer),
-            Verdict::Take { text, ids, number } => Verdict::Take { text, ids, number },
-            Verdict::Compare { text, ids, number } => match self.text_once(number) {
+        match judge(self.alloc, &self.config, &self.index, next, bytes) {
+            Judgement::Final(verdict) => verdict,
+            Judgement::Compare { text, ids, number } => match self.text_once(number) {
                 // The index names only numbers that have a message.
-                None => Verdict::Refuse(Answer::NoMemory),
+                None => unreachable!(),
                 Some(kept) => compared(&self.config, next, text, ids, number, kept),
             },
         }

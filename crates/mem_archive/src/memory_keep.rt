@@ -7,7 +7,7 @@ ghost use Rattle.std.specs.List.{Contains};
 ghost use Rattle.mem_archive.specs.Crashes.{held-left, same-read};
 
 use crate::memory::MemArchive;
-use arch_base::{Bytes, Config, NoMemory, Numbers, ObjectId};
+use arch_base::{Bytes, Config, MessageNumbers, NoMemory, ObjectId};
 use arch_model::{Answer, Command, EntryLine, Keep, OpenRefusal, Query, Row, Shelf, TextRefusal};
 
 impl Shelf for MemArchive {
@@ -49,19 +49,24 @@ impl Shelf for MemArchive {
         self.count_between(low, high)
     }
 
-    fn order_page(&self, skip: u64, count: u64) -> Result<Numbers, NoMemory> {
+    fn order_page(&self, skip: u64, count: u64) -> Result<MessageNumbers, NoMemory> {
         self.page(skip, count)
     }
 
-    fn thread_of(&self, n: u32) -> Result<Numbers, NoMemory> {
+    fn thread_of(&self, n: u32) -> Result<MessageNumbers, NoMemory> {
         self.thread(n)
     }
 
-    fn search(&self, query: &Query) -> Result<Numbers, NoMemory> {
+    fn search(&self, query: &Query) -> Result<MessageNumbers, NoMemory> {
         self.matching(query)
     }
 
-    fn search_page(&self, query: &Query, skip: u64, count: u64) -> Result<Numbers, NoMemory> {
+    fn search_page(
+        &self,
+        query: &Query,
+        skip: u64,
+        count: u64,
+    ) -> Result<MessageNumbers, NoMemory> {
         self.matching_page(query, skip, count)
     }
 

@@ -2,10 +2,11 @@
 //! Reads the disk.
 ghost use Rattle.std.specs.Prelude.{◌≡◌, ◌≤◌, ℕ, List, true};
 ghost use Rattle.arch_base.specs.Moments.{last_moment};
-ghost use Rattle.line_door.specs.Acts.{outside, Acts, held_if};
+ghost use Rattle.line_door.specs.Acts.{Acts, held_if, at_sink};
+ghost use Rattle.arch_model.specs.OverShelf.{ShelfKept};
 ghost use Rattle.arch_model.specs.Archives.{Archive};
 ghost use Rattle.arch_model.specs.Next.{continues};
-ghost use Rattle.arch_model.specs.Shelves.{ShelfStays, ReadsIn};
+ghost use Rattle.arch_model.specs.Shelves.{ReadsIn};
 ghost use Rattle.nntp_reader.specs.Door.{reader, said_to};
 ghost use Rattle.nntp_reader.specs.Commands as commands;
 ghost use Rattle.nntp_reader.specs.Counting.{command_texts, header_texts};
@@ -46,10 +47,10 @@ pub(crate) fn say_order<S: Shelf, O: Sink>(
     requires moment { moment ≤ last_moment }
     ensures acts { (a : Archive) (rest : List ℕ) → S.holds shelf.old a
         → Acts (said_to moment a group.old (meant order.entry) rest)
-        (outside (O.taken out.old) (S.faults shelf.old) (O.faults out.old))
+        (at_sink O.Sink out.old (S.faults shelf.old))
         (held_if (continues result) (reader group.new rest)) a
-        (outside (O.taken out.new) (S.faults shelf.new) (O.faults out.new)) }
-    ensures shelf { ShelfStays S.holds S.ready S.alike S.faults shelf.old shelf.new }
+        (at_sink O.Sink out.new (S.faults shelf.new)) }
+    ensures shelf { ShelfKept S.Shelf shelf.old shelf.new }
     ensures reads { ReadsIn S.holds (λ a. command_texts a (meant order.entry)) shelf.old
         (S.reads shelf.old) (S.reads shelf.new) }
     ensures sink { O.alike out.old out.new }
@@ -106,10 +107,10 @@ fn say_header<S: Shelf, O: Sink>(
     ensures acts { (moment : ℕ) (a : Archive) (rest : List ℕ) → S.holds shelf.old a
         → Acts (said_to moment a group
         (commands.Headers (header_of header.entry) (articles_of articles.entry)) rest)
-        (outside (O.taken out.old) (S.faults shelf.old) (O.faults out.old))
+        (at_sink O.Sink out.old (S.faults shelf.old))
         (held_if (continues result) (reader group rest)) a
-        (outside (O.taken out.new) (S.faults shelf.new) (O.faults out.new)) }
-    ensures shelf { ShelfStays S.holds S.ready S.alike S.faults shelf.old shelf.new }
+        (at_sink O.Sink out.new (S.faults shelf.new)) }
+    ensures shelf { ShelfKept S.Shelf shelf.old shelf.new }
     ensures reads { ReadsIn S.holds
         (λ a. header_texts a (header_of header.entry) (articles_of articles.entry)) shelf.old
         (S.reads shelf.old) (S.reads shelf.new) }

@@ -1,11 +1,12 @@
 //! What ARTICLE, HEAD, BODY, STAT, NEXT and LAST say.
 //! Reads the disk.
 ghost use Rattle.std.specs.Prelude.{◌≡◌, ◌≤◌, ℕ, List, length, true, is_ok, is_some, option_copied};
-ghost use Rattle.line_door.specs.Acts.{outside, Acts, held_if};
+ghost use Rattle.line_door.specs.Acts.{Acts, held_if, at_sink};
+ghost use Rattle.arch_model.specs.OverShelf.{ShelfKept};
 ghost use Rattle.arch_model.specs.Archives.{Archive, live, text_of};
 ghost use Rattle.arch_model.specs.Overviews.{id_fact};
-ghost use Rattle.arch_model.specs.Shelves.{ShelfStays, ReadsOnce};
-ghost use Rattle.edge_io.specs.Phrases.{Says};
+ghost use Rattle.arch_model.specs.Shelves.{ReadsOnce};
+ghost use Rattle.edge_io.specs.Phrases.{Says, SaysTo};
 ghost use Rattle.nntp_reader.specs.Articles.{header_of, part_code, part_of as bytes_of_part, part_words, text_words, row_id, stat_words, chosen_words, group_chosen, step_words, step_after};
 ghost use Rattle.nntp_reader.specs.Choices.{choice_of, next_of, previous_of};
 ghost use Rattle.nntp_reader.specs.Commands as commands;
@@ -40,10 +41,10 @@ pub(crate) fn say_part<S: Shelf, O: Sink>(
     requires { S.ready shelf.old ≡ true }
     ensures acts { (moment : ℕ) (a : Archive) (rest : List ℕ) → S.holds shelf.old a
         → Acts (said_to moment a group.old (commands.Reads part (article_of article.entry)) rest)
-        (outside (O.taken out.old) (S.faults shelf.old) (O.faults out.old))
+        (at_sink O.Sink out.old (S.faults shelf.old))
         (held_if (is_ok result) (reader group.new rest)) a
-        (outside (O.taken out.new) (S.faults shelf.new) (O.faults out.new)) }
-    ensures shelf { ShelfStays S.holds S.ready S.alike S.faults shelf.old shelf.new }
+        (at_sink O.Sink out.new (S.faults shelf.new)) }
+    ensures shelf { ShelfKept S.Shelf shelf.old shelf.new }
     ensures reads { ReadsOnce (S.reads shelf.old) (S.reads shelf.new) }
     ensures sink { O.alike out.old out.new }
 {
@@ -67,9 +68,9 @@ fn say_chosen<S: Shelf, O: Sink>(
         → is_some (text_of (live a.entries) chosen.number) ≡ true }
     ensures said { (a : Archive) → S.holds shelf.old a → SaysOrNot
         (text_words part chosen.shown (text_of (live a.entries) chosen.number)) chosen.after group.old
-        (outside (O.taken out.old) (S.faults shelf.old) (O.faults out.old)) result group.new
-        (outside (O.taken out.new) (S.faults shelf.new) (O.faults out.new)) }
-    ensures shelf { ShelfStays S.holds S.ready S.alike S.faults shelf.old shelf.new }
+        (at_sink O.Sink out.old (S.faults shelf.old)) result group.new
+        (at_sink O.Sink out.new (S.faults shelf.new)) }
+    ensures shelf { ShelfKept S.Shelf shelf.old shelf.new }
     ensures reads { ReadsOnce (S.reads shelf.old) (S.reads shelf.new) }
     ensures sink { O.alike out.old out.new }
 {
@@ -85,8 +86,7 @@ fn say_chosen<S: Shelf, O: Sink>(
 
 /// Says a part of a text, for which a number is shown.
 fn say_text<O: Sink>(part: Part, shown: u32, text: &[u8], out: &mut O) -> Result<(), SinkFault>
-    ensures said { Says (part_words part shown text.now) (O.taken out.old) (O.faults out.old)
-        (O.taken out.new) (O.faults out.new) result }
+    ensures said { SaysTo O.Sink (part_words part shown text.now) out.old out.new result }
     ensures sink { O.alike out.old out.new }
 {
     send(
@@ -168,8 +168,8 @@ pub(crate) fn say_stat<S: Shelf, O: Sink>(
 ) -> Result<(), SinkFault>
     requires { S.ready shelf.now ≡ true }
     ensures said { (a : Archive) → S.holds shelf.now a
-        → Says (chosen_words a (choice_of a group.old (article_of article.entry)))
-        (O.taken out.old) (O.faults out.old) (O.taken out.new) (O.faults out.new) result }
+        → SaysTo O.Sink (chosen_words a (choice_of a group.old (article_of article.entry))) out.old
+        out.new result }
     ensures group { (a : Archive) → S.holds shelf.now a
         → group.new ≡ group_chosen group.old (choice_of a group.old (article_of article.entry)) }
     ensures sink { O.alike out.old out.new }
@@ -190,8 +190,8 @@ pub(crate) fn say_next<S: Shelf, O: Sink>(
     out: &mut O,
 ) -> Result<(), SinkFault>
     requires { S.ready shelf.now ≡ true }
-    ensures said { (a : Archive) → S.holds shelf.now a → Says (step_words a (next_of a group.old))
-        (O.taken out.old) (O.faults out.old) (O.taken out.new) (O.faults out.new) result }
+    ensures said { (a : Archive) → S.holds shelf.now a
+        → SaysTo O.Sink (step_words a (next_of a group.old)) out.old out.new result }
     ensures group { (a : Archive) → S.holds shelf.now a
         → group.new ≡ step_after group.old (next_of a group.old) }
     ensures sink { O.alike out.old out.new }
@@ -208,8 +208,7 @@ pub(crate) fn say_last<S: Shelf, O: Sink>(
 ) -> Result<(), SinkFault>
     requires { S.ready shelf.now ≡ true }
     ensures said { (a : Archive) → S.holds shelf.now a
-        → Says (step_words a (previous_of a group.old))
-        (O.taken out.old) (O.faults out.old) (O.taken out.new) (O.faults out.new) result }
+        → SaysTo O.Sink (step_words a (previous_of a group.old)) out.old out.new result }
     ensures group { (a : Archive) → S.holds shelf.now a
         → group.new ≡ step_after group.old (previous_of a group.old) }
     ensures sink { O.alike out.old out.new }
@@ -226,8 +225,8 @@ fn say_step<S: Shelf, O: Sink>(
     out: &mut O,
 ) -> Result<(), SinkFault>
     requires { S.ready shelf.now ≡ true }
-    ensures said { (a : Archive) → S.holds shelf.now a → Says (step_words a found)
-        (O.taken out.old) (O.faults out.old) (O.taken out.new) (O.faults out.new) result }
+    ensures said { (a : Archive) → S.holds shelf.now a
+        → SaysTo O.Sink (step_words a found) out.old out.new result }
     ensures group { group.new ≡ step_after group.old found }
     ensures sink { O.alike out.old out.new }
 {
@@ -248,8 +247,8 @@ fn say_number_and_id<S: Shelf, O: Sink>(
     out: &mut O,
 ) -> Result<(), SinkFault>
     requires { S.ready shelf.now ≡ true }
-    ensures said { (a : Archive) → S.holds shelf.now a → Says (stat_words a shown number)
-        (O.taken out.old) (O.faults out.old) (O.taken out.new) (O.faults out.new) result }
+    ensures said { (a : Archive) → S.holds shelf.now a
+        → SaysTo O.Sink (stat_words a shown number) out.old out.new result }
     ensures sink { O.alike out.old out.new }
 {
     send(

@@ -1,11 +1,12 @@
 //! What HDR says of a field of texts.
 //! Reads the disk.
 ghost use Rattle.std.specs.Prelude.{◌≡◌, ◌++◌, ℕ, List, length, true, not, is_ok, is_some, if◌then◌else◌};
-ghost use Rattle.line_door.specs.Acts.{outside, Acts, held_if};
+ghost use Rattle.line_door.specs.Acts.{Acts, held_if, at_sink};
+ghost use Rattle.arch_model.specs.OverShelf.{ShelfKept};
 ghost use Rattle.arch_model.specs.Archives.{Archive, live, text_of};
 ghost use Rattle.arch_model.specs.Next.{continues};
-ghost use Rattle.arch_model.specs.Shelves.{ShelfStays, ReadCause, ReadsOnce, ReadsIn};
-ghost use Rattle.edge_io.specs.Phrases.{Says};
+ghost use Rattle.arch_model.specs.Shelves.{ReadCause, ReadsOnce, ReadsIn};
+ghost use Rattle.edge_io.specs.Phrases.{Says, SaysTo};
 ghost use Rattle.wire_replies.specs.Blocks.{block_end};
 ghost use Rattle.wire_replies.specs.Waits.{Waits};
 ghost use Rattle.nntp_reader.specs.Commands as commands;
@@ -59,10 +60,10 @@ pub(crate) fn say_field<S: Shelf, O: Sink>(
     ensures acts { (moment : ℕ) (a : Archive) (rest : List ℕ) → S.holds shelf.old a
         → Acts (said_to moment a group
         (commands.Headers (commands.Field name.now) (articles_of articles.entry)) rest)
-        (outside (O.taken out.old) (S.faults shelf.old) (O.faults out.old))
+        (at_sink O.Sink out.old (S.faults shelf.old))
         (held_if (continues result) (reader group rest)) a
-        (outside (O.taken out.new) (S.faults shelf.new) (O.faults out.new)) }
-    ensures shelf { ShelfStays S.holds S.ready S.alike S.faults shelf.old shelf.new }
+        (at_sink O.Sink out.new (S.faults shelf.new)) }
+    ensures shelf { ShelfKept S.Shelf shelf.old shelf.new }
     ensures reads { ReadsIn S.holds (λ a. field_texts a (articles_of articles.entry)) shelf.old
         (S.reads shelf.old) (S.reads shelf.new) }
     ensures sink { O.alike out.old out.new }
@@ -93,9 +94,9 @@ fn say_single<S: Shelf, O: Sink>(
         → is_some (text_of (live a.entries) chosen.number) ≡ true }
     ensures said { (a : Archive) → S.holds shelf.old a → SaysOrNot (header_start
         ++ (field_line name.now chosen.shown (text_of (live a.entries) chosen.number) ++ block_end))
-        group group (outside (O.taken out.old) (S.faults shelf.old) (O.faults out.old)) result group
-        (outside (O.taken out.new) (S.faults shelf.new) (O.faults out.new)) }
-    ensures shelf { ShelfStays S.holds S.ready S.alike S.faults shelf.old shelf.new }
+        group group (at_sink O.Sink out.old (S.faults shelf.old)) result group
+        (at_sink O.Sink out.new (S.faults shelf.new)) }
+    ensures shelf { ShelfKept S.Shelf shelf.old shelf.new }
     ensures reads { ReadsOnce (S.reads shelf.old) (S.reads shelf.new) }
     ensures sink { O.alike out.old out.new }
 {
@@ -107,8 +108,8 @@ fn say_single<S: Shelf, O: Sink>(
 
 /// Says one value as a block.
 fn say_block<O: Sink>(shown: u32, value: &[u8], out: &mut O) -> Result<(), SinkFault>
-    ensures said { Says (header_start ++ (header_line shown value.now ++ block_end))
-        (O.taken out.old) (O.faults out.old) (O.taken out.new) (O.faults out.new) result }
+    ensures said { SaysTo O.Sink (header_start ++ (header_line shown value.now ++ block_end))
+        out.old out.new result }
     ensures sink { O.alike out.old out.new }
 {
     send(
@@ -137,10 +138,10 @@ fn say_range<S: Shelf, O: Sink>(
     ensures acts { (a : Archive) (rest : List ℕ) → S.holds shelf.old a
         → is_some (first_of (live_in (live a.entries) range.first range.last)) ≡ true
         → Acts (range_said a group name.now range rest)
-        (outside (O.taken out.old) (S.faults shelf.old) (O.faults out.old))
+        (at_sink O.Sink out.old (S.faults shelf.old))
         (held_if (continues result) (reader group rest)) a
-        (outside (O.taken out.new) (S.faults shelf.new) (O.faults out.new)) }
-    ensures shelf { ShelfStays S.holds S.ready S.alike S.faults shelf.old shelf.new }
+        (at_sink O.Sink out.new (S.faults shelf.new)) }
+    ensures shelf { ShelfKept S.Shelf shelf.old shelf.new }
     ensures reads { ReadsIn S.holds (λ a. length (live_in (live a.entries) range.first range.last))
         shelf.old (S.reads shelf.old) (S.reads shelf.new) }
     ensures sink { O.alike out.old out.new }
@@ -180,9 +181,9 @@ fn push_field<S: Shelf, O: Sink>(
         → is_some (text_of (live a.entries) number) ≡ true }
     ensures value { (a : Archive) → S.holds shelf.old a
         → TellsValue name.now number begun (text_of (live a.entries) number) reply.old
-        (outside (O.taken out.old) (S.faults shelf.old) (O.faults out.old)) result reply.new
-        (outside (O.taken out.new) (S.faults shelf.new) (O.faults out.new)) }
-    ensures shelf { ShelfStays S.holds S.ready S.alike S.faults shelf.old shelf.new }
+        (at_sink O.Sink out.old (S.faults shelf.old)) result reply.new
+        (at_sink O.Sink out.new (S.faults shelf.new)) }
+    ensures shelf { ShelfKept S.Shelf shelf.old shelf.new }
     ensures reads { ReadsOnce (S.reads shelf.old) (S.reads shelf.new) }
     ensures sink { O.alike out.old out.new }
 {
@@ -255,7 +256,7 @@ fn read_value<S: Shelf>(
         → is_some (text_of (live a.entries) number) ≡ true }
     ensures value { (a : Archive) → S.holds shelf.old a
         → ReadsValue name.now (text_of (live a.entries) number) result }
-    ensures shelf { ShelfStays S.holds S.ready S.alike S.faults shelf.old shelf.new }
+    ensures shelf { ShelfKept S.Shelf shelf.old shelf.new }
     ensures reads { ReadsOnce (S.reads shelf.old) (S.reads shelf.new) }
     ensures cause { ReadCause (S.faults shelf.old) (S.faults shelf.new) result }
 {

@@ -2,7 +2,7 @@
 //! Pure.
 ghost use Rattle.std.specs.Prelude.{◌≡◌, ◌++◌, true, [], Some, None};
 ghost use Rattle.arch_model.specs.Archives.{Archive, live};
-ghost use Rattle.edge_io.specs.Phrases.{Says};
+ghost use Rattle.edge_io.specs.Phrases.{Says, SaysTo};
 ghost use Rattle.wire_replies.specs.Phrases.{words_of};
 ghost use Rattle.nntp_reader.specs.Groups.{low, high, group_head, group_line, selected as selected_of, is_group as is_group_of, group_words, group_after, group_list, list_group_words, list_group_after};
 ghost use Rattle.nntp_reader.specs.Numbers.{least_live};
@@ -36,8 +36,8 @@ pub(crate) fn say_group<S: Shelf, O: Sink>(
     out: &mut O,
 ) -> Result<(), SinkFault>
     requires { S.ready shelf.now ≡ true }
-    ensures said { (a : Archive) → S.holds shelf.now a → Says (group_words a name.now)
-        (O.taken out.old) (O.faults out.old) (O.taken out.new) (O.faults out.new) result }
+    ensures said { (a : Archive) → S.holds shelf.now a
+        → SaysTo O.Sink (group_words a name.now) out.old out.new result }
     ensures group { (a : Archive) → S.holds shelf.now a
         → group.new ≡ group_after a group.old name.now }
     ensures sink { O.alike out.old out.new }
@@ -52,8 +52,8 @@ pub(crate) fn say_group<S: Shelf, O: Sink>(
 /// Says the group's count and its least and greatest numbers.
 fn say_selected<S: Shelf, O: Sink>(shelf: &S, out: &mut O) -> Result<(), SinkFault>
     requires { S.ready shelf.now ≡ true }
-    ensures said { (a : Archive) → S.holds shelf.now a → Says (group_line a [])
-        (O.taken out.old) (O.faults out.old) (O.taken out.new) (O.faults out.new) result }
+    ensures said { (a : Archive) → S.holds shelf.now a
+        → SaysTo O.Sink (group_line a []) out.old out.new result }
     ensures sink { O.alike out.old out.new }
 {
     send(&head(shelf, b"\r\n"), out)
@@ -69,8 +69,7 @@ pub(crate) fn say_named_list<S: Shelf, O: Sink>(
 ) -> Result<(), SinkFault>
     requires { S.ready shelf.now ≡ true }
     ensures said { (a : Archive) → S.holds shelf.now a
-        → Says (list_group_words a group.old (Some name.now) range)
-        (O.taken out.old) (O.faults out.old) (O.taken out.new) (O.faults out.new) result }
+        → SaysTo O.Sink (list_group_words a group.old (Some name.now) range) out.old out.new result }
     ensures group { (a : Archive) → S.holds shelf.now a
         → group.new ≡ list_group_after a group.old (Some name.now) }
     ensures sink { O.alike out.old out.new }
@@ -91,8 +90,7 @@ pub(crate) fn say_selected_list<S: Shelf, O: Sink>(
 ) -> Result<(), SinkFault>
     requires { S.ready shelf.now ≡ true }
     ensures said { (a : Archive) → S.holds shelf.now a
-        → Says (list_group_words a group.old None range)
-        (O.taken out.old) (O.faults out.old) (O.taken out.new) (O.faults out.new) result }
+        → SaysTo O.Sink (list_group_words a group.old None range) out.old out.new result }
     ensures group { (a : Archive) → S.holds shelf.now a
         → group.new ≡ list_group_after a group.old None }
     ensures sink { O.alike out.old out.new }
@@ -109,8 +107,8 @@ pub(crate) fn say_selected_list<S: Shelf, O: Sink>(
 /// Says the group's line, and its live numbers in a range.
 fn say_list<S: Shelf, O: Sink>(range: Range, shelf: &S, out: &mut O) -> Result<(), SinkFault>
     requires { S.ready shelf.now ≡ true }
-    ensures said { (a : Archive) → S.holds shelf.now a → Says (group_list a range)
-        (O.taken out.old) (O.faults out.old) (O.taken out.new) (O.faults out.new) result }
+    ensures said { (a : Archive) → S.holds shelf.now a
+        → SaysTo O.Sink (group_list a range) out.old out.new result }
     ensures sink { O.alike out.old out.new }
 {
     let start = head(shelf, b" list follows\r\n");

@@ -3,7 +3,7 @@
 ghost use Rattle.std.specs.Prelude.{◌≡◌, ◌++◌, true};
 ghost use Rattle.arch_model.specs.Archives.{Archive, live};
 ghost use Rattle.arch_model.specs.Listings.{row_in};
-ghost use Rattle.edge_io.specs.Phrases.{Says};
+ghost use Rattle.edge_io.specs.Phrases.{Says, SaysTo};
 ghost use Rattle.wire_replies.specs.Blocks.{block_end};
 ghost use Rattle.wire_replies.specs.Phrases.{words_of};
 ghost use Rattle.nntp_reader.specs.Facts.{fact_line};
@@ -33,8 +33,8 @@ pub(crate) fn say_facts<S: Shelf, O: Sink>(
 ) -> Result<(), SinkFault>
     requires { S.ready shelf.now ≡ true }
     ensures said { (a : Archive) → S.holds shelf.now a
-        → Says (facts_words (words_of start.now) fact a group (articles_of articles.entry))
-        (O.taken out.old) (O.faults out.old) (O.taken out.new) (O.faults out.new) result }
+        → SaysTo O.Sink (facts_words (words_of start.now) fact a group (articles_of articles.entry))
+        out.old out.new result }
     ensures sink { O.alike out.old out.new }
 {
     match articles {
@@ -58,9 +58,9 @@ fn say_single<S: Shelf, O: Sink>(
     out: &mut O,
 ) -> Result<(), SinkFault>
     requires { S.ready shelf.now ≡ true }
-    ensures said { (a : Archive) → S.holds shelf.now a → Says (words_of start.now
+    ensures said { (a : Archive) → S.holds shelf.now a → SaysTo O.Sink (words_of start.now
         ++ (fact_line fact chosen.shown (row_in (live a.entries) chosen.number) ++ block_end))
-        (O.taken out.old) (O.faults out.old) (O.taken out.new) (O.faults out.new) result }
+        out.old out.new result }
     ensures sink { O.alike out.old out.new }
 {
     let mut reply = Waiting::new();

@@ -2,7 +2,7 @@
 //! Pure.
 ghost use Rattle.std.specs.Prelude.{◌≡◌, ◌++◌, [], true, option_copied, if◌then◌else◌};
 ghost use Rattle.arch_model.specs.Archives.{Archive};
-ghost use Rattle.edge_io.specs.Phrases.{Says};
+ghost use Rattle.edge_io.specs.Phrases.{Says, SaysTo};
 ghost use Rattle.wire_replies.specs.Blocks.{block_end};
 ghost use Rattle.nntp_reader.specs.Lists.{capabilities_words, help_words, overview_format_words, header_names_words, active_line, times_line, description_line, groups_block, is_listed as is_listed_of, list_words, new_groups_words, new_news_words};
 
@@ -23,8 +23,7 @@ const LIST_START: &[u8] = b"215 list follows\r\n";
 
 /// Says what the door can do.
 pub(crate) fn say_capabilities<O: Sink>(out: &mut O) -> Result<(), SinkFault>
-    ensures said { Says capabilities_words (O.taken out.old) (O.faults out.old) (O.taken out.new)
-        (O.faults out.new) result }
+    ensures said { SaysTo O.Sink capabilities_words out.old out.new result }
     ensures sink { O.alike out.old out.new }
 {
     send(
@@ -39,8 +38,7 @@ pub(crate) fn say_capabilities<O: Sink>(out: &mut O) -> Result<(), SinkFault>
 
 /// Says where the commands are described.
 pub(crate) fn say_help<O: Sink>(out: &mut O) -> Result<(), SinkFault>
-    ensures said { Says help_words (O.taken out.old) (O.faults out.old) (O.taken out.new)
-        (O.faults out.new) result }
+    ensures said { SaysTo O.Sink help_words out.old out.new result }
     ensures sink { O.alike out.old out.new }
 {
     say(b"100 help\r\nsee RFC 3977\r\n.\r\n", out)
@@ -55,8 +53,7 @@ pub(crate) fn say_list<S: Shelf, O: Sink>(
 ) -> Result<(), SinkFault>
     requires { S.ready shelf.now ≡ true }
     ensures said { (a : Archive) → S.holds shelf.now a
-        → Says (list_words listing (option_copied wildmat.entry) a)
-        (O.taken out.old) (O.faults out.old) (O.taken out.new) (O.faults out.new) result }
+        → SaysTo O.Sink (list_words listing (option_copied wildmat.entry) a) out.old out.new result }
     ensures sink { O.alike out.old out.new }
 {
     let listed = is_listed(wildmat, shelf);
@@ -90,8 +87,8 @@ fn say_active<'a, S: Shelf, O: Sink>(
 ) -> Result<(), SinkFault>
     requires { S.ready shelf.now ≡ true }
     ensures said { (a : Archive) → S.holds shelf.now a
-        → Says (start.now ++ ((if listed then active_line a else []) ++ block_end))
-        (O.taken out.old) (O.faults out.old) (O.taken out.new) (O.faults out.new) result }
+        → SaysTo O.Sink (start.now ++ ((if listed then active_line a else []) ++ block_end)) out.old
+        out.new result }
     ensures sink { O.alike out.old out.new }
 {
     if !listed {
@@ -114,8 +111,8 @@ fn say_active<'a, S: Shelf, O: Sink>(
 /// Says the list of groups with when they were created.
 fn say_times<S: Shelf, O: Sink>(listed: bool, shelf: &S, out: &mut O) -> Result<(), SinkFault>
     requires { S.ready shelf.now ≡ true }
-    ensures said { (a : Archive) → S.holds shelf.now a → Says (groups_block listed (times_line a))
-        (O.taken out.old) (O.faults out.old) (O.taken out.new) (O.faults out.new) result }
+    ensures said { (a : Archive) → S.holds shelf.now a
+        → SaysTo O.Sink (groups_block listed (times_line a)) out.old out.new result }
     ensures sink { O.alike out.old out.new }
 {
     if !listed {
@@ -141,8 +138,7 @@ fn say_descriptions<S: Shelf, O: Sink>(
 ) -> Result<(), SinkFault>
     requires { S.ready shelf.now ≡ true }
     ensures said { (a : Archive) → S.holds shelf.now a
-        → Says (groups_block listed (description_line a))
-        (O.taken out.old) (O.faults out.old) (O.taken out.new) (O.faults out.new) result }
+        → SaysTo O.Sink (groups_block listed (description_line a)) out.old out.new result }
     ensures sink { O.alike out.old out.new }
 {
     if !listed {
@@ -160,8 +156,7 @@ fn say_descriptions<S: Shelf, O: Sink>(
 
 /// Says the fields of an overview line, in order.
 fn say_overview_format<O: Sink>(out: &mut O) -> Result<(), SinkFault>
-    ensures said { Says overview_format_words (O.taken out.old) (O.faults out.old)
-        (O.taken out.new) (O.faults out.new) result }
+    ensures said { SaysTo O.Sink overview_format_words out.old out.new result }
     ensures sink { O.alike out.old out.new }
 {
     send(
@@ -175,8 +170,7 @@ fn say_overview_format<O: Sink>(out: &mut O) -> Result<(), SinkFault>
 
 /// Says what HDR takes.
 fn say_header_names<O: Sink>(out: &mut O) -> Result<(), SinkFault>
-    ensures said { Says header_names_words (O.taken out.old) (O.faults out.old) (O.taken out.new)
-        (O.faults out.new) result }
+    ensures said { SaysTo O.Sink header_names_words out.old out.new result }
     ensures sink { O.alike out.old out.new }
 {
     say(b"215 list follows\r\n:\r\n:bytes\r\n:lines\r\n.\r\n", out)
@@ -189,8 +183,8 @@ pub(crate) fn say_new_groups<S: Shelf, O: Sink>(
     out: &mut O,
 ) -> Result<(), SinkFault>
     requires { S.ready shelf.now ≡ true }
-    ensures said { (a : Archive) → S.holds shelf.now a → Says (new_groups_words moment a)
-        (O.taken out.old) (O.faults out.old) (O.taken out.new) (O.faults out.new) result }
+    ensures said { (a : Archive) → S.holds shelf.now a
+        → SaysTo O.Sink (new_groups_words moment a) out.old out.new result }
     ensures sink { O.alike out.old out.new }
 {
     let is_new = moment <= u64::from(shelf.config().born);
@@ -206,8 +200,7 @@ pub(crate) fn say_new_news<S: Shelf, O: Sink>(
 ) -> Result<(), SinkFault>
     requires { S.ready shelf.now ≡ true }
     ensures said { (a : Archive) → S.holds shelf.now a
-        → Says (new_news_words wildmat.now moment a)
-        (O.taken out.old) (O.faults out.old) (O.taken out.new) (O.faults out.new) result }
+        → SaysTo O.Sink (new_news_words wildmat.now moment a) out.old out.new result }
     ensures sink { O.alike out.old out.new }
 {
     if !is_listed(Some(wildmat), shelf) {

@@ -3,7 +3,7 @@
 ghost use Rattle.std.specs.Prelude.{◌≡◌, ◌≤◌, ◌-◌, min};
 ghost use Rattle.std.specs.Int.{IsInRange};
 ghost use Rattle.arch_base.specs.Moments.{last_moment};
-ghost use Rattle.edge_io.specs.Phrases.{Says};
+ghost use Rattle.edge_io.specs.Phrases.{Says, SaysTo};
 ghost use Rattle.nntp_reader.specs.Dates.{year_at, date_words};
 
 use edge_io::{Sink, SinkFault, say};
@@ -12,8 +12,7 @@ use mail_date::{print_rfc3339, printed_date_is_one};
 /// Says a moment, in seconds since 1970 UTC.
 pub(crate) fn say_date<O: Sink>(moment: u64, out: &mut O) -> Result<(), SinkFault>
     requires { moment ≤ last_moment }
-    ensures said { Says (date_words moment) (O.taken out.old) (O.faults out.old) (O.taken out.new)
-        (O.faults out.new) result }
+    ensures said { SaysTo O.Sink (date_words moment) out.old out.new result }
     ensures sink { O.alike out.old out.new }
 {
     say(&date_line(moment), out)

@@ -1,6 +1,6 @@
 //! The replies that are one line of fixed words.
 //! Pure.
-ghost use Rattle.edge_io.specs.Phrases.{Says};
+ghost use Rattle.edge_io.specs.Phrases.{SaysTo};
 ghost use Rattle.nntp_reader.specs.Notices.{notice_line};
 
 use edge_io::{Sink, SinkFault, say};
@@ -38,8 +38,7 @@ pub(crate) enum Notice {
 
 /// Writes the line of a notice.
 pub(crate) fn say_notice<O: Sink>(notice: Notice, out: &mut O) -> Result<(), SinkFault>
-    ensures said { Says (notice_line notice) (O.taken out.old) (O.faults out.old)
-        (O.taken out.new) (O.faults out.new) result }
+    ensures said { SaysTo O.Sink (notice_line notice) out.old out.new result }
     ensures sink { O.alike out.old out.new }
 {
     match notice {

@@ -2,7 +2,7 @@
 //! Pure.
 ghost use Rattle.std.specs.Prelude.{◌≡◌, ◌++◌, true};
 ghost use Rattle.arch_model.specs.Archives.{Archive, live};
-ghost use Rattle.edge_io.specs.Phrases.{Says};
+ghost use Rattle.edge_io.specs.Phrases.{Says, SaysTo};
 ghost use Rattle.wire_replies.specs.Blocks.{block_end};
 ghost use Rattle.wire_replies.specs.Phrases.{words_of};
 ghost use Rattle.wire_replies.specs.Waits.{Waits};
@@ -26,9 +26,9 @@ pub(crate) fn say_lines<S: Shelf, O: Sink>(
     out: &mut O,
 ) -> Result<(), SinkFault>
     requires { S.ready shelf.now ≡ true }
-    ensures said { (a : Archive) → S.holds shelf.now a → Says (words_of start.now
-        ++ (fact_lines fact (live a.entries) range.first range.last ++ block_end))
-        (O.taken out.old) (O.faults out.old) (O.taken out.new) (O.faults out.new) result }
+    ensures said { (a : Archive) → S.holds shelf.now a → SaysTo O.Sink (words_of start.now
+        ++ (fact_lines fact (live a.entries) range.first range.last ++ block_end)) out.old out.new
+        result }
     ensures sink { O.alike out.old out.new }
 {
     let mut reply = Waiting::new();

@@ -2,7 +2,7 @@
 //! Pure.
 ghost use Rattle.std.specs.Prelude.{◌++◌, ◌∷◌, codes, decimal};
 ghost use Rattle.arch_model.specs.Delivery.{file_words};
-ghost use Rattle.edge_io.specs.Phrases.{Says};
+ghost use Rattle.edge_io.specs.Phrases.{SaysTo};
 ghost use Rattle.wire_replies.specs.Blocks.{crlf_line};
 ghost use Rattle.nntp_reader.specs.Notices.{busy_line, memory_line, unopened_line};
 
@@ -13,8 +13,7 @@ use wire_replies::{Phrase, send};
 
 /// Writes that as many sessions are open as there may be. The connection has none.
 pub fn say_busy<O: Sink>(out: &mut O) -> Result<(), SinkFault>
-    ensures said { Says busy_line (O.taken out.old) (O.faults out.old) (O.taken out.new)
-        (O.faults out.new) result }
+    ensures said { SaysTo O.Sink busy_line out.old out.new result }
     ensures sink { O.alike out.old out.new }
 {
     say(b"400 busy\r\n", out)
@@ -22,8 +21,7 @@ pub fn say_busy<O: Sink>(out: &mut O) -> Result<(), SinkFault>
 
 /// Writes that memory ran out.
 pub fn say_no_memory<O: Sink>(out: &mut O) -> Result<(), SinkFault>
-    ensures said { Says memory_line (O.taken out.old) (O.faults out.old) (O.taken out.new)
-        (O.faults out.new) result }
+    ensures said { SaysTo O.Sink memory_line out.old out.new result }
     ensures sink { O.alike out.old out.new }
 {
     say(b"403 out of memory\r\n", out)
@@ -31,8 +29,7 @@ pub fn say_no_memory<O: Sink>(out: &mut O) -> Result<(), SinkFault>
 
 /// Writes why the archive was not opened. If there is none, its root is called damaged.
 pub fn say_unopened<O: Sink>(refusal: OpenRefusal, out: &mut O) -> Result<(), SinkFault>
-    ensures said { Says (unopened_line refusal) (O.taken out.old) (O.faults out.old)
-        (O.taken out.new) (O.faults out.new) result }
+    ensures said { SaysTo O.Sink (unopened_line refusal) out.old out.new result }
     ensures sink { O.alike out.old out.new }
 {
     match refusal {
@@ -45,8 +42,8 @@ pub fn say_unopened<O: Sink>(refusal: OpenRefusal, out: &mut O) -> Result<(), Si
 
 /// Writes that a file of the archive is damaged, and at which offset.
 fn say_damaged_file<O: Sink>(file: FileName, at: u64, out: &mut O) -> Result<(), SinkFault>
-    ensures said { Says (codes "403 damaged " ++ (file_words file ++ (32 ∷ crlf_line (decimal at))))
-        (O.taken out.old) (O.faults out.old) (O.taken out.new) (O.faults out.new) result }
+    ensures said { SaysTo O.Sink (codes "403 damaged "
+        ++ (file_words file ++ (32 ∷ crlf_line (decimal at)))) out.old out.new result }
     ensures sink { O.alike out.old out.new }
 {
     match file.kind {
@@ -59,8 +56,8 @@ fn say_damaged_file<O: Sink>(file: FileName, at: u64, out: &mut O) -> Result<(),
 
 /// Writes that a file that a word names is damaged, and at which offset.
 fn say_damaged_at<'a, O: Sink>(word: &'a [u8], at: u64, out: &mut O) -> Result<(), SinkFault>
-    ensures said { Says (codes "403 damaged " ++ (word.now ++ (32 ∷ crlf_line (decimal at))))
-        (O.taken out.old) (O.faults out.old) (O.taken out.new) (O.faults out.new) result }
+    ensures said { SaysTo O.Sink (codes "403 damaged "
+        ++ (word.now ++ (32 ∷ crlf_line (decimal at)))) out.old out.new result }
     ensures sink { O.alike out.old out.new }
 {
     send(
@@ -77,9 +74,9 @@ fn say_damaged_at<'a, O: Sink>(word: &'a [u8], at: u64, out: &mut O) -> Result<(
 
 /// Writes that an epoch is damaged, and at which offset.
 fn say_damaged_epoch<O: Sink>(number: u32, at: u64, out: &mut O) -> Result<(), SinkFault>
-    ensures said { Says (codes "403 damaged "
-        ++ ((codes "epoch " ++ decimal number) ++ (32 ∷ crlf_line (decimal at))))
-        (O.taken out.old) (O.faults out.old) (O.taken out.new) (O.faults out.new) result }
+    ensures said { SaysTo O.Sink (codes "403 damaged "
+        ++ ((codes "epoch " ++ decimal number) ++ (32 ∷ crlf_line (decimal at)))) out.old out.new
+        result }
     ensures sink { O.alike out.old out.new }
 {
     send(

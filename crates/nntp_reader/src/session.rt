@@ -2,14 +2,15 @@
 //! Reads the disk.
 ghost use Rattle.std.specs.Prelude.{◌≡◌, ◌≤◌, ◌+◌, ◌<◌, ◌++◌, ℕ, List, [], length, Some, true, false, if◌then◌else◌};
 ghost use Rattle.arch_base.specs.Moments.{last_moment};
-ghost use Rattle.line_door.specs.Acts.{outside, Acts, held_if};
+ghost use Rattle.line_door.specs.Acts.{Acts, held_if, at_sink};
 ghost use Rattle.line_door.specs.Clipped.{longest_line};
 ghost use Rattle.line_door.specs.Course.{talk, Fed};
 ghost use Rattle.line_door.specs.Lines.{content};
 ghost use Rattle.line_door.specs.Skipping.{skipping_front, Unended};
+ghost use Rattle.arch_model.specs.OverShelf.{ShelfKept};
 ghost use Rattle.arch_model.specs.Archives.{Archive};
 ghost use Rattle.arch_model.specs.Next.{continues};
-ghost use Rattle.arch_model.specs.Shelves.{ShelfStays, ReadsIn};
+ghost use Rattle.arch_model.specs.Shelves.{ReadsIn};
 ghost use Rattle.nntp_reader.specs.Commands.{command_of};
 ghost use Rattle.nntp_reader.specs.Counting.{ReadsLines, NewsActReads, command_texts};
 ghost use Rattle.nntp_reader.specs.Dates.{year_at};
@@ -65,9 +66,9 @@ impl NntpSession {
     /// Allocates nothing. The session is closed if the greeting is lost.
     pub fn open<O: Sink>(alloc: Global, out: &mut O) -> (NntpSession, Next)
         ensures greeted { (a : Archive) (disk : ℕ) → Acts (greeting a)
-            (outside (O.taken out.old) disk (O.faults out.old))
+            (at_sink O.Sink out.old disk)
             (held_if (continues result.1) result.0) a
-            (outside (O.taken out.new) disk (O.faults out.new)) }
+            (at_sink O.Sink out.new disk) }
         ensures session { result.0 ≡ new_reader }
         ensures sink { O.alike out.old out.new }
     {
@@ -115,11 +116,11 @@ impl NntpSession {
         requires moment { moment ≤ last_moment }
         ensures fed { (a : Archive) → S.holds shelf.old a → Fed (said moment) has_request
             (talk (Some (with_piece piece.now self.old)) a
-            (outside (O.taken out.old) (S.faults shelf.old) (O.faults out.old)))
+            (at_sink O.Sink out.old (S.faults shelf.old)))
             (talk (held_if (continues result) self.new) a
-            (outside (O.taken out.new) (S.faults shelf.new) (O.faults out.new))) }
+            (at_sink O.Sink out.new (S.faults shelf.new))) }
         ensures rest { continues result ≡ true → has_request self.new ≡ false }
-        ensures shelf { ShelfStays S.holds S.ready S.alike S.faults shelf.old shelf.new }
+        ensures shelf { ShelfKept S.Shelf shelf.old shelf.new }
         ensures reads { ReadsLines S.holds moment (self.old.bytes ++ piece.now) shelf.old
             (S.reads shelf.old) (S.reads shelf.new) }
         ensures sink { O.alike out.old out.new }
@@ -145,10 +146,10 @@ impl NntpSession {
         requires ready { S.ready shelf.old ≡ true }
         requires moment { moment ≤ last_moment }
         ensures turn { (a : Archive) → S.holds shelf.old a → IsNewsAct moment a self.old piece.now
-            (outside (O.taken out.old) (S.faults shelf.old) (O.faults out.old)) result self.new
-            (outside (O.taken out.new) (S.faults shelf.new) (O.faults out.new)) }
+            (at_sink O.Sink out.old (S.faults shelf.old)) result self.new
+            (at_sink O.Sink out.new (S.faults shelf.new)) }
         ensures takes { TakesLine piece.now result self.new }
-        ensures shelf { ShelfStays S.holds S.ready S.alike S.faults shelf.old shelf.new }
+        ensures shelf { ShelfKept S.Shelf shelf.old shelf.new }
         ensures reads { (a : Archive) → S.holds shelf.old a → NewsActReads moment a self.old piece.now
             result self.new (S.reads shelf.old) (S.reads shelf.new) }
         ensures sink { O.alike out.old out.new }
@@ -184,11 +185,11 @@ impl NntpSession {
         ensures acts { (a : Archive) (rest : List ℕ) → S.holds shelf.old a
             → Acts (said_to moment a self.old.group
             (command_of (year_at moment) (content (self.old.bytes ++ line.now))) rest)
-            (outside (O.taken out.old) (S.faults shelf.old) (O.faults out.old))
+            (at_sink O.Sink out.old (S.faults shelf.old))
             (held_if (continues result) (reader self.new.group rest)) a
-            (outside (O.taken out.new) (S.faults shelf.new) (O.faults out.new)) }
+            (at_sink O.Sink out.new (S.faults shelf.new)) }
         ensures empty { self.new.bytes ≡ [] }
-        ensures shelf { ShelfStays S.holds S.ready S.alike S.faults shelf.old shelf.new }
+        ensures shelf { ShelfKept S.Shelf shelf.old shelf.new }
         ensures reads { ReadsIn S.holds (λ a. command_texts a
             (command_of (year_at moment) (content (self.old.bytes ++ line.now)))) shelf.old
             (S.reads shelf.old) (S.reads shelf.new) }

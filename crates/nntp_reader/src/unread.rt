@@ -1,7 +1,7 @@
 //! Says why a text was not read.
 //! Pure.
 ghost use Rattle.std.specs.Prelude.{◌++◌, ◌∷◌, codes};
-ghost use Rattle.edge_io.specs.Phrases.{Says};
+ghost use Rattle.edge_io.specs.Phrases.{Says, SaysTo};
 ghost use Rattle.wire_replies.specs.Blocks.{crlf_line};
 ghost use Rattle.nntp_reader.specs.Notices.{unread_line};
 
@@ -12,8 +12,7 @@ use wire_replies::{Phrase, send};
 
 /// Writes why a text was not read.
 pub(crate) fn say_unread<O: Sink>(refusal: TextRefusal, out: &mut O) -> Result<(), SinkFault>
-    ensures said { Says (unread_line refusal) (O.taken out.old) (O.faults out.old)
-        (O.taken out.new) (O.faults out.new) result }
+    ensures said { SaysTo O.Sink (unread_line refusal) out.old out.new result }
     ensures sink { O.alike out.old out.new }
 {
     match refusal {
@@ -25,8 +24,8 @@ pub(crate) fn say_unread<O: Sink>(refusal: TextRefusal, out: &mut O) -> Result<(
 
 /// Writes that a text is damaged: its id, and the id of the bytes found in its place, in hex.
 fn say_damaged<'a, O: Sink>(named: &'a [u8], found: &'a [u8], out: &mut O) -> Result<(), SinkFault>
-    ensures said { Says (codes "403 damaged " ++ (named.now ++ (32 ∷ crlf_line found.now)))
-        (O.taken out.old) (O.faults out.old) (O.taken out.new) (O.faults out.new) result }
+    ensures said { SaysTo O.Sink (codes "403 damaged " ++ (named.now ++ (32 ∷ crlf_line found.now)))
+        out.old out.new result }
     ensures sink { O.alike out.old out.new }
 {
     send(

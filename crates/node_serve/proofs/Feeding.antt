@@ -7,7 +7,7 @@ use Rattle.line_door.specs.Over.{held_over, said_over, talk_over, talks_over}
 use Rattle.line_door.proofs.Lifting.{requests-over, last-over}
 use Rattle.arch_model.specs.Archives.{Archive}
 use Rattle.arch_model.specs.Standing.{LastKnown, standing}
-use Rattle.arch_model.specs.Keeping.{CrashesLeaveOnly, MatchesKnown, KeeperMoves, OnlyRead}
+use Rattle.arch_model.specs.Keeping.{CrashesLeaveOnly, MatchesKnown, KeeperMoves, OnlyRead, Keeper}
 use Rattle.arch_model.proofs.Keepers.{settled-is, moves-read}
 use Rattle.keep_course.specs.Courses.{afters, SessionRun}
 use Rattle.keep_course.proofs.Courses.{coming-same, coming-more, coming-last, course-after, reading-course}
@@ -51,10 +51,10 @@ http-rest : (goes_on : Bool) (left : List ℕ) → held_if goes_on (session.Http
 http-rest true left = refl
 http-rest false left = refl
 
-module _ {K : Type 0} (holds files_are : K → Archive → Type 0) (ready : K → Bool) (leaves : K → K → List (Option Archive) → Type 0) (moment : ℕ) where
+module _ {K : Type 0} (g : Keeper K) (moment : ℕ) where
   -- The piece of a session at the control door.
-  pub control-fed : (bytes : List ℕ) (s : LastKnown) (old : K) (i : ConnectionState) (goes_on : Bool) (left : List ℕ) (new : K) (j : ConnectionState) → sessions.AnswersCommands holds files_are ready leaves moment bytes old i goes_on left new j → MatchesKnown holds files_are ready leaves old s
-      → FedFrom holds files_are ready leaves moment (AtControl (waiting bytes true)) s old i goes_on (session.Control left) new j
+  pub control-fed : (bytes : List ℕ) (s : LastKnown) (old : K) (i : ConnectionState) (goes_on : Bool) (left : List ℕ) (new : K) (j : ConnectionState) → sessions.AnswersCommands g moment bytes old i goes_on left new j → MatchesKnown g old s
+      → FedFrom g moment (AtControl (waiting bytes true)) s old i goes_on (session.Control left) new j
   control-fed bytes s old i goes_on left new j feeds fits =
       let fed = feeds s fits in
       record {
@@ -62,67 +62,67 @@ module _ {K : Type 0} (holds files_are : K → Archive → Type 0) (ready : K �
         fits = fed.2;
         held = held_over AtControl (held_if goes_on (waiting left fed.1));
         rest_is = control-rest goes_on left fed.1;
-        course = course-over leaves AtControl (control.said moment) control.has_request (said moment) is_asked (λ t h way. refl) (λ h. refl) old new (talk (Some (waiting bytes true)) s i) (talk (held_if goes_on (waiting left fed.1)) fed.0 j) fed.3.course;
+        course = course-over g.leaves AtControl (control.said moment) control.has_request (said moment) is_asked (λ t h way. refl) (λ h. refl) old new (talk (Some (waiting bytes true)) s i) (talk (held_if goes_on (waiting left fed.1)) fed.0 j) fed.3.course;
       }
 
   -- The piece of a reader's session.
-  pub news-fed : ((k : K) (a : Archive) → holds k a → files_are k a) → ((k : K) (a : Archive) (may : List (Option Archive)) → holds k a → Contains may (Some a) → leaves k k may) → (start : Reader) (s : LastKnown) (old : K) (i : ConnectionState) (goes_on : Bool) (left : Reader) (new : K) (j : ConnectionState)
-      → ((a : Archive) → holds old a → Fed (news.said moment) news.has_request (talk (Some start) a i) (talk (held_if goes_on left) a j)) → OnlyRead holds files_are ready leaves old new → ready old ≡ true → MatchesKnown holds files_are ready leaves old s
-      → FedFrom holds files_are ready leaves moment (AtNews start) s old i goes_on (session.News left) new j
+  pub news-fed : ((k : K) (a : Archive) → g.holds k a → g.files_are k a) → ((k : K) (a : Archive) (may : List (Option Archive)) → g.holds k a → Contains may (Some a) → g.leaves k k may) → (start : Reader) (s : LastKnown) (old : K) (i : ConnectionState) (goes_on : Bool) (left : Reader) (new : K) (j : ConnectionState)
+      → ((a : Archive) → g.holds old a → Fed (news.said moment) news.has_request (talk (Some start) a i) (talk (held_if goes_on left) a j)) → OnlyRead g old new → g.ready old ≡ true → MatchesKnown g old s
+      → FedFrom g moment (AtNews start) s old i goes_on (session.News left) new j
   news-fed holds_files_are holds_left start s old i goes_on left new j fed read at_hand fits =
-      let settled = settled-is holds files_are ready leaves old s fits at_hand in
-      let moves = moves-read holds files_are ready leaves holds_files_are holds_left old new s.archive settled.1 read in
-      subst (λ (x : LastKnown). FedFrom holds files_are ready leaves moment (AtNews start) x old i goes_on (session.News left) new j) (sym settled.0) (record {
+      let settled = settled-is g old s fits at_hand in
+      let moves = moves-read g holds_files_are holds_left old new s.archive settled.1 read in
+      subst (λ (x : LastKnown). FedFrom g moment (AtNews start) x old i goes_on (session.News left) new j) (sym settled.0) (record {
         after = standing s.archive None;
         fits = moves.fits;
         held = held_over AtNews (held_if goes_on left);
         rest_is = news-rest goes_on left;
-        course = reading-course holds files_are ready leaves AtNews (news.said moment) news.has_request (said moment) is_asked (λ a h way. refl) (λ h. refl) old new (talk (Some start) s.archive i) (talk (held_if goes_on left) s.archive j) read (fed s.archive settled.1);
+        course = reading-course g AtNews (news.said moment) news.has_request (said moment) is_asked (λ a h way. refl) (λ h. refl) old new (talk (Some start) s.archive i) (talk (held_if goes_on left) s.archive j) read (fed s.archive settled.1);
       })
 
   -- The piece of a session at the door of pages.
-  pub http-fed : ((k : K) (a : Archive) → holds k a → files_are k a) → ((k : K) (a : Archive) (may : List (Option Archive)) → holds k a → Contains may (Some a) → leaves k k may) → (start : List ℕ) (s : LastKnown) (old : K) (i : ConnectionState) (goes_on : Bool) (left : List ℕ) (new : K) (j : ConnectionState)
-      → ((a : Archive) → holds old a → Fed (pages.said moment) pages.has_request (talk (Some start) a i) (talk (held_if goes_on left) a j)) → OnlyRead holds files_are ready leaves old new → ready old ≡ true → MatchesKnown holds files_are ready leaves old s
-      → FedFrom holds files_are ready leaves moment (AtHttp start) s old i goes_on (session.Http left) new j
+  pub http-fed : ((k : K) (a : Archive) → g.holds k a → g.files_are k a) → ((k : K) (a : Archive) (may : List (Option Archive)) → g.holds k a → Contains may (Some a) → g.leaves k k may) → (start : List ℕ) (s : LastKnown) (old : K) (i : ConnectionState) (goes_on : Bool) (left : List ℕ) (new : K) (j : ConnectionState)
+      → ((a : Archive) → g.holds old a → Fed (pages.said moment) pages.has_request (talk (Some start) a i) (talk (held_if goes_on left) a j)) → OnlyRead g old new → g.ready old ≡ true → MatchesKnown g old s
+      → FedFrom g moment (AtHttp start) s old i goes_on (session.Http left) new j
   http-fed holds_files_are holds_left start s old i goes_on left new j fed read at_hand fits =
-      let settled = settled-is holds files_are ready leaves old s fits at_hand in
-      let moves = moves-read holds files_are ready leaves holds_files_are holds_left old new s.archive settled.1 read in
-      subst (λ (x : LastKnown). FedFrom holds files_are ready leaves moment (AtHttp start) x old i goes_on (session.Http left) new j) (sym settled.0) (record {
+      let settled = settled-is g old s fits at_hand in
+      let moves = moves-read g holds_files_are holds_left old new s.archive settled.1 read in
+      subst (λ (x : LastKnown). FedFrom g moment (AtHttp start) x old i goes_on (session.Http left) new j) (sym settled.0) (record {
         after = standing s.archive None;
         fits = moves.fits;
         held = held_over AtHttp (held_if goes_on left);
         rest_is = http-rest goes_on left;
-        course = reading-course holds files_are ready leaves AtHttp (pages.said moment) pages.has_request (said moment) is_asked (λ a h way. refl) (λ h. refl) old new (talk (Some start) s.archive i) (talk (held_if goes_on left) s.archive j) read (fed s.archive settled.1);
+        course = reading-course g AtHttp (pages.said moment) pages.has_request (said moment) is_asked (λ a h way. refl) (λ h. refl) old new (talk (Some start) s.archive i) (talk (held_if goes_on left) s.archive j) read (fed s.archive settled.1);
       })
 
   -- A reopening, and then the piece.
-  pub fed-opened : (start : Session) (piece : List ℕ) (s t : LastKnown) (old mid new : K) (i j k : ConnectionState) (goes_on : Bool) (left : Session) → Acts (said moment s (Came start piece)) i (Some (with_piece start piece)) t j → CrashesLeaveOnly leaves old mid (s ∷ t ∷ [])
-      → FedFrom holds files_are ready leaves moment (with_piece start piece) t mid j goes_on left new k → FedFrom holds files_are ready leaves moment (Came start piece) s old i goes_on left new k
+  pub fed-opened : (start : Session) (piece : List ℕ) (s t : LastKnown) (old mid new : K) (i j k : ConnectionState) (goes_on : Bool) (left : Session) → Acts (said moment s (Came start piece)) i (Some (with_piece start piece)) t j → CrashesLeaveOnly g.leaves old mid (s ∷ t ∷ [])
+      → FedFrom g moment (with_piece start piece) t mid j goes_on left new k → FedFrom g moment (Came start piece) s old i goes_on left new k
   fed-opened start piece s t old mid new i j k goes_on left acts passes fed = record {
     after = fed.after;
     fits = fed.fits;
     held = fed.held;
     rest_is = fed.rest_is;
-    course = course-after leaves (said moment) is_asked old mid new (talk (Some (Came start piece)) s i) (talk (Some (with_piece start piece)) t j) (talk fed.held fed.after k)
-        (coming-more leaves (said moment) is_asked old old mid (talk (Some (Came start piece)) s i) (Came start piece) s i (Some (with_piece start piece)) t j (coming-same leaves (said moment) is_asked old (talk (Some (Came start piece)) s i)) refl acts passes) fed.course;
+    course = course-after g.leaves (said moment) is_asked old mid new (talk (Some (Came start piece)) s i) (talk (Some (with_piece start piece)) t j) (talk fed.held fed.after k)
+        (coming-more g.leaves (said moment) is_asked old old mid (talk (Some (Came start piece)) s i) (Came start piece) s i (Some (with_piece start piece)) t j (coming-same g.leaves (said moment) is_asked old (talk (Some (Came start piece)) s i)) refl acts passes) fed.course;
   }
 
   -- A reopening that was refused.
-  pub fed-shut : (start : Session) (piece : List ℕ) (s t : LastKnown) (old new : K) (i j : ConnectionState) (left : Session) → Acts (said moment s (Came start piece)) i None t j → KeeperMoves holds files_are ready leaves old s new t
-      → FedFrom holds files_are ready leaves moment (Came start piece) s old i false left new j
+  pub fed-shut : (start : Session) (piece : List ℕ) (s t : LastKnown) (old new : K) (i j : ConnectionState) (left : Session) → Acts (said moment s (Came start piece)) i None t j → KeeperMoves g old s new t
+      → FedFrom g moment (Came start piece) s old i false left new j
   fed-shut start piece s t old new i j left acts moves = record {
     after = t;
     fits = moves.fits;
     held = None;
     rest_is = refl;
-    course = coming-last leaves (said moment) is_asked old old new (talk (Some (Came start piece)) s i) (Came start piece) s i None t j (coming-same leaves (said moment) is_asked old (talk (Some (Came start piece)) s i)) acts (inl refl) moves.passes;
+    course = coming-last g.leaves (said moment) is_asked old old new (talk (Some (Came start piece)) s i) (Came start piece) s i None t j (coming-same g.leaves (said moment) is_asked old (talk (Some (Came start piece)) s i)) acts (inl refl) moves.passes;
   }
 
-module _ {K : Type 0} (holds : K → Archive → Type 0) (ready : K → Bool) (reads : K → ℕ) (moment : ℕ) where
+module _ {K : Type 0} (g : Keeper K) (moment : ℕ) where
   -- What a piece reads after a reopening that does nothing.
-  pub reads-from : (start : Session) (piece : List ℕ) (old mid new : K) → mid ≡ old → ReadsAt holds ready reads moment start piece mid new → ReadsAt holds ready reads moment start piece old new
-  reads-from start piece old mid new same read = subst (λ (k : K). ReadsAt holds ready reads moment start piece k new) same read
+  pub reads-from : (start : Session) (piece : List ℕ) (old mid new : K) → mid ≡ old → ReadsAt g moment start piece mid new → ReadsAt g moment start piece old new
+  reads-from start piece old mid new same read = subst (λ (k : K). ReadsAt g moment start piece k new) same read
 
   -- What a piece reads that came to the session of a place, if it has one.
-  pub reads-there : (here there : Option Session) (piece : List ℕ) (old new : K) → here ≡ there → ReadsCame holds ready reads moment here piece old new → ReadsCame holds ready reads moment there piece old new
-  reads-there here there piece old new same read = subst (λ (x : Option Session). ReadsCame holds ready reads moment x piece old new) same read
+  pub reads-there : (here there : Option Session) (piece : List ℕ) (old new : K) → here ≡ there → ReadsCame g moment here piece old new → ReadsCame g moment there piece old new
+  reads-there here there piece old new same read = subst (λ (x : Option Session). ReadsCame g moment x piece old new) same read

@@ -14,7 +14,7 @@ use Rattle.line_door.specs.Acts.{ConnectionState, Said, Departure, Plain, Memory
 use Rattle.line_door.specs.Course.{SessionState, talk}
 use Rattle.arch_model.specs.Archives.{Archive}
 use Rattle.arch_model.specs.Standing.{LastKnown}
-use Rattle.arch_model.specs.Keeping.{Has, HasAll, CrashesLeaveOnly, MatchesKnown}
+use Rattle.arch_model.specs.Keeping.{Has, HasAll, CrashesLeaveOnly, MatchesKnown, Keeper}
 use Rattle.arch_model.proofs.Keepers.{all-split}
 use Rattle.keep_course.specs.Courses.{afters}
 use Rattle.node_serve.specs.Doors.{SessionAtWork, session_limit, greets, said_making}
@@ -170,9 +170,9 @@ served-last [] w (t ∷ ts) v never = absurd never
 served-last (e ∷ es) w [] v never = absurd never
 served-last (e ∷ es) w (t ∷ ts) v run = served-last es t.after ts v run.1
 
-module _ {K : Type 0} (holds files_are : K → Archive → Type 0) (ready : K → Bool) (leaves : K → K → List (Option Archive) → Type 0) where
+module _ {K : Type 0} (g : Keeper K) where
   -- Before the first event.
-  pub runs-none : (s : LastKnown) (node : Serving K) (i : HostState) → MatchesKnown holds files_are ready leaves node.keep s → RunsTo holds files_are ready leaves [] s node i [] node i
+  pub runs-none : (s : LastKnown) (node : Serving K) (i : HostState) → MatchesKnown g node.keep s → RunsTo g [] s node i [] node i
   runs-none s node i fits = record {
     after = s;
     fits = fits;
@@ -181,24 +181,24 @@ module _ {K : Type 0} (holds files_are : K → Archive → Type 0) (ready : K �
     at = tt;
     steps = refl;
     passes = λ start may has since. since;
-    crash = crash-left holds files_are ready leaves node.keep node.keep s [] fits (λ start may has since. since);
+    crash = crash-left g node.keep node.keep s [] fits (λ start may has since. since);
   }
 
   -- One turn more.
-  steps-more : (ms : List (Stage K)) (ts : List Turn) (q : Stage K) (t : Turn) (s : LastKnown) (old mid : K) → StepsTo holds files_are ready leaves old s ms ts mid → MatchesKnown holds files_are ready leaves q.node.keep t.after.standing → CrashesLeaveOnly leaves mid q.node.keep (last-standing s ts ∷ t.passed)
-      → StepsTo holds files_are ready leaves old s (ms ++ q ∷ []) (ts ++ t ∷ []) q.node.keep
-  steps-more [] [] q t s old mid steps fits passes = (fits, subst (λ (k : K). CrashesLeaveOnly leaves k q.node.keep (s ∷ t.passed)) steps passes, refl)
+  steps-more : (ms : List (Stage K)) (ts : List Turn) (q : Stage K) (t : Turn) (s : LastKnown) (old mid : K) → StepsTo g old s ms ts mid → MatchesKnown g q.node.keep t.after.standing → CrashesLeaveOnly g.leaves mid q.node.keep (last-standing s ts ∷ t.passed)
+      → StepsTo g old s (ms ++ q ∷ []) (ts ++ t ∷ []) q.node.keep
+  steps-more [] [] q t s old mid steps fits passes = (fits, subst (λ (k : K). CrashesLeaveOnly g.leaves k q.node.keep (s ∷ t.passed)) steps passes, refl)
   steps-more [] (u ∷ ts) q t s old mid never fits passes = absurd never
   steps-more (m ∷ ms) [] q t s old mid never fits passes = absurd never
   steps-more (m ∷ ms) (u ∷ ts) q t s old mid steps fits passes = (steps.0, steps.1, steps-more ms ts q t u.after.standing m.node.keep mid steps.2 fits passes)
 
   -- One event more.
-  pub runs-more : (es : List Arrival) (e : Arrival) (s : LastKnown) (old mid new : Serving K) (i j k : HostState) (ms : List (Stage K)) → MatchesKnown holds files_are ready leaves old.keep s → (run : RunsTo holds files_are ready leaves es s old i ms mid j) → TurnsTo holds files_are ready leaves e run.after mid j new k
-      → RunsTo holds files_are ready leaves (es ++ e ∷ []) s old i (ms ++ stage new k ∷ []) new k
+  pub runs-more : (es : List Arrival) (e : Arrival) (s : LastKnown) (old mid new : Serving K) (i j k : HostState) (ms : List (Stage K)) → MatchesKnown g old.keep s → (run : RunsTo g es s old i ms mid j) → TurnsTo g e run.after mid j new k
+      → RunsTo g (es ++ e ∷ []) s old i (ms ++ stage new k ∷ []) new k
   runs-more es e s old mid new i j k ms fits run turn =
       let last : Turn = record { passed = turn.passed; after = world_of turn.after (places_in new) k } in
       let ts = run.turns ++ last ∷ [] in
-      let passes : CrashesLeaveOnly leaves old.keep new.keep (s ∷ passed_in ts) = λ start may has since.
+      let passes : CrashesLeaveOnly g.leaves old.keep new.keep (s ∷ passed_in ts) = λ start may has since.
       let parts = all-split may (passed_in run.turns) turn.passed (subst (λ (ss : List LastKnown). HasAll may ss) (passed-more run.turns last) has.1) in
       turn.passes start may (served-has may es (world_of s (places_in old) i) run.turns (world_of run.after (places_in mid) j) run.served has.0 parts.0, parts.1) (run.passes start may (has.0, parts.0) since) in
       record {
@@ -208,179 +208,178 @@ module _ {K : Type 0} (holds files_are : K → Archive → Type 0) (ready : K �
         served = served-more es (world_of s (places_in old) i) run.turns (world_of run.after (places_in mid) j) e turn.passed (world_of turn.after (places_in new) k) run.served turn.turned;
         at = at-more ms run.turns (stage new k) last run.at refl;
         steps = steps-more ms run.turns (stage new k) last s old.keep mid.keep run.steps turn.fits
-            (subst (λ (x : LastKnown). CrashesLeaveOnly leaves mid.keep new.keep (x ∷ turn.passed)) (served-last es (world_of s (places_in old) i) run.turns (world_of run.after (places_in mid) j) run.served) turn.passes);
+            (subst (λ (x : LastKnown). CrashesLeaveOnly g.leaves mid.keep new.keep (x ∷ turn.passed)) (served-last es (world_of s (places_in old) i) run.turns (world_of run.after (places_in mid) j) run.served) turn.passes);
         passes = passes;
-        crash = crash-left holds files_are ready leaves old.keep new.keep s (passed_in ts) fits passes;
+        crash = crash-left g old.keep new.keep s (passed_in ts) fits passes;
       }
 
-  module _ (reads : K → ℕ) where
-    -- These events were taken, each from one stage to the next.
-    pub record Reached (arrivals : List Arrival) (old : Serving K) (i : HostState) (new : Serving K) (j : HostState) (given given' left left' : ToldEvents) (recorded recorded' : List Outputs → Type 0) : Type 0 where
-      pub given_is : given' ≡ given_after given arrivals
-      pub left_is : left ≡ before_all arrivals left'
-      pub stages : List (Stage K)
-      pub anyway : Along GoesAnyway arrivals (stage old i) stages (stage new j)
-      pub reads_few : Along (GoesReading holds ready reads) arrivals (stage old i) stages (stage new j)
-      pub records : (past : List Outputs) → recorded past → recorded' (past ++ outputs_noted false (stage old i) stages (stage new j))
-      pub runs : (s : LastKnown) → MatchesKnown holds files_are ready leaves old.keep s → RunsTo holds files_are ready leaves arrivals s old i stages new j
+  -- These events were taken, each from one stage to the next.
+  pub record Reached (arrivals : List Arrival) (old : Serving K) (i : HostState) (new : Serving K) (j : HostState) (given given' left left' : ToldEvents) (recorded recorded' : List Outputs → Type 0) : Type 0 where
+    pub given_is : given' ≡ given_after given arrivals
+    pub left_is : left ≡ before_all arrivals left'
+    pub stages : List (Stage K)
+    pub anyway : Along GoesAnyway arrivals (stage old i) stages (stage new j)
+    pub reads_few : Along (GoesReading g) arrivals (stage old i) stages (stage new j)
+    pub records : (past : List Outputs) → recorded past → recorded' (past ++ outputs_noted false (stage old i) stages (stage new j))
+    pub runs : (s : LastKnown) → MatchesKnown g old.keep s → RunsTo g arrivals s old i stages new j
 
-    -- So many were taken, and none of them was a stop.
-    pub record SoFar (n : ℕ) (old : Serving K) (i : HostState) (new : Serving K) (j : HostState) (given given' left left' : ToldEvents) (recorded recorded' : List Outputs → Type 0) : Type 0 where
-      pub arrivals : List Arrival
-      pub count : length arrivals ≡ n
-      pub none : NoStop arrivals
-      pub reached : Reached arrivals old i new j given given' left left' recorded recorded'
+  -- So many were taken, and none of them was a stop.
+  pub record SoFar (n : ℕ) (old : Serving K) (i : HostState) (new : Serving K) (j : HostState) (given given' left left' : ToldEvents) (recorded recorded' : List Outputs → Type 0) : Type 0 where
+    pub arrivals : List Arrival
+    pub count : length arrivals ≡ n
+    pub none : NoStop arrivals
+    pub reached : Reached arrivals old i new j given given' left left' recorded recorded'
 
-    pub sofar-none : (node : Serving K) (i : HostState) (given left : ToldEvents) (recorded : List Outputs → Type 0) → SoFar 0 node i node i given given left left recorded recorded
-    sofar-none node i given left recorded = record {
-      arrivals = [];
-      count = refl;
-      none = tt;
-      reached = record {
-        given_is = refl;
-        left_is = refl;
-        stages = [];
-        anyway = refl;
-        reads_few = refl;
-        records = λ past noted. subst (λ (os : List Outputs). recorded os) (sym (append-none past)) noted;
-        runs = λ s fits. runs-none s node i fits;
-      };
-    }
-
-    -- One event more: what it does, and what the host noted before it.
-    reached-more : (es : List Arrival) (old mid new : Serving K) (i j k : HostState) (given given' given'' left left' left'' : ToldEvents) (recorded recorded' recorded'' : List Outputs → Type 0) (stops : Bool) → Reached es old i mid j given given' left left' recorded recorded'
-        → (took : TookOne holds files_are ready leaves reads mid j new k given' given'' left' left'' recorded' recorded'' stops) → Reached (es ++ took.arrival ∷ []) old i new k given given'' left left'' recorded recorded''
-    reached-more es old mid new i j k given given' given'' left left' left'' recorded recorded' recorded'' stops far took = record {
-      given_is = took.given_is ∙ ap (λ (g : ToldEvents). then_given g took.arrival) far.given_is ∙ sym (given-more given es took.arrival);
-      left_is = far.left_is ∙ ap (before_all es) took.left_is ∙ sym (left-more es took.arrival left'');
-      stages = far.stages ++ stage new k ∷ [];
-      anyway = along-more GoesAnyway es (stage old i) far.stages (stage mid j) (stage new k) took.arrival far.anyway took.anyway;
-      reads_few = along-more (GoesReading holds ready reads) es (stage old i) far.stages (stage mid j) (stage new k) took.arrival far.reads_few took.reads_few;
-      records = λ past noted.
-          let before = outputs_along (stage old i) far.stages in
-          let more = outputs-more GoesAnyway es (stage old i) far.stages (stage mid j) (stage new k) far.anyway in
-          let joined = took.records (past ++ before) (far.records past noted) in
-          subst (λ (os : List Outputs). recorded'' os) (append_assoc past before (outputs_at (stage mid j) ∷ []) ∙ ap (λ (os : List Outputs). past ++ os) (sym more)) joined;
-      runs = λ s fits. let run = far.runs s fits in runs-more es took.arrival s old mid new i j k far.stages fits run (took.turns run.after run.fits);
-    }
-
-    pub sofar-more : (n : ℕ) (old mid new : Serving K) (i j k : HostState) (given given' given'' left left' left'' : ToldEvents) (recorded recorded' recorded'' : List Outputs → Type 0) → SoFar n old i mid j given given' left left' recorded recorded' → TookOne holds files_are ready leaves reads mid j new k given' given'' left' left'' recorded' recorded'' false
-        → SoFar (n + 1) old i new k given given'' left left'' recorded recorded''
-    sofar-more n old mid new i j k given given' given'' left left' left'' recorded recorded' recorded'' far took = record {
-      arrivals = far.arrivals ++ took.arrival ∷ [];
-      count = let len = length-append far.arrivals (took.arrival ∷ []) in omega (arith, len, far.count);
-      none = none-more far.arrivals took.arrival far.none took.stop_is;
-      reached = reached-more far.arrivals old mid new i j k given given' given'' left left' left'' recorded recorded' recorded'' false far.reached took;
-    }
-
-    -- One event of the host.
-    pub took-event : (event : Event) (into : List ℕ) (len : ℕ) (old new : Serving K) (i m j : HostState) (given given' given'' left left' left'' : ToldEvents) (recorded recorded' recorded'' : List Outputs → Type 0) → len ≡ piece_len event.what → GaveOne event into left left' given given' → m ≡ i
-        → Turns holds files_are ready leaves (event, take len into) old m new j → TurnsAnyway (event, take len into) old m new j → ReadsForEvent holds ready reads event.moment event.what (take len into) old new → left'' ≡ left' → given'' ≡ given' → ((past : List Outputs) → recorded past → recorded' (past ++ outputs i.taken i.closings i.lost ∷ []))
-        → ((past : List Outputs) → recorded' past → recorded'' past) → TookOne holds files_are ready leaves reads old i new j given given'' left left'' recorded recorded'' (is_stop event.what)
-    took-event event into len old new i m j given given' given'' left left' left'' recorded recorded' recorded'' size gave out turns anyway read left_same given_same noted later =
-        let piece = take (piece_len event.what) into in
-        record {
-          arrival = (event, piece);
-          given_is = given_same ∙ gave.last;
-          left_is = gave.first ∙ ap (before_left (event, piece)) (sym left_same);
-          stop_is = refl;
-          turns = subst (λ (o : HostState). Turns holds files_are ready leaves (event, piece) old o new j) out (subst (λ (n : ℕ). Turns holds files_are ready leaves (event, take n into) old m new j) size turns);
-          anyway = subst (λ (o : HostState). TurnsAnyway (event, piece) old o new j) out (subst (λ (n : ℕ). TurnsAnyway (event, take n into) old m new j) size anyway);
-          reads_few = subst (λ (n : ℕ). ReadsForEvent holds ready reads event.moment event.what (take n into) old new) size read;
-          records = λ past is. later (past ++ outputs i.taken i.closings i.lost ∷ []) (noted past is);
-        }
-
-    -- It was a stop, or was none.
-    pub takes-one : (taken : Taken) (stops : Bool) (old new : Serving K) (i j : HostState) (given given' left left' : ToldEvents) (faults faults' : ℕ) (recorded recorded' : List Outputs → Type 0) → taken ≡ (if stops then Stops else Went) → TookOne holds files_are ready leaves reads old i new j given given' left left' recorded recorded' stops
-        → TakesOne holds files_are ready leaves reads taken old i new j given given' left left' faults faults' recorded recorded'
-    takes-one taken true old new i j given given' left left' faults faults' recorded recorded' is took = subst (λ (t : Taken). TakesOne holds files_are ready leaves reads t old i new j given given' left left' faults faults' recorded recorded') (sym is) took
-    takes-one taken false old new i j given given' left left' faults faults' recorded recorded' is took = subst (λ (t : Taken). TakesOne holds files_are ready leaves reads t old i new j given given' left left' faults faults' recorded recorded') (sym is) took
-
-    -- The ends.
-
-    pub ends-stopped : (n turns : ℕ) → n < turns → (old mid new : Serving K) (i j k : HostState) (given given' given'' left left' left'' : ToldEvents) (faults faults' : ℕ) (recorded recorded' recorded'' : List Outputs → Type 0) → SoFar n old i mid j given given' left left' recorded recorded'
-        → TookOne holds files_are ready leaves reads mid j new k given' given'' left' left'' recorded' recorded'' true → faults' ≡ faults → ServesTo holds files_are ready leaves reads end.Stopped turns old i new k given given'' left left'' faults faults' recorded recorded''
-    ends-stopped n turns before old mid new i j k given given' given'' left left' left'' faults faults' recorded recorded' recorded'' far took kept =
-        let reached = reached-more far.arrivals old mid new i j k given given' given'' left left' left'' recorded recorded' recorded'' true far.reached took in
-        record {
-          arrivals = far.arrivals ++ took.arrival ∷ [];
-          given_is = reached.given_is;
-          left_is = reached.left_is;
-          none = false;
-          ends = (
-            record { before = far.arrivals; last = took.arrival; none = far.none; stops = took.stop_is; are = refl },
-            (let len = length-append far.arrivals (took.arrival ∷ []) in omega (arith, len, far.count, before)),
-            kept,
-          );
-          stages = reached.stages;
-          anyway = reached.anyway;
-          reads_few = reached.reads_few;
-          records = reached.records;
-          runs = reached.runs;
-        }
-
-    -- Nothing more was taken.
-    reached-still : (es : List Arrival) (old mid new : Serving K) (i j k : HostState) (given given' given'' left left' left'' : ToldEvents) (recorded recorded' : List Outputs → Type 0) → Reached es old i mid j given given' left left' recorded recorded' → TookNone mid j new k given' given'' left' left'' → Reached es old i new k given given'' left left'' recorded recorded'
-    reached-still es old mid new i j k given given' given'' left left' left'' recorded recorded' far took =
-        let begun : Reached es old i mid j given given'' left left'' recorded recorded' = record {
-          given_is = took.given_kept ∙ far.given_is;
-          left_is = far.left_is ∙ ap (before_all es) (sym took.left_kept);
-          stages = far.stages;
-          anyway = far.anyway;
-          reads_few = far.reads_few;
-          records = far.records;
-          runs = far.runs;
-        } in
-        subst (λ (node : Serving K). Reached es old i node k given given'' left left'' recorded recorded') (sym took.node_kept) (subst (λ (o : HostState). Reached es old i mid o given given'' left left'' recorded recorded') (sym took.out_kept) begun)
-
-    pub ends-none : (n turns : ℕ) → n < turns → (old mid new : Serving K) (i j k : HostState) (given given' given'' left left' left'' : ToldEvents) (faults faults' : ℕ) (recorded recorded' recorded'' : List Outputs → Type 0) → SoFar n old i mid j given given' left left' recorded recorded' → TookNone mid j new k given' given'' left' left'' → NoneLeft left''
-        → ((past : List Outputs) → recorded' past → recorded'' (past ++ outputs_at (stage mid j) ∷ [])) → faults' ≡ faults → ServesTo holds files_are ready leaves reads end.Stopped turns old i new k given given'' left left'' faults faults' recorded recorded''
-    ends-none n turns before old mid new i j k given given' given'' left left' left'' faults faults' recorded recorded' recorded'' far took none noted kept =
-        let reached = reached-still far.arrivals old mid new i j k given given' given'' left left' left'' recorded recorded' far.reached took in
-        let before_last = outputs_along (stage old i) reached.stages in
-        record {
-          arrivals = far.arrivals;
-          given_is = reached.given_is;
-          left_is = reached.left_is;
-          none = true;
-          ends = (far.none, none, (omega (arith, far.count, before)), kept);
-          stages = reached.stages;
-          anyway = reached.anyway;
-          reads_few = reached.reads_few;
-          records = λ past is. subst (λ (o : HostState). recorded'' (past ++ (before_last ++ outputs o.taken o.closings o.lost ∷ []))) (sym took.out_kept)
-              (subst (λ (os : List Outputs). recorded'' os) (append_assoc past before_last (outputs_at (stage mid j) ∷ [])) (noted (past ++ before_last) (reached.records past is)));
-          runs = reached.runs;
-        }
-
-    -- No memory for the first event.
-    pub ends-starved : (turns : ℕ) (node : Serving K) (i : HostState) (given left : ToldEvents) (faults : ℕ) (recorded : List Outputs → Type 0) → ServesTo holds files_are ready leaves reads end.NoMemory turns node i node i given given left left faults faults recorded recorded
-    ends-starved turns node i given left faults recorded = record {
-      arrivals = [];
+  pub sofar-none : (node : Serving K) (i : HostState) (given left : ToldEvents) (recorded : List Outputs → Type 0) → SoFar 0 node i node i given given left left recorded recorded
+  sofar-none node i given left recorded = record {
+    arrivals = [];
+    count = refl;
+    none = tt;
+    reached = record {
       given_is = refl;
       left_is = refl;
-      none = false;
-      ends = (refl, refl);
       stages = [];
       anyway = refl;
       reads_few = refl;
       records = λ past noted. subst (λ (os : List Outputs). recorded os) (sym (append-none past)) noted;
       runs = λ s fits. runs-none s node i fits;
-    }
+    };
+  }
 
-    -- The host failed, or enough was taken.
-    pub ends-early : (how : ServeEnd) (n turns : ℕ) (old mid new : Serving K) (i j k : HostState) (given given' given'' left left' left'' : ToldEvents) (faults faults' : ℕ) (recorded recorded' recorded'' : List Outputs → Type 0) → (far : SoFar n old i mid j given given' left left' recorded recorded') → TookNone mid j new k given' given'' left' left''
-        → ((past : List Outputs) → recorded' past → recorded'' past) → ServingEnds how false far.arrivals turns left'' faults faults' → ServesTo holds files_are ready leaves reads how turns old i new k given given'' left left'' faults faults' recorded recorded''
-    ends-early how n turns old mid new i j k given given' given'' left left' left'' faults faults' recorded recorded' recorded'' far took noted ends =
-        let reached = reached-still far.arrivals old mid new i j k given given' given'' left left' left'' recorded recorded' far.reached took in
-        record {
-          arrivals = far.arrivals;
-          given_is = reached.given_is;
-          left_is = reached.left_is;
-          none = false;
-          ends = ends;
-          stages = reached.stages;
-          anyway = reached.anyway;
-          reads_few = reached.reads_few;
-          records = λ past is. noted _ (reached.records past is);
-          runs = reached.runs;
-        }
+  -- One event more: what it does, and what the host noted before it.
+  reached-more : (es : List Arrival) (old mid new : Serving K) (i j k : HostState) (given given' given'' left left' left'' : ToldEvents) (recorded recorded' recorded'' : List Outputs → Type 0) (stops : Bool) → Reached es old i mid j given given' left left' recorded recorded'
+      → (took : TookOne g mid j new k given' given'' left' left'' recorded' recorded'' stops) → Reached (es ++ took.arrival ∷ []) old i new k given given'' left left'' recorded recorded''
+  reached-more es old mid new i j k given given' given'' left left' left'' recorded recorded' recorded'' stops far took = record {
+    given_is = took.given_is ∙ ap (λ (g : ToldEvents). then_given g took.arrival) far.given_is ∙ sym (given-more given es took.arrival);
+    left_is = far.left_is ∙ ap (before_all es) took.left_is ∙ sym (left-more es took.arrival left'');
+    stages = far.stages ++ stage new k ∷ [];
+    anyway = along-more GoesAnyway es (stage old i) far.stages (stage mid j) (stage new k) took.arrival far.anyway took.anyway;
+    reads_few = along-more (GoesReading g) es (stage old i) far.stages (stage mid j) (stage new k) took.arrival far.reads_few took.reads_few;
+    records = λ past noted.
+        let before = outputs_along (stage old i) far.stages in
+        let more = outputs-more GoesAnyway es (stage old i) far.stages (stage mid j) (stage new k) far.anyway in
+        let joined = took.records (past ++ before) (far.records past noted) in
+        subst (λ (os : List Outputs). recorded'' os) (append_assoc past before (outputs_at (stage mid j) ∷ []) ∙ ap (λ (os : List Outputs). past ++ os) (sym more)) joined;
+    runs = λ s fits. let run = far.runs s fits in runs-more es took.arrival s old mid new i j k far.stages fits run (took.turns run.after run.fits);
+  }
+
+  pub sofar-more : (n : ℕ) (old mid new : Serving K) (i j k : HostState) (given given' given'' left left' left'' : ToldEvents) (recorded recorded' recorded'' : List Outputs → Type 0) → SoFar n old i mid j given given' left left' recorded recorded' → TookOne g mid j new k given' given'' left' left'' recorded' recorded'' false
+      → SoFar (n + 1) old i new k given given'' left left'' recorded recorded''
+  sofar-more n old mid new i j k given given' given'' left left' left'' recorded recorded' recorded'' far took = record {
+    arrivals = far.arrivals ++ took.arrival ∷ [];
+    count = let len = length-append far.arrivals (took.arrival ∷ []) in omega (arith, len, far.count);
+    none = none-more far.arrivals took.arrival far.none took.stop_is;
+    reached = reached-more far.arrivals old mid new i j k given given' given'' left left' left'' recorded recorded' recorded'' false far.reached took;
+  }
+
+  -- One event of the host.
+  pub took-event : (event : Event) (into : List ℕ) (len : ℕ) (old new : Serving K) (i m j : HostState) (given given' given'' left left' left'' : ToldEvents) (recorded recorded' recorded'' : List Outputs → Type 0) → len ≡ piece_len event.what → GaveOne event into left left' given given' → m ≡ i
+      → Turns g (event, take len into) old m new j → TurnsAnyway (event, take len into) old m new j → ReadsForEvent g event.moment event.what (take len into) old new → left'' ≡ left' → given'' ≡ given' → ((past : List Outputs) → recorded past → recorded' (past ++ outputs i.taken i.closings i.lost ∷ []))
+      → ((past : List Outputs) → recorded' past → recorded'' past) → TookOne g old i new j given given'' left left'' recorded recorded'' (is_stop event.what)
+  took-event event into len old new i m j given given' given'' left left' left'' recorded recorded' recorded'' size gave out turns anyway read left_same given_same noted later =
+      let piece = take (piece_len event.what) into in
+      record {
+        arrival = (event, piece);
+        given_is = given_same ∙ gave.last;
+        left_is = gave.first ∙ ap (before_left (event, piece)) (sym left_same);
+        stop_is = refl;
+        turns = subst (λ (o : HostState). Turns g (event, piece) old o new j) out (subst (λ (n : ℕ). Turns g (event, take n into) old m new j) size turns);
+        anyway = subst (λ (o : HostState). TurnsAnyway (event, piece) old o new j) out (subst (λ (n : ℕ). TurnsAnyway (event, take n into) old m new j) size anyway);
+        reads_few = subst (λ (n : ℕ). ReadsForEvent g event.moment event.what (take n into) old new) size read;
+        records = λ past is. later (past ++ outputs i.taken i.closings i.lost ∷ []) (noted past is);
+      }
+
+  -- It was a stop, or was none.
+  pub takes-one : (taken : Taken) (stops : Bool) (old new : Serving K) (i j : HostState) (given given' left left' : ToldEvents) (faults faults' : ℕ) (recorded recorded' : List Outputs → Type 0) → taken ≡ (if stops then Stops else Went) → TookOne g old i new j given given' left left' recorded recorded' stops
+      → TakesOne g taken old i new j given given' left left' faults faults' recorded recorded'
+  takes-one taken true old new i j given given' left left' faults faults' recorded recorded' is took = subst (λ (t : Taken). TakesOne g t old i new j given given' left left' faults faults' recorded recorded') (sym is) took
+  takes-one taken false old new i j given given' left left' faults faults' recorded recorded' is took = subst (λ (t : Taken). TakesOne g t old i new j given given' left left' faults faults' recorded recorded') (sym is) took
+
+  -- The ends.
+
+  pub ends-stopped : (n turns : ℕ) → n < turns → (old mid new : Serving K) (i j k : HostState) (given given' given'' left left' left'' : ToldEvents) (faults faults' : ℕ) (recorded recorded' recorded'' : List Outputs → Type 0) → SoFar n old i mid j given given' left left' recorded recorded'
+      → TookOne g mid j new k given' given'' left' left'' recorded' recorded'' true → faults' ≡ faults → ServesTo g end.Stopped turns old i new k given given'' left left'' faults faults' recorded recorded''
+  ends-stopped n turns before old mid new i j k given given' given'' left left' left'' faults faults' recorded recorded' recorded'' far took kept =
+      let reached = reached-more far.arrivals old mid new i j k given given' given'' left left' left'' recorded recorded' recorded'' true far.reached took in
+      record {
+        arrivals = far.arrivals ++ took.arrival ∷ [];
+        given_is = reached.given_is;
+        left_is = reached.left_is;
+        none = false;
+        ends = (
+          record { before = far.arrivals; last = took.arrival; none = far.none; stops = took.stop_is; are = refl },
+          (let len = length-append far.arrivals (took.arrival ∷ []) in omega (arith, len, far.count, before)),
+          kept,
+        );
+        stages = reached.stages;
+        anyway = reached.anyway;
+        reads_few = reached.reads_few;
+        records = reached.records;
+        runs = reached.runs;
+      }
+
+  -- Nothing more was taken.
+  reached-still : (es : List Arrival) (old mid new : Serving K) (i j k : HostState) (given given' given'' left left' left'' : ToldEvents) (recorded recorded' : List Outputs → Type 0) → Reached es old i mid j given given' left left' recorded recorded' → TookNone mid j new k given' given'' left' left'' → Reached es old i new k given given'' left left'' recorded recorded'
+  reached-still es old mid new i j k given given' given'' left left' left'' recorded recorded' far took =
+      let begun : Reached es old i mid j given given'' left left'' recorded recorded' = record {
+        given_is = took.given_kept ∙ far.given_is;
+        left_is = far.left_is ∙ ap (before_all es) (sym took.left_kept);
+        stages = far.stages;
+        anyway = far.anyway;
+        reads_few = far.reads_few;
+        records = far.records;
+        runs = far.runs;
+      } in
+      subst (λ (node : Serving K). Reached es old i node k given given'' left left'' recorded recorded') (sym took.node_kept) (subst (λ (o : HostState). Reached es old i mid o given given'' left left'' recorded recorded') (sym took.out_kept) begun)
+
+  pub ends-none : (n turns : ℕ) → n < turns → (old mid new : Serving K) (i j k : HostState) (given given' given'' left left' left'' : ToldEvents) (faults faults' : ℕ) (recorded recorded' recorded'' : List Outputs → Type 0) → SoFar n old i mid j given given' left left' recorded recorded' → TookNone mid j new k given' given'' left' left'' → NoneLeft left''
+      → ((past : List Outputs) → recorded' past → recorded'' (past ++ outputs_at (stage mid j) ∷ [])) → faults' ≡ faults → ServesTo g end.Stopped turns old i new k given given'' left left'' faults faults' recorded recorded''
+  ends-none n turns before old mid new i j k given given' given'' left left' left'' faults faults' recorded recorded' recorded'' far took none noted kept =
+      let reached = reached-still far.arrivals old mid new i j k given given' given'' left left' left'' recorded recorded' far.reached took in
+      let before_last = outputs_along (stage old i) reached.stages in
+      record {
+        arrivals = far.arrivals;
+        given_is = reached.given_is;
+        left_is = reached.left_is;
+        none = true;
+        ends = (far.none, none, (omega (arith, far.count, before)), kept);
+        stages = reached.stages;
+        anyway = reached.anyway;
+        reads_few = reached.reads_few;
+        records = λ past is. subst (λ (o : HostState). recorded'' (past ++ (before_last ++ outputs o.taken o.closings o.lost ∷ []))) (sym took.out_kept)
+            (subst (λ (os : List Outputs). recorded'' os) (append_assoc past before_last (outputs_at (stage mid j) ∷ [])) (noted (past ++ before_last) (reached.records past is)));
+        runs = reached.runs;
+      }
+
+  -- No memory for the first event.
+  pub ends-starved : (turns : ℕ) (node : Serving K) (i : HostState) (given left : ToldEvents) (faults : ℕ) (recorded : List Outputs → Type 0) → ServesTo g end.NoMemory turns node i node i given given left left faults faults recorded recorded
+  ends-starved turns node i given left faults recorded = record {
+    arrivals = [];
+    given_is = refl;
+    left_is = refl;
+    none = false;
+    ends = (refl, refl);
+    stages = [];
+    anyway = refl;
+    reads_few = refl;
+    records = λ past noted. subst (λ (os : List Outputs). recorded os) (sym (append-none past)) noted;
+    runs = λ s fits. runs-none s node i fits;
+  }
+
+  -- The host failed, or enough was taken.
+  pub ends-early : (how : ServeEnd) (n turns : ℕ) (old mid new : Serving K) (i j k : HostState) (given given' given'' left left' left'' : ToldEvents) (faults faults' : ℕ) (recorded recorded' recorded'' : List Outputs → Type 0) → (far : SoFar n old i mid j given given' left left' recorded recorded') → TookNone mid j new k given' given'' left' left''
+      → ((past : List Outputs) → recorded' past → recorded'' past) → ServingEnds how false far.arrivals turns left'' faults faults' → ServesTo g how turns old i new k given given'' left left'' faults faults' recorded recorded''
+  ends-early how n turns old mid new i j k given given' given'' left left' left'' faults faults' recorded recorded' recorded'' far took noted ends =
+      let reached = reached-still far.arrivals old mid new i j k given given' given'' left left' left'' recorded recorded' far.reached took in
+      record {
+        arrivals = far.arrivals;
+        given_is = reached.given_is;
+        left_is = reached.left_is;
+        none = false;
+        ends = ends;
+        stages = reached.stages;
+        anyway = reached.anyway;
+        reads_few = reached.reads_few;
+        records = λ past is. noted _ (reached.records past is);
+        runs = reached.runs;
+      }

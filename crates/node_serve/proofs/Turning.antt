@@ -17,7 +17,7 @@ use Rattle.line_door.proofs.Acting.{acts-closing, acts-silent}
 use Rattle.line_door.proofs.Lifting.{acts-over}
 use Rattle.arch_model.specs.Archives.{Archive}
 use Rattle.arch_model.specs.Standing.{LastKnown}
-use Rattle.arch_model.specs.Keeping.{CrashesLeaveOnly, MatchesKnown}
+use Rattle.arch_model.specs.Keeping.{CrashesLeaveOnly, MatchesKnown, Keeper}
 use Rattle.keep_course.specs.Courses.{afters, archives_of}
 use Rattle.keep_course.proofs.Courses.{all-own}
 use Rattle.nntp_reader.specs.Door.{Reader, new_reader, greeting}
@@ -218,12 +218,12 @@ module _ {K : Type 0} (arrival : Arrival) (c : ℕ) (old new : K) (p q : List (�
   came-fed start here around = subst (λ (x : Option Session). CameAnyway x c arrival (serving old p) i (serving new q) j) (sym here) around
 
 -- Turns.
-module _ {K : Type 0} (holds files_are : K → Archive → Type 0) (ready : K → Bool) (leaves : K → K → List (Option Archive) → Type 0) where
-  pub crash-left : (old new : K) (s : LastKnown) (passed : List LastKnown) → MatchesKnown holds files_are ready leaves old s → CrashesLeaveOnly leaves old new (s ∷ passed) → leaves old new (archives_of (s ∷ passed))
+module _ {K : Type 0} (g : Keeper K) where
+  pub crash-left : (old new : K) (s : LastKnown) (passed : List LastKnown) → MatchesKnown g old s → CrashesLeaveOnly g.leaves old new (s ∷ passed) → g.leaves old new (archives_of (s ∷ passed))
   crash-left old new s passed fits passes = let own = all-own (s ∷ passed) in passes old (archives_of (s ∷ passed)) own (fits.left (archives_of (s ∷ passed)) own.0)
 
   -- A turn that leaves the keeper.
-  pub turns-still : (arrival : Arrival) (s : LastKnown) (k : K) (p q : List (ℕ × Session)) (i j : HostState) → MatchesKnown holds files_are ready leaves k s → Turned arrival (world_of s (places_of p) i) [] (world_of s (places_of q) j) → TurnsTo holds files_are ready leaves arrival s (serving k p) i (serving k q) j
+  pub turns-still : (arrival : Arrival) (s : LastKnown) (k : K) (p q : List (ℕ × Session)) (i j : HostState) → MatchesKnown g k s → Turned arrival (world_of s (places_of p) i) [] (world_of s (places_of q) j) → TurnsTo g arrival s (serving k p) i (serving k q) j
   turns-still arrival s k p q i j fits turned = record {
     after = s;
     fits = fits;
@@ -239,8 +239,8 @@ module _ {K : Type 0} (holds files_are : K → Archive → Type 0) (ready : K �
 
   -- A session took a piece.
   pub turns-fed : (moment c len : ℕ) (piece : List ℕ) (start : Session) (s : LastKnown) (old new : K) (p q : List (ℕ × Session)) (i j : HostState) (goes_on : Bool) (left : Session) → session_of p c ≡ Some start → session_of q c ≡ held_if goes_on left
-      → FedFrom holds files_are ready leaves moment (Came start piece) s old (outside_at c i) goes_on left new (outside_at c j) → ((t : LastKnown) → Around c (world_of s (places_of p) i) (world_of t (places_of q) j)) → MatchesKnown holds files_are ready leaves old s
-      → TurnsTo holds files_are ready leaves (record { moment = moment; what = what.Bytes c len }, piece) s (serving old p) i (serving new q) j
+      → FedFrom g moment (Came start piece) s old (outside_at c i) goes_on left new (outside_at c j) → ((t : LastKnown) → Around c (world_of s (places_of p) i) (world_of t (places_of q) j)) → MatchesKnown g old s
+      → TurnsTo g (record { moment = moment; what = what.Bytes c len }, piece) s (serving old p) i (serving new q) j
   turns-fed moment c len piece start s old new p q i j goes_on left here kept fed around fits =
       let passed = afters (fed.course.acts ++ talk fed.held fed.after (outside_at c j) ∷ []) in
       let at : FedAt moment c start piece (world_of s (places_of p) i) passed (world_of fed.after (places_of q) j) = record {

@@ -4,4 +4,5 @@ pub mod Turns
 pub mod Plain
 pub mod Ends
 pub mod Nodes
+pub mod Hosted
 pub mod Laws

@@ -19,8 +19,7 @@ use Rattle.keep_course.specs.Courses.{SessionRun, archives_of}
 use Rattle.control_door.specs.Counting.{Meets, asks_for}
 use Rattle.nntp_reader.specs.Counting.{ReadsLines}
 use Rattle.http_front.specs.Sessions.{ReadsBytes, ReadsNothing}
-use Rattle.arch_model.specs.Archives.{Archive}
-use Rattle.arch_model.specs.Keeping.{CrashesLeaveOnly, MatchesKnown}
+use Rattle.arch_model.specs.Keeping.{CrashesLeaveOnly, MatchesKnown, Keeper}
 use Rattle.arch_model.specs.Standing.{LastKnown}
 use Rattle.node_serve.specs.Doors.{SessionAtWork, Came, rest_if, said, is_asked, with_piece, said_making}
 use Rattle.node_serve.specs.Ends.{ServingEnds, given_after, before_all, is_stop}
@@ -188,44 +187,40 @@ abbrev pub outputs_noted : {K : Type 0} → Bool → Stage K → List (Stage K) 
 outputs_noted true p ms q = outputs_along p ms ++ outputs_at q ∷ []
 outputs_noted false p ms q = outputs_along p ms
 
--- A keeper: the archives that it holds, whether it is ready, and its count of reads.
-module _ {K : Type 0} (holds : K → Archive → Type 0) (ready : K → Bool) (reads : K → ℕ) where
+module _ {K : Type 0} (g : Keeper K) where
   -- How many texts a piece reads at most at a moment at a ready keeper, by its session: no more than the
   -- requests ask for that the piece makes whole. So the archive isn't read anew before it. The keeper
   -- stays ready, unless a request at the control door may change the archive.
   abbrev pub ReadsAt : ℕ → Session → List ℕ → K → K → Type 0
   ReadsAt moment (kind.Control bytes) piece old new =
-      Meets (asks_for (bytes ++ piece)) (ready new) (reads old) (reads new)
-  ReadsAt moment (kind.News reader) piece old new = (ready new ≡ true)
-      × ReadsLines holds moment (reader.bytes ++ piece) old (reads old) (reads new)
-  ReadsAt moment (kind.Http bytes) piece old new = (ready new ≡ true)
-      × ReadsBytes holds (bytes ++ piece) old (reads old) (reads new)
-      × ReadsNothing holds (bytes ++ piece) old (reads old) (reads new)
+      Meets (asks_for (bytes ++ piece)) (g.ready new) (g.reads old) (g.reads new)
+  ReadsAt moment (kind.News reader) piece old new = (g.ready new ≡ true)
+      × ReadsLines g.holds moment (reader.bytes ++ piece) old (g.reads old) (g.reads new)
+  ReadsAt moment (kind.Http bytes) piece old new = (g.ready new ≡ true)
+      × ReadsBytes g.holds (bytes ++ piece) old (g.reads old) (g.reads new)
+      × ReadsNothing g.holds (bytes ++ piece) old (g.reads old) (g.reads new)
 
   -- The same of a piece that came to a connection. Without a session nothing is read.
   abbrev pub ReadsCame : ℕ → Option Session → List ℕ → K → K → Type 0
-  ReadsCame moment None piece old new = reads new ≡ reads old
+  ReadsCame moment None piece old new = g.reads new ≡ g.reads old
   ReadsCame moment (Some start) piece old new =
-      ready old ≡ true → ReadsAt moment start piece old new
+      g.ready old ≡ true → ReadsAt moment start piece old new
 
   -- The same of what happened. Only a piece reads.
   abbrev pub ReadsForEvent : ℕ → What → List ℕ → Serving K → Serving K → Type 0
   ReadsForEvent moment (what.Bytes c len) piece old new =
       ReadsCame moment ((places_in old).session c) piece old.keep new.keep
-  ReadsForEvent moment other piece old new = reads new.keep ≡ reads old.keep
+  ReadsForEvent moment other piece old new = g.reads new.keep ≡ g.reads old.keep
 
   -- The same of an event, from one stage to the next.
   abbrev pub GoesReading : Arrival → Stage K → Stage K → Type 0
   GoesReading arrival p q = ReadsForEvent arrival.0.moment arrival.0.what arrival.1 p.node q.node
 
--- A keeper: the archives that it holds, those of which its files are exactly, whether it is ready, and
--- what each crash since a state may have left.
-module _ {K : Type 0} (holds files_are : K → Archive → Type 0) (ready : K → Bool)
-    (leaves : K → K → List (Option Archive) → Type 0) where
+module _ {K : Type 0} (g : Keeper K) where
   -- Whatever the keeper matches, it is reopened before a piece, or that is refused and the session's
   -- door says so.
   abbrev pub ReopensForPiece : ℕ → Session → K → ConnectionState → Bool → K → ConnectionState → Type 0
-  ReopensForPiece moment start old i goes_on new j = answering.ReopensBy holds files_are ready leaves
+  ReopensForPiece moment start old i goes_on new j = answering.ReopensBy g
       (λ (s : LastKnown) (piece : List ℕ) (way : Departure). said moment s (Came start piece) way)
       (λ (piece : List ℕ). with_piece start piece) old i goes_on new j
 
@@ -234,17 +229,17 @@ module _ {K : Type 0} (holds files_are : K → Archive → Type 0) (ready : K �
   pub record FedFrom (moment : ℕ) (start : SessionAtWork) (s : LastKnown) (old : K) (i : ConnectionState)
       (goes_on : Bool) (left : Session) (new : K) (j : ConnectionState) : Type 0 where
     pub after : LastKnown
-    pub fits : MatchesKnown holds files_are ready leaves new after
+    pub fits : MatchesKnown g new after
     pub held : Option SessionAtWork
     pub rest_is : held_if goes_on left ≡ rest_if held
-    pub course : SessionRun leaves (said moment) is_asked old new (talk (Some start) s i)
+    pub course : SessionRun g.leaves (said moment) is_asked old new (talk (Some start) s i)
         (talk held after j)
 
   -- The same of a session before a piece, whose archive has yet to be reopened.
   abbrev pub AnswersPiece : ℕ → Session → List ℕ → K → ConnectionState → Bool → Session → K
       → ConnectionState → Type 0
   AnswersPiece moment start piece old i goes_on left new j = (s : LastKnown)
-      → MatchesKnown holds files_are ready leaves old s
+      → MatchesKnown g old s
       → FedFrom moment (Came start piece) s old i goes_on left new j
 
   -- A node took an event to its end. A crash since it began leaves an archive that stood before it
@@ -252,15 +247,15 @@ module _ {K : Type 0} (holds files_are : K → Archive → Type 0) (ready : K �
   pub record TurnsTo (arrival : Arrival) (s : LastKnown) (old : Serving K) (i : HostState)
       (new : Serving K) (j : HostState) : Type 0 where
     pub after : LastKnown
-    pub fits : MatchesKnown holds files_are ready leaves new.keep after
+    pub fits : MatchesKnown g new.keep after
     pub passed : List LastKnown
     pub turned : Turned arrival (world_of s (places_in old) i) passed (world_of after (places_in new) j)
-    pub passes : CrashesLeaveOnly leaves old.keep new.keep (s ∷ passed)
-    pub crash : leaves old.keep new.keep (archives_of (s ∷ passed))
+    pub passes : CrashesLeaveOnly g.leaves old.keep new.keep (s ∷ passed)
+    pub crash : g.leaves old.keep new.keep (archives_of (s ∷ passed))
 
   -- Whatever the node's keeper matches, this is so.
   abbrev pub Turns : Arrival → Serving K → HostState → Serving K → HostState → Type 0
-  Turns arrival old i new j = (s : LastKnown) → MatchesKnown holds files_are ready leaves old.keep s
+  Turns arrival old i new j = (s : LastKnown) → MatchesKnown g old.keep s
       → TurnsTo arrival s old i new j
 
   -- A keeper went from one state to another by these turns, through these stages. After each it fits
@@ -270,70 +265,69 @@ module _ {K : Type 0} (holds files_are : K → Archive → Type 0) (ready : K �
   StepsTo old s [] [] new = new ≡ old
   StepsTo old s [] (t ∷ ts) new = ⊥
   StepsTo old s (m ∷ ms) [] new = ⊥
-  StepsTo old s (m ∷ ms) (t ∷ ts) new = MatchesKnown holds files_are ready leaves m.node.keep t.after.standing
-      × CrashesLeaveOnly leaves old m.node.keep (s ∷ t.passed)
+  StepsTo old s (m ∷ ms) (t ∷ ts) new = MatchesKnown g m.node.keep t.after.standing
+      × CrashesLeaveOnly g.leaves old m.node.keep (s ∷ t.passed)
       × StepsTo m.node.keep t.after.standing ms ts new
 
   -- A node took these events to their end, one after another, through these stages.
   pub record RunsTo (arrivals : List Arrival) (s : LastKnown) (old : Serving K) (i : HostState)
       (stages : List (Stage K)) (new : Serving K) (j : HostState) : Type 0 where
     pub after : LastKnown
-    pub fits : MatchesKnown holds files_are ready leaves new.keep after
+    pub fits : MatchesKnown g new.keep after
     pub turns : List Turn
     pub served : Served arrivals (world_of s (places_in old) i) turns (world_of after (places_in new) j)
     pub at : AreAt stages turns
     pub steps : StepsTo old.keep s stages turns new.keep
-    pub passes : CrashesLeaveOnly leaves old.keep new.keep (s ∷ passed_in turns)
-    pub crash : leaves old.keep new.keep (archives_of (s ∷ passed_in turns))
+    pub passes : CrashesLeaveOnly g.leaves old.keep new.keep (s ∷ passed_in turns)
+    pub crash : g.leaves old.keep new.keep (archives_of (s ∷ passed_in turns))
 
-  -- With the keeper's count of reads.
-  module _ (reads : K → ℕ) where
-    -- A node served the events that a host gave, in order, each from one stage to the next. Whatever
-    -- the keeper holds, an event changes nothing of other connections, and reads no more than it asks
-    -- for. The host, whose records these are, was asked before each event, when all before it had been
-    -- answered, and at the end if it then answered that none is left.
-    pub record ServesTo (end : ServeEnd) (turns : ℕ) (old : Serving K) (i : HostState) (new : Serving K)
-        (j : HostState) (given given' left left' : ToldEvents) (faults faults' : ℕ)
-        (recorded recorded' : List Outputs → Type 0) : Type 0 where
-      pub arrivals : List Arrival
-      pub given_is : given' ≡ given_after given arrivals
-      pub left_is : left ≡ before_all arrivals left'
-      pub none : Bool
-      pub ends : ServingEnds end none arrivals turns left' faults faults'
-      pub stages : List (Stage K)
-      pub anyway : Along GoesAnyway arrivals (stage old i) stages (stage new j)
-      pub reads_few : Along (GoesReading holds ready reads) arrivals (stage old i) stages (stage new j)
-      pub records : (past : List Outputs) → recorded past
-          → recorded' (past ++ outputs_noted none (stage old i) stages (stage new j))
-      pub runs : (s : LastKnown) → MatchesKnown holds files_are ready leaves old.keep s
-          → RunsTo arrivals s old i stages new j
+  -- A node served the events that a host gave, in order, each from one stage to the next. Whatever
+  -- the keeper holds, an event changes nothing of other connections, and reads no more than it asks
+  -- for. The host, whose records these are, was asked before each event, when all before it had been
+  -- answered, and at the end if it then answered that none is left.
+  pub record ServesTo (end : ServeEnd) (turns : ℕ) (old : Serving K) (i : HostState)
+      (new : Serving K)
+      (j : HostState) (given given' left left' : ToldEvents) (faults faults' : ℕ)
+      (recorded recorded' : List Outputs → Type 0) : Type 0 where
+    pub arrivals : List Arrival
+    pub given_is : given' ≡ given_after given arrivals
+    pub left_is : left ≡ before_all arrivals left'
+    pub none : Bool
+    pub ends : ServingEnds end none arrivals turns left' faults faults'
+    pub stages : List (Stage K)
+    pub anyway : Along GoesAnyway arrivals (stage old i) stages (stage new j)
+    pub reads_few : Along (GoesReading g) arrivals (stage old i) stages (stage new j)
+    pub records : (past : List Outputs) → recorded past
+        → recorded' (past ++ outputs_noted none (stage old i) stages (stage new j))
+    pub runs : (s : LastKnown) → MatchesKnown g old.keep s → RunsTo arrivals s old i stages new j
 
-    -- An event was taken from the host, and to its end.
-    pub record TookOne (old : Serving K) (i : HostState) (new : Serving K) (j : HostState)
-        (given given' left left' : ToldEvents) (recorded recorded' : List Outputs → Type 0) (stops : Bool)
-        : Type 0 where
-      pub arrival : Arrival
-      pub given_is : given' ≡ then_given given arrival
-      pub left_is : left ≡ before_left arrival left'
-      pub stop_is : is_stop arrival.0.what ≡ stops
-      pub turns : Turns arrival old i new j
-      pub anyway : GoesAnyway arrival (stage old i) (stage new j)
-      pub reads_few : GoesReading holds ready reads arrival (stage old i) (stage new j)
-      pub records : (past : List Outputs) → recorded past
-          → recorded' (past ++ outputs_at (stage old i) ∷ [])
+  -- An event was taken from the host, and to its end.
+  pub record TookOne (old : Serving K) (i : HostState) (new : Serving K) (j : HostState)
+      (given given' left left' : ToldEvents) (recorded recorded' : List Outputs → Type 0)
+      (stops : Bool)
+      : Type 0 where
+    pub arrival : Arrival
+    pub given_is : given' ≡ then_given given arrival
+    pub left_is : left ≡ before_left arrival left'
+    pub stop_is : is_stop arrival.0.what ≡ stops
+    pub turns : Turns arrival old i new j
+    pub anyway : GoesAnyway arrival (stage old i) (stage new j)
+    pub reads_few : GoesReading g arrival (stage old i) (stage new j)
+    pub records : (past : List Outputs) → recorded past
+        → recorded' (past ++ outputs_at (stage old i) ∷ [])
 
-    -- An event was taken, which is a stop or is none; or none is left; or the host failed.
-    abbrev pub TakesOne : Taken → Serving K → HostState → Serving K → HostState → ToldEvents
-        → ToldEvents → ToldEvents → ToldEvents → ℕ
-        → ℕ → (List Outputs → Type 0) → (List Outputs → Type 0) → Type 0
-    TakesOne Went old i new j given given' left left' faults faults' recorded recorded' =
-        TookOne old i new j given given' left left' recorded recorded' false
-    TakesOne Stops old i new j given given' left left' faults faults' recorded recorded' =
-        TookOne old i new j given given' left left' recorded recorded' true
-    TakesOne Nothing old i new j given given' left left' faults faults' recorded recorded' =
-        TookNone old i new j given given' left left' × NoneLeft left'
-        × ((past : List Outputs) → recorded past
-        → recorded' (past ++ outputs_at (stage old i) ∷ []))
-    TakesOne Fault old i new j given given' left left' faults faults' recorded recorded' =
-        TookNone old i new j given given' left left' × Rose faults faults'
-        × ((past : List Outputs) → recorded past → recorded' past)
+  -- An event was taken, which is a stop or is none; or none is left; or the host failed.
+  abbrev pub TakesOne : Taken → Serving K → HostState → Serving K → HostState → ToldEvents
+      → ToldEvents → ToldEvents → ToldEvents → ℕ
+      → ℕ → (List Outputs → Type 0) → (List Outputs → Type 0) → Type 0
+  TakesOne Went old i new j given given' left left' faults faults' recorded recorded' =
+      TookOne old i new j given given' left left' recorded recorded' false
+  TakesOne Stops old i new j given given' left left' faults faults' recorded recorded' =
+      TookOne old i new j given given' left left' recorded recorded' true
+  TakesOne Nothing old i new j given given' left left' faults faults' recorded recorded' =
+      TookNone old i new j given given' left left' × NoneLeft left'
+      × ((past : List Outputs) → recorded past
+      → recorded' (past ++ outputs_at (stage old i) ∷ []))
+  TakesOne Fault old i new j given given' left left' faults faults' recorded recorded' =
+      TookNone old i new j given given' left left' × Rose faults faults'
+      × ((past : List Outputs) → recorded past → recorded' past)

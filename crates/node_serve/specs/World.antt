@@ -1,5 +1,6 @@
 -- The world of a server, and what an act on one connection may do to it.
 use Rattle.std.specs.Prelude.{◌≡◌, ◌+◌, ◌-◌, ℕ, zero, suc, List, Option, Some, None}
+use Rattle.edge_io.specs.declared.host.Host.{Ghosts as Host}
 use Rattle.edge_io.specs.Hosts.{OthersKept, one_more, closed_with}
 use Rattle.line_door.specs.Acts.{ConnectionState, Said, Departure, Acts, outside}
 use Rattle.arch_model.specs.Standing.{LastKnown}
@@ -23,6 +24,10 @@ outer taken closings disk lost closed_at = record {
   lost = lost;
   closed_at = closed_at;
 }
+
+-- The outside of a node's turns at this host, where the disk has this count of faults.
+abbrev pub at_host : {H : Type 0} → Host H → H → ℕ → HostState
+at_host h host disk = outer (h.taken host) (h.closings host) disk (h.lost host) (h.closed_at host)
 
 -- The archive, with the one in doubt, if any; the session of each connection, if it is open; how many
 -- sessions are open; and the outside.

@@ -3,9 +3,8 @@
 ghost use Rattle.std.specs.Prelude.{◌≡◌, ◌≤◌, ℕ, length, None};
 ghost use Rattle.arch_base.specs.Moments.{last_moment};
 ghost use Rattle.edge_io.specs.Events.{piece_len};
-ghost use Rattle.edge_io.specs.Hosts.{SameEvents};
-ghost use Rattle.node_serve.specs.Nodes.{Turns, TurnsAnyway, ReadsForEvent, places_in};
-ghost use Rattle.node_serve.specs.World.{outer};
+ghost use Rattle.node_serve.specs.Hosted.{EventsStay, TurnsAt, AnywayAt};
+ghost use Rattle.node_serve.specs.Nodes.{ReadsForEvent, places_in};
 
 use crate::places::{Sessions, admit, end, feed};
 use arch_model::Keep;
@@ -82,20 +81,14 @@ impl<K: Keep> Node<K> {
     pub fn turn<H: Host>(&mut self, event: &Event, piece: &[u8], host: &mut H)
         requires moment { event.now.moment ≤ last_moment }
         requires whole { length piece.now ≡ piece_len event.now.what }
-        ensures turned { Turns K.holds K.files_are K.ready K.leaves (event.now, piece.now) self.old
-            (outer (H.taken host.old) (H.closings host.old) (K.faults self.old.keep)
-            (H.lost host.old) (H.closed_at host.old)) self.new
-            (outer (H.taken host.new) (H.closings host.new) (K.faults self.new.keep)
-            (H.lost host.new) (H.closed_at host.new)) }
-        ensures anyway { TurnsAnyway (event.now, piece.now) self.old
-            (outer (H.taken host.old) (H.closings host.old) (K.faults self.old.keep)
-            (H.lost host.old) (H.closed_at host.old)) self.new
-            (outer (H.taken host.new) (H.closings host.new) (K.faults self.new.keep)
-            (H.lost host.new) (H.closed_at host.new)) }
-        ensures reads { ReadsForEvent K.holds K.ready K.reads event.now.moment event.now.what piece.now
+        ensures turned { TurnsAt K.Keep H.Host (event.now, piece.now) self.old host.old self.new
+            host.new }
+        ensures anyway { AnywayAt K.Keep H.Host (event.now, piece.now) self.old host.old self.new
+            host.new }
+        ensures reads { ReadsForEvent K.Keep event.now.moment event.now.what piece.now
             self.old self.new }
         ensures later { K.faults self.old.keep ≤ K.faults self.new.keep }
-        ensures events { SameEvents H.left H.given H.recorded H.faults host.old host.new }
+        ensures events { EventsStay H.Host host.old host.new }
     {
         match event.what {
             What::Opened { conn, door } => {

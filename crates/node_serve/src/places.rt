@@ -3,12 +3,12 @@
 ghost use Rattle.std.specs.Prelude.{◌≡◌, ◌≤◌, ◌<◌, ℕ, [], None};
 ghost use Rattle.arch_base.specs.Moments.{last_moment};
 ghost use Rattle.arch_model.specs.Standing.{LastKnown};
-ghost use Rattle.edge_io.specs.Hosts.{SameEvents};
 ghost use Rattle.edge_io.specs.declared.events.What.TheVariants.{Bytes};
 ghost use Rattle.line_door.specs.Making.{says};
+ghost use Rattle.node_serve.specs.Hosted.{EventsStay, TurnsAt, AnywayAt};
 ghost use Rattle.node_serve.specs.Doors.{session_limit, greets};
-ghost use Rattle.node_serve.specs.Nodes.{OpenSessions, MakesSession, SessionEnds, GotSession, IsPut, Turns, TurnsAnyway, ReadsCame, places_of, serving};
-ghost use Rattle.node_serve.specs.World.{outer};
+ghost use Rattle.node_serve.specs.Nodes.{OpenSessions, MakesSession, SessionEnds, GotSession, IsPut, ReadsCame, places_of, serving};
+ghost use Rattle.node_serve.specs.World.{at_host};
 
 use crate::session::{Session, feed_one};
 use crate::welcome::{greet_reader, refuse, refuse_starved};
@@ -43,12 +43,10 @@ pub(crate) fn admit<H: Host>(
 )
     requires moment { moment ≤ last_moment }
     ensures made { (disk : ℕ) → MakesSession moment door conn (places_of sessions.old.entries)
-        (outer (H.taken host.old) (H.closings host.old) disk (H.lost host.old)
-        (H.closed_at host.old))
+        (at_host H.Host host.old disk)
         (places_of sessions.new.entries)
-        (outer (H.taken host.new) (H.closings host.new) disk (H.lost host.new)
-        (H.closed_at host.new)) }
-    ensures events { SameEvents H.left H.given H.recorded H.faults host.old host.new }
+        (at_host H.Host host.new disk) }
+    ensures events { EventsStay H.Host host.old host.new }
 {
     end(conn, sessions);
     if sessions.len() >= SESSION_LIMIT {
@@ -84,12 +82,10 @@ fn open_silent<H: Host>(
     requires none { (places_of sessions.old.entries).session conn ≡ None }
     requires few { (places_of sessions.old.entries).count < session_limit }
     ensures made { (disk : ℕ) → MakesSession moment door conn (places_of sessions.old.entries)
-        (outer (H.taken host.old) (H.closings host.old) disk (H.lost host.old)
-        (H.closed_at host.old))
+        (at_host H.Host host.old disk)
         (places_of sessions.new.entries)
-        (outer (H.taken host.new) (H.closings host.new) disk (H.lost host.new)
-        (H.closed_at host.new)) }
-    ensures events { SameEvents H.left H.given H.recorded H.faults host.old host.new }
+        (at_host H.Host host.new disk) }
+    ensures events { EventsStay H.Host host.old host.new }
 {
     match sessions.insert(conn, session) {
         Ok(_) => {}
@@ -106,12 +102,10 @@ fn open_news<H: Host>(alloc: Global, conn: u32, moment: u64, sessions: &mut Sess
     requires none { (places_of sessions.old.entries).session conn ≡ None }
     requires few { (places_of sessions.old.entries).count < session_limit }
     ensures made { (disk : ℕ) → MakesSession moment Door.Nntp conn (places_of sessions.old.entries)
-        (outer (H.taken host.old) (H.closings host.old) disk (H.lost host.old)
-        (H.closed_at host.old))
+        (at_host H.Host host.old disk)
         (places_of sessions.new.entries)
-        (outer (H.taken host.new) (H.closings host.new) disk (H.lost host.new)
-        (H.closed_at host.new)) }
-    ensures events { SameEvents H.left H.given H.recorded H.faults host.old host.new }
+        (at_host H.Host host.new disk) }
+    ensures events { EventsStay H.Host host.old host.new }
 {
     match sessions.insert(conn, Session::Control(ControlSession::open(alloc))) {
         Ok(_) => greet(alloc, conn, sessions, host),
@@ -124,12 +118,10 @@ fn open_news<H: Host>(alloc: Global, conn: u32, moment: u64, sessions: &mut Sess
 fn greet<H: Host>(alloc: Global, conn: u32, sessions: &mut Sessions, host: &mut H)
     ensures made { (disk moment : ℕ) (p : OpenSessions) → GotSession conn p (places_of sessions.old.entries)
         → p.count < session_limit → MakesSession moment Door.Nntp conn p
-        (outer (H.taken host.old) (H.closings host.old) disk (H.lost host.old)
-        (H.closed_at host.old))
+        (at_host H.Host host.old disk)
         (places_of sessions.new.entries)
-        (outer (H.taken host.new) (H.closings host.new) disk (H.lost host.new)
-        (H.closed_at host.new)) }
-    ensures events { SameEvents H.left H.given H.recorded H.faults host.old host.new }
+        (at_host H.Host host.new disk) }
+    ensures events { EventsStay H.Host host.old host.new }
 {
     let (session, next) = greet_reader(alloc, conn, host);
     match next {
@@ -161,26 +153,18 @@ pub(crate) fn feed<K: Keep, H: Host>(
     host: &mut H,
 )
     requires moment { moment ≤ last_moment }
-    ensures turned { (len : ℕ) → Turns K.holds K.files_are K.ready K.leaves
+    ensures turned { (len : ℕ) → TurnsAt K.Keep H.Host
         (record { moment = moment; what = Bytes conn len }, piece.now)
-        (serving keep.old sessions.old.entries)
-        (outer (H.taken host.old) (H.closings host.old) (K.faults keep.old) (H.lost host.old)
-        (H.closed_at host.old))
-        (serving keep.new sessions.new.entries)
-        (outer (H.taken host.new) (H.closings host.new) (K.faults keep.new) (H.lost host.new)
-        (H.closed_at host.new)) }
-    ensures anyway { (len : ℕ) → TurnsAnyway
+        (serving keep.old sessions.old.entries) host.old
+        (serving keep.new sessions.new.entries) host.new }
+    ensures anyway { (len : ℕ) → AnywayAt K.Keep H.Host
         (record { moment = moment; what = Bytes conn len }, piece.now)
-        (serving keep.old sessions.old.entries)
-        (outer (H.taken host.old) (H.closings host.old) (K.faults keep.old) (H.lost host.old)
-        (H.closed_at host.old))
-        (serving keep.new sessions.new.entries)
-        (outer (H.taken host.new) (H.closings host.new) (K.faults keep.new) (H.lost host.new)
-        (H.closed_at host.new)) }
-    ensures reads { ReadsCame K.holds K.ready K.reads moment
+        (serving keep.old sessions.old.entries) host.old
+        (serving keep.new sessions.new.entries) host.new }
+    ensures reads { ReadsCame K.Keep moment
         ((places_of sessions.old.entries).session conn) piece.now keep.old keep.new }
     ensures later { K.faults keep.old ≤ K.faults keep.new }
-    ensures events { SameEvents H.left H.given H.recorded H.faults host.old host.new }
+    ensures events { EventsStay H.Host host.old host.new }
 {
     match sessions.get_mut(&conn) {
         None => {}

@@ -2,9 +2,8 @@
 //! Writes the disk; syncs.
 ghost use Rattle.std.specs.Prelude.{◌≡◌, ◌≤◌, length, IfOk, if◌then◌else◌};
 ghost use Rattle.edge_io.specs.Events.{piece_len as len_of};
+ghost use Rattle.node_serve.specs.Hosted.{ServesAt, TakesAt};
 ghost use Rattle.node_serve.specs.Ends.{is_stop as stops};
-ghost use Rattle.node_serve.specs.Nodes.{TakesOne, ServesTo};
-ghost use Rattle.node_serve.specs.World.{outer};
 
 use crate::node::Node;
 use arch_model::Keep;
@@ -54,14 +53,7 @@ pub fn serve<K: Keep, H: Host>(
     host: &mut H,
     turns: u64,
 ) -> ServeEnd
-    ensures served { ServesTo K.holds K.files_are K.ready K.leaves K.reads result turns node.old
-        (outer (H.taken host.old) (H.closings host.old) (K.faults node.old.keep) (H.lost host.old)
-        (H.closed_at host.old))
-        node.new
-        (outer (H.taken host.new) (H.closings host.new) (K.faults node.new.keep) (H.lost host.new)
-        (H.closed_at host.new))
-        (H.given host.old) (H.given host.new) (H.left host.old) (H.left host.new) (H.faults host.old)
-        (H.faults host.new) (H.recorded host.old) (H.recorded host.new) }
+    ensures served { ServesAt K.Keep H.Host result turns node.old host.old node.new host.new }
     ensures later { H.faults host.old ≤ H.faults host.new }
     ensures disk_later { K.faults node.old.keep ≤ K.faults node.new.keep }
 {
@@ -79,14 +71,7 @@ fn serve_with<K: Keep, H: Host>(
     buffer: &mut [u8],
 ) -> ServeEnd
     requires { 1048576 ≤ length buffer.old }
-    ensures served { ServesTo K.holds K.files_are K.ready K.leaves K.reads result turns node.old
-        (outer (H.taken host.old) (H.closings host.old) (K.faults node.old.keep) (H.lost host.old)
-        (H.closed_at host.old))
-        node.new
-        (outer (H.taken host.new) (H.closings host.new) (K.faults node.new.keep) (H.lost host.new)
-        (H.closed_at host.new))
-        (H.given host.old) (H.given host.new) (H.left host.old) (H.left host.new) (H.faults host.old)
-        (H.faults host.new) (H.recorded host.old) (H.recorded host.new) }
+    ensures served { ServesAt K.Keep H.Host result turns node.old host.old node.new host.new }
     ensures later { H.faults host.old ≤ H.faults host.new }
     ensures disk_later { K.faults node.old.keep ≤ K.faults node.new.keep }
 {
@@ -111,14 +96,7 @@ fn new_buffer(alloc: Global) -> Result<Vec<u8>, AllocError>
 /// Takes one event and turns it. The host fails only where that is the result.
 fn take_one<K: Keep, H: Host>(node: &mut Node<K>, host: &mut H, buffer: &mut [u8]) -> Taken
     requires { 1048576 ≤ length buffer.old }
-    ensures taken { TakesOne K.holds K.files_are K.ready K.leaves K.reads result node.old
-        (outer (H.taken host.old) (H.closings host.old) (K.faults node.old.keep) (H.lost host.old)
-        (H.closed_at host.old))
-        node.new
-        (outer (H.taken host.new) (H.closings host.new) (K.faults node.new.keep) (H.lost host.new)
-        (H.closed_at host.new))
-        (H.given host.old) (H.given host.new) (H.left host.old) (H.left host.new) (H.faults host.old)
-        (H.faults host.new) (H.recorded host.old) (H.recorded host.new) }
+    ensures taken { TakesAt K.Keep H.Host result node.old host.old node.new host.new }
     ensures later { H.faults host.old ≤ H.faults host.new }
     ensures kept { (result ≡ Taken.Fault → ⊥) → H.faults host.new ≡ H.faults host.old }
     ensures disk_later { K.faults node.old.keep ≤ K.faults node.new.keep }

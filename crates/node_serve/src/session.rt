@@ -5,9 +5,10 @@ ghost use Rattle.arch_base.specs.Moments.{last_moment};
 ghost use Rattle.arch_model.specs.Keeping.{MatchesKnown};
 ghost use Rattle.arch_model.specs.Next.{continues};
 ghost use Rattle.arch_model.specs.Standing.{LastKnown};
-ghost use Rattle.edge_io.specs.Hosts.{SameElsewhere};
-ghost use Rattle.edge_io.specs.Phrases.{Says};
-ghost use Rattle.line_door.specs.Acts.{outside};
+ghost use Rattle.edge_io.specs.Phrases.{SaysTo};
+ghost use Rattle.line_door.specs.Acts.{at_sink};
+ghost use Rattle.node_serve.specs.Hosted.{ElsewhereStays};
+ghost use Rattle.node_serve.specs.World.{at_host, outside_at};
 ghost use Rattle.node_serve.specs.Doors.{unopened_words, with_piece};
 ghost use Rattle.node_serve.specs.Nodes.{ReopensForPiece, AnswersPiece, FedFrom, ReadsAt};
 
@@ -42,14 +43,14 @@ pub(crate) fn feed_one<K: Keep, H: Host>(
     host: &mut H,
 ) -> Next
     requires moment { moment ≤ last_moment }
-    ensures fed { AnswersPiece K.holds K.files_are K.ready K.leaves moment session.old piece.now keep.old
-        (outside (H.taken host.old conn) (K.faults keep.old) (H.lost host.old))
+    ensures fed { AnswersPiece K.Keep moment session.old piece.now keep.old
+        (outside_at conn (at_host H.Host host.old (K.faults keep.old)))
         (continues result) session.new keep.new
-        (outside (H.taken host.new conn) (K.faults keep.new) (H.lost host.new)) }
-    ensures reads { K.ready keep.old ≡ true → ReadsAt K.holds K.ready K.reads moment session.old
+        (outside_at conn (at_host H.Host host.new (K.faults keep.new))) }
+    ensures reads { K.ready keep.old ≡ true → ReadsAt K.Keep moment session.old
         piece.now keep.old keep.new }
     ensures later { K.faults keep.old ≤ K.faults keep.new }
-    ensures host { SameElsewhere H.left H.given H.recorded H.faults H.taken H.closings H.closed_at conn
+    ensures host { ElsewhereStays H.Host conn
         host.old host.new }
 {
     let mut sink = ConnSink {
@@ -68,11 +69,11 @@ fn take<K: Keep, O: Sink>(
     out: &mut O,
 ) -> Next
     requires moment { moment ≤ last_moment }
-    ensures fed { AnswersPiece K.holds K.files_are K.ready K.leaves moment session.old piece.now keep.old
-        (outside (O.taken out.old) (K.faults keep.old) (O.faults out.old))
+    ensures fed { AnswersPiece K.Keep moment session.old piece.now keep.old
+        (at_sink O.Sink out.old (K.faults keep.old))
         (continues result) session.new keep.new
-        (outside (O.taken out.new) (K.faults keep.new) (O.faults out.new)) }
-    ensures reads { K.ready keep.old ≡ true → ReadsAt K.holds K.ready K.reads moment session.old
+        (at_sink O.Sink out.new (K.faults keep.new)) }
+    ensures reads { K.ready keep.old ≡ true → ReadsAt K.Keep moment session.old
         piece.now keep.old keep.new }
     ensures later { K.faults keep.old ≤ K.faults keep.new }
     ensures sink { O.alike out.old out.new }
@@ -88,10 +89,10 @@ fn take<K: Keep, O: Sink>(
 /// Does nothing if no command is in doubt. If reopening is refused, writes the door's word for it.
 fn reopen<K: Keep, O: Sink>(session: &Session, moment: u64, keep: &mut K, out: &mut O) -> Next
     requires moment { moment ≤ last_moment }
-    ensures acts { ReopensForPiece K.holds K.files_are K.ready K.leaves moment session.now keep.old
-        (outside (O.taken out.old) (K.faults keep.old) (O.faults out.old))
+    ensures acts { ReopensForPiece K.Keep moment session.now keep.old
+        (at_sink O.Sink out.old (K.faults keep.old))
         (continues result) keep.new
-        (outside (O.taken out.new) (K.faults keep.new) (O.faults out.new)) }
+        (at_sink O.Sink out.new (K.faults keep.new)) }
     ensures ready { continues result ≡ true → K.ready keep.new ≡ true }
     ensures nothing { K.ready keep.old ≡ true
         → (continues result ≡ true) × (keep.new ≡ keep.old) }
@@ -115,8 +116,7 @@ fn say_shut<O: Sink>(
     out: &mut O,
 ) -> Result<(), SinkFault>
     requires moment { moment ≤ last_moment }
-    ensures said { Says (unopened_words moment session.now refusal) (O.taken out.old) (O.faults out.old)
-        (O.taken out.new) (O.faults out.new) result }
+    ensures said { SaysTo O.Sink (unopened_words moment session.now refusal) out.old out.new result }
     ensures sink { O.alike out.old out.new }
 {
     match session {
@@ -137,12 +137,12 @@ fn feed<K: Keep, O: Sink>(
 ) -> Next
     requires ready { K.ready keep.old ≡ true }
     requires moment { moment ≤ last_moment }
-    ensures fed { (s : LastKnown) → MatchesKnown K.holds K.files_are K.ready K.leaves keep.old s
-        → FedFrom K.holds K.files_are K.ready K.leaves moment (with_piece session.old piece.now) s keep.old
-        (outside (O.taken out.old) (K.faults keep.old) (O.faults out.old))
+    ensures fed { (s : LastKnown) → MatchesKnown K.Keep keep.old s
+        → FedFrom K.Keep moment (with_piece session.old piece.now) s keep.old
+        (at_sink O.Sink out.old (K.faults keep.old))
         (continues result) session.new keep.new
-        (outside (O.taken out.new) (K.faults keep.new) (O.faults out.new)) }
-    ensures reads { ReadsAt K.holds K.ready K.reads moment session.old piece.now keep.old keep.new }
+        (at_sink O.Sink out.new (K.faults keep.new)) }
+    ensures reads { ReadsAt K.Keep moment session.old piece.now keep.old keep.new }
     ensures later { K.faults keep.old ≤ K.faults keep.new }
     ensures sink { O.alike out.old out.new }
 {

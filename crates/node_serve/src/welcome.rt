@@ -4,13 +4,13 @@ ghost use Rattle.std.specs.Prelude.{◌≡◌, ◌≤◌, ℕ};
 ghost use Rattle.arch_base.specs.Moments.{last_moment};
 ghost use Rattle.arch_model.specs.Archives.{Archive};
 ghost use Rattle.arch_model.specs.Next.{continues};
-ghost use Rattle.edge_io.specs.Hosts.{SameEvents, SameElsewhere};
-ghost use Rattle.edge_io.specs.Phrases.{Says};
-ghost use Rattle.line_door.specs.Acts.{Acts, held_if, outside};
+ghost use Rattle.edge_io.specs.Phrases.{Says, SaysTo};
+ghost use Rattle.line_door.specs.Acts.{Acts, held_if};
 ghost use Rattle.nntp_reader.specs.Door.{greeting, new_reader};
+ghost use Rattle.node_serve.specs.Hosted.{EventsStay, ElsewhereStays};
 ghost use Rattle.node_serve.specs.Doors.{busy_words, memory_words};
 ghost use Rattle.node_serve.specs.Nodes.{Refused};
-ghost use Rattle.node_serve.specs.World.{outer};
+ghost use Rattle.node_serve.specs.World.{at_host, outside_at};
 
 use answer_lines::say_memory;
 use arch_model::Next;
@@ -21,8 +21,7 @@ use std::alloc::Global;
 /// Writes a door's word for a server that is full. A door that isn't built has none.
 fn say_busy<O: Sink>(door: Door, moment: u64, out: &mut O) -> Result<(), SinkFault>
     requires { moment ≤ last_moment }
-    ensures said { Says (busy_words moment door) (O.taken out.old) (O.faults out.old) (O.taken out.new)
-        (O.faults out.new) result }
+    ensures said { SaysTo O.Sink (busy_words moment door) out.old out.new result }
     ensures sink { O.alike out.old out.new }
 {
     match door {
@@ -36,8 +35,7 @@ fn say_busy<O: Sink>(door: Door, moment: u64, out: &mut O) -> Result<(), SinkFau
 /// Writes a door's word for a session for which memory ran out. A door that isn't built has none.
 fn say_starved<O: Sink>(door: Door, moment: u64, out: &mut O) -> Result<(), SinkFault>
     requires { moment ≤ last_moment }
-    ensures said { Says (memory_words moment door) (O.taken out.old) (O.faults out.old) (O.taken out.new)
-        (O.faults out.new) result }
+    ensures said { SaysTo O.Sink (memory_words moment door) out.old out.new result }
     ensures sink { O.alike out.old out.new }
 {
     match door {
@@ -53,11 +51,9 @@ fn say_starved<O: Sink>(door: Door, moment: u64, out: &mut O) -> Result<(), Sink
 pub(crate) fn refuse<H: Host>(door: Door, conn: u32, moment: u64, host: &mut H)
     requires { moment ≤ last_moment }
     ensures refused { (disk : ℕ) → Refused conn (busy_words moment door)
-        (outer (H.taken host.old) (H.closings host.old) disk (H.lost host.old)
-        (H.closed_at host.old))
-        (outer (H.taken host.new) (H.closings host.new) disk (H.lost host.new)
-        (H.closed_at host.new)) }
-    ensures events { SameEvents H.left H.given H.recorded H.faults host.old host.new }
+        (at_host H.Host host.old disk)
+        (at_host H.Host host.new disk) }
+    ensures events { EventsStay H.Host host.old host.new }
 {
     let _ = write_busy(door, conn, moment, host);
     host.close(conn);
@@ -67,11 +63,9 @@ pub(crate) fn refuse<H: Host>(door: Door, conn: u32, moment: u64, host: &mut H)
 pub(crate) fn refuse_starved<H: Host>(door: Door, conn: u32, moment: u64, host: &mut H)
     requires { moment ≤ last_moment }
     ensures refused { (disk : ℕ) → Refused conn (memory_words moment door)
-        (outer (H.taken host.old) (H.closings host.old) disk (H.lost host.old)
-        (H.closed_at host.old))
-        (outer (H.taken host.new) (H.closings host.new) disk (H.lost host.new)
-        (H.closed_at host.new)) }
-    ensures events { SameEvents H.left H.given H.recorded H.faults host.old host.new }
+        (at_host H.Host host.old disk)
+        (at_host H.Host host.new disk) }
+    ensures events { EventsStay H.Host host.old host.new }
 {
     let _ = write_starved(door, conn, moment, host);
     host.close(conn);
@@ -82,7 +76,7 @@ fn write_busy<H: Host>(door: Door, conn: u32, moment: u64, host: &mut H) -> Resu
     requires { moment ≤ last_moment }
     ensures said { Says (busy_words moment door) (H.taken host.old conn) (H.lost host.old)
         (H.taken host.new conn) (H.lost host.new) result }
-    ensures host { SameElsewhere H.left H.given H.recorded H.faults H.taken H.closings H.closed_at conn
+    ensures host { ElsewhereStays H.Host conn
         host.old host.new }
 {
     let mut sink = ConnSink {
@@ -97,7 +91,7 @@ fn write_starved<H: Host>(door: Door, conn: u32, moment: u64, host: &mut H) -> R
     requires { moment ≤ last_moment }
     ensures said { Says (memory_words moment door) (H.taken host.old conn) (H.lost host.old)
         (H.taken host.new conn) (H.lost host.new) result }
-    ensures host { SameElsewhere H.left H.given H.recorded H.faults H.taken H.closings H.closed_at conn
+    ensures host { ElsewhereStays H.Host conn
         host.old host.new }
 {
     let mut sink = ConnSink {
@@ -110,11 +104,11 @@ fn write_starved<H: Host>(door: Door, conn: u32, moment: u64, host: &mut H) -> R
 /// Opens a session of a reader, which greets its connection.
 pub(crate) fn greet_reader<H: Host>(alloc: Global, conn: u32, host: &mut H) -> (NntpSession, Next)
     ensures greeted { (a : Archive) (disk : ℕ) → Acts (greeting a)
-        (outside (H.taken host.old conn) disk (H.lost host.old))
+        (outside_at conn (at_host H.Host host.old disk))
         (held_if (continues result.1) result.0) a
-        (outside (H.taken host.new conn) disk (H.lost host.new)) }
+        (outside_at conn (at_host H.Host host.new disk)) }
     ensures session { result.0 ≡ new_reader }
-    ensures host { SameElsewhere H.left H.given H.recorded H.faults H.taken H.closings H.closed_at conn
+    ensures host { ElsewhereStays H.Host conn
         host.old host.new }
 {
     let mut sink = ConnSink {

@@ -12,7 +12,7 @@ ghost use Rattle.number_map.specs.Rewriting.{PlansMap, PushesGone, RewritesMap, 
 use crate::line::{NO_BLOB, NO_EPOCH, Record};
 use crate::whole::walk;
 use crate::writing::spell;
-use arch_base::{Id20, NoMemory, Numbers};
+use arch_base::{Id20, MessageNumbers, NoMemory};
 use disk_model::{Disk, FileKind, FileName, RECORD_SIZE, WalkRefusal};
 use root_change::{PartPlan, Target, put_sources};
 use std::alloc::Global;
@@ -57,7 +57,7 @@ pub fn plan_without(
     alloc: Global,
     file: FileName,
     count: u32,
-    gone: &Numbers,
+    gone: &MessageNumbers,
 ) -> Result<PartPlan, NoMemory>
     requires gone { RisesUpTo 1 count gone.now }
     ensures { IfOk result (PlansMap file count gone.now) }
@@ -65,7 +65,7 @@ pub fn plan_without(
     let mut plan = PartPlan::new(alloc, FileKind::Map, 0, Target::Anew);
     let mut done = 0;
     for number in gone.as_slice() {
-        let number = *number as u32;
+        let number = *number;
         push_gone(&mut plan, file, done, number)?;
         done = number;
     }
@@ -89,7 +89,7 @@ pub fn rewrite<D: Disk>(
     from: FileName,
     count: u32,
     to: FileName,
-    gone: &Numbers,
+    gone: &MessageNumbers,
 ) -> Result<(), WalkRefusal>
     requires apart { from ≢ to }
     requires gone { RisesUpTo 1 count gone.now }
@@ -97,7 +97,7 @@ pub fn rewrite<D: Disk>(
         (D.content disk.new) }
     ensures others { BothTold (OtherFilesStay to) (D.content disk.old) (D.content disk.new) }
     ensures crash_beside { (bounds : Bounds) → RespectsBound (bounds to) 0
-        → RunsBeside D.content D.moment D.left_since bounds disk.old disk.new }
+        → RunsBeside D.Disk bounds disk.old disk.new }
     ensures cause { RoseIf (result ≡ Err WalkRefusal.DiskFault) (D.faults disk.old) (D.faults disk.new) }
 {
     walk(alloc, disk, from, count)?;

@@ -2,7 +2,8 @@
 //! Reads the disk.
 ghost use Rattle.std.specs.Prelude.{◌≡◌, ◌+◌, ◌*◌, ◌<◌, ◌^◌, [], Err, length, IfOk, OnOk};
 ghost use Rattle.arch_base.specs.Counts.{RoseIf};
-ghost use Rattle.disk_model.specs.Disk.{Image, BothTold, WhereTold, Unchanged, LeavesOnly, bytes_of};
+ghost use Rattle.disk_model.specs.Disk.{Image, BothTold, WhereTold, Unchanged, bytes_of};
+ghost use Rattle.disk_model.specs.Moments.{LeavesOnly};
 ghost use Rattle.disk_model.specs.Sizes.{record_size};
 ghost use Rattle.number_map.specs.Records.{AreRecordsFrom};
 ghost use Rattle.number_map.specs.Walks.{BeginsWithRecords, WalksMap};
@@ -39,8 +40,7 @@ fn read_more<D: Disk>(
     ensures size { OnOk result (length lines.new ≡ length lines.old + wanted) }
     ensures valid { AreRecordsFrom 1 lines.old → OnOk result (AreRecordsFrom 1 lines.new) }
     ensures same { BothTold Unchanged (D.content disk.old) (D.content disk.new) }
-    ensures crash { LeavesOnly D.moment D.left_since disk.old disk.new
-        (Image (D.content disk.old)) }
+    ensures crash { LeavesOnly D.Disk disk.old disk.new (Image (D.content disk.old)) }
     ensures cause { RoseIf (result ≡ Err WalkRefusal.DiskFault) (D.faults disk.old) (D.faults disk.new) }
 {
     let offset = RECORD_SIZE as u64 * lines.as_slice().len() as u64;
@@ -64,8 +64,7 @@ fn read_all<D: Disk>(
         ReadsRecords result count (bytes_of (k file).seen) lines.new) (D.content disk.old) }
     ensures valid { OnOk result (AreRecordsFrom 1 lines.new) }
     ensures same { BothTold Unchanged (D.content disk.old) (D.content disk.new) }
-    ensures crash { LeavesOnly D.moment D.left_since disk.old disk.new
-        (Image (D.content disk.old)) }
+    ensures crash { LeavesOnly D.Disk disk.old disk.new (Image (D.content disk.old)) }
     ensures cause { RoseIf (result ≡ Err WalkRefusal.DiskFault) (D.faults disk.old) (D.faults disk.new) }
 {
     let mut done = 0;
@@ -95,8 +94,7 @@ pub fn walk<D: Disk>(
     // Also where the disk doesn't tell its content.
     ensures valid { IfOk result (AreRecordsFrom 1) }
     ensures same { BothTold Unchanged (D.content disk.old) (D.content disk.new) }
-    ensures crash { LeavesOnly D.moment D.left_since disk.old disk.new
-        (Image (D.content disk.old)) }
+    ensures crash { LeavesOnly D.Disk disk.old disk.new (Image (D.content disk.old)) }
     ensures cause { RoseIf (result ≡ Err WalkRefusal.DiskFault) (D.faults disk.old) (D.faults disk.new) }
 {
     let mut room = room(alloc)?;

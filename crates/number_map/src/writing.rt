@@ -40,7 +40,7 @@ pub fn append<D: Disk>(
     ensures size { length (record_bytes line.now) ≡ record_size }
     // All that is before the offset stays at each moment.
     ensures crash_beside { (bounds : Bounds) → RespectsBound (bounds file) at
-        → RunsBeside D.content D.moment D.left_since bounds disk.old disk.new }
+        → RunsBeside D.Disk bounds disk.old disk.new }
     ensures time { Elapses (D.moment disk.old) (D.moment disk.new) (D.left_since disk.old)
         (D.left_since disk.new) (D.content disk.new) }
     ensures cause { HasCause (D.faults disk.old) (D.faults disk.new) result }

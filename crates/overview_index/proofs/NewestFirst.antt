@@ -2,7 +2,7 @@
 use Rattle.std.proofs.Common.{◌≡◌, ◌-◌, ◌+◌, ◌<◌, ◌≤◌, ℕ, List, [], ◌∷◌, ◌++◌, length, map, reverse, drop, get_or, Option, Some, None, refl, sym, ap, ◌∙◌, arith, append_assoc}
 use Rattle.std.proofs.lemmas.List.{drop_more, drop_all, reverse-append}
 use Rattle.mail_forms.specs.declared.row.Row.{Row}
-use Rattle.overview_index.specs.Listings.{spots, with_spot, under, row_numbered, rows_numbered, number_at}
+use Rattle.overview_index.specs.Listings.{spots, with_spot, under, row_in, rows_numbered, number_at}
 use Rattle.overview_index.specs.declared.spot.Spot.{Spot}
 
 spots-before : (n : ℕ) (row : Option Row) (rows : List (ℕ × Row)) → spots (under n row ++ rows) ≡ with_spot row (spots rows)
@@ -16,14 +16,14 @@ before-one : (i : ℕ) → 0 < i → i ≡ i - 1 + 1
 before-one i some = omega (arith, some)
 
 -- One number more, before the others.
-pub spots-more : (rows : List (ℕ × Row)) (numbers : List ℕ) (i d n : ℕ) (row : Option Row) (old new : List Spot) → 0 < i → i ≤ length numbers → n ≡ get_or numbers (i - 1) d → under n row ≡ row_numbered rows n → old ≡ spots (rows_numbered rows (drop i numbers)) → new ≡ with_spot row old
+pub spots-more : (rows : List (ℕ × Row)) (numbers : List ℕ) (i d n : ℕ) (row : Option Row) (old new : List Spot) → 0 < i → i ≤ length numbers → n ≡ get_or numbers (i - 1) d → row ≡ row_in rows n → old ≡ spots (rows_numbered rows (drop i numbers)) → new ≡ with_spot row old
     → new ≡ spots (rows_numbered rows (drop (i - 1) numbers))
 spots-more rows numbers i d n row old new some within is row_is old_is new_is =
     new_is
     ∙ ap (with_spot row) (old_is ∙ ap (λ (k : ℕ). spots (rows_numbered rows (drop k numbers))) (before-one i some))
     ∙ sym (spots-before n row (rows_numbered rows (drop (i - 1 + 1) numbers)))
-    ∙ ap (λ (found : List (ℕ × Row)). spots (found ++ rows_numbered rows (drop (i - 1 + 1) numbers))) row_is
-    ∙ ap (λ (m : ℕ). spots (row_numbered rows m ++ rows_numbered rows (drop (i - 1 + 1) numbers))) is
+    ∙ ap (λ (found : Option Row). spots (under n found ++ rows_numbered rows (drop (i - 1 + 1) numbers))) row_is
+    ∙ ap (λ (m : ℕ). spots (under m (row_in rows m) ++ rows_numbered rows (drop (i - 1 + 1) numbers))) is
     ∙ ap (λ (ns : List ℕ). spots (rows_numbered rows ns)) (sym (drop_more numbers (i - 1) d (inside i (length numbers) some within)))
 
 pub spots-none : (rows : List (ℕ × Row)) (numbers : List ℕ) → spots (rows_numbered rows (drop (length numbers) numbers)) ≡ []

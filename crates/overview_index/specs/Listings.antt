@@ -1,5 +1,5 @@
 -- Rows by their numbers, and what is asked of them.
-use Rattle.std.specs.Prelude.{◌≡◌, ◌<◌, ◌≤◌, ℕ, ◌&&◌, nat_le, nat_lt, List, [], ◌∷◌, map, reverse, count_by, Option, Some, None, IsSome, if◌then◌else◌}
+use Rattle.std.specs.Prelude.{◌≡◌, ◌<◌, ◌≤◌, ℕ, ◌&&◌, nat_le, List, [], ◌∷◌, map, reverse, count_by, Option, Some, None, IsSome, if◌then◌else◌}
 use Rattle.std.specs.List.{flat_map}
 use Rattle.std.specs.declared.cmp.Ordering.{Ordering}
 use Rattle.std.specs.BTreeMap.{is_at, insert_entry}
@@ -59,13 +59,9 @@ abbrev pub under : ℕ → Option Row → List (ℕ × Row)
 under n None = []
 under n (Some row) = (n, row) ∷ []
 
--- The row of a number. Numbers of more than 32 bits have none.
-abbrev pub row_numbered : List (ℕ × Row) → ℕ → List (ℕ × Row)
-row_numbered rows n = if nat_lt n 4294967296 then under n (row_in rows n) else []
-
 -- The rows of these numbers, in their order.
 abbrev pub rows_numbered : List (ℕ × Row) → List ℕ → List (ℕ × Row)
-rows_numbered rows numbers = flat_map (row_numbered rows) numbers
+rows_numbered rows numbers = flat_map (λ (n : ℕ). under n (row_in rows n)) numbers
 
 -- The number is the least one of a row that is at least `n`, or there is none.
 abbrev pub IsLeastFrom : List (ℕ × Row) → ℕ → Option ℕ → Type 0

@@ -1,10 +1,12 @@
 //! A row by itself on the heap.
 //! Allocates.
-ghost use Rattle.std.specs.Prelude.{◌≡◌, IfOk};
+ghost use Rattle.std.specs.Prelude.{◌≡◌, IfOk, option_copied};
+ghost use Rattle.overview_index.specs.Listings.{row_in};
 
 use arch_base::NoMemory;
 use mail_forms::Row;
 use std::alloc::Global;
+use std::collections::BTreeMap;
 use std::marker::Model;
 
 /// A row by itself on the heap.
@@ -40,5 +42,15 @@ impl HeldRow {
         ensures { result.now ≡ self.now }
     {
         &self.row
+    }
+}
+
+/// Returns the row of a number.
+pub(crate) fn row_of(rows: &BTreeMap<u32, HeldRow>, n: u32) -> Option<&Row>
+    ensures { option_copied result ≡ row_in rows.now.entries n }
+{
+    match rows.get(&n) {
+        Some(held) => Some(held.row()),
+        None => None,
     }
 }

@@ -1,11 +1,11 @@
 //! Orders rows by their dates.
 //! Allocates.
 ghost use Rattle.std.specs.Prelude.{◌≡◌, map, reverse, OnOk, IfOk, option_copied};
-ghost use Rattle.overview_index.specs.Listings.{number_at, spots, with_spot, under, row_numbered, rows_numbered, listing};
+ghost use Rattle.overview_index.specs.Listings.{number_at, spots, with_spot, rows_numbered, listing};
 
-use crate::held::HeldRow;
+use crate::held::{HeldRow, row_of};
 use crate::spot::Spot;
-use arch_base::{NoMemory, Numbers};
+use arch_base::{MessageNumbers, NoMemory};
 use mail_forms::Row;
 use std::alloc::Global;
 use std::collections::{BTreeMap, BTreeSet};
@@ -15,8 +15,8 @@ use std::collections::{BTreeMap, BTreeSet};
 pub(crate) fn newest_first(
     alloc: Global,
     rows: &BTreeMap<u32, HeldRow>,
-    numbers: &[u64],
-) -> Result<Numbers, NoMemory>
+    numbers: &[u32],
+) -> Result<MessageNumbers, NoMemory>
     ensures { IfOk result (λ found. found ≡ listing (rows_numbered rows.now.entries numbers.now)) }
 {
     numbers_falling(alloc, spots_of(alloc, rows, numbers)?)
@@ -26,7 +26,7 @@ pub(crate) fn newest_first(
 fn spots_of(
     alloc: Global,
     rows: &BTreeMap<u32, HeldRow>,
-    numbers: &[u64],
+    numbers: &[u32],
 ) -> Result<BTreeSet<Spot>, NoMemory>
     ensures { IfOk result (λ found.
         found.keys ≡ spots (rows_numbered rows.now.entries numbers.now)) }
@@ -35,23 +35,9 @@ fn spots_of(
     let mut i = numbers.len();
     while i > 0 {
         i -= 1;
-        put_spot(row_of_number(rows, numbers[i]), &mut found)?;
+        put_spot(row_of(rows, numbers[i]), &mut found)?;
     }
     Ok(found)
-}
-
-/// Returns the row of a number. Numbers of more than 32 bits have none.
-fn row_of_number(rows: &BTreeMap<u32, HeldRow>, n: u64) -> Option<&Row>
-    ensures { under n (option_copied result) ≡ row_numbered rows.now.entries n }
-{
-    if n <= u64::from(u32::MAX) {
-        match rows.get(&(n as u32)) {
-            Some(held) => Some(held.row()),
-            None => None,
-        }
-    } else {
-        None
-    }
 }
 
 /// Puts where a row stands into a set, if there is a row.
@@ -68,13 +54,13 @@ fn put_spot(row: Option<&Row>, found: &mut BTreeSet<Spot>) -> Result<(), NoMemor
 }
 
 /// Returns the numbers of a set, from the last one on.
-fn numbers_falling(alloc: Global, spots: BTreeSet<Spot>) -> Result<Numbers, NoMemory>
+fn numbers_falling(alloc: Global, spots: BTreeSet<Spot>) -> Result<MessageNumbers, NoMemory>
     ensures { IfOk result (λ numbers. numbers ≡ map number_at (reverse spots.keys)) }
 {
     let mut spots = spots;
-    let mut numbers = Numbers::new(alloc);
+    let mut numbers = MessageNumbers::new(alloc);
     while let Some(spot) = spots.pop_last() {
-        numbers.push(u64::from(spot.number))?;
+        numbers.push(spot.number)?;
     }
     Ok(numbers)
 }

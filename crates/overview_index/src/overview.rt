@@ -3,13 +3,13 @@
 ghost use Rattle.std.specs.Prelude.{◌≡◌, [], map, take, drop, None, IfOk, OnOk, OnErr, is_some, option_copied};
 ghost use Rattle.overview_index.specs.Listings.{row_in, number_of, number_at, with_row, without, listing, rows_numbered, live_between, IsLeastFrom, IsGreatestTo};
 
-use crate::held::HeldRow;
+use crate::held::{HeldRow, row_of};
 use crate::newest::newest_first;
 use crate::spot::Spot;
 use crate::views::Views;
-use arch_base::{NoMemory, Numbers};
+use arch_base::{MessageNumbers, NoMemory};
 use mail_forms::Row;
-use std::alloc::{AllocError, Global};
+use std::alloc::Global;
 use std::collections::BTreeMap;
 use std::marker::Model;
 
@@ -88,10 +88,7 @@ impl Overview {
     pub fn get(&self, n: u32) -> Option<&Row>
         ensures { option_copied result ≡ row_in self.now n }
     {
-        match self.rows.get(&n) {
-            Some(held) => Some(held.row()),
-            None => None,
-        }
+        row_of(&self.rows, n)
     }
 
     /// Returns the number of the row with an id.
@@ -134,28 +131,18 @@ impl Overview {
     /// both falling. These are so many after so many that are skipped, or as many as there are.
     ///
     /// `NoMemory` if an allocation fails.
-    pub fn page(&self, skip: u64, count: u64) -> Result<Numbers, NoMemory>
+    pub fn page(&self, skip: u64, count: u64) -> Result<MessageNumbers, NoMemory>
         ensures { IfOk result (λ page. page ≡ take count (drop skip (listing self.now))) }
     {
         let spots = self.views.dates.page(skip as usize, count as usize)?;
         numbers_of(self.alloc, spots.as_slice())
     }
 
-    /// Returns the numbers of rows as `page` does, in 32 bits each.
-    ///
-    /// `NoMemory` if an allocation fails.
-    pub fn newest(&self, skip: u64, count: u64) -> Result<Vec<u32>, NoMemory>
-        ensures { IfOk result (λ page. page.items ≡ take count (drop skip (listing self.now))) }
-    {
-        let found = self.views.dates.page(skip as usize, count as usize)?;
-        Ok(numbers_in(self.alloc, found.as_slice())?)
-    }
-
     /// Returns the numbers of these that have a row, newest first: by the seconds of their dates, and
     /// then by number, both falling. Each is returned once.
     ///
     /// With k numbers it takes k steps of the logarithm of n each. `NoMemory` if an allocation fails.
-    pub fn newest_first(&self, numbers: &[u64]) -> Result<Numbers, NoMemory>
+    pub fn newest_first(&self, numbers: &[u32]) -> Result<MessageNumbers, NoMemory>
         ensures { IfOk result (λ found. found ≡ listing (rows_numbered self.now numbers.now)) }
     {
         newest_first(self.alloc, &self.rows, numbers)
@@ -163,19 +150,9 @@ impl Overview {
 }
 
 /// Returns the numbers of rows, by where they stand.
-fn numbers_of(alloc: Global, spots: &[Spot]) -> Result<Numbers, NoMemory>
+fn numbers_of(alloc: Global, spots: &[Spot]) -> Result<MessageNumbers, NoMemory>
     ensures { IfOk result (λ numbers. numbers ≡ map number_at spots.now) }
 {
-    let mut numbers = Numbers::new(alloc);
-    for spot in spots {
-        numbers.push(u64::from(spot.number))?;
-    }
-    Ok(numbers)
-}
-
-/// Returns the numbers of rows in 32 bits, by where they stand.
-fn numbers_in(alloc: Global, spots: &[Spot]) -> Result<Vec<u32>, AllocError>
-    ensures { IfOk result (λ numbers. numbers.items ≡ map number_at spots.now) }
-{
-    spots.iter().map(|spot| spot.number).collect(alloc)
+    let numbers: Vec<u32> = spots.iter().map(|spot| spot.number).collect(alloc)?;
+    Ok(MessageNumbers::from_vec(numbers))
 }

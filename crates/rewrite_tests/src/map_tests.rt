@@ -1,7 +1,7 @@
 //! A map of two messages that is written without the first one.
 ghost use Rattle.std.specs.Prelude.{◌≡◌, [], ◌∷◌, IfOk};
 
-use arch_base::{Id20, NoMemory, Numbers};
+use arch_base::{Id20, MessageNumbers, NoMemory};
 use disk_model::{Disk, DiskFault, FileKind, FileName, RECORD_SIZE, WalkRefusal};
 use epoch_tests::empty_disk;
 use number_map::{Record, append, plan_without, push_record, rewrite};
@@ -50,10 +50,10 @@ pub(crate) const BYTES: &[u8] =
     \x00\x00\x00\x02\x00\x00\x00\x00ABCDEFGHIJKLMNOPQRST";
 
 /// Returns the number 1.
-fn first(alloc: Global) -> Result<Numbers, NoMemory>
+fn first(alloc: Global) -> Result<MessageNumbers, NoMemory>
     ensures { IfOk result (λ numbers. numbers ≡ 1 ∷ []) }
 {
-    let mut numbers = Numbers::new(alloc);
+    let mut numbers = MessageNumbers::new(alloc);
     numbers.push(1)?;
     Ok(numbers)
 }

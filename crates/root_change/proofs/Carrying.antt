@@ -3,9 +3,10 @@ use Rattle.std.specs.Prelude.{◌≡◌, ℕ, ◌-◌, List, Option, Some, None,
 use Rattle.std.specs.Result.{IsErrAnd}
 use Rattle.std.proofs.Common.{◌∙◌, sym, ap, subst, inl, inr, arith}
 use Rattle.arch_base.specs.Counts.{Rose, HasCause, RoseIf}
-use Rattle.disk_model.specs.Disk.{Content, File, Files, LeavesOnly, BothTold, WhereTold, bytes_of}
+use Rattle.disk_model.specs.declared.disk.Disk.{Ghosts as Disk}
+use Rattle.disk_model.specs.Disk.{Content, File, BothTold, WhereTold, bytes_of}
 use Rattle.disk_model.specs.Beside.{RunsBeside}
-use Rattle.disk_model.specs.Moments.{weaker}
+use Rattle.disk_model.specs.Moments.{LeavesOnly, weaker}
 use Rattle.disk_model.specs.Tells.{told_then}
 use Rattle.root_slots.specs.declared.root.Root.{Root}
 use Rattle.root_slots.specs.RootName.{root_name}
@@ -60,9 +61,9 @@ pub not_short : (k : Option Content) → WhereTold (λ (c : Content). ⊥ → �
 not_short None = tt
 not_short (Some k) = λ short. short
 
-module _ {D : Type 0} (content : D → Option Content) (moment : D → ℕ) (left_since : D → ℕ → Files → Type 0) (faults : D → ℕ) (disk d : D) (old : Root) (free : ℕ) (plans : List Plan) (number : ℕ) where
-  failed_now : (refusal : RewriteRefusal) → ((parts : Parts) → IsOwnOfParts old free parts (content disk) → LeavesOnly moment left_since disk d (RecoversPlanned old plans number parts)) → RunsBeside content moment left_since (bounds_of old) disk d → WhereTold (λ (c : Content). IsShort {T = Root} (Err refusal) → ⊥) (content disk)
-      → IfShort {T = Root} (Err refusal) (IsPlannedPart old plans) → RoseIf (IsFailed {T = Root} (Err refusal)) (faults disk) (faults d) → CarriesOut content moment left_since faults disk d old free plans number (Err refusal)
+module _ {D : Type 0} (g : Disk D) (disk d : D) (old : Root) (free : ℕ) (plans : List Plan) (number : ℕ) where
+  failed_now : (refusal : RewriteRefusal) → ((parts : Parts) → IsOwnOfParts old free parts (g.content disk) → LeavesOnly g disk d (RecoversPlanned old plans number parts)) → RunsBeside g (bounds_of old) disk d → WhereTold (λ (c : Content). IsShort {T = Root} (Err refusal) → ⊥) (g.content disk)
+      → IfShort {T = Root} (Err refusal) (IsPlannedPart old plans) → RoseIf (IsFailed {T = Root} (Err refusal)) (g.faults disk) (g.faults d) → CarriesOut g disk d old free plans number (Err refusal)
   failed_now refusal leaves run whole told rose = record {
     crash = leaves;
     done = λ parts own. tt;
@@ -74,28 +75,28 @@ module _ {D : Type 0} (content : D → Option Content) (moment : D → ℕ) (lef
     sizes = tt;
     cause = rose;
     rooted = tt;
-    crash_between = beside_between content moment left_since old disk d run;
+    crash_between = beside_between g old disk d run;
     crash_beside = λ short. run;
   }
 
   -- The plans weren't carried out: what a crash leaves stands for the old parts.
-  pub writing_failed : (new : Root) (result : Result Root RewriteRefusal) (refusal : RewriteRefusal) → IsErrAnd result (λ r. r ≡ refusal) → RunsBeside content moment left_since (bounds_of old) disk d → WhereTold (λ (c : Content). IsShort {T = Unit {0}} (Err refusal) → ⊥) (content disk) → IfShort {T = Unit {0}} (Err refusal) (IsPlannedPart old plans) → RoseIf (IsFailed {T = Unit {0}} (Err refusal)) (faults disk) (faults d)
-      → CarriesOut content moment left_since faults disk d old free plans number result
+  pub writing_failed : (new : Root) (result : Result Root RewriteRefusal) (refusal : RewriteRefusal) → IsErrAnd result (λ r. r ≡ refusal) → RunsBeside g (bounds_of old) disk d → WhereTold (λ (c : Content). IsShort {T = Unit {0}} (Err refusal) → ⊥) (g.content disk) → IfShort {T = Unit {0}} (Err refusal) (IsPlannedPart old plans) → RoseIf (IsFailed {T = Unit {0}} (Err refusal)) (g.faults disk) (g.faults d)
+      → CarriesOut g disk d old free plans number result
   writing_failed new (Ok made) refusal is run whole told rose = absurd is
   writing_failed new (Err r) refusal is run whole told rose =
-      subst (λ (x : RewriteRefusal). CarriesOut content moment left_since faults disk d old free plans number (Err x)) (sym is)
+      subst (λ (x : RewriteRefusal). CarriesOut g disk d old free plans number (Err x)) (sym is)
       (failed_now refusal
-      (λ parts own. weaker moment left_since disk d (RecoversPartsBy old parts) (RecoversPlanned old plans number parts) (writing_by free old new parts (rewritten old plans parts) content moment left_since disk d own run) (λ image stands. inl stands))
-      run (whole_as refusal (content disk) whole) (short_handed {T = Root} (IsPlannedPart old plans) (IsPlannedPart old plans) (Err refusal) refusal (λ file at part. part) refl told) (rose_as refusal (faults disk) (faults d) rose))
+      (λ parts own. weaker g disk d (RecoversPartsBy old parts) (RecoversPlanned old plans number parts) (writing_by free old new parts (rewritten old plans parts) g disk d own run) (λ image stands. inl stands))
+      run (whole_as refusal (g.content disk) whole) (short_handed {T = Root} (IsPlannedPart old plans) (IsPlannedPart old plans) (Err refusal) refusal (λ file at part. part) refl told) (rose_as refusal (g.faults disk) (g.faults d) rose))
 
   -- The disk failed while the root was replaced.
-  pub replacing_failed : (result : Result Root RewriteRefusal) → IsErrAnd result (λ r. r ≡ DiskFault) → ((parts : Parts) → IsOwnOfParts old free parts (content disk) → LeavesOnly moment left_since disk d (RecoversPlanned old plans number parts)) → RoseIf (Unit {0}) (faults disk) (faults d) → RunsBetween content moment left_since disk d
-      → CarriesOut content moment left_since faults disk d old free plans number result
+  pub replacing_failed : (result : Result Root RewriteRefusal) → IsErrAnd result (λ r. r ≡ DiskFault) → ((parts : Parts) → IsOwnOfParts old free parts (g.content disk) → LeavesOnly g disk d (RecoversPlanned old plans number parts)) → RoseIf (Unit {0}) (g.faults disk) (g.faults d) → RunsBetween g disk d
+      → CarriesOut g disk d old free plans number result
   replacing_failed (Ok made) is leaves rose crash_between = absurd is
-  replacing_failed (Err r) is leaves rose crash_between = subst (λ (x : RewriteRefusal). CarriesOut content moment left_since faults disk d old free plans number (Err x)) (sym is) (record {
+  replacing_failed (Err r) is leaves rose crash_between = subst (λ (x : RewriteRefusal). CarriesOut g disk d old free plans number (Err x)) (sym is) (record {
     crash = leaves;
     done = λ parts own. tt;
-    whole = not_short (content disk);
+    whole = not_short (g.content disk);
     short = tt;
     settled = tt;
     root_is = tt;
@@ -108,9 +109,9 @@ module _ {D : Type 0} (content : D → Option Content) (moment : D → ℕ) (lef
   })
 
 -- The bytes of the root file between its gates and its bodies, while plans are carried out and the root is replaced.
-pub planned_between : {D : Type 0} (content : D → Option Content) (moment : D → ℕ) (left_since : D → ℕ → Files → Type 0) (old : Root) (disk d1 d2 : D) → RunsBeside content moment left_since (bounds_of old) disk d1 → RunsBetween content moment left_since d1 d2 → RunsBetween content moment left_since disk d2
-planned_between content moment left_since old disk d1 d2 run replaces =
-    joined_between content moment left_since disk d1 d2 (beside_between content moment left_since old disk d1 run) (beside_went old (content disk) (content d1) run.told) replaces
+pub planned_between : {D : Type 0} (g : Disk D) (old : Root) (disk d1 d2 : D) → RunsBeside g (bounds_of old) disk d1 → RunsBetween g d1 d2 → RunsBetween g disk d2
+planned_between g old disk d1 d2 run replaces =
+    joined_between g disk d1 d2 (beside_between g old disk d1 run) (beside_went old (g.content disk) (g.content d1) run.told) replaces
 
 -- No plan is written to the root file, so it has only the new root then.
 pub planned_rooted : (old new : Root) (plans : List Plan) (free : ℕ) (body : List ℕ) (k m o : Option Content) → MayCarryAll old plans → BothTold (WritesPlans old new plans) k m → BothTold (HasNewRoot free body) m o → BothTold (HasNewRoot free body) k o
@@ -120,30 +121,30 @@ planned_rooted old new plans free body k m o may wrote rooted =
     wrote rooted
 
 -- Plans were carried out, and the root is replaced.
-module _ (old new : Root) (plans : List Plan) (number : ℕ) (valid : IsRoot old) (fits : RootFits old) (may : MayCarryAll old plans) (after : IsRootAfter old plans number new) (new_valid : IsRoot new) (new_fits : RootFits new) (free : ℕ) {D : Type 0} (content : D → Option Content) (moment : D → ℕ) (left_since : D → ℕ → Files → Type 0) (disk d1 d2 : D) (run : RunsBeside content moment left_since (bounds_of old) disk d1) (wrote : BothTold (WritesPlans old new plans) (content disk) (content d1)) (parts : Parts) (own : IsOwnOfParts old free parts (content disk)) where
+module _ (old new : Root) (plans : List Plan) (number : ℕ) (valid : IsRoot old) (fits : RootFits old) (may : MayCarryAll old plans) (after : IsRootAfter old plans number new) (new_valid : IsRoot new) (new_fits : RootFits new) (free : ℕ) {D : Type 0} (g : Disk D) (disk d1 d2 : D) (run : RunsBeside g (bounds_of old) disk d1) (wrote : BothTold (WritesPlans old new plans) (g.content disk) (g.content d1)) (parts : Parts) (own : IsOwnOfParts old free parts (g.content disk)) where
   abbrev next : Parts
   next = rewritten old plans parts
 
   -- What a crash leaves.
-  pub planned_leaves : ((texts nexts : Texts) → ToReplace free old texts new nexts (content d1) → LeavesOnly moment left_since d1 d2 (StandsForEither old texts new nexts)) → LeavesOnly moment left_since disk d2 (RecoversPlanned old plans number parts)
+  pub planned_leaves : ((texts nexts : Texts) → ToReplace free old texts new nexts (g.content d1) → LeavesOnly g d1 d2 (StandsForEither old texts new nexts)) → LeavesOnly g disk d2 (RecoversPlanned old plans number parts)
   planned_leaves replaces =
-      let k = content disk in
-      let m = content d1 in
+      let k = g.content disk in
+      let m = g.content d1 in
       let reads = reads_told old new plans number valid fits may after parts own.long free k m own.on wrote in
       let becomes = becomes_told old new plans number valid fits may after parts own.long free k m own.on wrote in
       let long = fit_told old new plans number valid fits may after parts own.long free k m own.on wrote in
-      weaker moment left_since disk d2 _ (RecoversPlanned old plans number parts)
-      (changing_by free old new parts next content moment left_since disk d1 own run (reading old new plans number valid fits may after parts own.long m) reads becomes new_valid new_fits long d2 replaces)
+      weaker g disk d2 _ (RecoversPlanned old plans number parts)
+      (changing_by free old new parts next g disk d1 own run (reading old new plans number valid fits may after parts own.long m) reads becomes new_valid new_fits long d2 replaces)
       (λ image either. elim either [ inl stands ↦ inl stands | inr stands ↦ inr (new, after, stands) ])
 
   -- What the disk is then.
-  pub planned_done : ((texts nexts : Texts) → ToReplace free old texts new nexts (content d1) → OnDisk new (1 - free) nexts (content d2)) → IsOwnOfParts new (1 - free) next (content d2)
+  pub planned_done : ((texts nexts : Texts) → ToReplace free old texts new nexts (g.content d1) → OnDisk new (1 - free) nexts (g.content d2)) → IsOwnOfParts new (1 - free) next (g.content d2)
   planned_done done =
-      let k = content disk in
-      let m = content d1 in
+      let k = g.content disk in
+      let m = g.content d1 in
       let so_far = reading old new plans number valid fits may after parts own.long m in
       let reads = reads_told old new plans number valid fits may after parts own.long free k m own.on wrote in
       let becomes = becomes_told old new plans number valid fits may after parts own.long free k m own.on wrote in
       let long = fit_told old new plans number valid fits may after parts own.long free k m own.on wrote in
-      changed free old new parts next content moment left_since disk d1 own run so_far reads becomes new_valid new_fits long d2
-      (done (texts_of old parts) (texts_of new next) (to_replace free old new parts next content moment left_since disk d1 own run so_far reads becomes new_valid new_fits long))
+      changed free old new parts next g disk d1 own run so_far reads becomes new_valid new_fits long d2
+      (done (texts_of old parts) (texts_of new next) (to_replace free old new parts next g disk d1 own run so_far reads becomes new_valid new_fits long))

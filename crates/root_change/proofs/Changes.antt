@@ -2,9 +2,10 @@
 use Rattle.std.specs.Prelude.{◌≡◌, ◌⊎◌, ◌-◌, ℕ, Bool, true, false, if◌then◌else◌, List, [], ◌++◌, length, Option, Some, None, refl}
 use Rattle.std.proofs.Common.{◌∙◌, ap, subst, inl, inr, arith}
 use Rattle.std.proofs.lemmas.Grind.{common_steps}
+use Rattle.disk_model.specs.declared.disk.Disk.{Ghosts as Disk}
 use Rattle.disk_model.specs.declared.name.FileName.{FileName}
-use Rattle.disk_model.specs.Disk.{Files, Content, BothTold, WhereTold, LeavesOnly, overlay}
-use Rattle.disk_model.specs.Moments.{weaker, joined}
+use Rattle.disk_model.specs.Disk.{Files, Content, BothTold, WhereTold, overlay}
+use Rattle.disk_model.specs.Moments.{LeavesOnly, weaker, joined}
 use Rattle.root_slots.specs.declared.root.Root.{Root}
 use Rattle.root_slots.specs.RootName.{root_name}
 use Rattle.root_slots.specs.Spelling.{spelling}
@@ -65,32 +66,32 @@ writing free root texts None image on measures crash_beside = absurd on
 writing free root texts (Some k) image on measures crash_beside = stands_beside root texts k image measures (λ file fits. ready_has free (spelling root) file (on.roots file fits)) on.fronts crash_beside
 
 -- A command that writes beside the texts of its root and replaces the root then.
-module _ (free : ℕ) (old new : Root) (parts next : Parts) {D : Type 0} (content : D → Option Content) (moment : D → ℕ) (left_since : D → ℕ → Files → Type 0) (disk d1 : D) (own : IsOwnOfParts old free parts (content disk)) (run : RunsBeside content moment left_since (bounds_of old) disk d1) where
+module _ (free : ℕ) (old new : Root) (parts next : Parts) {D : Type 0} (g : Disk D) (disk d1 : D) (own : IsOwnOfParts old free parts (g.content disk)) (run : RunsBeside g (bounds_of old) disk d1) where
   -- Files that stand for the old texts stand for the old parts.
   old_parts : (image : Files) → StandsFor old (texts_of old parts) image → RecoversPartsBy old parts image
   old_parts image stands = record { valid = own.valid; fits = own.fits; long = own.long; stands = stands }
 
   -- What a crash leaves before the root is replaced.
-  pub writing_by : LeavesOnly moment left_since disk d1 (RecoversPartsBy old parts)
-  writing_by = weaker moment left_since disk d1 (Beside (bounds_of old) (content disk)) (RecoversPartsBy old parts) run.moments (λ image crash_beside. old_parts image (writing free old (texts_of old parts) (content disk) image own.on (parts_measure old parts own.long) crash_beside))
+  pub writing_by : LeavesOnly g disk d1 (RecoversPartsBy old parts)
+  writing_by = weaker g disk d1 (Beside (bounds_of old) (g.content disk)) (RecoversPartsBy old parts) run.moments (λ image crash_beside. old_parts image (writing free old (texts_of old parts) (g.content disk) image own.on (parts_measure old parts own.long) crash_beside))
 
-  module _ (so_far : Texts) (reads : WhereTold (ReadsAsTexts old so_far) (content d1)) (becomes : BecomesRoot old so_far new (texts_of new next)) (valid : IsRoot new) (fits : RootFits new) (long : PartsFit new next) where
+  module _ (so_far : Texts) (reads : WhereTold (ReadsAsTexts old so_far) (g.content d1)) (becomes : BecomesRoot old so_far new (texts_of new next)) (valid : IsRoot new) (fits : RootFits new) (long : PartsFit new next) where
     -- What the replacement requires.
-    pub to_replace : ToReplace free old (texts_of old parts) new (texts_of new next) (content d1)
-    to_replace = replaceable free old (texts_of old parts) so_far new (texts_of new next) (content disk) (content d1) own.on (parts_measure old parts own.long) run.told reads becomes
+    pub to_replace : ToReplace free old (texts_of old parts) new (texts_of new next) (g.content d1)
+    to_replace = replaceable free old (texts_of old parts) so_far new (texts_of new next) (g.content disk) (g.content d1) own.on (parts_measure old parts own.long) run.told reads becomes
 
     -- What a crash leaves while it is replaced: the parts by their own root.
     abbrev pub ByEither : Files → Type 0
     ByEither image = RecoversPartsBy old parts image ⊎ RecoversPartsBy new next image
 
-    pub changing_by : (d2 : D) → ((texts nexts : Texts) → ToReplace free old texts new nexts (content d1) → LeavesOnly moment left_since d1 d2 (StandsForEither old texts new nexts)) → LeavesOnly moment left_since disk d2 ByEither
+    pub changing_by : (d2 : D) → ((texts nexts : Texts) → ToReplace free old texts new nexts (g.content d1) → LeavesOnly g d1 d2 (StandsForEither old texts new nexts)) → LeavesOnly g disk d2 ByEither
     changing_by d2 replaces =
-        joined moment left_since disk d1 d2 (RecoversPartsBy old parts) (StandsForEither old (texts_of old parts) new (texts_of new next)) ByEither writing_by (replaces (texts_of old parts) (texts_of new next) to_replace) (λ image stands. inl stands)
+        joined g disk d1 d2 (RecoversPartsBy old parts) (StandsForEither old (texts_of old parts) new (texts_of new next)) ByEither writing_by (replaces (texts_of old parts) (texts_of new next) to_replace) (λ image stands. inl stands)
         (λ image either. elim either [
           | inl stands ↦ inl (old_parts image stands)
           | inr stands ↦ inr (record { valid = valid; fits = fits; long = long; stands = stands })
         ])
 
     -- What the disk is then.
-    pub changed : (d2 : D) → OnDisk new (1 - free) (texts_of new next) (content d2) → IsOwnOfParts new (1 - free) next (content d2)
+    pub changed : (d2 : D) → OnDisk new (1 - free) (texts_of new next) (g.content d2) → IsOwnOfParts new (1 - free) next (g.content d2)
     changed d2 on = record { valid = valid; fits = fits; long = long; on = on }

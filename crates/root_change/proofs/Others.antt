@@ -1,11 +1,12 @@
 -- Files other than the one that is written read as before, and stay before its end.
 use Rattle.std.specs.Prelude.{ℕ, List, length, Option, Some, None, Result, Ok, Err, OnOk, OnErr, refl}
 use Rattle.std.proofs.Common.{◌∙◌, ap}
+use Rattle.disk_model.specs.declared.disk.Disk.{Ghosts as Disk}
 use Rattle.disk_model.specs.declared.name.FileName.{FileName}
-use Rattle.disk_model.specs.Disk.{Files, Kept, Content, Image, LeavesOnly, BothTold, OneFile, Unchanged, Wrote, Tore}
+use Rattle.disk_model.specs.Disk.{Kept, Content, Image, BothTold, OneFile, Unchanged, Wrote, Tore}
 use Rattle.disk_model.specs.Beside.{Bounds, Beside, RunsBeside}
 use Rattle.disk_model.specs.BesideLaws.{beside_now, unchanged_told}
-use Rattle.disk_model.specs.Moments.{weaker}
+use Rattle.disk_model.specs.Moments.{LeavesOnly, weaker}
 use Rattle.disk_model.specs.Tells.{told_weaker, told_then}
 use Rattle.root_change.specs.Copying.{OtherFilesStay}
 
@@ -33,8 +34,8 @@ unchanged_first None = tt
 unchanged_first (Some k) = λ name. refl
 
 -- A run that changes nothing stays up to any bounds.
-pub run_looked : {D : Type 0} (content : D → Option Content) (moment : D → ℕ) (left_since : D → ℕ → Files → Type 0) (bounds : Bounds) (old new : D) → LeavesOnly moment left_since old new (Image (content old)) → BothTold Unchanged (content old) (content new) → RunsBeside content moment left_since bounds old new
-run_looked content moment left_since bounds old new moments same = record {
-  moments = weaker moment left_since old new (Image (content old)) (Beside bounds (content old)) moments (λ image left. beside_now bounds (content old) (content old) image (unchanged_told bounds (content old) (content old) (unchanged_first (content old))) left);
-  told = unchanged_told bounds (content old) (content new) same;
+pub run_looked : {D : Type 0} (g : Disk D) (bounds : Bounds) (old new : D) → LeavesOnly g old new (Image (g.content old)) → BothTold Unchanged (g.content old) (g.content new) → RunsBeside g bounds old new
+run_looked g bounds old new moments same = record {
+  moments = weaker g old new (Image (g.content old)) (Beside bounds (g.content old)) moments (λ image left. beside_now bounds (g.content old) (g.content old) image (unchanged_told bounds (g.content old) (g.content old) (unchanged_first (g.content old))) left);
+  told = unchanged_told bounds (g.content old) (g.content new) same;
 }

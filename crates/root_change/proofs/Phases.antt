@@ -3,11 +3,12 @@
 use Rattle.std.specs.Prelude.{◌≡◌, ◌≢◌, ℕ, ◌-◌, ◌<◌, ◌≤◌, true, false, List, [], ◌∷◌, length, take, Option, Some, None, refl}
 use Rattle.std.proofs.Common.{◌∙◌, sym, ap, subst, inl, inr, arith, take_all}
 use Rattle.std.proofs.lemmas.List.{nil_from_length}
+use Rattle.disk_model.specs.declared.disk.Disk.{Ghosts as Disk}
 use Rattle.disk_model.specs.declared.name.FileName.{FileName}
-use Rattle.disk_model.specs.Disk.{File, Files, Survival, Content, Image, BothTold, WhereTold, Synced, MaySurvive, ReadsFit, Elapses, LeavesOnly, bytes_of, exact, overlay}
+use Rattle.disk_model.specs.Disk.{File, Files, Survival, Content, Image, BothTold, WhereTold, Synced, MaySurvive, ReadsFit, Elapses, bytes_of, exact, overlay}
 use Rattle.disk_model.specs.Laws.{FrontOrigin, MaySurvive-Within, MaySurvive-exact, overlay-size}
 use Rattle.disk_model.specs.Synced.{IsSettled}
-use Rattle.disk_model.specs.Moments.{started, goes_on, joined, weaker}
+use Rattle.disk_model.specs.Moments.{LeavesOnly, started, goes_on, joined, weaker}
 use Rattle.root_slots.specs.declared.root.Root.{Root}
 use Rattle.root_slots.specs.RootName.{root_name}
 use Rattle.root_slots.specs.Between.{BetweenStays, RunsBetween, WentBetween, joined_between, looks_between, went_committed, went_synced, went_then}
@@ -188,30 +189,30 @@ module _ (free : ℕ) (old : Root) (texts : Texts) (new : Root) (next : Texts) w
   done_told (Some k) (Some p) fit todo was ready = done k p todo was fit ready
 
   -- What a crash leaves at each moment of these phases, and what the disk is then, by the clauses of their calls.
-  module _ {D : Type 0} (content : D → Option Content) (moment : D → ℕ) (left_since : D → ℕ → Files → Type 0) (reads_fit : (d : D) → ReadsFit (content d)) (disk d1 d2 : D) (todo : ToReplace free old texts new next (content disk)) (synced : BothTold Synced (content disk) (content d1)) where
+  module _ {D : Type 0} (g : Disk D) (reads_fit : (d : D) → ReadsFit (g.content d)) (disk d1 d2 : D) (todo : ToReplace free old texts new next (g.content disk)) (synced : BothTold Synced (g.content disk) (g.content d1)) where
     -- What a clause of the commit promises, over whichever root it is asked of.
     abbrev pub Promised : (List ℕ → Type 0) → Type 0
-    Promised P = (body : List ℕ) → EachRoot (Ready free body) (content d1) → sequence_of body < new.sequence → P body
+    Promised P = (body : List ℕ) → EachRoot (Ready free body) (g.content d1) → sequence_of body < new.sequence → P body
 
     kept_promise : (P : List ℕ → Type 0) → Promised P → P (spelling old)
-    kept_promise P promised = promised (spelling old) (ready_told (content disk) (content d1) (reads_fit disk) todo synced) (later_told (content disk) todo)
+    kept_promise P promised = promised (spelling old) (ready_told (g.content disk) (g.content d1) (reads_fit disk) todo synced) (later_told (g.content disk) todo)
 
-    module _ (looks : LeavesOnly moment left_since disk d1 (Image (content disk))) (commits : Promised (λ body. LeavesOnly moment left_since d1 d2 (IsOldOrNew body (spelling new) (content d1)))) where
-      pub commit_leaves : LeavesOnly moment left_since disk d2 (StandsForEither old texts new next)
+    module _ (looks : LeavesOnly g disk d1 (Image (g.content disk))) (commits : Promised (λ body. LeavesOnly g d1 d2 (IsOldOrNew body (spelling new) (g.content d1)))) where
+      pub commit_leaves : LeavesOnly g disk d2 (StandsForEither old texts new next)
       commit_leaves =
-          joined moment left_since disk d1 d2 (Image (content disk)) (IsOldOrNew (spelling old) (spelling new) (content d1)) (StandsForEither old texts new next) looks
-          (kept_promise (λ body. LeavesOnly moment left_since d1 d2 (IsOldOrNew body (spelling new) (content d1))) commits)
-          (λ image. before_told (content disk) image todo) (λ image. committing_told (content disk) (content d1) image (reads_fit disk) todo synced)
+          joined g disk d1 d2 (Image (g.content disk)) (IsOldOrNew (spelling old) (spelling new) (g.content d1)) (StandsForEither old texts new next) looks
+          (kept_promise (λ body. LeavesOnly g d1 d2 (IsOldOrNew body (spelling new) (g.content d1))) commits)
+          (λ image. before_told (g.content disk) image todo) (λ image. committing_told (g.content disk) (g.content d1) image (reads_fit disk) todo synced)
 
-      pub drops_leave : (d3 : D) → BothTold IsCommitted (content d1) (content d2) → Promised (λ body. EachRoot (Current free (spelling new)) (content d2)) → RunsBeside content moment left_since (bounds_of new) d2 d3 → LeavesOnly moment left_since disk d3 (StandsForEither old texts new next)
+      pub drops_leave : (d3 : D) → BothTold IsCommitted (g.content d1) (g.content d2) → Promised (λ body. EachRoot (Current free (spelling new)) (g.content d2)) → RunsBeside g (bounds_of new) d2 d3 → LeavesOnly g disk d3 (StandsForEither old texts new next)
       drops_leave d3 committed roots run =
-          joined moment left_since disk d2 d3 (StandsForEither old texts new next) (Beside (bounds_of new) (content d2)) (StandsForEither old texts new next) commit_leaves run.moments (λ image stands. stands)
-          (λ image. dropping_told (content disk) (content d1) (content d2) image todo synced committed (kept_promise (λ body. EachRoot (Current free (spelling new)) (content d2)) roots))
+          joined g disk d2 d3 (StandsForEither old texts new next) (Beside (bounds_of new) (g.content d2)) (StandsForEither old texts new next) commit_leaves run.moments (λ image stands. stands)
+          (λ image. dropping_told (g.content disk) (g.content d1) (g.content d2) image todo synced committed (kept_promise (λ body. EachRoot (Current free (spelling new)) (g.content d2)) roots))
 
-    pub done_on : (d3 : D) → Promised (λ body. EachRoot (Ready (1 - free) (spelling new)) (content d2)) → BothTold (HasNewRoot free (spelling new)) (content d1) (content d2) → BothTold IsCommitted (content d1) (content d2) → BothTold (IsDropped old new) (content d2) (content d3) → OnDisk new (1 - free) next (content d3)
+    pub done_on : (d3 : D) → Promised (λ body. EachRoot (Ready (1 - free) (spelling new)) (g.content d2)) → BothTold (HasNewRoot free (spelling new)) (g.content d1) (g.content d2) → BothTold IsCommitted (g.content d1) (g.content d2) → BothTold (IsDropped old new) (g.content d2) (g.content d3) → OnDisk new (1 - free) next (g.content d3)
     done_on d3 ready written committed dropped =
-        done_told (content disk) (content d3) (reads_fit d3) todo (replaced_told free (spelling new) old new (content disk) (content d1) (content d2) (content d3) synced written committed dropped)
-        (dropped_root (Ready (1 - free) (spelling new)) old new (content d2) (content d3) (reads_fit d2) dropped (kept_promise (λ body. EachRoot (Ready (1 - free) (spelling new)) (content d2)) ready))
+        done_told (g.content disk) (g.content d3) (reads_fit d3) todo (replaced_told free (spelling new) old new (g.content disk) (g.content d1) (g.content d2) (g.content d3) synced written committed dropped)
+        (dropped_root (Ready (1 - free) (spelling new)) old new (g.content d2) (g.content d3) (reads_fit d2) dropped (kept_promise (λ body. EachRoot (Ready (1 - free) (spelling new)) (g.content d2)) ready))
 
 -- The length of a root file stays.
 root_size_stays : (slot : ℕ) (body file : List ℕ) → slot < 2 → length body ≡ 1536 → length file ≡ 4096 → length (with_root slot body file) ≡ 4096
@@ -232,8 +233,8 @@ rooted_told slot body old new k m n p synced written committed dropped =
     told_weaker (Replaced slot body old new) (HasNewRoot slot body) k p (λ a b it is was. was.root) (replaced_told slot body old new k m n p synced written committed dropped)
 
 -- The bytes between the gates and the bodies, while files other than the root file change.
-pub beside_between : {D : Type 0} (content : D → Option Content) (moment : D → ℕ) (left_since : D → ℕ → Files → Type 0) (root : Root) (old new : D) → RunsBeside content moment left_since (bounds_of root) old new → RunsBetween content moment left_since old new
-beside_between content moment left_since root old new run = weaker moment left_since old new (Beside (bounds_of root) (content old)) (BetweenStays (content old)) run.moments (λ image. stays (content old) image) where
+pub beside_between : {D : Type 0} (g : Disk D) (root : Root) (old new : D) → RunsBeside g (bounds_of root) old new → RunsBetween g old new
+beside_between g root old new run = weaker g old new (Beside (bounds_of root) (g.content old)) (BetweenStays (g.content old)) run.moments (λ image. stays (g.content old) image) where
   stays : (k : Option Content) (image : Files) → Beside (bounds_of root) k image → BetweenStays k image
   stays None image crash_beside = tt
   stays (Some k) image crash_beside = record { from = image root_name; fits = crash_beside.each root_name; same = refl }
@@ -242,22 +243,22 @@ pub beside_went : (root : Root) (k m : Option Content) → BothTold (WentBeside 
 beside_went root k m went = told_weaker (WentBeside (bounds_of root)) WentBetween k m (λ a b is told one file fits. record { from = file; fits = one.each root_name file fits; same = refl }) went
 
 -- What a crash leaves while a disk is synced.
-pub sync_leaves : {D : Type 0} (content : D → Option Content) (moment : D → ℕ) (left_since : D → ℕ → Files → Type 0) (disk d1 : D) → ((image : Files) → left_since disk (moment disk) image → Image (content disk) image) → Elapses (moment disk) (moment d1) (left_since disk) (left_since d1) (content d1) → ((image : Files) → Image (content d1) image → Image (content disk) image)
-    → LeavesOnly moment left_since disk d1 (Image (content disk))
-sync_leaves content moment left_since disk d1 now time earlier = goes_on moment left_since disk disk d1 (Image (content disk)) (content d1) (started moment left_since disk (Image (content disk)) now) time earlier
+pub sync_leaves : {D : Type 0} (g : Disk D) (disk d1 : D) → ((image : Files) → g.left_since disk (g.moment disk) image → Image (g.content disk) image) → Elapses (g.moment disk) (g.moment d1) (g.left_since disk) (g.left_since d1) (g.content d1) → ((image : Files) → Image (g.content d1) image → Image (g.content disk) image)
+    → LeavesOnly g disk d1 (Image (g.content disk))
+sync_leaves g disk d1 now time earlier = goes_on g disk disk d1 (Image (g.content disk)) (g.content d1) (started g disk (Image (g.content disk)) now) time earlier
 
 -- The same while the root is replaced, call by call.
-module _ {D : Type 0} (content : D → Option Content) (moment : D → ℕ) (left_since : D → ℕ → Files → Type 0) (reads_fit : (d : D) → ReadsFit (content d)) (disk d1 d2 : D) (looks : LeavesOnly moment left_since disk d1 (Image (content disk))) (synced : BothTold Synced (content disk) (content d1)) (commits : RunsBetween content moment left_since d1 d2) where
-  pub commit_between : RunsBetween content moment left_since disk d2
-  commit_between = joined_between content moment left_since disk d1 d2 (looks_between content moment left_since disk d1 looks) (went_synced (content disk) (content d1) (reads_fit disk) synced) commits
+module _ {D : Type 0} (g : Disk D) (reads_fit : (d : D) → ReadsFit (g.content d)) (disk d1 d2 : D) (looks : LeavesOnly g disk d1 (Image (g.content disk))) (synced : BothTold Synced (g.content disk) (g.content d1)) (commits : RunsBetween g d1 d2) where
+  pub commit_between : RunsBetween g disk d2
+  commit_between = joined_between g disk d1 d2 (looks_between g disk d1 looks) (went_synced (g.content disk) (g.content d1) (reads_fit disk) synced) commits
 
-  pub drops_between : (slot : ℕ) (body : List ℕ) (new : Root) (d3 : D) → slot < 2 → WhereTold HasRootSize (content disk) → length body ≡ 1536 → BothTold (HasNewRoot slot body) (content d1) (content d2) → BothTold IsCommitted (content d1) (content d2) → RunsBeside content moment left_since (bounds_of new) d2 d3 → RunsBetween content moment left_since disk d3
+  pub drops_between : (slot : ℕ) (body : List ℕ) (new : Root) (d3 : D) → slot < 2 → WhereTold HasRootSize (g.content disk) → length body ≡ 1536 → BothTold (HasNewRoot slot body) (g.content d1) (g.content d2) → BothTold IsCommitted (g.content d1) (g.content d2) → RunsBeside g (bounds_of new) d2 d3 → RunsBetween g disk d3
   drops_between slot body new d3 low size whole root committed run =
-      joined_between content moment left_since disk d2 d3 commit_between
-      (went_then (content disk) (content d1) (content d2) (went_synced (content disk) (content d1) (reads_fit disk) synced) (went_committed slot body (content d1) (content d2) low whole (reads_fit d1) size1 root committed))
-      (beside_between content moment left_since new d2 d3 run) where
-        size1 : WhereTold HasRootSize (content d1)
-        size1 = told_where Synced HasRootSize HasRootSize (content disk) (content d1) (λ a b is told one was. ap (λ (f : File). length (bytes_of f)) (one.seen root_name) ∙ was) synced size
+      joined_between g disk d2 d3 commit_between
+      (went_then (g.content disk) (g.content d1) (g.content d2) (went_synced (g.content disk) (g.content d1) (reads_fit disk) synced) (went_committed slot body (g.content d1) (g.content d2) low whole (reads_fit d1) size1 root committed))
+      (beside_between g new d2 d3 run) where
+        size1 : WhereTold HasRootSize (g.content d1)
+        size1 = told_where Synced HasRootSize HasRootSize (g.content disk) (g.content d1) (λ a b is told one was. ap (λ (f : File). length (bytes_of f)) (one.seen root_name) ∙ was) synced size
 
 -- Files that are as long as a root says are so still.
 module _ (root : Root) (k m : Content) (same : KeepsNamed root k m) (long : HasLengths root k) where

@@ -2,11 +2,13 @@
 use Rattle.std.specs.Prelude.{◌≡◌, ◌⊎◌, ◌+◌, ◌-◌, ◌*◌, ◌<◌, ◌≤◌, ◌^◌, ◌==◌, ◌&&◌, nat_lt, ℕ, Bool, true, false, List, [], ◌∷◌, ◌++◌, length, get_or, slice_get, Option, Some, None, Result, Ok, Err, IfOk, OnOk, if◌then◌else◌}
 use Rattle.std.specs.List.{flat_map, sum_by}
 use Rattle.arch_base.specs.Counts.{RoseIf}
+use Rattle.disk_model.specs.declared.disk.Disk.{Ghosts as Disk}
 use Rattle.disk_model.specs.declared.name.FileKind.{FileKind}
 use Rattle.disk_model.specs.declared.name.FileKind.TheVariants as kind
 use Rattle.disk_model.specs.declared.name.FileName.{FileName}
 use Rattle.disk_model.specs.Beside.{RunsBeside}
-use Rattle.disk_model.specs.Disk.{Files, Content, BothTold, WhereTold, LeavesOnly}
+use Rattle.disk_model.specs.Disk.{Files, Content, BothTold, WhereTold}
+use Rattle.disk_model.specs.Moments.{LeavesOnly}
 use Rattle.disk_model.specs.Sizes.{epoch_count, record_size}
 use Rattle.disk_model.specs.Synced.{IsSettled}
 use Rattle.root_slots.specs.declared.root.Place.{Place}
@@ -275,22 +277,22 @@ RecoversPlanned root plans number parts image = RecoversPartsBy root parts image
 -- plans, and the files are as long as it says. It fails only if the count of faults rose. A disk that
 -- tells its content is never found short. On any other the file of a planned part may be: that is told
 -- with the number of bytes that count there, and all that the old root names stays.
-pub record CarriesOut {D : Type 0} (content : D → Option Content) (moment : D → ℕ)
-    (left_since : D → ℕ → Files → Type 0) (faults : D → ℕ) (old new : D) (root : Root) (free : ℕ)
+pub record CarriesOut {D : Type 0} (g : Disk D) (old new : D) (root : Root) (free : ℕ)
     (plans : List Plan) (number : ℕ) (result : Result Root RewriteRefusal) : Type 0 where
-  pub crash : (parts : Parts) → IsOwnOfParts root free parts (content old)
-      → LeavesOnly moment left_since old new (RecoversPlanned root plans number parts)
-  pub done : (parts : Parts) → IsOwnOfParts root free parts (content old)
-      → IfOk result (λ made. IsOwnOfParts made (1 - free) (rewritten root plans parts) (content new))
-  pub whole : WhereTold (λ (k : Content). IsShort result → ⊥) (content old)
+  pub crash : (parts : Parts) → IsOwnOfParts root free parts (g.content old)
+      → LeavesOnly g old new (RecoversPlanned root plans number parts)
+  pub done : (parts : Parts) → IsOwnOfParts root free parts (g.content old)
+      → IfOk result (λ made. IsOwnOfParts made (1 - free) (rewritten root plans parts) (g.content new))
+  pub whole : WhereTold (λ (k : Content). IsShort result → ⊥) (g.content old)
   pub short : IfShort result (IsPlannedPart root plans)
-  pub settled : OnOk result (WhereTold IsSettled (content new))
+  pub settled : OnOk result (WhereTold IsSettled (g.content new))
   pub root_is : IfOk result (λ made. IsRootAfter root plans number made)
   pub valid : IfOk result (λ made. IsRoot made)
-  pub sizes : IfOk result (λ made. WhereTold (HasSizes made) (content new))
-  pub cause : RoseIf (IsFailed result) (faults old) (faults new)
+  pub sizes : IfOk result (λ made. WhereTold (HasSizes made) (g.content new))
+  pub cause : RoseIf (IsFailed result) (g.faults old) (g.faults new)
   -- The root file has that root in the slot, whose gate is open, and is otherwise as it was.
-  pub rooted : IfOk result (λ made. BothTold (HasNewRoot free (spelling made)) (content old) (content new))
+  pub rooted : IfOk result (λ made. BothTold (HasNewRoot free (spelling made)) (g.content old)
+      (g.content new))
   -- At each moment its bytes between the gates and the bodies are as before.
-  pub crash_between : RunsBetween content moment left_since old new
-  pub crash_beside : IsShort result → RunsBeside content moment left_since (bounds_of root) old new
+  pub crash_between : RunsBetween g old new
+  pub crash_beside : IsShort result → RunsBeside g (bounds_of root) old new

@@ -34,7 +34,7 @@ pub fn append<D: Disk>(
     requires other { name ≢ root_name }
     requires sizes { WhereTold (HasSizes root.now) (D.content disk.old) }
     requires end { named_end root.now name + length bytes.now < 2 ^ 63 }
-    ensures crash_beside { RunsBeside D.content D.moment D.left_since (bounds_of root.now)
+    ensures crash_beside { RunsBeside D.Disk (bounds_of root.now)
         disk.old disk.new }
     ensures wrote { OnOk result (BothTold (OneFile name (Wrote (named_end root.now name) bytes.now))
         (D.content disk.old) (D.content disk.new)) }

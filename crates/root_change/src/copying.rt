@@ -53,7 +53,7 @@ fn copy_window<D: Disk>(
     requires inside { WhereTold (IsAtMostLength to end) (D.content disk.old) }
     requires end { end + range.count < 2 ^ 63 }
     ensures crash_beside { (bounds : Bounds) → RespectsBound (bounds to) end
-        → RunsBeside D.content D.moment D.left_since bounds disk.old disk.new }
+        → RunsBeside D.Disk bounds disk.old disk.new }
     ensures copied { IfOk result (λ whole. whole ≡ true
         → BothTold (Copied range.file range.offset range.count to end) (D.content disk.old)
         (D.content disk.new)) }
@@ -87,7 +87,7 @@ pub fn copy_range<D: Disk>(
     requires end { end + range.count < 2 ^ 63 }
     // All that is before the offset stays at each moment, whatever the call returns.
     ensures crash_beside { (bounds : Bounds) → RespectsBound (bounds to) end
-        → RunsBeside D.content D.moment D.left_since bounds disk.old disk.new }
+        → RunsBeside D.Disk bounds disk.old disk.new }
     ensures copied { IfOk result (λ whole. whole ≡ true
         → BothTold (Copied range.file range.offset range.count to end) (D.content disk.old)
         (D.content disk.new)) }

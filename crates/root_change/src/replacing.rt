@@ -2,7 +2,8 @@
 //! Writes the disk; syncs.
 ghost use Rattle.std.specs.Prelude.{◌≡◌, ◌-◌, ◌<◌, OnOk};
 ghost use Rattle.arch_base.specs.Counts.{HasCause};
-ghost use Rattle.disk_model.specs.Disk.{BothTold, WhereTold, LeavesOnly};
+ghost use Rattle.disk_model.specs.Disk.{BothTold, WhereTold};
+ghost use Rattle.disk_model.specs.Moments.{LeavesOnly};
 ghost use Rattle.disk_model.specs.Sizes.{epoch_count};
 ghost use Rattle.disk_model.specs.Synced.{IsSettled};
 ghost use Rattle.root_slots.specs.Between.{RunsBetween};
@@ -27,7 +28,7 @@ fn is_dropped(name: FileName, old: &Root, new: &Root) -> bool
 
 /// Removes a file if the old root names it and the new one doesn't.
 fn drop_file<D: Disk>(disk: &mut D, name: FileName, old: &Root, new: &Root) -> Result<(), DiskFault>
-    ensures crash_beside { RunsBeside D.content D.moment D.left_since (bounds_of new.now)
+    ensures crash_beside { RunsBeside D.Disk (bounds_of new.now)
         disk.old disk.new }
     ensures dropped { OnOk result (BothTold (Dropped (IsOne name) old.now new.now) (D.content disk.old)
         (D.content disk.new)) }
@@ -42,7 +43,7 @@ fn drop_file<D: Disk>(disk: &mut D, name: FileName, old: &Root, new: &Root) -> R
 
 /// Removes the files of the epochs that the old root names and the new one doesn't.
 fn drop_epochs<D: Disk>(disk: &mut D, old: &Root, new: &Root) -> Result<(), DiskFault>
-    ensures crash_beside { RunsBeside D.content D.moment D.left_since (bounds_of new.now)
+    ensures crash_beside { RunsBeside D.Disk (bounds_of new.now)
         disk.old disk.new }
     ensures dropped { OnOk result (BothTold (Dropped (IsEpochBelow epoch_count) old.now new.now)
         (D.content disk.old) (D.content disk.new)) }
@@ -58,7 +59,7 @@ fn drop_epochs<D: Disk>(disk: &mut D, old: &Root, new: &Root) -> Result<(), Disk
 
 /// Removes the files that the old root names and the new one doesn't.
 fn drop_files<D: Disk>(disk: &mut D, old: &Root, new: &Root) -> Result<(), DiskFault>
-    ensures crash_beside { RunsBeside D.content D.moment D.left_since (bounds_of new.now)
+    ensures crash_beside { RunsBeside D.Disk (bounds_of new.now)
         disk.old disk.new }
     ensures dropped { OnOk result
         (BothTold (Dropped IsAny old.now new.now) (D.content disk.old) (D.content disk.new)) }
@@ -72,7 +73,7 @@ fn drop_files<D: Disk>(disk: &mut D, old: &Root, new: &Root) -> Result<(), DiskF
 
 /// Removes the files that the old root names and the new one doesn't, and syncs.
 fn drop_old<D: Disk>(disk: &mut D, old: &Root, new: &Root) -> Result<(), DiskFault>
-    ensures crash_beside { RunsBeside D.content D.moment D.left_since (bounds_of new.now)
+    ensures crash_beside { RunsBeside D.Disk (bounds_of new.now)
         disk.old disk.new }
     ensures dropped { OnOk result
         (BothTold (IsDropped old.now new.now) (D.content disk.old) (D.content disk.new)) }
@@ -99,7 +100,7 @@ pub fn replace_root<D: Disk>(
     // At each moment a crash leaves files that stand for the old texts or for the next ones.
     ensures crash { (texts next : Texts)
         → ToReplace (slot_number slot) old.now texts new.now next (D.content disk.old)
-        → LeavesOnly D.moment D.left_since disk.old disk.new
+        → LeavesOnly D.Disk disk.old disk.new
         (StandsForEither old.now texts new.now next) }
     // After `Ok` the disk is exactly that of the next ones.
     ensures done { (texts next : Texts)
@@ -114,7 +115,7 @@ pub fn replace_root<D: Disk>(
     ensures rooted { OnOk result (BothTold (HasNewRoot (slot_number slot) (spelling new.now))
         (D.content disk.old) (D.content disk.new)) }
     // At each moment its bytes between the gates and the bodies are as before.
-    ensures crash_between { RunsBetween D.content D.moment D.left_since disk.old disk.new }
+    ensures crash_between { RunsBetween D.Disk disk.old disk.new }
     ensures cause { HasCause (D.faults disk.old) (D.faults disk.new) result }
     ensures count { D.reads disk.new ≡ D.reads disk.old }
 {

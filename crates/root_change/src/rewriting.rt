@@ -155,7 +155,7 @@ fn write_plan<D: Disk>(
 ) -> Result<(), RewriteRefusal>
     requires to { MayWrite root.now plan.now to }
     requires sizes { WhereTold (HasPartSizes root.now) (D.content disk.old) }
-    ensures crash_beside { RunsBeside D.content D.moment D.left_since (bounds_of root.now)
+    ensures crash_beside { RunsBeside D.Disk (bounds_of root.now)
         disk.old disk.new }
     ensures written { OnOk result
         (BothTold (WritesAlone root.now plan.now to) (D.content disk.old) (D.content disk.new)) }
@@ -192,7 +192,7 @@ fn write_plans<D: Disk>(
     requires plans { MayCarryAll old.now plans.now }
     requires files { MayWriteAll old.now new.now plans.now }
     requires sizes { WhereTold (HasPartSizes old.now) (D.content disk.old) }
-    ensures crash_beside { RunsBeside D.content D.moment D.left_since (bounds_of old.now)
+    ensures crash_beside { RunsBeside D.Disk (bounds_of old.now)
         disk.old disk.new }
     ensures written { OnOk result
         (BothTold (WritesPlans old.now new.now plans.now) (D.content disk.old) (D.content disk.new)) }
@@ -232,7 +232,7 @@ pub fn rewrite<D: Disk>(
     requires number { (1 ≤ number) × (number ≤ 2147483648) }
     requires map { MapFits old.now plans.now number }
     requires sizes { WhereTold (HasPartSizes old.now) (D.content disk.old) }
-    ensures carried { CarriesOut D.content D.moment D.left_since D.faults disk.old disk.new old.now
+    ensures carried { CarriesOut D.Disk disk.old disk.new old.now
         (slot_number slot) plans.now number result }
     ensures fewest { D.reads disk.old ≤ D.reads disk.new }
 {

@@ -49,7 +49,7 @@ fn put_bytes<D: Disk>(
     requires inside { WhereTold (IsAtMostLength to end) (D.content disk.old) }
     requires end { end + count < 2 ^ 63 }
     ensures crash_beside { (bounds : Bounds) → RespectsBound (bounds to) end
-        → RunsBeside D.content D.moment D.left_since bounds disk.old disk.new }
+        → RunsBeside D.Disk bounds disk.old disk.new }
     ensures put { IfOk result (λ whole. whole ≡ true → BothTold (Put (range_of bytes.now offset count)
         count to end) (D.content disk.old) (D.content disk.new)) }
     ensures whole { offset + count ≤ length bytes.now → IfOk result (λ whole. whole ≡ true) }
@@ -83,7 +83,7 @@ fn put_source<D: Disk>(
     requires inside { WhereTold (IsAtMostLength to end) (D.content disk.old) }
     requires end { end + source_count source < 2 ^ 63 }
     ensures crash_beside { (bounds : Bounds) → RespectsBound (bounds to) end
-        → RunsBeside D.content D.moment D.left_since bounds disk.old disk.new }
+        → RunsBeside D.Disk bounds disk.old disk.new }
     ensures put { IfOk result (λ whole. whole ≡ true → BothTold (PutSource bytes.now source to end)
         (D.content disk.old) (D.content disk.new)) }
     ensures whole { HasSource bytes.now (D.content disk.old) source
@@ -114,7 +114,7 @@ pub fn put_sources<D: Disk>(
     requires end { end + sum_by source_count sources.now < 2 ^ 63 }
     // All that is before the offset stays at each moment, whatever the call returns.
     ensures crash_beside { (bounds : Bounds) → RespectsBound (bounds to) end
-        → RunsBeside D.content D.moment D.left_since bounds disk.old disk.new }
+        → RunsBeside D.Disk bounds disk.old disk.new }
     ensures put { IfOk result (λ whole. whole ≡ true
         → BothTold (PutSources bytes.now sources.now to end) (D.content disk.old)
         (D.content disk.new)) }

@@ -4,7 +4,8 @@ ghost use Rattle.std.specs.Prelude.{◌≡◌, ℕ, OnOk};
 ghost use Rattle.std.specs.List.{Contains};
 ghost use Rattle.arch_base.specs.Counts.{HasCause};
 ghost use Rattle.disk_model.specs.Beside.{Bounds, RespectsBound, RunsBeside};
-ghost use Rattle.disk_model.specs.Disk.{BothTold, WhereTold, OneFile, LeavesOnly};
+ghost use Rattle.disk_model.specs.Disk.{BothTold, WhereTold, OneFile};
+ghost use Rattle.disk_model.specs.Moments.{LeavesOnly};
 ghost use Rattle.disk_model.specs.Synced.{IsSettled};
 ghost use Rattle.root_change.specs.Names.{is_root_name, bounds_of};
 ghost use Rattle.root_change.specs.Texts.{Texts, StandsFor, OnDisk};
@@ -29,7 +30,7 @@ fn is_root(name: FileName) -> bool
 /// Cuts a file to a length if it is longer, and otherwise leaves it alone.
 fn trim<D: Disk>(disk: &mut D, name: FileName, length: u64) -> Result<(), DiskFault>
     ensures crash_beside { (bounds : Bounds) → RespectsBound (bounds name) length
-        → RunsBeside D.content D.moment D.left_since bounds disk.old disk.new }
+        → RunsBeside D.Disk bounds disk.old disk.new }
     ensures trimmed { OnOk result
         (BothTold (OneFile name (Trimmed length)) (D.content disk.old) (D.content disk.new)) }
     ensures cause { HasCause (D.faults disk.old) (D.faults disk.new) result }
@@ -46,7 +47,7 @@ fn trim<D: Disk>(disk: &mut D, name: FileName, length: u64) -> Result<(), DiskFa
 ///
 /// The root file stays as it is.
 fn tidy_file<D: Disk>(disk: &mut D, root: &Root, name: FileName) -> Result<(), DiskFault>
-    ensures crash_beside { RunsBeside D.content D.moment D.left_since (bounds_of root.now)
+    ensures crash_beside { RunsBeside D.Disk (bounds_of root.now)
         disk.old disk.new }
     ensures tidied { OnOk result
         (BothTold (Tidied (IsOne name) root.now) (D.content disk.old) (D.content disk.new)) }
@@ -65,7 +66,7 @@ fn tidy_file<D: Disk>(disk: &mut D, root: &Root, name: FileName) -> Result<(), D
 
 /// Removes the listed files that a root doesn't name, and cuts the others to the bytes that count.
 fn tidy_files<D: Disk>(disk: &mut D, root: &Root, names: &[FileName]) -> Result<(), DiskFault>
-    ensures crash_beside { RunsBeside D.content D.moment D.left_since (bounds_of root.now)
+    ensures crash_beside { RunsBeside D.Disk (bounds_of root.now)
         disk.old disk.new }
     ensures tidied { OnOk result (BothTold (Tidied (Contains names.now) root.now)
         (D.content disk.old) (D.content disk.new)) }
@@ -85,7 +86,7 @@ pub fn tidy<D: Disk>(disk: &mut D, root: &Root, names: &[FileName]) -> Result<()
     // At each moment a crash leaves files that stand for the same texts.
     ensures crash { (free : ℕ) (texts : Texts)
         → ToTidy root.now free texts names.now (D.content disk.old)
-        → LeavesOnly D.moment D.left_since disk.old disk.new (StandsFor root.now texts) }
+        → LeavesOnly D.Disk disk.old disk.new (StandsFor root.now texts) }
     // After `Ok` the disk is exactly theirs.
     ensures done { (free : ℕ) (texts : Texts)
         → ToTidy root.now free texts names.now (D.content disk.old)
@@ -97,7 +98,7 @@ pub fn tidy<D: Disk>(disk: &mut D, root: &Root, names: &[FileName]) -> Result<()
         (D.content disk.old) (D.content disk.new)) }
     // At each moment the root file is as a crash before might have left it, and so are the bytes
     // that count.
-    ensures crash_beside { RunsBeside D.content D.moment D.left_since (bounds_of root.now)
+    ensures crash_beside { RunsBeside D.Disk (bounds_of root.now)
         disk.old disk.new }
     ensures cause { HasCause (D.faults disk.old) (D.faults disk.new) result }
     ensures count { D.reads disk.new ≡ D.reads disk.old }

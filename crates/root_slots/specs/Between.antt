@@ -1,9 +1,10 @@
 -- The bytes of the root file between its gates and its bodies, which no call changes.
 use Rattle.std.specs.Prelude.{◌≡◌, ◌⊎◌, ℕ, ◌+◌, ◌<◌, ◌≤◌, Option, Some, None, List, [], ◌∷◌, length, take, drop, refl}
 use Rattle.std.proofs.Common.{◌∙◌, ap, subst, inl, inr, arith}
-use Rattle.disk_model.specs.Disk.{File, Files, Kept, Content, Image, BothTold, WhereTold, Unchanged, Synced, MaySurvive, ReadsFit, LeavesOnly, bytes_of, exact, overlay}
+use Rattle.disk_model.specs.declared.disk.Disk.{Ghosts as Disk}
+use Rattle.disk_model.specs.Disk.{File, Files, Kept, Content, Image, BothTold, WhereTold, Unchanged, Synced, MaySurvive, ReadsFit, bytes_of, exact, overlay}
 use Rattle.disk_model.specs.Laws.{SameOutside, TornFile, MaySurvive-exact, MaySurvive-Within, overlay-size, overlay-torn}
-use Rattle.disk_model.specs.Moments.{joined, weaker}
+use Rattle.disk_model.specs.Moments.{LeavesOnly, joined, weaker}
 use Rattle.disk_model.specs.Synced.{IsSettled, IsWritten, WritingLeaves, writing_inside}
 use Rattle.disk_model.specs.Tells.{told_then, told_weaker}
 use Rattle.root_slots.specs.RootName.{root_name}
@@ -154,22 +155,21 @@ went_committed slot body (Some k) (Some m) low whole fit size root committed =
     (ap (λ (f : File). crash_between (bytes_of f)) root
     ∙ between_root slot body (bytes_of (k root_name).seen) low whole size)
 
-module _ {D : Type 0} (content : D → Option Content) (moment : D → ℕ)
-    (left_since : D → ℕ → Files → Type 0) where
+module _ {D : Type 0} (g : Disk D) where
   -- These bytes stay at each moment of a run.
   abbrev pub RunsBetween : D → D → Type 0
-  RunsBetween old new = LeavesOnly moment left_since old new (BetweenStays (content old))
+  RunsBetween old new = LeavesOnly g old new (BetweenStays (g.content old))
 
   -- A run that leaves what a crash before might have left.
-  pub looks_between : (old new : D) → LeavesOnly moment left_since old new (Image (content old))
+  pub looks_between : (old new : D) → LeavesOnly g old new (Image (g.content old))
       → RunsBetween old new
-  looks_between old new looks = weaker moment left_since old new (Image (content old))
-      (BetweenStays (content old)) looks (λ image. between_image (content old) image)
+  looks_between old new looks = weaker g old new (Image (g.content old))
+      (BetweenStays (g.content old)) looks (λ image. between_image (g.content old) image)
 
   -- A run, and one more after it.
   pub joined_between : (old mid new : D) → RunsBetween old mid
-      → BothTold WentBetween (content old) (content mid) → RunsBetween mid new → RunsBetween old new
+      → BothTold WentBetween (g.content old) (g.content mid) → RunsBetween mid new → RunsBetween old new
   joined_between old mid new first went second =
-      joined moment left_since old mid new (BetweenStays (content old)) (BetweenStays (content mid))
-      (BetweenStays (content old)) first second (λ image stays. stays)
-      (λ image. between_then (content old) (content mid) image went)
+      joined g old mid new (BetweenStays (g.content old)) (BetweenStays (g.content mid))
+      (BetweenStays (g.content old)) first second (λ image stays. stays)
+      (λ image. between_then (g.content old) (g.content mid) image went)

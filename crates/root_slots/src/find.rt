@@ -3,7 +3,8 @@
 ghost use Rattle.std.specs.Prelude.{◌≡◌, ◌≢◌, ◌↔◌, ◌<◌, Ok, Err, Some, length, IsTrue, IfOk, IfSome, IfNone};
 ghost use Rattle.arch_base.specs.Counts.{RoseIf, HasCause};
 ghost use Rattle.arch_base.specs.Configs.{IsConfig};
-ghost use Rattle.disk_model.specs.Disk.{Image, BothTold, WhereTold, Unchanged, LeavesOnly, bytes_of};
+ghost use Rattle.disk_model.specs.Disk.{Image, BothTold, WhereTold, Unchanged, bytes_of};
+ghost use Rattle.disk_model.specs.Moments.{LeavesOnly};
 ghost use Rattle.root_slots.specs.declared.root.Root.{Root};
 ghost use Rattle.root_slots.specs.RootName.{root_name};
 ghost use Rattle.root_slots.specs.Spelling.{body_size, spelling};
@@ -129,7 +130,7 @@ fn whole_file<D: Disk>(disk: &mut D, file: &mut [u8; ROOT_SIZE]) -> Result<bool,
     ensures whole { IfOk result (λ whole.
         WhereTold (AreRootBytes whole file.new) (D.content disk.old)) }
     ensures same { BothTold Unchanged (D.content disk.old) (D.content disk.new) }
-    ensures crash { LeavesOnly D.moment D.left_since disk.old disk.new
+    ensures crash { LeavesOnly D.Disk disk.old disk.new
         (Image (D.content disk.old)) }
     ensures cause { HasCause (D.faults disk.old) (D.faults disk.new) result }
 {
@@ -156,7 +157,7 @@ pub fn read<D: Disk>(disk: &mut D) -> Result<Option<(Slot, Root)>, RootRefusal>
     // The result has each field in its range, whatever the disk tells.
     ensures valid { IfOk result (λ found. IfSome found (λ one. IsRoot one.1)) }
     ensures same { BothTold Unchanged (D.content disk.old) (D.content disk.new) }
-    ensures crash { LeavesOnly D.moment D.left_since disk.old disk.new
+    ensures crash { LeavesOnly D.Disk disk.old disk.new
         (Image (D.content disk.old)) }
     ensures cause { RoseIf (result ≡ Err RootRefusal.DiskFault) (D.faults disk.old) (D.faults disk.new) }
 {

@@ -2,7 +2,8 @@
 //! Writes the disk; syncs.
 ghost use Rattle.std.specs.Prelude.{◌≡◌, ◌-◌, ◌<◌, ◌∷◌, [], ℕ, List, length, OnOk, IfOk};
 ghost use Rattle.arch_base.specs.Counts.{HasCause};
-ghost use Rattle.disk_model.specs.Disk.{Image, BothTold, WhereTold, Unchanged, LeavesOnly};
+ghost use Rattle.disk_model.specs.Disk.{Image, BothTold, WhereTold, Unchanged};
+ghost use Rattle.disk_model.specs.Moments.{LeavesOnly};
 ghost use Rattle.disk_model.specs.Synced.{WritingLeaves, IsWritten};
 ghost use Rattle.root_slots.specs.RootName.{root_name};
 ghost use Rattle.root_slots.specs.Between.{RunsBetween};
@@ -32,7 +33,7 @@ pub fn is_open<D: Disk>(disk: &mut D, slot: Slot) -> Result<bool, DiskFault>
     ensures gate { IfOk result (λ open_.
         WhereTold (IsGateOpen (slot_number slot) open_) (D.content disk.old)) }
     ensures same { BothTold Unchanged (D.content disk.old) (D.content disk.new) }
-    ensures crash { LeavesOnly D.moment D.left_since disk.old disk.new
+    ensures crash { LeavesOnly D.Disk disk.old disk.new
         (Image (D.content disk.old)) }
     ensures cause { HasCause (D.faults disk.old) (D.faults disk.new) result }
 {
@@ -44,7 +45,7 @@ pub fn is_open<D: Disk>(disk: &mut D, slot: Slot) -> Result<bool, DiskFault>
 /// Shuts the gate of a slot, and syncs.
 pub fn shut<D: Disk>(disk: &mut D, slot: Slot) -> Result<(), DiskFault>
     requires size { WhereTold HasRootSize (D.content disk.old) }
-    ensures crash { LeavesOnly D.moment D.left_since disk.old disk.new
+    ensures crash { LeavesOnly D.Disk disk.old disk.new
         (WritingLeaves root_name (slot_number slot) 1 (D.content disk.old)) }
     ensures written { OnOk result (BothTold (IsWritten root_name (slot_number slot)
         (0 ∷ [])) (D.content disk.old) (D.content disk.new)) }
@@ -58,7 +59,7 @@ pub fn shut<D: Disk>(disk: &mut D, slot: Slot) -> Result<(), DiskFault>
 pub fn fill<D: Disk>(disk: &mut D, slot: Slot, root: &Root) -> Result<(), DiskFault>
     requires size { WhereTold HasRootSize (D.content disk.old) }
     requires root { IsRoot root.now }
-    ensures crash { LeavesOnly D.moment D.left_since disk.old disk.new
+    ensures crash { LeavesOnly D.Disk disk.old disk.new
         (WritingLeaves root_name (body_offset (slot_number slot)) body_size (D.content disk.old)) }
     ensures written { OnOk result (BothTold (IsWritten root_name (body_offset (slot_number slot))
         (spelling root.now)) (D.content disk.old) (D.content disk.new)) }
@@ -72,7 +73,7 @@ pub fn fill<D: Disk>(disk: &mut D, slot: Slot, root: &Root) -> Result<(), DiskFa
 /// Opens the gate of a slot, and syncs.
 pub fn raise<D: Disk>(disk: &mut D, slot: Slot) -> Result<(), DiskFault>
     requires size { WhereTold HasRootSize (D.content disk.old) }
-    ensures crash { LeavesOnly D.moment D.left_since disk.old disk.new
+    ensures crash { LeavesOnly D.Disk disk.old disk.new
         (WritingLeaves root_name (slot_number slot) 1 (D.content disk.old)) }
     ensures written { OnOk result (BothTold (IsWritten root_name (slot_number slot)
         (1 ∷ [])) (D.content disk.old) (D.content disk.new)) }
@@ -87,7 +88,7 @@ pub fn raise<D: Disk>(disk: &mut D, slot: Slot) -> Result<(), DiskFault>
 fn write_slot<D: Disk>(disk: &mut D, slot: Slot, root: &Root) -> Result<(), DiskFault>
     requires size { WhereTold HasRootSize (D.content disk.old) }
     requires root { IsRoot root.now }
-    ensures crash { LeavesOnly D.moment D.left_since disk.old disk.new (λ image.
+    ensures crash { LeavesOnly D.Disk disk.old disk.new (λ image.
         WhereTold (λ k. ComesBy (IsInCommit (slot_number slot) (spelling root.now)) k image)
         (D.content disk.old)) }
     ensures written { OnOk result (BothTold (HasNewRoot (slot_number slot) (spelling root.now))
@@ -112,7 +113,7 @@ pub fn commit<D: Disk>(disk: &mut D, slot: Slot, root: &Root) -> Result<(), Disk
     // At each moment a crash leaves the old root or the new one, and all other files as before.
     ensures crash { (old : List ℕ) → EachRoot (Ready (slot_number slot) old)
         (D.content disk.old) → sequence_of old < root.now.sequence
-        → LeavesOnly D.moment D.left_since disk.old disk.new
+        → LeavesOnly D.Disk disk.old disk.new
         (IsOldOrNew old (spelling root.now) (D.content disk.old)) }
     // After `Ok` a crash leaves the new one.
     ensures done { (old : List ℕ) → EachRoot (Ready (slot_number slot) old) (D.content disk.old)
@@ -125,7 +126,7 @@ pub fn commit<D: Disk>(disk: &mut D, slot: Slot, root: &Root) -> Result<(), Disk
         → OnOk result
         (EachRoot (Ready (1 - slot_number slot) (spelling root.now)) (D.content disk.new)) }
     // No other file changes, whatever the root file holds.
-    ensures elsewhere { LeavesOnly D.moment D.left_since disk.old disk.new
+    ensures elsewhere { LeavesOnly D.Disk disk.old disk.new
         (OthersStayInImage (D.content disk.old)) }
     // After `Ok` the slot has the body and an open gate, and the rest of the root file is as it
     // was.
@@ -134,7 +135,7 @@ pub fn commit<D: Disk>(disk: &mut D, slot: Slot, root: &Root) -> Result<(), Disk
     ensures whole { OnOk result (length (spelling root.now) ≡ body_size) }
     ensures committed { OnOk result (BothTold IsCommitted (D.content disk.old) (D.content disk.new)) }
     // At each moment the bytes between the gates and the bodies are as before.
-    ensures crash_between { RunsBetween D.content D.moment D.left_since disk.old disk.new }
+    ensures crash_between { RunsBetween D.Disk disk.old disk.new }
     ensures cause { HasCause (D.faults disk.old) (D.faults disk.new) result }
     ensures count { D.reads disk.new ≡ D.reads disk.old }
 {

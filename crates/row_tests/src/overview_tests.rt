@@ -1,5 +1,5 @@
 //! The overview of rows, beside what the rules say of them.
-use arch_base::{Bytes, Id20, NoMemory, Numbers, Texts};
+use arch_base::{Bytes, Id20, MessageNumbers, NoMemory, Texts};
 use mail_date::Moment;
 use mail_forms::Row;
 use overview_index::Overview;
@@ -66,7 +66,7 @@ fn overview_of(alloc: Global, order: &[usize; 7]) -> Result<Overview, NoMemory> 
 }
 
 /// Returns whether numbers are the wanted ones.
-fn are(numbers: &Numbers, wanted: &[u64]) -> bool {
+fn are(numbers: &MessageNumbers, wanted: &[u32]) -> bool {
     numbers.as_slice() == wanted
 }
 
@@ -95,7 +95,7 @@ fn pages_by_date(overview: &Overview) -> Result<bool, NoMemory> {
 
 /// Returns whether those of some numbers that have a row come newest first, and each once.
 fn some_by_date(overview: &Overview) -> Result<bool, NoMemory> {
-    let some = overview.newest_first(&[1, 9, 3, 9, 2, 4_294_967_297, 4])?;
+    let some = overview.newest_first(&[1, 9, 3, 9, 2, 4_294_967_294, 4])?;
     let none = overview.newest_first(&[3])?;
     Ok(are(&some, &[9, 4, 1, 2]) && are(&none, &[]))
 }

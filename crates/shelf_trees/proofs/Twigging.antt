@@ -9,10 +9,11 @@ use Rattle.std.proofs.lemmas.Slice.Eq.{bytes_eq-Decides}
 use Rattle.thread_model.specs.Members.{Among}
 use Rattle.thread_model.proofs.Members.{among-any, none-any}
 use Rattle.arch_model.specs.Archives.{Entry}
+use Rattle.arch_model.specs.Listings.{row_in}
 use Rattle.arch_model.specs.Threading.{thread_in}
 use Rattle.thread_tree.specs.Trees.{names_id}
 use Rattle.thread_tree.specs.declared.twigs.Twig.{Twig}
-use Rattle.shelf_trees.specs.Twigs.{with_twig, with_row, row_at, twigs_after, thread_twigs}
+use Rattle.shelf_trees.specs.Twigs.{with_twig, with_row, twigs_after, thread_twigs}
 
 -- No number yet.
 pub twigs-begin : (es : List Entry) (twigs : List Twig) (ns : List ℕ) → twigs ≡ [] → twigs_after es twigs (drop 0 ns) ≡ twigs_after es [] ns
@@ -20,7 +21,7 @@ twigs-begin es twigs [] none = none
 twigs-begin es twigs (n ∷ ns) none = ap (λ (ts : List Twig). twigs_after es ts (n ∷ ns)) none
 
 -- One number more.
-pub twigs-more : (es : List Entry) (old new all : List Twig) (ns : List ℕ) (i d : ℕ) → i < length ns → new ≡ with_row old (row_at es (get_or ns i d)) → twigs_after es old (drop i ns) ≡ all → twigs_after es new (drop (i + 1) ns) ≡ all
+pub twigs-more : (es : List Entry) (old new all : List Twig) (ns : List ℕ) (i d : ℕ) → i < length ns → new ≡ with_row old (row_in es (get_or ns i d)) → twigs_after es old (drop i ns) ≡ all → twigs_after es new (drop (i + 1) ns) ≡ all
 twigs-more es old new all ns i d below is so_far =
     ap (λ (ts : List Twig). twigs_after es ts (drop (i + 1) ns)) is
     ∙ sym (at_drop_more (twigs_after es old) ns i d below)

@@ -1,5 +1,5 @@
 -- The messages in a thread, as those of a tree.
-use Rattle.std.specs.Prelude.{ℕ, nat_lt, List, [], ◌∷◌, ◌++◌, Option, Some, None, if◌then◌else◌}
+use Rattle.std.specs.Prelude.{ℕ, List, [], ◌∷◌, ◌++◌, Option, Some, None, if◌then◌else◌}
 use Rattle.arch_model.specs.Archives.{Entry}
 use Rattle.arch_model.specs.Listings.{row_in}
 use Rattle.arch_model.specs.Threading.{thread_in}
@@ -21,14 +21,10 @@ abbrev pub with_row : List Twig → Option Row → List Twig
 with_row twigs None = twigs
 with_row twigs (Some row) = with_twig twigs (twig_of row)
 
--- The row of a number of 32 bits, as each number of an archive is, if a message has it.
-abbrev pub row_at : List Entry → ℕ → Option Row
-row_at es n = if nat_lt n 4294967296 then row_in es n else None
-
 -- The messages of these numbers after others, in their order.
 abbrev pub twigs_after : List Entry → List Twig → List ℕ → List Twig
 twigs_after es twigs [] = twigs
-twigs_after es twigs (n ∷ ns) = twigs_after es (with_row twigs (row_at es n)) ns
+twigs_after es twigs (n ∷ ns) = twigs_after es (with_row twigs (row_in es n)) ns
 
 -- The messages in the thread of a number, in the order of their numbers.
 unfoldable pub thread_twigs : List Entry → ℕ → List Twig

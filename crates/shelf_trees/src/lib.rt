@@ -2,9 +2,10 @@
 //! Allocates.
 #![tactic(auto)]
 
-ghost use Rattle.std.specs.Prelude.{◌≡◌, true, OnOk, IfOk, option_copied};
+ghost use Rattle.std.specs.Prelude.{◌≡◌, true, OnOk, IfOk};
 ghost use Rattle.arch_model.specs.Archives.{Archive, live};
-ghost use Rattle.shelf_trees.specs.Twigs.{twig_of, with_twig, with_row, row_at, thread_twigs};
+ghost use Rattle.arch_model.specs.Listings.{row_in};
+ghost use Rattle.shelf_trees.specs.Twigs.{twig_of, with_twig, with_row, thread_twigs};
 
 use arch_base::NoMemory;
 use arch_model::Shelf;
@@ -31,27 +32,14 @@ pub fn twigs_of<S: Shelf>(alloc: Global, n: u32, shelf: &S) -> Result<Twigs, NoM
 }
 
 /// Adds the message of a number, if it is live, unless one with its id is there.
-fn add_number<S: Shelf>(n: u64, shelf: &S, twigs: &mut Twigs) -> Result<(), NoMemory>
+fn add_number<S: Shelf>(n: u32, shelf: &S, twigs: &mut Twigs) -> Result<(), NoMemory>
     requires { S.ready shelf.now ≡ true }
     ensures { (a : Archive) → S.holds shelf.now a
-        → OnOk result (twigs.new ≡ with_row twigs.old (row_at (live a.entries) n)) }
+        → OnOk result (twigs.new ≡ with_row twigs.old (row_in (live a.entries) n)) }
 {
-    match row_of_number(n, shelf) {
+    match shelf.row(n) {
         Some(row) => add_twig(row, twigs),
         None => Ok(()),
-    }
-}
-
-/// Returns the row of a number, if it is live. Numbers of more than 32 bits aren't.
-fn row_of_number<S: Shelf>(n: u64, shelf: &S) -> Option<&Row>
-    requires { S.ready shelf.now ≡ true }
-    ensures { (a : Archive) → S.holds shelf.now a
-        → option_copied result ≡ row_at (live a.entries) n }
-{
-    if n <= u64::from(u32::MAX) {
-        shelf.row(n as u32)
-    } else {
-        None
     }
 }
 

@@ -1,6 +1,7 @@
 -- Calls that only read a disk, one after the other, and what they tell together.
-use Rattle.std.specs.Prelude.{ℕ, Option, Some, None, refl}
+use Rattle.std.specs.Prelude.{Option, Some, None, refl}
 use Rattle.std.proofs.Common.{subst, arith}
+use Rattle.disk_model.specs.declared.disk.Disk.{Ghosts as Disk}
 use Rattle.disk_model.specs.declared.name.FileName.{FileName}
 use Rattle.disk_model.specs.Disk.{Files, Content, Image, BothTold, WhereTold, Unchanged}
 use Rattle.disk_model.specs.Moments.{started, joined}
@@ -13,16 +14,16 @@ pub unchanged_itself : (content : Option Content) → BothTold Unchanged content
 unchanged_itself None = tt
 unchanged_itself (Some k) = λ name. refl
 
-module _ {D : Type 0} (content : D → Option Content) (moment : D → ℕ) (left_since : D → ℕ → Files → Type 0) (faults : D → ℕ) where
+module _ {D : Type 0} (g : Disk D) where
   -- No call.
-  pub reads_none : (old : D) → ((image : Files) → left_since old (moment old) image → Image (content old) image) → OnlyReads content moment left_since faults old old
-  reads_none old now = record { same = unchanged_itself (content old); crash = started moment left_since old (Image (content old)) now; later = omega arith }
+  pub reads_none : (old : D) → ((image : Files) → g.left_since old (g.moment old) image → Image (g.content old) image) → OnlyReads g old old
+  reads_none old now = record { same = unchanged_itself (g.content old); crash = started g old (Image (g.content old)) now; later = omega arith }
 
   -- Two runs.
-  pub reads_both : (old mid new : D) → OnlyReads content moment left_since faults old mid → OnlyReads content moment left_since faults mid new → OnlyReads content moment left_since faults old new
+  pub reads_both : (old mid new : D) → OnlyReads g old mid → OnlyReads g mid new → OnlyReads g old new
   reads_both old mid new p q = record {
-    same = unchanged_more (content old) (content mid) (content new) p.same q.same;
-    crash = joined moment left_since old mid new (Image (content old)) (Image (content mid)) (Image (content old)) p.crash q.crash (λ image left. left) (λ image. unchanged_image (content old) (content mid) image p.same);
+    same = unchanged_more (g.content old) (g.content mid) (g.content new) p.same q.same;
+    crash = joined g old mid new (Image (g.content old)) (Image (g.content mid)) (Image (g.content old)) p.crash q.crash (λ image left. left) (λ image. unchanged_image (g.content old) (g.content mid) image p.same);
     later = omega (arith, p.later, q.later);
   }
 

@@ -2,7 +2,8 @@
 //! Reads the disk.
 ghost use Rattle.std.specs.Prelude.{◌≡◌, ◌≢◌, ◌+◌, ◌<◌, ◌≤◌, Err, IfOk, get_or};
 ghost use Rattle.arch_base.specs.Counts.{Rose, RoseIf};
-ghost use Rattle.disk_model.specs.Disk.{Image, BothTold, WhereTold, Unchanged, LeavesOnly};
+ghost use Rattle.disk_model.specs.Disk.{Image, BothTold, WhereTold, Unchanged};
+ghost use Rattle.disk_model.specs.Moments.{LeavesOnly};
 ghost use Rattle.disk_model.specs.Sizes.{epoch_count, greatest_epoch};
 ghost use Rattle.arch_model.specs.declared.opening.OpenRefusal.{OpenRefusal};
 ghost use Rattle.number_map.specs.Records.{AreRecordsFrom};
@@ -78,7 +79,7 @@ fn find_root<D: Disk>(disk: &mut D) -> Result<(Slot, Root), OpenRefusal>
     ensures found { WhereTold (λ k. FindsRoot (as_read k) result) (D.content disk.old) }
     ensures valid { IfOk result (λ found. IsRoot found.1) }
     ensures fits { IfOk result (λ found. RootFits found.1) }
-    ensures reads { OnlyReads D.content D.moment D.left_since D.faults disk.old disk.new }
+    ensures reads { OnlyReads D.Disk disk.old disk.new }
     ensures fault { result ≡ Err OpenRefusal.DiskFault
         → Rose (D.faults disk.old) (D.faults disk.new) }
     ensures steady { result ≢ Err OpenRefusal.DiskFault → D.faults disk.new ≡ D.faults disk.old }
@@ -102,7 +103,7 @@ fn find_records<D: Disk>(alloc: Global, disk: &mut D, root: &Root) -> Result<Rec
     requires root { IsRoot root.now }
     ensures found { WhereTold (λ k. FindsRecords root.now (as_read k) result) (D.content disk.old) }
     ensures valid { IfOk result (AreRecordsFrom 1) }
-    ensures reads { OnlyReads D.content D.moment D.left_since D.faults disk.old disk.new }
+    ensures reads { OnlyReads D.Disk disk.old disk.new }
     ensures fault { result ≡ Err OpenRefusal.DiskFault
         → Rose (D.faults disk.old) (D.faults disk.new) }
     ensures steady { result ≢ Err OpenRefusal.DiskFault → D.faults disk.new ≡ D.faults disk.old }
@@ -134,7 +135,7 @@ fn take<D: Disk>(
     ensures below { IfOk result (λ joined. AreBefore (epoch + 1) joined.entries) }
     ensures named { LieIn 0 (named_length root.now epoch) seen → AreNamed root.now joining.entries
         → IfOk result (λ joined. AreNamed root.now joined.entries) }
-    ensures reads { OnlyReads D.content D.moment D.left_since D.faults disk.old disk.new }
+    ensures reads { OnlyReads D.Disk disk.old disk.new }
     ensures fault { result ≡ Err OpenRefusal.DiskFault
         → Rose (D.faults disk.old) (D.faults disk.new) }
     ensures steady { result ≢ Err OpenRefusal.DiskFault → D.faults disk.new ≡ D.faults disk.old }
@@ -169,7 +170,7 @@ fn stop_in<D: Disk>(
     requires before { AreBefore epoch joining.entries }
     ensures stops { WhereTold (λ k.
         StopsSeen root.now epoch joining at seen result (as_read k)) (D.content disk.old) }
-    ensures reads { OnlyReads D.content D.moment D.left_since D.faults disk.old disk.new }
+    ensures reads { OnlyReads D.Disk disk.old disk.new }
     ensures fault { result ≡ OpenRefusal.DiskFault → Rose (D.faults disk.old) (D.faults disk.new) }
     ensures steady { result ≢ OpenRefusal.DiskFault → D.faults disk.new ≡ D.faults disk.old }
 {
@@ -200,7 +201,7 @@ fn stop_at<D: Disk>(
     requires before { AreBefore epoch joining.entries }
     ensures stops { WhereTold (λ k.
         StopsEpoch root.now epoch joining at result (as_read k)) (D.content disk.old) }
-    ensures reads { OnlyReads D.content D.moment D.left_since D.faults disk.old disk.new }
+    ensures reads { OnlyReads D.Disk disk.old disk.new }
     ensures fault { result ≡ OpenRefusal.DiskFault → Rose (D.faults disk.old) (D.faults disk.new) }
     ensures steady { result ≢ OpenRefusal.DiskFault → D.faults disk.new ≡ D.faults disk.old }
 {
@@ -235,7 +236,7 @@ fn join_epoch<D: Disk>(
     ensures below { IfOk result (λ joined. AreBefore (epoch + 1) joined.entries) }
     ensures named { AreNamed root.now joining.entries
         → IfOk result (λ joined. AreNamed root.now joined.entries) }
-    ensures reads { OnlyReads D.content D.moment D.left_since D.faults disk.old disk.new }
+    ensures reads { OnlyReads D.Disk disk.old disk.new }
     ensures fault { result ≡ Err OpenRefusal.DiskFault
         → Rose (D.faults disk.old) (D.faults disk.new) }
     ensures steady { result ≢ Err OpenRefusal.DiskFault → D.faults disk.new ≡ D.faults disk.old }
@@ -265,7 +266,7 @@ fn join_all<D: Disk>(
     ensures below { IfOk result (λ joined. AreBefore epoch_count joined.entries) }
     ensures named { AreNamed root.now joining.entries
         → IfOk result (λ joined. AreNamed root.now joined.entries) }
-    ensures reads { OnlyReads D.content D.moment D.left_since D.faults disk.old disk.new }
+    ensures reads { OnlyReads D.Disk disk.old disk.new }
     ensures fault { result ≡ Err OpenRefusal.DiskFault
         → Rose (D.faults disk.old) (D.faults disk.new) }
     ensures steady { result ≢ Err OpenRefusal.DiskFault → D.faults disk.new ≡ D.faults disk.old }
@@ -309,7 +310,7 @@ fn read_epochs<D: Disk>(
         KeepsBy root.now records.now result (as_read k)) (D.content disk.old) }
     ensures small { IfOk result (λ kept. AreBefore epoch_count kept) }
     ensures named { IfOk result (AreNamed root.now) }
-    ensures reads { OnlyReads D.content D.moment D.left_since D.faults disk.old disk.new }
+    ensures reads { OnlyReads D.Disk disk.old disk.new }
     ensures fault { result ≡ Err OpenRefusal.DiskFault
         → Rose (D.faults disk.old) (D.faults disk.new) }
     ensures steady { result ≢ Err OpenRefusal.DiskFault → D.faults disk.new ≡ D.faults disk.old }
@@ -334,7 +335,7 @@ fn find_entries<D: Disk>(
     ensures found { WhereTold (λ k. FindsEntries root.now (as_read k) result) (D.content disk.old) }
     ensures small { IfOk result (λ kept. AreBefore epoch_count kept) }
     ensures named { IfOk result (AreNamed root.now) }
-    ensures reads { OnlyReads D.content D.moment D.left_since D.faults disk.old disk.new }
+    ensures reads { OnlyReads D.Disk disk.old disk.new }
     ensures fault { result ≡ Err OpenRefusal.DiskFault
         → Rose (D.faults disk.old) (D.faults disk.new) }
     ensures steady { result ≢ Err OpenRefusal.DiskFault → D.faults disk.new ≡ D.faults disk.old }
@@ -362,8 +363,7 @@ pub fn find<D: Disk>(alloc: Global, disk: &mut D) -> Result<Found, OpenRefusal>
     ensures named { IfOk result (λ found. AreNamed found.root found.entries.items) }
     ensures indexed { IfOk result (λ found. IndexesStored found.entries.items found.index) }
     ensures same { BothTold Unchanged (D.content disk.old) (D.content disk.new) }
-    ensures crash { LeavesOnly D.moment D.left_since disk.old disk.new
-        (Image (D.content disk.old)) }
+    ensures crash { LeavesOnly D.Disk disk.old disk.new (Image (D.content disk.old)) }
     ensures cause { RoseIf (result ≡ Err OpenRefusal.DiskFault) (D.faults disk.old) (D.faults disk.new) }
 {
     match find_root(disk) {

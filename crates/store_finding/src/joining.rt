@@ -221,7 +221,7 @@ impl Joining {
         requires small { epoch ≤ greatest_epoch }
         ensures compared { WhereTold (λ k.
             ComparesText root.now self.now epoch seen.now result (as_read k)) (D.content disk.old) }
-        ensures reads { OnlyReads D.content D.moment D.left_since D.faults disk.old disk.new }
+        ensures reads { OnlyReads D.Disk disk.old disk.new }
         ensures fault { result ≡ Err JoinRefusal.DiskFault
             → Rose (D.faults disk.old) (D.faults disk.new) }
         ensures steady { result ≢ Err JoinRefusal.DiskFault → D.faults disk.new ≡ D.faults disk.old }
@@ -251,7 +251,7 @@ impl Joining {
         ensures below { (most : ℕ) → AreBefore most self.entries → epoch < most
             → IfOk result (λ joining. AreBefore most joining.entries) }
         ensures grown { IfOk result (IsGrown self epoch seen) }
-        ensures reads { OnlyReads D.content D.moment D.left_since D.faults disk.old disk.new }
+        ensures reads { OnlyReads D.Disk disk.old disk.new }
         ensures fault { result ≡ Err JoinRefusal.DiskFault
             → Rose (D.faults disk.old) (D.faults disk.new) }
         ensures steady { result ≢ Err JoinRefusal.DiskFault → D.faults disk.new ≡ D.faults disk.old }
@@ -285,7 +285,7 @@ impl Joining {
         ensures below { IfOk result (λ joining. AreBefore (epoch + 1) joining.entries) }
         ensures named { LieIn 0 (named_length root.now epoch) seen → AreNamed root.now self.entries
             → IfOk result (λ joining. AreNamed root.now joining.entries) }
-        ensures reads { OnlyReads D.content D.moment D.left_since D.faults disk.old disk.new }
+        ensures reads { OnlyReads D.Disk disk.old disk.new }
         ensures fault { result ≡ Err JoinRefusal.DiskFault
             → Rose (D.faults disk.old) (D.faults disk.new) }
         ensures steady { result ≢ Err JoinRefusal.DiskFault → D.faults disk.new ≡ D.faults disk.old }
@@ -346,7 +346,7 @@ fn seen_text<D: Disk>(
         → TextIn (bytes_of (as_read k (epoch_file_of root.now epoch))) seen.now read
         → text.items ≡ read) (D.content disk.old)) }
     ensures never { (at : ℕ) → result ≢ Err (JoinRefusal.Damaged at) }
-    ensures reads { OnlyReads D.content D.moment D.left_since D.faults disk.old disk.new }
+    ensures reads { OnlyReads D.Disk disk.old disk.new }
     ensures fault { result ≡ Err JoinRefusal.DiskFault
         → Rose (D.faults disk.old) (D.faults disk.new) }
     ensures steady { result ≢ Err JoinRefusal.DiskFault → D.faults disk.new ≡ D.faults disk.old }

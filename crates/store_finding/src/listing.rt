@@ -2,7 +2,8 @@
 //! Reads the disk.
 ghost use Rattle.std.specs.Prelude.{◌≡◌, Err, IfOk};
 ghost use Rattle.arch_base.specs.Counts.{RoseIf};
-ghost use Rattle.disk_model.specs.Disk.{Image, LeavesOnly, BothTold, Unchanged, WhereTold};
+ghost use Rattle.disk_model.specs.Disk.{Image, BothTold, Unchanged, WhereTold};
+ghost use Rattle.disk_model.specs.Moments.{LeavesOnly};
 ghost use Rattle.store_finding.specs.declared.read_refusal.ReadRefusal.{ReadRefusal};
 ghost use Rattle.store_finding.specs.Listing.{AreAllNames};
 
@@ -21,8 +22,7 @@ pub type FileNames = Sequence<FileName>;
 pub fn file_names<D: Disk>(alloc: Global, disk: &mut D) -> Result<FileNames, ReadRefusal>
     ensures names { IfOk result (λ names. WhereTold (AreAllNames names) (D.content disk.old)) }
     ensures same { BothTold Unchanged (D.content disk.old) (D.content disk.new) }
-    ensures crash { LeavesOnly D.moment D.left_since disk.old disk.new
-        (Image (D.content disk.old)) }
+    ensures crash { LeavesOnly D.Disk disk.old disk.new (Image (D.content disk.old)) }
     ensures cause { RoseIf (result ≡ Err ReadRefusal.DiskFault) (D.faults disk.old) (D.faults disk.new) }
     ensures count { D.reads disk.new ≡ D.reads disk.old }
 {

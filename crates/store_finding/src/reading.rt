@@ -2,7 +2,8 @@
 //! Reads the disk.
 ghost use Rattle.std.specs.Prelude.{◌≡◌, ◌≤◌, ◌+◌, Err, IfOk, length};
 ghost use Rattle.arch_base.specs.Counts.{RoseIf};
-ghost use Rattle.disk_model.specs.Disk.{Image, BothTold, WhereTold, Unchanged, LeavesOnly, bytes_of};
+ghost use Rattle.disk_model.specs.Disk.{Image, BothTold, WhereTold, Unchanged, bytes_of};
+ghost use Rattle.disk_model.specs.Moments.{LeavesOnly};
 ghost use Rattle.store_finding.specs.declared.read_refusal.ReadRefusal.{ReadRefusal};
 ghost use Rattle.store_finding.specs.Reading.{StandsAt};
 
@@ -33,8 +34,7 @@ pub fn read_text<D: Disk>(
     ensures found { IfOk result (λ text. WhereTold (λ k.
         StandsAt (bytes_of (k file).seen) offset size text.items) (D.content disk.old)) }
     ensures same { BothTold Unchanged (D.content disk.old) (D.content disk.new) }
-    ensures crash { LeavesOnly D.moment D.left_since disk.old disk.new
-        (Image (D.content disk.old)) }
+    ensures crash { LeavesOnly D.Disk disk.old disk.new (Image (D.content disk.old)) }
     ensures cause { RoseIf (result ≡ Err ReadRefusal.DiskFault) (D.faults disk.old) (D.faults disk.new) }
     ensures fewest { D.reads disk.old ≤ D.reads disk.new }
     ensures count { D.reads disk.new ≤ D.reads disk.old + 1 }

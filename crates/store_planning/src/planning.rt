@@ -20,7 +20,7 @@ ghost use Rattle.store_finding.specs.Kept.{InEpochs, stored_after};
 ghost use Rattle.store_planning.specs.Dropping.{IsStoreEnd};
 
 use crate::next::End;
-use arch_base::{NoMemory, Numbers, ObjectId};
+use arch_base::{MessageNumbers, NoMemory, ObjectId};
 use disk_model::{Disk, FileKind, FileName, WalkRefusal};
 use epoch_file::{EpochPlan, StoreRefusal};
 use git_objects::EntryKind;
@@ -43,7 +43,7 @@ pub struct Planner {
     /// What is kept of the entries that stay.
     entries: Vec<StoredEntry>,
     /// The numbers of the messages that don't stay, which rise.
-    gone: Numbers,
+    gone: MessageNumbers,
     /// The last of these numbers, or 0.
     top: u32,
     /// The plan of the current epoch.
@@ -80,7 +80,7 @@ impl Planner {
             alloc,
             plans: Vec::new(alloc),
             entries: Vec::new(alloc),
-            gone: Numbers::new(alloc),
+            gone: MessageNumbers::new(alloc),
             top: 0,
             current: None,
         }
@@ -110,7 +110,7 @@ impl Planner {
         ensures changes { OnOk result (ChangesNext self.old file.number
             (bytes_eq blob.now.0 entry.now.seen.blob.0) self.new) }
         ensures lies { OnOk result (PlanTakes self.old file entry.now self.new) }
-        ensures reads { OnlyReads D.content D.moment D.left_since D.faults disk.old disk.new }
+        ensures reads { OnlyReads D.Disk disk.old disk.new }
         ensures fewest { D.reads disk.old ≤ D.reads disk.new }
         ensures cause { RoseIf (result ≡ Err StoreRefusal.DiskFault) (D.faults disk.old)
             (D.faults disk.new) }
@@ -148,7 +148,7 @@ impl Planner {
         ensures refused { IfErr result (λ refusal.
             RefusesPlanned plan entry.now (D.content disk.old) refusal) }
         ensures damage { IfErr result (TellsLack plan.file entry.now.seen (D.content disk.old)) }
-        ensures reads { OnlyReads D.content D.moment D.left_since D.faults disk.old disk.new }
+        ensures reads { OnlyReads D.Disk disk.old disk.new }
         ensures fewest { D.reads disk.old ≤ D.reads disk.new }
         ensures cause { RoseIf (result ≡ Err WalkRefusal.DiskFault) (D.faults disk.old)
             (D.faults disk.new) }
@@ -256,7 +256,7 @@ impl Planner {
                     // Not of an archive.
                     return Err(NoMemory);
                 }
-                self.gone.push(u64::from(entry.number))?;
+                self.gone.push(entry.number)?;
                 self.top = entry.number;
                 Ok(())
             }

@@ -1,7 +1,7 @@
 //! The index of threads.
 //! Allocates.
 use crate::tables::Tables;
-use arch_base::{NoMemory, Numbers, Texts};
+use arch_base::{MessageNumbers, NoMemory, Texts};
 use std::alloc::Global;
 use std::marker::Model;
 use std::sync::ledger::Ledger;
@@ -123,7 +123,7 @@ impl ThreadIndex {
 
     /// Returns the numbers of the rows in the thread of a row, rising; none if there is no row of
     /// the number.
-    pub fn members(&self, n: u32) -> Result<Numbers, NoMemory>
+    pub fn members(&self, n: u32) -> Result<MessageNumbers, NoMemory>
         requires { self.now.whole ≡ true }
         ensures members { IfOk result (λ numbers. numbers ≡ members_of self.now.rows n) }
         ensures rising { IfOk result (λ numbers. Rises numbers) }

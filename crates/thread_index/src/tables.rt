@@ -11,7 +11,7 @@ use crate::dividing::{Rows, divide};
 use crate::lists::{ListsByKey, ListsByNumber, list_of, list_of_key, take_list};
 use crate::rising::in_order;
 use crate::taking::{let_go, others};
-use arch_base::{Bytes, NoMemory, Numbers, Texts};
+use arch_base::{Bytes, MessageNumbers, NoMemory, Texts};
 use std::alloc::Global;
 use std::collections::BTreeMap;
 use std::sync::ledger::Ledger;
@@ -85,7 +85,7 @@ impl Tables {
     }
 
     /// Returns the rows in the thread of a row, in rising order.
-    pub(crate) fn members(&self, alloc: Global, n: u32) -> Result<Numbers, NoMemory>
+    pub(crate) fn members(&self, alloc: Global, n: u32) -> Result<MessageNumbers, NoMemory>
         requires { AreTables self.now }
         ensures members { IfOk result (λ numbers. numbers ≡ members_of self.now.rows.entries n) }
         ensures rising { IfOk result (λ numbers. Rises numbers) }

@@ -20,7 +20,7 @@ enum Change {
 /// A change, and the threads of some rows after it.
 struct Case {
     change: Change,
-    threads: &'static [(u32, &'static [u64])],
+    threads: &'static [(u32, &'static [u32])],
 }
 
 /// Three messages, of which the third refers to the others and to one that isn't there; then it is
@@ -124,7 +124,7 @@ fn apply<L: Ledger>(
 }
 
 /// Returns whether the thread of a row is these rows.
-fn has_thread(index: &ThreadIndex, n: u32, wanted: &[u64]) -> Result<bool, NoMemory> {
+fn has_thread(index: &ThreadIndex, n: u32, wanted: &[u32]) -> Result<bool, NoMemory> {
     if !index.is_whole() {
         return Ok(false);
     }
@@ -132,7 +132,7 @@ fn has_thread(index: &ThreadIndex, n: u32, wanted: &[u64]) -> Result<bool, NoMem
 }
 
 /// Returns whether some rows have these threads.
-fn has_threads(index: &ThreadIndex, threads: &[(u32, &[u64])]) -> Result<bool, NoMemory> {
+fn has_threads(index: &ThreadIndex, threads: &[(u32, &[u32])]) -> Result<bool, NoMemory> {
     for (n, wanted) in threads {
         if !has_thread(index, *n, wanted)? {
             return Ok(false);

@@ -5,7 +5,7 @@ ghost use Rattle.thread_model.specs.Members.{has};
 ghost use Rattle.thread_model.specs.Threads.{KeyedRow, reached, round, shares};
 ghost use Rattle.thread_index.specs.Index.{keys_of_row, members_of};
 
-use arch_base::{Bytes, NoMemory, Numbers, Texts};
+use arch_base::{Bytes, MessageNumbers, NoMemory, Texts};
 use std::alloc::Global;
 use std::marker::Model;
 
@@ -55,7 +55,7 @@ impl PlainThreads {
     }
 
     /// Returns the numbers of the rows in the thread of a row, in the order of the rows.
-    pub fn members(&self, alloc: Global, n: u32) -> Result<Numbers, NoMemory>
+    pub fn members(&self, alloc: Global, n: u32) -> Result<MessageNumbers, NoMemory>
         ensures { IfOk result (λ numbers. numbers ≡ members_of self.now n) }
     {
         let rows = self.rows.as_slice();
@@ -154,22 +154,22 @@ fn reach(rows: &[PlainRow], keys: &Texts) -> Result<Texts, NoMemory>
 }
 
 /// Appends the number of a row, if it has one of some keys.
-fn push_number(numbers: &mut Numbers, keys: &[Bytes], row: &PlainRow) -> Result<(), NoMemory>
+fn push_number(numbers: &mut MessageNumbers, keys: &[Bytes], row: &PlainRow) -> Result<(), NoMemory>
     ensures { OnOk result (numbers.new ≡ (if shares keys.now row.now then numbers.old ++ row.now.0
         ∷ [] else numbers.old)) }
 {
     if !shares_key(keys, row.1.as_slice()) {
         return Ok(());
     }
-    numbers.push(u64::from(row.0))
+    numbers.push(row.0)
 }
 
 /// Returns the numbers of the rows that have one of some keys.
-fn numbers_with(alloc: Global, rows: &[PlainRow], keys: &Texts) -> Result<Numbers, NoMemory>
+fn numbers_with(alloc: Global, rows: &[PlainRow], keys: &Texts) -> Result<MessageNumbers, NoMemory>
     ensures { IfOk result (λ numbers. numbers ≡ map (λ (r : KeyedRow). r.0)
         (filter (shares keys.now) rows.now)) }
 {
-    let mut numbers = Numbers::new(alloc);
+    let mut numbers = MessageNumbers::new(alloc);
     for row in rows {
         push_number(&mut numbers, keys.as_slice(), row)?;
     }

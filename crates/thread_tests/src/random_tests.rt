@@ -4,7 +4,7 @@ ghost use Rattle.std.specs.Prelude.{◌≡◌, ◌<◌};
 use crate::plain::PlainThreads;
 use crate::random::Random;
 use crate::rows::{are, letters, sorted};
-use arch_base::{NoMemory, Numbers, Texts};
+use arch_base::{MessageNumbers, NoMemory, Texts};
 use std::alloc::Global;
 use std::marker::Brand;
 use std::sync::ledger::{Blank, Ledger};
@@ -77,8 +77,8 @@ fn same_label(alloc: Global, both: &Both, n: u32, m: u32) -> Result<bool, NoMemo
 }
 
 /// Returns whether a number is one of some.
-fn holds(numbers: &Numbers, m: u32) -> bool {
-    numbers.as_slice().contains(&u64::from(m))
+fn holds(numbers: &MessageNumbers, m: u32) -> bool {
+    numbers.as_slice().contains(&m)
 }
 
 /// Makes a change, and compares the threads of two rows.

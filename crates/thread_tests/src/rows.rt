@@ -1,5 +1,5 @@
 //! Rows for tests, whose keys are letters.
-use arch_base::{Bytes, NoMemory, Numbers, Texts};
+use arch_base::{Bytes, MessageNumbers, NoMemory, Texts};
 use std::alloc::Global;
 
 /// Returns a key for each letter.
@@ -14,13 +14,13 @@ pub(crate) fn letters(alloc: Global, letters: &[u8]) -> Result<Texts, NoMemory> 
 }
 
 /// Returns whether numbers are these.
-pub(crate) fn are(numbers: &Numbers, wanted: &[u64]) -> bool {
+pub(crate) fn are(numbers: &MessageNumbers, wanted: &[u32]) -> bool {
     numbers.as_slice() == wanted
 }
 
 /// Returns numbers in rising order.
-pub(crate) fn sorted(numbers: Numbers) -> Numbers {
+pub(crate) fn sorted(numbers: MessageNumbers) -> MessageNumbers {
     let mut items = numbers.into_vec();
     items.sort_unstable();
-    Numbers::from_vec(items)
+    MessageNumbers::from_vec(items)
 }

@@ -1,5 +1,5 @@
 -- A page of a search, by the newest rows that match.
-use Rattle.std.specs.Prelude.{◌≡◌, ◌+◌, ◌<◌, ◌≤◌, ◌==◌, ℕ, Bool, true, false, List, [], ◌∷◌, ◌++◌, length, take, drop, Some, refl, if◌then◌else◌}
+use Rattle.std.specs.Prelude.{◌≡◌, ◌+◌, ◌≤◌, ◌==◌, ℕ, Bool, true, false, List, [], ◌∷◌, ◌++◌, length, take, drop, Some, refl, if◌then◌else◌}
 use Rattle.std.specs.List.{filter}
 use Rattle.std.specs.Option.{option_map_or}
 use Rattle.std.proofs.Common.{◌∙◌, sym, ap, cond, arith, length-drop}
@@ -13,12 +13,12 @@ use Rattle.query_lang.specs.Matching.{matches}
 use Rattle.arch_model.specs.Archives.{Entry, live}
 use Rattle.arch_model.specs.Listings.{row_at, listing as listed}
 use Rattle.arch_model.specs.Searching.{is_match, matches_at, search}
+use Rattle.arch_model.specs.Validity.{Rise}
 use Rattle.overview_index.specs.Listings.{listing}
 use Rattle.overview_index.proofs.Messages.{listing-is}
 use Rattle.thread_model.proofs.Entries.{true-at, false-at}
 use Rattle.word_index.specs.Rows.{WordRow as Worded, row_at as row_in_words, matching}
-use Rattle.view_set.specs.Viewed.{Viewed, worded_by, worded_of, views_of, searched, AreOrdered, IsFrontFound}
-use Rattle.arch_model.proofs.LiveEntries.{live-all}
+use Rattle.view_set.specs.Viewed.{Viewed, worded_by, worded_of, views_of, searched, IsFrontFound}
 use Rattle.view_set.proofs.Filtering.{filtered}
 use Rattle.view_set.proofs.Searching.{searched-is}
 use Rattle.view_set.proofs.Walking.{live-ascends}
@@ -55,7 +55,7 @@ matching-at query (e ∷ es) n = step (e.number == n) refl (matching-at query es
 
 -- So a page of those is one of the search, where the rows are those of live messages.
 pub page-of-front : (query : Query) (v : Viewed) (numbers page : List ℕ) (skip count : ℕ) → IsFrontFound query v numbers → skip + count ≤ length numbers → page ≡ take count (drop skip numbers)
-    → (entries : List Entry) → AreOrdered entries → v ≡ views_of (live entries) → page ≡ take count (drop skip (search query (live entries)))
+    → (entries : List Entry) → Rise 1 0 entries → v ≡ views_of (live entries) → page ≡ take count (drop skip (search query (live entries)))
 page-of-front query v numbers page skip count front long is entries ordered same =
     let es = live entries in
     let test = matching query (worded_of es) in
@@ -63,9 +63,9 @@ page-of-front query v numbers page skip count front long is entries ordered same
     let are : numbers ≡ filter test (take front.count (listed es)) =
     front.are ∙ ap (λ (w : Viewed). filter (matching query w.words) (take front.count (listing v.rows))) same ∙ ap (λ (ns : List ℕ). filter test (take front.count ns)) all in
     front-page test (listed es) numbers page front.count skip count are long is
-    ∙ ap (λ (ns : List ℕ). take count (drop skip ns)) (filter_agree test (matches_at query es) (matching-at query es) (listed es) ∙ sym (filtered query es (live-ascends 1 0 entries ordered.order)))
+    ∙ ap (λ (ns : List ℕ). take count (drop skip ns)) (filter_agree test (matches_at query es) (matching-at query es) (listed es) ∙ sym (filtered query es (live-ascends 1 0 entries ordered)))
 
 -- All that is found is what the search gives.
-pub searched-ordered : (query : Query) (entries : List Entry) → AreOrdered entries → searched query (views_of (live entries)) ≡ search query (live entries)
+pub searched-ordered : (query : Query) (entries : List Entry) → Rise 1 0 entries → searched query (views_of (live entries)) ≡ search query (live entries)
 searched-ordered query entries ordered =
-    searched-is query 2147483648 (live entries) (omega arith) (live-all (λ (e : Entry). e.number < 2147483648) entries ordered.small) (live-ascends 1 0 entries ordered.order)
+    searched-is query (live entries) (live-ascends 1 0 entries ordered)

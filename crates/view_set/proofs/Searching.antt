@@ -1,10 +1,9 @@
 -- The search among rows and words is the search among the messages.
-use Rattle.std.specs.Prelude.{◌≡◌, ◌+◌, ◌<◌, ◌≤◌, ℕ, Bool, true, false, List, [], ◌∷◌, ◌++◌, map, Some, refl, if◌then◌else◌}
+use Rattle.std.specs.Prelude.{◌≡◌, ◌+◌, ◌<◌, ◌≤◌, ℕ, Bool, true, false, List, [], ◌∷◌, ◌++◌, map, Option, Some, refl, if◌then◌else◌}
 use Rattle.std.specs.List.{AllByRecursion, filter}
 use Rattle.std.specs.Ordering.{nat_cmp}
 use Rattle.std.specs.BTreeMap.{is_at}
 use Rattle.std.proofs.Common.{◌∙◌, ap, cond, arith}
-use Rattle.std.proofs.lemmas.Bool.{lt-ltb}
 use Rattle.mail_forms.specs.declared.row.Row.{Row}
 use Rattle.mime_parts.specs.Words.{mail_words}
 use Rattle.query_lang.specs.Matching.{matches}
@@ -13,9 +12,8 @@ use Rattle.arch_model.specs.Archives.{Archive, Entry, live}
 use Rattle.arch_model.specs.Listings.{row_at, rows_of}
 use Rattle.arch_model.specs.Searching.{is_match, search}
 use Rattle.arch_model.specs.Validity.{IsArchive}
-use Rattle.arch_model.proofs.LiveEntries.{live-all}
-use Rattle.overview_index.specs.Listings.{row_in, under, row_numbered, rows_numbered, listing}
-use Rattle.overview_index.proofs.Messages.{AllBelow, Ascends, listing-is}
+use Rattle.overview_index.specs.Listings.{row_in, under, rows_numbered, listing}
+use Rattle.overview_index.proofs.Messages.{Ascends, listing-is}
 use Rattle.thread_model.proofs.Entries.{true-at, false-at}
 use Rattle.word_index.specs.Rows.{WordRow as Worded, found}
 use Rattle.view_set.specs.Viewed.{worded_by, worded_of, views_of, searched}
@@ -55,29 +53,24 @@ all-found low (e ∷ es) ascends = (
 )
 
 -- So the rows of the numbers of some of them are theirs.
-numbered_row : (rows : List (ℕ × Row)) (e : Entry) → e.number < 4294967296 → IsFound rows e → row_numbered rows e.number ≡ (e.number, row_at e) ∷ []
-numbered_row rows e small found =
-    ap (λ (t : Bool). cond t (under e.number (row_in rows e.number)) []) (lt-ltb e.number 4294967296 small)
-    ∙ ap (under e.number) found
-
-rows_step : (t : Bool) (rows : List (ℕ × Row)) (e : Entry) (es : List Entry) → row_numbered rows e.number ≡ (e.number, row_at e) ∷ [] → rows_numbered rows (numbers_of es) ≡ rows_of es
+rows_step : (t : Bool) (rows : List (ℕ × Row)) (e : Entry) (es : List Entry) → IsFound rows e → rows_numbered rows (numbers_of es) ≡ rows_of es
     → rows_numbered rows (numbers_of (if t then e ∷ es else es)) ≡ rows_of (if t then e ∷ es else es)
-rows_step true rows e es one ih = ap (λ (r : List (ℕ × Row)). r ++ rows_numbered rows (numbers_of es)) one ∙ ap (λ (rs : List (ℕ × Row)). (e.number, row_at e) ∷ rs) ih
-rows_step false rows e es one ih = ih
+rows_step true rows e es found ih =
+    ap (λ (row : Option Row). under e.number row ++ rows_numbered rows (numbers_of es)) found
+    ∙ ap (λ (rs : List (ℕ × Row)). (e.number, row_at e) ∷ rs) ih
+rows_step false rows e es found ih = ih
 
-rows-matched : (query : Query) (rows : List (ℕ × Row)) (next : ℕ) (es : List Entry) → next ≤ 2147483648 → AllBelow next es → AllByRecursion (IsFound rows) es → rows_numbered rows (numbers_of (filter (is_match query) es)) ≡ rows_of (filter (is_match query) es)
-rows-matched query rows next [] most below all = refl
-rows-matched query rows next (e ∷ es) most below all =
-    let small : e.number < next = below.0 in
-    rows_step (is_match query e) rows e (filter (is_match query) es) (numbered_row rows e (omega (arith, small, most)) all.0) (rows-matched query rows next es most below.1 all.1)
+rows-matched : (query : Query) (rows : List (ℕ × Row)) (es : List Entry) → AllByRecursion (IsFound rows) es → rows_numbered rows (numbers_of (filter (is_match query) es)) ≡ rows_of (filter (is_match query) es)
+rows-matched query rows [] all = refl
+rows-matched query rows (e ∷ es) all =
+    rows_step (is_match query e) rows e (filter (is_match query) es) all.0 (rows-matched query rows es all.1)
 
-pub searched-is : (query : Query) (next : ℕ) (es : List Entry) → next ≤ 2147483648 → AllBelow next es → Ascends 1 es → searched query (views_of es) ≡ search query es
+pub searched-is : (query : Query) (es : List Entry) → Ascends 1 es → searched query (views_of es) ≡ search query es
 unfolding search
-searched-is query next es most below ascends =
+searched-is query es ascends =
     ap (λ (ns : List ℕ). listing (rows_numbered (rows_of es) ns)) (found-is query es)
-    ∙ ap listing (rows-matched query (rows_of es) next es most below (all-found 1 es ascends))
+    ∙ ap listing (rows-matched query (rows_of es) es (all-found 1 es ascends))
     ∙ listing-is (filter (is_match query) es)
 
 pub search-is : (query : Query) (a : Archive) → IsArchive a → searched query (views_of (live a.entries)) ≡ search query (live a.entries)
-search-is query a valid =
-    searched-is query a.next (live a.entries) valid.next_most (live-all (λ (e : Entry). e.number < a.next) a.entries valid.below) (live-ascends 1 0 a.entries valid.order)
+search-is query a valid = searched-is query (live a.entries) (live-ascends 1 0 a.entries valid.order)

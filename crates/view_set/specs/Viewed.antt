@@ -1,12 +1,11 @@
 -- What views hold of live messages: their rows, and their words.
-use Rattle.std.specs.Prelude.{◌≡◌, ◌<◌, ℕ, List, [], ◌∷◌, take}
-use Rattle.std.specs.List.{AllByRecursion, filter}
+use Rattle.std.specs.Prelude.{◌≡◌, ℕ, List, [], ◌∷◌, take}
+use Rattle.std.specs.List.{filter}
 use Rattle.std.specs.BTreeMap.{insert_entry, is_at}
 use Rattle.std.specs.Map.{keys_of, remove_entry}
 use Rattle.std.specs.Ordering.{nat_cmp}
 use Rattle.arch_model.specs.Archives.{Entry}
 use Rattle.arch_model.specs.Listings.{row_at, rows_of}
-use Rattle.arch_model.specs.Validity.{Rise}
 use Rattle.mail_forms.specs.declared.row.Row.{Row}
 use Rattle.mime_parts.specs.Words.{mail_words}
 use Rattle.overview_index.specs.Listings.{with_row, without, rows_numbered, listing}
@@ -59,11 +58,6 @@ searched query v = listing (rows_numbered v.rows (found query v.words))
 pub record IsFrontFound (query : Query) (v : Viewed) (numbers : List ℕ) : Type 0 where
   pub count : ℕ
   pub are : numbers ≡ filter (matching query v.words) (take count (listing v.rows))
-
--- Entries in order, whose numbers have at most 31 bits.
-pub record AreOrdered (entries : List Entry) : Type 0 where
-  pub order : Rise 1 0 entries
-  pub small : AllByRecursion (λ (e : Entry). e.number < 2147483648) entries
 
 -- There are words of just the numbers that have a row.
 abbrev pub AreWorded : List (ℕ × Row) → List (ℕ × Worded) → Type 0

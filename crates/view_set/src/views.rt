@@ -6,13 +6,14 @@ ghost use Rattle.thread_model.specs.Members.{Rises};
 ghost use Rattle.view_set.specs.Threads.{thread_in};
 ghost use Rattle.arch_model.specs.Archives.{Entry, live};
 ghost use Rattle.arch_model.specs.Searching.{search as search_in};
-ghost use Rattle.view_set.specs.Viewed.{no_mails, with_mail, without_mail, views_of, searched, AreOrdered, IsFrontFound};
+ghost use Rattle.arch_model.specs.Validity.{Rise};
+ghost use Rattle.view_set.specs.Viewed.{no_mails, with_mail, without_mail, views_of, searched, IsFrontFound};
 ghost use Rattle.word_index.specs.Rows.{found};
 
 use crate::counted::take_thread;
 use crate::keys::keys_of;
 use crate::posting::post;
-use arch_base::{NoMemory, Numbers};
+use arch_base::{MessageNumbers, NoMemory};
 use mail_forms::Row;
 use overview_index::Overview;
 use query_lang::{Query, utc_day};
@@ -149,7 +150,7 @@ impl Views {
     /// both falling. These are so many after so many that are skipped, or as many as there are.
     ///
     /// `NoMemory` if an allocation fails.
-    pub fn page(&self, skip: u64, count: u64) -> Result<Numbers, NoMemory>
+    pub fn page(&self, skip: u64, count: u64) -> Result<MessageNumbers, NoMemory>
         ensures { IfOk result (λ page. page ≡ take count (drop skip (listing self.now.rows))) }
     {
         self.overview.page(skip, count)
@@ -158,7 +159,7 @@ impl Views {
     /// Returns the numbers of the rows in the thread of a number, rising, or none if it has no row.
     ///
     /// `NoMemory` if an allocation fails, or if one failed before when the threads were changed.
-    pub fn thread_of(&self, n: u32) -> Result<Numbers, NoMemory>
+    pub fn thread_of(&self, n: u32) -> Result<MessageNumbers, NoMemory>
         ensures members { IfOk result (λ numbers. numbers ≡ thread_in self.now.rows n) }
         ensures rising { IfOk result (λ numbers. Rises numbers) }
     {
@@ -171,7 +172,7 @@ impl Views {
     /// Returns the numbers of the rows whose words and days match a query, rising.
     ///
     /// `NoMemory` if an allocation fails.
-    pub fn find(&self, query: &Query) -> Result<Numbers, NoMemory>
+    pub fn find(&self, query: &Query) -> Result<MessageNumbers, NoMemory>
         ensures { IfOk result (λ numbers. numbers ≡ found query.now self.now.words) }
     {
         self.words.find(query)
@@ -181,7 +182,7 @@ impl Views {
     /// orders them. Its cost is that of `find`, and an order of the numbers that are found.
     ///
     /// `NoMemory` if an allocation fails.
-    pub fn search(&self, query: &Query) -> Result<Numbers, NoMemory>
+    pub fn search(&self, query: &Query) -> Result<MessageNumbers, NoMemory>
         ensures { IfOk result (λ numbers. numbers ≡ searched query.now self.now) }
     {
         let numbers = self.find(query)?;
@@ -195,8 +196,13 @@ impl Views {
     /// Where the smallest list of the query's words is long enough, the newest rows are looked at
     /// first, up to as many as the list has. So a page of much that is found costs what it shows and
     /// skips, and any other one at most twice what `search` does. `NoMemory` if an allocation fails.
-    pub fn search_page(&self, query: &Query, skip: u64, count: u64) -> Result<Numbers, NoMemory>
-        ensures { (entries : List Entry) → AreOrdered entries → self.now ≡ views_of (live entries)
+    pub fn search_page(
+        &self,
+        query: &Query,
+        skip: u64,
+        count: u64,
+    ) -> Result<MessageNumbers, NoMemory>
+        ensures { (entries : List Entry) → Rise 1 0 entries → self.now ≡ views_of (live entries)
             → IfOk result (λ page. page
             ≡ take count (drop skip (search_in query.now (live entries)))) }
     {
@@ -211,8 +217,8 @@ impl Views {
     }
 
     /// Returns a part of what `search` gives.
-    fn search_part(&self, query: &Query, skip: u64, count: u64) -> Result<Numbers, NoMemory>
-        ensures { (entries : List Entry) → AreOrdered entries → self.now ≡ views_of (live entries)
+    fn search_part(&self, query: &Query, skip: u64, count: u64) -> Result<MessageNumbers, NoMemory>
+        ensures { (entries : List Entry) → Rise 1 0 entries → self.now ≡ views_of (live entries)
             → IfOk result (λ page. page
             ≡ take count (drop skip (search_in query.now (live entries)))) }
     {
@@ -223,18 +229,18 @@ impl Views {
     /// Returns the numbers of the newest rows that match a query: of so many rows that there are
     /// `wanted` numbers, if these are among the first rows of the listing, as many as the smallest
     /// list of the query's words has.
-    fn newest_found(&self, query: &Query, wanted: u64) -> Result<Numbers, NoMemory>
+    fn newest_found(&self, query: &Query, wanted: u64) -> Result<MessageNumbers, NoMemory>
         ensures { IfOk result (λ numbers. IsFrontFound query.now self.now numbers) }
     {
         let most = self.words.most_found(query)? as u64;
-        let mut found = Numbers::new(self.alloc);
+        let mut found = MessageNumbers::new(self.alloc);
         if most < wanted {
             return Ok(found);
         }
         let mut at = 0;
         while at < most && (found.as_slice().len() as u64) < wanted {
             let count = STEP.min(most - at);
-            let rows = self.overview.newest(at, count)?;
+            let rows = self.overview.page(at, count)?;
             self.words
                 .append_matches(query, rows.as_slice(), &mut found)?;
             at += count;
@@ -244,11 +250,16 @@ impl Views {
 }
 
 /// Returns so many numbers after so many that are skipped, or as many as there are.
-fn part_of(alloc: Global, numbers: &[u64], skip: u64, count: u64) -> Result<Numbers, NoMemory>
+fn part_of(
+    alloc: Global,
+    numbers: &[u32],
+    skip: u64,
+    count: u64,
+) -> Result<MessageNumbers, NoMemory>
     ensures { IfOk result (λ part. part ≡ take count (drop skip numbers.now)) }
 {
     let start = numbers.len().min(skip as usize);
     let rest = numbers.split_at(start).1;
     let shown = rest.split_at(rest.len().min(count as usize)).0;
-    Ok(Numbers::from_vec(Vec::from_slice(alloc, shown)?))
+    Ok(MessageNumbers::from_vec(Vec::from_slice(alloc, shown)?))
 }

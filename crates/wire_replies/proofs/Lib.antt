@@ -1,3 +1,4 @@
 pub mod Wording
 pub mod Blocks
 pub mod Speaking
+pub mod Parts

@@ -2,7 +2,7 @@
 //! Pure.
 ghost use Rattle.std.specs.Prelude.{◌≡◌, ◌+◌, ◌≤◌, ◌++◌, [], length, drop, decimal, OnErr};
 ghost use Rattle.std.specs.List.{prefix_len};
-ghost use Rattle.edge_io.specs.Phrases.{Says};
+ghost use Rattle.edge_io.specs.Phrases.{SaysTo};
 ghost use Rattle.mail_forms.specs.WireForms.{wire_of};
 ghost use Rattle.wire_replies.specs.Blocks.{block_line, block_lines};
 ghost use Rattle.wire_replies.specs.Changed.{is_unchanged as unchanged, first_sent as first_sent_of, dot_before};
@@ -131,8 +131,7 @@ impl Waiting {
     /// `SinkFault` if the write failed. A prefix of them was taken, and the sink's count of faults
     /// rose. None wait after either.
     pub fn flush<O: Sink>(&mut self, out: &mut O) -> Result<(), SinkFault>
-        ensures said { Says self.old (O.taken out.old) (O.faults out.old) (O.taken out.new)
-            (O.faults out.new) result }
+        ensures said { SaysTo O.Sink self.old out.old out.new result }
         ensures empty { self.new ≡ [] }
         ensures sink { O.alike out.old out.new }
     {
@@ -143,8 +142,7 @@ impl Waiting {
 
     /// Appends phrases, and writes all that wait.
     pub fn finish<O: Sink>(&mut self, phrases: &[Phrase<'_>], out: &mut O) -> Result<(), SinkFault>
-        ensures said { Says (self.old ++ words_of phrases.now) (O.taken out.old) (O.faults out.old)
-            (O.taken out.new) (O.faults out.new) result }
+        ensures said { SaysTo O.Sink (self.old ++ words_of phrases.now) out.old out.new result }
         ensures sink { O.alike out.old out.new }
     {
         self.push(phrases, out)?;
@@ -247,8 +245,7 @@ impl Waiting {
 /// `SinkFault` if a write failed. A prefix of the reply was taken, and the sink's count of faults
 /// rose.
 pub fn send<O: Sink>(phrases: &[Phrase<'_>], out: &mut O) -> Result<(), SinkFault>
-    ensures said { Says (words_of phrases.now) (O.taken out.old) (O.faults out.old)
-        (O.taken out.new) (O.faults out.new) result }
+    ensures said { SaysTo O.Sink (words_of phrases.now) out.old out.new result }
     ensures sink { O.alike out.old out.new }
 {
     let mut reply = Waiting::new();

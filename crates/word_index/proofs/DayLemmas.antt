@@ -17,7 +17,8 @@ use Rattle.std.specs.BTreeMap.Range.{range_contains}
 use Rattle.std.specs.BTreeSet.{BTreeSet, contains, UpdatesBy}
 use Rattle.query_lang.specs.Matching.{is_between}
 use Rattle.word_index.specs.declared.rows.Dated.{Dated}
-use Rattle.word_index.specs.Rows.{WordRow, row_at, passes_at}
+use Rattle.word_index.specs.declared.rows.KeptRow.{KeptRow}
+use Rattle.word_index.specs.Kept.{KeptRows, kept_at, keeps_at}
 use Rattle.word_index.specs.Days.{dated_cmp, dated, is_within, numbers_between}
 use Rattle.word_index.specs.Tables.{is_of, Lists}
 use Rattle.word_index.specs.Postings.{IsListOf}
@@ -153,10 +154,10 @@ numbers_between-is days first last sorted =
     ∙ same_filter (λ (d : Dated). from d && until d) (λ (d : Dated). is_between d.day first last) (λ d. ap (λ (b : Bool). b && until d) (from_start first d)) days.keys)
 
 -- A row that is of a day of a range.
-within_from : (rows : List (ℕ × WordRow)) (n day first last : ℕ) → passes_at (is_of day) rows n ≡ true → is_between day first last ≡ true → passes_at (is_within first last) rows n ≡ true
-within_from rows n day first last has inside = go (row_at rows n) has
+within_from : (rows : KeptRows) (n day first last : ℕ) → keeps_at (is_of day) rows n ≡ true → is_between day first last ≡ true → keeps_at (is_within first last) rows n ≡ true
+within_from rows n day first last has inside = go (kept_at rows n) has
   where
-    go : (o : Option WordRow) → option_map_or (is_of day) o false ≡ true → option_map_or (is_within first last) o false ≡ true
+    go : (o : Option KeptRow) → option_map_or (is_of day) o false ≡ true → option_map_or (is_within first last) o false ≡ true
     go None h = absurd (cc)
     go (Some row) h = ap (λ (d : ℕ). is_between d first last) (eqb-true row.day day h) ∙ inside
 
@@ -177,11 +178,11 @@ filtered_any p q xs d among passes inside = both_pass xs (among (λ (e : Dated).
         go false k ih = ih k
 
 -- The numbers of the days of a range are the numbers of the rows of these days.
-pub within_is : (rows : List (ℕ × WordRow)) (days : BTreeSet Dated) (first last n : ℕ) → Lists is_of rows (dated days)
-    → list_any (is_at (nat_cmp n)) (map (λ (d : Dated). d.number) (filter (λ (d : Dated). is_between d.day first last) days.keys)) ≡ passes_at (is_within first last) rows n
+pub within_is : (rows : KeptRows) (days : BTreeSet Dated) (first last n : ℕ) → Lists is_of rows (dated days)
+    → list_any (is_at (nat_cmp n)) (map (λ (d : Dated). d.number) (filter (λ (d : Dated). is_between d.day first last) days.keys)) ≡ keeps_at (is_within first last) rows n
 within_is rows days first last n lists =
     any-map (is_at (nat_cmp n)) (λ (d : Dated). d.number) (filter inside days.keys)
-    ∙ both_ways (list_any here (filter inside days.keys)) (passes_at (is_within first last) rows n) there back
+    ∙ both_ways (list_any here (filter inside days.keys)) (keeps_at (is_within first last) rows n) there back
   where
     inside : Dated → Bool
     inside d = is_between d.day first last
@@ -189,22 +190,22 @@ within_is rows days first last n lists =
     here : Dated → Bool
     here d = is_at (nat_cmp n) d.number
 
-    there : list_any here (filter inside days.keys) ≡ true → passes_at (is_within first last) rows n ≡ true
+    there : list_any here (filter inside days.keys) ≡ true → keeps_at (is_within first last) rows n ≡ true
     there h =
         let found = one_filtered here inside days.keys h in
         let d = found.it in
         let kept : dated days d.day d.number ≡ true = found.among (is_at (dated_cmp d)) (at_itself d) in
-        let row : passes_at (is_of d.day) rows d.number ≡ true = sym (lists d.day d.number) ∙ kept in
+        let row : keeps_at (is_of d.day) rows d.number ≡ true = sym (lists d.day d.number) ∙ kept in
         let same : n ≡ d.number = at-same n d.number found.passes in
-        within_from rows n d.day first last (ap (λ (m : ℕ). passes_at (is_of d.day) rows m) same ∙ row) found.inside
+        within_from rows n d.day first last (ap (λ (m : ℕ). keeps_at (is_of d.day) rows m) same ∙ row) found.inside
 
-    back : passes_at (is_within first last) rows n ≡ true → list_any here (filter inside days.keys) ≡ true
-    back h = go (row_at rows n) refl h
+    back : keeps_at (is_within first last) rows n ≡ true → list_any here (filter inside days.keys) ≡ true
+    back h = go (kept_at rows n) refl h
       where
-        go : (o : Option WordRow) → row_at rows n ≡ o → option_map_or (is_within first last) o false ≡ true → list_any here (filter inside days.keys) ≡ true
+        go : (o : Option KeptRow) → kept_at rows n ≡ o → option_map_or (is_within first last) o false ≡ true → list_any here (filter inside days.keys) ≡ true
         go None is k = absurd (cc)
         go (Some row) is k =
-            let own : passes_at (is_of row.day) rows n ≡ true = ap (λ (o : Option WordRow). option_map_or (is_of row.day) o false) is ∙ eq-eqb row.day row.day refl in
+            let own : keeps_at (is_of row.day) rows n ≡ true = ap (λ (o : Option KeptRow). option_map_or (is_of row.day) o false) is ∙ eq-eqb row.day row.day refl in
             let q : Dated = record { day = row.day; number = n } in
             let kept : list_any (is_at (dated_cmp q)) days.keys ≡ true = lists row.day n ∙ own in
             let found = one_of (is_at (dated_cmp q)) days.keys kept in
@@ -213,8 +214,8 @@ within_is rows days first last n lists =
             filtered_any here inside days.keys found.it found.among parts.1 lies
 
 -- The list of the numbers of the days of a range.
-pub within-list : (rows : List (ℕ × WordRow)) (days : BTreeSet Dated) (first last : ℕ) (numbers list : List ℕ) → numbers ≡ numbers_between days first last → IsStrictlySortedBy dated_cmp days.keys → Lists is_of rows (dated days)
-    → IsListOf list (λ n. list_any (is_at (nat_cmp n)) numbers) → IsListOf list (passes_at (is_within first last) rows)
+pub within-list : (rows : KeptRows) (days : BTreeSet Dated) (first last : ℕ) (numbers list : List ℕ) → numbers ≡ numbers_between days first last → IsStrictlySortedBy dated_cmp days.keys → Lists is_of rows (dated days)
+    → IsListOf list (λ n. list_any (is_at (nat_cmp n)) numbers) → IsListOf list (keeps_at (is_within first last) rows)
 within-list rows days first last numbers list is sorted lists listed =
     record {
       rising = listed.rising;

@@ -1,8 +1,11 @@
 pub mod Bools
 pub mod KeyLemmas
+pub mod WordLemmas
+pub mod HeldLemmas
 pub mod PostingLemmas
 pub mod RowLemmas
 pub mod ListLemmas
+pub mod SetLemmas
 pub mod TableLemmas
 pub mod DayLemmas
 pub mod AskedLemmas

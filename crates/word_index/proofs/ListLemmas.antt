@@ -1,6 +1,7 @@
 -- Lists of numbers, and tests of lists.
 use Rattle.std.proofs.Common.{◌≡◌, ℕ, zero, suc, ◌+◌, ◌<◌, Bool, true, false, cond, ◌&&◌, ◌||◌, List, [], ◌∷◌, ◌++◌, length, get_or, take, map, refl, sym, ap, ◌∙◌, arith}
 use Rattle.std.proofs.lemmas.Bool.{or_parts, or_from, both_ways}
+use Rattle.std.proofs.lemmas.Bool.Decides.{nat_tests}
 use Rattle.std.proofs.lemmas.List.{append-nil}
 use Rattle.std.proofs.lemmas.List.Elements.{filter_more}
 use Rattle.std.proofs.lemmas.List.Folds.{list_any_more}
@@ -13,12 +14,7 @@ use Rattle.std.specs.List.Sorted.{IsStrictlySortedBy}
 use Rattle.std.specs.Ordering.{nat_cmp}
 use Rattle.std.specs.BTreeMap.{is_at}
 use Rattle.std.specs.BTreeSet.{BTreeSet}
-use Rattle.std.specs.Rc.{rc_slice_items}
-use Rattle.std.specs.Str.{bytes_eq}
-use Rattle.std.specs.declared.alloc.Global.{Global}
-use Rattle.std.specs.declared.rc.RcSlice.{RcSlice}
-use Rattle.query_lang.specs.Matching.{has_word}
-use Rattle.word_index.specs.Rows.{bytes_of}
+use Rattle.word_index.specs.Kept.{has_number}
 use Rattle.word_index.specs.Postings.{IsListOf}
 
 -- A test of a list of what a function gives.
@@ -37,21 +33,12 @@ any_take p [] (suc i) h = refl
 any_take p (x ∷ xs) (suc i) h =
     let parts = or_parts (p x) (list_any p xs) h in or_from (p x) (list_any p (take i xs)) parts.0 (any_take p xs i parts.1)
 
--- A word of one more word.
-pub has_word-more : (words : List (RcSlice ℕ Global)) (i : ℕ) (word : RcSlice ℕ Global) (w : List ℕ) → i < length words → word ≡ get_or words i word
-    → has_word (bytes_of (take (i + 1) words)) w ≡ (has_word (bytes_of (take i words)) w || bytes_eq (rc_slice_items word) w)
-has_word-more words i word w h is =
-    let is_word : RcSlice ℕ Global → Bool = λ k. bytes_eq (rc_slice_items k) w in
-    any-map (λ (held : List ℕ). bytes_eq held w) (λ (k : RcSlice ℕ Global). rc_slice_items k) (take (i + 1) words)
-    ∙ list_any_more is_word words i word h
-    ∙ ap (λ (k : RcSlice ℕ Global). list_any is_word (take i words) || is_word k) (sym is)
-    ∙ ap (λ (b : Bool). b || is_word word) (sym (any-map (λ (held : List ℕ). bytes_eq held w) (λ (k : RcSlice ℕ Global). rc_slice_items k) (take i words)))
+-- A number of one more number.
+pub has_number-more : (words : List ℕ) (i w : ℕ) → i < length words → has_number (take (i + 1) words) w ≡ (has_number (take i words) w || is_at (nat_cmp (get_or words i 0)) w)
+has_number-more words i w h = list_any_more (λ (held : ℕ). is_at (nat_cmp held) w) words i 0 h
 
-pub has_word-take : (words : List (RcSlice ℕ Global)) (i : ℕ) (w : List ℕ) → has_word (bytes_of words) w ≡ false → has_word (bytes_of (take i words)) w ≡ false
-has_word-take words i w none =
-    let is_word : RcSlice ℕ Global → Bool = λ k. bytes_eq (rc_slice_items k) w in
-    let items : RcSlice ℕ Global → List ℕ = λ k. rc_slice_items k in
-    any-map (λ (held : List ℕ). bytes_eq held w) items (take i words) ∙ any_take is_word words i (sym (any-map (λ (held : List ℕ). bytes_eq held w) items words) ∙ none)
+pub has_number-take : (words : List ℕ) (i w : ℕ) → has_number words w ≡ false → has_number (take i words) w ≡ false
+has_number-take words i w none = any_take (λ (held : ℕ). is_at (nat_cmp held) w) words i none
 
 -- No numbers rise.
 pub rising-none : IsStrictlySortedBy nat_cmp []
@@ -72,6 +59,10 @@ one_list xs ys p is_xs is_ys =
 -- Numbers that are at one place are one.
 pub at-same : (n m : ℕ) → is_at (nat_cmp n) m ≡ true → n ≡ m
 at-same n m h = grind (arith, both_ways)
+
+-- A number is at its own place.
+pub at-itself : (n : ℕ) → is_at (nat_cmp n) n ≡ true
+at-itself n = grind (arith, nat_tests)
 
 -- Those of a list that pass a second test.
 pub IsListOf-filter : (list : List ℕ) (p q : ℕ → Bool) → IsListOf list p → IsListOf (filter q list) (λ n. p n && q n)

@@ -1,5 +1,5 @@
 -- Lists in which all rows of an answer stand, and what is found by them.
-use Rattle.std.proofs.Common.{◌≡◌, ℕ, ◌≤◌, Bool, true, false, cond, ◌&&◌, ◌⊎◌, inl, inr, List, [], ◌∷◌, length, get_or, drop, Option, Some, None, is_some, refl, sym, ap, subst, ◌∙◌, arith}
+use Rattle.std.proofs.Common.{◌≡◌, ℕ, ◌≤◌, Bool, true, false, cond, ◌&&◌, ◌⊎◌, inl, inr, List, [], ◌∷◌, length, get_or, drop, Option, Some, None, is_some, option_map, refl, sym, ap, subst, ◌∙◌, arith}
 use Rattle.std.proofs.lemmas.Bool.{and_parts}
 use Rattle.std.proofs.lemmas.List.Elements.{filter_agree}
 use Rattle.std.proofs.lemmas.Map.Entries.{option_filter, lookup-filter-values}
@@ -18,10 +18,14 @@ use Rattle.query_lang.specs.Matching.{is_between, in_ranges, matches}
 use Rattle.word_index.specs.declared.asking.Asked.{Asked}
 use Rattle.word_index.specs.declared.sources.Source.{Source}
 use Rattle.word_index.specs.declared.sources.Source.TheVariants.{Days}
+use Rattle.word_index.specs.declared.rows.KeptRow.{KeptRow}
 use Rattle.word_index.specs.Rows.{WordRow, row_at, passes_at, matching, found}
+use Rattle.word_index.specs.Kept.{KeptRows, kept_at, keeps_at, shown, shown_all, IsHeld, AllHeld}
 use Rattle.word_index.specs.Postings.{IsListOf}
 use Rattle.word_index.specs.Asked.{matches_asked}
 use Rattle.word_index.specs.Sources.{passes, HasEachMatch, IsDaySource}
+use Rattle.word_index.proofs.HeldLemmas.{held-at}
+use Rattle.word_index.proofs.RowLemmas.{row_at-shown, keys-shown}
 use Rattle.word_index.proofs.ListLemmas.{IsListOf-same, IsListOf-filter, one_list}
 
 -- A range that is asked.
@@ -69,10 +73,10 @@ is_some-filter test (Some row) = go (test row)
     go false = refl
 
 -- The numbers of all rows.
-pub all-list : (rows : List (ℕ × WordRow)) → IsStrictlySortedBy nat_cmp (keys_of rows) → IsListOf (keys_of rows) (passes_at (λ (row : WordRow). true) rows)
-all-list rows rising = record { rising = rising; has = λ n. sym (is_some-lookup (is_at (nat_cmp n)) rows) ∙ there (row_at rows n) }
+pub all-list : (rows : KeptRows) → IsStrictlySortedBy nat_cmp (keys_of rows) → IsListOf (keys_of rows) (keeps_at (λ (row : KeptRow). true) rows)
+all-list rows rising = record { rising = rising; has = λ n. sym (is_some-lookup (is_at (nat_cmp n)) rows) ∙ there (kept_at rows n) }
   where
-    there : (o : Option WordRow) → is_some o ≡ option_map_or (λ (row : WordRow). true) o false
+    there : (o : Option KeptRow) → is_some o ≡ option_map_or (λ (row : KeptRow). true) o false
     there None = refl
     there (Some row) = refl
 
@@ -88,17 +92,31 @@ found-list query rows rising =
           ∙ is_some-filter test (row_at rows n);
     }
 
--- So is what matches in a list in which all rows of the answer stand.
-pub found-is : (query : Query) (rows : List (ℕ × WordRow)) (asked : List Asked) (days : List ℕ) (source : Source) (numbers : List ℕ) → IsStrictlySortedBy nat_cmp (keys_of rows)
-    → ((row : WordRow) → matches query row.words row.day ≡ matches_asked asked days row) → HasEachMatch asked days source → IsListOf numbers (passes_at (passes source) rows)
-    → filter (passes_at (matches_asked asked days) rows) numbers ≡ found query rows
-found-is query rows asked days source numbers rising same is list =
-    one_list (filter (passes_at (matches_asked asked days) rows) numbers) (found query rows) (passes_at (matches_asked asked days) rows)
-    (IsListOf-same (filter (passes_at (matches_asked asked days) rows) numbers) (λ n. passes_at (passes source) rows n && passes_at (matches_asked asked days) rows n) (passes_at (matches_asked asked days) rows)
-    (λ n. stands (row_at rows n)) (IsListOf-filter numbers (passes_at (passes source) rows) (passes_at (matches_asked asked days) rows) list))
-    (IsListOf-same (found query rows) (passes_at (λ (row : WordRow). matches query row.words row.day) rows) (passes_at (matches_asked asked days) rows) (λ n. alike (row_at rows n)) (found-list query rows rising))
+-- A query matches a row exactly if the row has the words that it asks, by their numbers.
+abbrev pub IsAskedBy : List (List ℕ) → Query → List Asked → List ℕ → Type 0
+IsAskedBy words query asked days = (row : KeptRow) → IsHeld words row → let it = shown words row in matches query it.words it.day ≡ matches_asked asked days row
+
+-- So it is for the row of a number.
+asked-at : (words : List (List ℕ)) (query : Query) (asked : List Asked) (days : List ℕ) (rows : KeptRows) → AllHeld words rows → IsAskedBy words query asked days → (n : ℕ) → keeps_at (matches_asked asked days) rows n ≡ matching query (shown_all words rows) n
+asked-at words query asked days rows held same n =
+    go (kept_at rows n) refl ∙ sym (ap (λ (o : Option WordRow). option_map_or (λ (row : WordRow). matches query row.words row.day) o false) (row_at-shown words rows n))
   where
-    stands : (o : Option WordRow) → (option_map_or (passes source) o false && option_map_or (matches_asked asked days) o false) ≡ option_map_or (matches_asked asked days) o false
+    go : (o : Option KeptRow) → kept_at rows n ≡ o → option_map_or (matches_asked asked days) o false ≡ option_map_or (λ (row : WordRow). matches query row.words row.day) (option_map (shown words) o) false
+    go None is = refl
+    go (Some row) is = sym (same row (held-at words rows n row held is))
+
+-- What matches in a list in which all rows of the answer stand is what is found.
+pub found-is : (words : List (List ℕ)) (query : Query) (rows : KeptRows) (asked : List Asked) (days : List ℕ) (source : Source) (numbers : List ℕ) → IsStrictlySortedBy nat_cmp (keys_of rows)
+    → AllHeld words rows → IsAskedBy words query asked days → HasEachMatch asked days source → IsListOf numbers (keeps_at (passes source) rows)
+    → filter (keeps_at (matches_asked asked days) rows) numbers ≡ found query (shown_all words rows)
+found-is words query rows asked days source numbers rising held same is list =
+    one_list (filter (keeps_at (matches_asked asked days) rows) numbers) (found query (shown_all words rows)) (keeps_at (matches_asked asked days) rows)
+    (IsListOf-same (filter (keeps_at (matches_asked asked days) rows) numbers) (λ n. keeps_at (passes source) rows n && keeps_at (matches_asked asked days) rows n) (keeps_at (matches_asked asked days) rows)
+    (λ n. stands (kept_at rows n)) (IsListOf-filter numbers (keeps_at (passes source) rows) (keeps_at (matches_asked asked days) rows) list))
+    (IsListOf-same (found query (shown_all words rows)) (matching query (shown_all words rows)) (keeps_at (matches_asked asked days) rows) (λ n. sym (asked-at words query asked days rows held same n))
+    (found-list query (shown_all words rows) (subst (IsStrictlySortedBy nat_cmp) (sym (keys-shown words rows)) rising)))
+  where
+    stands : (o : Option KeptRow) → (option_map_or (passes source) o false && option_map_or (matches_asked asked days) o false) ≡ option_map_or (matches_asked asked days) o false
     stands None = refl
     stands (Some row) = go (matches_asked asked days row) refl
       where
@@ -110,15 +128,7 @@ found-is query rows asked days source numbers rising same is list =
             none true = refl
             none false = refl
 
-    alike : (o : Option WordRow) → option_map_or (λ (row : WordRow). matches query row.words row.day) o false ≡ option_map_or (matches_asked asked days) o false
-    alike None = refl
-    alike (Some row) = same row
-
 -- Where the words that are asked say when a row matches, those of some numbers match that have them.
-pub matching-is : (query : Query) (rows : List (ℕ × WordRow)) (asked : List Asked) (days numbers : List ℕ) → ((row : WordRow) → matches query row.words row.day ≡ matches_asked asked days row)
-    → filter (passes_at (matches_asked asked days) rows) numbers ≡ filter (matching query rows) numbers
-matching-is query rows asked days numbers same = filter_agree (passes_at (matches_asked asked days) rows) (matching query rows) (λ n. alike (row_at rows n)) numbers
-  where
-    alike : (o : Option WordRow) → option_map_or (matches_asked asked days) o false ≡ option_map_or (λ (row : WordRow). matches query row.words row.day) o false
-    alike None = refl
-    alike (Some row) = sym (same row)
+pub matching-is : (words : List (List ℕ)) (query : Query) (rows : KeptRows) (asked : List Asked) (days numbers : List ℕ) → AllHeld words rows → IsAskedBy words query asked days
+    → filter (keeps_at (matches_asked asked days) rows) numbers ≡ filter (matching query (shown_all words rows)) numbers
+matching-is words query rows asked days numbers held same = filter_agree (keeps_at (matches_asked asked days) rows) (matching query (shown_all words rows)) (asked-at words query asked days rows held same) numbers

@@ -6,7 +6,7 @@ use Rattle.std.specs.declared.ops.Bound.TheVariants.{Included, Unbounded}
 use Rattle.std.specs.BTreeSet.{BTreeSet, contains, keys_between}
 use Rattle.query_lang.specs.Matching.{is_between}
 use Rattle.word_index.specs.declared.rows.Dated.{Dated}
-use Rattle.word_index.specs.Rows.{WordRow}
+use Rattle.word_index.specs.declared.rows.KeptRow.{KeptRow}
 
 -- By day, and then by number.
 abbrev pub dated_cmp : Dated → Dated → Ordering
@@ -17,7 +17,7 @@ abbrev pub dated : BTreeSet Dated → ℕ → ℕ → Bool
 dated days day n = contains dated_cmp days (record { day = day; number = n })
 
 -- The row is of a day of the range.
-abbrev pub is_within : ℕ → ℕ → WordRow → Bool
+abbrev pub is_within : ℕ → ℕ → KeptRow → Bool
 is_within first last row = is_between row.day first last
 
 -- The numbers of the days of a range, by their days.

@@ -1,4 +1,6 @@
 pub mod Rows
+pub mod Vocabulary
+pub mod Kept
 pub mod Postings
 pub mod Days
 pub mod Tables

@@ -1,26 +1,18 @@
 -- The rows of an index, by number.
-use Rattle.std.specs.Prelude.{ℕ, Bool, false, List, [], map, Option}
+use Rattle.std.specs.Prelude.{ℕ, Bool, false, List, map, Option}
 use Rattle.std.specs.Option.{option_map_or}
 use Rattle.std.specs.List.{filter}
 use Rattle.std.specs.Map.{lookup}
 use Rattle.std.specs.Ordering.{nat_cmp}
 use Rattle.std.specs.BTreeMap.{is_at}
-use Rattle.std.specs.Rc.{rc_slice_items}
-use Rattle.std.specs.declared.alloc.Global.{Global}
-use Rattle.std.specs.declared.rc.RcSlice.{RcSlice}
 use Rattle.text_words.specs.declared.word_lists.WordLists.{WordLists}
 use Rattle.query_lang.specs.declared.query.Query.{Query}
 use Rattle.query_lang.specs.Matching.{matches}
-use Rattle.word_index.specs.declared.rows.KeptRow.{KeptRow}
 
 -- A row: its words, by field, and its day.
 pub record WordRow : Type 0 where
   pub words : WordLists
   pub day : ℕ
-
--- A row of a day, without words.
-abbrev pub bare : ℕ → WordRow
-bare day = record { words = record { subject = []; from = []; body = [] }; day = day }
 
 -- The row with a number.
 abbrev pub row_at : List (ℕ × WordRow) → ℕ → Option WordRow
@@ -39,23 +31,3 @@ abbrev pub found : Query → List (ℕ × WordRow) → List ℕ
 found query rows =
     map (λ (row : ℕ × WordRow). row.0)
     (filter (λ (row : ℕ × WordRow). matches query row.1.words row.1.day) rows)
-
--- The bytes of words.
-abbrev pub bytes_of : List (RcSlice ℕ Global) → List (List ℕ)
-bytes_of words = map (λ (word : RcSlice ℕ Global). rc_slice_items word) words
-
--- The row of which this is kept.
-abbrev pub shown : KeptRow → WordRow
-shown row =
-    record {
-      words = record {
-        subject = bytes_of row.subject.items;
-        from = bytes_of row.from.items;
-        body = bytes_of row.body.items;
-      };
-      day = row.day;
-    }
-
--- All rows that are kept, by number.
-abbrev pub shown_all : List (ℕ × KeptRow) → List (ℕ × WordRow)
-shown_all entries = map (λ (e : ℕ × KeptRow). (e.0, shown e.1)) entries

@@ -3,47 +3,50 @@
 ghost use Rattle.std.specs.Prelude.{◌≡◌, ◌&&◌, IfOk, OnOk};
 ghost use Rattle.std.specs.List.{list_all};
 ghost use Rattle.query_lang.specs.Matching.{has_in, matches, in_ranges};
-ghost use Rattle.word_index.specs.Rows.{WordRow};
+ghost use Rattle.word_index.specs.declared.rows.KeptRow.{KeptRow};
+ghost use Rattle.word_index.specs.Kept.{IsHeld, shown};
 ghost use Rattle.word_index.specs.Asked.{has_asked};
 
-use crate::word::Word;
+use crate::vocabulary::Vocabulary;
 use arch_base::{Bytes, NoMemory};
 use query_lang::{Field, Query};
 use std::alloc::Global;
-use std::rc::RcSlice;
 
 /// A word that is asked, and where.
 #[derive(Drop)]
 pub struct Asked {
     pub field: Field,
-    pub word: Word,
+    /// The number of the word. Without one no row has it.
+    pub word: Option<u32>,
 }
 
 /// Returns all words that a query asks.
-pub fn asked_by(alloc: Global, query: &Query) -> Result<Vec<Asked>, NoMemory>
-    ensures { IfOk result (λ asked. (row : WordRow) → matches query.now row.words row.day
+pub fn asked_by(alloc: Global, held: &Vocabulary, query: &Query) -> Result<Vec<Asked>, NoMemory>
+    ensures { IfOk result (λ asked. (row : KeptRow) → IsHeld held.now row
+        → matches query.now (shown held.now row).words row.day
         ≡ (list_all (has_asked row) asked.items && in_ranges query.now.days row.day)) }
 {
     let mut asked = Vec::new(alloc);
-    push_asked(alloc, Field::Any, query.any.as_slice(), &mut asked)?;
-    push_asked(alloc, Field::Subject, query.subject.as_slice(), &mut asked)?;
-    push_asked(alloc, Field::From, query.from.as_slice(), &mut asked)?;
-    push_asked(alloc, Field::Body, query.body.as_slice(), &mut asked)?;
+    push_asked(held, Field::Any, query.any.as_slice(), &mut asked)?;
+    push_asked(held, Field::Subject, query.subject.as_slice(), &mut asked)?;
+    push_asked(held, Field::From, query.from.as_slice(), &mut asked)?;
+    push_asked(held, Field::Body, query.body.as_slice(), &mut asked)?;
     Ok(asked)
 }
 
 /// Appends words that are asked in one way. `NoMemory` may leave some of them appended.
 fn push_asked(
-    alloc: Global,
+    held: &Vocabulary,
     field: Field,
     words: &[Bytes],
     into: &mut Vec<Asked>,
 ) -> Result<(), NoMemory>
-    ensures { OnOk result ((row : WordRow) → list_all (has_asked row) into.new.items
-        ≡ (list_all (has_asked row) into.old.items && list_all (has_in field row.words) words.now)) }
+    ensures { OnOk result ((row : KeptRow) → IsHeld held.now row
+        → list_all (has_asked row) into.new.items ≡ (list_all (has_asked row) into.old.items
+        && list_all (has_in field (shown held.now row).words) words.now)) }
 {
     for word in words {
-        let word = RcSlice::from_slice(alloc, word.as_slice())?;
+        let word = held.number_of(word.as_slice())?;
         into.push(Asked { field, word })?;
     }
     Ok(())

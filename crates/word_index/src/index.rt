@@ -9,7 +9,7 @@ ghost use Rattle.word_index.specs.Rows.{row_at, found, matching};
 
 use crate::finding::{append_matches, find, most_found};
 use crate::tables::Tables;
-use arch_base::{NoMemory, Numbers};
+use arch_base::{MessageNumbers, NoMemory};
 use query_lang::Query;
 use std::alloc::Global;
 use std::marker::Model;
@@ -27,13 +27,13 @@ pub struct WordIndex {
 impl Model for WordIndex {
     ghost use Rattle.std.specs.Prelude.{ℕ, List};
     ghost use Rattle.word_index.specs.Rows.{WordRow};
-    ghost use Rattle.word_index.specs.Tables.{rows_of, IsWordIndex};
+    ghost use Rattle.word_index.specs.Tables.{rows_of, IsWordIndex, HoldsWords};
 
     ghost Value = { List (ℕ × WordRow) };
 
     ghost view = { λ i. rows_of i.tables };
 
-    ghost invariant = { λ i. IsWordIndex i.tables };
+    ghost invariant = { λ i. IsWordIndex i.tables × HoldsWords i.tables };
 }
 
 impl WordIndex {
@@ -76,7 +76,7 @@ impl WordIndex {
 
     /// Returns the numbers of the rows that match a query, rising. `NoMemory` if an allocation
     /// fails.
-    pub fn find(&self, query: &Query) -> Result<Numbers, NoMemory>
+    pub fn find(&self, query: &Query) -> Result<MessageNumbers, NoMemory>
         ensures { IfOk result (λ numbers. numbers ≡ found query.now self.now) }
     {
         find(self.alloc, &self.tables, query)
@@ -90,7 +90,7 @@ impl WordIndex {
         &self,
         query: &Query,
         numbers: &[u32],
-        into: &mut Numbers,
+        into: &mut MessageNumbers,
     ) -> Result<(), NoMemory>
         ensures { OnOk result (into.new
             ≡ into.old ++ filter (matching query.now self.now) numbers.now) }

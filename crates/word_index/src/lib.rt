@@ -5,11 +5,12 @@
 mod asking;
 mod finding;
 mod index;
+mod number_sets;
 mod postings;
 mod reading;
 mod rows;
 mod sources;
 mod tables;
-mod word;
+mod vocabulary;
 
 pub use index::WordIndex;

@@ -1,20 +1,19 @@
 //! What is kept of a row.
 //! Allocates.
-ghost use Rattle.std.specs.Prelude.{◌≡◌, OnOk};
-ghost use Rattle.word_index.specs.Rows.{shown, bare};
+ghost use Rattle.std.specs.Prelude.{◌≡◌, IfOk};
+ghost use Rattle.word_index.specs.Vocabulary.{KeepsWords};
+ghost use Rattle.word_index.specs.Kept.{IsKeptOf};
 
-use crate::word::{Word, share_all};
+use crate::vocabulary::Vocabulary;
 use arch_base::NoMemory;
-use std::alloc::Global;
-use std::collections::BTreeSet;
 use text_words::WordLists;
 
-/// What is kept of a row: its words, by field, and its day.
+/// What is kept of a row: the numbers of its words, by field, and its day.
 #[derive(Drop)]
 pub struct KeptRow {
-    pub subject: Vec<Word>,
-    pub from: Vec<Word>,
-    pub body: Vec<Word>,
+    pub subject: Vec<u32>,
+    pub from: Vec<u32>,
+    pub body: Vec<u32>,
     pub day: u64,
 }
 
@@ -26,34 +25,22 @@ pub struct Dated {
 }
 
 impl KeptRow {
-    /// Returns a row without words.
-    pub fn new(alloc: Global, day: u64) -> KeptRow
-        ensures { shown result ≡ bare day }
-    {
-        KeptRow {
-            subject: Vec::new(alloc),
-            from: Vec::new(alloc),
-            body: Vec::new(alloc),
-            day,
-        }
-    }
-
-    /// Gives a row its words.
+    /// Returns a row with these words, of which new ones are added to those that are held.
     ///
-    /// `NoMemory` may leave it with some of them.
-    pub fn fill(
-        &mut self,
-        alloc: Global,
-        held: &mut BTreeSet<Word>,
-        words: &WordLists,
-    ) -> Result<(), NoMemory>
-        requires { shown self.old ≡ bare self.old.day }
-        ensures { OnOk result (shown self.new ≡ record { words = words.now; day = self.old.day }) }
+    /// `NoMemory` may leave some of them added.
+    pub fn of(held: &mut Vocabulary, words: &WordLists, day: u64) -> Result<KeptRow, NoMemory>
+        ensures ok { IfOk result (λ row. IsKeptOf held.new words.now day row) }
+        ensures keeps { KeepsWords held.old held.new }
     {
-        share_all(alloc, held, words.subject.as_slice(), &mut self.subject)?;
-        share_all(alloc, held, words.from.as_slice(), &mut self.from)?;
-        share_all(alloc, held, words.body.as_slice(), &mut self.body)?;
-        Ok(())
+        let subject = held.number_all(words.subject.as_slice())?;
+        let from = held.number_all(words.from.as_slice())?;
+        let body = held.number_all(words.body.as_slice())?;
+        Ok(KeptRow {
+            subject,
+            from,
+            body,
+            day,
+        })
     }
 
     /// Returns the row's day, with a number.

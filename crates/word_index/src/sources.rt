@@ -1,9 +1,9 @@
 //! The smallest list of numbers in which all rows of an answer stand.
 //! Allocates.
 ghost use Rattle.std.specs.Prelude.{◌≡◌, ◌⊎◌, IfOk};
-ghost use Rattle.word_index.specs.Rows.{passes_at};
+ghost use Rattle.word_index.specs.Kept.{keeps_at};
 ghost use Rattle.word_index.specs.Postings.{IsListOf};
-ghost use Rattle.word_index.specs.Tables.{rows_of, IsWordIndex};
+ghost use Rattle.word_index.specs.Tables.{IsWordIndex};
 ghost use Rattle.word_index.specs.Sources.{passes, HasEachMatch, IsWordSource, IsDaySource};
 
 use crate::asking::Asked;
@@ -105,7 +105,7 @@ fn with_days<'a>(tables: &Tables, first: u64, last: u64, least: Choice<'a>) -> C
 pub fn read(alloc: Global, tables: &Tables, source: Source<'_>) -> Result<Vec<u32>, NoMemory>
     requires { IsWordIndex tables.now }
     ensures { IfOk result (λ found.
-        IsListOf found.items (passes_at (passes source.entry) (rows_of tables.now))) }
+        IsListOf found.items (keeps_at (passes source.entry) tables.now.rows.entries)) }
 {
     match source {
         Source::All => all_rows(alloc, tables),

@@ -4,12 +4,13 @@ ghost use Rattle.std.specs.Prelude.{◌≡◌, [], is_some, None, OnOk, OnErr};
 ghost use Rattle.std.specs.Ordering.{nat_cmp};
 ghost use Rattle.std.specs.BTreeMap.{insert_entry, is_at};
 ghost use Rattle.std.specs.Map.{remove_entry};
-ghost use Rattle.word_index.specs.Rows.{shown, row_at};
-ghost use Rattle.word_index.specs.Tables.{rows_of, IsWordIndex, IsPosted, IsPartlyPosted};
+ghost use Rattle.word_index.specs.Rows.{row_at};
+ghost use Rattle.word_index.specs.Kept.{kept_at};
+ghost use Rattle.word_index.specs.Tables.{rows_of, IsWordIndex, HoldsWords, IsPosted, IsPartlyPosted, Keeps, SameRows};
 
 use crate::postings::{Postings, put_all, remove_all};
 use crate::rows::{Dated, KeptRow};
-use crate::word::Word;
+use crate::vocabulary::Vocabulary;
 use arch_base::NoMemory;
 use std::alloc::Global;
 use std::collections::{BTreeMap, BTreeSet};
@@ -18,8 +19,8 @@ use text_words::WordLists;
 /// The rows of an index, and their numbers by words and by days.
 #[derive(Drop)]
 pub struct Tables {
-    /// All words, so that the bytes of each stand once.
-    pub words: BTreeSet<Word>,
+    /// All words that a row has or had, so that each stands once.
+    pub words: Vocabulary,
     /// The rows by the words of their subjects.
     pub subject: Postings,
     /// The rows by the words of their From fields.
@@ -36,10 +37,11 @@ impl Tables {
     /// Returns tables without rows. Allocates nothing.
     pub fn new(alloc: Global) -> Tables
         ensures index { IsWordIndex result }
+        ensures spelled { HoldsWords result }
         ensures rows { rows_of result ≡ [] }
     {
         Tables {
-            words: BTreeSet::new(alloc),
+            words: Vocabulary::new(alloc),
             subject: BTreeMap::new(alloc),
             from: BTreeMap::new(alloc),
             body: BTreeMap::new(alloc),
@@ -57,17 +59,15 @@ impl Tables {
         day: u64,
     ) -> Result<(), NoMemory>
         requires index { IsWordIndex self.old }
+        requires spelled { HoldsWords self.old }
         requires new { row_at (rows_of self.old) n ≡ None }
         ensures index { IsWordIndex self.new }
+        ensures spelled { HoldsWords self.new }
         ensures ok { OnOk result (rows_of self.new ≡ insert_entry nat_cmp (rows_of self.old) n
             (record { words = words.now; day = day })) }
         ensures err { OnErr result (rows_of self.new ≡ rows_of self.old) }
     {
-        let mut row = KeptRow::new(alloc, day);
-        if let Err(refused) = row.fill(alloc, &mut self.words, words) {
-            self.free_words(&row);
-            return Err(refused);
-        }
+        let row = KeptRow::of(&mut self.words, words, day)?;
         if let Err(refused) = self.post(alloc, n, &row) {
             self.unpost(n, &row);
             return Err(refused);
@@ -77,8 +77,10 @@ impl Tables {
 
     /// Removes a row, and returns whether it was there.
     pub fn take(&mut self, n: u32) -> bool
-        requires { IsWordIndex self.old }
+        requires index { IsWordIndex self.old }
+        requires spelled { HoldsWords self.old }
         ensures index { IsWordIndex self.new }
+        ensures spelled { HoldsWords self.new }
         ensures found { result ≡ is_some (row_at (rows_of self.old) n) }
         ensures taken { rows_of self.new ≡ remove_entry (is_at (nat_cmp n)) (rows_of self.old) }
     {
@@ -94,9 +96,9 @@ impl Tables {
     /// `NoMemory` may leave it added to some of them.
     fn post(&mut self, alloc: Global, n: u32, row: &KeptRow) -> Result<(), NoMemory>
         requires { IsWordIndex self.old }
-        ensures ok { OnOk result (IsPosted self.new n (shown row.now)) }
-        ensures err { OnErr result (IsPartlyPosted self.new n (shown row.now)) }
-        ensures rows { rows_of self.new ≡ rows_of self.old }
+        ensures ok { OnOk result (IsPosted self.new n row.now) }
+        ensures err { OnErr result (IsPartlyPosted self.new n row.now) }
+        ensures rows { SameRows self.old self.new }
     {
         put_all(alloc, &mut self.subject, row.subject.as_slice(), n)?;
         put_all(alloc, &mut self.from, row.from.as_slice(), n)?;
@@ -109,12 +111,12 @@ impl Tables {
     ///
     /// `NoMemory` removes its number again, and leaves the rows as they were.
     fn keep(&mut self, n: u32, row: KeptRow) -> Result<(), NoMemory>
-        requires posted { IsPosted self.old n (shown row) }
-        requires new { row_at (rows_of self.old) n ≡ None }
+        requires posted { IsPosted self.old n row }
+        requires new { kept_at self.old.rows.entries n ≡ None }
         ensures index { IsWordIndex self.new }
-        ensures ok { OnOk result (rows_of self.new
-            ≡ insert_entry nat_cmp (rows_of self.old) n (shown row)) }
-        ensures err { OnErr result (rows_of self.new ≡ rows_of self.old) }
+        ensures ok { OnOk result (Keeps self.old self.new n row) }
+        ensures err { OnErr result (self.new.rows.entries ≡ self.old.rows.entries) }
+        ensures words { self.new.words ≡ self.old.words }
     {
         match self.rows.insert(n, row) {
             Ok(_) => Ok(()),
@@ -128,40 +130,14 @@ impl Tables {
 
     /// Removes the number of a row that isn't kept from those of its words and of its day.
     fn unpost(&mut self, n: u32, row: &KeptRow)
-        requires posted { IsPartlyPosted self.old n (shown row.now) }
-        requires new { row_at (rows_of self.old) n ≡ None }
+        requires posted { IsPartlyPosted self.old n row.now }
+        requires new { kept_at self.old.rows.entries n ≡ None }
         ensures index { IsWordIndex self.new }
-        ensures rows { rows_of self.new ≡ rows_of self.old }
+        ensures rows { SameRows self.old self.new }
     {
         remove_all(&mut self.subject, row.subject.as_slice(), n);
         remove_all(&mut self.from, row.from.as_slice(), n);
         remove_all(&mut self.body, row.body.as_slice(), n);
         let _ = self.days.remove(&row.dated(n));
-        self.free_words(row);
-    }
-
-    /// Frees the words of a row that no row has any more.
-    fn free_words(&mut self, row: &KeptRow)
-        ensures { self.new ≡ record self.old { words = self.new.words } }
-    {
-        let (subject, from, body) = (&self.subject, &self.from, &self.body);
-        free_unused(&mut self.words, row.subject.as_slice(), subject, from, body);
-        free_unused(&mut self.words, row.from.as_slice(), subject, from, body);
-        free_unused(&mut self.words, row.body.as_slice(), subject, from, body);
-    }
-}
-
-/// Frees those of some words that stand in no field of a row.
-fn free_unused(
-    held: &mut BTreeSet<Word>,
-    words: &[Word],
-    subject: &Postings,
-    from: &Postings,
-    body: &Postings,
-) {
-    for word in words {
-        if !subject.contains_key(word) && !from.contains_key(word) && !body.contains_key(word) {
-            let _ = held.remove(word);
-        }
     }
 }

@@ -2,7 +2,7 @@
 ghost use Rattle.std.specs.Prelude.{◌<◌};
 
 use crate::rows::words_of;
-use arch_base::{Bytes, NoMemory, Numbers, decimal};
+use arch_base::{Bytes, MessageNumbers, NoMemory, decimal};
 use query_lang::{Query, matches, read};
 use std::alloc::Global;
 use std::test::Fail;
@@ -58,9 +58,10 @@ static ASKED: [&[u8]; 12] = [
     b"d:19700103..19700103 s:three",
 ];
 
-/// A message of the plain list: its words and its day.
+/// A message of the plain list: its number, its words and its day.
 #[derive(Drop)]
 struct Plain {
+    number: u32,
     words: WordLists,
     day: u64,
 }
@@ -91,20 +92,20 @@ impl Both {
     /// Adds a message where there is none, and takes it where there is one. Returns whether both
     /// told the same of it.
     fn turn(&mut self, alloc: Global, chance: &mut Chance) -> Result<bool, NoMemory> {
-        let n = chance.below(NUMBERS as u64) as u32;
-        if self.index.contains(n) {
-            return Ok(self.index.take(n) && self.forget(n));
+        let number = chance.below(NUMBERS as u64) as u32;
+        if self.index.contains(number) {
+            return Ok(self.index.take(number) && self.forget(number));
         }
         let (subject, from, body) = (chance.text(), chance.text(), chance.text());
         let day = chance.below(6);
         let words = words_of(alloc, subject, from, body)?;
-        self.index.add(n, &words, day)?;
-        Ok(self.remember(n, Plain { words, day }))
+        self.index.add(number, &words, day)?;
+        Ok(self.remember(Plain { number, words, day }))
     }
 
     /// Puts a message into the plain list, and returns whether there was none.
-    fn remember(&mut self, n: u32, message: Plain) -> bool {
-        match self.plain.get_mut(n as usize) {
+    fn remember(&mut self, message: Plain) -> bool {
+        match self.plain.get_mut(message.number as usize) {
             Some(slot) => {
                 let free = slot.is_none();
                 *slot = Some(message);
@@ -131,12 +132,16 @@ impl Both {
 }
 
 /// Returns the numbers of the messages that match.
-fn matching(alloc: Global, messages: &[Option<Plain>], query: &Query) -> Result<Numbers, NoMemory> {
-    let mut found = Numbers::new(alloc);
-    for (n, slot) in messages.iter().enumerate() {
+fn matching(
+    alloc: Global,
+    messages: &[Option<Plain>],
+    query: &Query,
+) -> Result<MessageNumbers, NoMemory> {
+    let mut found = MessageNumbers::new(alloc);
+    for slot in messages {
         if let Some(message) = slot {
             if matches(query, &message.words, message.day) {
-                found.push(n as u64)?;
+                found.push(message.number)?;
             }
         }
     }

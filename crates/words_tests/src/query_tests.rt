@@ -9,7 +9,7 @@ use std::test::Fail;
 use word_index::WordIndex;
 
 /// Queries, and the numbers that they find.
-static QUERIES: [Case<&'static [u64]>; 89] = cases![
+static QUERIES: [Case<&'static [u32]>; 89] = cases![
     b"" => &[2, 3, 5, 7, 11, 13, 17, 19, 23, 29, 31, 2_147_483_647],
     b" " => &[2, 3, 5, 7, 11, 13, 17, 19, 23, 29, 31, 2_147_483_647],
     b"   " => &[2, 3, 5, 7, 11, 13, 17, 19, 23, 29, 31, 2_147_483_647],
@@ -133,7 +133,7 @@ const BAD_RANGES: [&[u8]; 27] = [
 ];
 
 /// Queries after three of the messages were taken.
-static LATER: [Case<&'static [u64]>; 11] = cases![
+static LATER: [Case<&'static [u32]>; 11] = cases![
     b"" => &[2, 3, 7, 11, 13, 17, 19, 29, 31],
     b"first" => &[2, 29],
     b"two" => &[3],
@@ -148,7 +148,7 @@ static LATER: [Case<&'static [u64]>; 11] = cases![
 ];
 
 /// Returns whether a query finds these numbers.
-fn finds(alloc: Global, index: &WordIndex, text: &[u8], wanted: &[u64]) -> bool {
+fn finds(alloc: Global, index: &WordIndex, text: &[u8], wanted: &[u32]) -> bool {
     let Ok(query) = read(alloc, text) else {
         return false;
     };
@@ -178,8 +178,8 @@ fn is_bad_range(alloc: Global, text: &[u8]) -> bool {
 }
 
 /// Returns whether a message matches a query exactly if its number is wanted, for each message.
-fn matches_alike(alloc: Global, text: &[u8], wanted: &[u64]) -> bool {
-    ROWS.iter().all(|row| { is_match(alloc, row, text) == wanted.contains(&u64::from(row.number)) })
+fn matches_alike(alloc: Global, text: &[u8], wanted: &[u32]) -> bool {
+    ROWS.iter().all(|row| { is_match(alloc, row, text) == wanted.contains(&row.number) })
 }
 
 #[test]

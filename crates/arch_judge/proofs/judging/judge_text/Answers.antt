@@ -18,4 +18,4 @@ returns-in-Free-clause-judged c = λ a bytes known is.
     let content = c.content_id-content.result in
     let content_is : content ≡ content_id_of c.args.text = c.content_id-content.ensures ∙ ap content_id_of c.as_slice.ensures in
     let free : Free ≡ met_own index.owners (own_id c.args.text) content = subst (λ (t : List ℕ). Free ≡ met_own index.owners (own_id t) content) c.as_slice-2.ensures c.in-Free.ensures in
-    c.judge_new.ensures.judged a bytes c.args.text c.args.count known is (own_decides a index c.args.text content Free known.indexed content_is free)
+    c.judge_new.ensures.judged a bytes c.args.text known is (own_decides a index c.args.text content Free known.indexed content_is free)

@@ -8,7 +8,7 @@ use Rattle.archive_cli.proofs.Committing.{commits-done, starved-answer, still-cr
 use Rattle.archive_cli.proofs.disk_commands.answered.Goals as goal
 
 pub returns-then-not-has_next_root-clause-crash : goal.returns-then-not-has_next_root-clause-crash
-returns-then-not-has_next_root-clause-crash g c = λ a cache store. started g.D.Disk.moment g.D.Disk.left_since c.args.disk.now (LeavesEither (way_of c.args.command.now) (taking c.args.command.now c.args.moment) cache a)
+returns-then-not-has_next_root-clause-crash g c = λ a cache store. started g.D.Disk c.args.disk.now (LeavesEither (way_of c.args.command.now) (taking c.args.command.now c.args.moment) cache a)
     (λ image left. inl (stands_for c.args.archive cache a (g.D.Disk.content c.args.disk.now) image store (g.met.D.Disk.only_now c.args.disk.now image left)))
 
 pub returns-then-not-has_next_root-clause-done : goal.returns-then-not-has_next_root-clause-done
@@ -21,10 +21,10 @@ pub returns-clause-done : goal.returns-clause-done
 returns-clause-done g c = λ a cache store. (c.command.new.self, c.command.ensures.taken.done a cache store (c.has_next_root.ensures.0 c.if-not-has_next_root.false))
 
 pub returns-then-not-has_next_root-clause-untouched : goal.returns-then-not-has_next_root-clause-untouched
-returns-then-not-has_next_root-clause-untouched g c = looks-same g.D.Disk.content g.D.Disk.moment g.D.Disk.left_since g.met.D.Disk.only_now c.args.disk.now
+returns-then-not-has_next_root-clause-untouched g c = looks-same g.D.Disk g.met.D.Disk.only_now c.args.disk.now
 
 pub returns-then-not-has_next_root-clause-crash_between : goal.returns-then-not-has_next_root-clause-crash_between
-returns-then-not-has_next_root-clause-crash_between g c = still-crash_between g.D.Disk.content g.D.Disk.moment g.D.Disk.left_since g.met.D.Disk.only_now c.args.disk.now
+returns-then-not-has_next_root-clause-crash_between g c = still-crash_between g.D.Disk g.met.D.Disk.only_now c.args.disk.now
 
 pub returns-clause-commits : goal.returns-clause-commits
 returns-clause-commits g c =

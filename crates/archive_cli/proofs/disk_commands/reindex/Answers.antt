@@ -1,4 +1,4 @@
-use Rattle.archive_cli.proofs.OnDisk.{opened-reindexes, unopened-reindexes, opened-stands, unopened-stands, reindexed-cause, refused-cause}
+use Rattle.archive_cli.proofs.OnDisk.{opened-live, opened-reindexes, unopened-reindexes, opened-stands, unopened-stands, reindexed-cause, refused-cause}
 use Rattle.archive_cli.proofs.disk_commands.reindex.Goals as goal
 
 pub returns-in-Ok-clause-crash : goal.returns-in-Ok-clause-crash
@@ -10,9 +10,12 @@ returns-in-Ok-clause-done g c = λ a cache reads.
     rw c.into_disk.ensures
     (opened-reindexes c.in-Ok.engine.view cache a (g.D.Disk.content c.in-Ok.engine.disk) c.message_count-live.result store (c.message_count-live.ensures a (cache, store, c.in-Ok.ensures.rows a cache reads, c.in-Ok.ensures.opened.settled)))
 
+pub returns-in-Ok-clause-answer : goal.returns-in-Ok-clause-answer
+returns-in-Ok-clause-answer g c = opened-live c.in-Ok.engine.view (g.D.Disk.content c.args.disk) c.message_count-live.result c.in-Ok.ensures.opened.answer
+
 pub returns-in-Ok-clause-stands : goal.returns-in-Ok-clause-stands
 returns-in-Ok-clause-stands g c = rw c.into_disk.ensures
-    (opened-stands g.D.Disk.content g.D.Disk.moment g.D.Disk.left_since g.met.D.Disk.counts_now g.met.D.Disk.reads_fit c.args.disk c.in-Ok.engine.disk c.in-Ok.engine.view c.in-Ok.ensures.opened.done c.in-Ok.ensures.opened.first)
+    (opened-stands g.D.Disk g.met.D.Disk.counts_now g.met.D.Disk.reads_fit c.args.disk c.in-Ok.engine.disk c.in-Ok.engine.view c.in-Ok.ensures.opened.done c.in-Ok.ensures.opened.first)
 
 pub returns-in-Ok-clause-cause : goal.returns-in-Ok-clause-cause
 returns-in-Ok-clause-cause g c = rw c.into_disk.ensures
@@ -29,7 +32,7 @@ returns-in-Err-clause-done g c = λ a cache reads.
     unopened-reindexes cache a c.in-Err.field-0.why (g.D.Disk.content c.args.disk) (g.D.Disk.content c.in-Err.field-0.disk) reads (c.in-Err.ensures.opened.well a cache reads) c.in-Err.ensures.refused
 
 pub returns-in-Err-clause-stands : goal.returns-in-Err-clause-stands
-returns-in-Err-clause-stands g c = λ s cache all. unopened-stands g.D.Disk.content g.D.Disk.moment g.D.Disk.left_since g.met.D.Disk.counts_now g.met.D.Disk.reads_fit s cache c.args.disk c.in-Err.field-0.disk c.in-Err.field-0.why all c.in-Err.ensures.opened.before c.in-Err.ensures.opened.well c.in-Err.ensures.opened.first
+returns-in-Err-clause-stands g c = λ s cache all. unopened-stands g.D.Disk g.met.D.Disk.counts_now g.met.D.Disk.reads_fit s cache c.args.disk c.in-Err.field-0.disk c.in-Err.field-0.why all c.in-Err.ensures.opened.before c.in-Err.ensures.opened.well c.in-Err.ensures.opened.first
 
 pub returns-in-Ok-clause-files : goal.returns-in-Ok-clause-files
 returns-in-Ok-clause-files g c =

@@ -5,11 +5,11 @@ use Rattle.archive_cli.proofs.Committing.{opened-crash_between, opened-commits, 
 use Rattle.archive_cli.proofs.disk_commands.take.Goals as goal
 
 pub returns-in-Ok-clause-crash : goal.returns-in-Ok-clause-crash
-returns-in-Ok-clause-crash g c = taken-runs g.D.Disk.content g.D.Disk.moment g.D.Disk.left_since g.met.D.Disk.counts_now g.met.D.Disk.reads_fit c.args.disk c.open.new.disk c.in-Ok.archive c.in-Ok.ensures.opened.done c.in-Ok.ensures.opened.first c.answered-answer.new.disk (way_of c.args.command.now) (taking c.args.command.now c.args.moment)
+returns-in-Ok-clause-crash g c = taken-runs g.D.Disk g.met.D.Disk.counts_now g.met.D.Disk.reads_fit c.args.disk c.open.new.disk c.in-Ok.archive c.in-Ok.ensures.opened.done c.in-Ok.ensures.opened.first c.answered-answer.new.disk (way_of c.args.command.now) (taking c.args.command.now c.args.moment)
     c.answered-answer.ensures.crash c.in-Ok.ensures.opened.answer
 
 pub returns-in-Ok-clause-stands : goal.returns-in-Ok-clause-stands
-returns-in-Ok-clause-stands g c = taken-stands g.D.Disk.content g.D.Disk.moment g.D.Disk.left_since g.met.D.Disk.counts_now g.met.D.Disk.reads_fit c.args.disk c.open.new.disk c.in-Ok.archive c.in-Ok.ensures.opened.done c.in-Ok.ensures.opened.first c.answered-answer.new.disk (way_of c.args.command.now) (taking c.args.command.now c.args.moment)
+returns-in-Ok-clause-stands g c = taken-stands g.D.Disk g.met.D.Disk.counts_now g.met.D.Disk.reads_fit c.args.disk c.open.new.disk c.in-Ok.archive c.in-Ok.ensures.opened.done c.in-Ok.ensures.opened.first c.answered-answer.new.disk (way_of c.args.command.now) (taking c.args.command.now c.args.moment)
     c.answered-answer.ensures.crash c.answered-answer.result c.answered-answer.ensures.done
 
 pub returns-in-Ok-clause-done : goal.returns-in-Ok-clause-done
@@ -22,10 +22,10 @@ pub returns-in-Err-clause-cause : goal.returns-in-Err-clause-cause
 returns-in-Err-clause-cause g c = refused-cause (g.D.Disk.faults c.args.disk) (g.D.Disk.faults c.open.new.disk) c.in-Err.why c.in-Err.ensures.opened.cause
 
 pub returns-in-Err-clause-crash : goal.returns-in-Err-clause-crash
-returns-in-Err-clause-crash g c = unopened-runs g.D.Disk.content g.D.Disk.moment g.D.Disk.left_since g.met.D.Disk.counts_now g.met.D.Disk.reads_fit c.args.disk c.open.new.disk (way_of c.args.command.now) (taking c.args.command.now c.args.moment) c.in-Err.ensures.opened.before
+returns-in-Err-clause-crash g c = unopened-runs g.D.Disk g.met.D.Disk.counts_now g.met.D.Disk.reads_fit c.args.disk c.open.new.disk (way_of c.args.command.now) (taking c.args.command.now c.args.moment) c.in-Err.ensures.opened.before
 
 pub returns-in-Err-clause-stands : goal.returns-in-Err-clause-stands
-returns-in-Err-clause-stands g c = λ s cache all. unopened-stands g.D.Disk.content g.D.Disk.moment g.D.Disk.left_since g.met.D.Disk.counts_now g.met.D.Disk.reads_fit s cache c.args.disk c.open.new.disk c.in-Err.why all c.in-Err.ensures.opened.before c.in-Err.ensures.opened.well c.in-Err.ensures.opened.first
+returns-in-Err-clause-stands g c = λ s cache all. unopened-stands g.D.Disk g.met.D.Disk.counts_now g.met.D.Disk.reads_fit s cache c.args.disk c.open.new.disk c.in-Err.why all c.in-Err.ensures.opened.before c.in-Err.ensures.opened.well c.in-Err.ensures.opened.first
 
 pub returns-in-Err-clause-done : goal.returns-in-Err-clause-done
 returns-in-Err-clause-done g c = λ a cache reads.
@@ -34,7 +34,7 @@ returns-in-Err-clause-done g c = λ a cache reads.
 pub returns-in-Ok-clause-files : goal.returns-in-Ok-clause-files
 returns-in-Ok-clause-files g c =
     let opened = c.in-Ok.ensures.opened in
-    opened-refused g.D.Disk.content g.D.Disk.moment g.D.Disk.left_since (g.D.Disk.content c.args.disk) c.open.new.disk c.answered-answer.new.disk c.answered-answer.result (c.in-Ok.archive, opened.answer, opened.kept, opened.done, opened.settled) c.answered-answer.ensures.untouched
+    opened-refused g.D.Disk (g.D.Disk.content c.args.disk) c.open.new.disk c.answered-answer.new.disk c.answered-answer.result (c.in-Ok.archive, opened.answer, opened.kept, opened.done, opened.settled) c.answered-answer.ensures.untouched
 
 pub returns-in-Ok-clause-commits : goal.returns-in-Ok-clause-commits
 returns-in-Ok-clause-commits g c =
@@ -44,7 +44,7 @@ returns-in-Ok-clause-commits g c =
 pub returns-in-Ok-clause-crash_between : goal.returns-in-Ok-clause-crash_between
 returns-in-Ok-clause-crash_between g c =
     let opened = c.in-Ok.ensures.opened in
-    opened-crash_between g.D.Disk.content g.D.Disk.moment g.D.Disk.left_since c.in-Ok.archive c.args.disk c.open.new.disk c.answered-answer.new.disk (g.met.D.Disk.reads_fit c.args.disk) opened.answer opened.kept opened.settled opened.crash_between c.answered-answer.ensures.crash_between
+    opened-crash_between g.D.Disk c.in-Ok.archive c.args.disk c.open.new.disk c.answered-answer.new.disk (g.met.D.Disk.reads_fit c.args.disk) opened.answer opened.kept opened.settled opened.crash_between c.answered-answer.ensures.crash_between
 
 pub returns-in-Err-clause-crash_between : goal.returns-in-Err-clause-crash_between
 returns-in-Err-clause-crash_between g c = c.in-Err.ensures.opened.crash_between

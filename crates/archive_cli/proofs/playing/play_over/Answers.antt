@@ -1,4 +1,5 @@
 use Rattle.std.proofs.Common.{◌≡◌, ◌∙◌, List, [], Some, None, refl, sym, ap, subst, arith}
+use Rattle.arch_model.specs.KeeperRecord.{keeper}
 use Rattle.arch_model.specs.Archives.{empty_archive}
 use Rattle.arch_model.specs.Keeping.{MatchesKnown}
 use Rattle.arch_model.specs.Standing.{standing}
@@ -15,8 +16,8 @@ returns-then-is_whole g c = λ arrivals new config held text script short.
     let served = c.serve-end.ensures.served in
     let whole = c.is_whole.ensures c.if-is_whole.true in
     let empty = standing (empty_archive config) None in
-    let fits = fits-held g.K.Shelf.holds g.K.Keep.files_are g.K.Shelf.ready g.K.Keep.leaves g.met.K.Keep.holds_files_are g.met.K.Keep.holds_left c.args.keep (empty_archive config) held in
-    let run = served.runs empty (subst (λ k. MatchesKnown g.K.Shelf.holds g.K.Keep.files_are g.K.Shelf.ready g.K.Keep.leaves k empty) (sym c.new-node.ensures.keep) fits) in
+    let fits = fits-held (keeper g.K.Shelf g.K.Keep) g.met.K.Keep.holds_files_are g.met.K.Keep.holds_left c.args.keep (empty_archive config) held in
+    let run = served.runs empty (subst (λ k. MatchesKnown (keeper g.K.Shelf g.K.Keep) k empty) (sym c.new-node.ensures.keep) fits) in
     let noted =
     subst (λ (os : List Outputs). Recorded c.serve-end.new.host os) (sym (outputs-asked served.none _ served.stages _ _ run.turns _ run.at refl refl)) (served.records [] new.nothing_yet) in
     let fresh = fresh-of (empty_archive config) _ _ c.new-node.ensures.none c.new-node.ensures.count new.unused.untaken new.unused.all_open (ap g.K.Shelf.faults c.new-node.ensures.keep ∙ c.requires.unfailed) new.unused.no_lost in
@@ -29,8 +30,8 @@ pub returns : goal.returns
 returns g c = λ arrivals new config held text script short.
     let served = c.serve-end.ensures.served in
     let empty = standing (empty_archive config) None in
-    let fits = fits-held g.K.Shelf.holds g.K.Keep.files_are g.K.Shelf.ready g.K.Keep.leaves g.met.K.Keep.holds_files_are g.met.K.Keep.holds_left c.args.keep (empty_archive config) held in
-    let run = served.runs empty (subst (λ k. MatchesKnown g.K.Shelf.holds g.K.Keep.files_are g.K.Shelf.ready g.K.Keep.leaves k empty) (sym c.new-node.ensures.keep) fits) in
+    let fits = fits-held (keeper g.K.Shelf g.K.Keep) g.met.K.Keep.holds_files_are g.met.K.Keep.holds_left c.args.keep (empty_archive config) held in
+    let run = served.runs empty (subst (λ k. MatchesKnown (keeper g.K.Shelf g.K.Keep) k empty) (sym c.new-node.ensures.keep) fits) in
     let noted =
     subst (λ (os : List Outputs). Recorded c.serve-end.new.host os) (sym (outputs-asked served.none _ served.stages _ _ run.turns _ run.at refl refl)) (served.records [] new.nothing_yet) in
     let fresh = fresh-of (empty_archive config) _ _ c.new-node.ensures.none c.new-node.ensures.count new.unused.untaken new.unused.all_open (ap g.K.Shelf.faults c.new-node.ensures.keep ∙ c.requires.unfailed) new.unused.no_lost in

@@ -8,7 +8,7 @@ use Rattle.archive_cli.proofs.Printed.{outcome-due}
 use Rattle.archive_cli.proofs.program.carry_out.Goals as goal
 
 pub returns-in-Err-clause-crash : goal.returns-in-Err-clause-crash
-returns-in-Err-clause-crash g c = command-first g.D.Disk.content g.D.Disk.moment g.D.Disk.left_since g.met.D.Disk.only_now (g.C.Clock.coming c.args.clock.now) (way_of c.args.command.now) (taking c.args.command.now) c.args.disk
+returns-in-Err-clause-crash g c = command-first g.D.Disk g.met.D.Disk.only_now (g.C.Clock.coming c.args.clock.now) (way_of c.args.command.now) (taking c.args.command.now) c.args.disk
 
 pub returns-clause-crash : goal.returns-clause-crash
 returns-clause-crash g c = (c.in-Ok.moment, c.in-Ok.ensures.first, c.take-outcome.ensures.crash)
@@ -34,7 +34,7 @@ returns-clause-ends g c =
     }) c.print_outcome.ensures.printed)
 
 pub returns-in-Err-clause-crash_between : goal.returns-in-Err-clause-crash_between
-returns-in-Err-clause-crash_between g c = still-crash_between g.D.Disk.content g.D.Disk.moment g.D.Disk.left_since g.met.D.Disk.only_now c.args.disk
+returns-in-Err-clause-crash_between g c = still-crash_between g.D.Disk g.met.D.Disk.only_now c.args.disk
 
 pub returns-clause-crash_between : goal.returns-clause-crash_between
 returns-clause-crash_between g c = c.take-outcome.ensures.crash_between

@@ -1,8 +1,7 @@
 use Rattle.std.proofs.Common.{inl, refl, subst}
-use Rattle.disk_model.specs.Moments.{started, weaker}
+use Rattle.disk_model.specs.Moments.{LeavesOnly, started, weaker}
 use Rattle.arch_base.specs.declared.config.Config.{Config}
 use Rattle.arch_model.specs.Archives.{empty_archive}
-use Rattle.disk_model.specs.Disk.{LeavesOnly}
 use Rattle.epoch_store.specs.First.{MakingLeaves}
 use Rattle.archive_cli.specs.Program.{InitActs, InitLeaves}
 use Rattle.archive_cli.proofs.Leaving.{init-first}
@@ -13,15 +12,15 @@ pub returns-in-Err-clause-crash : goal.returns-in-Err-clause-crash
 returns-in-Err-clause-crash g c =
     let disk = c.args.disk in
     let coming = g.C.Clock.coming c.args.clock.now in
-    started g.D.Disk.moment g.D.Disk.left_since disk (InitLeaves c.args.config coming (g.D.Disk.content disk)) (λ image left. init-first c.args.config coming (g.D.Disk.content disk) image (g.met.D.Disk.only_now disk image left))
+    started g.D.Disk disk (InitLeaves c.args.config coming (g.D.Disk.content disk)) (λ image left. init-first c.args.config coming (g.D.Disk.content disk) image (g.met.D.Disk.only_now disk image left))
 
 pub returns-clause-crash : goal.returns-clause-crash
 returns-clause-crash g c =
     let disk = c.args.disk in
     let k0 = g.D.Disk.content disk in
     let coming = g.C.Clock.coming c.args.clock.now in
-    let made = subst (λ (config : Config). LeavesOnly g.D.Disk.moment g.D.Disk.left_since disk c.make-outcome.result.1 (MakingLeaves (empty_archive config) k0)) c.config_at-config.ensures.at c.make-outcome.ensures.crash in
-    weaker g.D.Disk.moment g.D.Disk.left_since disk c.make-outcome.result.1 _ (InitLeaves c.args.config coming k0) made (λ image leaves. (c.in-Ok.moment, c.in-Ok.ensures.first, leaves))
+    let made = subst (λ (config : Config). LeavesOnly g.D.Disk disk c.make-outcome.result.1 (MakingLeaves (empty_archive config) k0)) c.config_at-config.ensures.at c.make-outcome.ensures.crash in
+    weaker g.D.Disk disk c.make-outcome.result.1 _ (InitLeaves c.args.config coming k0) made (λ image leaves. (c.in-Ok.moment, c.in-Ok.ensures.first, leaves))
 
 pub returns-clause-ends : goal.returns-clause-ends
 returns-clause-ends g c =

@@ -11,13 +11,13 @@ use Rattle.archive_cli.proofs.Printed.{unread-due, job-as, job-moved, message-as
 use Rattle.archive_cli.proofs.program.put_input.Goals as goal
 
 pub returns-in-Err-Fault-clause-crash : goal.returns-in-Err-Fault-clause-crash
-returns-in-Err-Fault-clause-crash g c = message-first g.D.Disk.content g.D.Disk.moment g.D.Disk.left_since g.met.D.Disk.only_now (g.C.Clock.coming c.args.clock.now) (g.S.Source.left c.args.input.now) (putting_way c.args.place) (putting c.args.place) c.args.disk
+returns-in-Err-Fault-clause-crash g c = message-first g.D.Disk g.met.D.Disk.only_now (g.C.Clock.coming c.args.clock.now) (g.S.Source.left c.args.input.now) (putting_way c.args.place) (putting c.args.place) c.args.disk
 
 pub returns-in-Err-TooLong-clause-crash : goal.returns-in-Err-TooLong-clause-crash
-returns-in-Err-TooLong-clause-crash g c = message-first g.D.Disk.content g.D.Disk.moment g.D.Disk.left_since g.met.D.Disk.only_now (g.C.Clock.coming c.args.clock.now) (g.S.Source.left c.args.input.now) (putting_way c.args.place) (putting c.args.place) c.args.disk
+returns-in-Err-TooLong-clause-crash g c = message-first g.D.Disk g.met.D.Disk.only_now (g.C.Clock.coming c.args.clock.now) (g.S.Source.left c.args.input.now) (putting_way c.args.place) (putting c.args.place) c.args.disk
 
 pub returns-in-Err-NoMemory-clause-crash : goal.returns-in-Err-NoMemory-clause-crash
-returns-in-Err-NoMemory-clause-crash g c = message-first g.D.Disk.content g.D.Disk.moment g.D.Disk.left_since g.met.D.Disk.only_now (g.C.Clock.coming c.args.clock.now) (g.S.Source.left c.args.input.now) (putting_way c.args.place) (putting c.args.place) c.args.disk
+returns-in-Err-NoMemory-clause-crash g c = message-first g.D.Disk g.met.D.Disk.only_now (g.C.Clock.coming c.args.clock.now) (g.S.Source.left c.args.input.now) (putting_way c.args.place) (putting c.args.place) c.args.disk
 
 pub returns-in-Err-TooLong-clause-ends : goal.returns-in-Err-TooLong-clause-ends
 returns-in-Err-TooLong-clause-ends g c = absurd (rw c.in-Err-TooLong.field-0-is at c.in-Err-TooLong.ensures.read)
@@ -43,19 +43,19 @@ pub returns-in-Ok-clause-crash : goal.returns-in-Ok-clause-crash
 returns-in-Ok-clause-crash g c =
     let coming = g.C.Clock.coming c.args.clock.now in
     let place = c.args.place in
-    let by-way = subst (λ (y : WriteKind). CommandLeaves g.D.Disk.content g.D.Disk.moment g.D.Disk.left_since c.args.disk c.carry_out.result.1 coming y (taking c.command_of.result)) c.command_of.ensures.way c.carry_out.ensures.crash in
-    let run = subst (λ (w : ℕ → Archive → Done). CommandLeaves g.D.Disk.content g.D.Disk.moment g.D.Disk.left_since c.args.disk c.carry_out.result.1 coming (putting_way place) w) c.command_of.ensures.wanted by-way in
-    message-runs g.D.Disk.content g.D.Disk.moment g.D.Disk.left_since coming (g.S.Source.left c.args.input.now) (putting_way place) (putting place) c.args.disk c.carry_out.result.1 c.in-Ok.bytes c.in-Ok.ensures.read.0
-    (subst (λ (b : List ℕ). CommandLeaves g.D.Disk.content g.D.Disk.moment g.D.Disk.left_since c.args.disk c.carry_out.result.1 coming (putting_way place) (putting place b)) c.as_slice.ensures run)
+    let by-way = subst (λ (y : WriteKind). CommandLeaves g.D.Disk c.args.disk c.carry_out.result.1 coming y (taking c.command_of.result)) c.command_of.ensures.way c.carry_out.ensures.crash in
+    let run = subst (λ (w : ℕ → Archive → Done). CommandLeaves g.D.Disk c.args.disk c.carry_out.result.1 coming (putting_way place) w) c.command_of.ensures.wanted by-way in
+    message-runs g.D.Disk coming (g.S.Source.left c.args.input.now) (putting_way place) (putting place) c.args.disk c.carry_out.result.1 c.in-Ok.bytes c.in-Ok.ensures.read.0
+    (subst (λ (b : List ℕ). CommandLeaves g.D.Disk c.args.disk c.carry_out.result.1 coming (putting_way place) (putting place b)) c.as_slice.ensures run)
 
 pub returns-in-Err-Fault-clause-crash_between : goal.returns-in-Err-Fault-clause-crash_between
-returns-in-Err-Fault-clause-crash_between g c = still-crash_between g.D.Disk.content g.D.Disk.moment g.D.Disk.left_since g.met.D.Disk.only_now c.args.disk
+returns-in-Err-Fault-clause-crash_between g c = still-crash_between g.D.Disk g.met.D.Disk.only_now c.args.disk
 
 pub returns-in-Err-TooLong-clause-crash_between : goal.returns-in-Err-TooLong-clause-crash_between
-returns-in-Err-TooLong-clause-crash_between g c = still-crash_between g.D.Disk.content g.D.Disk.moment g.D.Disk.left_since g.met.D.Disk.only_now c.args.disk
+returns-in-Err-TooLong-clause-crash_between g c = still-crash_between g.D.Disk g.met.D.Disk.only_now c.args.disk
 
 pub returns-in-Err-NoMemory-clause-crash_between : goal.returns-in-Err-NoMemory-clause-crash_between
-returns-in-Err-NoMemory-clause-crash_between g c = still-crash_between g.D.Disk.content g.D.Disk.moment g.D.Disk.left_since g.met.D.Disk.only_now c.args.disk
+returns-in-Err-NoMemory-clause-crash_between g c = still-crash_between g.D.Disk g.met.D.Disk.only_now c.args.disk
 
 pub returns-in-Ok-clause-crash_between : goal.returns-in-Ok-clause-crash_between
 returns-in-Ok-clause-crash_between g c = c.carry_out.ensures.crash_between

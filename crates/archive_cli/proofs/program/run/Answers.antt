@@ -97,7 +97,7 @@ returns-in-Some-Serve-clause-ends g c =
       c.serve_disk-status.result.0,
       c.code-in-Some-Serve.ensures,
       ran-served (spelled c.args.words.now) c.in-Some-Serve.turns c.in-Some-Serve._port served.0 c.serve_disk-status.result.0 _ _ (rw c.in-Some-Serve.field-0-is at c.in-Some-Serve.ensures)
-          (shut-faults g.D.Disk.content g.D.Disk.moment g.D.Disk.left_since c.in-Some-Serve.turns served.0 c.args.disk c.serve_disk-status.result.1 old new (g.H.Host.recorded c.args.host.now) (g.H.Host.recorded c.serve_disk-status.new.host) served.1) refl refl refl served.2,
+          (shut-faults g.D.Disk c.in-Some-Serve.turns served.0 c.args.disk c.serve_disk-status.result.1 old new (g.H.Host.recorded c.args.host.now) (g.H.Host.recorded c.serve_disk-status.new.host) served.1) refl refl refl served.2,
     )
 
 pub returns-in-Some-Serve-clause-serve : goal.returns-in-Some-Serve-clause-serve
@@ -178,19 +178,19 @@ pub returns-in-Some-Purge-clause-clock : goal.returns-in-Some-Purge-clause-clock
 returns-in-Some-Purge-clause-clock g c = λ none. absurd (none (inr (inr (inr (c.in-Some-Purge.number, rw c.in-Some-Purge.field-0-is at c.in-Some-Purge.ensures)))))
 
 pub returns-in-None-clause-crash_between : goal.returns-in-None-clause-crash_between
-returns-in-None-clause-crash_between g c = λ made serves. still-crash_between g.D.Disk.content g.D.Disk.moment g.D.Disk.left_since g.met.D.Disk.only_now c.args.disk
+returns-in-None-clause-crash_between g c = λ made serves. still-crash_between g.D.Disk g.met.D.Disk.only_now c.args.disk
 
 pub returns-in-Some-Help-clause-crash_between : goal.returns-in-Some-Help-clause-crash_between
-returns-in-Some-Help-clause-crash_between g c = λ made serves. still-crash_between g.D.Disk.content g.D.Disk.moment g.D.Disk.left_since g.met.D.Disk.only_now c.args.disk
+returns-in-Some-Help-clause-crash_between g c = λ made serves. still-crash_between g.D.Disk g.met.D.Disk.only_now c.args.disk
 
 pub returns-in-Some-Version-clause-crash_between : goal.returns-in-Some-Version-clause-crash_between
-returns-in-Some-Version-clause-crash_between g c = λ made serves. still-crash_between g.D.Disk.content g.D.Disk.moment g.D.Disk.left_since g.met.D.Disk.only_now c.args.disk
+returns-in-Some-Version-clause-crash_between g c = λ made serves. still-crash_between g.D.Disk g.met.D.Disk.only_now c.args.disk
 
 pub returns-in-Some-Replay-clause-crash_between : goal.returns-in-Some-Replay-clause-crash_between
-returns-in-Some-Replay-clause-crash_between g c = λ made serves. still-crash_between g.D.Disk.content g.D.Disk.moment g.D.Disk.left_since g.met.D.Disk.only_now c.args.disk
+returns-in-Some-Replay-clause-crash_between g c = λ made serves. still-crash_between g.D.Disk g.met.D.Disk.only_now c.args.disk
 
 pub returns-in-Some-Load-clause-crash_between : goal.returns-in-Some-Load-clause-crash_between
-returns-in-Some-Load-clause-crash_between g c = λ made serves. still-crash_between g.D.Disk.content g.D.Disk.moment g.D.Disk.left_since g.met.D.Disk.only_now c.args.disk
+returns-in-Some-Load-clause-crash_between g c = λ made serves. still-crash_between g.D.Disk g.met.D.Disk.only_now c.args.disk
 
 pub returns-in-Some-Deliver-clause-crash_between : goal.returns-in-Some-Deliver-clause-crash_between
 returns-in-Some-Deliver-clause-crash_between g c = λ made serves. c.put_input-status.ensures.crash_between

@@ -15,8 +15,6 @@ returns-in-Ok-clause-serves g c =
     let opened = c.in-Ok.ensures.opened in
     let kept = opened.cause.kept (λ fault. absurd (cc fault)) in
     let content = g.D.Disk.content in
-    let moment = g.D.Disk.moment in
-    let left = g.D.Disk.left_since in
     let at = λ (n : ℕ). outer (g.H.Host.taken c.args.host.now) (g.H.Host.closings c.args.host.now) n (g.H.Host.lost c.args.host.now) (g.H.Host.closed_at c.args.host.now) in
     let out = ap (λ (e : Owning g.row.D.Denot). at (g.D.Disk.faults e.disk)) c.new-node.ensures.keep ∙ ap at kept in
     let first = stage c.new-node.result (at (g.D.Disk.faults c.new-node.result.keep.disk)) in
@@ -42,7 +40,7 @@ returns-in-Ok-clause-serves g c =
         anyway = anyway-disk served.arrivals first served.stages last served.anyway;
         records = λ past noted. subst (λ (os : List Outputs). g.H.Host.recorded c.serve-end.new.host (past ++ os)) (sym (noted-disk served.none first served.stages last)) (served.records past noted);
         served = λ a cache reads.
-            served-on content moment left g.met.D.Disk.counts_now g.met.D.Disk.only_now g.met.D.Disk.reads_fit (λ e b may held has. store-left content moment left g.met.D.Disk.counts_now g.met.D.Disk.only_now e b may (held.0, held.1) has) c.law_of_recovery.ensures.some_one c.law_of_recovery.ensures.caches c.law_of_numbers.ensures.itself c.law_of_commands.ensures.follows a cache
+            served-on g.D.Disk g.met.D.Disk.counts_now g.met.D.Disk.only_now g.met.D.Disk.reads_fit (λ e b may held has. store-left g.D.Disk g.met.D.Disk.counts_now g.met.D.Disk.only_now e b may (held.0, held.1) has) c.law_of_recovery.ensures.some_one c.law_of_recovery.ensures.caches c.law_of_numbers.ensures.itself c.law_of_commands.ensures.follows a cache
             c.args.disk c.in-Ok.engine c.new-node.result c.serve-end.new.node served.arrivals served.stages _ _ c.new-node.ensures.keep (opened.done a cache reads) (c.in-Ok.ensures.rows a cache reads) opened.settled opened.first opened.crash_between (opened-went c.in-Ok.engine.view (content c.args.disk) (content c.in-Ok.engine.disk) (g.met.D.Disk.reads_fit c.args.disk) opened.answer opened.kept opened.settled)
             (λ t fits. served.runs t fits) reads;
       }),
@@ -60,7 +58,7 @@ returns-in-Err-clause-serves g c =
         unopened = c.in-Err.ensures.refused;
         crash = opened.before;
         crash_between = opened.crash_between;
-        stands = λ s cache all. unopened-stands g.D.Disk.content g.D.Disk.moment g.D.Disk.left_since g.met.D.Disk.counts_now g.met.D.Disk.reads_fit s cache c.args.disk c.in-Err.field-0.disk why all opened.before opened.well opened.first;
+        stands = λ s cache all. unopened-stands g.D.Disk g.met.D.Disk.counts_now g.met.D.Disk.reads_fit s cache c.args.disk c.in-Err.field-0.disk why all opened.before opened.well opened.first;
         cause = shut-cause (g.D.Disk.faults c.args.disk) (g.D.Disk.faults c.in-Err.field-0.disk) why opened.cause;
         records = λ past noted. noted;
       },

@@ -1,4 +1,5 @@
 use Rattle.std.proofs.Common.{None}
+use Rattle.arch_model.specs.KeeperRecord.{keeper}
 use Rattle.arch_model.specs.Standing.{standing}
 use Rattle.arch_model.proofs.Keepers.{fits-held}
 use Rattle.control_door.proofs.Answering.{acts-commanded}
@@ -7,7 +8,7 @@ use Rattle.control_door.proofs.answers.say_commanded.Goals as goal
 
 pub returns-clause-acts : goal.returns-clause-acts
 returns-clause-acts g c = λ a rest held.
-    let done = c.command-answer.ensures.done (standing a None) (fits-held g.K.Shelf.holds g.K.Keep.files_are g.K.Shelf.ready g.K.Keep.leaves g.met.K.Keep.holds_files_are g.met.K.Keep.holds_left c.args.keep.now a held) in
+    let done = c.command-answer.ensures.done (standing a None) (fits-held (keeper g.K.Shelf g.K.Keep) g.met.K.Keep.holds_files_are g.met.K.Keep.holds_left c.args.keep.now a held) in
     (done.0, done.1, acts-commanded c.args.moment a c.args.command.now rest done.0 c.command-answer.result _ _ c.say_answer.result (rw c.requires.ready at done.2) c.command-answer.ensures.cause c.command-answer.ensures.later c.say_answer.ensures.said)
 
 pub returns-clause-reads : goal.returns-clause-reads

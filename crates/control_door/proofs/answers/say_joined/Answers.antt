@@ -1,4 +1,5 @@
 use Rattle.std.proofs.Common.{◌≡◌, ◌++◌, ◌∙◌, List, ℕ, drop, None, is_ok, true, not, refl, ap}
+use Rattle.arch_model.specs.KeeperRecord.{keeper}
 use Rattle.arch_model.specs.Standing.{standing}
 use Rattle.control_door.specs.Sessions.{request_with}
 use Rattle.control_door.proofs.Answering.{answers-held, acts-refusing}
@@ -7,7 +8,7 @@ use Rattle.control_door.proofs.answers.say_joined.Goals as goal
 
 pub returns-then-is_err-clause-acts : goal.returns-then-is_err-clause-acts
 returns-then-is_err-clause-acts g c =
-    answers-held g.K.Shelf.holds g.K.Keep.files_are g.K.Shelf.ready g.K.Keep.leaves g.met.K.Keep.holds_files_are g.met.K.Keep.holds_left c.args.moment (request_with c.args.aim (drop c.args.start (c.args.held.now ++ c.args.last.now))) c.args.keep.now _ _ _
+    answers-held (keeper g.K.Shelf g.K.Keep) g.met.K.Keep.holds_files_are g.met.K.Keep.holds_left c.args.moment (request_with c.args.aim (drop c.args.start (c.args.held.now ++ c.args.last.now))) c.args.keep.now _ _ _
     (λ a rest. acts-refusing c.args.moment (standing a None) c.args.aim (drop c.args.start (c.args.held.now ++ c.args.last.now)) rest _ _ _ refl c.say_memory.ensures.said)
 
 pub returns-clause-acts : goal.returns-clause-acts

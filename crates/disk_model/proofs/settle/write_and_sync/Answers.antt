@@ -13,8 +13,8 @@ returns-in_err-write_at-clause-crash g c =
     let old = g.D.Disk.content disk in
     let new = g.D.Disk.content c.write_at.new.self in
     let P = WritingLeaves c.args.name c.args.offset n old in
-    let start = started g.D.Disk.moment g.D.Disk.left_since disk P (λ image left. writing_at_start c.args.name c.args.offset n old image (g.met.D.Disk.only_now disk image left)) in
-    goes_on g.D.Disk.moment g.D.Disk.left_since disk disk c.write_at.new.self P new start c.write_at.ensures.time
+    let start = started g.D.Disk disk P (λ image left. writing_at_start c.args.name c.args.offset n old image (g.met.D.Disk.only_now disk image left)) in
+    goes_on g.D.Disk disk disk c.write_at.new.self P new start c.write_at.ensures.time
     (λ image left. writing_tore c.args.name c.args.offset n old new image c.in_err-write_at.ensures.torn left)
 
 pub returns-clause-crash : goal.returns-clause-crash
@@ -25,8 +25,8 @@ returns-clause-crash g c =
     let mid = g.D.Disk.content c.write_at.new.self in
     let new = g.D.Disk.content c.sync.new.self in
     let P = WritingLeaves c.args.name c.args.offset n old in
-    let start = started g.D.Disk.moment g.D.Disk.left_since disk P (λ image left. writing_at_start c.args.name c.args.offset n old image (g.met.D.Disk.only_now disk image left)) in
+    let start = started g.D.Disk disk P (λ image left. writing_at_start c.args.name c.args.offset n old image (g.met.D.Disk.only_now disk image left)) in
     let written = λ (image : Files) (left : Image mid image). writing_wrote c.args.name c.args.offset c.args.bytes.now old mid image c.in_ok-write_at.ensures.written left in
-    let first = goes_on g.D.Disk.moment g.D.Disk.left_since disk disk c.write_at.new.self P mid start c.write_at.ensures.time written in
-    goes_on g.D.Disk.moment g.D.Disk.left_since disk c.write_at.new.self c.sync.new.self P new first c.sync.ensures.time
+    let first = goes_on g.D.Disk disk disk c.write_at.new.self P mid start c.write_at.ensures.time written in
+    goes_on g.D.Disk disk c.write_at.new.self c.sync.new.self P new first c.sync.ensures.time
     (λ image left. written image (sync_image c.sync.result mid new image (g.met.D.Disk.reads_fit c.write_at.new.self) c.sync.ensures.durable c.sync.ensures.torn left))

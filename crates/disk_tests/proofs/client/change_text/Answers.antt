@@ -10,7 +10,7 @@ pub returns-in_err-write_and_sync-clause-crash : goal.returns-in_err-write_and_s
 returns-in_err-write_and_sync-clause-crash g c = λ old each.
     let disk = c.args.disk.now in
     let k0 = g.D.Disk.content disk in
-    weaker g.D.Disk.moment g.D.Disk.left_since disk c.write_and_sync.new.disk _ (StandsForEitherText c.args.name old c.args.text.now) c.write_and_sync.ensures.crash
+    weaker g.D.Disk disk c.write_and_sync.new.disk _ (StandsForEitherText c.args.name old c.args.text.now) c.write_and_sync.ensures.crash
     (λ image. during_text c.args.name old c.args.text.now k0 image (omega arith) (g.met.D.Disk.reads_fit disk) c.requires.size each)
 
 pub returns-clause-crash : goal.returns-clause-crash
@@ -26,7 +26,7 @@ returns-clause-crash g c = λ old each.
     let written = c.in_ok-write_and_sync.ensures.written in
     let filled = text_filled name old text k0 k1 eight fit each written in
     let size = size_stays name text k0 k1 eight c.requires.size written in
-    joined g.D.Disk.moment g.D.Disk.left_since disk mid c.write_and_sync-2.new.disk _ _ (StandsForEitherText name old text) c.write_and_sync.ensures.crash c.write_and_sync-2.ensures.crash
+    joined g.D.Disk disk mid c.write_and_sync-2.new.disk _ _ (StandsForEitherText name old text) c.write_and_sync.ensures.crash c.write_and_sync-2.ensures.crash
     (λ image. during_text name old text k0 image eight fit c.requires.size each)
     (λ image. during_gate name old text k1 image (g.met.D.Disk.reads_fit mid) size filled)
 

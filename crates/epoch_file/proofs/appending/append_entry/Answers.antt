@@ -4,22 +4,22 @@ use Rattle.epoch_file.proofs.appending.append_entry.Goals as goal
 
 pub returns-in_err-piece-clause-crash_beside : goal.returns-in_err-piece-clause-crash_beside
 returns-in_err-piece-clause-crash_beside g c = λ bounds far.
-    run_started g.D.Disk.content g.D.Disk.moment g.D.Disk.left_since bounds c.args.disk.now (g.met.D.Disk.only_now c.args.disk.now)
+    run_started g.D.Disk bounds c.args.disk.now (g.met.D.Disk.only_now c.args.disk.now)
 
 pub returns-then-bytes-gt-MOST-clause-crash_beside : goal.returns-then-bytes-gt-MOST-clause-crash_beside
 returns-then-bytes-gt-MOST-clause-crash_beside g c = λ bounds far.
-    run_started g.D.Disk.content g.D.Disk.moment g.D.Disk.left_since bounds c.args.disk.now (g.met.D.Disk.only_now c.args.disk.now)
+    run_started g.D.Disk bounds c.args.disk.now (g.met.D.Disk.only_now c.args.disk.now)
 
 pub returns-in_err-write_at-clause-crash_beside : goal.returns-in_err-write_at-clause-crash_beside
 returns-in_err-write_at-clause-crash_beside g c = λ bounds far.
     let disk = c.args.disk.now in
     let content = g.D.Disk.content in
-    run_call content g.D.Disk.moment g.D.Disk.left_since bounds disk c.write_at.new.self (g.met.D.Disk.only_now disk) c.write_at.ensures.time
+    run_call g.D.Disk bounds disk c.write_at.new.self (g.met.D.Disk.only_now disk) c.write_at.ensures.time
     (write_told c.write_at.result bounds c.args.file c.args.at _ (content disk) (content c.write_at.new.self) (g.met.D.Disk.reads_fit disk) far c.requires.inside c.write_at.ensures.written c.write_at.ensures.torn)
 
 pub returns-clause-crash_beside : goal.returns-clause-crash_beside
 returns-clause-crash_beside g c = λ bounds far.
     let disk = c.args.disk.now in
     let content = g.D.Disk.content in
-    run_call content g.D.Disk.moment g.D.Disk.left_since bounds disk c.write_at.new.self (g.met.D.Disk.only_now disk) c.write_at.ensures.time
+    run_call g.D.Disk bounds disk c.write_at.new.self (g.met.D.Disk.only_now disk) c.write_at.ensures.time
     (write_told c.write_at.result bounds c.args.file c.args.at _ (content disk) (content c.write_at.new.self) (g.met.D.Disk.reads_fit disk) far c.requires.inside c.write_at.ensures.written c.write_at.ensures.torn)

@@ -50,7 +50,7 @@ loop-entry-preserved g c =
       file = c.in_default.ensures.file ∙ before.file;
       planned = planned_more c.args.from seen gone i s old new m (content d2) below before.file c.in_default.ensures.same takes before.planned;
       same = unchanged_then (content disk) m (content d2) before.same c.in_default.ensures.same;
-      moments = joined g.D.Disk.moment g.D.Disk.left_since disk d1 d2 (Image (content disk)) (Image m) (Image (content disk)) before.moments c.in_default.ensures.crash (λ image left. left) (image_back (content disk) m before.same);
+      moments = joined g.D.Disk disk d1 d2 (Image (content disk)) (Image m) (Image (content disk)) before.moments c.in_default.ensures.crash (λ image left. left) (image_back (content disk) m before.same);
       kept = faults ∙ before.kept;
     }
 

@@ -41,14 +41,11 @@ returns-in_err-plan-clause-others g c =
 
 pub returns-in_err-plan-clause-crash_beside : goal.returns-in_err-plan-clause-crash_beside
 returns-in_err-plan-clause-crash_beside g c = λ bounds far.
-    let content = g.D.Disk.content in
     let disk = c.args.disk.now in
     let d1 = c.walk.new.disk in
     let d2 = c.plan_file.new.disk in
-    let moment = g.D.Disk.moment in
-    let left_since = g.D.Disk.left_since in
-    let looked = run_joined content moment left_since bounds disk d1 d2 (run_looked content moment left_since bounds disk d1 c.walk.ensures.crash c.walk.ensures.same)
-    (run_looked content moment left_since bounds d1 d2 c.plan_file.ensures.crash c.plan_file.ensures.same) in
+    let looked = run_joined g.D.Disk bounds disk d1 d2 (run_looked g.D.Disk bounds disk d1 c.walk.ensures.crash c.walk.ensures.same)
+    (run_looked g.D.Disk bounds d1 d2 c.plan_file.ensures.crash c.plan_file.ensures.same) in
     looked
 
 pub returns-in_err-whole-clause-others : goal.returns-in_err-whole-clause-others
@@ -58,15 +55,12 @@ returns-in_err-whole-clause-others g c =
 
 pub returns-in_err-whole-clause-crash_beside : goal.returns-in_err-whole-clause-crash_beside
 returns-in_err-whole-clause-crash_beside g c = λ bounds far.
-    let content = g.D.Disk.content in
     let disk = c.args.disk.now in
     let d1 = c.walk.new.disk in
     let d2 = c.plan_file.new.disk in
-    let moment = g.D.Disk.moment in
-    let left_since = g.D.Disk.left_since in
-    let looked = run_joined content moment left_since bounds disk d1 d2 (run_looked content moment left_since bounds disk d1 c.walk.ensures.crash c.walk.ensures.same)
-    (run_looked content moment left_since bounds d1 d2 c.plan_file.ensures.crash c.plan_file.ensures.same) in
-    run_joined content moment left_since bounds disk d2 c.put_sources.new.disk looked (c.put_sources.ensures.crash_beside bounds far)
+    let looked = run_joined g.D.Disk bounds disk d1 d2 (run_looked g.D.Disk bounds disk d1 c.walk.ensures.crash c.walk.ensures.same)
+    (run_looked g.D.Disk bounds d1 d2 c.plan_file.ensures.crash c.plan_file.ensures.same) in
+    run_joined g.D.Disk bounds disk d2 c.put_sources.new.disk looked (c.put_sources.ensures.crash_beside bounds far)
 
 pub returns-then-not-whole-clause-others : goal.returns-then-not-whole-clause-others
 returns-then-not-whole-clause-others g c =
@@ -75,15 +69,12 @@ returns-then-not-whole-clause-others g c =
 
 pub returns-then-not-whole-clause-crash_beside : goal.returns-then-not-whole-clause-crash_beside
 returns-then-not-whole-clause-crash_beside g c = λ bounds far.
-    let content = g.D.Disk.content in
     let disk = c.args.disk.now in
     let d1 = c.walk.new.disk in
     let d2 = c.plan_file.new.disk in
-    let moment = g.D.Disk.moment in
-    let left_since = g.D.Disk.left_since in
-    let looked = run_joined content moment left_since bounds disk d1 d2 (run_looked content moment left_since bounds disk d1 c.walk.ensures.crash c.walk.ensures.same)
-    (run_looked content moment left_since bounds d1 d2 c.plan_file.ensures.crash c.plan_file.ensures.same) in
-    run_joined content moment left_since bounds disk d2 c.put_sources.new.disk looked (c.put_sources.ensures.crash_beside bounds far)
+    let looked = run_joined g.D.Disk bounds disk d1 d2 (run_looked g.D.Disk bounds disk d1 c.walk.ensures.crash c.walk.ensures.same)
+    (run_looked g.D.Disk bounds d1 d2 c.plan_file.ensures.crash c.plan_file.ensures.same) in
+    run_joined g.D.Disk bounds disk d2 c.put_sources.new.disk looked (c.put_sources.ensures.crash_beside bounds far)
 
 pub returns-clause-others : goal.returns-clause-others
 returns-clause-others g c =
@@ -92,15 +83,12 @@ returns-clause-others g c =
 
 pub returns-clause-crash_beside : goal.returns-clause-crash_beside
 returns-clause-crash_beside g c = λ bounds far.
-    let content = g.D.Disk.content in
     let disk = c.args.disk.now in
     let d1 = c.walk.new.disk in
     let d2 = c.plan_file.new.disk in
-    let moment = g.D.Disk.moment in
-    let left_since = g.D.Disk.left_since in
-    let looked = run_joined content moment left_since bounds disk d1 d2 (run_looked content moment left_since bounds disk d1 c.walk.ensures.crash c.walk.ensures.same)
-    (run_looked content moment left_since bounds d1 d2 c.plan_file.ensures.crash c.plan_file.ensures.same) in
-    run_joined content moment left_since bounds disk d2 c.put_sources.new.disk looked (c.put_sources.ensures.crash_beside bounds far)
+    let looked = run_joined g.D.Disk bounds disk d1 d2 (run_looked g.D.Disk bounds disk d1 c.walk.ensures.crash c.walk.ensures.same)
+    (run_looked g.D.Disk bounds d1 d2 c.plan_file.ensures.crash c.plan_file.ensures.same) in
+    run_joined g.D.Disk bounds disk d2 c.put_sources.new.disk looked (c.put_sources.ensures.crash_beside bounds far)
 
 pub returns-then-not-whole-clause-rewritten : goal.returns-then-not-whole-clause-rewritten
 returns-then-not-whole-clause-rewritten g c =

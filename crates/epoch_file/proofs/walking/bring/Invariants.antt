@@ -10,7 +10,7 @@ invariant-loop-alloc g l = record {
   keeps : WhereTold (KeepsShown l.part l.fn.window l.window) (g.D.Disk.content l.fn.disk);
   inside : IsInsidePart l.part l.window;
   room : 8 ≤ length l.piece;
-  reads : OnlyReads g.D.Disk.content g.D.Disk.moment g.D.Disk.left_since g.D.Disk.faults l.fn.disk l.disk;
+  reads : OnlyReads g.D.Disk l.fn.disk l.disk;
   kept : g.D.Disk.faults l.disk ≡ g.D.Disk.faults l.fn.disk;
 }
 

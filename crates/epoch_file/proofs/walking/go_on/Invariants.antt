@@ -13,7 +13,7 @@ invariant-loop-alloc g l = record {
   lie : LieIn 0 l.state.part.offset l.state.seen;
   inside : IsInsidePart l.state.part l.state.window;
   room : 8 ≤ length l.piece;
-  reads : OnlyReads g.D.Disk.content g.D.Disk.moment g.D.Disk.left_since g.D.Disk.faults l.fn.disk l.disk;
+  reads : OnlyReads g.D.Disk l.fn.disk l.disk;
   kept : g.D.Disk.faults l.disk ≡ g.D.Disk.faults l.fn.disk;
 }
 

@@ -15,7 +15,7 @@ returns-in_err-begin-clause-crash g c = λ shut.
     let body = spelling c.args.root.now in
     let names = c.args.names.now in
     let removed = c.in_ok-remove_files.ensures.done in
-    joined g.D.Disk.moment g.D.Disk.left_since disk mid c.begin.new.disk _ _ (MakesRoot body k0) c.remove_files.ensures.crash (c.begin.ensures.crash (shut_removed body names k0 k1 shut removed))
+    joined g.D.Disk disk mid c.begin.new.disk _ _ (MakesRoot body k0) c.remove_files.ensures.crash (c.begin.ensures.crash (shut_removed body names k0 k1 shut removed))
     (λ image. shut_fewer body names k0 image shut)
     (λ image. shut_begun body names k0 k1 image removed)
 
@@ -30,10 +30,10 @@ returns-clause-crash g c = λ shut.
     let body = spelling c.args.root.now in
     let names = c.args.names.now in
     let removed = c.in_ok-remove_files.ensures.done in
-    let first = joined g.D.Disk.moment g.D.Disk.left_since disk mid begun _ _ (MakesRoot body k0) c.remove_files.ensures.crash (c.begin.ensures.crash (shut_removed body names k0 k1 shut removed))
+    let first = joined g.D.Disk disk mid begun _ _ (MakesRoot body k0) c.remove_files.ensures.crash (c.begin.ensures.crash (shut_removed body names k0 k1 shut removed))
     (λ image. shut_fewer body names k0 image shut)
     (λ image. shut_begun body names k0 k1 image removed) in
-    first_step g.D.Disk.moment g.D.Disk.left_since g.D.Disk.content disk mid begun c.raise_first.new.disk body names k0 k1 k2 removed c.in_ok-begin.ensures.made first c.raise_first.ensures.crash c.raise_first.ensures.time
+    first_step g.D.Disk disk mid begun c.raise_first.new.disk body names k0 k1 k2 removed c.in_ok-begin.ensures.made first c.raise_first.ensures.crash c.raise_first.ensures.time
 
 pub returns-clause-done : goal.returns-clause-done
 returns-clause-done g c = λ all some.

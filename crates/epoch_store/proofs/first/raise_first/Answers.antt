@@ -14,7 +14,7 @@ returns-in_err-fill-clause-crash g c = λ zeros.
     let disk = c.args.disk.now in
     let k0 = g.D.Disk.content disk in
     let body = spelling c.args.root.now in
-    weaker g.D.Disk.moment g.D.Disk.left_since disk c.fill.new.disk _ (ShutOrFirst body k0) c.fill.ensures.crash
+    weaker g.D.Disk disk c.fill.new.disk _ (ShutOrFirst body k0) c.fill.ensures.crash
     (λ image. during_body body c.fill.ensures.whole k0 image (g.met.D.Disk.reads_fit disk) c.requires.size zeros)
 
 pub returns-clause-crash : goal.returns-clause-crash
@@ -28,7 +28,7 @@ returns-clause-crash g c = λ zeros.
     let fit0 = g.met.D.Disk.reads_fit disk in
     let filled = body_filled body whole k0 k1 fit0 zeros c.in_ok-fill.ensures.written in
     let size = size_filled body whole k0 k1 c.requires.size c.in_ok-fill.ensures.written in
-    joined g.D.Disk.moment g.D.Disk.left_since disk mid c.raise.new.disk _ _ (ShutOrFirst body k0) c.fill.ensures.crash c.raise.ensures.crash
+    joined g.D.Disk disk mid c.raise.new.disk _ _ (ShutOrFirst body k0) c.fill.ensures.crash c.raise.ensures.crash
     (λ image. during_body body whole k0 image fit0 c.requires.size zeros)
     (λ image. during_gate body whole k0 k1 image fit0 (g.met.D.Disk.reads_fit mid) size c.in_ok-fill.ensures.written filled)
 

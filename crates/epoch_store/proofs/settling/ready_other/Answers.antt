@@ -21,7 +21,7 @@ returns-clause-crash g c = λ files_are.
     let other = slot_number c.other-other.result in
     let here : WhereTold (IsGateOpen other false) k0 = subst (λ (b : Bool). WhereTold (IsGateOpen other b) k0) c.if-branch.false c.in_ok-is_open.ensures.gate in
     let shut : WhereTold (IsGateOpen (1 - slot) false) k0 = subst (λ (s : ℕ). WhereTold (IsGateOpen s false) k0) c.other-other.ensures here in
-    joined g.D.Disk.moment g.D.Disk.left_since disk mid c.fill.new.disk _ _ (StaysCurrent slot body k0) c.is_open.ensures.crash (rw c.other-other.ensures at c.fill.ensures.crash)
+    joined g.D.Disk disk mid c.fill.new.disk _ _ (StaysCurrent slot body k0) c.is_open.ensures.crash (rw c.other-other.ensures at c.fill.ensures.crash)
     (λ image. current_now slot body k0 image files_are)
     (λ image. filling slot body k0 k1 image (g.met.D.Disk.reads_fit disk) (g.met.D.Disk.reads_fit mid) files_are c.is_open.ensures.same shut c.requires.size)
 
@@ -59,10 +59,10 @@ returns-clause-readies g c =
     on_ok_weaker c.fill.result (slots_written slot (spelling c.args.root.now) k0 k1 k2 c.is_open.ensures.same shut) (rw c.other-other.ensures at c.fill.ensures.written)
 
 pub returns-in_err-is_open-clause-crash_between : goal.returns-in_err-is_open-clause-crash_between
-returns-in_err-is_open-clause-crash_between g c = looks_between g.D.Disk.content g.D.Disk.moment g.D.Disk.left_since c.args.disk.now c.is_open.new.disk c.is_open.ensures.crash
+returns-in_err-is_open-clause-crash_between g c = looks_between g.D.Disk c.args.disk.now c.is_open.new.disk c.is_open.ensures.crash
 
 pub returns-then-branch-clause-crash_between : goal.returns-then-branch-clause-crash_between
-returns-then-branch-clause-crash_between g c = looks_between g.D.Disk.content g.D.Disk.moment g.D.Disk.left_since c.args.disk.now c.is_open.new.disk c.is_open.ensures.crash
+returns-then-branch-clause-crash_between g c = looks_between g.D.Disk c.args.disk.now c.is_open.new.disk c.is_open.ensures.crash
 
 pub returns-then-branch-clause-went : goal.returns-then-branch-clause-went
 returns-then-branch-clause-went g c = went_unchanged (g.D.Disk.content c.args.disk.now) (g.D.Disk.content c.is_open.new.disk) c.is_open.ensures.same
@@ -71,9 +71,8 @@ pub returns-clause-crash_between : goal.returns-clause-crash_between
 returns-clause-crash_between g c =
     let disk = c.args.disk.now in
     let mid = c.is_open.new.disk in
-    let content = g.D.Disk.content in
     let slot = slot_number c.args.slot in
-    fill_between content g.D.Disk.moment g.D.Disk.left_since slot (slot_below c.args.slot) disk mid c.fill.new.disk (g.met.D.Disk.reads_fit mid) c.requires.size c.is_open.ensures.same c.is_open.ensures.crash
+    fill_between g.D.Disk slot (slot_below c.args.slot) disk mid c.fill.new.disk (g.met.D.Disk.reads_fit mid) c.requires.size c.is_open.ensures.same c.is_open.ensures.crash
     (rw c.other-other.ensures at c.fill.ensures.crash)
 
 pub returns-clause-went : goal.returns-clause-went

@@ -18,7 +18,7 @@ returns-in_err-ready_other-clause-crash g c = λ texts todo.
     let root = c.args.root.now in
     let slot = slot_number c.args.slot in
     let names = c.args.names.now in
-    weaker g.D.Disk.moment g.D.Disk.left_since disk c.ready_other.new.disk (StaysCurrent slot (spelling root) k0) (StandsFor root texts) (c.ready_other.ensures.crash (to_settle_rests root slot texts names k0 todo))
+    weaker g.D.Disk disk c.ready_other.new.disk (StaysCurrent slot (spelling root) k0) (StandsFor root texts) (c.ready_other.ensures.crash (to_settle_rests root slot texts names k0 todo))
     (λ image. readying_stands root slot texts names k0 image todo)
 
 pub returns-clause-crash : goal.returns-clause-crash
@@ -31,7 +31,7 @@ returns-clause-crash g c = λ texts todo.
     let names = c.args.names.now in
     let files_are = to_settle_rests root slot texts names k0 todo in
     let ready = tidy_ready root slot texts names k0 (g.D.Disk.content d1) todo (c.in_ok-ready_other.ensures.done files_are) in
-    joined g.D.Disk.moment g.D.Disk.left_since disk d1 c.tidy.new.disk (StaysCurrent slot (spelling root) k0) (StandsFor root texts) (StandsFor root texts) (c.ready_other.ensures.crash files_are) (c.tidy.ensures.crash (1 - slot) texts ready)
+    joined g.D.Disk disk d1 c.tidy.new.disk (StaysCurrent slot (spelling root) k0) (StandsFor root texts) (StandsFor root texts) (c.ready_other.ensures.crash files_are) (c.tidy.ensures.crash (1 - slot) texts ready)
     (λ image. readying_stands root slot texts names k0 image todo)
     (λ image stands. stands)
 
@@ -53,6 +53,5 @@ pub returns-clause-crash_between : goal.returns-clause-crash_between
 returns-clause-crash_between g c =
     let disk = c.args.disk.now in
     let d1 = c.ready_other.new.disk in
-    let content = g.D.Disk.content in
-    joined_between content g.D.Disk.moment g.D.Disk.left_since disk d1 c.tidy.new.disk c.ready_other.ensures.crash_between c.in_ok-ready_other.ensures.went
-    (beside_between content g.D.Disk.moment g.D.Disk.left_since c.args.root.now d1 c.tidy.new.disk c.tidy.ensures.crash_beside)
+    joined_between g.D.Disk disk d1 c.tidy.new.disk c.ready_other.ensures.crash_between c.in_ok-ready_other.ensures.went
+    (beside_between g.D.Disk c.args.root.now d1 c.tidy.new.disk c.tidy.ensures.crash_beside)

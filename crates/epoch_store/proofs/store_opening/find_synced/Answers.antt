@@ -16,7 +16,7 @@ returns-clause-crash g c =
     let k0 = g.D.Disk.content disk in
     let k1 = g.D.Disk.content d1 in
     let P = Image k0 in
-    let synced = goes_on g.D.Disk.moment g.D.Disk.left_since disk disk d1 P k1 (started g.D.Disk.moment g.D.Disk.left_since disk P (λ image. g.met.D.Disk.only_now disk image)) c.sync.ensures.time
+    let synced = goes_on g.D.Disk disk disk d1 P k1 (started g.D.Disk disk P (λ image. g.met.D.Disk.only_now disk image)) c.sync.ensures.time
     (λ image. sync_image c.sync.result k0 k1 image (g.met.D.Disk.reads_fit disk) c.sync.ensures.durable c.sync.ensures.torn) in
-    joined g.D.Disk.moment g.D.Disk.left_since disk d1 c.find.new.disk P (Image k1) P synced c.find.ensures.crash (λ image left. left)
+    joined g.D.Disk disk d1 c.find.new.disk P (Image k1) P synced c.find.ensures.crash (λ image left. left)
     (λ image. sync_image c.sync.result k0 k1 image (g.met.D.Disk.reads_fit disk) c.sync.ensures.durable c.sync.ensures.torn)

@@ -39,14 +39,14 @@ pub returns-in_err-write_record-clause-crash_beside : goal.returns-in_err-write_
 returns-in_err-write_record-clause-crash_beside g c =
     let bounds = bounds_of c.args.root.now in
     let p = c.args.place.now in
-    run_joined g.D.Disk.content g.D.Disk.moment g.D.Disk.left_since bounds c.args.disk.now c.append_entry.new.disk c.write_record.new.disk
+    run_joined g.D.Disk bounds c.args.disk.now c.append_entry.new.disk c.write_record.new.disk
     (c.append_entry.ensures.crash_beside bounds (subst (λ (f : FileName). RespectsBound (bounds f) p.length) (sym c.epoch_file-epoch.ensures) (place_respects c.args.root.now p c.requires.place c.requires.small))) c.write_record.ensures.crash_beside
 
 pub returns-clause-crash_beside : goal.returns-clause-crash_beside
 returns-clause-crash_beside g c =
     let bounds = bounds_of c.args.root.now in
     let p = c.args.place.now in
-    run_joined g.D.Disk.content g.D.Disk.moment g.D.Disk.left_since bounds c.args.disk.now c.append_entry.new.disk c.write_record.new.disk
+    run_joined g.D.Disk bounds c.args.disk.now c.append_entry.new.disk c.write_record.new.disk
     (c.append_entry.ensures.crash_beside bounds (subst (λ (f : FileName). RespectsBound (bounds f) p.length) (sym c.epoch_file-epoch.ensures) (place_respects c.args.root.now p c.requires.place c.requires.small))) c.write_record.ensures.crash_beside
 
 pub returns-clause-entered : goal.returns-clause-entered

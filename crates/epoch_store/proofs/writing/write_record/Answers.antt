@@ -15,7 +15,7 @@ use Rattle.epoch_store.proofs.Entering.{map_respects, nothing_told, wrote_told}
 use Rattle.epoch_store.proofs.writing.write_record.Goals as goal
 
 pub returns-in-Deletion-clause-crash_beside : goal.returns-in-Deletion-clause-crash_beside
-returns-in-Deletion-clause-crash_beside g c = run_started g.D.Disk.content g.D.Disk.moment g.D.Disk.left_since (bounds_of c.args.root.now) c.args.disk.now (g.met.D.Disk.only_now c.args.disk.now)
+returns-in-Deletion-clause-crash_beside g c = run_started g.D.Disk (bounds_of c.args.root.now) c.args.disk.now (g.met.D.Disk.only_now c.args.disk.now)
 
 pub returns-in-Deletion-clause-added : goal.returns-in-Deletion-clause-added
 returns-in-Deletion-clause-added g c =

@@ -12,7 +12,7 @@ loop-n-init g c = record {
 pub loop-n-preserved : goal.loop-n-preserved
 loop-n-preserved g c = record {
   value = λ a held.
-      len-more a.entries c.loop-n.low c.in-Some.n c.loop-n.len c.piece_len-len.result _ c.in-Some.ensures.later.1 (c.in-Some.ensures.next a held) (c.loop-n.invariant.value a held) (c.piece_len-len.ensures.value a held);
+      rw c.from-low.ensures (len-more a.entries c.loop-n.low c.in-Some.n c.loop-n.len c.piece_len-len.result _ c.in-Some.ensures.later.1 (c.in-Some.ensures.next a held) (c.loop-n.invariant.value a held) (c.piece_len-len.ensures.value a held));
   room = omega (arith, c.in-Some.ensures.later, c.piece_len-len.ensures.small, c.loop-n.invariant.room);
   within = search rules;
 }

@@ -1,9 +1,9 @@
-use Rattle.std.proofs.Common.{◌∙◌, sym}
-use Rattle.http_front.proofs.Pieces.{piece-of-row, piece-of-none}
+use Rattle.std.proofs.Common.{◌∙◌, Some, None, sym}
+use Rattle.http_front.proofs.Pieces.{piece-of}
 use Rattle.http_front.proofs.mailbox.piece_len.Goals as goal
 
 pub returns-in-Some-clause-value : goal.returns-in-Some-clause-value
-returns-in-Some-clause-value g c = λ a held. c.widened.ensures.value ∙ sym (piece-of-row a.entries c.args.n c.in-Some.row.now (sym (c.in-Some.ensures a held)))
+returns-in-Some-clause-value g c = λ a held. c.widened.ensures.value ∙ sym (piece-of a.entries c.args.n (Some c.in-Some.row.now) (c.in-Some.ensures a held))
 
 pub returns-in-None-clause-value : goal.returns-in-None-clause-value
-returns-in-None-clause-value g c = λ a held. sym (piece-of-none a.entries c.args.n (sym (c.in-None.ensures a held)))
+returns-in-None-clause-value g c = λ a held. sym (piece-of a.entries c.args.n None (c.in-None.ensures a held))

@@ -20,12 +20,12 @@ pub loop-n-preserved : goal.loop-n-preserved
 loop-n-preserved g c = record {
   so_far = λ a held.
       let now = c.loop-n.invariant.shelf.kept a held in
-      sofar-put (c.args.unsaid ++ whole_mailbox a.entries) c.loop-n.unsaid (pieces_left a.entries c.loop-n.low) (piece_at a.entries c.in-Some.n) (pieces_left a.entries (c.in-Some.n + 1)) c.loop-n.begun _ _ (c.loop-n.invariant.so_far a held) (pieces-next a.entries c.loop-n.low c.in-Some.n c.in-Some.ensures.later.1 (c.in-Some.ensures.next a now))
-      c.in-Put.said c.say_part.new.unsaid _ (c.in-Put.ensures.part a now);
+      rw c.from-low.ensures (sofar-put (c.args.unsaid ++ whole_mailbox a.entries) c.loop-n.unsaid (pieces_left a.entries c.loop-n.low) (piece_at a.entries c.in-Some.n) (pieces_left a.entries (c.in-Some.n + 1)) c.loop-n.begun _ _ (c.loop-n.invariant.so_far a held) (pieces-next a.entries c.loop-n.low c.in-Some.n c.in-Some.ensures.later.1 (c.in-Some.ensures.next a now))
+      c.in-Put.said c.say_part.new.unsaid _ (c.in-Put.ensures.part a now));
   reads = λ a held.
       let now = c.loop-n.invariant.shelf.kept a held in
-      ahead-once (length (live a.entries)) (entries_from (live a.entries) c.loop-n.low) (entries_from (live a.entries) (c.in-Some.n + 1)) _ _ _
-      (from-next (live a.entries) c.loop-n.low c.in-Some.n (c.in-Some.ensures.next a now).0 (c.in-Some.ensures.next a now).2) (c.loop-n.invariant.reads a held) c.say_part.ensures.reads;
+      rw c.from-low.ensures (ahead-once (length (live a.entries)) (entries_from (live a.entries) c.loop-n.low) (entries_from (live a.entries) (c.in-Some.n + 1)) _ _ _
+      (from-next (live a.entries) c.loop-n.low c.in-Some.n (c.in-Some.ensures.next a now).0 (c.in-Some.ensures.next a now).2) (c.loop-n.invariant.reads a held) c.say_part.ensures.reads);
   within = search rules;
   shelf = stays-joined g.S.Shelf.holds g.S.Shelf.ready g.S.Shelf.alike g.S.Shelf.faults g.met.S.Shelf.alike_joined _ _ _ c.loop-n.invariant.shelf c.say_part.ensures.shelf;
   sink = g.met.O.Sink.alike_joined _ _ _ c.loop-n.invariant.sink c.say_part.ensures.sink;

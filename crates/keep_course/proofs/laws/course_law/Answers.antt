@@ -1,8 +1,8 @@
 -- The law of crashes in a course, at the small keeper.
-use Rattle.keep_course.specs.Laws.{HistoryHolds, HistoryRests, history_ready, HistoryLeaves}
+use Rattle.keep_course.specs.Laws.{history}
 use Rattle.keep_course.proofs.Courses.{crash-in}
 use Rattle.std.proofs.Common.{[], ◌∷◌, ◌++◌}
 use Rattle.keep_course.proofs.laws.course_law.Goals as goal
 
 pub returns : goal.returns
-returns c = λ said is_request old new w v fits course. crash-in HistoryLeaves said is_request HistoryHolds HistoryRests history_ready old new w (course.acts ++ v ∷ []) fits course.left
+returns c = λ said is_request old new w v fits course. crash-in history said is_request old new w (course.acts ++ v ∷ []) fits course.left

@@ -1,4 +1,5 @@
 use Rattle.std.proofs.Common.{◌≡◌, None}
+use Rattle.arch_model.specs.KeeperRecord.{keeper}
 use Rattle.arch_model.specs.Archives.{Archive}
 use Rattle.arch_model.specs.Keeping.{MatchesKnown}
 use Rattle.arch_model.specs.Standing.{standing}
@@ -8,8 +9,8 @@ use Rattle.load_run.proofs.commanding.deliver_all.Given as goal
 
 abbrev pub invariant-loop-index : goal.invariant-loop-index
 invariant-loop-index g l = record {
-  kept : (a : Archive) → MatchesKnown g.K.Shelf.holds g.K.Keep.files_are g.K.Shelf.ready g.K.Keep.leaves l.fn.keep (standing a None)
-      → MatchesKnown g.K.Shelf.holds g.K.Keep.files_are g.K.Shelf.ready g.K.Keep.leaves l.keep (standing (delivered_to a l.fn.seed l.index) None);
+  kept : (a : Archive) → MatchesKnown (keeper g.K.Shelf g.K.Keep) l.fn.keep (standing a None)
+      → MatchesKnown (keeper g.K.Shelf g.K.Keep) l.keep (standing (delivered_to a l.fn.seed l.index) None);
   state : l.state ≡ state_after l.fn.seed l.index;
   same : g.K.Shelf.faults l.keep ≡ g.K.Shelf.faults l.fn.keep;
 }

@@ -1,4 +1,5 @@
 use Rattle.std.proofs.Common.{◌≡◌, None}
+use Rattle.arch_model.specs.KeeperRecord.{keeper}
 use Rattle.arch_model.specs.Archives.{Archive}
 use Rattle.arch_model.specs.Keeping.{MatchesKnown}
 use Rattle.arch_model.specs.Standing.{standing}
@@ -7,7 +8,7 @@ use Rattle.load_run.proofs.commanding.purge_all.Given as goal
 
 abbrev pub invariant-loop-index : goal.invariant-loop-index
 invariant-loop-index g l = record {
-  kept : (a : Archive) → MatchesKnown g.K.Shelf.holds g.K.Keep.files_are g.K.Shelf.ready g.K.Keep.leaves l.fn.keep (standing a None)
-      → MatchesKnown g.K.Shelf.holds g.K.Keep.files_are g.K.Shelf.ready g.K.Keep.leaves l.keep (standing (purged_to a l.index) None);
+  kept : (a : Archive) → MatchesKnown (keeper g.K.Shelf g.K.Keep) l.fn.keep (standing a None)
+      → MatchesKnown (keeper g.K.Shelf g.K.Keep) l.keep (standing (purged_to a l.index) None);
   same : g.K.Shelf.faults l.keep ≡ g.K.Shelf.faults l.fn.keep;
 }

@@ -1,21 +1,22 @@
 use Rattle.std.proofs.lemmas.Bool.{false≢true}
+use Rattle.arch_model.specs.KeeperRecord.{keeper}
 use Rattle.node_serve.proofs.Feeding.{fed-opened, fed-shut, reads-from}
 use Rattle.node_serve.proofs.session.take.Goals as goal
 
 pub returns-in-Go-clause-fed : goal.returns-in-Go-clause-fed
 returns-in-Go-clause-fed g c = λ s fits.
     let opened = c.in-Go.ensures.acts s c.args.piece.now fits in
-    fed-opened g.K.Shelf.holds g.K.Keep.files_are g.K.Shelf.ready g.K.Keep.leaves c.args.moment c.args.session.now c.args.piece.now s opened.0 c.args.keep.now c.reopen.new.keep c.feed.new.keep _ _ _ _ _ opened.2 opened.1.passes (c.feed.ensures.fed opened.0 opened.1.fits)
+    fed-opened (keeper g.K.Shelf g.K.Keep) c.args.moment c.args.session.now c.args.piece.now s opened.0 c.args.keep.now c.reopen.new.keep c.feed.new.keep _ _ _ _ _ opened.2 opened.1.passes (c.feed.ensures.fed opened.0 opened.1.fits)
 
 pub returns-in-Close-clause-fed : goal.returns-in-Close-clause-fed
 returns-in-Close-clause-fed g c = λ s fits.
     let shut = c.in-Close.ensures.acts s c.args.piece.now fits in
-    fed-shut g.K.Shelf.holds g.K.Keep.files_are g.K.Shelf.ready g.K.Keep.leaves c.args.moment c.args.session.now c.args.piece.now s shut.0 c.args.keep.now c.reopen.new.keep _ _ _ shut.2 shut.1
+    fed-shut (keeper g.K.Shelf g.K.Keep) c.args.moment c.args.session.now c.args.piece.now s shut.0 c.args.keep.now c.reopen.new.keep _ _ _ shut.2 shut.1
 
 pub returns-in-Go-clause-reads : goal.returns-in-Go-clause-reads
 returns-in-Go-clause-reads g c = λ ready.
     let still = c.in-Go.ensures.nothing ready in
-    reads-from g.K.Shelf.holds g.K.Shelf.ready g.K.Shelf.reads c.args.moment c.args.session.now c.args.piece.now c.args.keep.now c.reopen.new.keep c.feed.new.keep still.1 c.feed.ensures.reads
+    reads-from (keeper g.K.Shelf g.K.Keep) c.args.moment c.args.session.now c.args.piece.now c.args.keep.now c.reopen.new.keep c.feed.new.keep still.1 c.feed.ensures.reads
 
 pub returns-in-Close-clause-reads : goal.returns-in-Close-clause-reads
 returns-in-Close-clause-reads g c = λ ready. (let still = c.in-Close.ensures.nothing ready in absurd (false≢true still.0))

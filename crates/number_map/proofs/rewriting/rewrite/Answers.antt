@@ -17,17 +17,15 @@ put_sources-requires-clause-sources g c =
 
 pub returns-then-not-whole-clause-crash_beside : goal.returns-then-not-whole-clause-crash_beside
 returns-then-not-whole-clause-crash_beside g c = λ bounds far.
-    let content = g.D.Disk.content in
     let disk = c.args.disk.now in
-    let looked = run_looked content g.D.Disk.moment g.D.Disk.left_since bounds disk c.walk.new.disk c.walk.ensures.crash c.walk.ensures.same in
-    run_joined content g.D.Disk.moment g.D.Disk.left_since bounds disk c.walk.new.disk c.put_sources.new.disk looked (c.put_sources.ensures.crash_beside bounds far)
+    let looked = run_looked g.D.Disk bounds disk c.walk.new.disk c.walk.ensures.crash c.walk.ensures.same in
+    run_joined g.D.Disk bounds disk c.walk.new.disk c.put_sources.new.disk looked (c.put_sources.ensures.crash_beside bounds far)
 
 pub returns-clause-crash_beside : goal.returns-clause-crash_beside
 returns-clause-crash_beside g c = λ bounds far.
-    let content = g.D.Disk.content in
     let disk = c.args.disk.now in
-    let looked = run_looked content g.D.Disk.moment g.D.Disk.left_since bounds disk c.walk.new.disk c.walk.ensures.crash c.walk.ensures.same in
-    run_joined content g.D.Disk.moment g.D.Disk.left_since bounds disk c.walk.new.disk c.put_sources.new.disk looked (c.put_sources.ensures.crash_beside bounds far)
+    let looked = run_looked g.D.Disk bounds disk c.walk.new.disk c.walk.ensures.crash c.walk.ensures.same in
+    run_joined g.D.Disk bounds disk c.walk.new.disk c.put_sources.new.disk looked (c.put_sources.ensures.crash_beside bounds far)
 
 pub returns-clause-rewritten : goal.returns-clause-rewritten
 returns-clause-rewritten g c =

@@ -1,5 +1,6 @@
 use Rattle.std.proofs.Common.{◌≡◌, ◌-◌, ◌≤◌, length}
-use Rattle.disk_model.specs.Disk.{Image, BothTold, WhereTold, Unchanged, LeavesOnly, bytes_of}
+use Rattle.disk_model.specs.Disk.{Image, BothTold, WhereTold, Unchanged, bytes_of}
+use Rattle.disk_model.specs.Moments.{LeavesOnly}
 use Rattle.number_map.specs.Records.{AreRecordsFrom}
 use Rattle.number_map.specs.Walks.{BeginsWithRecords}
 use Rattle.number_map.proofs.whole.read_all.Given as goal
@@ -11,7 +12,7 @@ invariant-loop-done g l = record {
   valid : AreRecordsFrom 1 l.lines;
   begins : WhereTold (λ k. BeginsWithRecords l.lines (bytes_of (k l.file).seen)) (g.D.Disk.content l.disk);
   same : BothTold Unchanged (g.D.Disk.content l.fn.disk) (g.D.Disk.content l.disk);
-  moments : LeavesOnly g.D.Disk.moment g.D.Disk.left_since l.fn.disk l.disk (Image (g.D.Disk.content l.fn.disk));
+  moments : LeavesOnly g.D.Disk l.fn.disk l.disk (Image (g.D.Disk.content l.fn.disk));
   kept : g.D.Disk.faults l.disk ≡ g.D.Disk.faults l.fn.disk;
 }
 

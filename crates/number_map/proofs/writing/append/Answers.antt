@@ -6,5 +6,5 @@ pub returns-clause-crash_beside : goal.returns-clause-crash_beside
 returns-clause-crash_beside g c = λ bounds far.
     let disk = c.args.disk.now in
     let content = g.D.Disk.content in
-    run_call content g.D.Disk.moment g.D.Disk.left_since bounds disk c.write_at.new.self (g.met.D.Disk.only_now disk) c.write_at.ensures.time
+    run_call g.D.Disk bounds disk c.write_at.new.self (g.met.D.Disk.only_now disk) c.write_at.ensures.time
     (write_told c.write_at.result bounds c.args.file c.args.at _ (content disk) (content c.write_at.new.self) (g.met.D.Disk.reads_fit disk) far c.requires.inside c.write_at.ensures.written c.write_at.ensures.torn)

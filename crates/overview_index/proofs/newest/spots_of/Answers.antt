@@ -9,5 +9,5 @@ loop-i-init c = record { within = omega arith; put = c.new-found.ensures.empty â
 pub loop-i-preserved : goal.loop-i-preserved
 loop-i-preserved c = record {
   within = (let before = c.loop-i.invariant.within in omega (arith, before));
-  put = spots-more c.args.rows.now.entries c.args.numbers.now c.loop-i.i 0 _ (option_copied c.row_of_number.result) c.loop-i.found.keys c.put_spot.new.found.keys c.loop-i-test.true c.loop-i.invariant.within refl c.row_of_number.ensures c.loop-i.invariant.put c.in_ok-put_spot.ensures;
+  put = spots-more c.args.rows.now.entries c.args.numbers.now c.loop-i.i 0 _ (option_copied c.row_of.result) c.loop-i.found.keys c.put_spot.new.found.keys c.loop-i-test.true c.loop-i.invariant.within refl c.row_of.ensures c.loop-i.invariant.put c.in_ok-put_spot.ensures;
 }

@@ -22,7 +22,7 @@ returns-clause-crash_beside g c =
     let bounds = bounds_of root in
     let far : RespectsBound (bounds name) c.end_of-end.result = subst (λ (n : ℕ). RespectsBound (bounds name) n) (sym c.end_of-end.ensures) (end_respects root name c.requires.other) in
     let inside = subst (λ (n : ℕ). WhereTold (IsAtMostLength name n) (content disk)) (sym c.end_of-end.ensures) (end_inside root name (content disk) c.requires.other c.requires.sizes) in
-    run_call content g.D.Disk.moment g.D.Disk.left_since bounds disk c.write_at.new.self (g.met.D.Disk.only_now disk) c.write_at.ensures.time
+    run_call g.D.Disk bounds disk c.write_at.new.self (g.met.D.Disk.only_now disk) c.write_at.ensures.time
     (write_told c.write_at.result bounds name c.end_of-end.result c.args.bytes.now (content disk) (content c.write_at.new.self) (g.met.D.Disk.reads_fit disk) far inside c.write_at.ensures.written c.write_at.ensures.torn)
 
 pub returns-clause-wrote : goal.returns-clause-wrote

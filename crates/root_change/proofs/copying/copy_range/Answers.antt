@@ -17,7 +17,7 @@ loop-done-init g c =
     let content = g.D.Disk.content in
     record {
       bound = omega arith;
-      crash_beside = λ bounds far. run_started content g.D.Disk.moment g.D.Disk.left_since bounds disk (g.met.D.Disk.only_now disk);
+      crash_beside = λ bounds far. run_started g.D.Disk bounds disk (g.met.D.Disk.only_now disk);
       copied = first_copied c.args.range.file c.args.range.offset c.args.to c.args.end (content disk) c.requires.inside;
       inside = simp unary_clauses c.requires.inside;
       others = others_first c.args.to (content disk);
@@ -27,11 +27,11 @@ loop-done-init g c =
 
 pub returns-in_err-whole-clause-crash_beside : goal.returns-in_err-whole-clause-crash_beside
 returns-in_err-whole-clause-crash_beside g c = λ bounds far.
-    run_joined g.D.Disk.content g.D.Disk.moment g.D.Disk.left_since bounds c.args.disk.now c.loop-done.disk c.copy_window.new.disk (c.loop-done.invariant.crash_beside bounds far) (c.copy_window.ensures.crash_beside bounds (respects_more (bounds c.args.to) c.args.end (c.args.end + c.loop-done.done) (omega arith) far))
+    run_joined g.D.Disk bounds c.args.disk.now c.loop-done.disk c.copy_window.new.disk (c.loop-done.invariant.crash_beside bounds far) (c.copy_window.ensures.crash_beside bounds (respects_more (bounds c.args.to) c.args.end (c.args.end + c.loop-done.done) (omega arith) far))
 
 pub returns-then-not-whole-clause-crash_beside : goal.returns-then-not-whole-clause-crash_beside
 returns-then-not-whole-clause-crash_beside g c = λ bounds far.
-    run_joined g.D.Disk.content g.D.Disk.moment g.D.Disk.left_since bounds c.args.disk.now c.loop-done.disk c.copy_window.new.disk (c.loop-done.invariant.crash_beside bounds far) (c.copy_window.ensures.crash_beside bounds (respects_more (bounds c.args.to) c.args.end (c.args.end + c.loop-done.done) (omega arith) far))
+    run_joined g.D.Disk bounds c.args.disk.now c.loop-done.disk c.copy_window.new.disk (c.loop-done.invariant.crash_beside bounds far) (c.copy_window.ensures.crash_beside bounds (respects_more (bounds c.args.to) c.args.end (c.args.end + c.loop-done.done) (omega arith) far))
 
 pub returns-then-not-whole-clause-whole : goal.returns-then-not-whole-clause-whole
 returns-then-not-whole-clause-whole g c = λ has.
@@ -59,7 +59,7 @@ loop-done-preserved g c =
     let copied = next_told range.file range.offset done next.count c.args.to c.args.end next.offset (c.args.end + done) k m o c.requires.apart c.next_window-next.ensures.offset refl before.copied one in
     record {
       bound = omega (arith, count_is, bound);
-      crash_beside = λ bounds far. run_joined content g.D.Disk.moment g.D.Disk.left_since bounds c.args.disk.now c.loop-done.disk c.copy_window.new.disk (before.crash_beside bounds far) (c.copy_window.ensures.crash_beside bounds (respects_more (bounds c.args.to) c.args.end (c.args.end + done) (omega arith) far));
+      crash_beside = λ bounds far. run_joined g.D.Disk bounds c.args.disk.now c.loop-done.disk c.copy_window.new.disk (before.crash_beside bounds far) (c.copy_window.ensures.crash_beside bounds (respects_more (bounds c.args.to) c.args.end (c.args.end + done) (omega arith) far));
       copied = copied;
       inside = copied_inside range.file range.offset (done + next.count) c.args.to c.args.end (c.args.end + (done + next.count)) k o refl copied;
       others = others_then c.args.to k m o before.others c.in_ok-whole.ensures.others;

@@ -8,7 +8,7 @@ use Rattle.root_change.proofs.copying.copy_range.Given as goal
 abbrev pub invariant-loop-done : goal.invariant-loop-done
 invariant-loop-done g l = record {
   bound : l.done ≤ l.range.count;
-  crash_beside : (bounds : Bounds) → RespectsBound (bounds l.to) l.end → RunsBeside g.D.Disk.content g.D.Disk.moment g.D.Disk.left_since bounds l.fn.disk l.disk;
+  crash_beside : (bounds : Bounds) → RespectsBound (bounds l.to) l.end → RunsBeside g.D.Disk bounds l.fn.disk l.disk;
   copied : BothTold (Copied l.range.file l.range.offset l.done l.to l.end) (g.D.Disk.content l.fn.disk) (g.D.Disk.content l.disk);
   inside : WhereTold (IsAtMostLength l.to (l.end + l.done)) (g.D.Disk.content l.disk);
   others : BothTold (OtherFilesStay l.to) (g.D.Disk.content l.fn.disk) (g.D.Disk.content l.disk);

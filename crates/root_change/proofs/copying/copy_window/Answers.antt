@@ -8,14 +8,12 @@ use Rattle.root_change.proofs.copying.copy_window.Goals as goal
 pub returns-in_err-count-clause-crash_beside : goal.returns-in_err-count-clause-crash_beside
 returns-in_err-count-clause-crash_beside g c = λ bounds far.
     let disk = c.args.disk.now in
-    let content = g.D.Disk.content in
-    run_unchanged content g.D.Disk.moment g.D.Disk.left_since bounds disk c.read.new.self (g.met.D.Disk.only_now disk) c.read.ensures.time c.read.ensures.same
+    run_unchanged g.D.Disk bounds disk c.read.new.self (g.met.D.Disk.only_now disk) c.read.ensures.time c.read.ensures.same
 
 pub returns-then-count-window-clause-crash_beside : goal.returns-then-count-window-clause-crash_beside
 returns-then-count-window-clause-crash_beside g c = λ bounds far.
     let disk = c.args.disk.now in
-    let content = g.D.Disk.content in
-    run_unchanged content g.D.Disk.moment g.D.Disk.left_since bounds disk c.read.new.self (g.met.D.Disk.only_now disk) c.read.ensures.time c.read.ensures.same
+    run_unchanged g.D.Disk bounds disk c.read.new.self (g.met.D.Disk.only_now disk) c.read.ensures.time c.read.ensures.same
 
 pub returns-then-count-window-clause-whole : goal.returns-then-count-window-clause-whole
 returns-then-count-window-clause-whole g c = λ has.
@@ -27,9 +25,9 @@ returns-in_err-write_at-clause-crash_beside g c = λ bounds far.
     let disk = c.args.disk.now in
     let d1 = c.read.new.self in
     let content = g.D.Disk.content in
-    let read = run_unchanged content g.D.Disk.moment g.D.Disk.left_since bounds disk d1 (g.met.D.Disk.only_now disk) c.read.ensures.time c.read.ensures.same in
+    let read = run_unchanged g.D.Disk bounds disk d1 (g.met.D.Disk.only_now disk) c.read.ensures.time c.read.ensures.same in
     let inside = inside_still c.args.to c.args.end (content disk) (content d1) c.requires.inside c.read.ensures.same in
-    run_on content g.D.Disk.moment g.D.Disk.left_since bounds disk d1 c.write_at.new.self read c.write_at.ensures.time
+    run_on g.D.Disk bounds disk d1 c.write_at.new.self read c.write_at.ensures.time
     (write_told c.write_at.result bounds c.args.to c.args.end c.read.new.into (content d1) (content c.write_at.new.self) (g.met.D.Disk.reads_fit d1) far inside c.write_at.ensures.written c.write_at.ensures.torn)
 
 pub returns-clause-crash_beside : goal.returns-clause-crash_beside
@@ -37,9 +35,9 @@ returns-clause-crash_beside g c = λ bounds far.
     let disk = c.args.disk.now in
     let d1 = c.read.new.self in
     let content = g.D.Disk.content in
-    let read = run_unchanged content g.D.Disk.moment g.D.Disk.left_since bounds disk d1 (g.met.D.Disk.only_now disk) c.read.ensures.time c.read.ensures.same in
+    let read = run_unchanged g.D.Disk bounds disk d1 (g.met.D.Disk.only_now disk) c.read.ensures.time c.read.ensures.same in
     let inside = inside_still c.args.to c.args.end (content disk) (content d1) c.requires.inside c.read.ensures.same in
-    run_on content g.D.Disk.moment g.D.Disk.left_since bounds disk d1 c.write_at.new.self read c.write_at.ensures.time
+    run_on g.D.Disk bounds disk d1 c.write_at.new.self read c.write_at.ensures.time
     (write_told c.write_at.result bounds c.args.to c.args.end c.read.new.into (content d1) (content c.write_at.new.self) (g.met.D.Disk.reads_fit d1) far inside c.write_at.ensures.written c.write_at.ensures.torn)
 
 pub returns-clause-copied : goal.returns-clause-copied

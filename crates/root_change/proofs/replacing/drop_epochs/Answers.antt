@@ -14,7 +14,7 @@ pub loop-epoch-init : goal.loop-epoch-init
 loop-epoch-init g c =
     let disk = c.args.disk.now in
     record {
-      crash_beside = run_started g.D.Disk.content g.D.Disk.moment g.D.Disk.left_since (bounds_of c.args.new.now) disk (g.met.D.Disk.only_now disk);
+      crash_beside = run_started g.D.Disk (bounds_of c.args.new.now) disk (g.met.D.Disk.only_now disk);
       dropped = none_dropped c.args.old.now c.args.new.now (g.D.Disk.content disk);
       kept = refl;
       reads = refl;
@@ -22,7 +22,7 @@ loop-epoch-init g c =
 
 pub returns-in_err-drop_file-clause-crash_beside : goal.returns-in_err-drop_file-clause-crash_beside
 returns-in_err-drop_file-clause-crash_beside g c =
-    run_joined g.D.Disk.content g.D.Disk.moment g.D.Disk.left_since (bounds_of c.args.new.now) c.args.disk.now c.loop-epoch.disk c.drop_file.new.disk c.loop-epoch.invariant.crash_beside c.drop_file.ensures.crash_beside
+    run_joined g.D.Disk (bounds_of c.args.new.now) c.args.disk.now c.loop-epoch.disk c.drop_file.new.disk c.loop-epoch.invariant.crash_beside c.drop_file.ensures.crash_beside
 
 pub loop-epoch-preserved : goal.loop-epoch-preserved
 loop-epoch-preserved g c =
@@ -33,7 +33,7 @@ loop-epoch-preserved g c =
     let name_is = c.epoch_file.ensures ∙ ap (λ (p : Place). epoch_name c.loop-epoch.epoch p.generation) c.epoch_place-place.ensures in
     let one = subst (λ (n : FileName). BothTold (Dropped (IsOne n) old new) (content c.loop-epoch.disk) (content c.drop_file.new.disk)) name_is c.in_ok-drop_file.ensures.dropped in
     record {
-      crash_beside = run_joined g.D.Disk.content g.D.Disk.moment g.D.Disk.left_since (bounds_of c.args.new.now) c.args.disk.now c.loop-epoch.disk c.drop_file.new.disk before.crash_beside c.drop_file.ensures.crash_beside;
+      crash_beside = run_joined g.D.Disk (bounds_of c.args.new.now) c.args.disk.now c.loop-epoch.disk c.drop_file.new.disk before.crash_beside c.drop_file.ensures.crash_beside;
       dropped = epoch_dropped old new c.loop-epoch.epoch (content c.args.disk.now) (content c.loop-epoch.disk) (content c.drop_file.new.disk) before.dropped one;
       kept = omega (arith, before.kept, c.in_ok-drop_file.ensures.cause.kept);
       reads = omega (arith, before.reads, c.drop_file.ensures.count);

@@ -11,14 +11,13 @@ use Rattle.root_change.proofs.replacing.drop_files.Goals as goal
 
 pub returns-in_err-drop_file-2-clause-crash_beside : goal.returns-in_err-drop_file-2-clause-crash_beside
 returns-in_err-drop_file-2-clause-crash_beside g c =
-    run_joined g.D.Disk.content g.D.Disk.moment g.D.Disk.left_since (bounds_of c.args.new.now) c.args.disk.now c.drop_file.new.disk c.drop_file-2.new.disk c.drop_file.ensures.crash_beside c.drop_file-2.ensures.crash_beside
+    run_joined g.D.Disk (bounds_of c.args.new.now) c.args.disk.now c.drop_file.new.disk c.drop_file-2.new.disk c.drop_file.ensures.crash_beside c.drop_file-2.ensures.crash_beside
 
 pub returns-clause-crash_beside : goal.returns-clause-crash_beside
 returns-clause-crash_beside g c =
     let bounds = bounds_of c.args.new.now in
-    let content = g.D.Disk.content in
-    run_joined content g.D.Disk.moment g.D.Disk.left_since bounds c.args.disk.now c.drop_file-2.new.disk c.drop_epochs.new.disk
-    (run_joined content g.D.Disk.moment g.D.Disk.left_since bounds c.args.disk.now c.drop_file.new.disk c.drop_file-2.new.disk c.drop_file.ensures.crash_beside c.drop_file-2.ensures.crash_beside)
+    run_joined g.D.Disk bounds c.args.disk.now c.drop_file-2.new.disk c.drop_epochs.new.disk
+    (run_joined g.D.Disk bounds c.args.disk.now c.drop_file.new.disk c.drop_file-2.new.disk c.drop_file.ensures.crash_beside c.drop_file-2.ensures.crash_beside)
     c.drop_epochs.ensures.crash_beside
 
 pub returns-clause-dropped : goal.returns-clause-dropped

@@ -10,7 +10,7 @@ returns-clause-crash_beside g c =
     let bounds = bounds_of c.args.new.now in
     let d1 = c.drop_files.new.disk in
     let content = g.D.Disk.content in
-    run_on content g.D.Disk.moment g.D.Disk.left_since bounds c.args.disk.now d1 c.sync.new.self c.drop_files.ensures.crash_beside c.sync.ensures.time
+    run_on g.D.Disk bounds c.args.disk.now d1 c.sync.new.self c.drop_files.ensures.crash_beside c.sync.ensures.time
     (sync_told c.sync.result bounds (content d1) (content c.sync.new.self) (g.met.D.Disk.reads_fit d1) c.sync.ensures.durable c.sync.ensures.torn)
 
 pub returns-clause-dropped : goal.returns-clause-dropped

@@ -15,29 +15,29 @@ returns-in_err-sync-clause-crash g c = λ texts next todo.
     let disk = c.args.disk.now in
     let d1 = c.sync.new.self in
     let content = g.D.Disk.content in
-    let looks = sync_leaves content g.D.Disk.moment g.D.Disk.left_since disk d1 (g.met.D.Disk.only_now disk) c.sync.ensures.time (λ image. sync_image c.sync.result (content disk) (content d1) image (g.met.D.Disk.reads_fit disk) c.sync.ensures.durable c.sync.ensures.torn) in
-    weaker g.D.Disk.moment g.D.Disk.left_since disk d1 (Image (content disk)) (StandsForEither c.args.old.now texts c.args.new.now next) looks (λ image. before_told (slot_number c.args.slot) c.args.old.now texts c.args.new.now next (content disk) image todo)
+    let looks = sync_leaves g.D.Disk disk d1 (g.met.D.Disk.only_now disk) c.sync.ensures.time (λ image. sync_image c.sync.result (content disk) (content d1) image (g.met.D.Disk.reads_fit disk) c.sync.ensures.durable c.sync.ensures.torn) in
+    weaker g.D.Disk disk d1 (Image (content disk)) (StandsForEither c.args.old.now texts c.args.new.now next) looks (λ image. before_told (slot_number c.args.slot) c.args.old.now texts c.args.new.now next (content disk) image todo)
 
 pub returns-in_err-commit-clause-crash : goal.returns-in_err-commit-clause-crash
 returns-in_err-commit-clause-crash g c = λ texts next todo.
     let disk = c.args.disk.now in
     let d1 = c.sync.new.self in
     let content = g.D.Disk.content in
-    let looks = sync_leaves content g.D.Disk.moment g.D.Disk.left_since disk d1 (g.met.D.Disk.only_now disk) c.sync.ensures.time (λ image. sync_image c.sync.result (content disk) (content d1) image (g.met.D.Disk.reads_fit disk) c.sync.ensures.durable c.sync.ensures.torn) in
-    commit_leaves (slot_number c.args.slot) c.args.old.now texts c.args.new.now next content g.D.Disk.moment g.D.Disk.left_since g.met.D.Disk.reads_fit disk d1 c.commit.new.disk todo c.in_ok-sync.ensures.durable looks c.commit.ensures.crash
+    let looks = sync_leaves g.D.Disk disk d1 (g.met.D.Disk.only_now disk) c.sync.ensures.time (λ image. sync_image c.sync.result (content disk) (content d1) image (g.met.D.Disk.reads_fit disk) c.sync.ensures.durable c.sync.ensures.torn) in
+    commit_leaves (slot_number c.args.slot) c.args.old.now texts c.args.new.now next g.D.Disk g.met.D.Disk.reads_fit disk d1 c.commit.new.disk todo c.in_ok-sync.ensures.durable looks c.commit.ensures.crash
 
 pub returns-clause-crash : goal.returns-clause-crash
 returns-clause-crash g c = λ texts next todo.
     let disk = c.args.disk.now in
     let d1 = c.sync.new.self in
     let content = g.D.Disk.content in
-    let looks = sync_leaves content g.D.Disk.moment g.D.Disk.left_since disk d1 (g.met.D.Disk.only_now disk) c.sync.ensures.time (λ image. sync_image c.sync.result (content disk) (content d1) image (g.met.D.Disk.reads_fit disk) c.sync.ensures.durable c.sync.ensures.torn) in
-    drops_leave (slot_number c.args.slot) c.args.old.now texts c.args.new.now next content g.D.Disk.moment g.D.Disk.left_since g.met.D.Disk.reads_fit disk d1 c.commit.new.disk todo c.in_ok-sync.ensures.durable looks c.commit.ensures.crash c.drop_old.new.disk c.in_ok-commit.ensures.committed c.in_ok-commit.ensures.done c.drop_old.ensures.crash_beside
+    let looks = sync_leaves g.D.Disk disk d1 (g.met.D.Disk.only_now disk) c.sync.ensures.time (λ image. sync_image c.sync.result (content disk) (content d1) image (g.met.D.Disk.reads_fit disk) c.sync.ensures.durable c.sync.ensures.torn) in
+    drops_leave (slot_number c.args.slot) c.args.old.now texts c.args.new.now next g.D.Disk g.met.D.Disk.reads_fit disk d1 c.commit.new.disk todo c.in_ok-sync.ensures.durable looks c.commit.ensures.crash c.drop_old.new.disk c.in_ok-commit.ensures.committed c.in_ok-commit.ensures.done c.drop_old.ensures.crash_beside
 
 pub returns-clause-done : goal.returns-clause-done
 returns-clause-done g c = λ texts next todo.
     on_ok_weaker c.drop_old.result
-    (done_on (slot_number c.args.slot) c.args.old.now texts c.args.new.now next g.D.Disk.content g.D.Disk.moment g.D.Disk.left_since g.met.D.Disk.reads_fit c.args.disk.now c.sync.new.self c.commit.new.disk todo c.in_ok-sync.ensures.durable c.drop_old.new.disk c.in_ok-commit.ensures.again c.in_ok-commit.ensures.written c.in_ok-commit.ensures.committed)
+    (done_on (slot_number c.args.slot) c.args.old.now texts c.args.new.now next g.D.Disk g.met.D.Disk.reads_fit c.args.disk.now c.sync.new.self c.commit.new.disk todo c.in_ok-sync.ensures.durable c.drop_old.new.disk c.in_ok-commit.ensures.again c.in_ok-commit.ensures.written c.in_ok-commit.ensures.committed)
     c.drop_old.ensures.dropped
 
 pub returns-clause-kept : goal.returns-clause-kept
@@ -52,21 +52,21 @@ returns-in_err-sync-clause-crash_between g c =
     let disk = c.args.disk.now in
     let d1 = c.sync.new.self in
     let content = g.D.Disk.content in
-    looks_between content g.D.Disk.moment g.D.Disk.left_since disk d1
-    (sync_leaves content g.D.Disk.moment g.D.Disk.left_since disk d1 (g.met.D.Disk.only_now disk) c.sync.ensures.time (λ image. sync_image c.sync.result (content disk) (content d1) image (g.met.D.Disk.reads_fit disk) c.sync.ensures.durable c.sync.ensures.torn))
+    looks_between g.D.Disk disk d1
+    (sync_leaves g.D.Disk disk d1 (g.met.D.Disk.only_now disk) c.sync.ensures.time (λ image. sync_image c.sync.result (content disk) (content d1) image (g.met.D.Disk.reads_fit disk) c.sync.ensures.durable c.sync.ensures.torn))
 
 pub returns-in_err-commit-clause-crash_between : goal.returns-in_err-commit-clause-crash_between
 returns-in_err-commit-clause-crash_between g c =
     let disk = c.args.disk.now in
     let d1 = c.sync.new.self in
     let content = g.D.Disk.content in
-    let looks = sync_leaves content g.D.Disk.moment g.D.Disk.left_since disk d1 (g.met.D.Disk.only_now disk) c.sync.ensures.time (λ image. sync_image c.sync.result (content disk) (content d1) image (g.met.D.Disk.reads_fit disk) c.sync.ensures.durable c.sync.ensures.torn) in
-    commit_between content g.D.Disk.moment g.D.Disk.left_since g.met.D.Disk.reads_fit disk d1 c.commit.new.disk looks c.in_ok-sync.ensures.durable c.commit.ensures.crash_between
+    let looks = sync_leaves g.D.Disk disk d1 (g.met.D.Disk.only_now disk) c.sync.ensures.time (λ image. sync_image c.sync.result (content disk) (content d1) image (g.met.D.Disk.reads_fit disk) c.sync.ensures.durable c.sync.ensures.torn) in
+    commit_between g.D.Disk g.met.D.Disk.reads_fit disk d1 c.commit.new.disk looks c.in_ok-sync.ensures.durable c.commit.ensures.crash_between
 
 pub returns-clause-crash_between : goal.returns-clause-crash_between
 returns-clause-crash_between g c =
     let disk = c.args.disk.now in
     let d1 = c.sync.new.self in
     let content = g.D.Disk.content in
-    let looks = sync_leaves content g.D.Disk.moment g.D.Disk.left_since disk d1 (g.met.D.Disk.only_now disk) c.sync.ensures.time (λ image. sync_image c.sync.result (content disk) (content d1) image (g.met.D.Disk.reads_fit disk) c.sync.ensures.durable c.sync.ensures.torn) in
-    drops_between content g.D.Disk.moment g.D.Disk.left_since g.met.D.Disk.reads_fit disk d1 c.commit.new.disk looks c.in_ok-sync.ensures.durable c.commit.ensures.crash_between (slot_number c.args.slot) (spelling c.args.new.now) c.args.new.now c.drop_old.new.disk (slot_below c.args.slot) c.requires.size c.in_ok-commit.ensures.whole c.in_ok-commit.ensures.written c.in_ok-commit.ensures.committed c.drop_old.ensures.crash_beside
+    let looks = sync_leaves g.D.Disk disk d1 (g.met.D.Disk.only_now disk) c.sync.ensures.time (λ image. sync_image c.sync.result (content disk) (content d1) image (g.met.D.Disk.reads_fit disk) c.sync.ensures.durable c.sync.ensures.torn) in
+    drops_between g.D.Disk g.met.D.Disk.reads_fit disk d1 c.commit.new.disk looks c.in_ok-sync.ensures.durable c.commit.ensures.crash_between (slot_number c.args.slot) (spelling c.args.new.now) c.args.new.now c.drop_old.new.disk (slot_below c.args.slot) c.requires.size c.in_ok-commit.ensures.whole c.in_ok-commit.ensures.written c.in_ok-commit.ensures.committed c.drop_old.ensures.crash_beside

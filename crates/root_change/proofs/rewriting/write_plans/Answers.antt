@@ -15,7 +15,7 @@ loop-plan-init g c =
     let disk = c.args.disk.now in
     let content = g.D.Disk.content in
     record {
-      crash_beside = run_started content g.D.Disk.moment g.D.Disk.left_since (bounds_of c.args.old.now) disk (g.met.D.Disk.only_now disk);
+      crash_beside = run_started g.D.Disk (bounds_of c.args.old.now) disk (g.met.D.Disk.only_now disk);
       written = first_written c.args.old.now c.args.new.now c.args.plans.now c.requires.plans (content disk);
       sizes = c.requires.sizes;
       fewest = omega arith;
@@ -24,7 +24,7 @@ loop-plan-init g c =
 
 pub returns-in_err-write_plan-clause-crash_beside : goal.returns-in_err-write_plan-clause-crash_beside
 returns-in_err-write_plan-clause-crash_beside g c =
-    run_joined g.D.Disk.content g.D.Disk.moment g.D.Disk.left_since (bounds_of c.args.old.now) c.args.disk.now c.loop-plan.disk c.write_plan.new.disk c.loop-plan.invariant.crash_beside c.write_plan.ensures.crash_beside
+    run_joined g.D.Disk (bounds_of c.args.old.now) c.args.disk.now c.loop-plan.disk c.write_plan.new.disk c.loop-plan.invariant.crash_beside c.write_plan.ensures.crash_beside
 
 pub returns-in_err-write_plan-clause-whole : goal.returns-in_err-write_plan-clause-whole
 returns-in_err-write_plan-clause-whole g c =
@@ -57,7 +57,7 @@ loop-plan-preserved g c =
     let to_is = file_of_part new plan.kind c.kind.result plan.number c.number.result c.file_of-to.result c.file_of-to.ensures c.kind.ensures c.number.ensures in
     let one = subst (λ (to : FileName). BothTold (WritesAlone old plan to) m o) to_is c.in_ok-write_plan.ensures.written in
     record {
-      crash_beside = run_joined content g.D.Disk.moment g.D.Disk.left_since (bounds_of old) c.args.disk.now c.loop-plan.disk c.write_plan.new.disk before.crash_beside c.write_plan.ensures.crash_beside;
+      crash_beside = run_joined g.D.Disk (bounds_of old) c.args.disk.now c.loop-plan.disk c.write_plan.new.disk before.crash_beside c.write_plan.ensures.crash_beside;
       written = next_written old new plans c.requires.plans i plan (slice_get_read plans (length plans) i plan refl c.loop-plan-test.true c.plan-item.is) (content c.args.disk.now) m o before.written one;
       sizes = c.in_ok-write_plan.ensures.sizes;
       fewest = omega (arith, before.fewest, c.write_plan.ensures.fewest);

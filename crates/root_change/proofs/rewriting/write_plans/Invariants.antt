@@ -9,7 +9,7 @@ use Rattle.root_change.proofs.rewriting.write_plans.Given as goal
 
 abbrev pub invariant-loop-plan : goal.invariant-loop-plan
 invariant-loop-plan g l = record {
-  crash_beside : RunsBeside g.D.Disk.content g.D.Disk.moment g.D.Disk.left_since (bounds_of l.old) l.fn.disk l.disk;
+  crash_beside : RunsBeside g.D.Disk (bounds_of l.old) l.fn.disk l.disk;
   written : BothTold (WritesPlans l.old l.new (take l.plan-index l.plans)) (g.D.Disk.content l.fn.disk) (g.D.Disk.content l.disk);
   sizes : WhereTold (HasPartSizes l.old) (g.D.Disk.content l.disk);
   fewest : g.D.Disk.reads l.fn.disk ≤ g.D.Disk.reads l.disk;

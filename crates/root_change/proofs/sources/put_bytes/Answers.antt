@@ -9,15 +9,15 @@ use Rattle.root_change.proofs.sources.put_bytes.Goals as goal
 
 pub returns-then-offset-bytes-clause-crash_beside : goal.returns-then-offset-bytes-clause-crash_beside
 returns-then-offset-bytes-clause-crash_beside g c = λ bounds far.
-    run_started g.D.Disk.content g.D.Disk.moment g.D.Disk.left_since bounds c.args.disk.now (g.met.D.Disk.only_now c.args.disk.now)
+    run_started g.D.Disk bounds c.args.disk.now (g.met.D.Disk.only_now c.args.disk.now)
 
 pub returns-then-count-rest-clause-crash_beside : goal.returns-then-count-rest-clause-crash_beside
 returns-then-count-rest-clause-crash_beside g c = λ bounds far.
-    run_started g.D.Disk.content g.D.Disk.moment g.D.Disk.left_since bounds c.args.disk.now (g.met.D.Disk.only_now c.args.disk.now)
+    run_started g.D.Disk bounds c.args.disk.now (g.met.D.Disk.only_now c.args.disk.now)
 
 pub returns-then-count-eq0-clause-crash_beside : goal.returns-then-count-eq0-clause-crash_beside
 returns-then-count-eq0-clause-crash_beside g c = λ bounds far.
-    run_started g.D.Disk.content g.D.Disk.moment g.D.Disk.left_since bounds c.args.disk.now (g.met.D.Disk.only_now c.args.disk.now)
+    run_started g.D.Disk bounds c.args.disk.now (g.met.D.Disk.only_now c.args.disk.now)
 
 pub returns-then-count-eq0-clause-put : goal.returns-then-count-eq0-clause-put
 returns-then-count-eq0-clause-put g c = λ is.
@@ -27,14 +27,14 @@ pub returns-in_err-write_at-clause-crash_beside : goal.returns-in_err-write_at-c
 returns-in_err-write_at-clause-crash_beside g c = λ bounds far.
     let disk = c.args.disk.now in
     let content = g.D.Disk.content in
-    run_call content g.D.Disk.moment g.D.Disk.left_since bounds disk c.write_at.new.self (g.met.D.Disk.only_now disk) c.write_at.ensures.time
+    run_call g.D.Disk bounds disk c.write_at.new.self (g.met.D.Disk.only_now disk) c.write_at.ensures.time
     (write_told c.write_at.result bounds c.args.to c.args.end c.split_at-2.result.0.now (content disk) (content c.write_at.new.self) (g.met.D.Disk.reads_fit disk) far c.requires.inside c.write_at.ensures.written c.write_at.ensures.torn)
 
 pub returns-clause-crash_beside : goal.returns-clause-crash_beside
 returns-clause-crash_beside g c = λ bounds far.
     let disk = c.args.disk.now in
     let content = g.D.Disk.content in
-    run_call content g.D.Disk.moment g.D.Disk.left_since bounds disk c.write_at.new.self (g.met.D.Disk.only_now disk) c.write_at.ensures.time
+    run_call g.D.Disk bounds disk c.write_at.new.self (g.met.D.Disk.only_now disk) c.write_at.ensures.time
     (write_told c.write_at.result bounds c.args.to c.args.end c.split_at-2.result.0.now (content disk) (content c.write_at.new.self) (g.met.D.Disk.reads_fit disk) far c.requires.inside c.write_at.ensures.written c.write_at.ensures.torn)
 
 pub returns-clause-put : goal.returns-clause-put

@@ -18,7 +18,7 @@ loop-source-init g c =
     let content = g.D.Disk.content in
     record {
       next_is = omega arith;
-      crash_beside = λ bounds far. run_started content g.D.Disk.moment g.D.Disk.left_since bounds disk (g.met.D.Disk.only_now disk);
+      crash_beside = λ bounds far. run_started g.D.Disk bounds disk (g.met.D.Disk.only_now disk);
       put = first_put c.args.bytes.now c.args.sources.now c.args.to c.args.end (content disk) c.requires.inside;
       inside = c.requires.inside;
       others = others_first c.args.to (content disk);
@@ -35,11 +35,11 @@ put_source-requires-clause-end g c =
 
 pub returns-in_err-whole-clause-crash_beside : goal.returns-in_err-whole-clause-crash_beside
 returns-in_err-whole-clause-crash_beside g c = λ bounds far.
-    run_joined g.D.Disk.content g.D.Disk.moment g.D.Disk.left_since bounds c.args.disk.now c.loop-source.disk c.put_source.new.disk (c.loop-source.invariant.crash_beside bounds far) (c.put_source.ensures.crash_beside bounds (respects_more (bounds c.args.to) c.args.end c.loop-source.next (omega (arith, c.loop-source.invariant.next_is)) far))
+    run_joined g.D.Disk bounds c.args.disk.now c.loop-source.disk c.put_source.new.disk (c.loop-source.invariant.crash_beside bounds far) (c.put_source.ensures.crash_beside bounds (respects_more (bounds c.args.to) c.args.end c.loop-source.next (omega (arith, c.loop-source.invariant.next_is)) far))
 
 pub returns-then-not-whole-clause-crash_beside : goal.returns-then-not-whole-clause-crash_beside
 returns-then-not-whole-clause-crash_beside g c = λ bounds far.
-    run_joined g.D.Disk.content g.D.Disk.moment g.D.Disk.left_since bounds c.args.disk.now c.loop-source.disk c.put_source.new.disk (c.loop-source.invariant.crash_beside bounds far) (c.put_source.ensures.crash_beside bounds (respects_more (bounds c.args.to) c.args.end c.loop-source.next (omega (arith, c.loop-source.invariant.next_is)) far))
+    run_joined g.D.Disk bounds c.args.disk.now c.loop-source.disk c.put_source.new.disk (c.loop-source.invariant.crash_beside bounds far) (c.put_source.ensures.crash_beside bounds (respects_more (bounds c.args.to) c.args.end c.loop-source.next (omega (arith, c.loop-source.invariant.next_is)) far))
 
 pub returns-then-not-whole-clause-whole : goal.returns-then-not-whole-clause-whole
 returns-then-not-whole-clause-whole g c = λ has.
@@ -67,7 +67,7 @@ loop-source-preserved g c =
     next_after sources i _ c.args.end next c.count_of-next.result (slice_get-get_or sources i _ below) before.next_is c.count_of-next.ensures in
     record {
       next_is = after;
-      crash_beside = λ bounds far. run_joined content g.D.Disk.moment g.D.Disk.left_since bounds c.args.disk.now c.loop-source.disk c.put_source.new.disk (before.crash_beside bounds far) (c.put_source.ensures.crash_beside bounds (respects_more (bounds c.args.to) c.args.end next (omega (arith, before.next_is)) far));
+      crash_beside = λ bounds far. run_joined g.D.Disk bounds c.args.disk.now c.loop-source.disk c.put_source.new.disk (before.crash_beside bounds far) (c.put_source.ensures.crash_beside bounds (respects_more (bounds c.args.to) c.args.end next (omega (arith, before.next_is)) far));
       put = put;
       inside = put_inside c.args.bytes.now (take (i + 1) sources) c.args.to c.args.end (next + c.count_of-next.result) k o after put;
       others = others_then c.args.to k m o before.others c.in_ok-whole.ensures.others;

@@ -10,7 +10,7 @@ use Rattle.root_change.proofs.sources.put_sources.Given as goal
 abbrev pub invariant-loop-source : goal.invariant-loop-source
 invariant-loop-source g l = record {
   next_is : l.next ≡ l.end + sum_by source_count (take l.source-index l.sources);
-  crash_beside : (bounds : Bounds) → RespectsBound (bounds l.to) l.end → RunsBeside g.D.Disk.content g.D.Disk.moment g.D.Disk.left_since bounds l.fn.disk l.disk;
+  crash_beside : (bounds : Bounds) → RespectsBound (bounds l.to) l.end → RunsBeside g.D.Disk bounds l.fn.disk l.disk;
   put : BothTold (PutSources l.bytes (take l.source-index l.sources) l.to l.end) (g.D.Disk.content l.fn.disk) (g.D.Disk.content l.disk);
   inside : WhereTold (IsAtMostLength l.to l.next) (g.D.Disk.content l.disk);
   others : BothTold (OtherFilesStay l.to) (g.D.Disk.content l.fn.disk) (g.D.Disk.content l.disk);

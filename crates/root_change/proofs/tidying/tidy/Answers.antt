@@ -13,7 +13,7 @@ returns-in_err-tidy_files-clause-crash g c = λ free texts todo.
     let disk = c.args.disk.now in
     let root = c.args.root.now in
     let k = g.D.Disk.content disk in
-    weaker g.D.Disk.moment g.D.Disk.left_since disk c.tidy_files.new.disk (Beside (bounds_of root) k) (StandsFor root texts) c.tidy_files.ensures.crash_beside.moments (λ image. tidying_stands root free texts c.args.names.now k image todo)
+    weaker g.D.Disk disk c.tidy_files.new.disk (Beside (bounds_of root) k) (StandsFor root texts) c.tidy_files.ensures.crash_beside.moments (λ image. tidying_stands root free texts c.args.names.now k image todo)
 
 pub returns-clause-crash : goal.returns-clause-crash
 returns-clause-crash g c = λ free texts todo.
@@ -22,9 +22,9 @@ returns-clause-crash g c = λ free texts todo.
     let d2 = c.sync.new.self in
     let root = c.args.root.now in
     let content = g.D.Disk.content in
-    let run = run_on content g.D.Disk.moment g.D.Disk.left_since (bounds_of root) disk d1 d2 c.tidy_files.ensures.crash_beside c.sync.ensures.time
+    let run = run_on g.D.Disk (bounds_of root) disk d1 d2 c.tidy_files.ensures.crash_beside c.sync.ensures.time
     (sync_told c.sync.result (bounds_of root) (content d1) (content d2) (g.met.D.Disk.reads_fit d1) c.sync.ensures.durable c.sync.ensures.torn) in
-    weaker g.D.Disk.moment g.D.Disk.left_since disk d2 (Beside (bounds_of root) (content disk)) (StandsFor root texts) run.moments (λ image. tidying_stands root free texts c.args.names.now (content disk) image todo)
+    weaker g.D.Disk disk d2 (Beside (bounds_of root) (content disk)) (StandsFor root texts) run.moments (λ image. tidying_stands root free texts c.args.names.now (content disk) image todo)
 
 pub returns-clause-done : goal.returns-clause-done
 returns-clause-done g c = λ free texts todo.
@@ -39,5 +39,5 @@ returns-clause-crash_beside g c =
     let d2 = c.sync.new.self in
     let root = c.args.root.now in
     let content = g.D.Disk.content in
-    run_on content g.D.Disk.moment g.D.Disk.left_since (bounds_of root) disk d1 d2 c.tidy_files.ensures.crash_beside c.sync.ensures.time
+    run_on g.D.Disk (bounds_of root) disk d1 d2 c.tidy_files.ensures.crash_beside c.sync.ensures.time
     (sync_told c.sync.result (bounds_of root) (content d1) (content d2) (g.met.D.Disk.reads_fit d1) c.sync.ensures.durable c.sync.ensures.torn)

@@ -17,7 +17,7 @@ returns-then-not-is_named-clause-crash_beside g c =
     let root = c.args.root.now in
     let content = g.D.Disk.content in
     let isnt = sym c.is_named.ensures ∙ c.if-not-is_named.true in
-    run_call content g.D.Disk.moment g.D.Disk.left_since (bounds_of root) disk c.remove.new.self (g.met.D.Disk.only_now disk) c.remove.ensures.time
+    run_call g.D.Disk (bounds_of root) disk c.remove.new.self (g.met.D.Disk.only_now disk) c.remove.ensures.time
     (remove_told c.remove.result (bounds_of root) c.args.name (content disk) (content c.remove.new.self) (g.met.D.Disk.reads_fit disk) (unnamed_bound root c.args.name isnt) c.remove.ensures.removed c.remove.ensures.torn)
 
 pub returns-then-not-is_named-clause-tidied : goal.returns-then-not-is_named-clause-tidied
@@ -28,7 +28,7 @@ returns-then-not-is_named-clause-tidied g c =
 pub returns-then-is_root-clause-crash_beside : goal.returns-then-is_root-clause-crash_beside
 returns-then-is_root-clause-crash_beside g c =
     let disk = c.args.disk.now in
-    run_started g.D.Disk.content g.D.Disk.moment g.D.Disk.left_since (bounds_of c.args.root.now) disk (g.met.D.Disk.only_now disk)
+    run_started g.D.Disk (bounds_of c.args.root.now) disk (g.met.D.Disk.only_now disk)
 
 pub returns-then-is_root-clause-tidied : goal.returns-then-is_root-clause-tidied
 returns-then-is_root-clause-tidied g c =

@@ -13,7 +13,7 @@ pub loop-name-init : goal.loop-name-init
 loop-name-init g c =
     let disk = c.args.disk.now in
     record {
-      crash_beside = run_started g.D.Disk.content g.D.Disk.moment g.D.Disk.left_since (bounds_of c.args.root.now) disk (g.met.D.Disk.only_now disk);
+      crash_beside = run_started g.D.Disk (bounds_of c.args.root.now) disk (g.met.D.Disk.only_now disk);
       tidied = none_tidied c.args.root.now c.args.names.now (g.D.Disk.content disk);
       kept = refl;
       reads = refl;
@@ -21,7 +21,7 @@ loop-name-init g c =
 
 pub returns-in_err-tidy_file-clause-crash_beside : goal.returns-in_err-tidy_file-clause-crash_beside
 returns-in_err-tidy_file-clause-crash_beside g c =
-    run_joined g.D.Disk.content g.D.Disk.moment g.D.Disk.left_since (bounds_of c.args.root.now) c.args.disk.now c.loop-name.disk c.tidy_file.new.disk c.loop-name.invariant.crash_beside c.tidy_file.ensures.crash_beside
+    run_joined g.D.Disk (bounds_of c.args.root.now) c.args.disk.now c.loop-name.disk c.tidy_file.new.disk c.loop-name.invariant.crash_beside c.tidy_file.ensures.crash_beside
 
 pub loop-name-preserved : goal.loop-name-preserved
 loop-name-preserved g c =
@@ -32,7 +32,7 @@ loop-name-preserved g c =
     let content = g.D.Disk.content in
     let below : i < length names = omega arith in
     record {
-      crash_beside = run_joined content g.D.Disk.moment g.D.Disk.left_since (bounds_of root) c.args.disk.now c.loop-name.disk c.tidy_file.new.disk before.crash_beside c.tidy_file.ensures.crash_beside;
+      crash_beside = run_joined g.D.Disk (bounds_of root) c.args.disk.now c.loop-name.disk c.tidy_file.new.disk before.crash_beside c.tidy_file.ensures.crash_beside;
       tidied = more_tidied root names i _ (content c.args.disk.now) (content c.loop-name.disk) (content c.tidy_file.new.disk) (slice_get-get_or names i _ below) before.tidied c.in_ok-tidy_file.ensures.tidied;
       kept = omega (arith, before.kept, c.in_ok-tidy_file.ensures.cause.kept);
       reads = omega (arith, before.reads, c.tidy_file.ensures.count);

@@ -8,14 +8,12 @@ use Rattle.root_change.proofs.tidying.trim.Goals as goal
 pub returns-in_err-size-clause-crash_beside : goal.returns-in_err-size-clause-crash_beside
 returns-in_err-size-clause-crash_beside g c = λ bounds far.
     let disk = c.args.disk.now in
-    let content = g.D.Disk.content in
-    run_unchanged content g.D.Disk.moment g.D.Disk.left_since bounds disk c.length.new.self (g.met.D.Disk.only_now disk) c.length.ensures.time c.length.ensures.same
+    run_unchanged g.D.Disk bounds disk c.length.new.self (g.met.D.Disk.only_now disk) c.length.ensures.time c.length.ensures.same
 
 pub returns-then-size-length-clause-crash_beside : goal.returns-then-size-length-clause-crash_beside
 returns-then-size-length-clause-crash_beside g c = λ bounds far.
     let disk = c.args.disk.now in
-    let content = g.D.Disk.content in
-    run_unchanged content g.D.Disk.moment g.D.Disk.left_since bounds disk c.length.new.self (g.met.D.Disk.only_now disk) c.length.ensures.time c.length.ensures.same
+    run_unchanged g.D.Disk bounds disk c.length.new.self (g.met.D.Disk.only_now disk) c.length.ensures.time c.length.ensures.same
 
 pub returns-then-size-length-clause-trimmed : goal.returns-then-size-length-clause-trimmed
 returns-then-size-length-clause-trimmed g c =
@@ -28,9 +26,9 @@ returns-clause-crash_beside g c = λ bounds far.
     let content = g.D.Disk.content in
     let name = c.args.name in
     let n = c.args.length in
-    let looked = run_unchanged content g.D.Disk.moment g.D.Disk.left_since bounds disk d1 (g.met.D.Disk.only_now disk) c.length.ensures.time c.length.ensures.same in
+    let looked = run_unchanged g.D.Disk bounds disk d1 (g.met.D.Disk.only_now disk) c.length.ensures.time c.length.ensures.same in
     let inside = inside_told name c.in_ok-size.size n (content disk) (content d1) (omega arith) c.in_ok-size.ensures.length c.length.ensures.same in
-    run_on content g.D.Disk.moment g.D.Disk.left_since bounds disk d1 c.cut.new.self looked c.cut.ensures.time
+    run_on g.D.Disk bounds disk d1 c.cut.new.self looked c.cut.ensures.time
     (cut_told c.cut.result bounds name n (content d1) (content c.cut.new.self) (g.met.D.Disk.reads_fit d1) far inside c.cut.ensures.cut c.cut.ensures.torn)
 
 pub returns-clause-trimmed : goal.returns-clause-trimmed

@@ -10,7 +10,7 @@ use Rattle.root_slots.proofs.slots.commit.Goals as goal
 
 pub returns-clause-crash : goal.returns-clause-crash
 returns-clause-crash g c = λ old ready later.
-    weaker g.D.Disk.moment g.D.Disk.left_since c.args.disk.now c.write_slot.new.disk _ _ c.write_slot.ensures.crash
+    weaker g.D.Disk c.args.disk.now c.write_slot.new.disk _ _ c.write_slot.ensures.crash
     (λ image. to_old_or_new (slot_number c.args.slot) (spelling c.args.root.now) (slot_below c.args.slot) old _ image (newer_root c.args.root.now old (omega arith) later) ready)
 
 pub returns-clause-done : goal.returns-clause-done
@@ -35,11 +35,11 @@ returns-clause-again g c = λ old ready later.
 
 pub returns-clause-elsewhere : goal.returns-clause-elsewhere
 returns-clause-elsewhere g c =
-    weaker g.D.Disk.moment g.D.Disk.left_since c.args.disk.now c.write_slot.new.disk _ _ c.write_slot.ensures.crash (λ image. to_others _ _ image)
+    weaker g.D.Disk c.args.disk.now c.write_slot.new.disk _ _ c.write_slot.ensures.crash (λ image. to_others _ _ image)
 
 pub returns-clause-crash_between : goal.returns-clause-crash_between
 returns-clause-crash_between g c =
-    weaker g.D.Disk.moment g.D.Disk.left_since c.args.disk.now c.write_slot.new.disk _ _ c.write_slot.ensures.crash
+    weaker g.D.Disk c.args.disk.now c.write_slot.new.disk _ _ c.write_slot.ensures.crash
     (λ image. to_between (slot_number c.args.slot) (spelling c.args.root.now) (slot_below c.args.slot) _ image)
 
 pub returns-clause-written : goal.returns-clause-written

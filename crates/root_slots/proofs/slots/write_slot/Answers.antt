@@ -8,7 +8,7 @@ use Rattle.root_slots.proofs.slots.write_slot.Goals as goal
 
 pub returns-in_err-shut-clause-crash : goal.returns-in_err-shut-clause-crash
 returns-in_err-shut-clause-crash g c =
-    weaker g.D.Disk.moment g.D.Disk.left_since c.args.disk.now c.shut.new.disk _ _ c.shut.ensures.crash
+    weaker g.D.Disk c.args.disk.now c.shut.new.disk _ _ c.shut.ensures.crash
     (λ image. during_shut (slot_number c.args.slot) (spelling c.args.root.now) (slot_below c.args.slot) _ image (g.met.D.Disk.reads_fit c.args.disk.now) c.requires.size)
 
 pub returns-in_err-fill-clause-crash : goal.returns-in_err-fill-clause-crash
@@ -16,7 +16,7 @@ returns-in_err-fill-clause-crash g c =
     let slot = slot_number c.args.slot in
     let body = spelling c.args.root.now in
     let fit = g.met.D.Disk.reads_fit c.args.disk.now in
-    joined g.D.Disk.moment g.D.Disk.left_since c.args.disk.now c.shut.new.disk c.fill.new.disk _ _ _ c.shut.ensures.crash c.fill.ensures.crash
+    joined g.D.Disk c.args.disk.now c.shut.new.disk c.fill.new.disk _ _ _ c.shut.ensures.crash c.fill.ensures.crash
     (λ image. during_shut slot body (slot_below c.args.slot) _ image fit c.requires.size)
     (λ image. during_fill slot body (slot_below c.args.slot) _ _ image fit (g.met.D.Disk.reads_fit c.shut.new.disk) c.requires.size c.in_ok-shut.ensures.written)
 
@@ -27,8 +27,8 @@ returns-clause-crash g c =
     let low = slot_below c.args.slot in
     let fit = g.met.D.Disk.reads_fit c.args.disk.now in
     let fit1 = g.met.D.Disk.reads_fit c.shut.new.disk in
-    joined g.D.Disk.moment g.D.Disk.left_since c.args.disk.now c.fill.new.disk c.raise.new.disk _ _ _
-    (joined g.D.Disk.moment g.D.Disk.left_since c.args.disk.now c.shut.new.disk c.fill.new.disk _ _ _ c.shut.ensures.crash c.fill.ensures.crash
+    joined g.D.Disk c.args.disk.now c.fill.new.disk c.raise.new.disk _ _ _
+    (joined g.D.Disk c.args.disk.now c.shut.new.disk c.fill.new.disk _ _ _ c.shut.ensures.crash c.fill.ensures.crash
     (λ image. during_shut slot body low _ image fit c.requires.size)
     (λ image. during_fill slot body low _ _ image fit fit1 c.requires.size c.in_ok-shut.ensures.written))
     c.raise.ensures.crash

@@ -5,8 +5,8 @@ use Rattle.root_slots.proofs.start.begin.Goals as goal
 
 pub returns-clause-crash : goal.returns-clause-crash
 returns-clause-crash g c = λ each.
-    weaker g.D.Disk.moment g.D.Disk.left_since c.args.disk.now c.make_zeros.new.disk _ _ c.make_zeros.ensures.crash (λ image. to_shut _ image each)
+    weaker g.D.Disk c.args.disk.now c.make_zeros.new.disk _ _ c.make_zeros.ensures.crash (λ image. to_shut _ image each)
 
 pub returns-clause-elsewhere : goal.returns-clause-elsewhere
 returns-clause-elsewhere g c =
-    weaker g.D.Disk.moment g.D.Disk.left_since c.args.disk.now c.make_zeros.new.disk _ _ c.make_zeros.ensures.crash (λ image. to_others _ image)
+    weaker g.D.Disk c.args.disk.now c.make_zeros.new.disk _ _ c.make_zeros.ensures.crash (λ image. to_others _ image)

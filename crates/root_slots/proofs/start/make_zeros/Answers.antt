@@ -7,7 +7,7 @@ use Rattle.root_slots.proofs.start.make_zeros.Goals as goal
 
 pub returns-in_err-write_and_sync-clause-crash : goal.returns-in_err-write_and_sync-clause-crash
 returns-in_err-write_and_sync-clause-crash g c =
-    joined g.D.Disk.moment g.D.Disk.left_since c.args.disk.now c.clear.new.disk c.write_and_sync.new.disk _ _ _ c.clear.ensures.crash (rw c.root_file.ensures at c.write_and_sync.ensures.crash)
+    joined g.D.Disk c.args.disk.now c.clear.new.disk c.write_and_sync.new.disk _ _ _ c.clear.ensures.crash (rw c.root_file.ensures at c.write_and_sync.ensures.crash)
     (λ image shut. shut)
     (λ image. shut_writing None 0 2 _ _ image first_zeros (g.met.D.Disk.reads_fit c.args.disk.now) c.in_ok-clear.ensures.cleared)
 
@@ -18,8 +18,8 @@ write_and_sync-requires-2-clause-inside g c =
 pub returns-clause-crash : goal.returns-clause-crash
 returns-clause-crash g c =
     let fit = g.met.D.Disk.reads_fit c.args.disk.now in
-    joined g.D.Disk.moment g.D.Disk.left_since c.args.disk.now c.write_and_sync.new.disk c.write_and_sync-2.new.disk _ _ _
-    (joined g.D.Disk.moment g.D.Disk.left_since c.args.disk.now c.clear.new.disk c.write_and_sync.new.disk _ _ _ c.clear.ensures.crash (rw c.root_file.ensures at c.write_and_sync.ensures.crash)
+    joined g.D.Disk c.args.disk.now c.write_and_sync.new.disk c.write_and_sync-2.new.disk _ _ _
+    (joined g.D.Disk c.args.disk.now c.clear.new.disk c.write_and_sync.new.disk _ _ _ c.clear.ensures.crash (rw c.root_file.ensures at c.write_and_sync.ensures.crash)
     (λ image shut. shut)
     (λ image. shut_writing None 0 2 _ _ image first_zeros fit c.in_ok-clear.ensures.cleared))
     (rw c.root_file-2.ensures at c.write_and_sync-2.ensures.crash)

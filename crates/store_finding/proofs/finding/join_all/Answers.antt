@@ -14,6 +14,6 @@ loop-epoch-preserved g c =
       before = c.in-Ok.ensures.below;
       named = λ are. c.in-Ok.ensures.named (inv.named are);
       up = where_both _ _ _ _ _ inv.reads.same inv.up c.in-Ok.ensures.joined (λ k so_far reads rs fits none. reads rs fits (so_far rs fits none));
-      reads = reads_both g.D.Disk.content g.D.Disk.moment g.D.Disk.left_since g.D.Disk.faults c.args.disk.now c.loop-epoch.disk c.join_epoch.new.disk inv.reads c.in-Ok.ensures.reads;
+      reads = reads_both g.D.Disk c.args.disk.now c.loop-epoch.disk c.join_epoch.new.disk inv.reads c.in-Ok.ensures.reads;
       kept = c.in-Ok.ensures.steady (λ no. absurd (cc no)) ∙ inv.kept;
     }

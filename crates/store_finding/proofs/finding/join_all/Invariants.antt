@@ -15,6 +15,6 @@ invariant-loop-epoch g l = record {
   before : AreBefore l.epoch l.joining.entries;
   named : AreNamed l.root l.fn.joining.entries → AreNamed l.root l.joining.entries;
   up : WhereTold (λ k. (rs : List Record) → RootFits l.root → IsReadUpTo l.root (as_read k) rs 0 l.fn.joining → IsReadUpTo l.root (as_read k) rs l.epoch l.joining) (g.D.Disk.content l.fn.disk);
-  reads : OnlyReads g.D.Disk.content g.D.Disk.moment g.D.Disk.left_since g.D.Disk.faults l.fn.disk l.disk;
+  reads : OnlyReads g.D.Disk l.fn.disk l.disk;
   kept : g.D.Disk.faults l.disk ≡ g.D.Disk.faults l.fn.disk;
 }

@@ -19,7 +19,7 @@ loop-index-preserved g c =
     record {
       first = subst P (sym c.in_ok-push-in-Some.ensures) (first_more c.loop-index.names i c.in-Some.name k m before.same before.first told);
       same = same;
-      moments = goes_on g.D.Disk.moment g.D.Disk.left_since c.args.disk.now c.loop-index.disk c.name_at.new.self (Image k) o before.moments c.name_at.ensures.time (λ image. unchanged_image k o image same);
+      moments = goes_on g.D.Disk c.args.disk.now c.loop-index.disk c.name_at.new.self (Image k) o before.moments c.name_at.ensures.time (λ image. unchanged_image k o image same);
       kept = omega (arith, before.kept, c.in_ok-name.ensures.cause.kept);
       reads = omega (arith, before.reads, c.name_at.ensures.count);
     }

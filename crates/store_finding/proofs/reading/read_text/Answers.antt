@@ -11,20 +11,20 @@ returns-in_err-text-clause-same g c = unchanged_itself (g.D.Disk.content c.args.
 pub returns-in_err-text-clause-crash : goal.returns-in_err-text-clause-crash
 returns-in_err-text-clause-crash g c =
     let disk = c.args.disk.now in
-    started g.D.Disk.moment g.D.Disk.left_since disk (Image (g.D.Disk.content disk)) (λ image left. g.met.D.Disk.only_now disk image left)
+    started g.D.Disk disk (Image (g.D.Disk.content disk)) (λ image left. g.met.D.Disk.only_now disk image left)
 
 pub returns-in_err-read-clause-crash : goal.returns-in_err-read-clause-crash
 returns-in_err-read-clause-crash g c =
     let disk = c.args.disk.now in
     let new = c.read.new.self in
     let k = g.D.Disk.content disk in
-    let start = started g.D.Disk.moment g.D.Disk.left_since disk (Image k) (λ image left. g.met.D.Disk.only_now disk image left) in
-    goes_on g.D.Disk.moment g.D.Disk.left_since disk disk new (Image k) (g.D.Disk.content new) start c.read.ensures.time (λ image left. unchanged_image k (g.D.Disk.content new) image c.read.ensures.same left)
+    let start = started g.D.Disk disk (Image k) (λ image left. g.met.D.Disk.only_now disk image left) in
+    goes_on g.D.Disk disk disk new (Image k) (g.D.Disk.content new) start c.read.ensures.time (λ image left. unchanged_image k (g.D.Disk.content new) image c.read.ensures.same left)
 
 pub returns-clause-crash : goal.returns-clause-crash
 returns-clause-crash g c =
     let disk = c.args.disk.now in
     let new = c.read.new.self in
     let k = g.D.Disk.content disk in
-    let start = started g.D.Disk.moment g.D.Disk.left_since disk (Image k) (λ image left. g.met.D.Disk.only_now disk image left) in
-    goes_on g.D.Disk.moment g.D.Disk.left_since disk disk new (Image k) (g.D.Disk.content new) start c.read.ensures.time (λ image left. unchanged_image k (g.D.Disk.content new) image c.read.ensures.same left)
+    let start = started g.D.Disk disk (Image k) (λ image left. g.met.D.Disk.only_now disk image left) in
+    goes_on g.D.Disk disk disk new (Image k) (g.D.Disk.content new) start c.read.ensures.time (λ image left. unchanged_image k (g.D.Disk.content new) image c.read.ensures.same left)

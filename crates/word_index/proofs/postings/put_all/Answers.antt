@@ -7,4 +7,4 @@ returns-in_err-put-clause-err c =
 
 pub loop-word-preserved : goal.loop-word-preserved
 loop-word-preserved c =
-    puts_all-more c.args.postings.now c.loop-word.postings c.put.new.postings c.args.words.now c.loop-word.word-index c.word-item.result c.args.n c.loop-word-test.true c.word-item.is c.loop-word.invariant c.in_ok-put.ensures.ok
+    puts_all-more c.args.postings.now c.loop-word.postings c.put.new.postings c.args.words.now c.loop-word.word-index c.args.n c.loop-word-test.true c.loop-word.invariant c.in_ok-put.ensures.ok

@@ -11,10 +11,10 @@ use Rattle.archive_core.proofs.WithoutText.{lost-live, message-agrees}
 use Rattle.archive_core.proofs.archive.DiskArchive.drop_text.Goals as goal
 
 pub returns-in_default-clause-changes : goal.returns-in_default-clause-changes
-returns-in_default-clause-changes g c = unstarted (g.met.D.Disk.only_now c.args.disk.now) refl refl
+returns-in_default-clause-changes g c = unstarted {g = g.D.Disk} (g.met.D.Disk.only_now c.args.disk.now) refl refl
 
 pub returns-in_default-places_without-clause-changes : goal.returns-in_default-places_without-clause-changes
-returns-in_default-places_without-clause-changes g c = unstarted (g.met.D.Disk.only_now c.args.disk.now) refl refl
+returns-in_default-places_without-clause-changes g c = unstarted {g = g.D.Disk} (g.met.D.Disk.only_now c.args.disk.now) refl refl
 
 pub invariant_of-self : goal.invariant_of-self
 invariant_of-self g c =
@@ -38,5 +38,5 @@ returns-in-Ok-purge_text-clause-lives g c = λ number a text keeps is blob_is.
 
 pub returns-in-Ok-purge_text-clause-changes : goal.returns-in-Ok-purge_text-clause-changes
 returns-in-Ok-purge_text-clause-changes g c =
-    subst (λ (v : StoreState). ChangesStore g.D.Disk.content g.D.Disk.moment g.D.Disk.left_since g.D.Disk.faults g.D.Disk.reads c.args.disk.now c.purge_text.new.disk v c.purge_text.new.self Renews (Drops c.args.blob.now) (Ok tt)) c.self.view_is
+    subst (λ (v : StoreState). ChangesStore g.D.Disk c.args.disk.now c.purge_text.new.disk v c.purge_text.new.self Renews (Drops c.args.blob.now) (Ok tt)) c.self.view_is
     c.in-Ok-purge_text.ensures.changes

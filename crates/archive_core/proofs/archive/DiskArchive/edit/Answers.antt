@@ -2,7 +2,7 @@ use Rattle.std.proofs.Common.{◌≡◌, ◌∙◌, arith, [], ap, subst, sym, t
 use Rattle.arch_base.specs.Counts.{RoseIf}
 use Rattle.arch_base.specs.declared.config.Config.{Config}
 use Rattle.arch_base.specs.declared.ids.Id20.{Id20}
-use Rattle.disk_model.specs.Disk.{LeavesOnly}
+use Rattle.disk_model.specs.Moments.{LeavesOnly}
 use Rattle.root_slots.specs.Spelling.{spelling}
 use Rattle.arch_model.specs.Archives.{Archive, live, text_of}
 use Rattle.arch_model.specs.Delivery.{Done, edited, edited_text}
@@ -25,18 +25,18 @@ use Rattle.archive_core.proofs.archive.DiskArchive.edit.Goals as goal
 
 pub returns-then-config-clause-taken : goal.returns-then-config-clause-taken
 returns-then-config-clause-taken g c =
-    quiet-taken g.D.Disk.content g.D.Disk.moment g.D.Disk.left_since g.D.Disk.faults g.D.Disk.reads g.met.D.Disk.only_now c.law_of_stores.ensures.recovers (Edit c.args.number c.args.bytes) (λ (a : Archive). edited a c.args.number c.args.bytes.now c.args.moment) c.args.disk.now c.args.self.now answer.IsMirror tt refl refl (λ fault. absurd (cc fault)) c.requires.sizes
+    quiet-taken g.D.Disk g.met.D.Disk.only_now c.law_of_stores.ensures.recovers (Edit c.args.number c.args.bytes) (λ (a : Archive). edited a c.args.number c.args.bytes.now c.args.moment) c.args.disk.now c.args.self.now answer.IsMirror tt refl refl (λ fault. absurd (cc fault)) c.requires.sizes
     (λ a keeps. mirror-refuses c.args.self.now a (Edit c.args.number c.args.bytes) c.args.moment keeps (ap (λ (n : Config). n.mirror) (sym c.config.ensures) ∙ c.if-config.true)) refl tt
 
 pub returns-in_default-clause-taken : goal.returns-in_default-clause-taken
 returns-in_default-clause-taken g c =
-    quiet-taken g.D.Disk.content g.D.Disk.moment g.D.Disk.left_since g.D.Disk.faults g.D.Disk.reads g.met.D.Disk.only_now c.law_of_stores.ensures.recovers (Edit c.args.number c.args.bytes) (λ (a : Archive). edited a c.args.number c.args.bytes.now c.args.moment) c.args.disk.now c.args.self.now (answer.NotLive c.args.number) tt refl refl (λ fault. absurd (cc fault)) c.requires.sizes
+    quiet-taken g.D.Disk g.met.D.Disk.only_now c.law_of_stores.ensures.recovers (Edit c.args.number c.args.bytes) (λ (a : Archive). edited a c.args.number c.args.bytes.now c.args.moment) c.args.disk.now c.args.self.now (answer.NotLive c.args.number) tt refl refl (λ fault. absurd (cc fault)) c.requires.sizes
     (λ a keeps. absent-refuses a (answer.NotLive c.args.number) (text_of (live a.entries) c.args.number) (edited_text a c.args.number c.args.bytes.now c.args.moment) refl
     (writable-of c.args.self.now a keeps (ap (λ (n : Config). n.mirror) (sym c.config.ensures) ∙ c.if-config.false)) (c.in_default.ensures.live a keeps)) refl refl
 
 pub returns-in-Err-clause-taken : goal.returns-in-Err-clause-taken
 returns-in-Err-clause-taken g c =
-    refused-taken g.D.Disk.content g.D.Disk.moment g.D.Disk.left_since g.D.Disk.faults g.D.Disk.reads g.met.D.Disk.only_now c.law_of_stores.ensures.recovers (Edit c.args.number c.args.bytes) (λ (a : Archive). edited a c.args.number c.args.bytes.now c.args.moment) c.args.disk.now c.is_same.new.disk c.args.self.now c.in-Err.answer (unformed-never c.in-Err.answer ⊥ c.in-Err.ensures.refused) c.requires.sizes c.is_same.ensures.looks
+    refused-taken g.D.Disk g.met.D.Disk.only_now c.law_of_stores.ensures.recovers (Edit c.args.number c.args.bytes) (λ (a : Archive). edited a c.args.number c.args.bytes.now c.args.moment) c.args.disk.now c.is_same.new.disk c.args.self.now c.in-Err.answer (unformed-never c.in-Err.answer ⊥ c.in-Err.ensures.refused) c.requires.sizes c.is_same.ensures.looks
     (λ a cache store own.
     let v : StoreState = c.args.self.now in
     let k = g.D.Disk.content c.args.disk.now in
@@ -49,7 +49,7 @@ returns-in-Err-clause-taken g c =
 
 pub returns-in-Ok-true-clause-taken : goal.returns-in-Ok-true-clause-taken
 returns-in-Ok-true-clause-taken g c =
-    refused-taken g.D.Disk.content g.D.Disk.moment g.D.Disk.left_since g.D.Disk.faults g.D.Disk.reads g.met.D.Disk.only_now c.law_of_stores.ensures.recovers (Edit c.args.number c.args.bytes) (λ (a : Archive). edited a c.args.number c.args.bytes.now c.args.moment) c.args.disk.now c.is_same.new.disk c.args.self.now (answer.Duplicate c.args.number) tt c.requires.sizes c.is_same.ensures.looks
+    refused-taken g.D.Disk g.met.D.Disk.only_now c.law_of_stores.ensures.recovers (Edit c.args.number c.args.bytes) (λ (a : Archive). edited a c.args.number c.args.bytes.now c.args.moment) c.args.disk.now c.is_same.new.disk c.args.self.now (answer.Duplicate c.args.number) tt c.requires.sizes c.is_same.ensures.looks
     (λ a cache store own.
     let v : StoreState = c.args.self.now in
     let k = g.D.Disk.content c.args.disk.now in
@@ -72,8 +72,8 @@ returns-in-Ok-false-clause-taken g c =
       crash = λ a cache store room.
           let is = made a cache store in
           let own = still_own c.args.self.now cache a (g.D.Disk.content c.args.disk.now) (g.D.Disk.content c.is_same.new.disk) c.is_same.ensures.looks.same store in
-          read-first g.D.Disk.moment g.D.Disk.left_since c.law_of_stores.ensures.recovers c.args.self.now cache [] a (edited a c.args.number c.args.bytes.now c.args.moment).archive (g.D.Disk.content c.args.disk.now) c.args.disk.now c.is_same.new.disk c.replace.new.disk store c.is_same.ensures.looks.crash
-          (subst (λ (b : Archive). LeavesOnly g.D.Disk.moment g.D.Disk.left_since c.is_same.new.disk c.replace.new.disk (RecoversOneOf cache a [] b)) (sym (ap (λ (d : Done). d.archive) is.2)) (edits.crash a cache is.0 own room is.1));
+          read-first g.D.Disk c.law_of_stores.ensures.recovers c.args.self.now cache [] a (edited a c.args.number c.args.bytes.now c.args.moment).archive (g.D.Disk.content c.args.disk.now) c.args.disk.now c.is_same.new.disk c.replace.new.disk store c.is_same.ensures.looks.crash
+          (subst (λ (b : Archive). LeavesOnly g.D.Disk c.is_same.new.disk c.replace.new.disk (RecoversOneOf cache a [] b)) (sym (ap (λ (d : Done). d.archive) is.2)) (edits.crash a cache is.0 own room is.1));
       done = λ a cache store room.
           let is = made a cache store in
           let own = still_own c.args.self.now cache a (g.D.Disk.content c.args.disk.now) (g.D.Disk.content c.is_same.new.disk) c.is_same.ensures.looks.same store in
@@ -83,14 +83,14 @@ returns-in-Ok-false-clause-taken g c =
       files = done-then reply _ _ (λ kept. (may.entry, (may.is_there, may.kind, may.number_is), subst (λ (id : Id20). EditsFiles c.args.self.now c.replace.new.self id) (sym may.blob_is) kept)) c.replace.ensures.kept_files;
       slot = edits.slot;
       same = edits.same;
-      untouched = refused-then reply _ _ (looks-joined g.D.Disk.content g.D.Disk.moment g.D.Disk.left_since g.met.D.Disk.only_now c.args.disk.now c.is_same.new.disk c.replace.new.disk c.is_same.ensures.looks) edits.untouched;
+      untouched = refused-then reply _ _ (looks-joined g.D.Disk g.met.D.Disk.only_now c.args.disk.now c.is_same.new.disk c.replace.new.disk c.is_same.ensures.looks) edits.untouched;
       unmoved = if-read-edit reply _ edits.late;
       sizes = edits.sizes;
       cause = subst (λ (n : ℕ). RoseIf (reply ≡ answer.DiskFault) n (g.D.Disk.faults c.replace.new.disk)) (c.in-Ok-false.ensures.cause.kept (λ fault. absurd (cc fault))) edits.cause;
       for_command = delivery-edit c.args.number reply edits.for_command;
       count = (let first = c.is_same.ensures.fewest in let more = c.replace.ensures.fewest in omega arith);
       rooted = done-then reply _ _ (rooted-read c.replace.new.self.slot (spelling c.replace.new.self.root) (g.D.Disk.content c.args.disk.now) (g.D.Disk.content c.is_same.new.disk) (g.D.Disk.content c.replace.new.disk) c.is_same.ensures.looks.same) edits.rooted;
-      crash_between = read_between g.D.Disk.content g.D.Disk.moment g.D.Disk.left_since c.args.disk.now c.is_same.new.disk c.replace.new.disk c.is_same.ensures.looks.same c.is_same.ensures.looks.crash edits.crash_between;
+      crash_between = read_between g.D.Disk c.args.disk.now c.is_same.new.disk c.replace.new.disk c.is_same.ensures.looks.same c.is_same.ensures.looks.crash edits.crash_between;
       damage = damage-back c.args.self.now (g.D.Disk.content c.args.disk.now) (g.D.Disk.content c.is_same.new.disk) reply c.is_same.ensures.looks.same edits.damage;
     }
 
@@ -119,3 +119,6 @@ returns-in-Ok-false-clause-kept g c = λ a cache store.
     let is = made a cache store in
     let own = still_own c.args.self.now cache a (g.D.Disk.content c.args.disk.now) (g.D.Disk.content c.is_same.new.disk) c.is_same.ensures.looks.same store in
     done-then c.replace.result _ _ (λ keeps_text. (is.0, is.1, ap (λ (d : Done). d.archive) is.2 ∙ keeps_text)) (c.replace.ensures.kept a cache is.0 own is.1)
+
+pub replace-requires-clause-formed : goal.replace-requires-clause-formed
+replace-requires-clause-formed g c = c.in-Ok-false.ensures.formed

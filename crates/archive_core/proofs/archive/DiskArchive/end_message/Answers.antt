@@ -1,6 +1,6 @@
 use Rattle.std.proofs.Common.{◌≡◌, ◌+◌, ◌<◌, ◌∙◌, sym, ap, subst, length, refl}
 use Rattle.std.proofs.lemmas.Option.{slice_get_within}
-use Rattle.disk_model.specs.Disk.{LeavesOnly}
+use Rattle.disk_model.specs.Moments.{LeavesOnly}
 use Rattle.arch_model.specs.Archives.{Archive}
 use Rattle.arch_model.specs.Delivery.{Done}
 use Rattle.arch_model.specs.declared.answer.Answer.TheVariants as answer
@@ -46,7 +46,7 @@ pub returns-in-Ok-clause-crash : goal.returns-in-Ok-clause-crash
 returns-in-Ok-clause-crash g c = λ a cache store room shown.
     let k = g.D.Disk.content c.args.disk.now in
     let is = removed-is c.args.self.now a c.args.number c.args.moment c.args.text.now (store_keeps c.args.self.now cache a k store) c.requires.writable shown in
-    subst (λ (b : Archive). LeavesOnly g.D.Disk.moment g.D.Disk.left_since c.args.disk.now c.remove_entry.new.disk (RecoversEitherWith cache a b)) (sym (ap (λ (d : Done). d.archive) is))
+    subst (λ (b : Archive). LeavesOnly g.D.Disk c.args.disk.now c.remove_entry.new.disk (RecoversEitherWith cache a b)) (sym (ap (λ (d : Done). d.archive) is))
     (c.in-Ok.ensures.changes.crash a _ cache (subst (λ (v : StoreState). IsStoreWith v cache a k) (sym c.self.view_is) store) (subst (λ (v : StoreState). v.root.sequence + 1 < 18446744073709551616) (sym c.self.view_is) room) (record { shown = shown; is = refl }))
 
 pub returns-in-Ok-clause-done : goal.returns-in-Ok-clause-done
@@ -63,7 +63,7 @@ pub returns-in-Err-clause-crash : goal.returns-in-Err-clause-crash
 returns-in-Err-clause-crash g c = λ a cache store room shown.
     let k = g.D.Disk.content c.args.disk.now in
     let is = removed-is c.args.self.now a c.args.number c.args.moment c.args.text.now (store_keeps c.args.self.now cache a k store) c.requires.writable shown in
-    subst (λ (b : Archive). LeavesOnly g.D.Disk.moment g.D.Disk.left_since c.args.disk.now c.remove_entry.new.disk (RecoversEitherWith cache a b)) (sym (ap (λ (d : Done). d.archive) is))
+    subst (λ (b : Archive). LeavesOnly g.D.Disk c.args.disk.now c.remove_entry.new.disk (RecoversEitherWith cache a b)) (sym (ap (λ (d : Done). d.archive) is))
     (c.in-Err.ensures.changes.crash a _ cache (subst (λ (v : StoreState). IsStoreWith v cache a k) (sym c.self.view_is) store) (subst (λ (v : StoreState). v.root.sequence + 1 < 18446744073709551616) (sym c.self.view_is) room) (record { shown = shown; is = refl }))
 
 pub returns-then-not-is_named-clause-read : goal.returns-then-not-is_named-clause-read
@@ -75,8 +75,8 @@ returns-in-Err-clause-read g c = if-error c.in-Err.refusal c.answer_of.result �
 pub returns-then-not-is_named-clause-crash_between : goal.returns-then-not-is_named-clause-crash_between
 returns-then-not-is_named-clause-crash_between g c =
     let disk = c.args.disk.now in
-    let looks = looks-same g.D.Disk.content g.D.Disk.moment g.D.Disk.left_since g.met.D.Disk.only_now disk in
-    looks_between g.D.Disk.content g.D.Disk.moment g.D.Disk.left_since disk disk looks.crash
+    let looks = looks-same g.D.Disk g.met.D.Disk.only_now disk in
+    looks_between g.D.Disk disk disk looks.crash
 
 pub returns-then-not-is_named-clause-damage : goal.returns-then-not-is_named-clause-damage
 returns-then-not-is_named-clause-damage g c =
@@ -87,3 +87,6 @@ returns-in-Err-clause-damage g c =
     let k = g.D.Disk.content c.args.disk.now in
     subst (λ (v : StoreState). TellsDamage v k c.answer_of.result) c.self.view_is
     (store-damage c.self.inside.store k k c.in-Err.refusal c.answer_of.result c.answer_of.ensures (told-same k) c.in-Err.ensures.changes.damage)
+
+pub damaged-requires : goal.damaged-requires
+damaged-requires g c = record { there = slice_get_within c.args.self.now.entries c.args.index c.requires.live.message.entry c.requires.live.message.there }

@@ -1,4 +1,4 @@
-use Rattle.std.proofs.Common.{◌≡◌, ◌∙◌, sym, ap, subst}
+use Rattle.std.proofs.Common.{refl, ◌≡◌, ◌∙◌, sym, ap, subst}
 use Rattle.mail_reader.specs.Stored.{stored as stored_of}
 use Rattle.store_finding.specs.Kept.{StoreState, IsStoreWith}
 use Rattle.archive_core.proofs.ByNumber.{inside-message}
@@ -32,3 +32,12 @@ returns-clause-compared g c = λ a cache own.
 pub returns-clause-damage : goal.returns-clause-damage
 returns-clause-damage g c =
     unread-damage c.self.inside.store c.args.self.now c.args.index c.new-text.result c.text.new.into c.in-Err.refusal c.unread.result (g.D.Disk.content c.args.disk.now) c.self.view_is c.unread.ensures c.in-Err.ensures.text c.in-Err.ensures.found
+
+pub unread-requires : goal.unread-requires
+unread-requires g c = record { there = inside-message c.args.self.now c.args.self.now c.args.number c.args.index refl c.requires.live.message }
+
+pub returns-then-ne-clause-formed : goal.returns-then-ne-clause-formed
+returns-then-ne-clause-formed g c = (c.in-Ok.form, c.in-Ok.ensures)
+
+pub returns-in-Ok-text-clause-formed : goal.returns-in-Ok-text-clause-formed
+returns-in-Ok-text-clause-formed g c = (c.in-Ok.form, c.in-Ok.ensures)

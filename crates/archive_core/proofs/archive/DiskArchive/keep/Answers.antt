@@ -13,13 +13,13 @@ use Rattle.archive_core.proofs.Standing.{pushed}
 use Rattle.archive_core.proofs.archive.DiskArchive.keep.Goals as goal
 
 pub returns-in_default : goal.returns-in_default
-returns-in_default g c = record { changes = unstarted (g.met.D.Disk.only_now c.args.disk.now) (search rules) refl }
+returns-in_default g c = record { changes = unstarted {g = g.D.Disk} (g.met.D.Disk.only_now c.args.disk.now) (search rules) refl }
 
 pub returns-then-not-may_follow : goal.returns-then-not-may_follow
-returns-then-not-may_follow g c = record { changes = unstarted (g.met.D.Disk.only_now c.args.disk.now) (search rules) refl }
+returns-then-not-may_follow g c = record { changes = unstarted {g = g.D.Disk} (g.met.D.Disk.only_now c.args.disk.now) (search rules) refl }
 
 pub returns-in_err-put_text : goal.returns-in_err-put_text
-returns-in_err-put_text g c = record { changes = unstarted (g.met.D.Disk.only_now c.args.disk.now) (search rules) (search rules) }
+returns-in_err-put_text g c = record { changes = unstarted {g = g.D.Disk} (g.met.D.Disk.only_now c.args.disk.now) (search rules) (search rules) }
 
 pub invariant_of-self-2 : goal.invariant_of-self-2
 invariant_of-self-2 g c =
@@ -41,6 +41,6 @@ invariant_of-self-2 g c =
 pub returns : goal.returns
 returns g c = record {
   changes =
-      subst (λ (v : StoreState). ChangesStore g.D.Disk.content g.D.Disk.moment g.D.Disk.left_since g.D.Disk.faults g.D.Disk.reads c.args.disk.now c.deliver_entry.new.disk v c.deliver_entry.new.self Appends (AddsMessage c.args.text.now c.args.moment) (Ok tt)) c.self.view_is
+      subst (λ (v : StoreState). ChangesStore g.D.Disk c.args.disk.now c.deliver_entry.new.disk v c.deliver_entry.new.self Appends (AddsMessage c.args.text.now c.args.moment) (Ok tt)) c.self.view_is
       c.in_default-deliver_entry.ensures.changes;
 }

@@ -13,16 +13,16 @@ use Rattle.archive_core.proofs.Places.{place_of}
 use Rattle.archive_core.proofs.archive.DiskArchive.keep_instead.Goals as goal
 
 pub returns-in_default-clause-changes : goal.returns-in_default-clause-changes
-returns-in_default-clause-changes g c = unstarted (g.met.D.Disk.only_now c.args.disk.now) refl refl
+returns-in_default-clause-changes g c = unstarted {g = g.D.Disk} (g.met.D.Disk.only_now c.args.disk.now) refl refl
 
 pub returns-in_default-places_without-clause-changes : goal.returns-in_default-places_without-clause-changes
-returns-in_default-places_without-clause-changes g c = unstarted (g.met.D.Disk.only_now c.args.disk.now) refl refl
+returns-in_default-places_without-clause-changes g c = unstarted {g = g.D.Disk} (g.met.D.Disk.only_now c.args.disk.now) refl refl
 
 pub returns-then-not-may_follow-clause-changes : goal.returns-then-not-may_follow-clause-changes
-returns-then-not-may_follow-clause-changes g c = unstarted (g.met.D.Disk.only_now c.args.disk.now) refl refl
+returns-then-not-may_follow-clause-changes g c = unstarted {g = g.D.Disk} (g.met.D.Disk.only_now c.args.disk.now) refl refl
 
 pub returns-in_default-push-clause-changes : goal.returns-in_default-push-clause-changes
-returns-in_default-push-clause-changes g c = unstarted (g.met.D.Disk.only_now c.args.disk.now) refl refl
+returns-in_default-push-clause-changes g c = unstarted {g = g.D.Disk} (g.met.D.Disk.only_now c.args.disk.now) refl refl
 
 pub invariant_of-self : goal.invariant_of-self
 invariant_of-self g c =
@@ -48,5 +48,5 @@ invariant_of-self g c =
 
 pub returns-in-Ok-edit_text-clause-changes : goal.returns-in-Ok-edit_text-clause-changes
 returns-in-Ok-edit_text-clause-changes g c =
-    subst (λ (v : StoreState). ChangesStore g.D.Disk.content g.D.Disk.moment g.D.Disk.left_since g.D.Disk.faults g.D.Disk.reads c.args.disk.now c.edit_text.new.disk v c.edit_text.new.self Renews (Replaces c.args.old.now c.args.text.now c.args.moment) (Ok tt)) c.self.view_is
+    subst (λ (v : StoreState). ChangesStore g.D.Disk c.args.disk.now c.edit_text.new.disk v c.edit_text.new.self Renews (Replaces c.args.old.now c.args.text.now c.args.moment) (Ok tt)) c.self.view_is
     c.in-Ok-edit_text.ensures.changes

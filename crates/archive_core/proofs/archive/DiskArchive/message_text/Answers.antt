@@ -1,4 +1,4 @@
-use Rattle.std.proofs.Common.{sym, subst, List, ℕ, Ok}
+use Rattle.std.proofs.Common.{refl, sym, subst, List, ℕ, Ok}
 use Rattle.epoch_store.specs.Reads.{GivesTextOf}
 use Rattle.store_finding.specs.Kept.{StoreState, IsStoreWith}
 use Rattle.archive_core.proofs.ByNumber.{inside-message}
@@ -25,3 +25,6 @@ returns-in-Err-clause-text g c = λ a cache own.
 pub returns-in-Err-clause-damage : goal.returns-in-Err-clause-damage
 returns-in-Err-clause-damage g c =
     unread-damage c.self.inside.store c.args.self.now c.in-Some.index c.new-text.result c.text.new.into c.in-Err.refusal c.unread.result (g.D.Disk.content c.args.disk.now) c.self.view_is c.unread.ensures c.in-Err.ensures.text c.in-Err.ensures.found
+
+pub unread-requires : goal.unread-requires
+unread-requires g c = record { there = inside-message c.args.self.now c.args.self.now c.args.number c.in-Some.index refl c.in-Some.ensures.known }

@@ -1,19 +1,18 @@
 use Rattle.std.proofs.Common.{◌≡◌, ◌∙◌, ap, subst, sym, List, ℕ}
-use Rattle.arch_model.specs.declared.answer.Answer.{Answer}
 use Rattle.arch_judge.specs.declared.judging.Verdict.TheVariants.{Take}
 use Rattle.store_finding.specs.Kept.{StoreState}
 use Rattle.store_planning.specs.Dropping.{without_blob}
 use Rattle.store_finding.specs.declared.entries.StoredEntry.{StoredEntry}
 use Rattle.archive_core.specs.Commands.{JudgesOn}
 use Rattle.archive_core.specs.Kept.{IndexesKept}
-use Rattle.archive_core.specs.Rewriting.{EditsAs, MayReplace}
+use Rattle.archive_core.specs.Rewriting.{MayReplace}
 use Rattle.archive_core.proofs.EditKept.{taken-kept}
 use Rattle.archive_core.proofs.Redone.{edits-none, edits-refused, edits-failed, edits-done}
 use Rattle.archive_core.proofs.WithoutText.{may-replace}
 use Rattle.archive_core.proofs.archive.DiskArchive.replace.Goals as goal
 
 pub returns-in_default-clause-edits : goal.returns-in_default-clause-edits
-returns-in_default-clause-edits g c = edits-none g.D.Disk.content g.D.Disk.moment g.D.Disk.left_since g.D.Disk.faults g.met.D.Disk.only_now c.law_of_stores.ensures.recovers c.args.disk.now c.args.self.now c.args.number c.args.bytes.now c.args.moment c.requires.sizes
+returns-in_default-clause-edits g c = edits-none g.D.Disk g.met.D.Disk.only_now c.law_of_stores.ensures.recovers c.args.disk.now c.args.self.now c.args.number c.args.bytes.now c.args.moment c.requires.sizes
 
 pub keep_instead-requires-clause-may : goal.keep_instead-requires-clause-may
 keep_instead-requires-clause-may g c =
@@ -27,8 +26,8 @@ returns-in-Refuse-clause-edits g c =
     let v : StoreState = c.args.self.now in
     let entries : c.stored.result.now ≡ v.entries = c.stored.ensures ∙ ap (λ (u : StoreState). u.entries) c.self.view_is in
     let indexed : IndexesKept (without_blob v.entries c.args.blob.now.0) c.in-Ok.index = subst (λ (es : List StoredEntry). IndexesKept (without_blob es c.args.blob.now.0) c.in-Ok.index) entries c.in-Ok.ensures in
-    subst (λ (r : Answer). EditsAs g.D.Disk.content g.D.Disk.moment g.D.Disk.left_since g.D.Disk.faults c.args.disk.now c.verdict.new.disk v v c.args.number c.args.bytes.now c.args.moment r) (sym c.late_refusal.ensures)
-    (edits-refused g.D.Disk.content g.D.Disk.moment g.D.Disk.left_since g.D.Disk.faults g.met.D.Disk.only_now c.law_of_stores.ensures.recovers c.args.disk.now c.verdict.new.disk v c.in-Ok.index c.args.blob.now c.args.number c.args.bytes.now c.args.moment c.in-Refuse.answer c.requires.may indexed c.requires.sizes c.in-Refuse.ensures.judged c.verdict.ensures.looks c.in-Refuse.ensures.cause c.in-Refuse.ensures.damage)
+    edits-refused g.D.Disk g.met.D.Disk.only_now c.law_of_stores.ensures.recovers c.args.disk.now c.verdict.new.disk v c.in-Ok.index c.args.blob.now c.args.number c.args.bytes.now c.args.moment c.in-Refuse.answer c.requires.may indexed c.requires.sizes c.in-Refuse.ensures.judged c.verdict.ensures.looks c.in-Refuse.ensures.cause c.in-Refuse.ensures.damage
+    (c.in-Refuse.ensures.formed c.requires.formed.0 c.requires.may.writable c.requires.formed.1)
 
 pub returns-in-Ok-keep_instead-clause-edits : goal.returns-in-Ok-keep_instead-clause-edits
 returns-in-Ok-keep_instead-clause-edits g c =
@@ -36,7 +35,7 @@ returns-in-Ok-keep_instead-clause-edits g c =
     let entries : c.stored.result.now ≡ v.entries = c.stored.ensures ∙ ap (λ (u : StoreState). u.entries) c.self.view_is in
     let indexed : IndexesKept (without_blob v.entries c.args.blob.now.0) c.in-Ok.index = subst (λ (es : List StoredEntry). IndexesKept (without_blob es c.args.blob.now.0) c.in-Ok.index) entries c.in-Ok.ensures in
     let judged : JudgesOn g.D.Disk.content c.args.disk.now v c.in-Ok.index c.args.bytes.now (Take c.as_slice.result.now c.in-Take.ids c.in-Take.new) = subst (λ (t : List ℕ). JudgesOn g.D.Disk.content c.args.disk.now v c.in-Ok.index c.args.bytes.now (Take t c.in-Take.ids c.in-Take.new)) (sym c.as_slice.ensures) c.in-Take.ensures.judged in
-    edits-done g.D.Disk.content g.D.Disk.moment g.D.Disk.left_since g.D.Disk.faults g.met.D.Disk.only_now c.law_of_stores.ensures.recovers c.args.disk.now c.verdict.new.disk c.keep_instead.new.disk v c.keep_instead.new.self c.in-Ok.index c.args.blob.now c.args.number c.args.bytes.now c.as_slice.result.now c.args.moment c.in-Take.new c.in-Take.ids c.requires.may indexed
+    edits-done g.D.Disk g.met.D.Disk.only_now c.law_of_stores.ensures.recovers c.args.disk.now c.verdict.new.disk c.keep_instead.new.disk v c.keep_instead.new.self c.in-Ok.index c.args.blob.now c.args.number c.args.bytes.now c.as_slice.result.now c.args.moment c.in-Take.new c.in-Take.ids c.requires.may indexed
     judged c.verdict.ensures.looks (c.in-Take.ensures.cause.kept (λ never. never)) c.in-Ok-keep_instead.ensures.changes
 
 pub returns-in-Err-clause-edits : goal.returns-in-Err-clause-edits
@@ -45,7 +44,7 @@ returns-in-Err-clause-edits g c =
     let entries : c.stored.result.now ≡ v.entries = c.stored.ensures ∙ ap (λ (u : StoreState). u.entries) c.self.view_is in
     let indexed : IndexesKept (without_blob v.entries c.args.blob.now.0) c.in-Ok.index = subst (λ (es : List StoredEntry). IndexesKept (without_blob es c.args.blob.now.0) c.in-Ok.index) entries c.in-Ok.ensures in
     let judged : JudgesOn g.D.Disk.content c.args.disk.now v c.in-Ok.index c.args.bytes.now (Take c.as_slice.result.now c.in-Take.ids c.in-Take.new) = subst (λ (t : List ℕ). JudgesOn g.D.Disk.content c.args.disk.now v c.in-Ok.index c.args.bytes.now (Take t c.in-Take.ids c.in-Take.new)) (sym c.as_slice.ensures) c.in-Take.ensures.judged in
-    edits-failed g.D.Disk.content g.D.Disk.moment g.D.Disk.left_since g.D.Disk.faults g.met.D.Disk.only_now c.law_of_stores.ensures.recovers c.args.disk.now c.verdict.new.disk c.keep_instead.new.disk v c.keep_instead.new.self c.in-Ok.index c.args.blob.now c.args.number c.args.bytes.now c.as_slice.result.now c.args.moment c.in-Take.new c.in-Take.ids c.requires.may indexed
+    edits-failed g.D.Disk g.met.D.Disk.only_now c.law_of_stores.ensures.recovers c.args.disk.now c.verdict.new.disk c.keep_instead.new.disk v c.keep_instead.new.self c.in-Ok.index c.args.blob.now c.args.number c.args.bytes.now c.as_slice.result.now c.args.moment c.in-Take.new c.in-Take.ids c.requires.may indexed
     judged c.verdict.ensures.looks (c.in-Take.ensures.cause.kept (λ never. never)) c.in-Err.refusal c.answer_of.result c.answer_of.ensures c.requires.sizes c.in-Err.ensures.changes
 
 pub returns-in-Ok-keep_instead-clause-kept : goal.returns-in-Ok-keep_instead-clause-kept

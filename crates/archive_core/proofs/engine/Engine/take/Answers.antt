@@ -12,26 +12,26 @@ use Rattle.archive_core.proofs.Standing.{store_keeps}
 use Rattle.archive_core.proofs.engine.Engine.take.Goals as goal
 
 pub returns-then-not-has_next_root-clause-crash : goal.returns-then-not-has_next_root-clause-crash
-returns-then-not-has_next_root-clause-crash g c = λ a cache store. still-left g.D.Disk.content g.D.Disk.moment g.D.Disk.left_since g.met.D.Disk.counts_now g.met.D.Disk.only_now g.met.D.Disk.reads_fit c.args.self.now a (applied a c.args.command.now c.args.moment).archive cache (cache_left c.args.command.now cache) store
+returns-then-not-has_next_root-clause-crash g c = λ a cache store. still-left g.D.Disk g.met.D.Disk.counts_now g.met.D.Disk.only_now g.met.D.Disk.reads_fit c.args.self.now a (applied a c.args.command.now c.args.moment).archive cache (cache_left c.args.command.now cache) store
 
 pub returns-then-not-has_next_root-clause-done : goal.returns-then-not-has_next_root-clause-done
 returns-then-not-has_next_root-clause-done g c = λ a cache store. store
 
 pub returns-then-not-has_next_root-clause-stands : goal.returns-then-not-has_next_root-clause-stands
-returns-then-not-has_next_root-clause-stands g c = λ a store. starved-at g.D.Disk.content g.D.Disk.moment g.D.Disk.left_since g.met.D.Disk.counts_now g.met.D.Disk.only_now g.met.D.Disk.reads_fit c.args.self.now a
+returns-then-not-has_next_root-clause-stands g c = λ a store. starved-at g.D.Disk g.met.D.Disk.counts_now g.met.D.Disk.only_now g.met.D.Disk.reads_fit c.args.self.now a
     (λ (b : Archive). applied b c.args.command.now c.args.moment) store
 
 pub returns-clause-crash : goal.returns-clause-crash
 returns-clause-crash g c =
     let room = c.has_next_root.ensures.0 c.if-not-has_next_root.false in
-    left-from g.D.Disk.content g.D.Disk.moment g.D.Disk.left_since g.met.D.Disk.counts_now g.met.D.Disk.only_now g.met.D.Disk.reads_fit
+    left-from g.D.Disk g.met.D.Disk.counts_now g.met.D.Disk.only_now g.met.D.Disk.reads_fit
     (record { disk = c.self.inside.disk; view = c.self.inside.archive; views = c.self.inside.views; stale = c.self.inside.stale }) c.args.self.now c.self.view_is c.command_keeping-answer.new.disk
     (λ (a : Archive). (applied a c.args.command.now c.args.moment).archive) (cache_left c.args.command.now) (λ a cache store. c.command_keeping-answer.ensures.taken.crash a cache store room)
 
 pub returns-clause-done : goal.returns-clause-done
 returns-clause-done g c =
     let room = c.has_next_root.ensures.0 c.if-not-has_next_root.false in
-    done-from g.D.Disk.content g.D.Disk.moment g.D.Disk.left_since g.met.D.Disk.counts_now g.met.D.Disk.only_now g.met.D.Disk.reads_fit
+    done-from g.D.Disk g.met.D.Disk.counts_now g.met.D.Disk.only_now g.met.D.Disk.reads_fit
     (record { disk = c.self.inside.disk; view = c.self.inside.archive; views = c.self.inside.views; stale = c.self.inside.stale }) c.args.self.now c.self.view_is c.command_keeping-answer.new.self c.command_keeping-answer.new.disk
     (λ (a : Archive). applied a c.args.command.now c.args.moment) (cache_left c.args.command.now) c.command_keeping-answer.result (λ a cache store. c.command_keeping-answer.ensures.taken.done a cache store room)
 
@@ -42,7 +42,7 @@ returns-clause-stands g c =
     let ok = is_ok c.follow-followed.result in
     let wanted = λ (a : Archive). applied a c.args.command.now c.args.moment in
     let stale_is : c.is_left_stale-self-inside.result ≡ (needs_opening reply || not ok) = c.is_left_stale-self-inside.ensures in
-    taken-from g.D.Disk.content g.D.Disk.moment g.D.Disk.left_since g.met.D.Disk.counts_now g.met.D.Disk.only_now g.met.D.Disk.reads_fit
+    taken-from g.D.Disk g.met.D.Disk.counts_now g.met.D.Disk.only_now g.met.D.Disk.reads_fit
     (record { disk = c.self.inside.disk; view = c.self.inside.archive; views = c.self.inside.views; stale = c.self.inside.stale }) c.args.self.now c.self.view_is c.law_of_recovery.ensures.caches
     (record { disk = c.command_keeping-answer.new.disk; view = c.command_keeping-answer.new.self; views = c.follow-followed.new.views; stale = c.is_left_stale-self-inside.result })
     wanted (cache_left c.args.command.now) reply (kept-or-none c.args.command.now) (λ needs. stale_is ∙ needs-stale (needs_opening reply) ok needs)
@@ -61,7 +61,7 @@ pub follow-followed-requires : goal.follow-followed-requires
 follow-followed-requires g c = record { text = c.command_keeping-answer.ensures.text }
 
 pub returns-clause-cause : goal.returns-clause-cause
-returns-clause-cause g c = answer-cause-from g.D.Disk.content g.D.Disk.moment g.D.Disk.left_since g.met.D.Disk.counts_now g.met.D.Disk.only_now g.met.D.Disk.reads_fit
+returns-clause-cause g c = answer-cause-from g.D.Disk g.met.D.Disk.counts_now g.met.D.Disk.only_now g.met.D.Disk.reads_fit
     (record { disk = c.self.inside.disk; view = c.self.inside.archive; views = c.self.inside.views; stale = c.self.inside.stale }) c.args.self.now c.self.view_is
     g.D.Disk.faults c.command_keeping-answer.new.disk c.command_keeping-answer.result c.command_keeping-answer.ensures.taken.cause
 
@@ -71,17 +71,17 @@ returns-clause-unread g c =
     c.self.view_is c.command_keeping-answer.ensures.unread
 
 pub returns-then-not-has_next_root-clause-untouched : goal.returns-then-not-has_next_root-clause-untouched
-returns-then-not-has_next_root-clause-untouched g c = reading-same g.D.Disk.content g.D.Disk.moment g.D.Disk.left_since g.met.D.Disk.counts_now g.met.D.Disk.only_now c.args.self.now
+returns-then-not-has_next_root-clause-untouched g c = reading-same g.D.Disk g.met.D.Disk.counts_now g.met.D.Disk.only_now c.args.self.now
 
 pub returns-clause-untouched : goal.returns-clause-untouched
-returns-clause-untouched g c = refused-from g.D.Disk.content g.D.Disk.moment g.D.Disk.left_since g.met.D.Disk.counts_now g.met.D.Disk.only_now g.met.D.Disk.reads_fit
+returns-clause-untouched g c = refused-from g.D.Disk g.met.D.Disk.counts_now g.met.D.Disk.only_now g.met.D.Disk.reads_fit
     (record { disk = c.self.inside.disk; view = c.self.inside.archive; views = c.self.inside.views; stale = c.self.inside.stale }) c.args.self.now c.self.view_is
     (record { disk = c.command_keeping-answer.new.disk; view = c.command_keeping-answer.new.self; views = c.follow-followed.new.views; stale = c.is_left_stale-self-inside.result })
     (is_ok c.follow-followed.result) c.args.command.now c.command_keeping-answer.new.gone c.command_keeping-answer.new.kept.text c.args.moment c.command_keeping-answer.result c.requires.ready c.is_left_stale-self-inside.ensures c.follow-followed.ensures.refused c.command_keeping-answer.ensures.taken.same
     (λ went. on-ok c.follow-followed.result _ c.follow-followed.ensures.rows went) c.command_keeping-answer.ensures.taken.untouched
 
 pub returns-clause-unmoved : goal.returns-clause-unmoved
-returns-clause-unmoved g c = unmoved-from g.D.Disk.content g.D.Disk.moment g.D.Disk.left_since g.met.D.Disk.counts_now g.met.D.Disk.only_now g.met.D.Disk.reads_fit
+returns-clause-unmoved g c = unmoved-from g.D.Disk g.met.D.Disk.counts_now g.met.D.Disk.only_now g.met.D.Disk.reads_fit
     (record { disk = c.self.inside.disk; view = c.self.inside.archive; views = c.self.inside.views; stale = c.self.inside.stale }) c.args.self.now c.self.view_is
     (record { disk = c.command_keeping-answer.new.disk; view = c.command_keeping-answer.new.self; views = c.follow-followed.new.views; stale = c.is_left_stale-self-inside.result })
     (is_ok c.follow-followed.result) c.args.command.now c.command_keeping-answer.new.gone c.command_keeping-answer.new.kept.text c.args.moment c.command_keeping-answer.result c.requires.ready c.is_left_stale-self-inside.ensures c.follow-followed.ensures.refused c.command_keeping-answer.ensures.taken.same
@@ -93,7 +93,7 @@ returns-then-not-has_next_root-clause-removed g c = of-removal (is_delivery c.ar
 pub returns-clause-removed : goal.returns-clause-removed
 returns-clause-removed g c =
     let room = c.has_next_root.ensures.0 c.if-not-has_next_root.false in
-    removed-from g.D.Disk.content g.D.Disk.moment g.D.Disk.left_since g.met.D.Disk.counts_now g.met.D.Disk.only_now g.met.D.Disk.reads_fit
+    removed-from g.D.Disk g.met.D.Disk.counts_now g.met.D.Disk.only_now g.met.D.Disk.reads_fit
     (record { disk = c.self.inside.disk; view = c.self.inside.archive; views = c.self.inside.views; stale = c.self.inside.stale }) c.args.self.now c.self.view_is
     (record { disk = c.command_keeping-answer.new.disk; view = c.command_keeping-answer.new.self; views = c.follow-followed.new.views; stale = c.is_left_stale-self-inside.result })
     c.args.command.now c.args.moment c.command_keeping-answer.new.kept.text c.command_keeping-answer.new.gone c.command_keeping-answer.result (λ a cache store. c.command_keeping-answer.ensures.taken.done a cache store room) c.command_keeping-answer.ensures.gone c.follow-followed.ensures.removed c.command_keeping-answer.ensures.taken.settled

@@ -4,7 +4,7 @@ use Rattle.arch_model.specs.Archives.{Archive}
 use Rattle.arch_model.specs.Delivery.{applied}
 use Rattle.arch_model.specs.Keeping.{ReadsFor, ending}
 use Rattle.arch_model.proofs.Keepers.{cause-earlier}
-use Rattle.disk_model.specs.Disk.{LeavesOnly}
+use Rattle.disk_model.specs.Moments.{LeavesOnly}
 use Rattle.store_finding.specs.Kept.{IsStoreWith}
 use Rattle.epoch_store.specs.Commands.{RecoversOneOf}
 use Rattle.archive_core.specs.Commands.{DoneBy, IfRemoval, IfUnreadFor, OnDone, cache_left, is_delivery}
@@ -19,7 +19,7 @@ take-requires-clause-ready g c = not_true c.fresh.new.self.stale c.in-Ok.ensures
 pub returns-in-Ok-clause-done : goal.returns-in-Ok-clause-done
 returns-in-Ok-clause-done g c = λ s fits.
     let found = c.in-Ok.ensures.found s fits in
-    commanded-after g.D.Disk.content g.D.Disk.moment g.D.Disk.left_since g.met.D.Disk.counts_now g.met.D.Disk.only_now g.met.D.Disk.reads_fit (is_ready c.args.self.now) c.args.self.now c.fresh.new.self c.take.new.self s found.0
+    commanded-after g.D.Disk g.met.D.Disk.counts_now g.met.D.Disk.only_now g.met.D.Disk.reads_fit (is_ready c.args.self.now) c.args.self.now c.fresh.new.self c.take.new.self s found.0
     (λ (a : Archive). applied a c.args.command.now c.args.moment) c.take.result found.1 found.2 c.in-Ok.ensures.ready c.take.ensures.stands
 
 pub returns-in-Ok-clause-ready : goal.returns-in-Ok-clause-ready
@@ -58,7 +58,7 @@ returns-in-Err-clause-unread g c = λ a store ready unknown. absurd (false≢tru
 
 pub returns-in-Ok-clause-crash : goal.returns-in-Ok-clause-crash
 returns-in-Ok-clause-crash g c = λ a cache ready.
-    subst (λ (o : Owning g.row.D.Denot). IsStoreWith o.view cache a (g.D.Disk.content o.disk) → LeavesOnly g.D.Disk.moment g.D.Disk.left_since o.disk c.take.new.self.disk (RecoversOneOf cache a (cache_left c.args.command.now cache) (applied a c.args.command.now c.args.moment).archive)) (c.in-Ok.ensures.nothing ready).1
+    subst (λ (o : Owning g.row.D.Denot). IsStoreWith o.view cache a (g.D.Disk.content o.disk) → LeavesOnly g.D.Disk o.disk c.take.new.self.disk (RecoversOneOf cache a (cache_left c.args.command.now cache) (applied a c.args.command.now c.args.moment).archive)) (c.in-Ok.ensures.nothing ready).1
     (c.take.ensures.crash a cache)
 
 pub returns-in-Ok-clause-store : goal.returns-in-Ok-clause-store
@@ -72,7 +72,7 @@ returns-in-Ok-clause-removed g c = λ ready.
 
 pub returns-in-Ok-clause-untouched : goal.returns-in-Ok-clause-untouched
 returns-in-Ok-clause-untouched g c = λ ready.
-    subst (λ (o : Owning g.row.D.Denot). IfRefused c.take.result (OnlyReadsOn g.D.Disk.content g.D.Disk.moment g.D.Disk.left_since o c.take.new.self)) (c.in-Ok.ensures.nothing ready).1 c.take.ensures.untouched
+    subst (λ (o : Owning g.row.D.Denot). IfRefused c.take.result (OnlyReadsOn g.D.Disk o c.take.new.self)) (c.in-Ok.ensures.nothing ready).1 c.take.ensures.untouched
 
 pub returns-in-Ok-clause-unmoved : goal.returns-in-Ok-clause-unmoved
 returns-in-Ok-clause-unmoved g c = λ ready. subst (λ (o : Owning g.row.D.Denot). IfUnreadFor c.args.command.now c.take.result (c.take.new.self ≡ o)) (c.in-Ok.ensures.nothing ready).1 c.take.ensures.unmoved

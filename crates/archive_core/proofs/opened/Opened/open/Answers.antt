@@ -8,11 +8,11 @@ use Rattle.archive_core.proofs.Standing.{still_own}
 use Rattle.archive_core.proofs.opened.Opened.open.Goals as goal
 
 pub returns-in-Ok-rows-clause-opened : goal.returns-in-Ok-rows-clause-opened
-returns-in-Ok-rows-clause-opened g c = opened-read g.D.Disk.content g.D.Disk.moment g.D.Disk.left_since g.D.Disk.faults g.met.D.Disk.counts_now c.args.disk.now c.open.new.disk c.rows.new.disk c.in-Ok.archive c.in-Ok.ensures.opened c.rows.ensures.looks
+returns-in-Ok-rows-clause-opened g c = opened-read g.D.Disk g.met.D.Disk.counts_now c.args.disk.now c.open.new.disk c.rows.new.disk c.in-Ok.archive c.in-Ok.ensures.opened c.rows.ensures.looks
     (c.rows.ensures.cause.kept (λ fault. absurd (cc)))
 
 pub returns-in-Err-rows-clause-opened : goal.returns-in-Err-rows-clause-opened
-returns-in-Err-rows-clause-opened g c = unopened-read g.D.Disk.content g.D.Disk.moment g.D.Disk.left_since g.D.Disk.faults g.met.D.Disk.counts_now c.args.disk.now c.open.new.disk c.rows.new.disk c.in-Ok.archive c.in-Ok.ensures.opened c.rows.ensures.looks c.in-Err-rows.refusal
+returns-in-Err-rows-clause-opened g c = unopened-read g.D.Disk g.met.D.Disk.counts_now c.args.disk.now c.open.new.disk c.rows.new.disk c.in-Ok.archive c.in-Ok.ensures.opened c.rows.ensures.looks c.in-Err-rows.refusal
     c.in-Err-rows.ensures.well c.in-Err-rows.ensures.sound c.in-Ok.ensures.texts (cause-of c.in-Err-rows.refusal _ _ c.in-Err-rows.ensures.cause)
 
 pub returns-in-Ok-rows-clause-rows : goal.returns-in-Ok-rows-clause-rows

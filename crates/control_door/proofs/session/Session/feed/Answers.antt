@@ -1,4 +1,5 @@
 use Rattle.std.proofs.Common.{◌++◌, true, refl, inl, inr, arith}
+use Rattle.arch_model.specs.KeeperRecord.{keeper}
 use Rattle.keep_course.proofs.Courses.{coming-same, coming-more, ended}
 use Rattle.control_door.specs.Counting.{asks_for}
 use Rattle.control_door.specs.Door.{waiting, said, has_request}
@@ -53,7 +54,7 @@ returns-in-Kept-clause-fed g c = λ s fits.
       turn.0,
       c.loop-opened.opened,
       turn.1.fits,
-      ended g.K.Keep.leaves (said c.args.moment) has_request g.K.Shelf.holds g.K.Keep.files_are g.K.Shelf.ready c.args.keep.now c.loop-opened.keep c.act.new.keep _ (waiting (c.loop-opened.self ++ c.loop-opened.rest.now) c.loop-opened.opened) before.0 _ _ turn.0 _ fits before.2 turn.2.2 (inr (turn.2.0, turn.2.1)) turn.1.passes,
+      ended (keeper g.K.Shelf g.K.Keep) (said c.args.moment) has_request c.args.keep.now c.loop-opened.keep c.act.new.keep _ (waiting (c.loop-opened.self ++ c.loop-opened.rest.now) c.loop-opened.opened) before.0 _ _ turn.0 _ fits before.2 turn.2.2 (inr (turn.2.0, turn.2.1)) turn.1.passes,
     )
 
 pub returns-in-Closed-clause-fed : goal.returns-in-Closed-clause-fed
@@ -63,7 +64,7 @@ returns-in-Closed-clause-fed g c = λ s fits.
       turn.0,
       true,
       turn.1.fits,
-      ended g.K.Keep.leaves (said c.args.moment) has_request g.K.Shelf.holds g.K.Keep.files_are g.K.Shelf.ready c.args.keep.now c.loop-opened.keep c.act.new.keep _ (waiting (c.loop-opened.self ++ c.loop-opened.rest.now) c.loop-opened.opened) before.0 _ _ turn.0 _ fits before.2 turn.2 (inl refl) turn.1.passes,
+      ended (keeper g.K.Shelf g.K.Keep) (said c.args.moment) has_request c.args.keep.now c.loop-opened.keep c.act.new.keep _ (waiting (c.loop-opened.self ++ c.loop-opened.rest.now) c.loop-opened.opened) before.0 _ _ turn.0 _ fits before.2 turn.2 (inl refl) turn.1.passes,
     )
 
 pub returns-in-Kept-clause-reads : goal.returns-in-Kept-clause-reads

@@ -2,6 +2,7 @@ use Rattle.std.proofs.Common.{◌≡◌, ◌≤◌, ◌+◌, ◌*◌, ◌++◌, 
 use Rattle.line_door.specs.Acts.{outside}
 use Rattle.line_door.specs.Course.{talk}
 use Rattle.keep_course.specs.Courses.{SessionRunning}
+use Rattle.arch_model.specs.KeeperRecord.{keeper}
 use Rattle.arch_model.specs.Keeping.{MatchesKnown}
 use Rattle.arch_model.specs.Standing.{LastKnown}
 use Rattle.control_door.specs.Counting.{asks_for}
@@ -13,8 +14,8 @@ use Rattle.control_door.proofs.session.Session.feed.Given as goal
 abbrev pub invariant-loop-opened : goal.invariant-loop-opened
 invariant-loop-opened g l = record {
   going :
-      (s : LastKnown) → MatchesKnown g.K.Shelf.holds g.K.Keep.files_are g.K.Shelf.ready g.K.Keep.leaves l.fn.keep s →
-      (t : LastKnown) × MatchesKnown g.K.Shelf.holds g.K.Keep.files_are g.K.Shelf.ready g.K.Keep.leaves l.keep t
+      (s : LastKnown) → MatchesKnown (keeper g.K.Shelf g.K.Keep) l.fn.keep s →
+      (t : LastKnown) × MatchesKnown (keeper g.K.Shelf g.K.Keep) l.keep t
       × SessionRunning g.K.Keep.leaves (said l.moment) has_request l.fn.keep l.keep
       (talk (Some (waiting (l.fn.self ++ l.fn.piece) true)) s (outside (g.O.Sink.taken l.fn.out) (g.K.Shelf.faults l.fn.keep) (g.O.Sink.faults l.fn.out)))
       (talk (Some (waiting (l.self ++ l.rest) l.opened)) t (outside (g.O.Sink.taken l.out) (g.K.Shelf.faults l.keep) (g.O.Sink.faults l.out)));

@@ -9,7 +9,7 @@ use Rattle.epoch_store.proofs.EntryExtents.{named_after}
 use Rattle.epoch_store.proofs.store.Store.carry_out.Goals as goal
 
 pub returns-then-self-clause-changes : goal.returns-then-self-clause-changes
-returns-then-self-clause-changes g c = unstarted (g.met.D.Disk.only_now c.args.disk.now) (search rules) refl
+returns-then-self-clause-changes g c = unstarted {g = g.D.Disk} (g.met.D.Disk.only_now c.args.disk.now) (search rules) refl
 
 pub returns-in-Ok-clause-changes : goal.returns-in-Ok-clause-changes
 returns-in-Ok-clause-changes g c = carried_done c.self.view_is c.other-slot.ensures c.plans.ensures c.rewrite.ensures.fewest c.into_entries.ensures c.requires.ready c.in-Ok.ensures.carried

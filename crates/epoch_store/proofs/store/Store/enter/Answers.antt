@@ -21,13 +21,13 @@ use Rattle.epoch_store.proofs.TextDamage.{none_told}
 use Rattle.epoch_store.proofs.store.Store.enter.Goals as goal
 
 pub returns-then-place-ge-MOST-clause-changes : goal.returns-then-place-ge-MOST-clause-changes
-returns-then-place-ge-MOST-clause-changes g c = unstarted (g.met.D.Disk.only_now c.args.disk.now) (search rules) refl
+returns-then-place-ge-MOST-clause-changes g c = unstarted {g = g.D.Disk} (g.met.D.Disk.only_now c.args.disk.now) (search rules) refl
 
 pub returns-in_err-id-clause-changes : goal.returns-in_err-id-clause-changes
-returns-in_err-id-clause-changes g c = unstarted (g.met.D.Disk.only_now c.args.disk.now) (search rules) (search rules)
+returns-in_err-id-clause-changes g c = unstarted {g = g.D.Disk} (g.met.D.Disk.only_now c.args.disk.now) (search rules) (search rules)
 
 pub returns-in_default-clause-changes : goal.returns-in_default-clause-changes
-returns-in_default-clause-changes g c = unstarted (g.met.D.Disk.only_now c.args.disk.now) (search rules) refl
+returns-in_default-clause-changes g c = unstarted {g = g.D.Disk} (g.met.D.Disk.only_now c.args.disk.now) (search rules) refl
 
 pub write_entry-requires-clause-sizes : goal.write_entry-requires-clause-sizes
 write_entry-requires-clause-sizes g c = subst (λ (v : StoreState). WhereTold (HasPartSizes v.root) (g.D.Disk.content c.args.disk.now)) (sym c.self.view_is) (part_sizes c.args.self.now (g.D.Disk.content c.args.disk.now) c.requires.sizes)
@@ -39,7 +39,7 @@ returns-in_err-root-clause-changes g c =
     let said = c.in_err-root.ensures in
     stopped why (search rules)
     (λ a b cache store room enters.
-    enters_leaves e (g.D.Disk.content c.args.disk.now) (same_view _ _ _ _ c.reserve.ensures.items ∙ c.self.view_is) c.other-free.ensures c.next_place-place.ensures.next refl a b cache store room enters g.D.Disk.moment g.D.Disk.left_since c.args.disk.now c.write_entry.new.disk c.write_entry.ensures.crash)
+    enters_leaves e (g.D.Disk.content c.args.disk.now) (same_view _ _ _ _ c.reserve.ensures.items ∙ c.self.view_is) c.other-free.ensures c.next_place-place.ensures.next refl a b cache store room enters g.D.Disk c.args.disk.now c.write_entry.new.disk c.write_entry.ensures.crash)
     (search rules) (unless_short why said.refused said.undamaged) said.undamaged (none_told _ why said.undamaged) (search rules) said.count c.write_entry.ensures.crash_between
 
 pub returns-clause-changes : goal.returns-clause-changes
@@ -53,7 +53,7 @@ returns-clause-changes g c =
     let more = pushed (is_ok c.push.result) c.reserve.new.self.items c.push.new.self.items c.new_entry-stored.result c.push.ensures.items (c.push.ensures.succeeds (omega (arith, full))) in
     record {
       crash = λ a b cache store room enters.
-          enters_leaves e k0 same c.other-free.ensures c.next_place-place.ensures.next refl a b cache store room enters g.D.Disk.moment g.D.Disk.left_since c.args.disk.now c.write_entry.new.disk c.write_entry.ensures.crash;
+          enters_leaves e k0 same c.other-free.ensures c.next_place-place.ensures.next refl a b cache store room enters g.D.Disk c.args.disk.now c.write_entry.new.disk c.write_entry.ensures.crash;
       done = λ a b cache store room enters.
           enters_store e k0 same c.other-free.ensures c.next_place-place.ensures.next refl a b cache store room enters root c.push.new.self.items c.new_entry-stored.result k3 c.in_ok-root.ensures.root more c.new_entry-stored.ensures.stored c.in_ok-root.ensures.done;
       settled = c.in_ok-root.ensures.settled;

@@ -24,7 +24,7 @@ returns-in_err-make g c =
     record {
       made = record {
         crash = making_leaves config c.first_root-root.ensures.name c.requires.config c.first_root-root.result root_is k0 k1 k2 c.in_ok-no_archive.ensures.synced c.all_names.ensures.same c.in_ok-no_archive.ensures.answer
-            g.D.Disk.moment g.D.Disk.left_since disk d1 d2 c.make.new.disk (g.met.D.Disk.reads_fit disk) c.no_archive.ensures.crash c.all_names.ensures.crash c.make.ensures.crash;
+            g.D.Disk disk d1 d2 c.make.new.disk (g.met.D.Disk.reads_fit disk) c.no_archive.ensures.crash c.all_names.ensures.crash c.make.ensures.crash;
         answer = search rules;
         refused = search rules;
         done = search rules;
@@ -54,7 +54,7 @@ returns g c =
     record {
       made = record {
         crash = making_leaves config c.first_root-root.ensures.name c.requires.config c.first_root-root.result root_is k0 k1 k2 c.in_ok-no_archive.ensures.synced c.all_names.ensures.same c.in_ok-no_archive.ensures.answer
-            g.D.Disk.moment g.D.Disk.left_since disk d1 d2 c.make.new.disk (g.met.D.Disk.reads_fit disk) c.no_archive.ensures.crash c.all_names.ensures.crash c.make.ensures.crash;
+            g.D.Disk disk d1 d2 c.make.new.disk (g.met.D.Disk.reads_fit disk) c.no_archive.ensures.crash c.all_names.ensures.crash c.make.ensures.crash;
         answer = search rules;
         refused = tt;
         done = subst (λ (es : List StoredEntry). WhereTold (IsDiskOf (record { root = c.first_root-root.result; slot = 0; entries = es }) (empty_archive config)) k3) (sym c.new.ensures.items)

@@ -30,7 +30,7 @@ loop-entry-init g c =
           record { epoch = 0; from = 0; taken = subst (IsTakenUpTo v.root 0 0) none (taken_none v.root); lie = named.lie; ends = named.ends };
       changes = λ e. ap (λ (p : Planning). is_anew p e) c.requires.none;
       first = subst (λ (p : Planning). WhereTold (PlansFirst v blob 0 p) (g.D.Disk.content c.args.disk.now)) none (first_none v blob (g.D.Disk.content c.args.disk.now));
-      reads = reads_none g.D.Disk.content g.D.Disk.moment g.D.Disk.left_since g.D.Disk.faults c.args.disk.now (λ image. g.met.D.Disk.only_now c.args.disk.now image);
+      reads = reads_none g.D.Disk c.args.disk.now (λ image. g.met.D.Disk.only_now c.args.disk.now image);
       steady = refl;
       fewest = omega arith;
     }
@@ -53,7 +53,7 @@ returns-in-Err-clause-damage g c =
     entry_damage v i e c.file_of.result (g.D.Disk.content c.args.disk.now) (g.D.Disk.content c.loop-entry.disk) c.in-Err.refusal here c.file_of.ensures c.loop-entry.invariant.reads.same c.in-Err.ensures.damage
 
 pub returns-in-Err-clause-reads : goal.returns-in-Err-clause-reads
-returns-in-Err-clause-reads g c = reads_both g.D.Disk.content g.D.Disk.moment g.D.Disk.left_since g.D.Disk.faults c.args.disk.now c.loop-entry.disk c.take.new.disk c.loop-entry.invariant.reads c.take.ensures.reads
+returns-in-Err-clause-reads g c = reads_both g.D.Disk c.args.disk.now c.loop-entry.disk c.take.new.disk c.loop-entry.invariant.reads c.take.ensures.reads
 
 pub returns-in-Err-clause-cause : goal.returns-in-Err-clause-cause
 returns-in-Err-clause-cause g c = rose_later_than _ (g.D.Disk.faults c.args.disk.now) (g.D.Disk.faults c.loop-entry.disk) (g.D.Disk.faults c.take.new.disk) c.loop-entry.invariant.steady c.in-Err.ensures.cause
@@ -75,7 +75,7 @@ loop-entry-preserved g c =
       taken = taken_more v.root v.entries i e c.file_of.result old new here c.file_of.ensures inv.taken c.in-Ok.ensures.lies;
       changes = lost_more v.entries i e blob c.file_of.result.number old new here (ap (λ (f : FileName). f.number) c.file_of.ensures) inv.changes c.in-Ok.ensures.changes;
       first = first_more v blob i old new (g.D.Disk.content c.args.disk.now) (g.D.Disk.content c.loop-entry.disk) e c.file_of.result inv.reads.same here c.file_of.ensures inv.first c.in-Ok.ensures.taken;
-      reads = reads_both g.D.Disk.content g.D.Disk.moment g.D.Disk.left_since g.D.Disk.faults c.args.disk.now c.loop-entry.disk c.take.new.disk inv.reads c.in-Ok.ensures.reads;
+      reads = reads_both g.D.Disk c.args.disk.now c.loop-entry.disk c.take.new.disk inv.reads c.in-Ok.ensures.reads;
       steady = c.in-Ok.ensures.cause.kept (λ no. absurd (cc no)) ∙ inv.steady;
       fewest = (let more = c.in-Ok.ensures.fewest in omega (arith, fewest, more));
     }

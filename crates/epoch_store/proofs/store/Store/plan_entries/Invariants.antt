@@ -15,7 +15,7 @@ invariant-loop-entry g l = record {
   taken : IsTakenSo l.self.root (drop l.entry-index l.self.entries) l.planned;
   changes : (e : ℕ) → is_anew l.planned e ≡ loses (take l.entry-index l.self.entries) l.blob.0 e;
   first : WhereTold (PlansFirst l.self l.blob l.entry-index l.planned) (g.D.Disk.content l.fn.disk);
-  reads : OnlyReads g.D.Disk.content g.D.Disk.moment g.D.Disk.left_since g.D.Disk.faults l.fn.disk l.disk;
+  reads : OnlyReads g.D.Disk l.fn.disk l.disk;
   steady : g.D.Disk.faults l.disk ≡ g.D.Disk.faults l.fn.disk;
   fewest : g.D.Disk.reads l.fn.disk ≤ g.D.Disk.reads l.disk;
 }

@@ -1,36 +1,28 @@
-use Rattle.std.proofs.Common.{◌≡◌, length, Some, arith}
+use Rattle.std.proofs.Common.{◌≡◌, Some, sym}
 use Rattle.arch_model.specs.Shelves.{blob_text}
 use Rattle.arch_judge.specs.Judging.{IsKnownBy}
-use Rattle.mem_archive.proofs.Delivering.{kept_known, keep-new, compared-with, compared-decides, compared-keeps}
+use Rattle.mem_archive.proofs.Delivering.{kept_known, judged-keeps, compared-with, compared-decides, compared-keeps}
+use Rattle.mem_archive.proofs.Lines.{number_in-some}
 use Rattle.mem_archive.proofs.memory.MemArchive.verdict.Goals as goal
 
-pub returns-in-Refuse : goal.returns-in-Refuse
-returns-in-Refuse c =
-    let len : c.len-count.result ≡ length c.self.inside.kept.items = omega (arith, c.len-count.ensures, c.self.inside.kept.ok) in
-    let known : IsKnownBy c.self.inside.config c.self.inside.index c.len-count.result c.next-next.result c.args.self.now = kept_known c.self.inside.config c.self.inside.kept.items c.self.inside.places.items c.self.inside.index c.self.inside.end c.args.self.now c.self.view_is c.self.invariant.0 c.len-count.result c.next-next.result len c.next-next.ensures in
-    record { judged = c.in-Refuse.ensures.judged c.args.self.now known; taken = tt }
-
-pub returns-in-Take : goal.returns-in-Take
-returns-in-Take c =
-    let len : c.len-count.result ≡ length c.self.inside.kept.items = omega (arith, c.len-count.ensures, c.self.inside.kept.ok) in
-    let known : IsKnownBy c.self.inside.config c.self.inside.index c.len-count.result c.next-next.result c.args.self.now = kept_known c.self.inside.config c.self.inside.kept.items c.self.inside.places.items c.self.inside.index c.self.inside.end c.args.self.now c.self.view_is c.self.invariant.0 c.len-count.result c.next-next.result len c.next-next.ensures in
-    let taken = c.in-Take.ensures.taken in
+pub returns-in-Final : goal.returns-in-Final
+returns-in-Final c =
+    let known : IsKnownBy c.self.inside.config c.self.inside.index c.next-next.result c.args.self.now = kept_known c.self.inside.config c.self.inside.kept.items c.self.inside.places.items c.self.inside.index c.self.inside.end c.args.self.now c.self.view_is c.self.invariant.0 c.next-next.result c.next-next.ensures in
     record {
-      judged = c.in-Take.ensures.judged c.args.self.now known;
-      taken = keep-new c.self.inside.config c.self.inside.kept.items c.self.inside.places.items c.self.inside.index c.self.inside.end c.args.self.now c.self.view_is c.self.invariant.0 c.in-Take.text c.in-Take.ids taken.0.comes c.next-next.result c.next-next.ensures c.in-Take.number taken.0 taken.1;
+      judged = c.in-Final.ensures.judged c.args.self.now known;
+      taken = judged-keeps c.self.inside.config c.self.inside.kept.items c.self.inside.places.items c.self.inside.index c.self.inside.end c.args.self.now c.self.view_is c.self.invariant.0 c.next-next.result c.next-next.ensures c.in-Final.verdict c.in-Final.ensures.taken;
     }
 
--- The index has a message with the number, so its text is there; `NoMemory` may always come.
-pub returns-in-None : goal.returns-in-None
-returns-in-None c = record { judged = tt; taken = tt }
+-- The index has a message with the number.
+pub unreachable-requires : goal.unreachable-requires
+unreachable-requires c = number_in-some c.self.inside.config c.self.inside.kept.items c.self.inside.places.items c.self.inside.index c.self.inside.end c.args.self.now c.self.view_is c.self.invariant.0 c.in-Compare.ids.blob.0 c.in-Compare.number c.in-Compare.ensures.taken.1 (sym c.in-None.ensures)
 
 pub compared-requires : goal.compared-requires
 compared-requires c = record { ids = c.in-Compare.ensures.taken.0.ids_are }
 
 pub returns-in-Some : goal.returns-in-Some
 returns-in-Some c =
-    let len : c.len-count.result ≡ length c.self.inside.kept.items = omega (arith, c.len-count.ensures, c.self.inside.kept.ok) in
-    let known : IsKnownBy c.self.inside.config c.self.inside.index c.len-count.result c.next-next.result c.args.self.now = kept_known c.self.inside.config c.self.inside.kept.items c.self.inside.places.items c.self.inside.index c.self.inside.end c.args.self.now c.self.view_is c.self.invariant.0 c.len-count.result c.next-next.result len c.next-next.ensures in
+    let known : IsKnownBy c.self.inside.config c.self.inside.index c.next-next.result c.args.self.now = kept_known c.self.inside.config c.self.inside.kept.items c.self.inside.places.items c.self.inside.index c.self.inside.end c.args.self.now c.self.view_is c.self.invariant.0 c.next-next.result c.next-next.ensures in
     let taken = c.in-Compare.ensures.taken in
     let text_is : blob_text c.args.self.now.entries c.in-Compare.ids.blob.0 ≡ Some c.in-Some.kept.now = compared-with c.self.inside.config c.self.inside.kept.items c.self.inside.places.items c.self.inside.index c.self.inside.end c.args.self.now c.self.view_is c.self.invariant.0 c.in-Compare.ids.blob c.in-Compare.number c.in-Some.kept.now taken.1 c.in-Some.ensures in
     record {

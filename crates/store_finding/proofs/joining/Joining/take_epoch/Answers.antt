@@ -19,7 +19,7 @@ loop-entry-init g c = record {
       (0, subst (LieIn 0 (named_length c.args.root.now c.args.epoch)) (sym (c.into_iter-entry-iterator.ensures.into_iter_gives.0 ∙ c.into_vec-entry-items.ensures)) lie, joined_none c.args.epoch (named_length c.args.root.now) c.args.self.entries c.requires.before are);
   come = told_any (Come c.args.root.now c.args.self c.args.epoch c.args.seen c.args.self (into_iter_items c.into_iter-entry-iterator.result)) (g.D.Disk.content c.args.disk.now)
       (λ files. come_first c.args.root.now c.args.self c.args.epoch c.args.seen (into_iter_items c.into_iter-entry-iterator.result) files c.requires.before (c.into_iter-entry-iterator.ensures.into_iter_gives.0 ∙ c.into_vec-entry-items.ensures));
-  reads = reads_none g.D.Disk.content g.D.Disk.moment g.D.Disk.left_since g.D.Disk.faults c.args.disk.now (λ image. g.met.D.Disk.only_now c.args.disk.now image);
+  reads = reads_none g.D.Disk c.args.disk.now (λ image. g.met.D.Disk.only_now c.args.disk.now image);
   kept = refl;
   left = search rules;
 }
@@ -56,7 +56,7 @@ loop-entry-preserved g c =
       come = told_both (Come root c.args.self epoch c.args.seen now items) (JoinsByText root now epoch c.in-Some.entry (Ok next)) (Come root c.args.self epoch c.args.seen next after)
           (g.D.Disk.content c.args.disk.now) (g.D.Disk.content c.loop-entry.disk) inv.reads.same inv.come c.in-Ok.ensures.joined
           (λ files so_far joins. come_more root c.args.self epoch c.args.seen now next items c.in-Some.entry after files c.requires.small c.in-Some.ensures.steps.0 so_far joins);
-      reads = reads_both g.D.Disk.content g.D.Disk.moment g.D.Disk.left_since g.D.Disk.faults c.args.disk.now c.loop-entry.disk c.join_next.new.disk inv.reads c.in-Ok.ensures.reads;
+      reads = reads_both g.D.Disk c.args.disk.now c.loop-entry.disk c.join_next.new.disk inv.reads c.in-Ok.ensures.reads;
       kept = c.in-Ok.ensures.steady (λ no. absurd (cc no)) ∙ inv.kept;
       left = (let before = inv.left in let count = ap length c.in-Some.ensures.steps.0 in let fewer = c.in-Some.ensures.steps.1 in omega (arith, before, count, fewer));
     }

@@ -17,7 +17,7 @@ invariant-loop-entry g l = record {
   before : AreBefore (l.epoch + 1) l.joining.entries;
   named : LieIn 0 (named_length l.root l.epoch) l.fn.seen → AreNamed l.root l.fn.self.entries → (from : ℕ) × LieIn from (named_length l.root l.epoch) (into_iter_items l.entry-iterator) × AreJoinedTo l.epoch from (named_length l.root) l.joining.entries;
   come : WhereTold (λ k. Come l.root l.fn.self l.epoch l.fn.seen l.joining (into_iter_items l.entry-iterator) (as_read k)) (g.D.Disk.content l.fn.disk);
-  reads : OnlyReads g.D.Disk.content g.D.Disk.moment g.D.Disk.left_since g.D.Disk.faults l.fn.disk l.disk;
+  reads : OnlyReads g.D.Disk l.fn.disk l.disk;
   kept : g.D.Disk.faults l.disk ≡ g.D.Disk.faults l.fn.disk;
   left : into_iter_len l.entry-iterator ≡ length (into_iter_items l.entry-iterator);
 }

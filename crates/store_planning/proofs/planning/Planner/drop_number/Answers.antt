@@ -1,5 +1,5 @@
 -- The number that is kept is above those before.
-use Rattle.std.proofs.Common.{◌≡◌, ◌∙◌, ◌<◌, ℕ, [], ◌∷◌, ◌++◌, sym, ap, subst, arith}
+use Rattle.std.proofs.Common.{◌≡◌, ◌<◌, [], ◌∷◌, ◌++◌, sym, subst, arith}
 use Rattle.number_map.specs.Rewriting.{RisesUpTo}
 use Rattle.store_planning.proofs.Finishing.{rises_more}
 use Rattle.store_planning.proofs.planning.Planner.drop_number.Goals as goal
@@ -10,7 +10,7 @@ invariant_of-self-in-Message c =
     let gone = c.self.inside.gone in
     let n = c.args.entry.now.number in
     let above : top < n = omega (arith, c.if-entry-self.false) in
-    let more : c.push.new.self ≡ gone ++ n ∷ [] = c.in_ok-push-in-Message.ensures ∙ ap (λ (m : ℕ). gone ++ m ∷ []) c.from.ensures in
+    let more : c.push.new.self ≡ gone ++ n ∷ [] = c.in_ok-push-in-Message.ensures in
     record {
       apart = c.self.invariant.apart;
       valid = c.self.invariant.valid;

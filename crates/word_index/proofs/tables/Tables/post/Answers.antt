@@ -1,17 +1,17 @@
-use Rattle.word_index.specs.Rows.{shown}
 use Rattle.word_index.specs.Postings.{posted}
 use Rattle.word_index.specs.Days.{dated}
-use Rattle.word_index.specs.Tables.{rows_of, in_subject, in_from, in_body, is_of}
+use Rattle.word_index.specs.Kept.{in_subject, in_from, in_body}
+use Rattle.word_index.specs.Tables.{is_of}
 use Rattle.word_index.proofs.TableLemmas.{posts}
 use Rattle.word_index.proofs.DayLemmas.{dated-more}
 use Rattle.word_index.proofs.tables.Tables.post.Goals as goal
 
 pub returns-clause-ok : goal.returns-clause-ok
 returns-clause-ok c =
-    let rows = rows_of c.args.self.now in
+    let rows = c.args.self.now.rows.entries in
     let old = c.args.self.now in
     let n = c.args.n in
-    let row = shown c.args.row.now in
+    let row = c.args.row.now in
     let day = c.args.row.now.day in
     record {
       rising = c.requires.rising;

@@ -1,0 +1,5 @@
+use Rattle.archive_core.proofs.ByIndex.{place-there}
+use Rattle.archive_core.proofs.archive.DiskArchive.damaged.Goals as goal
+
+pub unreachable-requires : goal.unreachable-requires
+unreachable-requires c = place-there c.args.self.now c.self.inside.store c.args.index c.self.view_is c.requires.there c.in-None.ensures

@@ -1,0 +1,4 @@
+pub mod Scans
+pub mod Following
+mod SentLines
+mod Stepping

@@ -1,0 +1,4 @@
+pub mod Data
+pub mod Readings
+pub mod DataLaws
+pub mod Steps

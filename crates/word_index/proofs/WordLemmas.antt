@@ -1,0 +1,119 @@
+-- Words by their numbers, as words are added.
+use Rattle.std.proofs.Common.{◌≡◌, ℕ, ◌+◌, ◌<◌, Bool, true, false, cond, List, [], ◌∷◌, ◌++◌, length, get_or, take, Option, Some, None, Result, Ok, Err, OnOk, is_err, refl, sym, ap, subst, ◌∙◌, inl, inr, arith}
+use Rattle.std.proofs.lemmas.Bool.{cases_lt}
+use Rattle.std.proofs.lemmas.List.{get_or_append_left, length-append, map-append, take_more}
+use Rattle.std.proofs.lemmas.Slice.Eq.{bytes_eq-Decides}
+use Rattle.std.proofs.Math.Seq.{get_or-append_seam}
+use Rattle.std.specs.Str.{bytes_eq}
+use Rattle.std.specs.BTreeMap.{BTreeMap, get_by, UpdatesBy}
+use Rattle.std.specs.Rc.{rc_slice_items}
+use Rattle.std.specs.declared.alloc.Global.{Global}
+use Rattle.std.specs.declared.rc.RcSlice.{RcSlice}
+use Rattle.word_index.specs.Vocabulary.{word_at, spelled, bytes_of, IsNumberOf, IsNumbering, KeepsWords, AreHeld, AreNumbersOf, IsNumberFor}
+use Rattle.word_index.proofs.KeyLemmas.{word_cmp, looks, updated}
+
+abbrev pub items : RcSlice ℕ Global → List ℕ
+items word = rc_slice_items word
+
+one_more : (words : List (List ℕ)) (word : List ℕ) → length (words ++ word ∷ []) ≡ length words + 1
+one_more words word = length-append words (word ∷ [])
+
+before : (words : List (List ℕ)) (word : List ℕ) (i : ℕ) → i < length words → word_at (words ++ word ∷ []) i ≡ word_at words i
+before words word i h = get_or_append_left words (word ∷ []) [] i h
+
+there : (words : List (List ℕ)) (word : List ℕ) (i : ℕ) → i ≡ length words → word_at (words ++ word ∷ []) i ≡ word
+there words word i h = ap (word_at (words ++ word ∷ [])) h ∙ get_or-append_seam words word [] []
+
+-- The words keep their numbers.
+pub keeps-same : (words : List (List ℕ)) → KeepsWords words words
+keeps-same words = record { longer = omega arith; same = λ i h. refl }
+
+pub keeps-more : (words : List (List ℕ)) (word : List ℕ) → KeepsWords words (words ++ word ∷ [])
+keeps-more words word = record { longer = omega (arith, one_more words word); same = λ i h. before words word i h }
+
+pub keeps-then : (a b c : List (List ℕ)) → KeepsWords a b → KeepsWords b c → KeepsWords a c
+keeps-then a b c one two = record { longer = omega (arith, one.longer, two.longer); same = λ i h. two.same i (omega (arith, one.longer)) ∙ one.same i h }
+
+-- A new word's number.
+pub number-of-last : (words : List (List ℕ)) (word : List ℕ) (n : ℕ) → n ≡ length words → IsNumberFor (words ++ word ∷ []) word n
+number-of-last words word n is = record { held = omega (arith, one_more words word); is = there words word n is }
+
+-- The number of each word after a new one.
+number-after : (words : List (List ℕ)) (word w : List ℕ) (o : Option ℕ) (n : ℕ) → n ≡ length words → IsNumberOf words word None → IsNumberOf words w o → IsNumberOf (words ++ word ∷ []) w (cond (bytes_eq word w) (Some n) o)
+number-after words word w o n is new old = go (bytes_eq word w) refl
+  where
+    go : (b : Bool) → bytes_eq word w ≡ b → IsNumberOf (words ++ word ∷ []) w (cond b (Some n) o)
+    go true h =
+        let same : word ≡ w = (bytes_eq-Decides word w).0 h in
+        record {
+          found = λ i lt at.
+              elim (cases_lt i (length words)) [
+                | inl less ↦ absurd (let wrong : None ≡ Some i = new.found i less (sym (before words word i less) ∙ at ∙ sym same) in cc)
+                | inr more ↦ ap Some (omega (arith, one_more words word))
+              ];
+          held = λ i named.
+              let at : n ≡ i = cc in
+              (omega (arith, one_more words word), there words word i (sym at ∙ is) ∙ same);
+        }
+    go false h =
+        record {
+          found = λ i lt at.
+              elim (cases_lt i (length words)) [
+                | inl less ↦ old.found i less (sym (before words word i less) ∙ at)
+                | inr more ↦ absurd (let last : i ≡ length words = omega (arith, one_more words word) in let same : bytes_eq word w ≡ true = (bytes_eq-Decides word w).1 (sym (there words word i last) ∙ at) in let wrong : true ≡ false = sym same ∙ h in cc)
+              ];
+          held = λ i named. let was = old.held i named in (omega (arith, one_more words word, was.0), before words word i was.0 ∙ was.1);
+        }
+
+pub numbering-more : (words : List (RcSlice ℕ Global)) (old new : BTreeMap (RcSlice ℕ Global) ℕ) (word copied : RcSlice ℕ Global) (n : ℕ) → IsNumbering (bytes_of words) old → IsNumberOf (bytes_of words) (items word) None → n ≡ length (bytes_of words) → items copied ≡ items word
+    → UpdatesBy (word_cmp items) (word_cmp items word) old new (Some n) → IsNumbering (bytes_of (words ++ copied ∷ [])) new
+numbering-more words old new word copied n is none at same updates w =
+    let all : bytes_of (words ++ copied ∷ []) ≡ bytes_of words ++ items word ∷ [] = map-append items words (copied ∷ []) ∙ ap (λ (x : List ℕ). bytes_of words ++ x ∷ []) same in
+    subst (λ (ws : List (List ℕ)). IsNumberOf ws w (get_by (looks items w) new)) (sym all)
+    (subst (IsNumberOf (bytes_of words ++ items word ∷ []) w) (sym (updated items old new word (Some n) updates w)) (number-after (bytes_of words) (items word) w (get_by (looks items w) old) n at none (is w)))
+
+pub bytes-more : (words : List (RcSlice ℕ Global)) (copied : RcSlice ℕ Global) (word : List ℕ) → items copied ≡ word → bytes_of (words ++ copied ∷ []) ≡ bytes_of words ++ word ∷ []
+bytes-more words copied word same = map-append items words (copied ∷ []) ∙ ap (λ (x : List ℕ). bytes_of words ++ x ∷ []) same
+
+-- Numbers of words, when words are added.
+pub held-then : (old new : List (List ℕ)) (numbers : List ℕ) → KeepsWords old new → AreHeld old numbers → AreHeld new numbers
+held-then old new [] keeps held = tt
+held-then old new (n ∷ ns) keeps held = (omega (arith, held.0, keeps.longer), held-then old new ns keeps held.1)
+
+pub spelled-then : (old new : List (List ℕ)) (numbers : List ℕ) → KeepsWords old new → AreHeld old numbers → spelled new numbers ≡ spelled old numbers
+spelled-then old new [] keeps held = refl
+spelled-then old new (n ∷ ns) keeps held = ap (λ (w : List ℕ). w ∷ spelled new ns) (keeps.same n held.0) ∙ ap (λ (ws : List (List ℕ)). word_at old n ∷ ws) (spelled-then old new ns keeps held.1)
+
+pub numbers-then : (old new : List (List ℕ)) (texts : List (List ℕ)) (numbers : List ℕ) → KeepsWords old new → AreNumbersOf old texts numbers → AreNumbersOf new texts numbers
+numbers-then old new texts numbers keeps are = record { held = held-then old new numbers keeps are.held; are = spelled-then old new numbers keeps are.held ∙ are.are }
+
+-- One number more.
+held-more : (words : List (List ℕ)) (numbers : List ℕ) (n : ℕ) → AreHeld words numbers → n < length words → AreHeld words (numbers ++ n ∷ [])
+held-more words [] n held one = (one, tt)
+held-more words (m ∷ ms) n held one = (held.0, held-more words ms n held.1 one)
+
+pub numbers-more : (words : List (List ℕ)) (texts : List (List ℕ)) (text : List ℕ) (numbers : List ℕ) (n : ℕ) → AreNumbersOf words texts numbers → IsNumberFor words text n → AreNumbersOf words (texts ++ text ∷ []) (numbers ++ n ∷ [])
+numbers-more words texts text numbers n are one =
+    record {
+      held = held-more words numbers n are.held one.held;
+      are = map-append (word_at words) numbers (n ∷ []) ∙ ap (λ (ws : List (List ℕ)). ws ++ word_at words n ∷ []) are.are ∙ ap (λ (w : List ℕ). texts ++ w ∷ []) one.is;
+    }
+
+pub numbers-none : (words : List (List ℕ)) → AreNumbersOf words [] []
+numbers-none words = record { held = tt; are = refl }
+
+pub number-known : (words : List (List ℕ)) (word text : List ℕ) (n : ℕ) → IsNumberOf words word (Some n) → word ≡ text → IsNumberFor words text n
+number-known words word text n is same = let held = is.held n refl in record { held = held.0; is = held.1 ∙ same }
+
+-- What holds of a result that isn't an error.
+pub got : {T E P : Type 0} (r : Result T E) → is_err r ≡ false → OnOk r P → P
+got (Ok x) fine p = p
+got (Err e) fine p = absurd (cc)
+
+-- The next of some words, and its number.
+pub numbers-step : (mid new : List (List ℕ)) (texts : List (List ℕ)) (i : ℕ) (text given : List ℕ) (numbers later : List ℕ) (n : ℕ) → i < length texts → text ≡ get_or texts i text → given ≡ text → KeepsWords mid new
+    → AreNumbersOf mid (take i texts) numbers → IsNumberFor new given n → later ≡ numbers ++ n ∷ [] → AreNumbersOf new (take (i + 1) texts) later
+numbers-step mid new texts i text given numbers later n h at same keeps are one is =
+    let more : take (i + 1) texts ≡ take i texts ++ given ∷ [] = take_more texts i text h ∙ ap (λ (t : List ℕ). take i texts ++ t ∷ []) (sym (same ∙ at)) in
+    subst (AreNumbersOf new (take (i + 1) texts)) (sym is)
+    (subst (λ (ts : List (List ℕ)). AreNumbersOf new ts (numbers ++ n ∷ [])) (sym more) (numbers-more new (take i texts) given numbers n (numbers-then mid new (take i texts) numbers keeps are) one))
