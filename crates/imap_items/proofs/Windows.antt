@@ -1,8 +1,10 @@
 -- What a window shows of octets, and of more octets after them; and runs of bytes that are sent as they are.
-use Rattle.std.proofs.Common.{◌≡◌, ℕ, zero, suc, ◌+◌, ◌-◌, ◌<◌, ◌≤◌, Bool, true, false, ◌||◌, eqb, List, [], ◌∷◌, ◌++◌, length, take, drop, get_or, refl, sym, ap, ◌∙◌, arith, append_assoc, append-nil}
+use Rattle.std.proofs.Common.{◌≡◌, ℕ, zero, suc, ◌+◌, ◌-◌, ◌<◌, ◌≤◌, Bool, true, false, ◌||◌, eqb, List, [], ◌∷◌, ◌++◌, length, take, drop, get_or, Option, Some, None, refl, sym, ap, subst, ◌∙◌, ⊎_elim, arith, append_assoc, append-nil, if◌then◌else◌}
 use Rattle.std.proofs.lemmas.List.{take_all, drop_all, drop_more}
 use Rattle.std.proofs.Math.Seq.{drop-nil}
-use Rattle.memchr.specs.Find.{is_byte3}
+use Rattle.std.proofs.lemmas.Bool.{both_ways}
+use Rattle.std.proofs.lemmas.Bool.Decides.{eqb_tells}
+use Rattle.memchr.specs.Find.{is_byte3, places_from, places, TakesFirst, IsFirstByte}
 use Rattle.mail_forms.specs.WireForms.{sent, wire_of}
 use Rattle.mail_forms.proofs.WireLengths.{sent_by, wire-cons, wire-nil}
 
@@ -71,3 +73,40 @@ run-split hay front mid back end within none front_is mid_is back_is =
     let more : wire_of (drop end hay) ≡ sent (get_or hay end 0) ++ wire_of (drop (end + 1) hay) =
     ap wire_of (drop_more hay end 0 within) ∙ wire-cons (get_or hay end 0) (drop (end + 1) hay) in
     run-at hay end (omega arith) none ∙ ap (λ t. take end hay ++ t) more ∙ rw (front_is, mid_is, back_is) refl
+
+-- The first of the places that pass a test.
+found_from : (test : ℕ → Bool) (hay : List ℕ) (i n k : ℕ) (rest : List ℕ) → places_from test hay i n ≡ k ∷ rest → (i ≤ k) × (k < i + n) × (test (get_or hay k 0) ≡ true) × ((j : ℕ) → i ≤ j → j < k → test (get_or hay j 0) ≡ false)
+unfolding places_from
+found_from test hay i zero k rest is = absurd (cc)
+found_from test hay i (suc n) k rest is = by (test (get_or hay i 0)) refl (found_from test hay (i + 1) n k rest) is
+  where
+    later : List ℕ
+    later = places_from test hay (i + 1) n
+
+    by : (t : Bool) → test (get_or hay i 0) ≡ t → (later ≡ k ∷ rest → (i + 1 ≤ k) × (k < i + 1 + n) × (test (get_or hay k 0) ≡ true) × ((j : ℕ) → i + 1 ≤ j → j < k → test (get_or hay j 0) ≡ false))
+        → (if t then i ∷ later else later) ≡ k ∷ rest → (i ≤ k) × (k < i + suc n) × (test (get_or hay k 0) ≡ true) × ((j : ℕ) → i ≤ j → j < k → test (get_or hay j 0) ≡ false)
+    by true hit more is =
+        let here : i ≡ k = cc in
+        (omega (arith, here), omega (arith, here), subst (λ (m : ℕ). test (get_or hay m 0) ≡ true) here hit, λ j low less. absurd (omega (arith, here, low, less)))
+    by false miss more is =
+        let found = more is in
+        (omega (arith, found.0), omega (arith, found.1), found.2, λ j low less. ⊎_elim (λ e. ap (λ m. test (get_or hay m 0)) e.1 ∙ miss) (λ e. found.3 j (omega (arith, low, e.1)) less) (eqb_tells j i))
+
+none_from : (test : ℕ → Bool) (hay : List ℕ) (i n : ℕ) → places_from test hay i n ≡ [] → (j : ℕ) → i ≤ j → j < i + n → test (get_or hay j 0) ≡ false
+unfolding places_from
+none_from test hay i zero is j low high = absurd (omega (arith, low, high))
+none_from test hay i (suc n) is j low high = by (test (get_or hay i 0)) refl (λ more above. none_from test hay (i + 1) n more j above (omega (arith, high))) is
+  where
+    later : List ℕ
+    later = places_from test hay (i + 1) n
+
+    by : (t : Bool) → test (get_or hay i 0) ≡ t → (later ≡ [] → i + 1 ≤ j → test (get_or hay j 0) ≡ false) → (if t then i ∷ later else later) ≡ [] → test (get_or hay j 0) ≡ false
+    by true hit more is = absurd (cc)
+    by false miss more is = ⊎_elim (λ e. ap (λ m. test (get_or hay m 0)) e.1 ∙ miss) (λ e. more is (omega (arith, low, e.1))) (eqb_tells j i)
+
+-- What is taken from the places is the first one.
+pub first-taken : (test : ℕ → Bool) (hay old new : List ℕ) (r : Option ℕ) → old ≡ places test hay → TakesFirst old r new → IsFirstByte test hay r
+first-taken test hay old new None is taken = λ k low high passes. both_ways _ (none_from test hay 0 (length hay - 0) (sym is ∙ taken.0) k low (omega (arith, high))) passes
+first-taken test hay old new (Some k) is taken =
+    let found = found_from test hay 0 (length hay - 0) k new (sym is ∙ taken) in
+    (record { low = found.0; high = omega (arith, found.1); before = λ j low less passes. both_ways _ (found.3 j low less) passes }, found.2)

@@ -1,7 +1,7 @@
 //! The octets of a section as a literal, of which a part may be asked for (RFC 3501, section 6.4.5).
 //! Allocates.
 ghost use Rattle.std.specs.Prelude.{◌≡◌, ◌++◌, ◌-◌, ◌<◌, length, take, drop, OnOk, true};
-ghost use Rattle.memchr.specs.Find.{is_byte3};
+ghost use Rattle.memchr.specs.Find.{is_byte3, IsFirstByte};
 ghost use Rattle.mail_forms.specs.WireForms.{sent, wire_of};
 ghost use Rattle.imap_structure.specs.Strings.{literal};
 ghost use Rattle.imap_items.specs.Sections.{cut};
@@ -9,8 +9,7 @@ ghost use Rattle.imap_items.specs.Sections.{cut};
 use arch_base::{Bytes, NoMemory};
 use imap_structure::literal_head;
 use imap_syntax::Partial;
-use mail_forms::wire_len;
-use memchr::memchr3;
+use memchr::{memchr_iter, memchr3_iter};
 use std::alloc::Global;
 
 /// Appends the octets of bytes as they are sent, or a part of these octets, as a literal.
@@ -37,7 +36,7 @@ fn push_all(alloc: Global, source: &[u8], into: &mut Bytes) -> Result<(), NoMemo
     ensures ok { OnOk result (into.new ≡ into.old ++ literal (wire_of source.now)) }
     ensures kept { take (length into.old) into.new ≡ into.old }
 {
-    let len = wire_len(source);
+    let len = sent_len(source);
     let head = literal_head(alloc, len)?;
     into.push_slice(head.as_slice())?;
     push_window(source, 0, len, into)
@@ -64,9 +63,17 @@ fn push_cut(
 fn cut_len(source: &[u8], partial: Partial) -> u64
     ensures { result ≡ length (take partial.count (drop partial.offset (wire_of source.now))) }
 {
-    wire_len(source)
+    sent_len(source)
         .saturating_sub(partial.offset as u64)
         .min(partial.count as u64)
+}
+
+/// Returns how many octets are sent for bytes.
+fn sent_len(source: &[u8]) -> u64
+    ensures { result ≡ length (wire_of source.now) }
+{
+    let feeds = memchr_iter(b'\n', source).count();
+    source.len() as u64 + feeds as u64
 }
 
 /// Appends at most `room` of the octets of bytes as they are sent, after the first `skip` of them.
@@ -102,7 +109,7 @@ fn first_run<'a>(bytes: &'a [u8]) -> Run<'a>
         ++ (result.sent.now ++ wire_of result.rest.now) }
     ensures shorter { 0 < length bytes.now → length result.rest.now < length bytes.now }
 {
-    match memchr3(b'\n', b'\r', 0, bytes) {
+    match first_changed(bytes) {
         Some(end) => Run {
             unchanged: bytes.split_at(end).0,
             sent: sent_for(bytes[end]),
@@ -114,6 +121,13 @@ fn first_run<'a>(bytes: &'a [u8]) -> Run<'a>
             rest: b"",
         },
     }
+}
+
+/// Returns the index of the first byte that isn't sent as it is, which is likely to be near.
+fn first_changed(bytes: &[u8]) -> Option<usize>
+    ensures { IsFirstByte (is_byte3 10 13 0) bytes.now result }
+{
+    memchr3_iter(b'\n', b'\r', 0, bytes).next()
 }
 
 /// Returns what is sent for a line feed, or for another carriage return or a NUL.
