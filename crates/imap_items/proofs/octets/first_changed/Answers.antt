@@ -1,4 +1,3 @@
-use Rattle.std.proofs.Common.{sym, ◌∙◌}
 use Rattle.memchr.specs.Find.{is_byte3}
 use Rattle.imap_items.proofs.Windows.{first-taken}
 use Rattle.imap_items.proofs.octets.first_changed.Goals as goal
