@@ -14,8 +14,8 @@ use arch_base::{Bytes, Id20, NoMemory, Texts};
 use imap_items::{item, matches};
 use imap_syntax::{Ask, AskRefusal, Item, Key, read};
 use mail_date::Moment;
-use mail_forms::{Row, wire_len};
-use memchr::memchr;
+use mail_forms::Row;
+use memchr::{memchr, memchr_iter};
 use std::alloc::Global;
 use std::io::{self, Input, Read, Write};
 
@@ -67,12 +67,19 @@ fn row(alloc: Global, text: &[u8]) -> Row {
         },
         arrived: 1_706_781_700,
         size: text.len() as u64,
-        wire: wire_len(text),
+        wire: sent_len(text),
         mbox: 0,
         lines: 0,
         over: Bytes::new(alloc),
         content: [0; 32],
     }
+}
+
+/// Returns how many octets are sent for a mail. A session has that in the row, so it is counted here as
+/// fast as it can be.
+fn sent_len(text: &[u8]) -> u64 {
+    let feeds = memchr_iter(b'\n', text).count();
+    text.len() as u64 + feeds as u64
 }
 
 /// Returns the reply of FETCH.

@@ -1,0 +1,9 @@
+pub mod Rising
+pub mod Passing
+pub mod Leaving
+pub mod Counting
+pub mod Telling
+pub mod Places
+pub mod Ranges
+pub mod Pushes
+pub mod Staying

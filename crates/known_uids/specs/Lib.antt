@@ -1,0 +1,4 @@
+pub mod Told
+pub mod Staying
+pub mod Laws
+pub mod Gone
