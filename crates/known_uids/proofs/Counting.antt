@@ -1,14 +1,13 @@
 -- What a shelf counts in a valid archive: numbers, since no two live entries have one number.
-use Rattle.std.proofs.Common.{◌⊎◌, inl, inr, ◌≡◌, ◌≢◌, ◌+◌, ◌-◌, ◌<◌, ◌≤◌, ◌==◌, ◌||◌, ◌&&◌, nat_le, ℕ, zero, suc, Bool, true, false, List, [], ◌∷◌, ◌++◌, length, get_or, Option, Some, None, is_some, refl, sym, ap, subst, ◌∙◌, arith, if◌then◌else◌}
-use Rattle.std.specs.List.{filter, range_with_len, AllByRecursion}
+use Rattle.std.proofs.Common.{◌⊎◌, inl, inr, ◌≡◌, ◌≢◌, ◌+◌, ◌-◌, ◌<◌, ◌≤◌, ◌==◌, ℕ, zero, suc, Bool, true, false, List, [], ◌∷◌, length, get_or, Option, Some, None, is_some, refl, sym, ap, ◌∙◌, arith, if◌then◌else◌}
+use Rattle.std.specs.List.{filter, range_with_len}
 use Rattle.std.specs.Bool.{MatchBool}
-use Rattle.std.proofs.lemmas.Bool.{cases_Bool}
 use Rattle.std.proofs.lemmas.Bool.Decides.{eqb_tells, nat_tests}
 use Rattle.arch_model.specs.Archives.{Entry, Archive, live, text_of}
 use Rattle.arch_model.specs.Shelves.{is_between, live_between}
 use Rattle.arch_model.specs.Validity.{IsArchive}
 use Rattle.arch_model.proofs.Purging.{Climbs, live_climbs, climbs_above}
-use Rattle.known_uids.specs.Told.{is_live, RisesBelow, after_last, has, NoneBack}
+use Rattle.known_uids.specs.Told.{is_live, RisesBelow, after_last, NoneBack}
 use Rattle.known_uids.specs.Gone.{AllLive}
 use Rattle.known_uids.proofs.Rising.{apart, same, rising-le, rising-after, after-last}
 use Rattle.known_uids.proofs.Passing.{filter-yes, filter-no, kept-is}

@@ -1,10 +1,10 @@
 -- The UIDs that are gone, and the list while they are taken out.
-use Rattle.std.proofs.Common.{◌⊎◌, inl, inr, ◌≡◌, ◌≢◌, ◌+◌, ◌-◌, ◌<◌, ◌≤◌, ◌==◌, ℕ, zero, suc, Bool, true, false, not, ◌||◌, List, [], ◌∷◌, ◌++◌, length, take, drop, set, refl, sym, ap, subst, ◌∙◌, arith, append-nil, append_assoc, if◌then◌else◌}
+use Rattle.std.proofs.Common.{◌⊎◌, inl, inr, ◌≡◌, ◌+◌, ◌-◌, ◌<◌, ◌≤◌, ℕ, zero, suc, Bool, true, false, not, ◌||◌, List, [], ◌∷◌, ◌++◌, length, take, drop, set, refl, sym, ap, subst, ◌∙◌, arith, append-nil, append_assoc, if◌then◌else◌}
 use Rattle.std.specs.List.{filter, fold}
 use Rattle.std.specs.List.{AllByRecursion}
 use Rattle.std.proofs.lemmas.Bool.{cases_Bool}
 use Rattle.std.proofs.lemmas.List.Sums.{fold-append}
-use Rattle.known_uids.specs.Told.{RisesBelow, after_last, has, NoneBack, gone_from, expunged}
+use Rattle.known_uids.specs.Told.{RisesBelow, after_last, has, NoneBack, gone_from}
 use Rattle.known_uids.specs.Gone.{AllLive, gone_by, strike, struck, is_there}
 use Rattle.known_uids.proofs.Rising.{apart, rising-le, rising-low, rising-front, rising-back, rising-after, after-append, has-above, has-below, has-append}
 use Rattle.known_uids.proofs.Passing.{filter-yes, filter-no}
@@ -144,6 +144,11 @@ there-marked test first (n ∷ ns) bound least rises = by (test n) (there-marked
     by : (t : Bool) → filter is_there (marked test ns) ≡ filter test ns → filter is_there ((if t then n else 0) ∷ marked test ns) ≡ (if t then n ∷ filter test ns else filter test ns)
     by true rest = filter-yes is_there n (marked test ns) here ∙ ap (λ ks. n ∷ ks) rest
     by false rest = rest
+
+pub there-all : (first : ℕ) (ns : List ℕ) (bound : ℕ) → 1 ≤ first → RisesBelow first ns bound → filter is_there ns ≡ ns
+there-all first [] bound least rises = refl
+there-all first (n ∷ ns) bound least rises =
+    filter-yes is_there n ns (ap not (apart n 0 (λ e. omega (arith, e, least, rises.0)))) ∙ ap (λ ks. n ∷ ks) (there-all (n + 1) ns bound (omega arith) rises.1)
 
 -- The UIDs, of which some may be 0 now.
 abbrev pub Marks : List ℕ → List ℕ → Type 0

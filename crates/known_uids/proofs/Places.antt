@@ -1,7 +1,7 @@
 -- Sequence numbers of UIDs.
-use Rattle.std.proofs.Common.{◌⊎◌, inl, inr, ◌≡◌, ◌≢◌, ◌+◌, ◌-◌, ◌<◌, ◌≤◌, ◌==◌, ℕ, zero, suc, Bool, true, false, List, [], ◌∷◌, length, get_or, Option, Some, None, refl, sym, ap, subst, ◌∙◌, arith, if◌then◌else◌}
+use Rattle.std.proofs.Common.{◌≡◌, ◌≢◌, ◌+◌, ◌<◌, ◌≤◌, ◌==◌, ℕ, zero, suc, List, [], ◌∷◌, length, get_or, Some, None, refl, ap, ◌∙◌, arith, if◌then◌else◌}
 use Rattle.known_uids.specs.Told.{RisesBelow, sequence_from}
-use Rattle.known_uids.proofs.Rising.{apart, same, rising-le}
+use Rattle.known_uids.proofs.Rising.{apart, same}
 
 -- Later numbers aren't less.
 pub rising-at : (first : ℕ) (ns : List ℕ) (bound i : ℕ) → RisesBelow first ns bound → i < length ns → first ≤ get_or ns i 0

@@ -1,20 +1,19 @@
 -- Numbers that are gone stay gone after each command.
-use Rattle.std.proofs.Common.{◌⊎◌, inl, inr, ◌≡◌, ◌≢◌, ◌+◌, ◌-◌, ◌<◌, ◌≤◌, ◌==◌, ◌||◌, ℕ, zero, suc, Bool, true, false, not, List, [], ◌∷◌, ◌++◌, Option, Some, None, is_some, refl, sym, ap, subst, ◌∙◌, arith, if◌then◌else◌}
+use Rattle.std.proofs.Common.{◌⊎◌, inl, inr, ◌≡◌, ◌≢◌, ◌+◌, ◌-◌, ◌<◌, ◌≤◌, ◌==◌, ℕ, Bool, true, false, List, [], ◌∷◌, ◌++◌, Option, Some, None, is_some, refl, sym, ap, ◌∙◌, arith, if◌then◌else◌}
 use Rattle.std.specs.List.{filter, range_with_len, AllByRecursion}
-use Rattle.std.proofs.lemmas.Bool.{cases_Bool, cases_lt}
+use Rattle.std.proofs.lemmas.Bool.{cases_lt}
 use Rattle.std.proofs.lemmas.Bool.Decides.{eqb_tells}
-use Rattle.arch_model.specs.Archives.{Entry, Archive, message, deletion, live, text_of, with_entry, with_deletion, without_text, without_entries}
+use Rattle.arch_model.specs.Archives.{Entry, Archive, message, live, text_of, with_entry, with_deletion, without_entries}
 use Rattle.arch_model.specs.Delivery.{Done, new_epoch, delivered, removed, purged, edited}
 use Rattle.arch_model.specs.Validity.{IsArchive}
-use Rattle.arch_model.specs.declared.command.Command.{Command}
 use Rattle.arch_model.specs.declared.command.Command.TheVariants.{Deliver, Remove, Purge, Edit}
 use Rattle.arch_model.proofs.Deliveries.{Comes, Refused, Accepted, comes, Ends, Still, Ended, ends}
 use Rattle.arch_model.proofs.Rewrites.{Purges, Spared, Dropped, purges, Edits, Unedited, Redelivered, edits}
 use Rattle.arch_model.proofs.LiveEntries.{live-message, live-deletion, without, text-without-other, text-without-own, live-all}
 use Rattle.arch_model.proofs.Purging.{live_without}
-use Rattle.known_uids.specs.Told.{Known, known, is_live, passing, live_in, RisesBelow, after_last, has, NoneBack, Suits}
-use Rattle.known_uids.specs.Staying.{GoneStay, AreGiven, CommandsKeepGone, GoneStayItself, GoneStayThrough, SuitsLater, SuitsTold}
-use Rattle.known_uids.proofs.Rising.{apart, same, after-le, rising-le}
+use Rattle.known_uids.specs.Told.{is_live, passing, RisesBelow, after_last}
+use Rattle.known_uids.specs.Staying.{GoneStay, CommandsKeepGone, GoneStayItself, GoneStayThrough, SuitsLater, SuitsTold}
+use Rattle.known_uids.proofs.Rising.{apart, after-le}
 use Rattle.known_uids.proofs.Passing.{passing-rises, has-passing}
 
 pub stays_itself : GoneStayItself

@@ -1,18 +1,16 @@
 -- What a client is told, and the list after it.
-use Rattle.std.proofs.Common.{◌⊎◌, inl, inr, ◌≡◌, ◌≢◌, ◌+◌, ◌-◌, ◌<◌, ◌≤◌, ◌==◌, ◌||◌, ℕ, zero, suc, Bool, true, false, not, List, [], ◌∷◌, ◌++◌, length, take, drop, get_or, Option, Some, None, refl, sym, ap, subst, ◌∙◌, arith, append-nil, length-append, if◌then◌else◌}
+use Rattle.std.proofs.Common.{◌≡◌, ◌≢◌, ◌+◌, ◌-◌, ◌≤◌, ◌==◌, ◌||◌, ℕ, suc, Bool, true, false, not, List, [], ◌∷◌, ◌++◌, length, take, drop, Option, refl, sym, ap, subst, ◌∙◌, arith, append-nil, length-append, if◌then◌else◌}
 use Rattle.std.specs.List.{filter, fold, range_with_len}
 use Rattle.std.specs.Bool.{MatchBool}
-use Rattle.std.proofs.lemmas.Bool.{MatchBool-at_true, MatchBool-at_false}
 use Rattle.std.proofs.lemmas.List.Elements.{filter-append}
 use Rattle.arch_model.specs.Archives.{Archive}
 use Rattle.known_uids.specs.declared.changes.Changes.{Changes}
 use Rattle.known_uids.specs.Told.{Known, known, Suits, is_live, passing, live_in, changes_of, RisesBelow, after_last, has, gone_from, new_of, count_if, NoneBack, expunged}
 use Rattle.known_uids.specs.Laws.{ToldTwice, ToldIsFollowed}
 use Rattle.known_uids.specs.Gone.{AllLive, gone_by, struck, is_there}
-use Rattle.known_uids.proofs.Rising.{same, rising-le, rising-append, rising-after, after-le}
-use Rattle.known_uids.proofs.Passing.{filter-no, has-passing, passing-rises, passing-now, filter-twice, new-is}
-use Rattle.known_uids.proofs.Leaving.{gone-append, gone-none, live-all, passing-live, gone-same, strike-gone, expunge_at, expunge-gone, there-marked, marks-same, marks-struck, rising-marks}
-use Rattle.known_uids.proofs.Counting.{match_bool}
+use Rattle.known_uids.proofs.Rising.{same, rising-le, rising-append, rising-after}
+use Rattle.known_uids.proofs.Passing.{filter-no, has-passing, passing-now, new-is}
+use Rattle.known_uids.proofs.Leaving.{gone-append, gone-none, live-all, passing-live, gone-same, strike-gone, expunge_at, expunge-gone, there-marked, there-all, marks-same, marks-struck, rising-marks}
 
 either : (a b : Bool) → b ≡ true → (a || b) ≡ true
 either true b found = refl
@@ -101,6 +99,12 @@ pub put-rises : (first last : ℕ) (told new gone : List ℕ) → RisesBelow fir
 put-rises first last told new gone rises more =
     let all = rising-append first told new (after_last first told) (last + 1) (rising-after first told (last + 1) rises) more in
     rising-marks first (told ++ new) (struck (told ++ new) gone) (last + 1) all (marks-struck (told ++ new) (told ++ new) gone (marks-same (told ++ new)))
+
+-- None of them is 0.
+pub put-there : (first last : ℕ) (told new all : List ℕ) → 1 ≤ first → RisesBelow first told (last + 1) → RisesBelow (after_last first told) new (last + 1) → all ≡ told ++ new → filter is_there all ≡ all
+put-there first last told new all least rises more is =
+    let up = rising-append first told new (after_last first told) (last + 1) (rising-after first told (last + 1) rises) more in
+    subst (λ ks. filter is_there ks ≡ ks) (sym is) (there-all first (told ++ new) (last + 1) least up)
 
 -- What is known then are the live numbers.
 pub put-now : (a : Archive) (old now : Known) (next : ℕ) (new gone : List ℕ) → 1 ≤ old.first → RisesBelow old.first old.uids (old.last + 1) → Suits a old → next ≡ after_last old.first old.uids → RisesBelow next new (old.last + 1)

@@ -1,8 +1,7 @@
 -- The laws of what clients are told.
-use Rattle.std.specs.Prelude.{◌≡◌, ◌+◌, ◌<◌, ◌≤◌, ℕ, Bool, true, List, [], ◌++◌, None}
+use Rattle.std.specs.Prelude.{◌≡◌, ◌+◌, ℕ, Bool, List, [], ◌++◌, None}
 use Rattle.std.specs.List.{fold}
-use Rattle.arch_model.specs.Archives.{Archive}
-use Rattle.known_uids.specs.Told.{passing, live_in, known, RisesBelow, NoneBack, Suits, new_of, changes_of, expunged}
+use Rattle.known_uids.specs.Told.{passing, RisesBelow, NoneBack, new_of, changes_of, expunged}
 
 -- A client that was told of all that is there is told nothing.
 abbrev pub ToldTwice : Type 0

@@ -59,11 +59,15 @@ pub(crate) fn push_gone<S: Shelf>(
     push_gone(front, before, shelf, gone)
 }
 
-/// Takes out the UIDs with these sequence numbers.
+/// Takes out the UIDs with these sequence numbers. If there are none, it goes over no UID.
 pub(crate) fn take_out(uids: &mut Vec<u32>, gone: &[u32])
-    requires { All (IsSequence (length uids.old.items)) gone.now }
+    requires gone { All (IsSequence (length uids.old.items)) gone.now }
+    requires there { filter is_there uids.old.items ≡ uids.old.items }
     ensures { uids.new.items ≡ filter is_there (struck uids.old.items gone.now) }
 {
+    if gone.is_empty() {
+        return;
+    }
     mark(uids.as_mut_slice(), gone);
     uids.retain(|uid| *uid != 0);
 }

@@ -1,4 +1,4 @@
-use Rattle.std.proofs.Common.{◌≡◌, ◌+◌, ◌++◌, [], ◌∷◌, ℕ, List, sym, ap, subst, ◌∙◌, arith, append_assoc}
+use Rattle.std.proofs.Common.{◌≡◌, ◌+◌, ◌++◌, [], ◌∷◌, sym, ap, subst, ◌∙◌, arith, append_assoc}
 use Rattle.known_uids.specs.Told.{live_in, RisesBelow}
 use Rattle.known_uids.proofs.Rising.{rising-push, rising-wider}
 use Rattle.known_uids.proofs.live.live_numbers.Goals as goal

@@ -1,4 +1,4 @@
-use Rattle.std.proofs.Common.{◌≡◌, ◌+◌, ◌<◌, ◌++◌, [], ℕ, List, length, sym, ap, subst, ◌∙◌, arith}
+use Rattle.std.proofs.Common.{◌+◌, ◌++◌, ℕ, List, length, sym, ap, subst, ◌∙◌, arith}
 use Rattle.known_uids.specs.Told.{Known, is_live, RisesBelow, NoneBack}
 use Rattle.known_uids.specs.Gone.{gone_by}
 use Rattle.known_uids.proofs.Rising.{rising-length}

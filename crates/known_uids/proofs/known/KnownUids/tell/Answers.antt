@@ -1,7 +1,7 @@
-use Rattle.std.proofs.Common.{◌≡◌, ◌+◌, ◌<◌, ◌≤◌, ◌++◌, ℕ, List, length, sym, ap, subst, ◌∙◌, arith}
+use Rattle.std.proofs.Common.{◌≡◌, ◌+◌, ◌≤◌, ◌++◌, length, sym, ap, subst, ◌∙◌, arith}
 use Rattle.std.specs.List.{filter}
-use Rattle.known_uids.specs.Told.{Known, known, is_live, live_in, RisesBelow, after_last, changes_of, count_if}
-use Rattle.known_uids.specs.Gone.{gone_by, struck, is_there}
+use Rattle.known_uids.specs.Told.{Known, known, live_in, RisesBelow, after_last, count_if}
+use Rattle.known_uids.specs.Gone.{struck, is_there}
 use Rattle.known_uids.proofs.Rising.{after-le}
 use Rattle.known_uids.proofs.Telling.{put-now, told-changes}
 use Rattle.known_uids.proofs.known.KnownUids.tell.Goals as goal
