@@ -29,10 +29,7 @@ use Rattle.epoch_store.specs.Laws.{CachesOne, RecoversSomeOne}
 use Rattle.store_finding.specs.Kept.{StoreState, IsStoreWith}
 use Rattle.keep_course.specs.Courses.{archives_of}
 use Rattle.keep_course.proofs.Courses.{all-own}
-use Rattle.edge_io.specs.declared.events.What.{What}
-use Rattle.edge_io.specs.declared.events.What.TheVariants as what
-use Rattle.node_serve.specs.Nodes.{Serving, Stage, stage, serving, StepsTo, RunsTo, Along, AreAt, TurnsStill, CameAnyway, AnywayBy, GoesAnyway, outputs_at, outputs_along, outputs_noted, places_in, world_of}
-use Rattle.node_serve.specs.declared.session.Session.{Session}
+use Rattle.node_serve.specs.Nodes.{Serving, Stage, stage, StepsTo, RunsTo, places_in, world_of}
 use Rattle.node_serve.specs.Plain.{last_world}
 use Rattle.node_serve.specs.Turns.{Turn, Served, passed_in}
 use Rattle.node_serve.specs.World.{HostState, NodeState}
@@ -70,55 +67,10 @@ pub shut-faults : {D : Type 0} (g : Disk D) (turns : ℕ) (run : ServeRun) (old 
 shut-faults g turns (Shut why) old new i j recorded recorded' shut is = shut.cause.failed (why-is why opening.DiskFault is)
 shut-faults g turns (Ended how) old new i j recorded recorded' served is = absurd (cc is)
 
--- The disk of an engine, at each stage.
-abbrev pub disk-stage : {D : Type 0} → Stage (Owning D) → Stage D
-disk-stage p = stage (serving p.node.keep.disk p.node.sessions) p.out
-
-abbrev pub disk-stages : {D : Type 0} → List (Stage (Owning D)) → List (Stage D)
-disk-stages [] = []
-disk-stages (m ∷ ms) = disk-stage m ∷ disk-stages ms
-
-at-disk : {D : Type 0} (ms : List (Stage (Owning D))) (ts : List Turn) → AreAt ms ts → AreAt (disk-stages ms) ts
-at-disk [] [] at = tt
-at-disk [] (t ∷ ts) never = absurd never
-at-disk (m ∷ ms) [] never = absurd never
-at-disk (m ∷ ms) (t ∷ ts) at = (at.0, at-disk ms ts at.1)
-
-along-disk : {D : Type 0} (p : Stage (Owning D)) (ms : List (Stage (Owning D))) → outputs_along (disk-stage p) (disk-stages ms) ≡ outputs_along p ms
-along-disk p [] = refl
-along-disk p (m ∷ ms) = ap (λ (os : List Outputs). outputs_at p ∷ os) (along-disk m ms)
-
-pub noted-disk : {D : Type 0} (none : Bool) (p : Stage (Owning D)) (ms : List (Stage (Owning D))) (q : Stage (Owning D)) → outputs_noted none (disk-stage p) (disk-stages ms) (disk-stage q) ≡ outputs_noted none p ms q
-noted-disk true p ms q = ap (λ (os : List Outputs). os ++ outputs_at q ∷ []) (along-disk p ms)
-noted-disk false p ms q = along-disk p ms
-
-goes-disk : {D : Type 0} (e : Arrival) (p q : Stage (Owning D)) → GoesAnyway e p q → GoesAnyway e (disk-stage p) (disk-stage q)
-goes-disk {D} e p q goes = by e.0.what goes
-  where
-    still : TurnsStill e p.node p.out q.node q.out → TurnsStill e (disk-stage p).node p.out (disk-stage q).node q.out
-    still t = record { kept = ap (λ (k : Owning D). k.disk) t.kept; turned = t.turned }
-
-    came : (c : ℕ) (x : Option Session) → CameAnyway x c e p.node p.out q.node q.out → CameAnyway x c e (disk-stage p).node p.out (disk-stage q).node q.out
-    came c None t = still t
-    came c (Some start) t = t
-
-    by : (x : What) → AnywayBy x e p.node p.out q.node q.out → AnywayBy x e (disk-stage p).node p.out (disk-stage q).node q.out
-    by (what.Opened c at) t = still t
-    by (what.Bytes c len) t = came c ((places_in p.node).session c) t
-    by (what.Ended c) t = still t
-    by what.Quiet t = still t
-    by what.Stop t = still t
-
-pub anyway-disk : {D : Type 0} (es : List Arrival) (p : Stage (Owning D)) (ms : List (Stage (Owning D))) (q : Stage (Owning D)) → Along GoesAnyway es p ms q → Along GoesAnyway es (disk-stage p) (disk-stages ms) (disk-stage q)
-anyway-disk [] p [] q run = ap disk-stage run
-anyway-disk [] p (m ∷ ms) q never = absurd never
-anyway-disk (e ∷ es) p [] q never = absurd never
-anyway-disk (e ∷ es) p (m ∷ ms) q run = (goes-disk e p m run.0, anyway-disk es m ms q run.1)
-
 -- Turns by steps.
 module _ {K : Type 0} (g : Keeper K) where
   -- A crash in them leaves an archive of one of their standings.
-  pub steps-pass : (es : List Arrival) (w : NodeState) (ms : List (Stage K)) (ts : List Turn) (v : NodeState) (k m : K) → Served es w ts v → StepsTo g k w.standing ms ts m → CrashesLeaveOnly g.leaves k m (w.standing ∷ passed_in ts)
+  pub steps-pass : (es : List Arrival) (w : NodeState) (ms : List (Stage K)) (ts : List Turn) (v : NodeState) (k m : K) → Served es w ts v → StepsTo g es k w ms ts m → CrashesLeaveOnly g.leaves k m (w.standing ∷ passed_in ts)
   steps-pass [] w [] [] v k m run steps = λ start may has since. subst (λ (x : K). g.leaves start x may) (sym steps) since
   steps-pass [] w (x ∷ ms) [] v k m run never = absurd never
   steps-pass [] w ms (t ∷ ts) v k m never steps = absurd never
@@ -127,7 +79,7 @@ module _ {K : Type 0} (g : Keeper K) where
   steps-pass (e ∷ es) w (x ∷ ms) (t ∷ ts) v k m run steps = λ start may has since.
       let parts = all-split may t.passed (passed_in ts) has.1 in
       let now = turned-has may e w t.passed t.after run.0 has.0 parts.0 in
-      steps-pass es t.after ms ts v x.node.keep m run.1 steps.2 start may (now, parts.1) (steps.1 start may (has.0, parts.0) since)
+      steps-pass es t.after ms ts v x.node.keep m run.1 steps.3 start may (now, parts.1) (steps.1 start may (has.0, parts.0) since)
 
 -- What a disk that was only synced reads as, and what a crash leaves of it.
 synced-same : (k m : Content) → IsOnlySynced k m → as_read m ≡ as_read k
@@ -174,7 +126,7 @@ module _ {D : Type 0} (g : Disk D)
 
   -- Before some turns it stood for the archive of that moment, and a crash since then leaves that one
   -- or a later one.
-  stood-first : (es : List Arrival) (w : NodeState) (ms : List (Stage (Owning D))) (ts : List Turn) (v : NodeState) (k m : Owning D) → Served es w ts v → MatchesKnown (engine_of g) k w.standing → StepsTo (engine_of g) k w.standing ms ts m
+  stood-first : (es : List Arrival) (w : NodeState) (ms : List (Stage (Owning D))) (ts : List Turn) (v : NodeState) (k m : Owning D) → Served es w ts v → MatchesKnown (engine_of g) k w.standing → StepsTo (engine_of g) es k w ms ts m
       → StoodFor g w.standing ts m.disk
   stood-first es w ms ts v k m run fits steps =
       let may = archives_of (w.standing ∷ passed_in ts) in
@@ -182,7 +134,7 @@ module _ {D : Type 0} (g : Disk D)
       let left = steps-pass (engine_of g) es w ms ts v k m run steps (here k) may own (from-here k may (fits.left may own.0)) in
       record { at = k.disk; stood = fits-stand k w.standing fits; rested = fits.exact; crash = (left.1.0, record { later = left.0; each = left.2 left.1.0 left.1.1 }); crash_between = left.3 refl }
 
-  stood-at : (es : List Arrival) (w : NodeState) (ms : List (Stage (Owning D))) (ts : List Turn) (v : NodeState) (k m : Owning D) → Served es w ts v → MatchesKnown (engine_of g) k w.standing → StepsTo (engine_of g) k w.standing ms ts m
+  stood-at : (es : List Arrival) (w : NodeState) (ms : List (Stage (Owning D))) (ts : List Turn) (v : NodeState) (k m : Owning D) → Served es w ts v → MatchesKnown (engine_of g) k w.standing → StepsTo (engine_of g) es k w ms ts m
       → (earlier later : List Turn) → ts ≡ earlier ++ later → StoodFor g (last_world w earlier).standing later m.disk
   stood-at es w ms ts v k m run fits steps [] later is = subst (λ (us : List Turn). StoodFor g w.standing us m.disk) is (stood-first es w ms ts v k m run fits steps)
   stood-at [] w ms [] v k m run fits steps (t ∷ earlier) later is = absurd (cc is)
@@ -191,14 +143,14 @@ module _ {D : Type 0} (g : Disk D)
   stood-at (e ∷ es) w [] (u ∷ us) v k m run fits never (t ∷ earlier) later is = absurd never
   stood-at (e ∷ es) w (x ∷ ms) (u ∷ us) v k m run fits steps (t ∷ earlier) later is =
       let same : u ≡ t = cc is in
-      subst (λ (x : Turn). StoodFor g (last_world x.after earlier).standing later m.disk) same (stood-at es u.after ms us v x.node.keep m run.1 steps.0 steps.2 earlier later (cc is))
+      subst (λ (x : Turn). StoodFor g (last_world x.after earlier).standing later m.disk) same (stood-at es u.after ms us v x.node.keep m run.1 steps.0 steps.3 earlier later (cc is))
 
   -- An archive was opened, and events were served by a node.
   pub served-on : RecoversSomeOne → CachesOne → FollowsItself → CommandFollows → (a : Archive) (cache : List ℕ) (old : D) (e : Owning D) (node new : Serving (Owning D)) (arrivals : List Arrival) (stages : List (Stage (Owning D))) (o p : HostState) → node.keep ≡ e → IsStoreWith e.view cache a (g.content e.disk) → e.views ≡ views_of (live a.entries) → WhereTold IsSettled (g.content e.disk)
       → SyncsFirst g old e.disk
       → RunsBetween g old e.disk → BothTold WentBetween (g.content old) (g.content e.disk)
       → ((t : LastKnown) → MatchesKnown (engine_of g) node.keep t → RunsTo (engine_of g) arrivals t node o stages new p) → ReadsWith cache a (g.content old)
-      → ServedOn g a old e.disk new.keep.disk arrivals (disk-stage (stage node o)) (disk-stages stages) (disk-stage (stage new p))
+      → ServedOn g a old e.disk new.keep.disk arrivals (stage node o) stages (stage new p)
   served-on one caches itself commands a cache old e node new arrivals stages o p keep store rows still sync crash_beside went runs reads =
       let held : HoldsArchive g.content e a = (cache, store, rows, still) in
       let start : MatchesKnown (engine_of g) node.keep (standing a None) =
@@ -225,10 +177,7 @@ module _ {D : Type 0} (g : Disk D)
       let now = from-here e narrow (holds_left e a narrow held (0, omega arith, refl)) in
       let since-opened = run.passes (here e) narrow (all-own (standing a None ∷ more)) (subst (λ (k : Owning D). Leaves g (here e) k narrow) (sym keep) now) in
       record {
-        turns = run.turns;
-        left = run.after;
-        served = run.served;
-        at = at-disk stages run.turns run.at;
+        runs = run;
         stands = fits-stand new.keep run.after run.fits;
         files_are = λ none_in c is.
             let exact = run.fits.exact none_in in
