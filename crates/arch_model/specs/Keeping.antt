@@ -45,9 +45,9 @@ CrashesLeaveOnly {K} leaves old new standings = (start : K) (may : List (Option 
     → HasAll may standings → leaves start old may → leaves start new may
 
 -- A keeper: the archives that it holds, whether it is ready, its counts of reads and of faults of the
--- disk, and what reading leaves unchanged; the archives of which its files are exactly, and what each
--- crash since a state may have left. These are the members of `Shelf` and of `Keep`, in their order, as
--- `Self.Keep` gives them to the clauses of `Keep`.
+-- disk, and what reading leaves unchanged; the archives of which its files are exactly, what each crash
+-- since a state may have left, and the archive as which its files were found. These are the members of
+-- `Shelf` and of `Keep`, in their order, as `Self.Keep` gives them to the clauses of `Keep`.
 abbrev pub Keeper : Type 0 → Type 1
 Keeper K = record {
   holds : K → Archive → Type 0;
@@ -57,6 +57,7 @@ Keeper K = record {
   alike : K → K → Type 0;
   files_are : K → Archive → Type 0;
   leaves : K → K → List (Option Archive) → Type 0;
+  finds : K → K → Archive → Type 0;
 }
 
 module _ {K : Type 0} (g : Keeper K) where
@@ -150,6 +151,39 @@ CommandGivesBy was_ready s wanted reply t Breaks = ⊥
 -- What a command does: the answer, and the standing after it.
 abbrev pub CommandGives : Bool → LastKnown → (Archive → Done) → Answer → LastKnown → Type 0
 CommandGives was_ready s wanted reply t = CommandGivesBy was_ready s wanted reply t (ending reply)
+
+module _ {K : Type 0} (g : Keeper K) where
+  -- A keeper that had to be reopened was: its files read as those of the archive of this standing.
+  abbrev pub FindsStanding : {T : Type 0} → K → K → Result T OpenRefusal → LastKnown → Type 0
+  FindsStanding old new (Ok x) t = g.ready old ≡ false → g.finds old new t.archive
+  FindsStanding old new (Err why) t = Unit {0}
+
+  -- Before a command a keeper was reopened, up to a state between: its files read as those of this
+  -- archive, which is the one before or the one in doubt. On it the command was answered.
+  pub record FindsFirst (old : K) (s : LastKnown) (wanted : Archive → Done) (new : K) (reply : Answer)
+      (t : LastKnown) : Type 0 where
+    pub middle : K
+    pub found : Archive
+    pub is_found : IsFound s found
+    pub finds : g.finds old middle found
+    pub holds : g.holds middle found
+    pub opened : KeeperMoves g old s middle (standing found None)
+    pub taken : KeeperMoves g middle (standing found None) new t
+    pub gives : CommandGives true (standing found None) wanted reply t
+
+  -- That it was reopened first, by the way in which a command ends: where memory ran out, or the disk
+  -- failed, the reopening itself may have been refused.
+  abbrev pub FindsFirstBy : K → LastKnown → (Archive → Done) → K → Answer → LastKnown → Ending → Type 0
+  FindsFirstBy old s wanted new reply t Accepts = FindsFirst old s wanted new reply t
+  FindsFirstBy old s wanted new reply t Refuses = FindsFirst old s wanted new reply t
+  FindsFirstBy old s wanted new reply t Starves = (t ≡ s) ⊎ FindsFirst old s wanted new reply t
+  FindsFirstBy old s wanted new reply t Fails = (t ≡ unsure s) ⊎ FindsFirst old s wanted new reply t
+  FindsFirstBy old s wanted new reply t Breaks = ⊥
+
+  -- A command at a keeper that has to be reopened is one on the archive as which its files read.
+  abbrev pub CommandFinds : K → LastKnown → (Archive → Done) → K → Answer → LastKnown → Type 0
+  CommandFinds old s wanted new reply t = g.ready old ≡ false
+      → FindsFirstBy old s wanted new reply t (ending reply)
 
 -- A refusal by the rules leaves the keeper ready, and so does `NoMemory` if it was ready. After a
 -- fault, or damage, it has to be reopened. After a command that was carried out it may have to be.

@@ -12,6 +12,10 @@ HoldsNone k a = ⊥
 abbrev pub LeavesUntold : {K : Type 0} → K → K → List (Option Archive) → Type 0
 LeavesUntold start k may = ⊥
 
+-- No archive is found in its files.
+abbrev pub FindsUntold : {K : Type 0} → K → K → Archive → Type 0
+FindsUntold old new a = ⊥
+
 -- Such a keeper.
 abbrev pub untold : {K : Type 0} → (K → Bool) → (K → ℕ) → (K → ℕ) → (K → K → Type 0) → Keeper K
 untold ready reads faults alike = record {
@@ -22,6 +26,7 @@ untold ready reads faults alike = record {
   alike = alike;
   files_are = HoldsNone;
   leaves = LeavesUntold;
+  finds = FindsUntold;
 }
 
 -- What keeps the readiness only reads.

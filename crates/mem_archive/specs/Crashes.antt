@@ -16,6 +16,7 @@ in_memory = record {
   alike = λ m n. n ≡ m;
   files_are = λ m a. a ≡ m;
   leaves = λ start m may. Contains may (Some m);
+  finds = λ m n a. (a ≡ m) × (n ≡ m);
 }
 
 -- The archive that is held is left.

@@ -106,6 +106,8 @@ impl Keep for MemArchive {
 
     ghost leaves = { λ start m may. Contains may (Some m) };
 
+    ghost finds = { λ m n a. (a ≡ m) × (n ≡ m) };
+
     fn is_stale(&self) -> bool {
         false
     }
