@@ -14,4 +14,5 @@ keeper s k = record {
   files_are = k.files_are;
   leaves = k.leaves;
   finds = k.finds;
+  takes = k.takes;
 }

@@ -1,13 +1,15 @@
 //! The trait of keepers: shelves that also carry out commands, and can be reopened.
 //! Writes the disk; syncs.
-ghost use Rattle.std.specs.Prelude.{◌≡◌, ◌≤◌, Bool, true, false, not, List, [], ◌∷◌, Option, Some, is_ok, IfOk, OnOk, length};
+ghost use Rattle.std.specs.Prelude.{◌≡◌, ◌≤◌, ℕ, Bool, true, false, not, List, [], ◌∷◌, Option, Some, is_ok, IfOk, OnOk, length};
 ghost use Rattle.std.specs.List.{Contains};
 ghost use Rattle.arch_base.specs.Moments.{last_moment};
 ghost use Rattle.arch_model.specs.Archives.{Archive, in_epoch, live};
 ghost use Rattle.arch_model.specs.Delivery.{applied};
-ghost use Rattle.arch_model.specs.Keeping.{CrashesLeaveOnly, MatchesKnown, KeeperMoves, OnlyRead, Reopens, CommandGives, CommandFinds, FindsStanding, StaysReady, AnswerCause, OpeningCause, ReadsFor, text_known};
+ghost use Rattle.arch_model.specs.Keeping.{CrashesLeaveOnly, MatchesKnown, KeeperMoves, OnlyRead, Reopens, CommandGives, CommandTaken, FindsStanding, StaysReady, AnswerCause, OpeningCause, ReadsFor, text_known};
 ghost use Rattle.arch_model.specs.Shelves.{AppendsTo, ShelfStays, ReadCause, ReadsOnce};
 ghost use Rattle.arch_model.specs.Standing.{LastKnown, GivesEpochIn, KeepsUnlessFound};
+ghost use Rattle.arch_model.specs.declared.answer.Answer.{Answer};
+ghost use Rattle.arch_model.specs.declared.command.Command.{Command};
 
 use crate::answer::Answer;
 use crate::command::Command;
@@ -39,6 +41,10 @@ pub trait Keep: Shelf {
     /// those of this archive, and nothing was committed: the second state's files are the same, without
     /// what doesn't count, and the archive is kept as they have it.
     ghost finds: { Self → Self → Archive → Type 0 };
+
+    /// A ready keeper took a command, on the way from the first state to the second, at a moment and
+    /// with an answer: what it did to the keeper's files, and what became of what is kept beside them.
+    ghost takes: { Self → Self → Command → ℕ → Answer → Type 0 };
 
     /// Returns whether the keeper has to be reopened.
     fn is_stale(&self) -> bool
@@ -97,8 +103,7 @@ pub trait Keep: Shelf {
         ensures done { (s : LastKnown) → MatchesKnown Self.Keep self.old s
             → (t : LastKnown) × KeeperMoves Self.Keep self.old s self.new t
             × CommandGives (Self.ready self.old) s (λ (a : Archive). applied a command.now moment) result t
-            × CommandFinds Self.Keep self.old s (λ (a : Archive). applied a command.now moment) self.new
-            result t }
+            × CommandTaken Self.Keep self.old s command.now moment self.new result t }
         ensures ready { StaysReady (Self.ready self.old) result (Self.ready self.new) }
         ensures later { Self.faults self.old ≤ Self.faults self.new }
         ensures cause { AnswerCause (Self.faults self.old) (Self.faults self.new) result }
