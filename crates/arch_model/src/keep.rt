@@ -75,8 +75,8 @@ pub trait Keep: Shelf {
     /// Finds what `fresh` of a stale keeper finds: with no command in doubt, the archive that was
     /// held, so each answer is the one that would be given without it. No clause can tell then whether
     /// the files were read: an engine that reads none of them, and counts what it holds, passes, if it
-    /// settles its disk. After a refusal the keeper is stale. `DiskFault` if the disk failed, and the count of faults rose; any
-    /// other result leaves the count. `NoMemory` if an allocation fails.
+    /// settles its disk. After a refusal the keeper is stale. `DiskFault` if the disk failed, and the
+    /// count of faults rose; any other result leaves the count. `NoMemory` if an allocation fails.
     fn reindex(&mut self) -> Result<u32, OpenRefusal>
         ensures found { (s : LastKnown) → MatchesKnown Self.Keep self.old s
             → (t : LastKnown) × KeeperMoves Self.Keep self.old s self.new t
