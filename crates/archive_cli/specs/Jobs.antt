@@ -1,6 +1,7 @@
 -- What a run of each job ends with, a definition a job: the number of its status, and what is printed,
--- by the edges before and after it. `RanPurge 3` is what `piv2 purge 3` does. Above them all stands the
--- law that a run of words ends so in exactly the ways of the job that they ask for (`RunsOfJob`).
+-- by the edges before and after it. `RanPurge 3` is what `piv2 purge 3` does; what a crash in it leaves
+-- is the line of that job in `JobLeaves`. By the law at the end a run of words ends in exactly the ways
+-- of the job that they ask for (`RunsOfJob`).
 use Rattle.std.specs.Prelude.{◌≡◌, ◌⊎◌, ℕ, List, codes, Option, Some, None}
 use Rattle.arch_base.specs.Counts.{Rose}
 use Rattle.arch_base.specs.declared.config.Config.{Config}
@@ -33,7 +34,8 @@ abbrev pub StopRule : Type 1
 StopRule = Status → RunState → RunState → Type 0
 
 -- A job was done, of which this was due: that was printed, and its status is the run's; or the output
--- failed, after a prefix of it. Or it stopped so before it did anything.
+-- failed, after a prefix of it. Or it stopped so before it did anything. `code` is the number of the
+-- run's status.
 abbrev pub JobRan : DueRule → StopRule → ℕ → RunState → RunState → Type 0
 JobRan due stops code i j = (status : Status) × (code ≡ code_of status)
     × (IsPrinted due status i j ⊎ (OutputFailed due status i j ⊎ stops status i j))
