@@ -1,5 +1,5 @@
 -- Acts over a shelf or a keeper make a course.
-use Rattle.std.proofs.Common.{◌≡◌, ◌⊎◌, Bool, true, false, List, [], ◌∷◌, ◌++◌, Option, Some, None, refl, sym, ap, subst, ◌∙◌, append_assoc}
+use Rattle.std.proofs.Common.{◌≡◌, ◌⊎◌, Bool, true, false, List, [], ◌∷◌, ◌++◌, Option, Some, None, is_some, refl, sym, ap, subst, ◌∙◌, append_assoc}
 use Rattle.std.specs.List.{Contains}
 use Rattle.std.proofs.lemmas.Bool.{false≢true}
 use Rattle.std.proofs.lemmas.List.Elements.{Contains-append_left, Contains-append_right}
@@ -138,6 +138,10 @@ plain-over {H} {A} {J} {B} state into s other i held a j same acts = subst (λ (
 -- A course over a keeper is one of a greater door that has its sessions among its own.
 module _ {K H J : Type 0} (g : Keeper K) (into : H → J) (one : LastKnown → H → Departure → Said H LastKnown) (is_one reopens_one : H → Bool) (other : LastKnown → J → Departure → Said J LastKnown) (is_other reopens_other : J → Bool)
     (same : (s : LastKnown) (h : H) (way : Departure) → other s (into h) way ≡ said_over (λ (t : LastKnown). t) into (one s h way)) (asks : (h : H) → is_other (into h) ≡ is_one h) (opens : (h : H) → reopens_other (into h) ≡ reopens_one h) where
+  some-over : (held : Option H) → is_some (held_over into held) ≡ true → is_some held ≡ true
+  some-over None none = none
+  some-over (Some h) some = refl
+
   act-over : (old new : K) (w v : SessionState H LastKnown) → KeeperActs g one is_one reopens_one old w new v → KeeperActs g other is_other reopens_other old (talk_over (λ (t : LastKnown). t) into w) new (talk_over (λ (t : LastKnown). t) into v)
   act-over old new w v act = record { moves = act.moves; disk = act.disk; reopened = by w.held act.reopened }
     where
@@ -146,6 +150,7 @@ module _ {K H J : Type 0} (g : Keeper K) (into : H → J) (one : LastKnown → H
       by (Some h) done = λ asked. record {
         nothing = λ ready. let still = (done (sym (opens h) ∙ asked)).nothing ready in
             (still.0, plain-over (λ (t : LastKnown). t) into (one w.after h Plain) (other w.after (into h) Plain) w.outside v.held v.after v.outside (same w.after h Plain) still.1);
+        found = λ stale open_after. (done (sym (opens h) ∙ asked)).found stale (some-over v.held open_after);
       }
 
   along-over : (old new : K) (w : SessionState H LastKnown) (ks : List K) (ms : List (SessionState H LastKnown)) → KeptAlong (KeeperActs g one is_one reopens_one) old w ks ms new

@@ -7,6 +7,7 @@ use Rattle.line_door.specs.Course.{SessionState}
 use Rattle.arch_model.specs.Archives.{Archive}
 use Rattle.arch_model.specs.Standing.{LastKnown}
 use Rattle.arch_model.specs.Keeping.{Keeper, CrashesLeaveOnly, MatchesKnown}
+use Rattle.arch_model.specs.Untold.{FindsUntold, TakesUntold}
 use Rattle.keep_course.specs.Courses.{KeeperRun, archives_in}
 
 -- It holds its last archive.
@@ -25,7 +26,7 @@ history_ready k = true
 abbrev pub HistoryLeaves : List Archive → List Archive → List (Option Archive) → Type 0
 HistoryLeaves start k may = (a : Archive) → Contains k a → Contains may (Some a)
 
--- The small keeper. It reads no disk.
+-- The small keeper. It reads no disk, and is never reopened.
 abbrev pub history : Keeper (List Archive)
 history = record {
   holds = HistoryHolds;
@@ -35,6 +36,8 @@ history = record {
   alike = λ k m. k ≡ m;
   files_are = HistoryRests;
   leaves = HistoryLeaves;
+  finds = FindsUntold;
+  takes = TakesUntold;
 }
 
 -- A crash since the start of a course leaves an archive of one of its talks, or one in doubt there.

@@ -13,6 +13,7 @@ returns-in-Ok-clause-acts g c = λ s bytes fits.
       reopening-found unopened_words s (waiting bytes true) found.0 _ _ found.2 c.in-Ok.ensures.cause refl refl,
       record {
         nothing = λ ready. ((c.in-Ok.ensures.nothing ready).1, reopening-nothing unopened_words s (waiting bytes true) found.0 _ _ (fits.settled ready).1 found.2 c.in-Ok.ensures.cause refl refl);
+        found = λ stale open_after. found.3 stale;
       },
     )
 
@@ -22,5 +23,5 @@ returns-in-Err-clause-acts g c = λ s bytes fits.
       still.0,
       still.1,
       reopening-refused unopened_words s (waiting bytes true) still.0 c.in-Err.refusal _ _ c.say_unopened.result still.2 c.in-Err.ensures.cause c.in-Err.ensures.later c.say_unopened.ensures.said,
-      record { nothing = λ ready. absurd (false≢true (c.in-Err.ensures.nothing ready).0) },
+      record { nothing = λ ready. absurd (false≢true (c.in-Err.ensures.nothing ready).0); found = λ stale open_after. absurd (false≢true open_after) },
     )

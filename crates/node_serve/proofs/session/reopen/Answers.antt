@@ -12,6 +12,7 @@ returns-in-Ok-clause-acts g c = λ s piece fits.
       reopening-found (unopened_words c.args.moment c.args.session.now) s (with_piece c.args.session.now piece) found.0 _ _ found.2 c.in-Ok.ensures.cause refl refl,
       record {
         nothing = λ ready. ((c.in-Ok.ensures.nothing ready).1, reopening-nothing (unopened_words c.args.moment c.args.session.now) s (with_piece c.args.session.now piece) found.0 _ _ (fits.settled ready).1 found.2 c.in-Ok.ensures.cause refl refl);
+        found = λ stale open_after. found.3 stale;
       },
     )
 
@@ -21,5 +22,5 @@ returns-in-Err-clause-acts g c = λ s piece fits.
       still.0,
       still.1,
       reopening-refused (unopened_words c.args.moment c.args.session.now) s (with_piece c.args.session.now piece) still.0 c.in-Err.refusal _ _ c.say_shut.result still.2 c.in-Err.ensures.cause c.in-Err.ensures.later c.say_shut.ensures.said,
-      record { nothing = λ ready. absurd (false≢true (c.in-Err.ensures.nothing ready).0) },
+      record { nothing = λ ready. absurd (false≢true (c.in-Err.ensures.nothing ready).0); found = λ stale open_after. absurd (false≢true open_after) },
     )
