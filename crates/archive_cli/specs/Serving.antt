@@ -9,7 +9,8 @@ use Rattle.edge_io.specs.declared.host.Host.{Ghosts as Host}
 use Rattle.edge_io.specs.Frames.{Outputs}
 use Rattle.edge_io.specs.Hosts as hosts
 use Rattle.edge_io.specs.Scripts.{Arrival}
-use Rattle.keep_course.specs.Courses.{archives_of}
+use Rattle.line_door.specs.Course.{SessionState}
+use Rattle.keep_course.specs.Courses.{afters, archives_of}
 use Rattle.root_slots.specs.Between.{BetweenStays, RunsBetween}
 use Rattle.arch_model.specs.Archives.{Archive}
 use Rattle.arch_model.specs.Following.{Follows}
@@ -22,10 +23,10 @@ use Rattle.archive_core.specs.Engines.{Owning, engine_of, is_ready, RecoversOrBa
 use Rattle.archive_core.specs.Openings.{LeavesKindly}
 use Rattle.answer_lines.specs.Lines.{whole_line, memory_word}
 use Rattle.node_serve.specs.Ends.{ServingEnds, given_after, before_all}
-use Rattle.node_serve.specs.Nodes.{Stage, Along, GoesAnyway, GoesReading, GoesCounting, RunsTo, outputs_noted, places_in, world_at}
-use Rattle.node_serve.specs.Plain.{last_world}
+use Rattle.node_serve.specs.Nodes.{Stage, Along, GoesAnyway, GoesReading, GoesCounting, TurnKept, ActsAlong, RunsTo, outputs_noted, places_in, world_at}
+use Rattle.node_serve.specs.Doors.{SessionAtWork}
 use Rattle.node_serve.specs.Turns.{Turn, passed_in}
-use Rattle.node_serve.specs.World.{HostState, at_host}
+use Rattle.node_serve.specs.World.{HostState, NodeState, at_host}
 use Rattle.node_serve.specs.declared.serving.ServeEnd.{ServeEnd}
 use Rattle.node_serve.specs.declared.serving.ServeEnd.TheVariants as end
 use Rattle.archive_cli.specs.DiskCommands.{StandsAs, StaysUnopened}
@@ -123,22 +124,50 @@ module _ {D : Type 0} (g : Disk D) where
     pub each : (image : Files) → g.left_since new (g.moment opened) image
         → BetweenStays (g.content old) image
 
-  -- The disk stood for the archive of a standing, or for the one in doubt there; if nothing was, it had
-  -- exactly the archive's files. A crash since then leaves one of the two, or an archive of a standing
-  -- after one of the acts of later turns, or one that was in doubt there. The bytes between the gates and
-  -- the bodies of the root file stayed.
-  pub record StoodFor (s : LastKnown) (later : List Turn) (new : D) : Type 0 where
-    pub at : D
+  -- The disk `at` stood for the archive of a standing, or for the one in doubt there; if nothing was, it
+  -- had exactly the archive's files. A crash since then, up to the disk `last`, leaves one of the two, or
+  -- an archive of one of these later standings, or one that was in doubt there. The bytes between the
+  -- gates and the bodies of the root file stayed.
+  pub record StoodFor (s : LastKnown) (later : List LastKnown) (at last : D) : Type 0 where
     pub stood : (cache : List ℕ) × AllRecoverOrBare cache (one_of s) (g.content at)
     pub rested : s.in_doubt ≡ None → FilesAreOn s.archive (g.content at)
-    pub crash : (cache : List ℕ) × CrashLeaves at new cache (archives_of (s ∷ passed_in later))
-    pub crash_between : BetweenSince g at new
+    pub crash : (cache : List ℕ) × CrashLeaves at last cache (archives_of (s ∷ later))
+    pub crash_between : BetweenSince g at last
+
+  -- After each of some acts, which left these standings, the disk of the engine stood for the standing of
+  -- that moment, and a crash since then, up to the disk `last`, leaves that one or a later one. `later`
+  -- stood after these acts. Each of these disks comes no earlier than the one before it.
+  abbrev pub StoodAlong : List LastKnown → D → Owning D → List (Owning D) → List LastKnown → Type 0
+  StoodAlong later last old [] [] = Unit {0}
+  StoodAlong later last old [] (s ∷ ss) = ⊥
+  StoodAlong later last old (k ∷ ks) [] = ⊥
+  StoodAlong later last old (k ∷ ks) (s ∷ ss) = (g.moment old.disk ≤ g.moment k.disk)
+      × StoodFor s (ss ++ later) k.disk last × StoodAlong later last k ks ss
+
+  -- Beside the talks of a session at a moment stands the engine after each act, and its disk so.
+  abbrev pub EnginesAlong : List LastKnown → D → ℕ → Owning D → SessionState SessionAtWork LastKnown
+      → List (Owning D) → List (SessionState SessionAtWork LastKnown) → Owning D → Type 0
+  EnginesAlong later last moment old w ks ms new =
+      ActsAlong (engine_of g) moment old w ks ms new × StoodAlong later last old ks (afters ms)
+
+  -- These turns were taken in order, from one stage to the next. The disk stood so after each act of each
+  -- turn, and after each turn.
+  abbrev pub ActedAlong : D → List Arrival → Owning D → NodeState → List (Stage (Owning D)) → List Turn
+      → Type 0
+  ActedAlong last [] old w [] [] = Unit {0}
+  ActedAlong last [] old w [] (t ∷ ts) = ⊥
+  ActedAlong last [] old w (m ∷ ms) ts = ⊥
+  ActedAlong last (e ∷ es) old w [] ts = ⊥
+  ActedAlong last (e ∷ es) old w (m ∷ ms) [] = ⊥
+  ActedAlong last (e ∷ es) old w (m ∷ ms) (t ∷ ts) =
+      TurnKept (EnginesAlong (passed_in ts) last) e old w t.passed m.node.keep t.after
+      × StoodFor t.after.standing (passed_in ts) m.node.keep.disk last
+      × ActedAlong last es m.node.keep t.after ms ts
 
   -- This archive was found, and the events were taken to their end, one after another through these
-  -- stages, each with its replies over the archive of that moment. After each act of each event the engine
-  -- matches what stands then: so where nothing is in doubt its disk has exactly the archive's files, and a
-  -- crash in the act leaves the archive before it or the one after it, or one in doubt there; and the count
-  -- of faults after it is the disk's own.
+  -- stages, each with its replies over the archive of that moment. In each act of each event a crash leaves
+  -- the archive before it or the one after it, or one in doubt there; the count of faults after it is the
+  -- disk's own; and a reopening changes nothing where the engine is ready.
   --
   -- Until the disk was synced, a crash leaves what it might have left before; from then on the archive
   -- that was found, or one of a standing after one of the acts, or one in doubt there. So where the disk
@@ -167,8 +196,9 @@ module _ {D : Type 0} (g : Disk D) where
         → CrashLeaves old new cache (may ++ archives_of (passed_in runs.turns))
         × BetweenSince g old new
     pub crash_between : StaysBetween old opened new
-    pub stood : (earlier later : List Turn) → runs.turns ≡ earlier ++ later
-        → StoodFor (last_world (world_at (standing found None) first) earlier).standing later new
+    pub stood : StoodFor (standing found None) (passed_in runs.turns) first.node.keep.disk new
+    pub acted : ActedAlong new arrivals first.node.keep (world_at (standing found None) first) stages
+        runs.turns
     pub numbers : FollowOn found (passed_in runs.turns)
 
   -- The archive wasn't opened. The refusal is that of the files as they read, the disk is left as it

@@ -40,8 +40,8 @@ module _ {K : Type 0} (g : Keeper K) where
   -- A reopening, whose words by the rules are these. It changes nothing of a ready keeper: then it goes by
   -- the rules, as where memory is ample and the disk answers. Of one that isn't, if it isn't refused, it
   -- finds the archive as which the files read.
-  pub record ReopenedAs {H : Type 0} (plain : Said H LastKnown) (old : K) (i : ConnectionState) (held : Option H)
-      (new : K) (t : LastKnown) (j : ConnectionState) : Type 0 where
+  pub record ReopenedAs {H : Type 0} (plain : Said H LastKnown) (old : K) (i : ConnectionState)
+      (held : Option H) (new : K) (t : LastKnown) (j : ConnectionState) : Type 0 where
     pub nothing : g.ready old ≡ true → (new ≡ old) × PlainActs plain i held t j
     pub found : g.ready old ≡ false → is_some held ≡ true → g.finds old new t.archive
 

@@ -7,7 +7,6 @@ use Rattle.line_door.specs.Course.{SessionState}
 use Rattle.arch_model.specs.Archives.{Archive}
 use Rattle.arch_model.specs.Standing.{LastKnown}
 use Rattle.arch_model.specs.Keeping.{Keeper, CrashesLeaveOnly, MatchesKnown}
-use Rattle.arch_model.specs.Untold.{FindsUntold, TakesUntold}
 use Rattle.keep_course.specs.Courses.{KeeperRun, archives_in}
 
 -- It holds its last archive.
@@ -36,8 +35,8 @@ history = record {
   alike = λ k m. k ≡ m;
   files_are = HistoryRests;
   leaves = HistoryLeaves;
-  finds = FindsUntold;
-  takes = TakesUntold;
+  finds = λ old new a. HistoryHolds new a;
+  takes = λ old new command moment reply. Unit {0};
 }
 
 -- A crash since the start of a course leaves an archive of one of its talks, or one in doubt there.

@@ -334,8 +334,9 @@ module _ {K : Type 0} (g : Keeper K) where
 
   -- A node served the events that a host gave, in order, each from one stage to the next. Whatever
   -- the keeper holds, an event changes nothing of other connections, and reads no more than it asks
-  -- for; and at each stage the world's count of the disk's faults is the keeper's. The host, whose records these are, was asked before each event, when all before it had been
-  -- answered, and at the end if it then answered that none is left.
+  -- for; and at each stage the world's count of the disk's faults is the keeper's. The host, whose
+  -- records these are, was asked before each event, when all before it had been answered, and at the
+  -- end if it then answered that none is left.
   pub record ServesTo (end : ServeEnd) (turns : ℕ) (old : Serving K) (i : HostState)
       (new : Serving K)
       (j : HostState) (given given' left left' : ToldEvents) (faults faults' : ℕ)
