@@ -1,4 +1,5 @@
 pub mod Rows
+pub mod Marks
 pub mod Vocabulary
 pub mod Kept
 pub mod Postings
