@@ -11,7 +11,7 @@ use Rattle.std.specs.Cmp.Lexicographic.{slice_cmp}
 use Rattle.std.specs.Map.{IsKeyTest, AreApart, KeepsOthers}
 use Rattle.std.specs.BTreeMap.{BTreeMap, get_by, is_at, UpdatesBy}
 use Rattle.word_index.specs.declared.marks.Marked.{Marked}
-use Rattle.word_index.specs.Marks.{mark_on, mark_from, mark_of, word_in, key_cmp, looks, IsMarked}
+use Rattle.word_index.specs.Marks.{mark_on, mark_from, mark_of, word_in, key_cmp, looks, HasOwnMark}
 use Rattle.word_index.proofs.Bools.{then-eq, is_eq-number}
 
 -- One byte more.
@@ -54,7 +54,7 @@ module _ {X : Type 0} where
   kept old new k v updates w other = updates.3 (is_at (looks w)) (is_key_test w) (are_apart k w other)
 
   -- What a map has at a word after a change at a key.
-  pub updated : (old new : BTreeMap Marked X) (k : Marked) (v : Option X) → IsMarked k → UpdatesBy word_cmp (word_cmp k) old new v → (w : List ℕ) → get_by (looks w) new ≡ cond (bytes_eq (word_in k) w) v (get_by (looks w) old)
+  pub updated : (old new : BTreeMap Marked X) (k : Marked) (v : Option X) → HasOwnMark k → UpdatesBy word_cmp (word_cmp k) old new v → (w : List ℕ) → get_by (looks w) new ≡ cond (bytes_eq (word_in k) w) v (get_by (looks w) old)
   updated old new k v marked updates w = go (bytes_eq (word_in k) w) refl
     where
       at_own : get_by (looks (word_in k)) new ≡ v

@@ -11,7 +11,7 @@ use Rattle.std.specs.declared.alloc.Global.{Global}
 use Rattle.std.specs.declared.rc.RcSlice.{RcSlice}
 use Rattle.word_index.specs.Vocabulary.{word_at, spelled, bytes_of, IsNumberOf, IsNumbering, KeepsWords, AreHeld, AreNumbersOf, IsNumberFor}
 use Rattle.word_index.specs.declared.marks.Marked.{Marked}
-use Rattle.word_index.specs.Marks.{word_in, looks, IsMarked}
+use Rattle.word_index.specs.Marks.{word_in, looks, HasOwnMark}
 use Rattle.word_index.proofs.KeyLemmas.{word_cmp, updated}
 
 abbrev pub items : RcSlice ℕ Global → List ℕ
@@ -68,7 +68,7 @@ number-after words word w o n is new old = go (bytes_eq word w) refl
         }
 
 pub numbering-more : (words : List (RcSlice ℕ Global)) (old new : BTreeMap Marked ℕ) (key : Marked) (copied : RcSlice ℕ Global) (n : ℕ) → IsNumbering (bytes_of words) old → IsNumberOf (bytes_of words) (word_in key) None → n ≡ length (bytes_of words) → items copied ≡ word_in key
-    → IsMarked key → UpdatesBy word_cmp (word_cmp key) old new (Some n) → IsNumbering (bytes_of (words ++ copied ∷ [])) new
+    → HasOwnMark key → UpdatesBy word_cmp (word_cmp key) old new (Some n) → IsNumbering (bytes_of (words ++ copied ∷ [])) new
 numbering-more words old new key copied n is none at same marked updates w =
     let all : bytes_of (words ++ copied ∷ []) ≡ bytes_of words ++ word_in key ∷ [] = map-append items words (copied ∷ []) ∙ ap (λ (x : List ℕ). bytes_of words ++ x ∷ []) same in
     subst (λ (ws : List (List ℕ)). IsNumberOf ws w (get_by (looks w) new)) (sym all)

@@ -1,5 +1,4 @@
 pub mod Rows
-pub mod Marks
 pub mod Vocabulary
 pub mod Kept
 pub mod Postings
@@ -7,3 +6,4 @@ pub mod Days
 pub mod Tables
 pub mod Asked
 pub mod Sources
+pub mod Marks

@@ -1,4 +1,4 @@
--- The marks of words.
+-- Private: the marks of words, by which a tree finds them.
 use Rattle.std.specs.Prelude.{◌≡◌, ◌+◌, ◌*◌, ◌%◌, ◌^◌, ℕ, List, [], ◌∷◌}
 use Rattle.std.specs.Rc.{rc_slice_items}
 use Rattle.std.specs.Ordering.{nat_cmp, ordering_then}
@@ -32,10 +32,10 @@ abbrev pub looks : List ℕ → Marked → Ordering
 looks word key = key_cmp (mark_of word) word key
 
 -- The mark is that of the word.
-abbrev pub IsMarked : Marked → Type 0
-IsMarked key = key.mark ≡ mark_of (word_in key)
+abbrev pub HasOwnMark : Marked → Type 0
+HasOwnMark key = key.mark ≡ mark_of (word_in key)
 
 -- The word has these bytes, and its mark.
 pub record IsMarkedFrom (word : List ℕ) (key : Marked) : Type 0 where
   pub bytes : word_in key ≡ word
-  pub mark : IsMarked key
+  pub mark : HasOwnMark key

@@ -32,7 +32,7 @@ impl Model for Vocabulary {
 }
 
 impl Vocabulary {
-    ghost use Rattle.word_index.specs.Marks.{IsMarked, word_in};
+    ghost use Rattle.word_index.specs.Marks.{HasOwnMark, word_in};
     ghost use Rattle.word_index.specs.Vocabulary.{IsNumberOf, IsNumberFor, AreNumbersOf, KeepsWords};
 
     /// Returns no words. Allocates nothing.
@@ -84,7 +84,7 @@ impl Vocabulary {
 
     /// Returns the number of a word, if it is there.
     fn known(&self, key: &Marked) -> Option<u32>
-        requires { IsMarked key.now }
+        requires { HasOwnMark key.now }
         ensures { IsNumberOf self.now (word_in key.now) result }
     {
         self.numbers.get(key).copied()
@@ -93,7 +93,7 @@ impl Vocabulary {
     /// Adds a new word, and returns its number. `NoMemory` changes nothing.
     fn add(&mut self, key: Marked) -> Result<u32, NoMemory>
         requires new { IsNumberOf self.old (word_in key) None }
-        requires mark { IsMarked key }
+        requires mark { HasOwnMark key }
         ensures ok { IfOk result (λ number. number ≡ length self.old) }
         ensures added { OnOk result (self.new ≡ self.old ++ word_in key ∷ []) }
         ensures err { OnErr result (self.new ≡ self.old) }
