@@ -1,0 +1,49 @@
+-- The laws of the door: cuts of the bytes change nothing, and a maildrop stays.
+use Rattle.std.specs.Prelude.{◌≡◌, ◌≢◌, ◌⊎◌, ◌↔◌, ℕ, Some, None}
+use Rattle.arch_model.specs.Archives.{Archive, live, text_of}
+use Rattle.line_door.specs.Acts.{Departure}
+use Rattle.line_door.specs.Readers.{LineReaderLaws}
+use Rattle.pop3_reader.specs.Commands.{PopCommand, Asks}
+use Rattle.pop3_reader.specs.Door.{line_limit}
+use Rattle.pop3_reader.specs.Maildrops.{mail_at}
+use Rattle.pop3_reader.specs.Notices.{notice_line}
+use Rattle.pop3_reader.specs.Replies.{in_way, answered, line_answered, too_long}
+use Rattle.pop3_reader.specs.declared.maildrop.MailSize.{MailSize}
+use Rattle.pop3_reader.specs.declared.maildrop.Maildrop.{Maildrop}
+use Rattle.pop3_reader.specs.declared.maildrop.PopState.TheVariants as state
+use Rattle.pop3_reader.specs.declared.notice.PopNotice.TheVariants as notice
+use Rattle.pop3_reader.specs.declared.order.MailOrder.TheVariants as order
+use Rattle.pop3_reader.specs.declared.order.MailPart.{MailPart}
+
+-- Feeding one piece and then another says and leaves what feeding both at once does. The acts of one
+-- piece and then of another are acts of both, even if allocations, the disk or sends fail. Acts
+-- without such failures are the plain function, in both directions.
+abbrev pub PopCuts : Type 0
+PopCuts = LineReaderLaws line_limit line_answered too_long
+
+-- Whatever the archive is by then, no reply changes a maildrop, unless it closes the session. So no
+-- command of others renumbers it.
+abbrev pub MaildropStays : Type 0
+MaildropStays = (a : Archive) (d : Maildrop) (command : PopCommand) (way : Departure)
+    → ((in_way a (state.Entered d) command way).state ≡ Some (state.Entered d))
+    ⊎ ((in_way a (state.Entered d) command way).state ≡ None)
+
+-- Only RETR and TOP depend on the archive. All other commands speak of the maildrop alone.
+abbrev pub SpeaksOfMaildrop : Type 0
+SpeaksOfMaildrop = (a b : Archive) (d : Maildrop) (command : PopCommand)
+    → ((what : MailPart) (k : ℕ) → command ≢ Asks (order.Read what k))
+    → (answered a (state.Entered d) command).words ≡ (answered b (state.Entered d) command).words
+
+-- RETR and TOP of a message of the maildrop say that it is gone exactly where its number isn't live.
+abbrev pub GoneIfNotLive : Type 0
+GoneIfNotLive = (a : Archive) (d : Maildrop) (what : MailPart) (k : ℕ) (mail : MailSize)
+    → mail_at d.mails k ≡ Some mail
+    → ((answered a (state.Entered d) (Asks (order.Read what k))).words ≡ notice_line notice.Gone)
+    ↔ (text_of (live a.entries) mail.number ≡ None)
+
+-- The laws.
+pub record PopLaws : Type 0 where
+  pub cuts : PopCuts
+  pub stays : MaildropStays
+  pub alone : SpeaksOfMaildrop
+  pub gone : GoneIfNotLive
