@@ -3,11 +3,12 @@ use Rattle.std.proofs.Common.{◌≡◌, ◌≢◌, ℕ, Bool, true, false, List
 use Rattle.std.specs.List.{Contains}
 use Rattle.std.proofs.lemmas.Bool.{false≢true}
 use Rattle.arch_model.specs.Archives.{Archive}
-use Rattle.arch_model.specs.Delivery.{Done}
+use Rattle.arch_model.specs.Delivery.{Done, applied}
 use Rattle.arch_model.specs.Standing.{LastKnown, standing, unsure_of, unsure, with_doubt, one_of, IsFound}
-use Rattle.arch_model.specs.Keeping.{HasDoubt, Has, HasAll, CrashesLeaveOnly, MatchesKnown, KeeperMoves, OnlyRead, Settles, Reopens, Ending, Accepts, Refuses, Starves, Fails, Breaks, ReopeningRefused, CommandGivesBy, CommandGives, StaysReady, CauseBy, AnswerCause, OpeningWhy, opening_answer, Keeper}
+use Rattle.arch_model.specs.Keeping.{HasDoubt, Has, HasAll, CrashesLeaveOnly, MatchesKnown, KeeperMoves, OnlyRead, Settles, Reopens, Ending, Accepts, Refuses, Starves, Fails, Breaks, ReopeningRefused, CommandGivesBy, CommandGives, CommandTakenBy, FindsFirst, FindsFirstBy, ending, StaysReady, CauseBy, AnswerCause, OpeningWhy, opening_answer, Keeper}
 use Rattle.arch_model.specs.Untold.{untold}
 use Rattle.arch_model.specs.declared.answer.Answer.{Answer}
+use Rattle.arch_model.specs.declared.command.Command.{Command}
 use Rattle.arch_model.specs.declared.opening.OpenRefusal.{OpenRefusal}
 use Rattle.arch_model.specs.declared.opening.OpenRefusal.TheVariants as opening
 
@@ -151,6 +152,28 @@ unopened-comes s t wanted opening.DiskFault same = inl (record { stale = refl; s
 unopened-comes s t wanted opening.NoMemory same = inl (record { stale = refl; same = same })
 unopened-comes s t wanted opening.NoArchive never = absurd never
 unopened-comes s t wanted (opening.Damaged file at) never = absurd never
+
+module _ {K : Type 0} (g : Keeper K) where
+  -- A keeper had to be reopened, which was refused.
+  pub unopened-finds : (old new : K) (s t : LastKnown) (command : Command) (moment : ℕ) (why : OpenRefusal) → ReopeningRefused s why t → FindsFirstBy g old s command moment new (opening_answer why) t (ending (opening_answer why))
+  unopened-finds old new s t command moment opening.DiskFault same = inl same
+  unopened-finds old new s t command moment opening.NoMemory same = inl same
+  unopened-finds old new s t command moment opening.NoArchive never = absurd never
+  unopened-finds old new s t command moment (opening.Damaged file at) never = absurd never
+
+  -- It was reopened first, however the command ended.
+  pub finds-first : (old : K) (s : LastKnown) (command : Command) (moment : ℕ) (new : K) (reply : Answer) (t : LastKnown) (e : Ending) → ending reply ≡ e → FindsFirst g old s command moment new reply t → FindsFirstBy g old s command moment new reply t e
+  finds-first old s command moment new reply t Accepts is first = first
+  finds-first old s command moment new reply t Refuses is first = first
+  finds-first old s command moment new reply t Starves is first = inr first
+  finds-first old s command moment new reply t Fails is first = inr first
+  finds-first old s command moment new reply t Breaks is first =
+      subst (λ (x : Ending). CommandGivesBy true (standing first.found None) (λ (a : Archive). applied a command moment) reply t x) is first.gives
+
+  -- What was taken is by whether it was ready.
+  pub taken-by : (ready : Bool) (old : K) (s : LastKnown) (command : Command) (moment : ℕ) (new : K) (reply : Answer) (t : LastKnown) → (ready ≡ true → g.takes old new command moment reply) → (ready ≡ false → FindsFirstBy g old s command moment new reply t (ending reply)) → CommandTakenBy g ready old s command moment new reply t
+  taken-by true old s command moment new reply t at_hand stale = at_hand refl
+  taken-by false old s command moment new reply t at_hand stale = stale refl
 
 pub unopened-ready : (why : OpenRefusal) → StaysReady false (opening_answer why) false
 unopened-ready opening.DiskFault = refl

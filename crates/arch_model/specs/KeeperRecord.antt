@@ -13,4 +13,6 @@ keeper s k = record {
   alike = s.alike;
   files_are = k.files_are;
   leaves = k.leaves;
+  finds = k.finds;
+  takes = k.takes;
 }

@@ -9,7 +9,7 @@ use Rattle.disk_model.specs.declared.name.FileKind.TheVariants.{Root}
 use Rattle.disk_model.specs.declared.name.FileName.{FileName}
 use Rattle.arch_model.specs.Archives.{Entry, Archive, blob_number}
 use Rattle.arch_model.specs.Candidates.{choice_of}
-use Rattle.arch_model.specs.Delivery.{Done}
+use Rattle.arch_model.specs.Delivery.{Done, applied}
 use Rattle.arch_model.specs.Shelves.{ReadsOnce}
 use Rattle.arch_model.specs.Standing.{LastKnown, standing, unsure, IsFound}
 use Rattle.arch_model.specs.declared.choice.Choice.{Choice}
@@ -45,9 +45,10 @@ CrashesLeaveOnly {K} leaves old new standings = (start : K) (may : List (Option 
     → HasAll may standings → leaves start old may → leaves start new may
 
 -- A keeper: the archives that it holds, whether it is ready, its counts of reads and of faults of the
--- disk, and what reading leaves unchanged; the archives of which its files are exactly, and what each
--- crash since a state may have left. These are the members of `Shelf` and of `Keep`, in their order, as
--- `Self.Keep` gives them to the clauses of `Keep`.
+-- disk, and what reading leaves unchanged; the archives of which its files are exactly, what each crash
+-- since a state may have left, the archive as which its files were found, and what a command did to
+-- them. These are the members of `Shelf` and of `Keep`, in their order, as `Self.Keep` gives them to the
+-- clauses of `Keep`.
 abbrev pub Keeper : Type 0 → Type 1
 Keeper K = record {
   holds : K → Archive → Type 0;
@@ -57,6 +58,8 @@ Keeper K = record {
   alike : K → K → Type 0;
   files_are : K → Archive → Type 0;
   leaves : K → K → List (Option Archive) → Type 0;
+  finds : K → K → Archive → Type 0;
+  takes : K → K → Command → ℕ → Answer → Type 0;
 }
 
 module _ {K : Type 0} (g : Keeper K) where
@@ -150,6 +153,52 @@ CommandGivesBy was_ready s wanted reply t Breaks = ⊥
 -- What a command does: the answer, and the standing after it.
 abbrev pub CommandGives : Bool → LastKnown → (Archive → Done) → Answer → LastKnown → Type 0
 CommandGives was_ready s wanted reply t = CommandGivesBy was_ready s wanted reply t (ending reply)
+
+module _ {K : Type 0} (g : Keeper K) where
+  -- A keeper that had to be reopened was: its files read as those of the archive of this standing.
+  abbrev pub FindsStanding : {T : Type 0} → K → K → Result T OpenRefusal → LastKnown → Type 0
+  FindsStanding old new (Ok x) t = g.ready old ≡ false → g.finds old new t.archive
+  FindsStanding old new (Err why) t = Unit {0}
+
+  -- Before a command at a moment a keeper was reopened, up to a state between: its files read as those
+  -- of this archive, which is the one before or the one in doubt. There it was ready, and from there the
+  -- command was taken and answered, on that archive.
+  pub record FindsFirst (old : K) (s : LastKnown) (command : Command) (moment : ℕ) (new : K)
+      (reply : Answer) (t : LastKnown) : Type 0 where
+    pub middle : K
+    pub found : Archive
+    pub is_found : IsFound s found
+    pub finds : g.finds old middle found
+    pub holds : g.holds middle found
+    pub opened : KeeperMoves g old s middle (standing found None)
+    pub takes : g.takes middle new command moment reply
+    pub taken : KeeperMoves g middle (standing found None) new t
+    pub gives : CommandGives true (standing found None) (λ a. applied a command moment) reply t
+
+  -- That it was reopened first, by the way in which a command ends: where memory ran out, or the disk
+  -- failed, the reopening itself may have been refused.
+  abbrev pub FindsFirstBy : K → LastKnown → Command → ℕ → K → Answer → LastKnown → Ending → Type 0
+  FindsFirstBy old s command moment new reply t Accepts =
+      FindsFirst old s command moment new reply t
+  FindsFirstBy old s command moment new reply t Refuses =
+      FindsFirst old s command moment new reply t
+  FindsFirstBy old s command moment new reply t Starves = (t ≡ s)
+      ⊎ FindsFirst old s command moment new reply t
+  FindsFirstBy old s command moment new reply t Fails = (t ≡ unsure s)
+      ⊎ FindsFirst old s command moment new reply t
+  FindsFirstBy old s command moment new reply t Breaks = ⊥
+
+  -- What a command at a moment did to a keeper's files. One that had to be reopened took it from what
+  -- its files read as.
+  abbrev pub CommandTakenBy : Bool → K → LastKnown → Command → ℕ → K → Answer → LastKnown → Type 0
+  CommandTakenBy true old s command moment new reply t = g.takes old new command moment reply
+  CommandTakenBy false old s command moment new reply t =
+      FindsFirstBy old s command moment new reply t (ending reply)
+
+  -- The same by whether the keeper was ready.
+  abbrev pub CommandTaken : K → LastKnown → Command → ℕ → K → Answer → LastKnown → Type 0
+  CommandTaken old s command moment new reply t =
+      CommandTakenBy (g.ready old) old s command moment new reply t
 
 -- A refusal by the rules leaves the keeper ready, and so does `NoMemory` if it was ready. After a
 -- fault, or damage, it has to be reopened. After a command that was carried out it may have to be.

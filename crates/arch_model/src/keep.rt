@@ -1,13 +1,15 @@
 //! The trait of keepers: shelves that also carry out commands, and can be reopened.
 //! Writes the disk; syncs.
-ghost use Rattle.std.specs.Prelude.{◌≡◌, ◌≤◌, Bool, true, false, not, List, [], ◌∷◌, Option, Some, is_ok, IfOk, length};
+ghost use Rattle.std.specs.Prelude.{◌≡◌, ◌≤◌, ℕ, Bool, true, false, not, List, [], ◌∷◌, Option, Some, is_ok, IfOk, OnOk, length};
 ghost use Rattle.std.specs.List.{Contains};
 ghost use Rattle.arch_base.specs.Moments.{last_moment};
 ghost use Rattle.arch_model.specs.Archives.{Archive, in_epoch, live};
 ghost use Rattle.arch_model.specs.Delivery.{applied};
-ghost use Rattle.arch_model.specs.Keeping.{CrashesLeaveOnly, MatchesKnown, KeeperMoves, OnlyRead, Reopens, CommandGives, StaysReady, AnswerCause, OpeningCause, ReadsFor, text_known};
+ghost use Rattle.arch_model.specs.Keeping.{CrashesLeaveOnly, MatchesKnown, KeeperMoves, OnlyRead, Reopens, CommandGives, CommandTaken, FindsStanding, StaysReady, AnswerCause, OpeningCause, ReadsFor, text_known};
 ghost use Rattle.arch_model.specs.Shelves.{AppendsTo, ShelfStays, ReadCause, ReadsOnce};
 ghost use Rattle.arch_model.specs.Standing.{LastKnown, GivesEpochIn, KeepsUnlessFound};
+ghost use Rattle.arch_model.specs.declared.answer.Answer.{Answer};
+ghost use Rattle.arch_model.specs.declared.command.Command.{Command};
 
 use crate::answer::Answer;
 use crate::command::Command;
@@ -35,21 +37,32 @@ pub trait Keep: Shelf {
     /// Each crash since the first state has left one of these archives. None stands for no archive.
     ghost leaves: { Self → Self → List (Option Archive) → Type 0 };
 
+    /// The keeper's files were read again, on the way from the first state to the second. They read as
+    /// those of this archive, and nothing was committed: the second state's files are the same, without
+    /// what doesn't count, and the archive is kept as they have it.
+    ghost finds: { Self → Self → Archive → Type 0 };
+
+    /// A ready keeper took a command, on the way from the first state to the second, at a moment and
+    /// with an answer: what it did to the keeper's files, and what became of what is kept beside them.
+    ghost takes: { Self → Self → Command → ℕ → Answer → Type 0 };
+
     /// Returns whether the keeper has to be reopened.
     fn is_stale(&self) -> bool
         ensures { Self.ready self.now ≡ not result };
 
     /// Reopens the archive if the keeper is stale, and otherwise does nothing.
     ///
-    /// Finds the archive before a command in doubt, or the one after it. A crash leaves no archive
-    /// that a crash before could not have left. `DiskFault` if the disk failed, and the count of
-    /// faults rose; any other result leaves the count. `NoMemory` if an allocation fails.
+    /// Finds the archive before a command in doubt, or the one after it: the one as which the files
+    /// read. A crash leaves no archive that a crash before could not have left. `DiskFault` if the disk
+    /// failed, and the count of faults rose; any other result leaves the count. `NoMemory` if an
+    /// allocation fails.
     fn fresh(&mut self) -> Result<(), OpenRefusal>
         ensures nothing { Self.ready self.old ≡ true
             → (is_ok result ≡ true) × (self.new ≡ self.old) }
         ensures found { (s : LastKnown) → MatchesKnown Self.Keep self.old s
             → (t : LastKnown) × KeeperMoves Self.Keep self.old s self.new t
-            × Reopens s result t }
+            × Reopens s result t
+            × FindsStanding Self.Keep self.old self.new result t }
         ensures crash { (s : LastKnown) → MatchesKnown Self.Keep self.old s
             → CrashesLeaveOnly leaves self.old self.new [] }
         ensures ready { Self.ready self.new ≡ is_ok result }
@@ -61,13 +74,14 @@ pub trait Keep: Shelf {
     ///
     /// Finds what `fresh` of a stale keeper finds: with no command in doubt, the archive that was
     /// held, so each answer is the one that would be given without it. No clause can tell then whether
-    /// the files were read: an engine that reads none of them, and counts what it holds, passes. After a
-    /// refusal the keeper is stale. `DiskFault` if the disk failed, and the count of faults rose; any
-    /// other result leaves the count. `NoMemory` if an allocation fails.
+    /// the files were read: an engine that reads none of them, and counts what it holds, passes, if it
+    /// settles its disk. After a refusal the keeper is stale. `DiskFault` if the disk failed, and the
+    /// count of faults rose; any other result leaves the count. `NoMemory` if an allocation fails.
     fn reindex(&mut self) -> Result<u32, OpenRefusal>
         ensures found { (s : LastKnown) → MatchesKnown Self.Keep self.old s
             → (t : LastKnown) × KeeperMoves Self.Keep self.old s self.new t
-            × Reopens s result t × IfOk result (λ count. count ≡ length (live t.archive.entries)) }
+            × Reopens s result t × IfOk result (λ count. count ≡ length (live t.archive.entries))
+            × OnOk result (Self.finds self.old self.new t.archive) }
         ensures crash { (s : LastKnown) → MatchesKnown Self.Keep self.old s
             → CrashesLeaveOnly leaves self.old self.new [] }
         ensures ready { Self.ready self.new ≡ is_ok result }
@@ -75,7 +89,7 @@ pub trait Keep: Shelf {
         ensures cause { OpeningCause (Self.faults self.old) (Self.faults self.new) result };
 
     /// Carries out a command at a moment, in seconds since 1970 UTC. A stale keeper is reopened
-    /// first.
+    /// first, and the command is one on the archive as which its files read.
     ///
     /// The answer is that of the definition, on the archive that is held or found, or `NoMemory` if
     /// an allocation fails, or `DiskFault` if the disk failed and the count of faults rose. Any other
@@ -88,7 +102,8 @@ pub trait Keep: Shelf {
         requires moment { moment ≤ last_moment }
         ensures done { (s : LastKnown) → MatchesKnown Self.Keep self.old s
             → (t : LastKnown) × KeeperMoves Self.Keep self.old s self.new t
-            × CommandGives (Self.ready self.old) s (λ (a : Archive). applied a command.now moment) result t }
+            × CommandGives (Self.ready self.old) s (λ (a : Archive). applied a command.now moment) result t
+            × CommandTaken Self.Keep self.old s command.now moment self.new result t }
         ensures ready { StaysReady (Self.ready self.old) result (Self.ready self.new) }
         ensures later { Self.faults self.old ≤ Self.faults self.new }
         ensures cause { AnswerCause (Self.faults self.old) (Self.faults self.new) result }

@@ -1,6 +1,7 @@
 pub mod Grammar
 pub mod LoadWords
 pub mod OneJob
+pub mod OfJob
 pub mod LoadLines
 pub mod Printed
 pub mod Leaving

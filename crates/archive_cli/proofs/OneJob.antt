@@ -1,5 +1,5 @@
 -- Words ask for at most one job: each has a first word of its own, and its numbers and settings are spelled.
-use Rattle.std.proofs.Common.{◌≡◌, ◌≤◌, ◌<◌, ◌+◌, ◌*◌, ℕ, List, [], ◌∷◌, map, get_or, Option, Some, None, codes, decimal, refl, sym, ap, subst, ◌∙◌, arith}
+use Rattle.std.proofs.Common.{◌≡◌, ◌+◌, ◌*◌, ℕ, List, [], ◌∷◌, map, get_or, Option, Some, None, codes, decimal, refl, sym, ap, subst, ◌∙◌, arith}
 use Rattle.std.proofs.lemmas.Fmt.{decimal_injective}
 use Rattle.arch_base.specs.declared.config.Config.{Config}
 use Rattle.archive_cli.specs.Words.{AreMakingWords, AreNumberWords, IsLoad, IsJob, AsksFor, config_of, setting_word, serve_word}

@@ -4,6 +4,7 @@ pub mod Turns
 pub mod Serving
 pub mod Program
 pub mod Printing
+pub mod Jobs
 pub mod Laws
 pub mod Statuses
 pub mod Outcomes

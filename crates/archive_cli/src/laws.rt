@@ -1,5 +1,6 @@
 //! The laws of scripts, for all events, and of runs, for all words, inputs and faults.
 //! Pure.
+ghost use Rattle.archive_cli.specs.Jobs.{RunsOfJob};
 ghost use Rattle.archive_cli.specs.Laws.{OneJob, PlainIsTranscript, RunsInARow};
 
 use arch_model::{law_of_commands, law_of_numbers, numbers_keep_their_texts};
@@ -17,6 +18,12 @@ pub fn plain_is_transcript()
 /// it promises of the words that ask for it.
 pub fn words_ask_for_one_job()
     ensures one { OneJob }
+{}
+
+/// Shows that a run of words ends in exactly the ways of the job that they ask for, or of words that
+/// ask for none: the clause `ends` of `run`, and what `Jobs.antt` says of that job alone, are the same.
+pub fn runs_are_those_of_their_job()
+    ensures both { RunsOfJob }
 {}
 
 /// Shows what a crash leaves after `init` and two jobs on one disk, each `deliver`, `remove`, `purge`,

@@ -48,6 +48,8 @@ pub fn run<D: Disk, H: Host, S: Source, O: Sink, C: Clock>(
     out: &mut O,
     clock: &mut C,
 ) -> (u8, D)
+    // A definition for each job has the same of that job alone, as `RanPurge 3` of `purge 3`:
+    // `runs_are_those_of_their_job`.
     ensures ends { RanTo (spelled words.now) result.0
         (edges_of S.Source O.Sink C.Clock D.Disk input.old out.old clock.old disk)
         (edges_of S.Source O.Sink C.Clock D.Disk input.new out.new clock.new result.1) }

@@ -14,7 +14,7 @@ use Rattle.disk_model.specs.Synced.{IsSettled}
 use Rattle.arch_model.specs.Archives.{Archive, live}
 use Rattle.view_set.specs.Viewed.{views_of}
 use Rattle.arch_model.specs.Delivery.{Done, applied}
-use Rattle.arch_model.specs.Keeping.{Has, CrashesLeaveOnly, MatchesKnown, KeeperMoves, Settles, ReopeningRefused, CommandGives, Ending, Accepts, Refuses, Starves, Fails, Breaks, ReadyBy, StaysReady, AnswerCause, OpeningWhy, ending, opening_answer, root_file}
+use Rattle.arch_model.specs.Keeping.{Has, CrashesLeaveOnly, MatchesKnown, KeeperMoves, Settles, ReopeningRefused, CommandGives, CommandFinds, Ending, Accepts, Refuses, Starves, Fails, Breaks, ReadyBy, StaysReady, AnswerCause, OpeningWhy, ending, opening_answer, root_file}
 use Rattle.arch_model.specs.Shelves.{ShelfStays, ReadCause, ReadsOnce}
 use Rattle.arch_model.specs.Standing.{LastKnown, standing, unsure, with_doubt, one_of, IsFound}
 use Rattle.arch_model.specs.declared.answer.Answer.{Answer}
@@ -25,17 +25,18 @@ use Rattle.arch_model.specs.declared.opening.OpenRefusal.{OpenRefusal}
 use Rattle.arch_model.specs.declared.opening.OpenRefusal.TheVariants as refusal
 use Rattle.arch_model.specs.declared.text_refusal.TextRefusal.{TextRefusal}
 use Rattle.arch_model.specs.declared.text_refusal.TextRefusal.TheVariants as reading
-use Rattle.arch_model.proofs.Keepers.{has-own, has-unsure-of, unsure-doubts, moves-stale, moves-on, comes-by, unopened-comes, unopened-ready, unopened-cause}
+use Rattle.arch_model.proofs.Keepers.{has-own, has-unsure-of, unsure-doubts, moves-stale, moves-on, comes-by, unopened-comes, unopened-finds, finds-first, unopened-ready, unopened-cause}
 use Rattle.store_finding.specs.Files.{as_read}
 use Rattle.epoch_store.specs.Laws.{CachesOne, RecoversSomeOne}
 use Rattle.epoch_store.specs.Leaving.{disk_recovers}
-use Rattle.epoch_store.specs.Opens.{RecoversOfWith, AllRecoverWith, ReadsWith, IsWant, SyncsAtMost}
+use Rattle.epoch_store.specs.Opens.{RecoversOfWith, AllRecoverWith, ReadsWith, IsOpenedIn, IsWant, SyncsAtMost}
+use Rattle.epoch_store.specs.Settling.{IsSettledBy}
 use Rattle.epoch_store.specs.Reads.{AnswersQuietly}
 use Rattle.store_finding.specs.Recovery.{RecoversWith, RecoversSomeWith}
 use Rattle.store_finding.specs.Kept.{StoreState, KeepsArchive, IsStoreWith}
 use Rattle.epoch_store.specs.Commands.{RecoversOneOf}
 use Rattle.archive_core.specs.Commands.{AnswersDelivery, AnswersEdit, AnswersPurge, AnswersRemoval, DoneBy, OnDone, OnRefusal, UnlessFault, IfUnread, IfUnreadEdit, IfUnreadFor, IfDelivery, IfRemoval, IsForCommand, IsGone, KeepsTextFor, OnlyLooks, cache_left, is_delivery}
-use Rattle.archive_core.specs.Engines.{Owning, needs_opening, RecoversOrBare, AllRecoverOrBare, BetweenSince, HoldsArchive, FilesAre, LeftWithCache, ViewsKeepUp, IfRefused, is_ready, Leaves, OnlyReadsOn, reading-same, store-left, holds-rest, now-left, unchanged-is, reading-kept, engine_of}
+use Rattle.archive_core.specs.Engines.{Owning, needs_opening, RecoversOrBare, AllRecoverOrBare, BetweenSince, HoldsArchive, FilesAre, FindsArchive, LeftWithCache, ViewsKeepUp, IfRefused, is_ready, Leaves, OnlyReadsOn, reading-same, store-left, holds-rest, now-left, unchanged-is, reading-kept, engine_of}
 use Rattle.archive_core.specs.Numbers.{GivesBlobKept, TellsOther}
 use Rattle.archive_core.specs.Openings.{LeavesKindly}
 use Rattle.archive_core.specs.Walks.{ViewsAfter}
@@ -268,9 +269,16 @@ module _ {D : Type 0} (g : Disk D)
   pub reopening-passes : RecoversSomeOne → (e new : Owning D) → Reopening e new.disk → (s : LastKnown) → Stands e s → CrashesLeaveOnly (Leaves g) e new []
   reopening-passes one e new run s fits = λ start may has left. let found = found_in e s fits in reopening-from one e new run found.0 found.1 found.3 start may left
 
-  -- A reopening found the archive or the one in doubt.
-  pub opened-at : RecoversSomeOne → (e new : Owning D) → Reopening e new.disk → ((a : Archive) (cache : List ℕ) → ReadsWith cache a (g.content e.disk) → IsStoreWith new.view cache a (g.content new.disk) × (new.views ≡ views_of (live a.entries))) → WhereTold IsSettled (g.content new.disk) → (s : LastKnown) → Stands e s → (t : LastKnown) × Going e s new t × Settles s t
-  opened-at one e new run opened still s fits =
+  -- What was opened is what the files had, and the disk is settled by the root that was found.
+  abbrev pub OpenedBy : Owning D → Owning D → Type 0
+  OpenedBy e new = WhereTold (λ (k : Content). IsOpenedIn (as_read k) new.view) (g.content e.disk) × BothTold (IsSettledBy new.view.root new.view.slot) (g.content e.disk) (g.content new.disk)
+
+  -- A reopening found the archive or the one in doubt: the one as which the files read.
+  abbrev pub Found : Owning D → LastKnown → Owning D → Type 0
+  Found e s new = (t : LastKnown) × Going e s new t × Settles s t × FindsArchive g e new t.archive
+
+  pub opened-at : RecoversSomeOne → (e new : Owning D) → Reopening e new.disk → ((a : Archive) (cache : List ℕ) → ReadsWith cache a (g.content e.disk) → IsStoreWith new.view cache a (g.content new.disk) × (new.views ≡ views_of (live a.entries))) → WhereTold IsSettled (g.content new.disk) → OpenedBy e new → (s : LastKnown) → Stands e s → Found e s new
+  opened-at one e new run opened still by s fits =
       let found = found_in e s fits in
       let both = opened found.0 found.1 found.3 in
       let store : HoldsArchive g.content new found.0 = (found.1, both.0, both.1, still) in (
@@ -280,25 +288,26 @@ module _ {D : Type 0} (g : Disk D)
           passes = λ start may has left. reopening-passes one e new run s fits start may tt left;
         },
         record { found = found.2; sure = refl },
+        record { cache = found.1; read = found.3; opened = by.0; kept = by.1; own = both.0 },
       )
 
   -- A reopening was refused, and all stands as before, but that after a fault of the disk the archive is
   -- in doubt.
   pub unopened-at : RecoversSomeOne → (e new : Owning D) (why : OpenRefusal) → Reopening e new.disk → ((a : Archive) (cache : List ℕ) → ReadsWith cache a (g.content e.disk) → IsWant why) → LeavesKindly why (g.content e.disk) (g.content new.disk) → is_ready new ≡ false → (s : LastKnown) → Stands e s
-      → (t : LastKnown) × Going e s new t × ReopeningRefused s why t
+      → (t : LastKnown) × Going e s new t × ReopeningRefused s why t × Unit {0}
   unopened-at one e new why run well kindly unready s fits = let found = found_in e s fits in of_why why (well found.0 found.1 found.3) kindly
     where
       stays : (t : LastKnown) → (t.in_doubt ≡ None → FilesAre g.content new t.archive) → ((may : List (Option Archive)) → Has may t → Has may s) → Going e s new t
       stays t rested within = moves-stale (engine_of g) (now-left g counts_now only_now) e s new t fits unready rested within (λ start may has left. reopening-passes one e new run s fits start may tt left)
 
-      of_why : (w : OpenRefusal) → IsWant w → LeavesKindly w (g.content e.disk) (g.content new.disk) → (t : LastKnown) × Going e s new t × ReopeningRefused s w t
+      of_why : (w : OpenRefusal) → IsWant w → LeavesKindly w (g.content e.disk) (g.content new.disk) → (t : LastKnown) × Going e s new t × ReopeningRefused s w t × Unit {0}
       of_why refusal.NoArchive want left = absurd want
       of_why (refusal.Damaged file at) want left = absurd want
-      of_why refusal.DiskFault want left = (unsure s, stays (unsure s) (λ none. absurd (unsure-doubts s none)) (λ may has. has-unsure-of may s has), refl)
-      of_why refusal.NoMemory want left = (s, stays s (λ none. kindly_rests s.archive (g.content e.disk) (g.content new.disk) (reads_fit e.disk) left (fits.exact none)) (λ may has. has), refl)
+      of_why refusal.DiskFault want left = (unsure s, stays (unsure s) (λ none. absurd (unsure-doubts s none)) (λ may has. has-unsure-of may s has), refl, tt)
+      of_why refusal.NoMemory want left = (s, stays s (λ none. kindly_rests s.archive (g.content e.disk) (g.content new.disk) (reads_fit e.disk) left (fits.exact none)) (λ may has. has), refl, tt)
 
   -- Nothing was reopened, since it was ready.
-  pub ready-at : (e : Owning D) (s : LastKnown) → is_ready e ≡ true → Stands e s → (t : LastKnown) × Going e s e t × Settles s t
+  pub ready-at : (e : Owning D) (s : LastKnown) → is_ready e ≡ true → Stands e s → (t : LastKnown) × Going e s e t × Settles s t × (is_ready e ≡ false → FindsArchive g e e t.archive)
   ready-at e s ready fits =
       let both = fits.settled ready in (
         standing s.archive None,
@@ -307,6 +316,7 @@ module _ {D : Type 0} (g : Disk D)
           passes = λ start may has left. left;
         },
         record { found = inl refl; sure = refl },
+        λ stale. absurd (false≢true (sym stale ∙ ready)),
       )
 
   -- A command on the archive that is held.
@@ -462,15 +472,25 @@ module _ {D : Type 0} (g : Disk D)
   )
 
   -- A command on what a reopening found.
-  pub commanded-after : (was_ready : Bool) (old mid new : Owning D) (s t : LastKnown) (wanted : Archive → Done) (reply : Answer) → Going old s mid t → Settles s t → is_ready mid ≡ true
-      → ((a : Archive) → HoldsArchive g.content mid a → (u : LastKnown) × Going mid (standing a None) new u × CommandGives true (standing a None) wanted reply u) → (u : LastKnown) × Going old s new u × CommandGives was_ready s wanted reply u
-  commanded-after was_ready old mid new s t wanted reply opened settles ready taken =
+  pub commanded-after : (old mid new : Owning D) (s t : LastKnown) (wanted : Archive → Done) (reply : Answer) → Going old s mid t → Settles s t → (is_ready old ≡ false → FindsArchive g old mid t.archive) → is_ready mid ≡ true
+      → ((a : Archive) → HoldsArchive g.content mid a → (u : LastKnown) × Going mid (standing a None) new u × CommandGives true (standing a None) wanted reply u) → (u : LastKnown) × Going old s new u × CommandGives (is_ready old) s wanted reply u × CommandFinds (engine_of g) old s wanted new reply u
+  commanded-after old mid new s t wanted reply opened settles finds ready taken =
       let both = opened.fits.settled ready in
       let same : t ≡ standing t.archive None = ap (λ (d : Option Archive). standing t.archive d) both.1 in
       let done = taken t.archive both.0 in (
         done.0,
         moves-on (engine_of g) old mid new s t done.0 opened settles (subst (λ (x : LastKnown). Going mid x new done.0) (sym same) done.1),
-        comes-by was_ready s t wanted reply done.0 (ending reply) settles done.2,
+        comes-by (is_ready old) s t wanted reply done.0 (ending reply) settles done.2,
+        λ stale. finds-first (engine_of g) old s wanted new reply done.0 (ending reply) refl (record {
+          middle = mid;
+          found = t.archive;
+          is_found = settles.found;
+          finds = finds stale;
+          holds = both.0;
+          opened = subst (λ (x : LastKnown). Going old s mid x) same opened;
+          taken = done.1;
+          gives = done.2;
+        }),
       )
 
   -- A call that only reads.
@@ -542,12 +562,15 @@ module _ {D : Type 0} (g : Disk D)
     pub answer-cause-from : (faults : D → ℕ) (disk : D) (reply : Answer) → RoseIf (reply ≡ answer.DiskFault) (faults inside.disk) (faults disk) → AnswerCause (faults old.disk) (faults disk) reply
     answer-cause-from faults disk reply rose = subst (λ (o : Owning D). AnswerCause (faults o.disk) (faults disk) reply) is (answer-cause (faults inside.disk) (faults disk) reply rose)
 
-    pub opened-from : RecoversSomeOne → (new : Owning D) → Reopening inside new.disk → ((a : Archive) (cache : List ℕ) → ReadsWith cache a (g.content inside.disk) → IsStoreWith new.view cache a (g.content new.disk) × (new.views ≡ views_of (live a.entries))) → WhereTold IsSettled (g.content new.disk) → (s : LastKnown) → Stands old s → (t : LastKnown) × Going old s new t × Settles s t
-    opened-from one new run opened still = subst (λ (o : Owning D). (s : LastKnown) → Stands o s → (t : LastKnown) × Going o s new t × Settles s t) is (opened-at one inside new run opened still)
+    pub opened-from : RecoversSomeOne → (new : Owning D) → Reopening inside new.disk → ((a : Archive) (cache : List ℕ) → ReadsWith cache a (g.content inside.disk) → IsStoreWith new.view cache a (g.content new.disk) × (new.views ≡ views_of (live a.entries))) → WhereTold IsSettled (g.content new.disk) → OpenedBy inside new → (s : LastKnown) → Stands old s
+        → (t : LastKnown) × Going old s new t × Settles s t × (is_ready old ≡ false → FindsArchive g old new t.archive)
+    opened-from one new run opened still by s fits =
+        let found = subst (λ (o : Owning D). (s : LastKnown) → Stands o s → Found o s new) is (opened-at one inside new run opened still by) s fits in
+        (found.0, found.1, found.2, λ stale. found.3)
 
     pub unopened-from : RecoversSomeOne → (new : Owning D) (why : OpenRefusal) → Reopening inside new.disk → ((a : Archive) (cache : List ℕ) → ReadsWith cache a (g.content inside.disk) → IsWant why) → LeavesKindly why (g.content inside.disk) (g.content new.disk) → is_ready new ≡ false → (s : LastKnown) → Stands old s
-        → (t : LastKnown) × Going old s new t × ReopeningRefused s why t
-    unopened-from one new why run well kindly unready = subst (λ (o : Owning D). (s : LastKnown) → Stands o s → (t : LastKnown) × Going o s new t × ReopeningRefused s why t) is (unopened-at one inside new why run well kindly unready)
+        → (t : LastKnown) × Going old s new t × ReopeningRefused s why t × Unit {0}
+    unopened-from one new why run well kindly unready = subst (λ (o : Owning D). (s : LastKnown) → Stands o s → (t : LastKnown) × Going o s new t × ReopeningRefused s why t × Unit {0}) is (unopened-at one inside new why run well kindly unready)
 
     pub passes-from : RecoversSomeOne → (new : Owning D) → Reopening inside new.disk → (s : LastKnown) → Stands old s → CrashesLeaveOnly (Leaves g) old new []
     passes-from one new run = subst (λ (o : Owning D). (s : LastKnown) → Stands o s → CrashesLeaveOnly (Leaves g) o new []) is (reopening-passes one inside new run)
@@ -569,16 +592,16 @@ module _ {D : Type 0} (g : Disk D)
     shelved-moves new s t moves = record { fits = moves.fits; passes = shelved-passes new (s ∷ t ∷ []) moves.passes }
 
     -- It was read again, and counted.
-    pub reread-from : (new : Owning D) (count : ℕ) → ((s : LastKnown) → Stands shelved s → (t : LastKnown) × Going shelved s new t × Settles s t) → is_ready new ≡ true → ((a : Archive) → HoldsArchive g.content new a → count ≡ length (live a.entries)) → (s : LastKnown) → Stands old s
-        → (t : LastKnown) × Going old s new t × Settles s t × (count ≡ length (live t.archive.entries))
+    pub reread-from : (new : Owning D) (count : ℕ) → ((s : LastKnown) → Stands shelved s → (t : LastKnown) × Going shelved s new t × Settles s t × (is_ready shelved ≡ false → FindsArchive g shelved new t.archive)) → is_ready new ≡ true → ((a : Archive) → HoldsArchive g.content new a → count ≡ length (live a.entries)) → (s : LastKnown) → Stands old s
+        → (t : LastKnown) × Going old s new t × Settles s t × (count ≡ length (live t.archive.entries)) × FindsArchive g old new t.archive
     reread-from new count found ready counted s fits =
         let got = found s (shelved-fits s fits) in
-        (got.0, shelved-moves new s got.0 got.1, got.2, counted got.0.archive (got.1.fits.settled ready).0)
+        (got.0, shelved-moves new s got.0 got.1, got.2, counted got.0.archive (got.1.fits.settled ready).0, subst (λ (o : Owning D). FindsArchive g o new got.0.archive) is (got.3 refl))
 
     -- Reading it again was refused.
-    pub unread-from : (new : Owning D) (why : OpenRefusal) → ((s : LastKnown) → Stands shelved s → (t : LastKnown) × Going shelved s new t × ReopeningRefused s why t) → (s : LastKnown) → Stands old s
-        → (t : LastKnown) × Going old s new t × ReopeningRefused s why t × Unit {0}
-    unread-from new why found s fits = let got = found s (shelved-fits s fits) in (got.0, shelved-moves new s got.0 got.1, got.2, tt)
+    pub unread-from : (new : Owning D) (why : OpenRefusal) → ((s : LastKnown) → Stands shelved s → (t : LastKnown) × Going shelved s new t × ReopeningRefused s why t × Unit {0}) → (s : LastKnown) → Stands old s
+        → (t : LastKnown) × Going old s new t × ReopeningRefused s why t × Unit {0} × Unit {0}
+    unread-from new why found s fits = let got = found s (shelved-fits s fits) in (got.0, shelved-moves new s got.0 got.1, got.2, tt, tt)
 
     -- What a crash leaves of it meanwhile.
     pub reread-passes : (new : Owning D) → ((s : LastKnown) → Stands shelved s → CrashesLeaveOnly (Leaves g) shelved new []) → (s : LastKnown) → Stands old s → CrashesLeaveOnly (Leaves g) old new []
@@ -614,6 +637,9 @@ pub refused-comes : (was : Bool) (s t : LastKnown) (wanted : Archive → Done) (
 refused-comes was s t wanted why reply is stale shut =
     let from : CommandGives was s wanted (opening_answer why) t = subst (λ (b : Bool). CommandGives b s wanted (opening_answer why) t) (sym (never_ready was stale)) (unopened-comes s t wanted why shut) in
     subst (λ (r : Answer). CommandGives was s wanted r t) (sym is) from
+
+pub refused-finds : {D : Type 0} (g : Disk D) (old new : Owning D) (s t : LastKnown) (wanted : Archive → Done) (why : OpenRefusal) (reply : Answer) → reply ≡ opening_answer why → ReopeningRefused s why t → CommandFinds (engine_of g) old s wanted new reply t
+refused-finds g old new s t wanted why reply is shut stale = subst (λ (r : Answer). CommandFinds (engine_of g) old s wanted new r t) (sym is) (λ now. unopened-finds (engine_of g) old new s t wanted why shut) stale
 
 pub refused-ready : (was now : Bool) (why : OpenRefusal) (reply : Answer) → reply ≡ opening_answer why → (was ≡ true → false ≡ true) → now ≡ false → StaysReady was reply now
 refused-ready was now why reply is stale unready =

@@ -13,7 +13,9 @@ use Rattle.arch_model.specs.Archives.{Archive, live}
 use Rattle.arch_model.specs.Keeping.{OnlyRead, Keeper}
 use Rattle.arch_model.specs.declared.answer.Answer.{Answer}
 use Rattle.arch_model.specs.declared.answer.Answer.TheVariants as answer
-use Rattle.epoch_store.specs.Opens.{RecoversOfWith}
+use Rattle.epoch_store.specs.Opens.{RecoversOfWith, ReadsWith, IsOpenedIn}
+use Rattle.epoch_store.specs.Settling.{IsSettledBy}
+use Rattle.store_finding.specs.Files.{as_read}
 use Rattle.store_finding.specs.Kept.{StoreState, IsStoreWith}
 use Rattle.epoch_store.specs.Commands.{StoreHasSizes}
 use Rattle.epoch_store.specs.Leaving.{disk_recovers}
@@ -126,6 +128,21 @@ pub record OnlyReadsOn {D : Type 0} (g : Disk D) (old new : Owning D) : Type 0 w
   pub files : BothTold Unchanged (g.content old.disk) (g.content new.disk)
   pub run : LeavesOnly g old.disk new.disk (Image (g.content old.disk))
 
+-- The files of a disk were read, on the way from its first state to the second. At the first they read
+-- as those of this archive, with whatever cache. What is kept is what they had, by the current root in its
+-- slot; and the disk is settled by that root: no root was committed, all bytes that count are as they
+-- were, and no other file is left. The second disk is the archive's own.
+pub record FindsOn {D : Type 0} (g : Disk D) (old new : D) (v : StoreState) (a : Archive) : Type 0 where
+  pub cache : List ℕ
+  pub read : ReadsWith cache a (g.content old)
+  pub opened : WhereTold (λ (k : Content). IsOpenedIn (as_read k) v) (g.content old)
+  pub kept : BothTold (IsSettledBy v.root v.slot) (g.content old) (g.content new)
+  pub own : IsStoreWith v cache a (g.content new)
+
+-- The same of the disk of an engine that was reopened.
+abbrev pub FindsArchive : {D : Type 0} → Disk D → Owning D → Owning D → Archive → Type 0
+FindsArchive g old new a = FindsOn g old.disk new.disk new.view a
+
 -- A disk and its archive, as a keeper.
 abbrev pub engine_of : {D : Type 0} → Disk D → Keeper (Owning D)
 engine_of g = record {
@@ -136,6 +153,7 @@ engine_of g = record {
   alike = OnlyReadsOn g;
   files_are = FilesAre g.content;
   leaves = Leaves g;
+  finds = FindsArchive g;
 }
 
 -- Laws of such a keeper.

@@ -6,7 +6,7 @@ ghost use Rattle.arch_base.specs.Moments.{last_moment};
 ghost use Rattle.disk_model.specs.Moments.{LeavesOnly};
 ghost use Rattle.arch_model.specs.Archives.{Archive, live, text_of};
 ghost use Rattle.arch_model.specs.Delivery.{applied};
-ghost use Rattle.arch_model.specs.Keeping.{MatchesKnown, KeeperMoves, CommandGives, StaysReady, AnswerCause, ReadsFor, text_known};
+ghost use Rattle.arch_model.specs.Keeping.{MatchesKnown, KeeperMoves, CommandGives, CommandFinds, StaysReady, AnswerCause, ReadsFor, text_known};
 ghost use Rattle.arch_model.specs.Shelves.{GivesBlobIn, AppendsTo, ShelfStays, ReadCause, ReadsOnce};
 ghost use Rattle.arch_model.specs.Standing.{LastKnown, standing, GivesTextIn, KeepsUnlessFound};
 ghost use Rattle.epoch_store.specs.Opens.{ReadsWith};
@@ -15,7 +15,7 @@ ghost use Rattle.store_finding.specs.Kept.{IsStoreWith};
 ghost use Rattle.epoch_store.specs.Commands.{RecoversOneOf};
 ghost use Rattle.archive_core.specs.Commands.{DoneBy, OnDone, IfUnreadFor, IfRemoval, cache_left, IsForCommand, is_delivery};
 ghost use Rattle.archive_core.specs.DamageTold.{TellsDamage};
-ghost use Rattle.archive_core.specs.Engines.{HoldsArchive, FilesAre, IfRefused, Leaves, OnlyReadsOn, is_ready, needs_opening as needs_opening_after, reading-same, reading-joined, store-left, holds-rest, now-left, reading-kept, engine_of};
+ghost use Rattle.archive_core.specs.Engines.{HoldsArchive, FilesAre, FindsArchive, IfRefused, Leaves, OnlyReadsOn, is_ready, needs_opening as needs_opening_after, reading-same, reading-joined, store-left, holds-rest, now-left, reading-kept, engine_of};
 ghost use Rattle.archive_core.specs.HandedBack.{disk_made, made_or_why, disk_opened, opened_or_why};
 ghost use Rattle.archive_core.specs.Numbers.{GivesTextKept, GivesBlobKept, NamesId};
 ghost use Rattle.archive_core.specs.Openings.{RefusesKindly};
@@ -337,6 +337,8 @@ impl<D: Disk> Keep for Engine<D> {
 
     ghost leaves = { Leaves D.Disk };
 
+    ghost finds = { FindsArchive D.Disk };
+
     fn is_stale(&self) -> bool {
         self.stale
     }
@@ -377,7 +379,9 @@ impl<D: Disk> Keep for Engine<D> {
         ensures done { (s : LastKnown)
             → MatchesKnown (engine_of D.Disk) self.old s
             → (t : LastKnown) × KeeperMoves (engine_of D.Disk) self.old s self.new t
-            × CommandGives (is_ready self.old) s (λ (a : Archive). applied a command.now moment) result t }
+            × CommandGives (is_ready self.old) s (λ (a : Archive). applied a command.now moment) result t
+            × CommandFinds (engine_of D.Disk) self.old s (λ (a : Archive). applied a command.now moment)
+            self.new result t }
         ensures ready { StaysReady (is_ready self.old) result (is_ready self.new) }
         ensures later { D.faults self.old.disk ≤ D.faults self.new.disk }
         ensures cause { AnswerCause (D.faults self.old.disk) (D.faults self.new.disk) result }

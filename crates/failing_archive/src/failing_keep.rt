@@ -3,7 +3,7 @@ ghost use Rattle.std.specs.Prelude.{◌≡◌, ◌≤◌, true, false, not, refl
 ghost use Rattle.arch_base.specs.Counts.{Rose};
 ghost use Rattle.arch_model.specs.Keeping.{StaysReady, AnswerCause};
 ghost use Rattle.arch_model.specs.Shelves.{ReadingWhy};
-ghost use Rattle.arch_model.specs.Untold.{HoldsNone, LeavesUntold, untold-read};
+ghost use Rattle.arch_model.specs.Untold.{FindsUntold, HoldsNone, LeavesUntold, TakesUntold, untold-read};
 ghost use Rattle.arch_base.specs.Moments.{last_moment};
 
 use arch_base::{Bytes, Config, Id20, MessageNumbers, NoMemory, ObjectId};
@@ -246,6 +246,10 @@ impl Keep for FailingKeep {
     ghost files_are = { HoldsNone };
 
     ghost leaves = { LeavesUntold };
+
+    ghost finds = { FindsUntold };
+
+    ghost takes = { TakesUntold };
 
     fn is_stale(&self) -> bool {
         self.stale

@@ -3,9 +3,10 @@ use Rattle.std.proofs.Common.{◌≡◌, ℕ, Bool, true, List, ◌++◌, length
 use Rattle.std.specs.List.{Contains}
 use Rattle.mem_archive.specs.Crashes.{in_memory}
 use Rattle.arch_model.specs.Archives.{Archive, live, text_of}
-use Rattle.arch_model.specs.Delivery.{Done, Delivers}
+use Rattle.arch_model.specs.Delivery.{Done, Delivers, applied}
 use Rattle.arch_model.specs.Standing.{LastKnown, standing, GivesTextIn}
-use Rattle.arch_model.specs.Keeping.{MatchesKnown, KeeperMoves, Settles, CommandGives, StaysReady, AnswerCause}
+use Rattle.arch_model.specs.Keeping.{MatchesKnown, KeeperMoves, Settles, CommandGives, CommandTaken, FindsStanding, StaysReady, AnswerCause}
+use Rattle.arch_model.specs.declared.command.Command.{Command}
 use Rattle.arch_model.specs.declared.answer.Answer.{Answer}
 use Rattle.arch_model.specs.declared.answer.Answer.TheVariants as answer
 
@@ -16,49 +17,53 @@ moves-itself : (m n : Archive) (s : LastKnown) (a : Archive) → n ≡ a → Kee
 moves-itself m n s a same = record { fits = fits-itself a n same; passes = λ start may has left. subst (λ (x : Archive). Contains may (Some x)) (sym same) has.1.0.archive }
 
 -- Reopening does nothing.
-pub fresh-done : (m : Archive) (s : LastKnown) → MatchesKnown in_memory m s → (t : LastKnown) × KeeperMoves in_memory m s m t × Settles s t
-fresh-done m s fits = (standing m None, moves-itself m m s m refl, record { found = inl (sym (fits.settled refl).0); sure = refl })
+pub fresh-done : (m : Archive) (s : LastKnown) → MatchesKnown in_memory m s → (t : LastKnown) × KeeperMoves in_memory m s m t × Settles s t × FindsStanding in_memory m m (Ok tt) t
+fresh-done m s fits = (standing m None, moves-itself m m s m refl, record { found = inl (sym (fits.settled refl).0); sure = refl }, λ stale. (refl, refl))
 
 -- Rebuilding counts the live messages.
-pub reindex-done : (m : Archive) (s : LastKnown) → MatchesKnown in_memory m s → (count : ℕ) → count ≡ length (live m.entries) → (t : LastKnown) × KeeperMoves in_memory m s m t × Settles s t × (count ≡ length (live t.archive.entries))
-reindex-done m s fits count is = (standing m None, moves-itself m m s m refl, record { found = inl (sym (fits.settled refl).0); sure = refl }, is)
+pub reindex-done : (m : Archive) (s : LastKnown) → MatchesKnown in_memory m s → (count : ℕ) → count ≡ length (live m.entries) → (t : LastKnown) × KeeperMoves in_memory m s m t × Settles s t × (count ≡ length (live t.archive.entries)) × ((t.archive ≡ m) × (m ≡ m))
+reindex-done m s fits count is = (standing m None, moves-itself m m s m refl, record { found = inl (sym (fits.settled refl).0); sure = refl }, is, (refl, refl))
 
 -- The answer to a command is that of its keeper.
 module _ (m n : Archive) (wanted : Archive → Done) (s : LastKnown) (fits : MatchesKnown in_memory m s) where
   obeyed : (reply : Answer) → wanted m ≡ record { archive = n; answer = reply } → KeeperMoves in_memory m s n (standing n None) × ((wanted m).answer ≡ reply) × (standing n None ≡ standing (wanted m).archive None)
   obeyed reply is = (moves-itself m n s n refl, ap (λ (d : Done). d.answer) is, ap (λ (d : Done). standing d.archive None) (sym is))
 
-  pub command-done : (reply : Answer) → Delivers m reply n (wanted m) → (t : LastKnown) × KeeperMoves in_memory m s n t × CommandGives true s wanted reply t
-  command-done answer.NoMemory same = (standing m None, moves-itself m n s m same, inr (record { found = inl (sym (fits.settled refl).0); sure = refl }))
-  command-done (answer.Ok number id) is =
+  command-given : (reply : Answer) → Delivers m reply n (wanted m) → (t : LastKnown) × KeeperMoves in_memory m s n t × CommandGives true s wanted reply t
+  command-given answer.NoMemory same = (standing m None, moves-itself m n s m same, inr (record { found = inl (sym (fits.settled refl).0); sure = refl }))
+  command-given (answer.Ok number id) is =
       let done = obeyed (answer.Ok number id) is in
       (standing n None, done.0, record { found = m; is_found = inl (sym (fits.settled refl).0); answer_is = done.1; stands = done.2 })
-  command-done (answer.Duplicate number) is =
+  command-given (answer.Duplicate number) is =
       let done = obeyed (answer.Duplicate number) is in
       (standing n None, done.0, record { found = m; is_found = inl (sym (fits.settled refl).0); answer_is = done.1; stands = done.2 })
-  command-done answer.NoFields is =
+  command-given answer.NoFields is =
       let done = obeyed answer.NoFields is in
       (standing n None, done.0, record { found = m; is_found = inl (sym (fits.settled refl).0); answer_is = done.1; stands = done.2 })
-  command-done (answer.TooLarge len) is =
+  command-given (answer.TooLarge len) is =
       let done = obeyed (answer.TooLarge len) is in
       (standing n None, done.0, record { found = m; is_found = inl (sym (fits.settled refl).0); answer_is = done.1; stands = done.2 })
-  command-done (answer.Full max) is =
+  command-given (answer.Full max) is =
       let done = obeyed (answer.Full max) is in
       (standing n None, done.0, record { found = m; is_found = inl (sym (fits.settled refl).0); answer_is = done.1; stands = done.2 })
-  command-done (answer.Collision number) is =
+  command-given (answer.Collision number) is =
       let done = obeyed (answer.Collision number) is in
       (standing n None, done.0, record { found = m; is_found = inl (sym (fits.settled refl).0); answer_is = done.1; stands = done.2 })
-  command-done (answer.NotLive number) is =
+  command-given (answer.NotLive number) is =
       let done = obeyed (answer.NotLive number) is in
       (standing n None, done.0, record { found = m; is_found = inl (sym (fits.settled refl).0); answer_is = done.1; stands = done.2 })
-  command-done (answer.NoText number) is =
+  command-given (answer.NoText number) is =
       let done = obeyed (answer.NoText number) is in
       (standing n None, done.0, record { found = m; is_found = inl (sym (fits.settled refl).0); answer_is = done.1; stands = done.2 })
-  command-done answer.IsMirror is =
+  command-given answer.IsMirror is =
       let done = obeyed answer.IsMirror is in
       (standing n None, done.0, record { found = m; is_found = inl (sym (fits.settled refl).0); answer_is = done.1; stands = done.2 })
-  command-done answer.DiskFault never = absurd never
-  command-done (answer.Damaged file at) never = absurd never
+  command-given answer.DiskFault never = absurd never
+  command-given (answer.Damaged file at) never = absurd never
+
+-- It is never stale, and takes a command at once.
+pub command-done : (m n : Archive) (command : Command) (moment : ℕ) (s : LastKnown) → MatchesKnown in_memory m s → (reply : Answer) → Delivers m reply n (applied m command moment) → (t : LastKnown) × KeeperMoves in_memory m s n t × CommandGives true s (λ (a : Archive). applied a command moment) reply t × CommandTaken in_memory m s command moment n reply t
+command-done m n command moment s fits reply done = let given = command-given m n (λ (a : Archive). applied a command moment) s fits reply done in (given.0, given.1, given.2, done)
 
 -- It stays ready.
 pub stays-ready : (m n : Archive) (d : Done) (reply : Answer) → Delivers m reply n d → StaysReady true reply true

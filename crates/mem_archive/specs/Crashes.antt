@@ -3,6 +3,7 @@ use Rattle.std.specs.Prelude.{◌≡◌, true, List, Option, Some, refl}
 use Rattle.std.specs.List.{Contains}
 use Rattle.std.proofs.Common.{◌∙◌, sym, subst}
 use Rattle.arch_model.specs.Archives.{Archive}
+use Rattle.arch_model.specs.Delivery.{Delivers, applied}
 use Rattle.arch_model.specs.Keeping.{Keeper, OnlyRead}
 
 -- The archive in memory, as a keeper: it holds itself, is always ready, reads no disk, and a crash
@@ -16,6 +17,8 @@ in_memory = record {
   alike = λ m n. n ≡ m;
   files_are = λ m a. a ≡ m;
   leaves = λ start m may. Contains may (Some m);
+  finds = λ m n a. (a ≡ m) × (n ≡ m);
+  takes = λ m n command moment reply. Delivers m reply n (applied m command moment);
 }
 
 -- The archive that is held is left.

@@ -4,6 +4,7 @@
 //! It has no disk that fails, and a crash leaves it whole.
 ghost use Rattle.std.specs.Prelude.{◌≡◌, true, Some, refl};
 ghost use Rattle.std.specs.List.{Contains};
+ghost use Rattle.arch_model.specs.Delivery.{Delivers, applied};
 ghost use Rattle.mem_archive.specs.Crashes.{held-left, same-read};
 
 use crate::memory::MemArchive;
@@ -105,6 +106,10 @@ impl Keep for MemArchive {
     ghost files_are = { λ m a. a ≡ m };
 
     ghost leaves = { λ start m may. Contains may (Some m) };
+
+    ghost finds = { λ m n a. (a ≡ m) × (n ≡ m) };
+
+    ghost takes = { λ m n command moment reply. Delivers m reply n (applied m command moment) };
 
     fn is_stale(&self) -> bool {
         false

@@ -10,7 +10,7 @@ use Rattle.epoch_store.specs.Commands.{RecoversOneOf}
 use Rattle.archive_core.specs.Commands.{DoneBy, IfRemoval, IfUnreadFor, OnDone, cache_left, is_delivery}
 use Rattle.archive_core.specs.DamageTold.{TellsDamage}
 use Rattle.archive_core.specs.Engines.{Owning, HoldsArchive, IfRefused, OnlyReadsOn, is_ready}
-use Rattle.archive_core.proofs.Engines.{not_true, commanded-after, refused-comes, refused-for, refused-ready, refused-cause, ready-after}
+use Rattle.archive_core.proofs.Engines.{not_true, commanded-after, refused-comes, refused-finds, refused-for, refused-ready, refused-cause, ready-after}
 use Rattle.archive_core.proofs.engine.EngineKeep.command.Goals as goal
 
 pub take-requires-clause-ready : goal.take-requires-clause-ready
@@ -19,8 +19,8 @@ take-requires-clause-ready g c = not_true c.fresh.new.self.stale c.in-Ok.ensures
 pub returns-in-Ok-clause-done : goal.returns-in-Ok-clause-done
 returns-in-Ok-clause-done g c = λ s fits.
     let found = c.in-Ok.ensures.found s fits in
-    commanded-after g.D.Disk g.met.D.Disk.counts_now g.met.D.Disk.only_now g.met.D.Disk.reads_fit (is_ready c.args.self.now) c.args.self.now c.fresh.new.self c.take.new.self s found.0
-    (λ (a : Archive). applied a c.args.command.now c.args.moment) c.take.result found.1 found.2 c.in-Ok.ensures.ready c.take.ensures.stands
+    commanded-after g.D.Disk g.met.D.Disk.counts_now g.met.D.Disk.only_now g.met.D.Disk.reads_fit c.args.self.now c.fresh.new.self c.take.new.self s found.0
+    (λ (a : Archive). applied a c.args.command.now c.args.moment) c.take.result found.1 found.2 found.3 c.in-Ok.ensures.ready c.take.ensures.stands
 
 pub returns-in-Ok-clause-ready : goal.returns-in-Ok-clause-ready
 returns-in-Ok-clause-ready g c = ready-after (is_ready c.args.self.now) (is_ready c.take.new.self) (ending c.take.result) c.take.ensures.ready
@@ -42,7 +42,8 @@ returns-in-Ok-clause-unread g c = λ a store ready unknown.
 pub returns-in-Err-clause-done : goal.returns-in-Err-clause-done
 returns-in-Err-clause-done g c = λ s fits.
     let found = c.in-Err.ensures.found s fits in
-    (found.0, found.1, refused-comes (is_ready c.args.self.now) s found.0 (λ (a : Archive). applied a c.args.command.now c.args.moment) c.in-Err.refusal c.answer.result c.answer.ensures (λ ready. (c.in-Err.ensures.nothing ready).0) found.2)
+    (found.0, found.1, refused-comes (is_ready c.args.self.now) s found.0 (λ (a : Archive). applied a c.args.command.now c.args.moment) c.in-Err.refusal c.answer.result c.answer.ensures (λ ready. (c.in-Err.ensures.nothing ready).0) found.2,
+    refused-finds g.D.Disk c.args.self.now c.fresh.new.self s found.0 (λ (a : Archive). applied a c.args.command.now c.args.moment) c.in-Err.refusal c.answer.result c.answer.ensures found.2)
 
 pub returns-in-Err-clause-ready : goal.returns-in-Err-clause-ready
 returns-in-Err-clause-ready g c = refused-ready (is_ready c.args.self.now) (is_ready c.fresh.new.self) c.in-Err.refusal c.answer.result c.answer.ensures (λ ready. (c.in-Err.ensures.nothing ready).0) c.in-Err.ensures.ready

@@ -23,6 +23,7 @@ pub returns-in-Ok-clause-found : goal.returns-in-Ok-clause-found
 returns-in-Ok-clause-found g c = opened-from g.D.Disk g.met.D.Disk.counts_now g.met.D.Disk.only_now g.met.D.Disk.reads_fit
     (record { disk = c.self.inside.disk; view = c.self.inside.archive; views = c.self.inside.views; stale = c.self.inside.stale }) c.args.self.now c.self.view_is c.law_of_recovery.ensures.some_one
     (record { disk = c.open.new.disk; view = c.in-Ok.field-0.archive; views = c.in-Ok.field-0.views; stale = false }) (c.open.ensures.opened.before, c.open.ensures.opened.crash_between) (λ a cache reads. (c.in-Ok.ensures.opened.done a cache reads, c.in-Ok.ensures.rows a cache reads)) c.in-Ok.ensures.opened.settled
+    (c.in-Ok.ensures.opened.answer, c.in-Ok.ensures.opened.kept)
 
 pub returns-in-Ok-clause-crash : goal.returns-in-Ok-clause-crash
 returns-in-Ok-clause-crash g c = passes-from g.D.Disk g.met.D.Disk.counts_now g.met.D.Disk.only_now g.met.D.Disk.reads_fit
