@@ -1,4 +1,4 @@
--- How many texts one act of a door of lines reads at most.
+-- Private: how many texts one act of a door of lines reads at most.
 use Rattle.std.specs.Prelude.{◌≡◌, ℕ, List, ◌++◌, drop}
 use Rattle.arch_model.specs.Shelves.{ReadsUpTo, ReadsAhead}
 use Rattle.line_door.specs.Costs.{lines_cost}
