@@ -124,13 +124,7 @@ fn open_greeting<H: Host>(
 
 /// Opens a session in the place of the one that a connection has, and greets. If the greeting is lost,
 /// the connection is closed and has no session.
-fn greet<H: Host>(
-    greeter: Greeter,
-    alloc: Global,
-    conn: u32,
-    sessions: &mut Sessions,
-    host: &mut H,
-)
+fn greet<H: Host>(greeter: Greeter, alloc: Global, conn: u32, sessions: &mut Sessions, host: &mut H)
     ensures made { (disk moment : ℕ) (p : OpenSessions) → GotSession conn p (places_of sessions.old.entries)
         → p.count < session_limit → MakesSession moment (door_of greeter) conn p
         (at_host H.Host host.old disk)

@@ -54,7 +54,9 @@ fn is_gone(alloc: Global) -> Option<bool> {
     connection.hear(b"USER list.1\nPASS x\n");
     let removed = connection.remove(3);
     let before = connection.said();
-    connection.hear(b"RETR 1\nTOP 1 0\nTOP 1 x\nDELE 1\nSTAT\nLIST\nUIDL\nLIST 1\nUIDL 1\nRETR 2\n");
+    connection.hear(
+        b"RETR 1\nTOP 1 0\nTOP 1 x\nDELE 1\nSTAT\nLIST\nUIDL\nLIST 1\nUIDL 1\nRETR 2\n",
+    );
     let said = connection.has_said(
         before,
         &[

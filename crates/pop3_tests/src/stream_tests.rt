@@ -12,7 +12,11 @@ type Stream = (&'static [u8], &'static [&'static [u8]], Next);
 static STREAMS: [Stream; 12] = [
     (b"", &[], Next::Go),
     (b"NOOP", &[], Next::Go),
-    (b"\n\r\n\r\r\n", &[b"-ERR syntax", b"-ERR syntax", b"-ERR syntax"], Next::Go),
+    (
+        b"\n\r\n\r\r\n",
+        &[b"-ERR syntax", b"-ERR syntax", b"-ERR syntax"],
+        Next::Go,
+    ),
     (b"QUIT\r\n", &[b"+OK bye"], Next::Close),
     (b"QUIT\nUSER list.0\n", &[b"+OK bye"], Next::Close),
     (

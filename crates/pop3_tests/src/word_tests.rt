@@ -75,7 +75,13 @@ fn a_damaged_file_is_named(rt: HostRuntime) {
     assert!(rt; unopened_is(rt.alloc(), root, b"-ERR damaged root 2560"));
     assert!(rt; unopened_is(rt.alloc(), map, b"-ERR damaged map 0"));
     assert!(rt; unopened_is(rt.alloc(), epoch, b"-ERR damaged epoch 63 8"));
-    assert!(rt; unopened_is(rt.alloc(), cache, b"-ERR damaged cache 18446744073709551615"));
+    assert!(rt;
+        unopened_is(
+            rt.alloc(),
+            cache,
+            b"-ERR damaged cache 18446744073709551615"
+        )
+    );
 }
 
 /// Returns whether the lines for a full server and for want of memory are the door's.

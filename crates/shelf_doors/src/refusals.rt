@@ -19,7 +19,10 @@ pub fn say_memory<'a, O: Sink>(code: &'a [u8], out: &mut O) -> Result<(), SinkFa
     ensures said { SaysTo O.Sink (memory_line code.now) out.old out.new result }
     ensures sink { O.alike out.old out.new }
 {
-    send(&[Phrase::Words(code), Phrase::Words(b"out of memory\r\n")], out)
+    send(
+        &[Phrase::Words(code), Phrase::Words(b"out of memory\r\n")],
+        out,
+    )
 }
 
 /// Writes that the disk failed.
@@ -27,7 +30,10 @@ fn say_disk_fault<'a, O: Sink>(code: &'a [u8], out: &mut O) -> Result<(), SinkFa
     ensures said { SaysTo O.Sink (disk_line code.now) out.old out.new result }
     ensures sink { O.alike out.old out.new }
 {
-    send(&[Phrase::Words(code), Phrase::Words(b"disk fault\r\n")], out)
+    send(
+        &[Phrase::Words(code), Phrase::Words(b"disk fault\r\n")],
+        out,
+    )
 }
 
 /// Writes why a text was not read. If it is damaged, its id is said, and the id of what was found.
@@ -99,7 +105,10 @@ fn say_no_archive<'a, O: Sink>(code: &'a [u8], out: &mut O) -> Result<(), SinkFa
         result }
     ensures sink { O.alike out.old out.new }
 {
-    send(&[Phrase::Words(code), Phrase::Words(b"damaged root 0\r\n")], out)
+    send(
+        &[Phrase::Words(code), Phrase::Words(b"damaged root 0\r\n")],
+        out,
+    )
 }
 
 /// Writes that a file of the archive is damaged, and at which offset.
