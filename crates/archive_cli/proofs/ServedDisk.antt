@@ -13,7 +13,7 @@ use Rattle.edge_io.specs.Frames.{Outputs}
 use Rattle.edge_io.specs.Scripts.{Arrival}
 use Rattle.arch_model.specs.Archives.{Archive, live}
 use Rattle.arch_model.specs.Following.{FollowsItself}
-use Rattle.arch_model.specs.Keeping.{HasDoubt, HasAll, CrashesLeaveOnly, MatchesKnown, Keeper}
+use Rattle.arch_model.specs.Keeping.{HasDoubt, Has, HasAll, CrashesLeaveOnly, MatchesKnown, Keeper}
 use Rattle.arch_model.specs.Laws.{CommandFollows}
 use Rattle.view_set.specs.Viewed.{views_of}
 use Rattle.arch_model.specs.Standing.{LastKnown, standing, one_of}
@@ -27,17 +27,18 @@ use Rattle.epoch_store.specs.Opens.{ReadsWith, RecoversOfWith, AllRecoverWith, I
 use Rattle.store_finding.specs.Recovery.{RecoversWith}
 use Rattle.epoch_store.specs.Laws.{CachesOne, RecoversSomeOne}
 use Rattle.store_finding.specs.Kept.{StoreState, IsStoreWith}
-use Rattle.keep_course.specs.Courses.{archives_of}
-use Rattle.keep_course.proofs.Courses.{all-own}
+use Rattle.line_door.specs.Course.{SessionState, talk}
+use Rattle.keep_course.specs.Courses.{afters, archives_of}
+use Rattle.keep_course.proofs.Courses.{all-own, kept-left}
 use Rattle.edge_io.specs.declared.events.What.{What}
 use Rattle.edge_io.specs.declared.events.What.TheVariants as what
-use Rattle.node_serve.specs.Nodes.{Serving, Stage, stage, serving, StepsTo, RunsTo, Along, AreAt, TurnsStill, CameAnyway, AnywayBy, GoesAnyway, outputs_at, outputs_along, outputs_noted, places_in, world_of}
+use Rattle.node_serve.specs.Doors.{SessionAtWork, Came, said, is_asked, reopens}
+use Rattle.node_serve.specs.Nodes.{Serving, Stage, stage, CameKept, TurnKeptBy, TurnKept, ActsAlong, StepsTo, RunsTo, places_in, world_of}
 use Rattle.node_serve.specs.declared.session.Session.{Session}
-use Rattle.node_serve.specs.Plain.{last_world}
 use Rattle.node_serve.specs.Turns.{Turn, Served, passed_in}
-use Rattle.node_serve.specs.World.{HostState, NodeState}
+use Rattle.node_serve.specs.World.{HostState, NodeState, outside_at}
 use Rattle.node_serve.proofs.Running.{turned-has}
-use Rattle.archive_cli.specs.Serving.{ServeRun, Shut, Ended, HostGiven, ServesDisk, ServedOn, StoodFor}
+use Rattle.archive_cli.specs.Serving.{ServeRun, Shut, Ended, HostGiven, ServesDisk, StoodFor, StoodAlong, EnginesAlong, ActedAlong, ServedOn}
 use Rattle.archive_cli.proofs.ServedNumbers.{served-follows}
 
 -- Files that stand for one of some archives stand for one of more.
@@ -70,55 +71,10 @@ pub shut-faults : {D : Type 0} (g : Disk D) (turns : ℕ) (run : ServeRun) (old 
 shut-faults g turns (Shut why) old new i j recorded recorded' shut is = shut.cause.failed (why-is why opening.DiskFault is)
 shut-faults g turns (Ended how) old new i j recorded recorded' served is = absurd (cc is)
 
--- The disk of an engine, at each stage.
-abbrev pub disk-stage : {D : Type 0} → Stage (Owning D) → Stage D
-disk-stage p = stage (serving p.node.keep.disk p.node.sessions) p.out
-
-abbrev pub disk-stages : {D : Type 0} → List (Stage (Owning D)) → List (Stage D)
-disk-stages [] = []
-disk-stages (m ∷ ms) = disk-stage m ∷ disk-stages ms
-
-at-disk : {D : Type 0} (ms : List (Stage (Owning D))) (ts : List Turn) → AreAt ms ts → AreAt (disk-stages ms) ts
-at-disk [] [] at = tt
-at-disk [] (t ∷ ts) never = absurd never
-at-disk (m ∷ ms) [] never = absurd never
-at-disk (m ∷ ms) (t ∷ ts) at = (at.0, at-disk ms ts at.1)
-
-along-disk : {D : Type 0} (p : Stage (Owning D)) (ms : List (Stage (Owning D))) → outputs_along (disk-stage p) (disk-stages ms) ≡ outputs_along p ms
-along-disk p [] = refl
-along-disk p (m ∷ ms) = ap (λ (os : List Outputs). outputs_at p ∷ os) (along-disk m ms)
-
-pub noted-disk : {D : Type 0} (none : Bool) (p : Stage (Owning D)) (ms : List (Stage (Owning D))) (q : Stage (Owning D)) → outputs_noted none (disk-stage p) (disk-stages ms) (disk-stage q) ≡ outputs_noted none p ms q
-noted-disk true p ms q = ap (λ (os : List Outputs). os ++ outputs_at q ∷ []) (along-disk p ms)
-noted-disk false p ms q = along-disk p ms
-
-goes-disk : {D : Type 0} (e : Arrival) (p q : Stage (Owning D)) → GoesAnyway e p q → GoesAnyway e (disk-stage p) (disk-stage q)
-goes-disk {D} e p q goes = by e.0.what goes
-  where
-    still : TurnsStill e p.node p.out q.node q.out → TurnsStill e (disk-stage p).node p.out (disk-stage q).node q.out
-    still t = record { kept = ap (λ (k : Owning D). k.disk) t.kept; turned = t.turned }
-
-    came : (c : ℕ) (x : Option Session) → CameAnyway x c e p.node p.out q.node q.out → CameAnyway x c e (disk-stage p).node p.out (disk-stage q).node q.out
-    came c None t = still t
-    came c (Some start) t = t
-
-    by : (x : What) → AnywayBy x e p.node p.out q.node q.out → AnywayBy x e (disk-stage p).node p.out (disk-stage q).node q.out
-    by (what.Opened c at) t = still t
-    by (what.Bytes c len) t = came c ((places_in p.node).session c) t
-    by (what.Ended c) t = still t
-    by what.Quiet t = still t
-    by what.Stop t = still t
-
-pub anyway-disk : {D : Type 0} (es : List Arrival) (p : Stage (Owning D)) (ms : List (Stage (Owning D))) (q : Stage (Owning D)) → Along GoesAnyway es p ms q → Along GoesAnyway es (disk-stage p) (disk-stages ms) (disk-stage q)
-anyway-disk [] p [] q run = ap disk-stage run
-anyway-disk [] p (m ∷ ms) q never = absurd never
-anyway-disk (e ∷ es) p [] q never = absurd never
-anyway-disk (e ∷ es) p (m ∷ ms) q run = (goes-disk e p m run.0, anyway-disk es m ms q run.1)
-
 -- Turns by steps.
 module _ {K : Type 0} (g : Keeper K) where
   -- A crash in them leaves an archive of one of their standings.
-  pub steps-pass : (es : List Arrival) (w : NodeState) (ms : List (Stage K)) (ts : List Turn) (v : NodeState) (k m : K) → Served es w ts v → StepsTo g k w.standing ms ts m → CrashesLeaveOnly g.leaves k m (w.standing ∷ passed_in ts)
+  pub steps-pass : (es : List Arrival) (w : NodeState) (ms : List (Stage K)) (ts : List Turn) (v : NodeState) (k m : K) → Served es w ts v → StepsTo g es k w ms ts m → CrashesLeaveOnly g.leaves k m (w.standing ∷ passed_in ts)
   steps-pass [] w [] [] v k m run steps = λ start may has since. subst (λ (x : K). g.leaves start x may) (sym steps) since
   steps-pass [] w (x ∷ ms) [] v k m run never = absurd never
   steps-pass [] w ms (t ∷ ts) v k m never steps = absurd never
@@ -127,7 +83,26 @@ module _ {K : Type 0} (g : Keeper K) where
   steps-pass (e ∷ es) w (x ∷ ms) (t ∷ ts) v k m run steps = λ start may has since.
       let parts = all-split may t.passed (passed_in ts) has.1 in
       let now = turned-has may e w t.passed t.after run.0 has.0 parts.0 in
-      steps-pass es t.after ms ts v x.node.keep m run.1 steps.2 start may (now, parts.1) (steps.1 start may (has.0, parts.0) since)
+      steps-pass es t.after ms ts v x.node.keep m run.1 steps.3 start may (now, parts.1) (steps.1 start may (has.0, parts.0) since)
+
+-- The last of some standings.
+abbrev last-after : LastKnown → List LastKnown → LastKnown
+last-after s [] = s
+last-after s (t ∷ ts) = last-after t ts
+
+last-has : (may : List (Option Archive)) (s : LastKnown) (ss : List LastKnown) → HasAll may (s ∷ ss) → Has may (last-after s ss)
+last-has may s [] has = has.0
+last-has may s (t ∷ ts) has = last-has may t ts has.1
+
+last-afters : (s : LastKnown) (acts : List (SessionState SessionAtWork LastKnown)) (v : SessionState SessionAtWork LastKnown) → last-after s (afters (acts ++ v ∷ [])) ≡ v.after
+last-afters s [] v = refl
+last-afters s (a ∷ acts) v = last-afters a.after acts v
+
+-- A run of acts, and later ones.
+passes-onward : {K : Type 0} (leaves : K → K → List (Option Archive) → Type 0) (k m last : K) (s : LastKnown) (ss later : List LastKnown) → CrashesLeaveOnly leaves k m (s ∷ ss) → CrashesLeaveOnly leaves m last (last-after s ss ∷ later) → CrashesLeaveOnly leaves k last (s ∷ (ss ++ later))
+passes-onward leaves k m last s ss later first onward = λ start may has since.
+    let parts = all-split may (s ∷ ss) later has in
+    onward start may (last-has may s ss parts.0, parts.1) (first start may parts.0 since)
 
 -- What a disk that was only synced reads as, and what a crash leaves of it.
 synced-same : (k m : Content) → IsOnlySynced k m → as_read m ≡ as_read k
@@ -172,33 +147,87 @@ module _ {D : Type 0} (g : Disk D)
   from-here : (k : Owning D) (may : List (Option Archive)) → Leaves g k k may → Leaves g (here k) k may
   from-here k may left = (left.0, left.1, left.2, λ ready image now. between_image (g.content k.disk) image (only_now k.disk image now))
 
-  -- Before some turns it stood for the archive of that moment, and a crash since then leaves that one
-  -- or a later one.
-  stood-first : (es : List Arrival) (w : NodeState) (ms : List (Stage (Owning D))) (ts : List Turn) (v : NodeState) (k m : Owning D) → Served es w ts v → MatchesKnown (engine_of g) k w.standing → StepsTo (engine_of g) k w.standing ms ts m
-      → StoodFor g w.standing ts m.disk
-  stood-first es w ms ts v k m run fits steps =
-      let may = archives_of (w.standing ∷ passed_in ts) in
-      let own = all-own (w.standing ∷ passed_in ts) in
-      let left = steps-pass (engine_of g) es w ms ts v k m run steps (here k) may own (from-here k may (fits.left may own.0)) in
-      record { at = k.disk; stood = fits-stand k w.standing fits; rested = fits.exact; crash = (left.1.0, record { later = left.0; each = left.2 left.1.0 left.1.1 }); crash_between = left.3 refl }
+  -- A disk stood for a standing that its engine fits, and a crash up to a later one leaves that standing's
+  -- or a later one's.
+  stood-from : (k m : Owning D) (s : LastKnown) (later : List LastKnown) → MatchesKnown (engine_of g) k s → CrashesLeaveOnly (Leaves g) k m (s ∷ later) → StoodFor g s later k.disk m.disk
+  stood-from k m s later fits passes =
+      let may = archives_of (s ∷ later) in
+      let own = all-own (s ∷ later) in
+      let left = passes (here k) may own (from-here k may (fits.left may own.0)) in
+      record { stood = fits-stand k s fits; rested = fits.exact; crash = (left.1.0, record { later = left.0; each = left.2 left.1.0 left.1.1 }); crash_between = left.3 refl }
 
-  stood-at : (es : List Arrival) (w : NodeState) (ms : List (Stage (Owning D))) (ts : List Turn) (v : NodeState) (k m : Owning D) → Served es w ts v → MatchesKnown (engine_of g) k w.standing → StepsTo (engine_of g) k w.standing ms ts m
-      → (earlier later : List Turn) → ts ≡ earlier ++ later → StoodFor g (last_world w earlier).standing later m.disk
-  stood-at es w ms ts v k m run fits steps [] later is = subst (λ (us : List Turn). StoodFor g w.standing us m.disk) is (stood-first es w ms ts v k m run fits steps)
-  stood-at [] w ms [] v k m run fits steps (t ∷ earlier) later is = absurd (cc is)
-  stood-at [] w ms (u ∷ us) v k m never fits steps (t ∷ earlier) later is = absurd never
-  stood-at (e ∷ es) w ms [] v k m never fits steps (t ∷ earlier) later is = absurd never
-  stood-at (e ∷ es) w [] (u ∷ us) v k m run fits never (t ∷ earlier) later is = absurd never
-  stood-at (e ∷ es) w (x ∷ ms) (u ∷ us) v k m run fits steps (t ∷ earlier) later is =
-      let same : u ≡ t = cc is in
-      subst (λ (x : Turn). StoodFor g (last_world x.after earlier).standing later m.disk) same (stood-at es u.after ms us v x.node.keep m run.1 steps.0 steps.2 earlier later (cc is))
+  -- No act goes back.
+  moved-later : (k m : Owning D) (s t : LastKnown) → MatchesKnown (engine_of g) k s → CrashesLeaveOnly (Leaves g) k m (s ∷ t ∷ []) → g.moment k.disk ≤ g.moment m.disk
+  moved-later k m s t fits passes =
+      let may = archives_of (s ∷ t ∷ []) in
+      let own = all-own (s ∷ t ∷ []) in
+      (passes k may own (fits.left may own.0)).0
+
+  -- The acts of a session, after which a crash leaves what later ones do.
+  stood-acts : (moment : ℕ) (old m last : Owning D) (w : SessionState SessionAtWork LastKnown) (ks : List (Owning D)) (ms : List (SessionState SessionAtWork LastKnown)) (later : List LastKnown) → MatchesKnown (engine_of g) old w.after → ActsAlong (engine_of g) moment old w ks ms m
+      → CrashesLeaveOnly (Leaves g) m last (last-after w.after (afters ms) ∷ later) → StoodAlong g later last.disk old ks (afters ms)
+  stood-acts moment old m last w [] [] later fits kept onward = tt
+  stood-acts moment old m last w [] (x ∷ ms) later fits never onward = absurd never
+  stood-acts moment old m last w (k ∷ ks) [] later fits never onward = absurd never
+  stood-acts moment old m last w (k ∷ ks) (x ∷ ms) later fits kept onward =
+      let rest = kept-left (engine_of g) (said moment) is_asked reopens k m x ks ms kept.1 in (
+        moved-later old k w.after x.after fits kept.0.moves.passes,
+        stood-from k last x.after (afters ms ++ later) kept.0.moves.fits (passes-onward (Leaves g) k m last x.after (afters ms) later rest onward),
+        stood-acts moment k m last x ks ms later kept.0.moves.fits kept.1 onward,
+      )
+
+  -- A turn, after which a crash leaves what later ones do.
+  turn-stood : (e : Arrival) (old m last : Owning D) (w : NodeState) (passed : List LastKnown) (v : NodeState) (later : List LastKnown) → MatchesKnown (engine_of g) old w.standing → CrashesLeaveOnly (Leaves g) m last (v.standing ∷ later) → TurnKept (ActsAlong (engine_of g)) e old w passed m v
+      → TurnKept (EnginesAlong g later last.disk) e old w passed m v
+  turn-stood e old m last w passed v later fits onward kept = by e.0.what kept
+    where
+      came : (c : ℕ) (start : Option Session) → CameKept (ActsAlong (engine_of g)) start e.0.moment c e.1 old w passed m v → CameKept (EnginesAlong g later last.disk) start e.0.moment c e.1 old w passed m v
+      came c None still = still
+      came c (Some start) piece =
+          let course = piece.course in
+          let end : SessionState SessionAtWork LastKnown = talk piece.held v.standing (outside_at c v.out) in
+          let onward-from = subst (λ (s : LastKnown). CrashesLeaveOnly (Leaves g) m last (s ∷ later)) (sym (last-afters w.standing course.acts end)) onward in
+          record {
+            held = piece.held;
+            rest_is = piece.rest_is;
+            course = record {
+              acts = course.acts;
+              before = course.before;
+              each = course.each;
+              last = course.last;
+              states = course.states;
+              kept = (course.kept, stood-acts e.0.moment old m last (talk (Some (Came start e.1)) w.standing (outside_at c w.out)) course.states (course.acts ++ end ∷ []) later fits course.kept onward-from);
+            };
+            passed_is = piece.passed_is;
+          }
+
+      by : (x : What) → TurnKeptBy (ActsAlong (engine_of g)) x e.0.moment e.1 old w passed m v → TurnKeptBy (EnginesAlong g later last.disk) x e.0.moment e.1 old w passed m v
+      by (what.Opened c at) still = still
+      by (what.Bytes c len) piece = came c (w.session c) piece
+      by (what.Ended c) still = still
+      by what.Quiet still = still
+      by what.Stop still = still
+
+  -- Turns in order.
+  acted-all : (es : List Arrival) (w : NodeState) (ms : List (Stage (Owning D))) (ts : List Turn) (v : NodeState) (k m : Owning D) → Served es w ts v → MatchesKnown (engine_of g) k w.standing → StepsTo (engine_of g) es k w ms ts m → ActedAlong g m.disk es k w ms ts
+  acted-all [] w [] [] v k m run fits steps = tt
+  acted-all [] w (x ∷ ms) [] v k m run fits never = absurd never
+  acted-all [] w ms (t ∷ ts) v k m never fits steps = absurd never
+  acted-all (e ∷ es) w ms [] v k m never fits steps = absurd never
+  acted-all (e ∷ es) w [] (t ∷ ts) v k m run fits never = absurd never
+  acted-all (e ∷ es) w (x ∷ ms) (t ∷ ts) v k m run fits steps =
+      let onward = steps-pass (engine_of g) es t.after ms ts v x.node.keep m run.1 steps.3 in (
+        turn-stood e k x.node.keep m w t.passed t.after (passed_in ts) fits onward steps.2,
+        stood-from x.node.keep m t.after.standing (passed_in ts) steps.0 onward,
+        acted-all es t.after ms ts v x.node.keep m run.1 steps.0 steps.3,
+      )
 
   -- An archive was opened, and events were served by a node.
   pub served-on : RecoversSomeOne → CachesOne → FollowsItself → CommandFollows → (a : Archive) (cache : List ℕ) (old : D) (e : Owning D) (node new : Serving (Owning D)) (arrivals : List Arrival) (stages : List (Stage (Owning D))) (o p : HostState) → node.keep ≡ e → IsStoreWith e.view cache a (g.content e.disk) → e.views ≡ views_of (live a.entries) → WhereTold IsSettled (g.content e.disk)
       → SyncsFirst g old e.disk
       → RunsBetween g old e.disk → BothTold WentBetween (g.content old) (g.content e.disk)
       → ((t : LastKnown) → MatchesKnown (engine_of g) node.keep t → RunsTo (engine_of g) arrivals t node o stages new p) → ReadsWith cache a (g.content old)
-      → ServedOn g a old e.disk new.keep.disk arrivals (disk-stage (stage node o)) (disk-stages stages) (disk-stage (stage new p))
+      → ServedOn g a old e.disk new.keep.disk arrivals (stage node o) stages (stage new p)
   served-on one caches itself commands a cache old e node new arrivals stages o p keep store rows still sync crash_beside went runs reads =
       let held : HoldsArchive g.content e a = (cache, store, rows, still) in
       let start : MatchesKnown (engine_of g) node.keep (standing a None) =
@@ -225,10 +254,7 @@ module _ {D : Type 0} (g : Disk D)
       let now = from-here e narrow (holds_left e a narrow held (0, omega arith, refl)) in
       let since-opened = run.passes (here e) narrow (all-own (standing a None ∷ more)) (subst (λ (k : Owning D). Leaves g (here e) k narrow) (sym keep) now) in
       record {
-        turns = run.turns;
-        left = run.after;
-        served = run.served;
-        at = at-disk stages run.turns run.at;
+        runs = run;
         stands = fits-stand new.keep run.after run.fits;
         files_are = λ none_in c is.
             let exact = run.fits.exact none_in in
@@ -248,6 +274,7 @@ module _ {D : Type 0} (g : Disk D)
             let left = run.passes begun wide has (subst (λ (k : Owning D). Leaves g begun k wide) (sym keep) since) in
             (record { later = left.0; each = left.2 known at-old }, left.3 refl);
         crash_between = record { later = since-opened.0; each = λ image left. between_then (g.content old) (g.content e.disk) image went (since-opened.3 refl image left) };
-        stood = λ earlier later is. stood-at arrivals first stages run.turns last node.keep new.keep run.served start run.steps earlier later is;
+        stood = stood-from node.keep new.keep (standing a None) more start run.passes;
+        acted = acted-all arrivals first stages run.turns last node.keep new.keep run.served start run.steps;
         numbers = served-follows itself commands arrivals first run.turns last run.served (λ b is. absurd (cc is));
       }

@@ -1,5 +1,5 @@
 -- How serving the archive on a disk ends, and what it does there.
-use Rattle.std.specs.Prelude.{◌≡◌, ◌≤◌, ℕ, List, [], ◌∷◌, ◌++◌, Bool, Option, Some, None, Err}
+use Rattle.std.specs.Prelude.{◌≡◌, ◌≤◌, ℕ, List, [], ◌∷◌, ◌++◌, Bool, true, Option, Some, None, Err}
 use Rattle.std.specs.List.{Contains}
 use Rattle.arch_base.specs.Counts.{RoseIf}
 use Rattle.disk_model.specs.declared.disk.Disk.{Ghosts as Disk}
@@ -9,7 +9,8 @@ use Rattle.edge_io.specs.declared.host.Host.{Ghosts as Host}
 use Rattle.edge_io.specs.Frames.{Outputs}
 use Rattle.edge_io.specs.Hosts as hosts
 use Rattle.edge_io.specs.Scripts.{Arrival}
-use Rattle.keep_course.specs.Courses.{archives_of}
+use Rattle.line_door.specs.Course.{SessionState}
+use Rattle.keep_course.specs.Courses.{afters, archives_of}
 use Rattle.root_slots.specs.Between.{BetweenStays, RunsBetween}
 use Rattle.arch_model.specs.Archives.{Archive}
 use Rattle.arch_model.specs.Following.{Follows}
@@ -18,14 +19,14 @@ use Rattle.arch_model.specs.declared.opening.OpenRefusal.{OpenRefusal}
 use Rattle.arch_model.specs.declared.opening.OpenRefusal.TheVariants as opening
 use Rattle.store_finding.specs.Files.{as_read}
 use Rattle.epoch_store.specs.Opens.{OpensFiles, IsOnlySynced, ReadsWith, AllRecoverWith, SyncsFirst, SyncsAtMost}
-use Rattle.archive_core.specs.Engines.{RecoversOrBare, AllRecoverOrBare, BetweenSince, FilesAreOn, FilesAreWith}
+use Rattle.archive_core.specs.Engines.{Owning, engine_of, is_ready, RecoversOrBare, AllRecoverOrBare, BetweenSince, FilesAreOn, FilesAreWith}
 use Rattle.archive_core.specs.Openings.{LeavesKindly}
 use Rattle.answer_lines.specs.Lines.{whole_line, memory_word}
 use Rattle.node_serve.specs.Ends.{ServingEnds, given_after, before_all}
-use Rattle.node_serve.specs.Nodes.{Stage, Along, GoesAnyway, AreAt, outputs_noted, places_in, world_at}
-use Rattle.node_serve.specs.Plain.{last_world}
-use Rattle.node_serve.specs.Turns.{Turn, Served, passed_in}
-use Rattle.node_serve.specs.World.{HostState, at_host}
+use Rattle.node_serve.specs.Nodes.{Stage, Along, GoesAnyway, GoesReading, GoesCounting, TurnKept, ActsAlong, RunsTo, outputs_noted, places_in, world_at}
+use Rattle.node_serve.specs.Doors.{SessionAtWork}
+use Rattle.node_serve.specs.Turns.{Turn, passed_in}
+use Rattle.node_serve.specs.World.{HostState, NodeState, at_host}
 use Rattle.node_serve.specs.declared.serving.ServeEnd.{ServeEnd}
 use Rattle.node_serve.specs.declared.serving.ServeEnd.TheVariants as end
 use Rattle.archive_cli.specs.DiskCommands.{StandsAs, StaysUnopened}
@@ -123,19 +124,50 @@ module _ {D : Type 0} (g : Disk D) where
     pub each : (image : Files) → g.left_since new (g.moment opened) image
         → BetweenStays (g.content old) image
 
-  -- The disk stood for the archive of a standing, or for the one in doubt there; if nothing was, it had
-  -- exactly the archive's files. A crash since then leaves one of the two, or an archive of a standing
-  -- after one of the acts of later turns, or one that was in doubt there. The bytes between the gates and
-  -- the bodies of the root file stayed.
-  pub record StoodFor (s : LastKnown) (later : List Turn) (new : D) : Type 0 where
-    pub at : D
+  -- The disk `at` stood for the archive of a standing, or for the one in doubt there; if nothing was, it
+  -- had exactly the archive's files. A crash since then, up to the disk `last`, leaves one of the two, or
+  -- an archive of one of these later standings, or one that was in doubt there. The bytes between the
+  -- gates and the bodies of the root file stayed.
+  pub record StoodFor (s : LastKnown) (later : List LastKnown) (at last : D) : Type 0 where
     pub stood : (cache : List ℕ) × AllRecoverOrBare cache (one_of s) (g.content at)
     pub rested : s.in_doubt ≡ None → FilesAreOn s.archive (g.content at)
-    pub crash : (cache : List ℕ) × CrashLeaves at new cache (archives_of (s ∷ passed_in later))
-    pub crash_between : BetweenSince g at new
+    pub crash : (cache : List ℕ) × CrashLeaves at last cache (archives_of (s ∷ later))
+    pub crash_between : BetweenSince g at last
+
+  -- After each of some acts, which left these standings, the disk of the engine stood for the standing of
+  -- that moment, and a crash since then, up to the disk `last`, leaves that one or a later one. `later`
+  -- stood after these acts. Each of these disks comes no earlier than the one before it.
+  abbrev pub StoodAlong : List LastKnown → D → Owning D → List (Owning D) → List LastKnown → Type 0
+  StoodAlong later last old [] [] = Unit {0}
+  StoodAlong later last old [] (s ∷ ss) = ⊥
+  StoodAlong later last old (k ∷ ks) [] = ⊥
+  StoodAlong later last old (k ∷ ks) (s ∷ ss) = (g.moment old.disk ≤ g.moment k.disk)
+      × StoodFor s (ss ++ later) k.disk last × StoodAlong later last k ks ss
+
+  -- Beside the talks of a session at a moment stands the engine after each act, and its disk so.
+  abbrev pub EnginesAlong : List LastKnown → D → ℕ → Owning D → SessionState SessionAtWork LastKnown
+      → List (Owning D) → List (SessionState SessionAtWork LastKnown) → Owning D → Type 0
+  EnginesAlong later last moment old w ks ms new =
+      ActsAlong (engine_of g) moment old w ks ms new × StoodAlong later last old ks (afters ms)
+
+  -- These turns were taken in order, from one stage to the next. The disk stood so after each act of each
+  -- turn, and after each turn.
+  abbrev pub ActedAlong : D → List Arrival → Owning D → NodeState → List (Stage (Owning D)) → List Turn
+      → Type 0
+  ActedAlong last [] old w [] [] = Unit {0}
+  ActedAlong last [] old w [] (t ∷ ts) = ⊥
+  ActedAlong last [] old w (m ∷ ms) ts = ⊥
+  ActedAlong last (e ∷ es) old w [] ts = ⊥
+  ActedAlong last (e ∷ es) old w (m ∷ ms) [] = ⊥
+  ActedAlong last (e ∷ es) old w (m ∷ ms) (t ∷ ts) =
+      TurnKept (EnginesAlong (passed_in ts) last) e old w t.passed m.node.keep t.after
+      × StoodFor t.after.standing (passed_in ts) m.node.keep.disk last
+      × ActedAlong last es m.node.keep t.after ms ts
 
   -- This archive was found, and the events were taken to their end, one after another through these
-  -- stages, each with its replies over the archive of that moment.
+  -- stages, each with its replies over the archive of that moment. In each act of each event a crash leaves
+  -- the archive before it or the one after it, or one in doubt there; the count of faults after it is the
+  -- disk's own; and a reopening changes nothing where the engine is ready.
   --
   -- Until the disk was synced, a crash leaves what it might have left before; from then on the archive
   -- that was found, or one of a standing after one of the acts, or one in doubt there. So where the disk
@@ -147,27 +179,27 @@ module _ {D : Type 0} (g : Disk D) where
   -- none, and so it is after each crash. No number names a second message. Once the archive was opened
   -- the bytes between the gates and the bodies of the root file stay, too.
   pub record ServedOn (found : Archive) (old opened new : D) (arrivals : List Arrival)
-      (first : Stage D) (stages : List (Stage D)) (last : Stage D) : Type 0 where
-    pub turns : List Turn
-    pub left : LastKnown
-    pub served : Served arrivals (world_at (standing found None) first) turns (world_at left last)
-    pub at : AreAt stages turns
-    pub stands : (cache : List ℕ) × AllRecoverOrBare cache (one_of left) (g.content new)
-    pub files_are : left.in_doubt ≡ None → (cache : List ℕ) → ReadsWith cache found (g.content old)
-        → FilesAreWith cache left.archive (g.content new)
+      (first : Stage (Owning D)) (stages : List (Stage (Owning D))) (last : Stage (Owning D))
+      : Type 0 where
+    pub runs : RunsTo (engine_of g) arrivals (standing found None) first.node first.out stages
+        last.node last.out
+    pub stands : (cache : List ℕ) × AllRecoverOrBare cache (one_of runs.after) (g.content new)
+    pub files_are : runs.after.in_doubt ≡ None → (cache : List ℕ) → ReadsWith cache found (g.content old)
+        → FilesAreWith cache runs.after.archive (g.content new)
     pub synced : D
     pub only : BothTold IsOnlySynced (g.content old) (g.content synced)
     pub before : LeavesOnly g old synced (Image (g.content old))
     pub after : (cache : List ℕ) → ReadsWith cache found (g.content old)
-        → CrashLeaves synced new cache (archives_of (standing found None ∷ passed_in turns))
+        → CrashLeaves synced new cache (archives_of (standing found None ∷ passed_in runs.turns))
     pub crash : (may : List (Option Archive)) (cache : List ℕ) → Contains may (Some found)
         → AllRecoverWith cache may (g.content old)
-        → CrashLeaves old new cache (may ++ archives_of (passed_in turns))
+        → CrashLeaves old new cache (may ++ archives_of (passed_in runs.turns))
         × BetweenSince g old new
     pub crash_between : StaysBetween old opened new
-    pub stood : (earlier later : List Turn) → turns ≡ earlier ++ later
-        → StoodFor (last_world (world_at (standing found None) first) earlier).standing later new
-    pub numbers : FollowOn found (passed_in turns)
+    pub stood : StoodFor (standing found None) (passed_in runs.turns) first.node.keep.disk new
+    pub acted : ActedAlong new arrivals first.node.keep (world_at (standing found None) first) stages
+        runs.turns
+    pub numbers : FollowOn found (passed_in runs.turns)
 
   -- The archive wasn't opened. The refusal is that of the files as they read, the disk is left as it
   -- stood, and the host wasn't asked. The disk's count of faults rose exactly if it failed.
@@ -186,9 +218,12 @@ module _ {D : Type 0} (g : Disk D) where
 
   -- The archive was opened, which synced the disk, and then settled it by the root that was found. At
   -- each moment of that the bytes between the gates and the bodies of the root file stay. Then serving
-  -- took these events and ended by them, each from one stage to the next. Whatever the disk held, as
-  -- where a file was found damaged, an event changed nothing of other connections, and only a piece used
-  -- the disk. The events were served over the archive as which the files read, whatever its cache.
+  -- took these events and ended by them, each from one stage to the next: at a stage stand the engine,
+  -- which is the disk, what is kept in memory of its archive, and whether it has to be reopened; and the
+  -- sessions over it. It is ready at first. Whatever the disk held, as where a file was found damaged, an
+  -- event changed nothing of other connections, only a piece used the disk, and it read no more than it
+  -- asks for; and at each stage the count of faults is the disk's own. The events were served over the
+  -- archive as which the files read, whatever its cache.
   --
   -- The host, whose records these are, was asked before each event, when all before it had been
   -- answered, and at the end if it then answered that none is left.
@@ -202,13 +237,18 @@ module _ {D : Type 0} (g : Disk D) where
     pub settles : OnlySettled (g.content old) (g.content opened)
     pub crash : SyncsFirst g old opened
     pub crash_between : RunsBetween g old opened
-    pub first : Stage D
+    pub first : Stage (Owning D)
     pub begins : IsFirstStage first i.out
-    pub stages : List (Stage D)
-    pub last : Stage D
-    pub last_disk : last.node.keep ≡ new
+    pub first_disk : first.node.keep.disk ≡ opened
+    pub first_ready : is_ready first.node.keep ≡ true
+    pub first_counts : first.out.disk ≡ g.faults first.node.keep.disk
+    pub stages : List (Stage (Owning D))
+    pub last : Stage (Owning D)
+    pub last_disk : last.node.keep.disk ≡ new
     pub last_out : last.out ≡ j.out
     pub anyway : Along GoesAnyway arrivals first stages last
+    pub reads_few : Along (GoesReading (engine_of g)) arrivals first stages last
+    pub counts : Along (GoesCounting (engine_of g).faults) arrivals first stages last
     pub records : (past : List Outputs) → recorded past
         → recorded' (past ++ outputs_noted none first stages last)
     pub served : (found : Archive) (cache : List ℕ) → ReadsWith cache found (g.content old)

@@ -1,5 +1,5 @@
 -- What the calls of an archive that owns its disk do, by the calls below it.
-use Rattle.std.specs.Prelude.{◌≡◌, ◌⊎◌, ◌||◌, ◌+◌, ◌≤◌, ◌<◌, ℕ, zero, suc, Bool, true, false, not, List, [], ◌∷◌, length, get_or, Option, Some, None, Result, Ok, Err, refl}
+use Rattle.std.specs.Prelude.{◌≡◌, ◌⊎◌, ◌||◌, ◌+◌, ◌≤◌, ◌<◌, ◌^◌, ℕ, zero, suc, Bool, true, false, not, List, [], ◌∷◌, length, get_or, Option, Some, None, Result, Ok, Err, refl}
 use Rattle.std.specs.List.{Contains}
 use Rattle.std.proofs.Common.{◌∙◌, sym, ap, subst, inl, inr, arith}
 use Rattle.std.proofs.lemmas.Bool.{false≢true}
@@ -14,7 +14,7 @@ use Rattle.disk_model.specs.Synced.{IsSettled}
 use Rattle.arch_model.specs.Archives.{Archive, live}
 use Rattle.view_set.specs.Viewed.{views_of}
 use Rattle.arch_model.specs.Delivery.{Done, applied}
-use Rattle.arch_model.specs.Keeping.{Has, CrashesLeaveOnly, MatchesKnown, KeeperMoves, Settles, ReopeningRefused, CommandGives, CommandFinds, Ending, Accepts, Refuses, Starves, Fails, Breaks, ReadyBy, StaysReady, AnswerCause, OpeningWhy, ending, opening_answer, root_file}
+use Rattle.arch_model.specs.Keeping.{Has, CrashesLeaveOnly, MatchesKnown, KeeperMoves, Settles, ReopeningRefused, CommandGives, CommandTaken, Ending, Accepts, Refuses, Starves, Fails, Breaks, ReadyBy, ReadsFor, StaysReady, AnswerCause, OpeningWhy, ending, opening_answer, root_file}
 use Rattle.arch_model.specs.Shelves.{ShelfStays, ReadCause, ReadsOnce}
 use Rattle.arch_model.specs.Standing.{LastKnown, standing, unsure, with_doubt, one_of, IsFound}
 use Rattle.arch_model.specs.declared.answer.Answer.{Answer}
@@ -25,20 +25,21 @@ use Rattle.arch_model.specs.declared.opening.OpenRefusal.{OpenRefusal}
 use Rattle.arch_model.specs.declared.opening.OpenRefusal.TheVariants as refusal
 use Rattle.arch_model.specs.declared.text_refusal.TextRefusal.{TextRefusal}
 use Rattle.arch_model.specs.declared.text_refusal.TextRefusal.TheVariants as reading
-use Rattle.arch_model.proofs.Keepers.{has-own, has-unsure-of, unsure-doubts, moves-stale, moves-on, comes-by, unopened-comes, unopened-finds, finds-first, unopened-ready, unopened-cause}
+use Rattle.arch_model.proofs.Keepers.{has-own, has-unsure-of, unsure-doubts, moves-stale, moves-on, comes-by, unopened-comes, unopened-finds, finds-first, taken-by, unopened-ready, unopened-cause}
 use Rattle.store_finding.specs.Files.{as_read}
 use Rattle.epoch_store.specs.Laws.{CachesOne, RecoversSomeOne}
 use Rattle.epoch_store.specs.Leaving.{disk_recovers}
 use Rattle.epoch_store.specs.Opens.{RecoversOfWith, AllRecoverWith, ReadsWith, IsOpenedIn, IsWant, SyncsAtMost}
+use Rattle.epoch_store.specs.Promises.{OpensArchive}
 use Rattle.epoch_store.specs.Settling.{IsSettledBy}
 use Rattle.epoch_store.specs.Reads.{AnswersQuietly}
 use Rattle.store_finding.specs.Recovery.{RecoversWith, RecoversSomeWith}
 use Rattle.store_finding.specs.Kept.{StoreState, KeepsArchive, IsStoreWith}
-use Rattle.epoch_store.specs.Commands.{RecoversOneOf}
+use Rattle.epoch_store.specs.Commands.{RecoversOneOf, StoreHasSizes}
 use Rattle.archive_core.specs.Commands.{AnswersDelivery, AnswersEdit, AnswersPurge, AnswersRemoval, DoneBy, OnDone, OnRefusal, UnlessFault, IfUnread, IfUnreadEdit, IfUnreadFor, IfDelivery, IfRemoval, IsForCommand, IsGone, KeepsTextFor, OnlyLooks, cache_left, is_delivery}
-use Rattle.archive_core.specs.Engines.{Owning, needs_opening, RecoversOrBare, AllRecoverOrBare, BetweenSince, HoldsArchive, FilesAre, FindsArchive, LeftWithCache, ViewsKeepUp, IfRefused, is_ready, Leaves, OnlyReadsOn, reading-same, store-left, holds-rest, now-left, unchanged-is, reading-kept, engine_of}
+use Rattle.archive_core.specs.Engines.{Owning, TakesOn, told-same, needs_opening, RecoversOrBare, AllRecoverOrBare, BetweenSince, HoldsArchive, FilesAre, FindsArchive, LeftWithCache, ViewsKeepUp, IfRefused, is_ready, Leaves, OnlyReadsOn, reading-same, store-left, holds-rest, now-left, unchanged-is, reading-kept, engine_of}
 use Rattle.archive_core.specs.Numbers.{GivesBlobKept, TellsOther}
-use Rattle.archive_core.specs.Openings.{LeavesKindly}
+use Rattle.archive_core.specs.Openings.{LeavesKindly, RefusesKindly}
 use Rattle.archive_core.specs.Walks.{ViewsAfter}
 use Rattle.archive_core.proofs.KeepingUp.{done-views}
 use Rattle.archive_core.proofs.RootBytes.{crash_between-over}
@@ -471,26 +472,68 @@ module _ {D : Type 0} (g : Disk D)
     inr (record { found = inl refl; sure = refl }),
   )
 
+  -- So it took a command after the last root.
+  starved-for : (command : Command) → IsForCommand command answer.NoMemory
+  starved-for (Deliver bytes) = tt
+  starved-for (Remove number) = tt
+  starved-for (Purge number) = tt
+  starved-for (Edit number bytes) = tt
+
+  starved-reads : (command : Command) (n : ℕ) → ReadsFor command n n
+  starved-reads (Deliver bytes) n = record { later = omega arith; most = omega arith }
+  starved-reads (Remove number) n = record { later = omega arith; most = omega arith }
+  starved-reads (Purge number) n = omega arith
+  starved-reads (Edit number bytes) n = omega arith
+
+  starved-unmoved : (command : Command) (P : Type 0) → IfUnreadFor command answer.NoMemory P
+  starved-unmoved (Deliver bytes) P = tt
+  starved-unmoved (Remove number) P = tt
+  starved-unmoved (Purge number) P = tt
+  starved-unmoved (Edit number bytes) P = tt
+
+  pub starved-takes : (e : Owning D) (command : Command) (moment : ℕ) → (e.view.root.sequence + 1 < 2 ^ 64 → ⊥) → WhereTold (StoreHasSizes e.view) (g.content e.disk) → TakesOn g e e command moment answer.NoMemory
+  starved-takes e command moment full sizes = record {
+    crash = λ a cache store room. absurd (full room);
+    done = λ a cache store room. store;
+    settled = tt;
+    goes_on = tt;
+    files = tt;
+    slot = tt;
+    same = refl;
+    untouched = record { same = told-same (g.content e.disk); crash = started g e.disk (Image (g.content e.disk)) (λ image left. only_now e.disk image left) };
+    unmoved = starved-unmoved command (e.disk ≡ e.disk);
+    sizes = sizes;
+    cause = record { later = omega arith; failed = λ fault. absurd (cc fault); kept = λ other. refl };
+    for_command = starved-for command;
+    count = starved-reads command (g.reads e.disk);
+    rooted = tt;
+    crash_between = started g e.disk (BetweenStays (g.content e.disk)) (λ image left. between_image (g.content e.disk) image (only_now e.disk image left));
+    damage = tt;
+  }
+
   -- A command on what a reopening found.
-  pub commanded-after : (old mid new : Owning D) (s t : LastKnown) (wanted : Archive → Done) (reply : Answer) → Going old s mid t → Settles s t → (is_ready old ≡ false → FindsArchive g old mid t.archive) → is_ready mid ≡ true
-      → ((a : Archive) → HoldsArchive g.content mid a → (u : LastKnown) × Going mid (standing a None) new u × CommandGives true (standing a None) wanted reply u) → (u : LastKnown) × Going old s new u × CommandGives (is_ready old) s wanted reply u × CommandFinds (engine_of g) old s wanted new reply u
-  commanded-after old mid new s t wanted reply opened settles finds ready taken =
+  pub commanded-after : (old mid new : Owning D) (s t : LastKnown) (command : Command) (moment : ℕ) (reply : Answer) → Going old s mid t → Settles s t → (is_ready old ≡ false → FindsArchive g old mid t.archive) → is_ready mid ≡ true
+      → (is_ready old ≡ true → mid ≡ old) → TakesOn g mid new command moment reply
+      → ((a : Archive) → HoldsArchive g.content mid a → (u : LastKnown) × Going mid (standing a None) new u × CommandGives true (standing a None) (λ (b : Archive). applied b command moment) reply u) → (u : LastKnown) × Going old s new u × CommandGives (is_ready old) s (λ (b : Archive). applied b command moment) reply u × CommandTaken (engine_of g) old s command moment new reply u
+  commanded-after old mid new s t command moment reply opened settles finds ready still takes taken =
       let both = opened.fits.settled ready in
       let same : t ≡ standing t.archive None = ap (λ (d : Option Archive). standing t.archive d) both.1 in
       let done = taken t.archive both.0 in (
         done.0,
         moves-on (engine_of g) old mid new s t done.0 opened settles (subst (λ (x : LastKnown). Going mid x new done.0) (sym same) done.1),
-        comes-by (is_ready old) s t wanted reply done.0 (ending reply) settles done.2,
-        λ stale. finds-first (engine_of g) old s wanted new reply done.0 (ending reply) refl (record {
-          middle = mid;
-          found = t.archive;
-          is_found = settles.found;
-          finds = finds stale;
-          holds = both.0;
-          opened = subst (λ (x : LastKnown). Going old s mid x) same opened;
-          taken = done.1;
-          gives = done.2;
-        }),
+        comes-by (is_ready old) s t (λ (b : Archive). applied b command moment) reply done.0 (ending reply) settles done.2,
+        taken-by (engine_of g) (is_ready old) old s command moment new reply done.0 (λ at_hand. subst (λ (o : Owning D). TakesOn g o new command moment reply) (still at_hand) takes) (λ stale.
+            finds-first (engine_of g) old s command moment new reply done.0 (ending reply) refl (record {
+              middle = mid;
+              found = t.archive;
+              is_found = settles.found;
+              finds = finds stale;
+              holds = both.0;
+              opened = subst (λ (x : LastKnown). Going old s mid x) same opened;
+              takes = takes;
+              taken = done.1;
+              gives = done.2;
+            })),
       )
 
   -- A call that only reads.
@@ -520,6 +563,15 @@ module _ {D : Type 0} (g : Disk D)
 
     pub still-stale : inside.stale ≡ true → is_ready old ≡ true → ⊥
     still-stale stale ready = let now : not true ≡ true = sym (ap not stale) ∙ ap (λ (o : Owning D). is_ready o) is ∙ ready in false≢true now
+
+    pub taken-by-parts : (new : Owning D) (command : Command) (moment : ℕ) (reply : Answer) → TakesOn g inside new command moment reply → TakesOn g old new command moment reply
+    taken-by-parts new command moment reply takes = subst (λ (o : Owning D). TakesOn g o new command moment reply) is takes
+
+    pub opens-from : (disk : D) (result : Result StoreState OpenRefusal) → OpensArchive g inside.disk disk result → OpensArchive g old.disk disk result
+    opens-from disk result opened = subst (λ (o : Owning D). OpensArchive g o.disk disk result) is opened
+
+    pub kindly-from : {T : Type 0} (disk : D) (result : Result T OpenRefusal) → RefusesKindly result (g.content inside.disk) (g.content disk) → RefusesKindly result (g.content old.disk) (g.content disk)
+    kindly-from {T} disk result kindly = subst (λ (o : Owning D). RefusesKindly result (g.content o.disk) (g.content disk)) is kindly
 
     pub held-inside : (a : Archive) → HoldsArchive g.content old a → HoldsArchive g.content inside a
     held-inside a = subst (λ (o : Owning D). HoldsArchive g.content o a) (sym is)
@@ -638,8 +690,10 @@ refused-comes was s t wanted why reply is stale shut =
     let from : CommandGives was s wanted (opening_answer why) t = subst (λ (b : Bool). CommandGives b s wanted (opening_answer why) t) (sym (never_ready was stale)) (unopened-comes s t wanted why shut) in
     subst (λ (r : Answer). CommandGives was s wanted r t) (sym is) from
 
-pub refused-finds : {D : Type 0} (g : Disk D) (old new : Owning D) (s t : LastKnown) (wanted : Archive → Done) (why : OpenRefusal) (reply : Answer) → reply ≡ opening_answer why → ReopeningRefused s why t → CommandFinds (engine_of g) old s wanted new reply t
-refused-finds g old new s t wanted why reply is shut stale = subst (λ (r : Answer). CommandFinds (engine_of g) old s wanted new r t) (sym is) (λ now. unopened-finds (engine_of g) old new s t wanted why shut) stale
+pub refused-takes : {D : Type 0} (g : Disk D) (old new : Owning D) (s t : LastKnown) (command : Command) (moment : ℕ) (why : OpenRefusal) (reply : Answer) → reply ≡ opening_answer why → (is_ready old ≡ true → false ≡ true) → ReopeningRefused s why t → CommandTaken (engine_of g) old s command moment new reply t
+refused-takes g old new s t command moment why reply is stale shut =
+    let from : CommandTaken (engine_of g) old s command moment new (opening_answer why) t = taken-by (engine_of g) (is_ready old) old s command moment new (opening_answer why) t (λ ready. absurd (false≢true (stale ready))) (λ now. unopened-finds (engine_of g) old new s t command moment why shut) in
+    subst (λ (r : Answer). CommandTaken (engine_of g) old s command moment new r t) (sym is) from
 
 pub refused-ready : (was now : Bool) (why : OpenRefusal) (reply : Answer) → reply ≡ opening_answer why → (was ≡ true → false ≡ true) → now ≡ false → StaysReady was reply now
 refused-ready was now why reply is stale unready =

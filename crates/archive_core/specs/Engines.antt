@@ -1,5 +1,5 @@
 -- An archive that owns its disk, as a keeper.
-use Rattle.std.specs.Prelude.{◌≡◌, ◌⊎◌, ◌≤◌, ℕ, Bool, true, false, not, List, [], Option, Some, None, refl}
+use Rattle.std.specs.Prelude.{◌≡◌, ◌⊎◌, ◌≤◌, ℕ, Bool, true, false, not, List, [], Option, Some, None, Result, Ok, Err, refl}
 use Rattle.std.specs.List.{Contains}
 use Rattle.std.proofs.Common.{◌∙◌, sym, ap, subst, inl, inr}
 use native.Mathlib.Omega.{arith}
@@ -10,15 +10,21 @@ use Rattle.disk_model.specs.Moments.{LeavesOnly, started, joined}
 use Rattle.root_slots.specs.Between.{BetweenStays, between_image}
 use Rattle.disk_model.specs.Synced.{IsSettled}
 use Rattle.arch_model.specs.Archives.{Archive, live}
-use Rattle.arch_model.specs.Keeping.{OnlyRead, Keeper}
+use Rattle.arch_model.specs.Delivery.{applied}
+use Rattle.arch_model.specs.Keeping.{OnlyRead, Keeper, opening_answer}
+use Rattle.arch_model.specs.declared.command.Command.{Command}
+use Rattle.arch_model.specs.declared.opening.OpenRefusal.{OpenRefusal}
 use Rattle.arch_model.specs.declared.answer.Answer.{Answer}
 use Rattle.arch_model.specs.declared.answer.Answer.TheVariants as answer
 use Rattle.epoch_store.specs.Opens.{RecoversOfWith, ReadsWith, IsOpenedIn}
+use Rattle.epoch_store.specs.Promises.{OpensArchive}
 use Rattle.epoch_store.specs.Settling.{IsSettledBy}
 use Rattle.store_finding.specs.Files.{as_read}
 use Rattle.store_finding.specs.Kept.{StoreState, IsStoreWith}
 use Rattle.epoch_store.specs.Commands.{StoreHasSizes}
 use Rattle.epoch_store.specs.Leaving.{disk_recovers}
+use Rattle.archive_core.specs.Commands.{TakesCommand}
+use Rattle.archive_core.specs.Openings.{LeavesKindly}
 use Rattle.view_set.specs.Viewed.{Viewed, views_of}
 
 -- A disk, what is kept in memory of its archive, the rows and words of its live messages, and whether
@@ -143,6 +149,11 @@ pub record FindsOn {D : Type 0} (g : Disk D) (old new : D) (v : StoreState) (a :
 abbrev pub FindsArchive : {D : Type 0} → Disk D → Owning D → Owning D → Archive → Type 0
 FindsArchive g old new a = FindsOn g old.disk new.disk new.view a
 
+-- A ready engine took a command: all that an archive on a disk promises of one.
+abbrev pub TakesOn : {D : Type 0} → Disk D → Owning D → Owning D → Command → ℕ → Answer → Type 0
+TakesOn g old new command moment reply = TakesCommand g old.disk new.disk old.view new.view command
+    (λ (a : Archive). applied a command moment) reply
+
 -- A disk and its archive, as a keeper.
 abbrev pub engine_of : {D : Type 0} → Disk D → Keeper (Owning D)
 engine_of g = record {
@@ -154,7 +165,34 @@ engine_of g = record {
   files_are = FilesAre g.content;
   leaves = Leaves g;
   finds = FindsArchive g;
+  takes = TakesOn g;
 }
+
+-- An engine was opened anew, up to a state between, as an archive is opened on a disk, and from there it
+-- took a command.
+pub record TakesOpened {D : Type 0} (g : Disk D) (old new : Owning D) (command : Command) (moment : ℕ)
+    (reply : Answer) : Type 0 where
+  pub middle : Owning D
+  pub opened : OpensArchive g old.disk middle.disk (Ok middle.view)
+  pub takes : TakesOn g middle new command moment reply
+
+-- An engine wasn't opened anew, for the reason that the answer to a command tells.
+pub record RefusesAnew {D : Type 0} (g : Disk D) (old new : Owning D) (reply : Answer) : Type 0 where
+  pub why : OpenRefusal
+  pub answer_is : reply ≡ opening_answer why
+  pub opened : OpensArchive g old.disk new.disk (Err why)
+  pub kindly : LeavesKindly why (g.content old.disk) (g.content new.disk)
+
+-- What an engine that had to be reopened did with a command.
+abbrev pub TakesAnew : {D : Type 0} → Disk D → Owning D → Owning D → Command → ℕ → Answer → Type 0
+TakesAnew g old new command moment reply = TakesOpened g old new command moment reply
+    ⊎ RefusesAnew g old new reply
+
+-- What an engine keeps once it was reopened, or why it wasn't.
+abbrev pub view_fresh : {D : Type 0} → Result Unit OpenRefusal → Owning D
+    → Result StoreState OpenRefusal
+view_fresh (Ok x) e = Ok e.view
+view_fresh (Err why) e = Err why
 
 -- Laws of such a keeper.
 

@@ -1,12 +1,12 @@
 //! An archive that owns its disk.
 //! Writes the disk; syncs.
-ghost use Rattle.std.specs.Prelude.{◌≡◌, ◌≤◌, true, false, IfOk, IfErr, OnErr, Err, List, None, not, ◌||◌, is_ok, is_some, length, ℕ};
+ghost use Rattle.std.specs.Prelude.{◌≡◌, ◌≤◌, true, false, IfOk, IfErr, OnErr, Err, List, [], None, not, ◌||◌, is_ok, is_some, length, ℕ};
 ghost use Rattle.arch_base.specs.Configs.{IsConfig};
 ghost use Rattle.arch_base.specs.Moments.{last_moment};
 ghost use Rattle.disk_model.specs.Moments.{LeavesOnly};
 ghost use Rattle.arch_model.specs.Archives.{Archive, live, text_of};
 ghost use Rattle.arch_model.specs.Delivery.{applied};
-ghost use Rattle.arch_model.specs.Keeping.{MatchesKnown, KeeperMoves, CommandGives, CommandFinds, StaysReady, AnswerCause, ReadsFor, text_known};
+ghost use Rattle.arch_model.specs.Keeping.{MatchesKnown, KeeperMoves, CommandGives, CommandTaken, CrashesLeaveOnly, FindsStanding, OpeningCause, Reopens, StaysReady, AnswerCause, ReadsFor, text_known};
 ghost use Rattle.arch_model.specs.Shelves.{GivesBlobIn, AppendsTo, ShelfStays, ReadCause, ReadsOnce};
 ghost use Rattle.arch_model.specs.Standing.{LastKnown, standing, GivesTextIn, KeepsUnlessFound};
 ghost use Rattle.epoch_store.specs.Opens.{ReadsWith};
@@ -15,7 +15,7 @@ ghost use Rattle.store_finding.specs.Kept.{IsStoreWith};
 ghost use Rattle.epoch_store.specs.Commands.{RecoversOneOf};
 ghost use Rattle.archive_core.specs.Commands.{DoneBy, OnDone, IfUnreadFor, IfRemoval, cache_left, IsForCommand, is_delivery};
 ghost use Rattle.archive_core.specs.DamageTold.{TellsDamage};
-ghost use Rattle.archive_core.specs.Engines.{HoldsArchive, FilesAre, FindsArchive, IfRefused, Leaves, OnlyReadsOn, is_ready, needs_opening as needs_opening_after, reading-same, reading-joined, store-left, holds-rest, now-left, reading-kept, engine_of};
+ghost use Rattle.archive_core.specs.Engines.{HoldsArchive, FilesAre, FindsArchive, IfRefused, Leaves, OnlyReadsOn, TakesAnew, TakesOn, is_ready, needs_opening as needs_opening_after, reading-same, reading-joined, store-left, holds-rest, now-left, reading-kept, engine_of, view_fresh};
 ghost use Rattle.archive_core.specs.HandedBack.{disk_made, made_or_why, disk_opened, opened_or_why};
 ghost use Rattle.archive_core.specs.Numbers.{GivesTextKept, GivesBlobKept, NamesId};
 ghost use Rattle.archive_core.specs.Openings.{RefusesKindly};
@@ -183,6 +183,8 @@ impl<D: Disk> Engine<D> {
             self.new) }
         ensures unmoved { IfUnreadFor command.now result (self.new ≡ self.old) }
         ensures for_command { IsForCommand command.now result }
+        // All that an archive on a disk promises of it.
+        ensures takes { TakesOn D.Disk self.old self.new command.now moment result }
         // `Damaged` has the place of an entry whose text isn't there, or a file that is too short.
         ensures damage { TellsDamage self.old.view (D.content self.old.disk) result }
         ensures later { D.faults self.old.disk ≤ D.faults self.new.disk }
@@ -339,11 +341,33 @@ impl<D: Disk> Keep for Engine<D> {
 
     ghost finds = { FindsArchive D.Disk };
 
+    ghost takes = { TakesOn D.Disk };
+
     fn is_stale(&self) -> bool {
         self.stale
     }
 
-    fn fresh(&mut self) -> Result<(), OpenRefusal> {
+    /// Reopens the archive if the engine is stale, and otherwise does nothing.
+    ///
+    /// The promises and the refusals are those of `DiskArchive::open`. Finds the archive as which the
+    /// files read: the one before a command in doubt, or the one after it.
+    fn fresh(&mut self) -> Result<(), OpenRefusal>
+        ensures nothing { is_ready self.old ≡ true → (is_ok result ≡ true) × (self.new ≡ self.old) }
+        ensures found { (s : LastKnown) → MatchesKnown (engine_of D.Disk) self.old s
+            → (t : LastKnown) × KeeperMoves (engine_of D.Disk) self.old s self.new t
+            × Reopens s result t
+            × FindsStanding (engine_of D.Disk) self.old self.new result t }
+        ensures crash { (s : LastKnown) → MatchesKnown (engine_of D.Disk) self.old s
+            → CrashesLeaveOnly (Leaves D.Disk) self.old self.new [] }
+        ensures ready { is_ready self.new ≡ is_ok result }
+        ensures later { D.faults self.old.disk ≤ D.faults self.new.disk }
+        ensures cause { OpeningCause (D.faults self.old.disk) (D.faults self.new.disk) result }
+        // Beyond any keeper, whatever the disk holds: it is opened as an archive is on a disk.
+        ensures opened { is_ready self.old ≡ false
+            → OpensArchive D.Disk self.old.disk self.new.disk (view_fresh result self.new) }
+        ensures refused { is_ready self.old ≡ false
+            → RefusesKindly result (D.content self.old.disk) (D.content self.new.disk) }
+    {
         law_of_recovery();
         if !self.stale {
             return Ok(());
@@ -380,8 +404,7 @@ impl<D: Disk> Keep for Engine<D> {
             → MatchesKnown (engine_of D.Disk) self.old s
             → (t : LastKnown) × KeeperMoves (engine_of D.Disk) self.old s self.new t
             × CommandGives (is_ready self.old) s (λ (a : Archive). applied a command.now moment) result t
-            × CommandFinds (engine_of D.Disk) self.old s (λ (a : Archive). applied a command.now moment)
-            self.new result t }
+            × CommandTaken (engine_of D.Disk) self.old s command.now moment self.new result t }
         ensures ready { StaysReady (is_ready self.old) result (is_ready self.new) }
         ensures later { D.faults self.old.disk ≤ D.faults self.new.disk }
         ensures cause { AnswerCause (D.faults self.old.disk) (D.faults self.new.disk) result }
@@ -391,6 +414,13 @@ impl<D: Disk> Keep for Engine<D> {
             → text_known a command.now ≡ false → D.reads self.new.disk ≡ D.reads self.old.disk }
         // Beyond any keeper. Each command gives only the answers of its kind.
         ensures for_command { IsForCommand command.now result }
+        // On any disk, told or not: an engine that needn't be reopened takes a command as an archive on a
+        // disk does. So a purge and an edit leave no cache, and the root file has one new root in its
+        // other slot. One that has to be reopened was, and took it so from there; or that was refused.
+        ensures takes { is_ready self.old ≡ true
+            → TakesOn D.Disk self.old self.new command.now moment result }
+        ensures anew { is_ready self.old ≡ false
+            → TakesAnew D.Disk self.old self.new command.now moment result }
         // The rest is said of an archive that needn't be reopened. A crash leaves the archive before the
         // command, or the one after it, and the disk is then that of the one that the answer tells, both
         // with this cache.

@@ -1,6 +1,7 @@
 -- What the calls of a keeper mean at the control door.
 use Rattle.std.proofs.Common.{◌≡◌, ◌≤◌, ℕ, Bool, true, false, List, [], ◌++◌, length, drop, Option, Some, None, is_some, is_ok, OnOk, Result, Ok, Err, refl, sym, ap, ◌∙◌, subst, arith, if◌then◌else◌}
 use Rattle.std.specs.List.{Contains}
+use Rattle.std.proofs.lemmas.Bool.{false≢true}
 use Rattle.line_door.specs.Acts.{ConnectionState, Plain, Memory, Disk, Acts, held_if}
 use Rattle.line_door.specs.Making.{closes}
 use Rattle.edge_io.specs.Phrases.{Says}
@@ -21,9 +22,11 @@ use Rattle.arch_model.specs.declared.text_refusal.TextRefusal.TheVariants as rea
 use Rattle.arch_model.proofs.Keepers.{settled-is, settled-sure, moves-same, moves-read, fits-held}
 use Rattle.keep_course.proofs.Commands.{commanded}
 use Rattle.answer_lines.specs.Lines.{whole_line, memory_word, disk_word, unread_words, unopened_words}
-use Rattle.control_door.specs.Requests.{Request, Shows, Threads, Lists, Reindexes, Quits, Mistakes, Exceeds, Asked, ahead}
-use Rattle.control_door.specs.Door.{waiting, said_to, goes_on, carries_out, doubts, answered, refused_memory, refused_disk, epochs_words, shown, threaded, reindexed_words, bad_word}
-use Rattle.control_door.specs.Sessions.{request_for, request_with, IsControlAct, AnswersRequest, ReopensForCommand, ControlActs}
+use Rattle.control_door.specs.Requests.{Request, Shows, Threads, Lists, Reindexes, Quits, Mistakes, Exceeds, Asked, ahead, is_request}
+use Rattle.control_door.specs.Door as door
+use Rattle.control_door.specs.Door.{waiting, reopens, said_opening, said_to, goes_on, carries_out, doubts, answered, refused_memory, refused_disk, epochs_words, shown, threaded, reindexed_words, bad_word}
+use Rattle.keep_course.specs.Answering.{ReopenedAs}
+use Rattle.control_door.specs.Sessions.{request_for, request_with, left_by_act, IsControlAct, AnswersRequest, ReopensForCommand, ControlActs}
 use Rattle.control_door.specs.declared.front.Aim.{Aim}
 use Rattle.control_door.specs.declared.front.Aim.TheVariants.{New, InPlaceOf}
 use Rattle.control_door.specs.declared.session.Act.{Act}
@@ -161,17 +164,30 @@ acts-commanded moment a command rest t reply i j sent comes cause later said =
     commanded (said_to moment s (request_for command) rest) (waiting rest false) (λ (r : Answer). whole_line (answer_line r)) a (λ (b : Archive). applied b command moment) (command-plain moment s command rest) (command-memory moment s command rest) (command-disk moment s command rest) reply t i j sent
     comes cause later said
 
+-- Nothing is reopened before what is no request.
+reopens-none : (opened : Bool) (bytes : List ℕ) → is_request bytes ≡ false → reopens (waiting bytes opened) ≡ false
+reopens-none true bytes none = refl
+reopens-none false bytes none = none
+
 module _ {K : Type 0} (g : Keeper K) where
+  -- The archive was reopened before a request, which is at the front of these bytes.
+  reopened-by : (moment : ℕ) (s : LastKnown) (old piece : List ℕ) (request : Request) (n : ℕ) (k k' : K) (i : ConnectionState) (t : LastKnown) (j : ConnectionState) (done : Bool) → ahead (old ++ piece) ≡ Asked request (drop n piece)
+      → ReopenedAs g (said_opening s (old ++ piece) Plain) k i (held_if done (waiting (old ++ piece) true)) k' t j → ReopenedAs g (door.said moment s (waiting (old ++ piece) false) Plain) k i (left_by_act false piece (if done then Opened else Closed) old) k' t j
+  reopened-by moment s old piece request n k k' i t j true stands reopened = rw stands reopened
+  reopened-by moment s old piece request n k k' i t j false stands reopened = rw stands reopened
+
   -- A request was answered.
   pub turns-answered : (moment : ℕ) (old piece : List ℕ) (request : Request) (n : ℕ) (k k' : K) (i j : ConnectionState) (new : List ℕ) (goes : Bool) → g.ready k ≡ true → ahead (old ++ piece) ≡ Asked request (drop n piece) → new ≡ []
       → AnswersRequest g moment request k i goes k' j → ControlActs g moment true old piece k i (if goes then Went n else Closed) new k' j
   turns-answered moment old piece request n k k' i j new goes at_hand stands none acts = λ s fits.
       let is = settled-is g k s fits at_hand in
       let done = acts s.archive (drop n piece) is.1 in
-      subst (λ (x : LastKnown). (t : LastKnown) × KeeperMoves g k x k' t × IsControlAct moment true x old piece i (if goes then Went n else Closed) t new j) (sym is.0) (
+      subst (λ (x : LastKnown). (t : LastKnown) × KeeperMoves g k x k' t × IsControlAct moment true x old piece i (if goes then Went n else Closed) t new j
+      × (reopens (waiting (old ++ piece) true) ≡ true → ReopenedAs g (door.said moment x (waiting (old ++ piece) true) Plain) k i (left_by_act true piece (if goes then Went n else Closed) new) k' t j)) (sym is.0) (
         done.0,
         done.1,
         turn-went moment (standing s.archive None) old piece request n i done.0 new j goes stands none done.2,
+        λ never. absurd (false≢true never),
       )
 
   -- The archive was reopened before a request, or not.
@@ -179,11 +195,11 @@ module _ {K : Type 0} (g : Keeper K) where
       → ReopensForCommand g k i done k' j → ControlActs g moment false old piece k i (if done then Opened else Closed) old k' j
   turns-opened moment old piece request n k k' i j done stands opens = λ s fits.
       let o = opens s (old ++ piece) fits in
-      (o.0, o.1, turn-opened moment s old piece request n i o.0 j done stands o.2)
+      (o.0, o.1, turn-opened moment s old piece request n i o.0 j done stands o.2, λ asked. reopened-by moment s old piece request n k k' i o.0 j done stands o.3)
 
   -- Nothing was asked of the keeper.
-  pub turns-held : (moment : ℕ) (opened : Bool) (held piece : List ℕ) (k : K) (i : ConnectionState) (turn : Act) (new : List ℕ) (j : ConnectionState) → ((s : LastKnown) → IsControlAct moment opened s held piece i turn s new j) → ControlActs g moment opened held piece k i turn new k j
-  turns-held moment opened held piece k i turn new j done = λ s fits. (s, moves-same g k s fits, done s)
+  pub turns-held : (moment : ℕ) (opened : Bool) (held piece : List ℕ) (k : K) (i : ConnectionState) (turn : Act) (new : List ℕ) (j : ConnectionState) → is_request (held ++ piece) ≡ false → ((s : LastKnown) → IsControlAct moment opened s held piece i turn s new j) → ControlActs g moment opened held piece k i turn new k j
+  turns-held moment opened held piece k i turn new j none done = λ s fits. (s, moves-same g k s fits, done s, λ asked. absurd (false≢true (sym (reopens-none opened (held ++ piece) none) ∙ asked)))
 
   module _ (holds_files_are : (k : K) (a : Archive) → g.holds k a → g.files_are k a) (holds_left : (k : K) (a : Archive) (may : List (Option Archive)) → g.holds k a → Contains may (Some a) → g.leaves k k may) where
     -- A request that only reads was answered.

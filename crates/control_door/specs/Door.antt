@@ -167,6 +167,10 @@ said moment s w way = said_at moment s w (ahead w.bytes) way
 abbrev pub has_request : Waiting → Bool
 has_request w = is_request w.bytes
 
+-- The archive is reopened before the request at the front.
+abbrev pub reopens : Waiting → Bool
+reopens w = if w.opened then false else has_request w
+
 -- The session with a piece after its bytes.
 abbrev pub with_piece : List ℕ → Waiting → Waiting
 with_piece piece w = waiting (w.bytes ++ piece) w.opened

@@ -76,7 +76,9 @@ impl Session {
     /// session continues.
     ///
     /// `moment` is in seconds since 1970 UTC. The keeper is ready at first. It is reopened before
-    /// each further request, which does nothing while no command is in doubt.
+    /// each further request, which changes nothing of a ready one, and says nothing then. After each
+    /// act the keeper matches what stands then: so before the next request is answered its files are
+    /// exactly those of the archive, where nothing is in doubt.
     ///
     /// The session ends, and the remaining bytes are dropped:
     ///
@@ -96,8 +98,8 @@ impl Session {
     ///
     /// A command, a text, a thread, a list of epochs or a reindexing that runs out of memory writes
     /// `12 no memory`, and the archive is unchanged. If the disk fails at one, it writes
-    /// `10 disk fault`, and the keeper's count of faults rose. It stays at each act that doesn't write
-    /// so. The session continues in both cases. After a fault, only reopening the archive shows
+    /// `10 disk fault`, and the keeper's count of faults rose in that act. It stays at each other one of
+    /// them. The session continues in both cases. After a fault, only reopening the archive shows
     /// whether a command was carried out.
     ///
     /// The keeper reads no more than the requests that are answered ask for: one text for `show`, 64

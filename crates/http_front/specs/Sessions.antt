@@ -3,7 +3,9 @@ use Rattle.std.specs.Prelude.{◌≡◌, ◌<◌, ◌≤◌, ◌⊎◌, ◌&&◌
 use Rattle.line_door.specs.Acts.{ConnectionState, Departure, Acts, held_if}
 use Rattle.line_door.specs.Making as door
 use Rattle.line_door.specs.Making.{in_ways}
-use Rattle.line_door.specs.Course.{talk, Fed}
+use Rattle.line_door.specs.Course.{talk}
+use Rattle.keep_course.specs.Courses.{ShelfRun}
+use Rattle.arch_model.specs.declared.shelf.Shelf.{Ghosts as Shelf}
 use Rattle.arch_model.specs.Archives.{Entry, Archive, live}
 use Rattle.arch_model.specs.Shelves.{ReadsUpTo, ReadsAhead, ReadsIn}
 use Rattle.arch_base.specs.declared.sequence.NoMemory.{NoMemory}
@@ -190,10 +192,12 @@ module _ {S : Type 0} (holds : S → Archive → Type 0) where
   PageActs moment old piece shelf i turn new j = (a : Archive) → holds shelf a
       → IsPageAct moment a old piece i turn new j
 
-  -- Whichever archive is held, these bytes of a session are answered by a course.
-  abbrev pub AnswersPages : ℕ → List ℕ → S → ConnectionState → Bool → List ℕ → ConnectionState → Type 0
-  AnswersPages moment bytes shelf i goes_on left j = (a : Archive) → holds shelf a
-      → Fed (said moment) has_request (talk (Some bytes) a i) (talk (held_if goes_on left) a j)
+-- Whichever archive a shelf holds, these bytes of a session are answered by a course.
+abbrev pub AnswersPages : {S : Type 0} → Shelf S → ℕ → List ℕ → S → ConnectionState → Bool → List ℕ → S
+    → ConnectionState → Type 0
+AnswersPages g moment bytes old i goes_on left new j = (a : Archive) → g.holds old a
+    → ShelfRun g (said moment) has_request old new (talk (Some bytes) a i)
+    (talk (held_if goes_on left) a j)
 
 -- The words were taken, and the session continues unless the reply closes it; or they were lost, and
 -- it is closed.

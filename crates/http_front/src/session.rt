@@ -99,9 +99,9 @@ impl HttpSession {
     ) -> Next
         requires ready { S.ready shelf.old ≡ true }
         requires moment { IsMoment moment }
-        ensures fed { AnswersPages S.holds moment (self.old ++ piece.now) shelf.old
+        ensures fed { AnswersPages S.Shelf moment (self.old ++ piece.now) shelf.old
             (at_sink O.Sink out.old (S.faults shelf.old))
-            (continues result) self.new
+            (continues result) self.new shelf.new
             (at_sink O.Sink out.new (S.faults shelf.new)) }
         ensures reads { ReadsBytes S.holds (self.old ++ piece.now) shelf.old (S.reads shelf.old)
             (S.reads shelf.new) }

@@ -1,9 +1,9 @@
 -- The moment of an arrival, and the days of messages.
-use Rattle.std.proofs.Common.{◌≡◌, ℕ, ◌+◌, ◌*◌, ◌≤◌, List, ap, ◌∙◌, subst, arith, ℤ, pos, min}
+use Rattle.std.proofs.Common.{◌≡◌, ℕ, ◌≤◌, List, ap, ◌∙◌, subst, arith, min}
 use Rattle.jiff_core.proofs.SignedLemmas.{signed_arith}
 use Rattle.mail_date.specs.Dates.{last_second}
 use Rattle.mail_date.specs.Laws.{PrintedDateIsOne}
-use Rattle.mail_date.specs.Printed.{IsPrintable, IsDateAt, utc, PrintsDate, imap_text}
+use Rattle.mail_date.specs.Printed.{IsPrintable, utc, PrintsDate, imap_text}
 use Rattle.web_text.specs.Days.{date_at}
 use Rattle.web_text.proofs.CivilDays.{date_shown}
 

@@ -1,8 +1,7 @@
 -- Sections are spans of the text or fields of a header, and messages inside have the same sections.
-use Rattle.std.proofs.Common.{◌≡◌, ℕ, zero, suc, ◌-◌, ◌==◌, Bool, true, false, cond, eqb, List, [], ◌∷◌, ◌++◌, take, drop, Option, Some, None, refl, sym, ap, ◌∙◌, subst, append_assoc, append-nil}
+use Rattle.std.proofs.Common.{◌≡◌, ℕ, ◌-◌, Bool, true, false, cond, eqb, List, [], ◌∷◌, ◌++◌, take, drop, Option, Some, None, refl, sym, ap, ◌∙◌, subst, append_assoc, append-nil}
 use Rattle.std.specs.Prelude.{option_and_then}
 use Rattle.std.proofs.lemmas.List.{take-append-drop}
-use Rattle.std.proofs.lemmas.Option.{same_Some, none-some}
 use Rattle.mail_reader.specs.Bodies.{body_of}
 use Rattle.mail_reader.specs.Laws.{IsPieceOf, PartsLieIn, wholes}
 use Rattle.mail_reader.specs.Fields.{fields_of}
@@ -10,13 +9,12 @@ use Rattle.mime_parts.specs.declared.part.Part.{Part}
 use Rattle.mime_parts.specs.declared.part.Span.{Span}
 use Rattle.mime_parts.specs.declared.part.Shape.{Shape}
 use Rattle.mime_parts.specs.declared.part.Shape.TheVariants.{Leaf, Message, Multipart}
-use Rattle.mime_parts.specs.Trees.{bytes_at, tree_of}
-use Rattle.imap_structure.specs.Forests.{Forest, Bare, Tree, forest_of}
-use Rattle.imap_syntax.specs.declared.items.Section.{Section}
+use Rattle.mime_parts.specs.Trees.{bytes_at}
+use Rattle.imap_structure.specs.Forests.{Forest, Bare, Tree}
 use Rattle.imap_syntax.specs.declared.items.SectionText.{SectionText}
 use Rattle.imap_syntax.specs.declared.items.SectionText.TheVariants as asked
-use Rattle.imap_items.specs.Sections.{PlaceText, place_of, mail_with, whole_mail, nth_tree, part_of, part_of_message, part_by, part_at, place_at, header_bytes, of_message, source_in, source_of}
-use Rattle.imap_items.specs.Laws.{IsHeaderIn, IsMimeIn, IsSectionOf, SectionsAreSpans, is_inside, InnerMailsAgree}
+use Rattle.imap_items.specs.Sections.{PlaceText, place_of, whole_mail, nth_tree, part_of, part_of_message, part_by, part_at, place_at, header_bytes, of_message, source_in}
+use Rattle.imap_items.specs.Laws.{IsSectionOf, SectionsAreSpans, is_inside, InnerMailsAgree}
 
 -- The bytes of a span are a piece of the text.
 span_lies : (text : List ℕ) (n m : ℕ) → IsPieceOf (take n (drop m text)) text

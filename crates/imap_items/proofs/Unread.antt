@@ -1,9 +1,9 @@
 -- Keys that read no text.
-use Rattle.std.proofs.Common.{◌≡◌, ℕ, Bool, true, false, ◌||◌, ◌&&◌, not, List, [], ◌∷◌, map, refl, sym, ap, ◌∙◌, subst}
+use Rattle.std.proofs.Common.{◌≡◌, ℕ, Bool, false, ◌||◌, not, List, [], ◌∷◌, map, refl, sym, ap, ◌∙◌, subst}
 use Rattle.std.specs.List.{list_all, list_any}
 use Rattle.std.proofs.lemmas.Bool.{or_parts}
 use Rattle.imap_syntax.specs.declared.keys.Key.{Key}
-use Rattle.imap_syntax.specs.declared.keys.Key.TheFolds.{fold-Key, fold-roll-Key, map-Key, ind-Key}
+use Rattle.imap_syntax.specs.declared.keys.Key.TheFolds.{fold-roll-Key, map-Key, ind-Key}
 use Rattle.imap_syntax.specs.declared.keys.Key.TheOpen.{Key-F}
 use Rattle.imap_syntax.specs.declared.keys.Key.TheViews.{roll-Key}
 use Rattle.imap_syntax.specs.declared.keys.Key.TheOpen as key

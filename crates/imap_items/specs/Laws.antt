@@ -1,13 +1,12 @@
 -- Laws of sections and of keys.
-use Rattle.std.specs.Prelude.{◌≡◌, ◌↔◌, ℕ, Bool, true, false, List, [], ◌∷◌, ◌++◌, Option, Some}
+use Rattle.std.specs.Prelude.{◌≡◌, ◌↔◌, ℕ, Bool, true, false, List, [], ◌∷◌, ◌++◌, Some}
 use Rattle.mail_reader.specs.Laws.{IsPieceOf}
-use Rattle.mime_parts.specs.declared.part.Shape.{Shape}
 use Rattle.mime_parts.specs.declared.part.Shape.TheVariants.{Message}
 use Rattle.imap_syntax.specs.declared.items.Section.{Section}
 use Rattle.imap_syntax.specs.declared.items.SectionText.{SectionText}
 use Rattle.imap_syntax.specs.declared.items.SectionText.TheVariants as asked
 use Rattle.imap_syntax.specs.declared.keys.Key.{Key}
-use Rattle.imap_items.specs.Sections.{PlaceText, whole_mail, place_at, header_bytes, source_in, source_of}
+use Rattle.imap_items.specs.Sections.{PlaceText, whole_mail, place_at, header_bytes, source_of}
 use Rattle.imap_items.specs.Searching.{has_piece}
 use Rattle.imap_items.specs.Keys.{MessageText, matches_of, reads_text}
 

@@ -7,7 +7,7 @@ ghost use Rattle.imap_items.specs.Searching.{has_piece};
 ghost use Rattle.imap_items.specs.Keys.{in_field, in_body, in_text, found_in_header};
 ghost use Rattle.imap_items.specs.Kept.{lower_decoded, lower_values, lower_header, lower_body, IsKeptText, IsNamedField};
 
-use crate::searching::{has_piece, lower};
+use crate::searching::{has_piece, into_lower, lower};
 use arch_base::{Bytes, NoMemory, Texts};
 use mail_forms::{header, wire};
 use mail_reader::{fields, flat, is_same_name};
@@ -166,7 +166,7 @@ fn lower_value(alloc: Global, value: &[u8]) -> Result<Bytes, NoMemory>
 {
     let value = flat(alloc, value)?;
     let value = decode(alloc, value.as_slice())?;
-    lower(alloc, value.as_slice())
+    Ok(into_lower(value))
 }
 
 /// Returns the header as it is sent, in lower case.
@@ -175,7 +175,7 @@ fn lower_header(alloc: Global, text: &[u8]) -> Result<Bytes, NoMemory>
 {
     let mut made = Bytes::new(alloc);
     wire(header(text), &mut made)?;
-    lower(alloc, made.as_slice())
+    Ok(into_lower(made))
 }
 
 /// Returns the body's text in lower case.
@@ -183,7 +183,7 @@ fn lower_body(alloc: Global, text: &[u8]) -> Result<Bytes, NoMemory>
     ensures { IfOk result (λ made. made ≡ lower_body text.now) }
 {
     let body = body_text(alloc, text)?;
-    lower(alloc, body.as_slice())
+    Ok(into_lower(body))
 }
 
 /// Returns a copy of bytes.

@@ -8,15 +8,31 @@ use arch_base::{Bytes, NoMemory};
 use memchr::memmem;
 use std::alloc::Global;
 
-/// Returns the bytes with ASCII letters in lower case.
+/// Returns a copy of bytes with ASCII letters in lower case.
 pub(crate) fn lower(alloc: Global, bytes: &[u8]) -> Result<Bytes, NoMemory>
     ensures { IfOk result (λ made. made ≡ str_to_ascii_lowercase bytes.now) }
 {
     let mut made = Bytes::new(alloc);
-    for byte in bytes {
-        made.push(byte.to_ascii_lowercase())?;
+    made.push_slice(bytes)?;
+    Ok(into_lower(made))
+}
+
+/// Returns the bytes with ASCII letters in lower case. Allocates nothing.
+pub(crate) fn into_lower(bytes: Bytes) -> Bytes
+    ensures { result ≡ str_to_ascii_lowercase bytes }
+{
+    let mut items = bytes.into_vec();
+    make_lower(items.as_mut_slice());
+    Bytes::from_vec(items)
+}
+
+/// Puts ASCII letters in lower case.
+fn make_lower(bytes: &mut [u8])
+    ensures { bytes.new ≡ str_to_ascii_lowercase bytes.old }
+{
+    for byte in bytes.iter_mut() {
+        byte.make_ascii_lowercase();
     }
-    Ok(made)
 }
 
 /// Returns whether a text has another in it.

@@ -5,7 +5,7 @@ use Rattle.arch_base.specs.Counts.{Rose}
 use Rattle.edge_io.specs.Phrases.{Says}
 use Rattle.edge_io.specs.declared.sink.SinkFault.{SinkFault}
 use Rattle.edge_io.proofs.Wording.{plus-none}
-use Rattle.line_door.specs.Acts.{ConnectionState, Said, Departure, Plain, Memory, Disk, Newer, Acts, held_if}
+use Rattle.line_door.specs.Acts.{ConnectionState, Said, Departure, Plain, Memory, Disk, Newer, Acts, PlainActs, held_if}
 use Rattle.line_door.specs.Making.{says, closes}
 use Rattle.line_door.proofs.Acting.{acts-by_held, acts-closing}
 use Rattle.arch_model.specs.Archives.{Archive}
@@ -76,6 +76,17 @@ module _ {H : Type 0} (line : OpenRefusal → List ℕ) (s : LastKnown) (h : H) 
       by (inr in_doubt) =
           let is : t.archive ≡ newer s = sym (ap (newer_of s.archive) in_doubt) in
           acts-by_held (said_reopening line s h) Newer (says (standing (newer s) None) h []) i j h t (Ok tt) refl refl kept (omega (arith, kept)) (said_nothing i j out lost) (settled_is t (newer s) is settles.sure)
+
+  -- Where nothing was in doubt, that went by the rules.
+  pub reopening-nothing : (t : LastKnown) (i j : ConnectionState) → s.in_doubt ≡ None → Settles s t → j.disk ≡ i.disk → j.out ≡ i.out → j.lost ≡ i.lost → PlainActs (said_reopening line s h Plain) i (Some h) t j
+  reopening-nothing t i j sure settles kept out lost = record {
+    disk_kept = kept;
+    whole = record { held_is = refl; after_is = settled_is t s.archive (older settles.found) settles.sure; out_is = (said_nothing i j out lost).1; lost_kept = lost };
+  }
+    where
+      older : IsFound s t.archive → t.archive ≡ s.archive
+      older (inl is) = is
+      older (inr in_doubt) = absurd (cc (sym sure ∙ in_doubt))
 
   pub reopening-refused : (t : LastKnown) (why : OpenRefusal) (i j : ConnectionState) (sent : Result Unit SinkFault) → ReopeningRefused s why t → OpeningWhy i.disk j.disk why → i.disk ≤ j.disk → Says (line why) i.out i.lost j.out j.lost sent
       → Acts (said_reopening line s h) i None t j

@@ -1,6 +1,6 @@
 -- What one act over a keeper does, for any door: it answers a request, or reopens the archive.
-use Rattle.std.specs.Prelude.{ℕ, Bool, List, [], Option, Some, None}
-use Rattle.line_door.specs.Acts.{ConnectionState, Said, Departure, Plain, Memory, Disk, Newer, Acts, held_if}
+use Rattle.std.specs.Prelude.{◌≡◌, ℕ, Bool, true, false, List, [], Option, Some, None, is_some}
+use Rattle.line_door.specs.Acts.{ConnectionState, Said, Departure, Plain, Memory, Disk, Newer, Acts, PlainActs, held_if}
 use Rattle.line_door.specs.Making.{says, closes}
 use Rattle.arch_model.specs.Archives.{Archive}
 use Rattle.arch_model.specs.Standing.{LastKnown, standing, unsure}
@@ -37,10 +37,19 @@ module _ {K : Type 0} (g : Keeper K) where
       × KeeperMoves g old (standing a None) new t
       × Acts (words a rest) i (held_if goes_on (after rest)) t j
 
-  -- Whatever the keeper matches, an act of these words is done, and the keeper matches what it leaves.
+  -- A reopening, whose words by the rules are these. It changes nothing of a ready keeper: then it goes by
+  -- the rules, as where memory is ample and the disk answers. Of one that isn't, if it isn't refused, it
+  -- finds the archive as which the files read.
+  pub record ReopenedAs {H : Type 0} (plain : Said H LastKnown) (old : K) (i : ConnectionState)
+      (held : Option H) (new : K) (t : LastKnown) (j : ConnectionState) : Type 0 where
+    pub nothing : g.ready old ≡ true → (new ≡ old) × PlainActs plain i held t j
+    pub found : g.ready old ≡ false → is_some held ≡ true → g.finds old new t.archive
+
+  -- Whatever the keeper matches, it is reopened by an act of these words, and matches what that leaves.
   abbrev pub ReopensBy : {H R : Type 0} → (LastKnown → R → Departure → Said H LastKnown) → (R → H) → K
       → ConnectionState → Bool → K → ConnectionState → Type 0
   ReopensBy {H} {R} words after old i opened new j =
       (s : LastKnown) (rest : R) → MatchesKnown g old s → (t : LastKnown)
       × KeeperMoves g old s new t
       × Acts (words s rest) i (held_if opened (after rest)) t j
+      × ReopenedAs (words s rest Plain) old i (held_if opened (after rest)) new t j

@@ -7,7 +7,7 @@ use Rattle.line_door.specs.Course.{SessionState}
 use Rattle.arch_model.specs.Archives.{Archive}
 use Rattle.arch_model.specs.Standing.{LastKnown}
 use Rattle.arch_model.specs.Keeping.{Keeper, CrashesLeaveOnly, MatchesKnown}
-use Rattle.keep_course.specs.Courses.{SessionRun, archives_in}
+use Rattle.keep_course.specs.Courses.{KeeperRun, archives_in}
 
 -- It holds its last archive.
 abbrev pub HistoryHolds : List Archive → Archive → Type 0
@@ -25,7 +25,7 @@ history_ready k = true
 abbrev pub HistoryLeaves : List Archive → List Archive → List (Option Archive) → Type 0
 HistoryLeaves start k may = (a : Archive) → Contains k a → Contains may (Some a)
 
--- The small keeper. It reads no disk.
+-- The small keeper. It reads no disk, and is never reopened.
 abbrev pub history : Keeper (List Archive)
 history = record {
   holds = HistoryHolds;
@@ -35,14 +35,16 @@ history = record {
   alike = λ k m. k ≡ m;
   files_are = HistoryRests;
   leaves = HistoryLeaves;
+  finds = λ old new a. HistoryHolds new a;
+  takes = λ old new command moment reply. Unit {0};
 }
 
 -- A crash since the start of a course leaves an archive of one of its talks, or one in doubt there.
 abbrev pub CourseLaw : Type 0
-CourseLaw = (said : LastKnown → ℕ → Departure → Said ℕ LastKnown) (is_request : ℕ → Bool)
+CourseLaw = (said : LastKnown → ℕ → Departure → Said ℕ LastKnown) (is_request reopens : ℕ → Bool)
     (old new : List Archive) (w v : SessionState ℕ LastKnown)
     → MatchesKnown history old w.after
-    → (course : SessionRun HistoryLeaves said is_request old new w v)
+    → (course : KeeperRun history said is_request reopens old new w v)
     → HistoryLeaves old new (archives_in w (course.acts ++ v ∷ []))
 
 -- Courses in order: a crash since the first leaves an archive of a standing of one of them, where

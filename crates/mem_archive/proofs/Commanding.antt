@@ -1,11 +1,11 @@
 -- The archive in memory as a keeper of itself.
-use Rattle.std.proofs.Common.{◌≡◌, ℕ, Bool, true, List, ◌++◌, length, Option, Some, None, is_some, Ok, inl, inr, refl, sym, ap, subst, ◌∙◌}
+use Rattle.std.proofs.Common.{◌≡◌, ℕ, Bool, true, false, List, ◌++◌, length, Option, Some, None, is_some, Ok, inl, inr, refl, sym, ap, subst, ◌∙◌}
 use Rattle.std.specs.List.{Contains}
 use Rattle.mem_archive.specs.Crashes.{in_memory}
 use Rattle.arch_model.specs.Archives.{Archive, live, text_of}
 use Rattle.arch_model.specs.Delivery.{Done, Delivers, applied}
 use Rattle.arch_model.specs.Standing.{LastKnown, standing, GivesTextIn}
-use Rattle.arch_model.specs.Keeping.{MatchesKnown, KeeperMoves, Settles, CommandGives, CommandTaken, FindsStanding, StaysReady, AnswerCause}
+use Rattle.arch_model.specs.Keeping.{MatchesKnown, KeeperMoves, Settles, CommandGives, CommandTaken, StaysReady, AnswerCause}
 use Rattle.arch_model.specs.declared.command.Command.{Command}
 use Rattle.arch_model.specs.declared.answer.Answer.{Answer}
 use Rattle.arch_model.specs.declared.answer.Answer.TheVariants as answer
@@ -17,7 +17,7 @@ moves-itself : (m n : Archive) (s : LastKnown) (a : Archive) → n ≡ a → Kee
 moves-itself m n s a same = record { fits = fits-itself a n same; passes = λ start may has left. subst (λ (x : Archive). Contains may (Some x)) (sym same) has.1.0.archive }
 
 -- Reopening does nothing.
-pub fresh-done : (m : Archive) (s : LastKnown) → MatchesKnown in_memory m s → (t : LastKnown) × KeeperMoves in_memory m s m t × Settles s t × FindsStanding in_memory m m (Ok tt) t
+pub fresh-done : (m : Archive) (s : LastKnown) → MatchesKnown in_memory m s → (t : LastKnown) × KeeperMoves in_memory m s m t × Settles s t × (true ≡ false → (t.archive ≡ m) × (m ≡ m))
 fresh-done m s fits = (standing m None, moves-itself m m s m refl, record { found = inl (sym (fits.settled refl).0); sure = refl }, λ stale. (refl, refl))
 
 -- Rebuilding counts the live messages.

@@ -4,7 +4,8 @@ ghost use Rattle.std.specs.Prelude.{◌≡◌, ◌≤◌, ◌+◌, ◌<◌, ◌+
 ghost use Rattle.arch_base.specs.Moments.{last_moment};
 ghost use Rattle.line_door.specs.Acts.{Acts, held_if, at_sink};
 ghost use Rattle.line_door.specs.Clipped.{longest_line};
-ghost use Rattle.line_door.specs.Course.{talk, Fed};
+ghost use Rattle.line_door.specs.Course.{talk};
+ghost use Rattle.keep_course.specs.Courses.{ShelfRun};
 ghost use Rattle.line_door.specs.Lines.{content};
 ghost use Rattle.line_door.specs.Skipping.{skipping_front, Unended};
 ghost use Rattle.arch_model.specs.OverShelf.{ShelfKept};
@@ -114,7 +115,8 @@ impl NntpSession {
     ) -> Next
         requires ready { S.ready shelf.old ≡ true }
         requires moment { moment ≤ last_moment }
-        ensures fed { (a : Archive) → S.holds shelf.old a → Fed (said moment) has_request
+        ensures fed { (a : Archive) → S.holds shelf.old a → ShelfRun S.Shelf (said moment)
+            has_request shelf.old shelf.new
             (talk (Some (with_piece piece.now self.old)) a
             (at_sink O.Sink out.old (S.faults shelf.old)))
             (talk (held_if (continues result) self.new) a

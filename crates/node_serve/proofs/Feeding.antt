@@ -1,16 +1,17 @@
 -- The course of one door's session is one of the node's.
 use Rattle.std.proofs.Common.{◌≡◌, ℕ, Bool, true, false, List, [], ◌∷◌, ◌++◌, Option, Some, None, refl, sym, ap, subst, inl}
 use Rattle.std.specs.List.{Contains}
-use Rattle.line_door.specs.Acts.{ConnectionState, Said, Departure, Acts, held_if}
-use Rattle.line_door.specs.Course.{SessionState, talk, Fed}
-use Rattle.line_door.specs.Over.{held_over, said_over, talk_over, talks_over}
-use Rattle.line_door.proofs.Lifting.{requests-over, last-over}
+use Rattle.line_door.specs.Acts.{ConnectionState, Plain, Acts, held_if}
+use Rattle.line_door.specs.Course.{talk}
+use Rattle.line_door.specs.Over.{held_over}
 use Rattle.arch_model.specs.Archives.{Archive}
 use Rattle.arch_model.specs.Standing.{LastKnown, standing}
-use Rattle.arch_model.specs.Keeping.{CrashesLeaveOnly, MatchesKnown, KeeperMoves, OnlyRead, Keeper}
+use Rattle.arch_model.specs.Keeping.{MatchesKnown, KeeperMoves, OnlyRead, Keeper}
+use Rattle.arch_model.specs.declared.shelf.Shelf.{Ghosts as Shelf}
 use Rattle.arch_model.proofs.Keepers.{settled-is, moves-read}
-use Rattle.keep_course.specs.Courses.{afters, SessionRun}
-use Rattle.keep_course.proofs.Courses.{coming-same, coming-more, coming-last, course-after, reading-course}
+use Rattle.keep_course.specs.Answering.{ReopenedAs}
+use Rattle.keep_course.specs.Courses.{KeeperActs, ShelfRun}
+use Rattle.keep_course.proofs.Courses.{coming-same, coming-more, coming-last, course-after, course-over, reading-course}
 use Rattle.control_door.specs.Door as control
 use Rattle.control_door.specs.Door.{Waiting, waiting}
 use Rattle.control_door.specs.Sessions as sessions
@@ -20,27 +21,10 @@ use Rattle.line_door.specs.Readers as readers
 use Rattle.pop3_reader.specs.Door as pop
 use Rattle.pop3_reader.specs.Door.{PopClient}
 use Rattle.http_front.specs.Door as pages
-use Rattle.node_serve.specs.Doors.{Came, AtControl, AtNews, AtPop, AtHttp, with_piece, rest_if, said, is_asked}
+use Rattle.node_serve.specs.Doors.{Came, AtControl, AtNews, AtPop, AtHttp, with_piece, rest_if, said, is_asked, reopens}
 use Rattle.node_serve.specs.Nodes.{FedFrom, ReadsAt, ReadsCame}
 use Rattle.node_serve.specs.declared.session.Session.{Session}
 use Rattle.node_serve.specs.declared.session.Session.TheVariants as session
-
--- The standings of lifted talks are those of the talks.
-afters-over : {H J : Type 0} (into : H → J) (ts : List (SessionState H LastKnown)) (v : SessionState H LastKnown) → afters (talks_over (λ (t : LastKnown). t) into ts ++ talk_over (λ (t : LastKnown). t) into v ∷ []) ≡ afters (ts ++ v ∷ [])
-afters-over into [] v = refl
-afters-over into (t ∷ ts) v = ap (λ (ss : List LastKnown). t.after ∷ ss) (afters-over into ts v)
-
--- A course over a keeper is one of a greater door that has its sessions among its own.
-course-over : {K H J : Type 0} (leaves : K → K → List (Option Archive) → Type 0) (into : H → J) (one : LastKnown → H → Departure → Said H LastKnown) (is_one : H → Bool) (other : LastKnown → J → Departure → Said J LastKnown) (is_other : J → Bool)
-    → ((s : LastKnown) (h : H) (way : Departure) → other s (into h) way ≡ said_over (λ (t : LastKnown). t) into (one s h way)) → ((h : H) → is_other (into h) ≡ is_one h)
-    → (old new : K) (w v : SessionState H LastKnown) → SessionRun leaves one is_one old new w v → SessionRun leaves other is_other old new (talk_over (λ (t : LastKnown). t) into w) (talk_over (λ (t : LastKnown). t) into v)
-course-over leaves into one is_one other is_other same asks old new w v course = record {
-  acts = talks_over (λ (t : LastKnown). t) into course.acts;
-  before = talk_over (λ (t : LastKnown). t) into course.before;
-  each = requests-over (λ (t : LastKnown). t) into one is_one other is_other same asks w course.acts course.before course.each;
-  last = last-over (λ (t : LastKnown). t) into one is_one other is_other same asks course.before v course.last;
-  left = subst (λ (ss : List LastKnown). CrashesLeaveOnly leaves old new (w.after ∷ ss)) (sym (afters-over into course.acts v)) course.left;
-}
 
 control-rest : (goes_on : Bool) (left : List ℕ) (opened : Bool) → held_if goes_on (session.Control left) ≡ rest_if (held_over AtControl (held_if goes_on (waiting left opened)))
 control-rest true left opened = refl
@@ -69,14 +53,14 @@ module _ {K : Type 0} (g : Keeper K) (moment : ℕ) where
         fits = fed.2;
         held = held_over AtControl (held_if goes_on (waiting left fed.1));
         rest_is = control-rest goes_on left fed.1;
-        course = course-over g.leaves AtControl (control.said moment) control.has_request (said moment) is_asked (λ t h way. refl) (λ h. refl) old new (talk (Some (waiting bytes true)) s i) (talk (held_if goes_on (waiting left fed.1)) fed.0 j) fed.3.course;
+        course = course-over g AtControl (control.said moment) control.has_request control.reopens (said moment) is_asked reopens (λ t h way. refl) (λ h. refl) (λ h. refl) old new (talk (Some (waiting bytes true)) s i) (talk (held_if goes_on (waiting left fed.1)) fed.0 j) fed.3.course;
       }
 
   -- The piece of a reader's session.
-  pub news-fed : ((k : K) (a : Archive) → g.holds k a → g.files_are k a) → ((k : K) (a : Archive) (may : List (Option Archive)) → g.holds k a → Contains may (Some a) → g.leaves k k may) → (start : Reader) (s : LastKnown) (old : K) (i : ConnectionState) (goes_on : Bool) (left : Reader) (new : K) (j : ConnectionState)
-      → ((a : Archive) → g.holds old a → Fed (news.said moment) news.has_request (talk (Some start) a i) (talk (held_if goes_on left) a j)) → OnlyRead g old new → g.ready old ≡ true → MatchesKnown g old s
+  pub news-fed : (shelf : Shelf K) → ((k : K) (a : Archive) → g.holds k a → g.files_are k a) → ((k : K) (a : Archive) (may : List (Option Archive)) → g.holds k a → Contains may (Some a) → g.leaves k k may) → ((k m : K) → shelf.alike k m → OnlyRead g k m) → ((k : K) → g.faults k ≡ shelf.faults k) → (start : Reader) (s : LastKnown) (old : K) (i : ConnectionState) (goes_on : Bool) (left : Reader) (new : K) (j : ConnectionState)
+      → ((a : Archive) → g.holds old a → ShelfRun shelf (news.said moment) news.has_request old new (talk (Some start) a i) (talk (held_if goes_on left) a j)) → OnlyRead g old new → g.ready old ≡ true → MatchesKnown g old s
       → FedFrom g moment (AtNews start) s old i goes_on (session.News left) new j
-  news-fed holds_files_are holds_left start s old i goes_on left new j fed read at_hand fits =
+  news-fed shelf holds_files_are holds_left alike_kept counts start s old i goes_on left new j fed read at_hand fits =
       let settled = settled-is g old s fits at_hand in
       let moves = moves-read g holds_files_are holds_left old new s.archive settled.1 read in
       subst (λ (x : LastKnown). FedFrom g moment (AtNews start) x old i goes_on (session.News left) new j) (sym settled.0) (record {
@@ -84,14 +68,14 @@ module _ {K : Type 0} (g : Keeper K) (moment : ℕ) where
         fits = moves.fits;
         held = held_over AtNews (held_if goes_on left);
         rest_is = news-rest goes_on left;
-        course = reading-course g AtNews (news.said moment) news.has_request (said moment) is_asked (λ a h way. refl) (λ h. refl) old new (talk (Some start) s.archive i) (talk (held_if goes_on left) s.archive j) read (fed s.archive settled.1);
+        course = reading-course shelf g AtNews (news.said moment) news.has_request (said moment) is_asked reopens (λ a h way. refl) (λ h. refl) (λ h. refl) holds_files_are holds_left alike_kept counts old new (talk (Some start) s.archive i) (talk (held_if goes_on left) s.archive j) settled.1 (fed s.archive settled.1);
       })
 
   -- The piece of a session of a client that fetches mail.
-  pub pop-fed : ((k : K) (a : Archive) → g.holds k a → g.files_are k a) → ((k : K) (a : Archive) (may : List (Option Archive)) → g.holds k a → Contains may (Some a) → g.leaves k k may) → (start : PopClient) (s : LastKnown) (old : K) (i : ConnectionState) (goes_on : Bool) (left : PopClient) (new : K) (j : ConnectionState)
-      → ((a : Archive) → g.holds old a → Fed pop.said (readers.has_request pop.line_limit) (talk (Some start) a i) (talk (held_if goes_on left) a j)) → OnlyRead g old new → g.ready old ≡ true → MatchesKnown g old s
+  pub pop-fed : (shelf : Shelf K) → ((k : K) (a : Archive) → g.holds k a → g.files_are k a) → ((k : K) (a : Archive) (may : List (Option Archive)) → g.holds k a → Contains may (Some a) → g.leaves k k may) → ((k m : K) → shelf.alike k m → OnlyRead g k m) → ((k : K) → g.faults k ≡ shelf.faults k) → (start : PopClient) (s : LastKnown) (old : K) (i : ConnectionState) (goes_on : Bool) (left : PopClient) (new : K) (j : ConnectionState)
+      → ((a : Archive) → g.holds old a → ShelfRun shelf pop.said (readers.has_request pop.line_limit) old new (talk (Some start) a i) (talk (held_if goes_on left) a j)) → OnlyRead g old new → g.ready old ≡ true → MatchesKnown g old s
       → FedFrom g moment (AtPop start) s old i goes_on (session.Pop left) new j
-  pop-fed holds_files_are holds_left start s old i goes_on left new j fed read at_hand fits =
+  pop-fed shelf holds_files_are holds_left alike_kept counts start s old i goes_on left new j fed read at_hand fits =
       let settled = settled-is g old s fits at_hand in
       let moves = moves-read g holds_files_are holds_left old new s.archive settled.1 read in
       subst (λ (x : LastKnown). FedFrom g moment (AtPop start) x old i goes_on (session.Pop left) new j) (sym settled.0) (record {
@@ -99,14 +83,14 @@ module _ {K : Type 0} (g : Keeper K) (moment : ℕ) where
         fits = moves.fits;
         held = held_over AtPop (held_if goes_on left);
         rest_is = pop-rest goes_on left;
-        course = reading-course g AtPop pop.said (readers.has_request pop.line_limit) (said moment) is_asked (λ a h way. refl) (λ h. refl) old new (talk (Some start) s.archive i) (talk (held_if goes_on left) s.archive j) read (fed s.archive settled.1);
+        course = reading-course shelf g AtPop pop.said (readers.has_request pop.line_limit) (said moment) is_asked reopens (λ a h way. refl) (λ h. refl) (λ h. refl) holds_files_are holds_left alike_kept counts old new (talk (Some start) s.archive i) (talk (held_if goes_on left) s.archive j) settled.1 (fed s.archive settled.1);
       })
 
   -- The piece of a session at the door of pages.
-  pub http-fed : ((k : K) (a : Archive) → g.holds k a → g.files_are k a) → ((k : K) (a : Archive) (may : List (Option Archive)) → g.holds k a → Contains may (Some a) → g.leaves k k may) → (start : List ℕ) (s : LastKnown) (old : K) (i : ConnectionState) (goes_on : Bool) (left : List ℕ) (new : K) (j : ConnectionState)
-      → ((a : Archive) → g.holds old a → Fed (pages.said moment) pages.has_request (talk (Some start) a i) (talk (held_if goes_on left) a j)) → OnlyRead g old new → g.ready old ≡ true → MatchesKnown g old s
+  pub http-fed : (shelf : Shelf K) → ((k : K) (a : Archive) → g.holds k a → g.files_are k a) → ((k : K) (a : Archive) (may : List (Option Archive)) → g.holds k a → Contains may (Some a) → g.leaves k k may) → ((k m : K) → shelf.alike k m → OnlyRead g k m) → ((k : K) → g.faults k ≡ shelf.faults k) → (start : List ℕ) (s : LastKnown) (old : K) (i : ConnectionState) (goes_on : Bool) (left : List ℕ) (new : K) (j : ConnectionState)
+      → ((a : Archive) → g.holds old a → ShelfRun shelf (pages.said moment) pages.has_request old new (talk (Some start) a i) (talk (held_if goes_on left) a j)) → OnlyRead g old new → g.ready old ≡ true → MatchesKnown g old s
       → FedFrom g moment (AtHttp start) s old i goes_on (session.Http left) new j
-  http-fed holds_files_are holds_left start s old i goes_on left new j fed read at_hand fits =
+  http-fed shelf holds_files_are holds_left alike_kept counts start s old i goes_on left new j fed read at_hand fits =
       let settled = settled-is g old s fits at_hand in
       let moves = moves-read g holds_files_are holds_left old new s.archive settled.1 read in
       subst (λ (x : LastKnown). FedFrom g moment (AtHttp start) x old i goes_on (session.Http left) new j) (sym settled.0) (record {
@@ -114,30 +98,32 @@ module _ {K : Type 0} (g : Keeper K) (moment : ℕ) where
         fits = moves.fits;
         held = held_over AtHttp (held_if goes_on left);
         rest_is = http-rest goes_on left;
-        course = reading-course g AtHttp (pages.said moment) pages.has_request (said moment) is_asked (λ a h way. refl) (λ h. refl) old new (talk (Some start) s.archive i) (talk (held_if goes_on left) s.archive j) read (fed s.archive settled.1);
+        course = reading-course shelf g AtHttp (pages.said moment) pages.has_request (said moment) is_asked reopens (λ a h way. refl) (λ h. refl) (λ h. refl) holds_files_are holds_left alike_kept counts old new (talk (Some start) s.archive i) (talk (held_if goes_on left) s.archive j) settled.1 (fed s.archive settled.1);
       })
 
   -- A reopening, and then the piece.
-  pub fed-opened : (start : Session) (piece : List ℕ) (s t : LastKnown) (old mid new : K) (i j k : ConnectionState) (goes_on : Bool) (left : Session) → Acts (said moment s (Came start piece)) i (Some (with_piece start piece)) t j → CrashesLeaveOnly g.leaves old mid (s ∷ t ∷ [])
-      → FedFrom g moment (with_piece start piece) t mid j goes_on left new k → FedFrom g moment (Came start piece) s old i goes_on left new k
-  fed-opened start piece s t old mid new i j k goes_on left acts passes fed = record {
+  pub fed-opened : (start : Session) (piece : List ℕ) (s t : LastKnown) (old mid new : K) (i j k : ConnectionState) (goes_on : Bool) (left : Session) → Acts (said moment s (Came start piece)) i (Some (with_piece start piece)) t j → KeeperMoves g old s mid t → j.disk ≡ g.faults mid
+      → ReopenedAs g (said moment s (Came start piece) Plain) old i (Some (with_piece start piece)) mid t j → FedFrom g moment (with_piece start piece) t mid j goes_on left new k → FedFrom g moment (Came start piece) s old i goes_on left new k
+  fed-opened start piece s t old mid new i j k goes_on left acts moves counted reopened fed = record {
     after = fed.after;
     fits = fed.fits;
     held = fed.held;
     rest_is = fed.rest_is;
-    course = course-after g.leaves (said moment) is_asked old mid new (talk (Some (Came start piece)) s i) (talk (Some (with_piece start piece)) t j) (talk fed.held fed.after k)
-        (coming-more g.leaves (said moment) is_asked old old mid (talk (Some (Came start piece)) s i) (Came start piece) s i (Some (with_piece start piece)) t j (coming-same g.leaves (said moment) is_asked old (talk (Some (Came start piece)) s i)) refl acts passes) fed.course;
+    course = course-after (KeeperActs g (said moment) is_asked reopens) (said moment) is_asked old mid new (talk (Some (Came start piece)) s i) (talk (Some (with_piece start piece)) t j) (talk fed.held fed.after k)
+        (coming-more (KeeperActs g (said moment) is_asked reopens) (said moment) is_asked old old mid (talk (Some (Came start piece)) s i) (Came start piece) s i (Some (with_piece start piece)) t j (coming-same (KeeperActs g (said moment) is_asked reopens) (said moment) is_asked old (talk (Some (Came start piece)) s i)) refl acts
+        (record { moves = moves; disk = counted; reopened = λ asked. reopened })) fed.course;
   }
 
   -- A reopening that was refused.
-  pub fed-shut : (start : Session) (piece : List ℕ) (s t : LastKnown) (old new : K) (i j : ConnectionState) (left : Session) → Acts (said moment s (Came start piece)) i None t j → KeeperMoves g old s new t
+  pub fed-shut : (start : Session) (piece : List ℕ) (s t : LastKnown) (old new : K) (i j : ConnectionState) (left : Session) → Acts (said moment s (Came start piece)) i None t j → KeeperMoves g old s new t → j.disk ≡ g.faults new → ReopenedAs g (said moment s (Came start piece) Plain) old i None new t j
       → FedFrom g moment (Came start piece) s old i false left new j
-  fed-shut start piece s t old new i j left acts moves = record {
+  fed-shut start piece s t old new i j left acts moves counted reopened = record {
     after = t;
     fits = moves.fits;
     held = None;
     rest_is = refl;
-    course = coming-last g.leaves (said moment) is_asked old old new (talk (Some (Came start piece)) s i) (Came start piece) s i None t j (coming-same g.leaves (said moment) is_asked old (talk (Some (Came start piece)) s i)) acts (inl refl) moves.passes;
+    course = coming-last (KeeperActs g (said moment) is_asked reopens) (said moment) is_asked old old new (talk (Some (Came start piece)) s i) (Came start piece) s i None t j (coming-same (KeeperActs g (said moment) is_asked reopens) (said moment) is_asked old (talk (Some (Came start piece)) s i)) acts (inl refl)
+        (record { moves = moves; disk = counted; reopened = λ asked. reopened });
   }
 
 module _ {K : Type 0} (g : Keeper K) (moment : ℕ) where

@@ -19,7 +19,8 @@ use Rattle.arch_model.proofs.Keepers.{all-split}
 use Rattle.keep_course.specs.Courses.{afters}
 use Rattle.node_serve.specs.Doors.{SessionAtWork, session_limit, greets, said_making}
 use Rattle.node_serve.specs.Ends.{NoStop, ServingEnds, is_stop, given_after, before_all}
-use Rattle.node_serve.specs.Nodes.{Serving, Stage, stage, Along, AreAt, places_in, world_of, world_at, outputs_at, outputs_along, outputs_noted, outputs_asked, TurnsAnyway, GoesAnyway, ReadsForEvent, GoesReading, StepsTo, TurnsTo, Turns, TookOne, TookNone, TakesOne, RunsTo, ServesTo}
+use Rattle.node_serve.specs.Nodes.{Serving, Stage, stage, Along, AreAt, places_in, world_of, world_at, outputs_at, outputs_along, outputs_noted, outputs_asked, TurnsAnyway, GoesAnyway, ReadsForEvent, GoesReading, GoesCounting, TurnKept, ActsAlong, StepsTo, TurnsTo, Turns, TookOne, TookNone, TakesOne, RunsTo, ServesTo}
+use Rattle.node_serve.specs.Plain.{last_world}
 use Rattle.node_serve.specs.Turns.{Turn, CameTo, TurnedBy, Turned, Served, passed_in, outputs_of, outputs_before}
 use Rattle.node_serve.specs.World.{HostState, NodeState, outer}
 use Rattle.node_serve.specs.declared.serving.Taken.{Taken}
@@ -160,16 +161,12 @@ served-has may (e ∷ es) w (t ∷ ts) v run now later =
     let parts = all-split may t.passed (passed_in ts) later in
     served-has may es t.after ts v run.1 (turned-has may e w t.passed t.after run.0 now parts.0) parts.1
 
--- How the archive stands after these turns.
-abbrev last-standing : LastKnown → List Turn → LastKnown
-last-standing s [] = s
-last-standing s (t ∷ ts) = last-standing t.after.standing ts
-
-served-last : (es : List Arrival) (w : NodeState) (ts : List Turn) (v : NodeState) → Served es w ts v → v.standing ≡ last-standing w.standing ts
-served-last [] w [] v run = ap (λ (x : NodeState). x.standing) run
-served-last [] w (t ∷ ts) v never = absurd never
-served-last (e ∷ es) w [] v never = absurd never
-served-last (e ∷ es) w (t ∷ ts) v run = served-last es t.after ts v run.1
+-- The world after these turns.
+served-world : (es : List Arrival) (w : NodeState) (ts : List Turn) (v : NodeState) → Served es w ts v → v ≡ last_world w ts
+served-world [] w [] v run = run
+served-world [] w (t ∷ ts) v never = absurd never
+served-world (e ∷ es) w [] v never = absurd never
+served-world (e ∷ es) w (t ∷ ts) v run = served-world es t.after ts v run.1
 
 module _ {K : Type 0} (g : Keeper K) where
   -- Before the first event.
@@ -186,12 +183,14 @@ module _ {K : Type 0} (g : Keeper K) where
   }
 
   -- One turn more.
-  steps-more : (ms : List (Stage K)) (ts : List Turn) (q : Stage K) (t : Turn) (s : LastKnown) (old mid : K) → StepsTo g old s ms ts mid → MatchesKnown g q.node.keep t.after.standing → CrashesLeaveOnly g.leaves mid q.node.keep (last-standing s ts ∷ t.passed)
-      → StepsTo g old s (ms ++ q ∷ []) (ts ++ t ∷ []) q.node.keep
-  steps-more [] [] q t s old mid steps fits passes = (fits, subst (λ (k : K). CrashesLeaveOnly g.leaves k q.node.keep (s ∷ t.passed)) steps passes, refl)
-  steps-more [] (u ∷ ts) q t s old mid never fits passes = absurd never
-  steps-more (m ∷ ms) [] q t s old mid never fits passes = absurd never
-  steps-more (m ∷ ms) (u ∷ ts) q t s old mid steps fits passes = (steps.0, steps.1, steps-more ms ts q t u.after.standing m.node.keep mid steps.2 fits passes)
+  steps-more : (es : List Arrival) (ms : List (Stage K)) (ts : List Turn) (e : Arrival) (q : Stage K) (t : Turn) (w : NodeState) (old mid : K) → StepsTo g es old w ms ts mid → MatchesKnown g q.node.keep t.after.standing → CrashesLeaveOnly g.leaves mid q.node.keep ((last_world w ts).standing ∷ t.passed)
+      → TurnKept (ActsAlong g) e mid (last_world w ts) t.passed q.node.keep t.after → StepsTo g (es ++ e ∷ []) old w (ms ++ q ∷ []) (ts ++ t ∷ []) q.node.keep
+  steps-more [] [] [] e q t w old mid steps fits passes kept = (fits, subst (λ (k : K). CrashesLeaveOnly g.leaves k q.node.keep (w.standing ∷ t.passed)) steps passes, subst (λ (k : K). TurnKept (ActsAlong g) e k w t.passed q.node.keep t.after) steps kept, refl)
+  steps-more [] [] (u ∷ ts) e q t w old mid never fits passes kept = absurd never
+  steps-more [] (m ∷ ms) ts e q t w old mid never fits passes kept = absurd never
+  steps-more (x ∷ es) [] ts e q t w old mid never fits passes kept = absurd never
+  steps-more (x ∷ es) (m ∷ ms) [] e q t w old mid never fits passes kept = absurd never
+  steps-more (x ∷ es) (m ∷ ms) (u ∷ ts) e q t w old mid steps fits passes kept = (steps.0, steps.1, steps.2, steps-more es ms ts e q t u.after m.node.keep mid steps.3 fits passes kept)
 
   -- One event more.
   pub runs-more : (es : List Arrival) (e : Arrival) (s : LastKnown) (old mid new : Serving K) (i j k : HostState) (ms : List (Stage K)) → MatchesKnown g old.keep s → (run : RunsTo g es s old i ms mid j) → TurnsTo g e run.after mid j new k
@@ -199,6 +198,7 @@ module _ {K : Type 0} (g : Keeper K) where
   runs-more es e s old mid new i j k ms fits run turn =
       let last : Turn = record { passed = turn.passed; after = world_of turn.after (places_in new) k } in
       let ts = run.turns ++ last ∷ [] in
+      let before = served-world es (world_of s (places_in old) i) run.turns (world_of run.after (places_in mid) j) run.served in
       let passes : CrashesLeaveOnly g.leaves old.keep new.keep (s ∷ passed_in ts) = λ start may has since.
       let parts = all-split may (passed_in run.turns) turn.passed (subst (λ (ss : List LastKnown). HasAll may ss) (passed-more run.turns last) has.1) in
       turn.passes start may (served-has may es (world_of s (places_in old) i) run.turns (world_of run.after (places_in mid) j) run.served has.0 parts.0, parts.1) (run.passes start may (has.0, parts.0) since) in
@@ -208,8 +208,8 @@ module _ {K : Type 0} (g : Keeper K) where
         turns = ts;
         served = served-more es (world_of s (places_in old) i) run.turns (world_of run.after (places_in mid) j) e turn.passed (world_of turn.after (places_in new) k) run.served turn.turned;
         at = at-more ms run.turns (stage new k) last run.at refl;
-        steps = steps-more ms run.turns (stage new k) last s old.keep mid.keep run.steps turn.fits
-            (subst (λ (x : LastKnown). CrashesLeaveOnly g.leaves mid.keep new.keep (x ∷ turn.passed)) (served-last es (world_of s (places_in old) i) run.turns (world_of run.after (places_in mid) j) run.served) turn.passes);
+        steps = steps-more es ms run.turns e (stage new k) last (world_of s (places_in old) i) old.keep mid.keep run.steps turn.fits (subst (λ (x : NodeState). CrashesLeaveOnly g.leaves mid.keep new.keep (x.standing ∷ turn.passed)) before turn.passes)
+            (subst (λ (x : NodeState). TurnKept (ActsAlong g) e mid.keep x turn.passed new.keep (world_of turn.after (places_in new) k)) before turn.kept);
         passes = passes;
         crash = crash-left g old.keep new.keep s (passed_in ts) fits passes;
       }
@@ -221,6 +221,7 @@ module _ {K : Type 0} (g : Keeper K) where
     pub stages : List (Stage K)
     pub anyway : Along GoesAnyway arrivals (stage old i) stages (stage new j)
     pub reads_few : Along (GoesReading g) arrivals (stage old i) stages (stage new j)
+    pub counts : Along (GoesCounting g.faults) arrivals (stage old i) stages (stage new j)
     pub records : (past : List Outputs) → recorded past → recorded' (past ++ outputs_noted false (stage old i) stages (stage new j))
     pub runs : (s : LastKnown) → MatchesKnown g old.keep s → RunsTo g arrivals s old i stages new j
 
@@ -242,6 +243,7 @@ module _ {K : Type 0} (g : Keeper K) where
       stages = [];
       anyway = refl;
       reads_few = refl;
+      counts = refl;
       records = λ past noted. subst (λ (os : List Outputs). recorded os) (sym (append-none past)) noted;
       runs = λ s fits. runs-none s node i fits;
     };
@@ -256,6 +258,7 @@ module _ {K : Type 0} (g : Keeper K) where
     stages = far.stages ++ stage new k ∷ [];
     anyway = along-more GoesAnyway es (stage old i) far.stages (stage mid j) (stage new k) took.arrival far.anyway took.anyway;
     reads_few = along-more (GoesReading g) es (stage old i) far.stages (stage mid j) (stage new k) took.arrival far.reads_few took.reads_few;
+    counts = along-more (GoesCounting g.faults) es (stage old i) far.stages (stage mid j) (stage new k) took.arrival far.counts took.counts;
     records = λ past noted.
         let before = outputs_along (stage old i) far.stages in
         let more = outputs-more GoesAnyway es (stage old i) far.stages (stage mid j) (stage new k) far.anyway in
@@ -275,9 +278,9 @@ module _ {K : Type 0} (g : Keeper K) where
 
   -- One event of the host.
   pub took-event : (event : Event) (into : List ℕ) (len : ℕ) (old new : Serving K) (i m j : HostState) (given given' given'' left left' left'' : ToldEvents) (recorded recorded' recorded'' : List Outputs → Type 0) → len ≡ piece_len event.what → GaveOne event into left left' given given' → m ≡ i
-      → Turns g (event, take len into) old m new j → TurnsAnyway (event, take len into) old m new j → ReadsForEvent g event.moment event.what (take len into) old new → left'' ≡ left' → given'' ≡ given' → ((past : List Outputs) → recorded past → recorded' (past ++ outputs i.taken i.closings i.lost ∷ []))
+      → Turns g (event, take len into) old m new j → TurnsAnyway (event, take len into) old m new j → ReadsForEvent g event.moment event.what (take len into) old new → j.disk ≡ g.faults new.keep → left'' ≡ left' → given'' ≡ given' → ((past : List Outputs) → recorded past → recorded' (past ++ outputs i.taken i.closings i.lost ∷ []))
       → ((past : List Outputs) → recorded' past → recorded'' past) → TookOne g old i new j given given'' left left'' recorded recorded'' (is_stop event.what)
-  took-event event into len old new i m j given given' given'' left left' left'' recorded recorded' recorded'' size gave out turns anyway read left_same given_same noted later =
+  took-event event into len old new i m j given given' given'' left left' left'' recorded recorded' recorded'' size gave out turns anyway read counted left_same given_same noted later =
       let piece = take (piece_len event.what) into in
       record {
         arrival = (event, piece);
@@ -287,6 +290,7 @@ module _ {K : Type 0} (g : Keeper K) where
         turns = subst (λ (o : HostState). Turns g (event, piece) old o new j) out (subst (λ (n : ℕ). Turns g (event, take n into) old m new j) size turns);
         anyway = subst (λ (o : HostState). TurnsAnyway (event, piece) old o new j) out (subst (λ (n : ℕ). TurnsAnyway (event, take n into) old m new j) size anyway);
         reads_few = subst (λ (n : ℕ). ReadsForEvent g event.moment event.what (take n into) old new) size read;
+        counts = counted;
         records = λ past is. later (past ++ outputs i.taken i.closings i.lost ∷ []) (noted past is);
       }
 
@@ -315,6 +319,7 @@ module _ {K : Type 0} (g : Keeper K) where
         stages = reached.stages;
         anyway = reached.anyway;
         reads_few = reached.reads_few;
+        counts = reached.counts;
         records = reached.records;
         runs = reached.runs;
       }
@@ -328,6 +333,7 @@ module _ {K : Type 0} (g : Keeper K) where
         stages = far.stages;
         anyway = far.anyway;
         reads_few = far.reads_few;
+        counts = far.counts;
         records = far.records;
         runs = far.runs;
       } in
@@ -347,6 +353,7 @@ module _ {K : Type 0} (g : Keeper K) where
         stages = reached.stages;
         anyway = reached.anyway;
         reads_few = reached.reads_few;
+        counts = reached.counts;
         records = λ past is. subst (λ (o : HostState). recorded'' (past ++ (before_last ++ outputs o.taken o.closings o.lost ∷ []))) (sym took.out_kept)
             (subst (λ (os : List Outputs). recorded'' os) (append_assoc past before_last (outputs_at (stage mid j) ∷ [])) (noted (past ++ before_last) (reached.records past is)));
         runs = reached.runs;
@@ -363,6 +370,7 @@ module _ {K : Type 0} (g : Keeper K) where
     stages = [];
     anyway = refl;
     reads_few = refl;
+    counts = refl;
     records = λ past noted. subst (λ (os : List Outputs). recorded os) (sym (append-none past)) noted;
     runs = λ s fits. runs-none s node i fits;
   }
@@ -381,6 +389,7 @@ module _ {K : Type 0} (g : Keeper K) where
         stages = reached.stages;
         anyway = reached.anyway;
         reads_few = reached.reads_few;
+        counts = reached.counts;
         records = λ past is. noted _ (reached.records past is);
         runs = reached.runs;
       }

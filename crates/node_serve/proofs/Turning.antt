@@ -19,9 +19,9 @@ use Rattle.arch_model.specs.Archives.{Archive}
 use Rattle.arch_model.specs.Standing.{LastKnown}
 use Rattle.arch_model.specs.Keeping.{CrashesLeaveOnly, MatchesKnown, Keeper}
 use Rattle.keep_course.specs.Courses.{afters, archives_of}
-use Rattle.keep_course.proofs.Courses.{all-own}
-use Rattle.node_serve.specs.Doors.{Came, said, session_limit, busy_words, memory_words, greets, made, unmade, said_making}
-use Rattle.node_serve.specs.Nodes.{OpenSessions, serving, session_of, places_of, world_of, Refused, MakesSession, SessionEnds, GotSession, IsPut, FedFrom, TurnsTo, TurnsStill, CameAnyway}
+use Rattle.keep_course.proofs.Courses.{all-own, kept-left}
+use Rattle.node_serve.specs.Doors.{Came, said, is_asked, reopens, session_limit, busy_words, memory_words, greets, made, unmade, said_making}
+use Rattle.node_serve.specs.Nodes.{OpenSessions, serving, session_of, places_of, world_of, Refused, MakesSession, SessionEnds, GotSession, IsPut, PieceKept, CameKept, TurnKept, ActsAlong, FedFrom, TurnsTo, TurnsStill, CameAnyway}
 use Rattle.node_serve.specs.Turns.{FedAt, CameTo, Turned}
 use Rattle.node_serve.specs.World.{HostState, Around, Same, EndedAt, others_open, outside_at, one_if, closed_if, closed_at_if}
 use Rattle.node_serve.specs.declared.session.Session.{Session}
@@ -220,12 +220,13 @@ module _ {K : Type 0} (g : Keeper K) where
   crash-left old new s passed fits passes = let own = all-own (s ∷ passed) in passes old (archives_of (s ∷ passed)) own (fits.left (archives_of (s ∷ passed)) own.0)
 
   -- A turn that leaves the keeper.
-  pub turns-still : (arrival : Arrival) (s : LastKnown) (k : K) (p q : List (ℕ × Session)) (i j : HostState) → MatchesKnown g k s → Turned arrival (world_of s (places_of p) i) [] (world_of s (places_of q) j) → TurnsTo g arrival s (serving k p) i (serving k q) j
-  turns-still arrival s k p q i j fits turned = record {
+  pub turns-still : (arrival : Arrival) (s : LastKnown) (k : K) (p q : List (ℕ × Session)) (i j : HostState) → MatchesKnown g k s → Turned arrival (world_of s (places_of p) i) [] (world_of s (places_of q) j) → TurnKept (ActsAlong g) arrival k (world_of s (places_of p) i) [] k (world_of s (places_of q) j) → TurnsTo g arrival s (serving k p) i (serving k q) j
+  turns-still arrival s k p q i j fits turned still = record {
     after = s;
     fits = fits;
     passed = [];
     turned = turned;
+    kept = still;
     passes = λ start may has since. since;
     crash = crash-left k k s [] fits (λ start may has since. since);
   }
@@ -250,13 +251,21 @@ module _ {K : Type 0} (g : Keeper K) where
         around = around fed.after;
         passed_is = refl;
       } in
+      let piece_kept : PieceKept (ActsAlong g) moment c start piece old (world_of s (places_of p) i) passed new (world_of fed.after (places_of q) j) = record {
+        held = fed.held;
+        rest_is = kept ∙ fed.rest_is;
+        course = fed.course;
+        passed_is = refl;
+      } in
+      let within : CrashesLeaveOnly g.leaves old new (s ∷ passed) = kept-left g (said moment) is_asked reopens old new (talk (Some (Came start piece)) s (outside_at c i)) fed.course.states (fed.course.acts ++ talk fed.held fed.after (outside_at c j) ∷ []) fed.course.kept in
       record {
         after = fed.after;
         fits = fed.fits;
         passed = passed;
         turned = subst (λ (x : Option Session). CameTo x moment c piece (world_of s (places_of p) i) passed (world_of fed.after (places_of q) j)) (sym here) at;
-        passes = fed.course.left;
-        crash = crash-left old new s passed fits fed.course.left;
+        kept = subst (λ (x : Option Session). CameKept (ActsAlong g) x moment c piece old (world_of s (places_of p) i) passed new (world_of fed.after (places_of q) j)) (sym here) piece_kept;
+        passes = within;
+        crash = crash-left old new s passed fits within;
       }
 
 -- All around a session that goes on.

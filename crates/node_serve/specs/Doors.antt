@@ -1,5 +1,5 @@
 -- All doors as one: the sessions of a server, and what each act of one says.
-use Rattle.std.specs.Prelude.{ℕ, Bool, true, nat_lt, List, [], ◌++◌, Option, Some, None, if◌then◌else◌}
+use Rattle.std.specs.Prelude.{ℕ, Bool, true, false, nat_lt, List, [], ◌++◌, Option, Some, None, if◌then◌else◌}
 use Rattle.edge_io.specs.declared.events.Door.{Door}
 use Rattle.edge_io.specs.declared.events.Door.TheVariants as door
 use Rattle.line_door.specs.Acts.{Said, Departure}
@@ -90,6 +90,14 @@ is_asked (AtControl w) = control.has_request w
 is_asked (AtNews reader) = news.has_request reader
 is_asked (AtPop client) = readers.has_request pop.line_limit client
 is_asked (AtHttp bytes) = pages.has_request bytes
+
+-- The archive is reopened: before a piece, and at the control door before each further request.
+abbrev pub reopens : SessionAtWork → Bool
+reopens (Came start piece) = true
+reopens (AtControl w) = control.reopens w
+reopens (AtNews reader) = false
+reopens (AtPop client) = false
+reopens (AtHttp bytes) = false
 
 -- The greatest number of open sessions.
 abbrev pub session_limit : ℕ

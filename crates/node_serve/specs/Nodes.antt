@@ -14,9 +14,9 @@ use Rattle.edge_io.specs.declared.events.What.TheVariants as what
 use Rattle.edge_io.specs.declared.sink.SinkFault.{SinkFault}
 use Rattle.line_door.specs.Acts.{ConnectionState, Departure, held_if}
 use Rattle.line_door.specs.Costs.{lines_cost}
-use Rattle.line_door.specs.Course.{talk}
+use Rattle.line_door.specs.Course.{SessionState, talk}
 use Rattle.keep_course.specs.Answering as answering
-use Rattle.keep_course.specs.Courses.{SessionRun, archives_of}
+use Rattle.keep_course.specs.Courses.{SessionRun, KeeperActs, KeeperRun, KeptAlong, afters, archives_of}
 use Rattle.control_door.specs.Counting.{Meets, asks_for}
 use Rattle.nntp_reader.specs.Counting.{ReadsLines}
 use Rattle.pop3_reader.specs.Door.{line_limit}
@@ -25,10 +25,10 @@ use Rattle.http_front.specs.Sessions.{ReadsBytes, ReadsNothing}
 use Rattle.arch_model.specs.Keeping.{CrashesLeaveOnly, MatchesKnown, Keeper}
 use Rattle.arch_model.specs.Shelves.{ReadsUpTo}
 use Rattle.arch_model.specs.Standing.{LastKnown}
-use Rattle.node_serve.specs.Doors.{SessionAtWork, Came, rest_if, said, is_asked, with_piece, said_making}
+use Rattle.node_serve.specs.Doors.{SessionAtWork, Came, rest_if, said, is_asked, reopens, with_piece, said_making}
 use Rattle.node_serve.specs.Ends.{ServingEnds, given_after, before_all, is_stop}
 use Rattle.node_serve.specs.Turns.{Turn, Turned, Served, passed_in, outputs_of, outputs_before}
-use Rattle.node_serve.specs.World.{HostState, NodeState, ActAt, Around, others_open, one_if}
+use Rattle.node_serve.specs.World.{HostState, NodeState, ActAt, Around, outside_at, others_open, one_if}
 use Rattle.node_serve.specs.declared.session.Session.{Session}
 use Rattle.node_serve.specs.declared.session.Session.TheVariants as kind
 use Rattle.node_serve.specs.declared.serving.ServeEnd.{ServeEnd}
@@ -169,6 +169,11 @@ Along does (e ∷ es) p (m ∷ ms) q = does e p m × Along does es m ms q
 abbrev pub GoesAnyway : {K : Type 0} → Arrival → Stage K → Stage K → Type 0
 GoesAnyway arrival p q = TurnsAnyway arrival p.node p.out q.node q.out
 
+-- After an event the world's count of the disk's faults is that of the keeper, whatever it holds. So a
+-- fault in one event is none of another.
+abbrev pub GoesCounting : {K : Type 0} → (K → ℕ) → Arrival → Stage K → Stage K → Type 0
+GoesCounting faults arrival p q = q.out.disk ≡ faults q.node.keep
+
 -- The worlds after these turns are those of the stages, each with how the archive stands then.
 abbrev pub AreAt : {K : Type 0} → List (Stage K) → List Turn → Type 0
 AreAt [] [] = Unit {0}
@@ -191,6 +196,38 @@ abbrev pub outputs_noted : {K : Type 0} → Bool → Stage K → List (Stage K) 
 outputs_noted true p ms q = outputs_along p ms ++ outputs_at q ∷ []
 outputs_noted false p ms q = outputs_along p ms
 
+-- How the state after each act of a session stands beside its talks, at a moment.
+module _ {K : Type 0} (along : ℕ → K → SessionState SessionAtWork LastKnown → List K
+    → List (SessionState SessionAtWork LastKnown) → K → Type 0) where
+  -- A piece came to the session of a connection: the acts of the piece, each with the state after it.
+  -- `passed` is how the archive stood after each.
+  pub record PieceKept (moment c : ℕ) (start : Session) (piece : List ℕ) (old : K) (w : NodeState)
+      (passed : List LastKnown) (new : K) (v : NodeState) : Type 0 where
+    pub held : Option SessionAtWork
+    pub rest_is : v.session c ≡ rest_if held
+    pub course : SessionRun (along moment) (said moment) is_asked old new
+        (talk (Some (Came start piece)) w.standing (outside_at c w.out))
+        (talk held v.standing (outside_at c v.out))
+    pub passed_is : passed ≡ afters (course.acts ++ talk held v.standing (outside_at c v.out) ∷ [])
+
+  -- A piece came to a connection. Without a session the state stays.
+  abbrev pub CameKept : Option Session → ℕ → ℕ → List ℕ → K → NodeState → List LastKnown → K → NodeState
+      → Type 0
+  CameKept None moment c piece old w passed new v = new ≡ old
+  CameKept (Some start) moment c piece old w passed new v =
+      PieceKept moment c start piece old w passed new v
+
+  -- What happened. Where it is no piece the state stays.
+  abbrev pub TurnKeptBy : What → ℕ → List ℕ → K → NodeState → List LastKnown → K → NodeState → Type 0
+  TurnKeptBy (what.Bytes c len) moment piece old w passed new v =
+      CameKept (w.session c) moment c piece old w passed new v
+  TurnKeptBy other moment piece old w passed new v = new ≡ old
+
+  -- The same of an event, with its piece.
+  abbrev pub TurnKept : Arrival → K → NodeState → List LastKnown → K → NodeState → Type 0
+  TurnKept arrival old w passed new v =
+      TurnKeptBy arrival.0.what arrival.0.moment arrival.1 old w passed new v
+
 module _ {K : Type 0} (g : Keeper K) where
   -- How many texts a piece reads at most at a moment at a ready keeper, by its session: no more than the
   -- requests ask for that the piece makes whole. So the archive isn't read anew before it. The keeper
@@ -201,7 +238,8 @@ module _ {K : Type 0} (g : Keeper K) where
   ReadsAt moment (kind.News reader) piece old new = (g.ready new ≡ true)
       × ReadsLines g.holds moment (reader.bytes ++ piece) old (g.reads old) (g.reads new)
   ReadsAt moment (kind.Pop client) piece old new = (g.ready new ≡ true)
-      × ReadsUpTo (lines_cost line_limit line_texts (client.bytes ++ piece)) (g.reads old) (g.reads new)
+      × ReadsUpTo (lines_cost line_limit line_texts (client.bytes ++ piece)) (g.reads old)
+      (g.reads new)
   ReadsAt moment (kind.Http bytes) piece old new = (g.ready new ≡ true)
       × ReadsBytes g.holds (bytes ++ piece) old (g.reads old) (g.reads new)
       × ReadsNothing g.holds (bytes ++ piece) old (g.reads old) (g.reads new)
@@ -223,6 +261,12 @@ module _ {K : Type 0} (g : Keeper K) where
   GoesReading arrival p q = ReadsForEvent arrival.0.moment arrival.0.what arrival.1 p.node q.node
 
 module _ {K : Type 0} (g : Keeper K) where
+  -- Beside the talks of a session at a moment stands the keeper after each act.
+  abbrev pub ActsAlong : ℕ → K → SessionState SessionAtWork LastKnown → List K
+      → List (SessionState SessionAtWork LastKnown) → K → Type 0
+  ActsAlong moment old w ks ms new =
+      KeptAlong (KeeperActs g (said moment) is_asked reopens) old w ks ms new
+
   -- Whatever the keeper matches, it is reopened before a piece, or that is refused and the session's
   -- door says so.
   abbrev pub ReopensForPiece : ℕ → Session → K → ConnectionState → Bool → K → ConnectionState → Type 0
@@ -238,7 +282,7 @@ module _ {K : Type 0} (g : Keeper K) where
     pub fits : MatchesKnown g new after
     pub held : Option SessionAtWork
     pub rest_is : held_if goes_on left ≡ rest_if held
-    pub course : SessionRun g.leaves (said moment) is_asked old new (talk (Some start) s i)
+    pub course : KeeperRun g (said moment) is_asked reopens old new (talk (Some start) s i)
         (talk held after j)
 
   -- The same of a session before a piece, whose archive has yet to be reopened.
@@ -248,14 +292,19 @@ module _ {K : Type 0} (g : Keeper K) where
       → MatchesKnown g old s
       → FedFrom moment (Came start piece) s old i goes_on left new j
 
-  -- A node took an event to its end. A crash since it began leaves an archive that stood before it
-  -- or after one of its acts, or one that was in doubt there.
+  -- A node took an event to its end. After each of its acts the keeper matches what stands then, the
+  -- world's count of the disk's faults is the keeper's, and a crash in the act leaves an archive that
+  -- stood before it or after it, or one in doubt there. So a crash since the event began leaves an archive
+  -- that stood before it or after one of its acts, or one in doubt there. An act that reopens a ready
+  -- keeper changes nothing.
   pub record TurnsTo (arrival : Arrival) (s : LastKnown) (old : Serving K) (i : HostState)
       (new : Serving K) (j : HostState) : Type 0 where
     pub after : LastKnown
     pub fits : MatchesKnown g new.keep after
     pub passed : List LastKnown
     pub turned : Turned arrival (world_of s (places_in old) i) passed (world_of after (places_in new) j)
+    pub kept : TurnKept ActsAlong arrival old.keep (world_of s (places_in old) i) passed new.keep
+        (world_of after (places_in new) j)
     pub passes : CrashesLeaveOnly g.leaves old.keep new.keep (s ∷ passed)
     pub crash : g.leaves old.keep new.keep (archives_of (s ∷ passed))
 
@@ -265,15 +314,18 @@ module _ {K : Type 0} (g : Keeper K) where
       → TurnsTo arrival s old i new j
 
   -- A keeper went from one state to another by these turns, through these stages. After each it fits
-  -- what stands then, and a crash within a turn leaves an archive that stood before it or after one of
-  -- its acts, or one that was in doubt there.
-  abbrev pub StepsTo : K → LastKnown → List (Stage K) → List Turn → K → Type 0
-  StepsTo old s [] [] new = new ≡ old
-  StepsTo old s [] (t ∷ ts) new = ⊥
-  StepsTo old s (m ∷ ms) [] new = ⊥
-  StepsTo old s (m ∷ ms) (t ∷ ts) new = MatchesKnown g m.node.keep t.after.standing
-      × CrashesLeaveOnly g.leaves old m.node.keep (s ∷ t.passed)
-      × StepsTo m.node.keep t.after.standing ms ts new
+  -- what stands then, and so it does after each of its acts; and a crash within a turn leaves an archive
+  -- that stood before it or after one of its acts, or one that was in doubt there.
+  abbrev pub StepsTo : List Arrival → K → NodeState → List (Stage K) → List Turn → K → Type 0
+  StepsTo [] old w [] [] new = new ≡ old
+  StepsTo [] old w [] (t ∷ ts) new = ⊥
+  StepsTo [] old w (m ∷ ms) ts new = ⊥
+  StepsTo (e ∷ es) old w [] ts new = ⊥
+  StepsTo (e ∷ es) old w (m ∷ ms) [] new = ⊥
+  StepsTo (e ∷ es) old w (m ∷ ms) (t ∷ ts) new = MatchesKnown g m.node.keep t.after.standing
+      × CrashesLeaveOnly g.leaves old m.node.keep (w.standing ∷ t.passed)
+      × TurnKept ActsAlong e old w t.passed m.node.keep t.after
+      × StepsTo es m.node.keep t.after ms ts new
 
   -- A node took these events to their end, one after another, through these stages.
   pub record RunsTo (arrivals : List Arrival) (s : LastKnown) (old : Serving K) (i : HostState)
@@ -283,14 +335,15 @@ module _ {K : Type 0} (g : Keeper K) where
     pub turns : List Turn
     pub served : Served arrivals (world_of s (places_in old) i) turns (world_of after (places_in new) j)
     pub at : AreAt stages turns
-    pub steps : StepsTo old.keep s stages turns new.keep
+    pub steps : StepsTo arrivals old.keep (world_of s (places_in old) i) stages turns new.keep
     pub passes : CrashesLeaveOnly g.leaves old.keep new.keep (s ∷ passed_in turns)
     pub crash : g.leaves old.keep new.keep (archives_of (s ∷ passed_in turns))
 
   -- A node served the events that a host gave, in order, each from one stage to the next. Whatever
   -- the keeper holds, an event changes nothing of other connections, and reads no more than it asks
-  -- for. The host, whose records these are, was asked before each event, when all before it had been
-  -- answered, and at the end if it then answered that none is left.
+  -- for; and at each stage the world's count of the disk's faults is the keeper's. The host, whose
+  -- records these are, was asked before each event, when all before it had been answered, and at the
+  -- end if it then answered that none is left.
   pub record ServesTo (end : ServeEnd) (turns : ℕ) (old : Serving K) (i : HostState)
       (new : Serving K)
       (j : HostState) (given given' left left' : ToldEvents) (faults faults' : ℕ)
@@ -303,6 +356,7 @@ module _ {K : Type 0} (g : Keeper K) where
     pub stages : List (Stage K)
     pub anyway : Along GoesAnyway arrivals (stage old i) stages (stage new j)
     pub reads_few : Along (GoesReading g) arrivals (stage old i) stages (stage new j)
+    pub counts : Along (GoesCounting g.faults) arrivals (stage old i) stages (stage new j)
     pub records : (past : List Outputs) → recorded past
         → recorded' (past ++ outputs_noted none (stage old i) stages (stage new j))
     pub runs : (s : LastKnown) → MatchesKnown g old.keep s → RunsTo arrivals s old i stages new j
@@ -319,6 +373,7 @@ module _ {K : Type 0} (g : Keeper K) where
     pub turns : Turns arrival old i new j
     pub anyway : GoesAnyway arrival (stage old i) (stage new j)
     pub reads_few : GoesReading g arrival (stage old i) (stage new j)
+    pub counts : GoesCounting g.faults arrival (stage old i) (stage new j)
     pub records : (past : List Outputs) → recorded past
         → recorded' (past ++ outputs_at (stage old i) ∷ [])
 

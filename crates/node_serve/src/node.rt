@@ -72,6 +72,11 @@ impl<K: Keep> Node<K> {
     /// leaves an archive that stood before it or after one of its acts, or one that was in doubt
     /// there.
     ///
+    /// After each act of a piece, before the next request is answered, the keeper matches what stands
+    /// then: its files are exactly those of the archive, where nothing is in doubt. Its count of faults
+    /// is the one that the act leaves: a fault in one act is none of another. A reopening of a ready
+    /// keeper says nothing, and is not refused.
+    ///
     /// A ready keeper isn't reopened: a piece reads no more texts than the requests ask for that it makes
     /// whole, and an event that is no piece reads none. The keeper stays ready, unless a request at the
     /// control door may change the archive.

@@ -46,7 +46,7 @@ pub(crate) enum Taken {
 /// found damaged, it changes nothing of other connections.
 ///
 /// A crash since the call began leaves an archive that stood before it or after one of the acts, or
-/// one that was in doubt there.
+/// one that was in doubt there. Between two events the disk's count of faults is the keeper's own.
 pub fn serve<K: Keep, H: Host>(
     alloc: Global,
     node: &mut Node<K>,

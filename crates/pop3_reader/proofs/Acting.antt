@@ -10,7 +10,7 @@ use Rattle.shelf_doors.specs.Refusals.{SaysUnread}
 use Rattle.pop3_reader.specs.Commands.{PopCommand, Asks}
 use Rattle.pop3_reader.specs.Maildrops.{mail_at}
 use Rattle.pop3_reader.specs.Notices.{refused_code, notice_line, memory_line, disk_line}
-use Rattle.pop3_reader.specs.Replies.{too_long, user_reply, replies, ends, answered, in_way, takes_maildrop, reads_text, read_words, mail_words}
+use Rattle.pop3_reader.specs.Replies.{too_long, user_reply, replies, ends, answered, in_way, takes_maildrop, reads_text, is_there, read_words, mail_words}
 use Rattle.pop3_reader.specs.Sessions.{SaysMail}
 use Rattle.pop3_reader.specs.declared.maildrop.MailSize.{MailSize}
 use Rattle.pop3_reader.specs.declared.maildrop.Maildrop.{Maildrop}
@@ -73,7 +73,7 @@ module _ (a : Archive) (d : Maildrop) (what : MailPart) (k : ℕ) (rest : List �
         ∙ ap (λ (t : Option (List ℕ)). replies a (state.Entered d) (read_words what mail t)) is
 
     reads-is : (text : List ℕ) → text_of (live a.entries) mail.number ≡ Some text → reads_text a (state.Entered d) (Asks (order.Read what k)) ≡ true
-    reads-is text is = rw (found, is) refl
+    reads-is text is = ap (is_there a) found ∙ ap is_some is
 
     -- RETR or TOP of a message of the maildrop.
     by-text : (text : Option (List ℕ)) → text_of (live a.entries) mail.number ≡ text → SaysMail what mail text i sent j

@@ -51,7 +51,8 @@ abbrev pub pass_reply : Archive → Option ℕ → PopReply
 pass_reply a None = replies a (state.Before None) (notice_line notice.UserFirst)
 pass_reply a (Some index) = enter_reply a index (mailbox_at a (Some index))
 
--- A command before the login. A mailbox is known by its index, since an archive keeps its name.
+-- A command before the login. A mailbox is known by its index, since an archive keeps its name and how
+-- many numbers a mailbox has.
 abbrev pub before_reply : Archive → Option ℕ → PopCommand → PopReply
 before_reply a accepted (User name) = user_reply a (mailbox_named a name)
 before_reply a accepted Pass = pass_reply a accepted
@@ -64,10 +65,14 @@ abbrev pub read_words : MailPart → MailSize → Option (List ℕ) → List ℕ
 read_words what mail None = notice_line notice.Gone
 read_words what mail (Some text) = text_words what mail text
 
+-- The text over the archive now of a message that is asked for, if it is live.
+abbrev pub text_at : Archive → MailSize → Option (List ℕ)
+text_at a mail = text_of (live a.entries) mail.number
+
 -- What is said of a message of the maildrop, if there is one.
 abbrev pub mail_words : Archive → MailPart → Option MailSize → List ℕ
 mail_words a what None = notice_line notice.NoMessage
-mail_words a what (Some mail) = read_words what mail (text_of (live a.entries) mail.number)
+mail_words a what (Some mail) = read_words what mail (text_at a mail)
 
 -- A command on a maildrop. Only RETR and TOP look at the archive now.
 abbrev pub asked_words : Archive → Maildrop → MailOrder → List ℕ
@@ -91,14 +96,14 @@ abbrev pub answered : Archive → PopState → PopCommand → PopReply
 answered a (state.Before accepted) command = before_reply a accepted command
 answered a (state.Entered d) command = entered_reply a d command
 
--- The text of a message that is asked for, if it is live.
-abbrev pub text_at : Archive → Option MailSize → Option (List ℕ)
-text_at a None = None
-text_at a (Some mail) = text_of (live a.entries) mail.number
+-- A message of the maildrop is live.
+abbrev pub is_there : Archive → Option MailSize → Bool
+is_there a None = false
+is_there a (Some mail) = is_some (text_at a mail)
 
 -- A command reads a text: RETR or TOP of a live message.
 abbrev pub reads_text : Archive → PopState → PopCommand → Bool
-reads_text a (state.Entered d) (Asks (order.Read what k)) = is_some (text_at a (mail_at d.mails k))
+reads_text a (state.Entered d) (Asks (order.Read what k)) = is_there a (mail_at d.mails k)
 reads_text a s command = false
 
 -- A command takes a maildrop: PASS, where the accepted mailbox is there.

@@ -72,8 +72,8 @@ abbrev pub top_block : ℕ → List ℕ → List ℕ
 top_block count text = block_lines (header_bytes text)
     ++ (crlf_line [] ++ block_lines (first_lines count (body_of text)))
 
--- The reply to RETR or TOP, with the text of the message. Lines are those of the wire form, each that
--- starts with a dot with one more before it.
+-- The reply to RETR or TOP, with the text of the message. Each line is in its wire form, with one more
+-- dot before it if it starts with one.
 abbrev pub text_words : MailPart → MailSize → List ℕ → List ℕ
 text_words part.Whole mail text = codes "+OK " ++ (decimal mail.octets
     ++ (crlf_line (codes " octets") ++ (block_lines text ++ block_end)))

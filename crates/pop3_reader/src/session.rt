@@ -7,7 +7,8 @@ ghost use Rattle.arch_model.specs.Next.{continues};
 ghost use Rattle.arch_model.specs.Shelves.{ReadsUpTo};
 ghost use Rattle.line_door.specs.Acts.{Acts, held_if, at_sink};
 ghost use Rattle.line_door.specs.Costs.{lines_cost};
-ghost use Rattle.line_door.specs.Course.{talk, Fed};
+ghost use Rattle.keep_course.specs.Courses.{ShelfRun};
+ghost use Rattle.line_door.specs.Course.{talk};
 ghost use Rattle.line_door.specs.Lines.{content};
 ghost use Rattle.line_door.specs.Readers.{as_said, line_reader, has_request, with_piece};
 ghost use Rattle.line_door.specs.Skipping.{skipping_front, Unended};
@@ -102,7 +103,8 @@ impl Pop3Session {
         out: &mut O,
     ) -> Next
         requires ready { S.ready shelf.old ≡ true }
-        ensures fed { (a : Archive) → S.holds shelf.old a → Fed said (has_request line_limit)
+        ensures fed { (a : Archive) → S.holds shelf.old a → ShelfRun S.Shelf said
+            (has_request line_limit) shelf.old shelf.new
             (talk (Some (with_piece line_limit piece.now self.old)) a
             (at_sink O.Sink out.old (S.faults shelf.old)))
             (talk (held_if (continues result) self.new) a

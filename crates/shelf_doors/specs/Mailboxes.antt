@@ -31,7 +31,7 @@ decimal_after_dot (Some (b ∷ bs)) = if b == 46 then decimal_of bs else None
 unfoldable pub mailbox_named : Archive → List ℕ → Option ℕ
 mailbox_named a name = mailbox_at a (decimal_after_dot (behind_prefix a.config.name name))
 
--- The numbers that a mailbox may have. None is greater than any number of 32 bits.
+-- The numbers that a mailbox may have. The last is at most the greatest number of 32 bits.
 abbrev pub mailbox_range : Archive → ℕ → MailboxRange
 mailbox_range a index = record {
   first = index * a.config.slice + 1;

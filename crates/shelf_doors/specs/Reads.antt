@@ -6,8 +6,8 @@ use Rattle.line_door.specs.Readers.{LineReader}
 use Rattle.line_door.specs.declared.turn.LineAct.{LineAct}
 use Rattle.line_door.specs.declared.turn.LineAct.TheVariants.{Went, Kept, Closed}
 
--- One act reads no more than leaves enough for the bytes after it. The cost is that of a line, without
--- its line end.
+-- The reads of one act, and as many as the bytes after it may still ask for, are at most those that all
+-- bytes may ask for. The cost is that of a line, without its line end.
 abbrev pub LineActReads : {S : Type 0} → ℕ → (List ℕ → ℕ) → LineReader S → List ℕ → LineAct → LineReader S
     → ℕ → ℕ → Type 0
 LineActReads limit cost old piece (Went n) new before now =

@@ -1,5 +1,10 @@
 -- Tests joined in several ways.
-use Rattle.std.proofs.Common.{◌≡◌, Bool, true, false, not, cond, ◌&&◌, ◌||◌, refl, sym, ◌∙◌, ap}
+use Rattle.std.specs.Prelude.{◌==◌}
+use Rattle.std.proofs.Common.{◌≡◌, ℕ, Bool, true, false, not, cond, ◌&&◌, ◌||◌, refl, sym, ◌∙◌, ap, arith}
+use Rattle.std.proofs.lemmas.Bool.Decides.{nat_tests}
+use Rattle.std.specs.Ordering.{nat_cmp, ordering_then, is_eq}
+use Rattle.std.specs.declared.cmp.Ordering.{Ordering}
+use Rattle.std.specs.declared.cmp.Ordering.TheVariants.{Less, Equal, Greater}
 
 pub or_none : (x : Bool) → (x || false) ≡ x
 or_none true = refl
@@ -54,3 +59,12 @@ undone_step true true p q others rest new = and_none q ∙ sym (new refl)
 undone_step true false p q others rest new = and_all q ∙ others refl
 undone_step false true p q others rest new = and_all q ∙ rest refl
 undone_step false false p q others rest new = and_all q ∙ rest refl
+
+-- Orders by one part and then by another.
+pub then-eq : (o p : Ordering) → is_eq (ordering_then o p) ≡ (is_eq o && is_eq p)
+then-eq Less p = refl
+then-eq Equal p = refl
+then-eq Greater p = refl
+
+pub is_eq-number : (a b : ℕ) → is_eq (nat_cmp a b) ≡ (b == a)
+is_eq-number a b = grind (arith, nat_tests)

@@ -8,8 +8,7 @@ use Rattle.std.specs.Cmp.{both_ways}
 use Rattle.std.specs.Option.{option_map_or}
 use Rattle.std.specs.List.{list_any, filter, prefix_len, AllByRecursion}
 use Rattle.std.specs.List.Sorted.{IsStrictlySortedBy}
-use Rattle.std.specs.Ordering.{nat_cmp, ordering_then, is_eq}
-use Rattle.std.specs.declared.cmp.Ordering.{Ordering}
+use Rattle.std.specs.Ordering.{nat_cmp, ordering_then}
 use Rattle.std.specs.declared.cmp.Ordering.TheVariants.{Less, Equal, Greater}
 use Rattle.std.specs.declared.ops.Bound.TheVariants.{Included, Unbounded}
 use Rattle.std.specs.BTreeMap.{is_at}
@@ -22,16 +21,8 @@ use Rattle.word_index.specs.Kept.{KeptRows, kept_at, keeps_at}
 use Rattle.word_index.specs.Days.{dated_cmp, dated, is_within, numbers_between}
 use Rattle.word_index.specs.Tables.{is_of, Lists}
 use Rattle.word_index.specs.Postings.{IsListOf}
-use Rattle.word_index.proofs.Bools.{cond_or, cond_and}
+use Rattle.word_index.proofs.Bools.{cond_or, cond_and, then-eq, is_eq-number}
 use Rattle.word_index.proofs.ListLemmas.{any-map, at-same}
-
-then-eq : (o p : Ordering) → is_eq (ordering_then o p) ≡ (is_eq o && is_eq p)
-then-eq Less p = refl
-then-eq Equal p = refl
-then-eq Greater p = refl
-
-is_eq-number : (a b : ℕ) → is_eq (nat_cmp a b) ≡ (b == a)
-is_eq-number a b = grind (arith, nat_tests)
 
 -- A day and a number are those of another.
 pub at_dated : (day n : ℕ) (q : Dated) → let d : Dated = record { day = day; number = n } in is_at (dated_cmp d) q ≡ ((q.day == day) && is_at (nat_cmp n) q.number)

@@ -10,7 +10,9 @@ use Rattle.std.specs.Rc.{rc_slice_items}
 use Rattle.std.specs.declared.alloc.Global.{Global}
 use Rattle.std.specs.declared.rc.RcSlice.{RcSlice}
 use Rattle.word_index.specs.Vocabulary.{word_at, spelled, bytes_of, IsNumberOf, IsNumbering, KeepsWords, AreHeld, AreNumbersOf, IsNumberFor}
-use Rattle.word_index.proofs.KeyLemmas.{word_cmp, looks, updated}
+use Rattle.word_index.specs.declared.marks.Marked.{Marked}
+use Rattle.word_index.specs.Marks.{word_in, looks, HasOwnMark}
+use Rattle.word_index.proofs.KeyLemmas.{word_cmp, updated}
 
 abbrev pub items : RcSlice ℕ Global → List ℕ
 items word = rc_slice_items word
@@ -65,12 +67,12 @@ number-after words word w o n is new old = go (bytes_eq word w) refl
           held = λ i named. let was = old.held i named in (omega (arith, one_more words word, was.0), before words word i was.0 ∙ was.1);
         }
 
-pub numbering-more : (words : List (RcSlice ℕ Global)) (old new : BTreeMap (RcSlice ℕ Global) ℕ) (word copied : RcSlice ℕ Global) (n : ℕ) → IsNumbering (bytes_of words) old → IsNumberOf (bytes_of words) (items word) None → n ≡ length (bytes_of words) → items copied ≡ items word
-    → UpdatesBy (word_cmp items) (word_cmp items word) old new (Some n) → IsNumbering (bytes_of (words ++ copied ∷ [])) new
-numbering-more words old new word copied n is none at same updates w =
-    let all : bytes_of (words ++ copied ∷ []) ≡ bytes_of words ++ items word ∷ [] = map-append items words (copied ∷ []) ∙ ap (λ (x : List ℕ). bytes_of words ++ x ∷ []) same in
-    subst (λ (ws : List (List ℕ)). IsNumberOf ws w (get_by (looks items w) new)) (sym all)
-    (subst (IsNumberOf (bytes_of words ++ items word ∷ []) w) (sym (updated items old new word (Some n) updates w)) (number-after (bytes_of words) (items word) w (get_by (looks items w) old) n at none (is w)))
+pub numbering-more : (words : List (RcSlice ℕ Global)) (old new : BTreeMap Marked ℕ) (key : Marked) (copied : RcSlice ℕ Global) (n : ℕ) → IsNumbering (bytes_of words) old → IsNumberOf (bytes_of words) (word_in key) None → n ≡ length (bytes_of words) → items copied ≡ word_in key
+    → HasOwnMark key → UpdatesBy word_cmp (word_cmp key) old new (Some n) → IsNumbering (bytes_of (words ++ copied ∷ [])) new
+numbering-more words old new key copied n is none at same marked updates w =
+    let all : bytes_of (words ++ copied ∷ []) ≡ bytes_of words ++ word_in key ∷ [] = map-append items words (copied ∷ []) ∙ ap (λ (x : List ℕ). bytes_of words ++ x ∷ []) same in
+    subst (λ (ws : List (List ℕ)). IsNumberOf ws w (get_by (looks w) new)) (sym all)
+    (subst (IsNumberOf (bytes_of words ++ word_in key ∷ []) w) (sym (updated old new key (Some n) marked updates w)) (number-after (bytes_of words) (word_in key) w (get_by (looks w) old) n at none (is w)))
 
 pub bytes-more : (words : List (RcSlice ℕ Global)) (copied : RcSlice ℕ Global) (word : List ℕ) → items copied ≡ word → bytes_of (words ++ copied ∷ []) ≡ bytes_of words ++ word ∷ []
 bytes-more words copied word same = map-append items words (copied ∷ []) ∙ ap (λ (x : List ℕ). bytes_of words ++ x ∷ []) same

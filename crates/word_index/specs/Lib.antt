@@ -6,3 +6,4 @@ pub mod Days
 pub mod Tables
 pub mod Asked
 pub mod Sources
+pub mod Marks

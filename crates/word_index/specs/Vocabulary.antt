@@ -1,12 +1,12 @@
 -- The words of an index, each at its number.
 use Rattle.std.specs.Prelude.{◌≡◌, ◌<◌, ◌≤◌, ℕ, List, [], map, length, slice_index_or, Option, Some}
 use Rattle.std.specs.List.{AllByRecursion}
-use Rattle.std.specs.Ordering.{nat_cmp}
-use Rattle.std.specs.Cmp.Lexicographic.{slice_cmp}
 use Rattle.std.specs.BTreeMap.{BTreeMap, get_by}
 use Rattle.std.specs.Rc.{rc_slice_items}
 use Rattle.std.specs.declared.alloc.Global.{Global}
 use Rattle.std.specs.declared.rc.RcSlice.{RcSlice}
+use Rattle.word_index.specs.declared.marks.Marked.{Marked}
+use Rattle.word_index.specs.Marks.{looks}
 
 -- The word with a number.
 abbrev pub word_at : List (List ℕ) → ℕ → List ℕ
@@ -26,9 +26,8 @@ pub record IsNumberOf (words : List (List ℕ)) (word : List ℕ) (number : Opti
   pub held : (i : ℕ) → number ≡ Some i → (i < length words) × (word_at words i ≡ word)
 
 -- A table finds the number of each word.
-abbrev pub IsNumbering : List (List ℕ) → BTreeMap (RcSlice ℕ Global) ℕ → Type 0
-IsNumbering words numbers = (word : List ℕ) → IsNumberOf words word
-    (get_by (λ (k : RcSlice ℕ Global). slice_cmp nat_cmp word (rc_slice_items k)) numbers)
+abbrev pub IsNumbering : List (List ℕ) → BTreeMap Marked ℕ → Type 0
+IsNumbering words numbers = (word : List ℕ) → IsNumberOf words word (get_by (looks word) numbers)
 
 -- Words may have been added; each number keeps its word.
 pub record KeepsWords (old new : List (List ℕ)) : Type 0 where

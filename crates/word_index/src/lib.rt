@@ -5,6 +5,7 @@
 mod asking;
 mod finding;
 mod index;
+mod marks;
 mod number_sets;
 mod postings;
 mod reading;

@@ -2,24 +2,22 @@
 //! Allocates.
 ghost use Rattle.std.specs.Prelude.{◌≡◌, [], ◌∷◌, ◌++◌, length, IfOk, OnOk, OnErr};
 
+use crate::marks::{Marked, Word, with_mark};
 use arch_base::{Bytes, NoMemory};
 use std::alloc::Global;
 use std::collections::BTreeMap;
 use std::marker::Model;
-use std::rc::RcSlice;
-
-/// A word. All that hold it share its bytes.
-pub type Word = RcSlice<u8>;
 
 /// Words, each at the number that it got when it was added. None is removed.
 ///
-/// A contract sees it as the list of the words. A tree finds their numbers, so that a look-up takes
-/// at most a comparison for each doubling of the words, whatever these are.
+/// A contract sees it as the list of the words. A tree finds their numbers, by marks and only then by
+/// bytes, so that a look-up takes few comparisons of words, and at most some for each doubling of
+/// their number, whatever they are.
 #[derive(Drop)]
 pub struct Vocabulary {
     alloc: Global,
     words: Vec<Word>,
-    numbers: BTreeMap<Word, u32>,
+    numbers: BTreeMap<Marked, u32>,
 }
 
 impl Model for Vocabulary {
@@ -34,7 +32,7 @@ impl Model for Vocabulary {
 }
 
 impl Vocabulary {
-    ghost use Rattle.std.specs.Rc.{rc_slice_items};
+    ghost use Rattle.word_index.specs.Marks.{HasOwnMark, word_in};
     ghost use Rattle.word_index.specs.Vocabulary.{IsNumberOf, IsNumberFor, AreNumbersOf, KeepsWords};
 
     /// Returns no words. Allocates nothing.
@@ -54,8 +52,8 @@ impl Vocabulary {
     pub fn number_of(&self, text: &[u8]) -> Result<Option<u32>, NoMemory>
         ensures { IfOk result (λ number. IsNumberOf self.now text.now number) }
     {
-        let word = RcSlice::from_slice(self.alloc, text)?;
-        Ok(self.known(&word))
+        let key = with_mark(self.alloc, text)?;
+        Ok(self.known(&key))
     }
 
     /// Returns the numbers of words, those of new ones too, which are added.
@@ -77,25 +75,27 @@ impl Vocabulary {
         ensures ok { IfOk result (λ number. IsNumberFor self.new text.now number) }
         ensures keeps { KeepsWords self.old self.new }
     {
-        let word = RcSlice::from_slice(self.alloc, text)?;
-        match self.known(&word) {
+        let key = with_mark(self.alloc, text)?;
+        match self.known(&key) {
             Some(number) => Ok(number),
-            None => self.add(word),
+            None => self.add(key),
         }
     }
 
     /// Returns the number of a word, if it is there.
-    fn known(&self, word: &Word) -> Option<u32>
-        ensures { IsNumberOf self.now (rc_slice_items word.now) result }
+    fn known(&self, key: &Marked) -> Option<u32>
+        requires { HasOwnMark key.now }
+        ensures { IsNumberOf self.now (word_in key.now) result }
     {
-        self.numbers.get(word).copied()
+        self.numbers.get(key).copied()
     }
 
     /// Adds a new word, and returns its number. `NoMemory` changes nothing.
-    fn add(&mut self, word: Word) -> Result<u32, NoMemory>
-        requires { IsNumberOf self.old (rc_slice_items word) None }
+    fn add(&mut self, key: Marked) -> Result<u32, NoMemory>
+        requires new { IsNumberOf self.old (word_in key) None }
+        requires mark { HasOwnMark key }
         ensures ok { IfOk result (λ number. number ≡ length self.old) }
-        ensures added { OnOk result (self.new ≡ self.old ++ rc_slice_items word ∷ []) }
+        ensures added { OnOk result (self.new ≡ self.old ++ word_in key ∷ []) }
         ensures err { OnErr result (self.new ≡ self.old) }
     {
         let place = self.words.as_slice().len();
@@ -103,8 +103,8 @@ impl Vocabulary {
         let Ok(number) = u32::try_from(place) else {
             return Err(NoMemory);
         };
-        self.words.push(word.clone()?)?;
-        if self.numbers.insert(word, number).is_err() {
+        self.words.push(key.word.clone()?)?;
+        if self.numbers.insert(key, number).is_err() {
             self.words.truncate(place);
             return Err(NoMemory);
         }

@@ -1,12 +1,11 @@
-use Rattle.std.proofs.Common.{refl, ap, sym, subst, ◌∙◌, ◌++◌, ℕ, List}
-use Rattle.edge_io.specs.Frames.{Outputs}
-use Rattle.archive_core.specs.Engines.{Owning, store-left}
+use Rattle.std.proofs.Common.{refl, ap, not, ◌∙◌, ℕ}
+use Rattle.archive_core.specs.Engines.{Owning, is_ready, store-left}
 use Rattle.node_serve.specs.Nodes.{stage}
 use Rattle.node_serve.specs.World.{outer}
 use Rattle.archive_cli.specs.Serving.{Shut, Ended}
 use Rattle.archive_cli.proofs.Committing.{opened-went}
 use Rattle.archive_cli.proofs.OnDisk.{unopened-stands}
-use Rattle.archive_cli.proofs.ServedDisk.{disk-stage, disk-stages, anyway-disk, noted-disk, served-on, shut-cause}
+use Rattle.archive_cli.proofs.ServedDisk.{served-on, shut-cause}
 use Rattle.archive_cli.proofs.serving.serve_disk.Goals as goal
 
 pub returns-in-Ok-clause-serves : goal.returns-in-Ok-clause-serves
@@ -31,14 +30,19 @@ returns-in-Ok-clause-serves g c =
         settles = (c.in-Ok.engine.view, opened.answer, opened.kept, opened.done, opened.settled);
         crash = opened.first;
         crash_between = opened.crash_between;
-        first = disk-stage first;
+        first = first;
         begins = record { unopened = c.new-node.ensures.none; count = c.new-node.ensures.count; out_is = out };
-        stages = disk-stages served.stages;
-        last = disk-stage last;
+        first_disk = ap (λ (e : Owning g.row.D.Denot). e.disk) c.new-node.ensures.keep;
+        first_ready = ap is_ready c.new-node.ensures.keep ∙ ap not c.in-Ok.ensures.ready;
+        first_counts = refl;
+        stages = served.stages;
+        last = last;
         last_disk = refl;
         last_out = refl;
-        anyway = anyway-disk served.arrivals first served.stages last served.anyway;
-        records = λ past noted. subst (λ (os : List Outputs). g.H.Host.recorded c.serve-end.new.host (past ++ os)) (sym (noted-disk served.none first served.stages last)) (served.records past noted);
+        anyway = served.anyway;
+        reads_few = served.reads_few;
+        counts = served.counts;
+        records = λ past noted. served.records past noted;
         served = λ a cache reads.
             served-on g.D.Disk g.met.D.Disk.counts_now g.met.D.Disk.only_now g.met.D.Disk.reads_fit (λ e b may held has. store-left g.D.Disk g.met.D.Disk.counts_now g.met.D.Disk.only_now e b may (held.0, held.1) has) c.law_of_recovery.ensures.some_one c.law_of_recovery.ensures.caches c.law_of_numbers.ensures.itself c.law_of_commands.ensures.follows a cache
             c.args.disk c.in-Ok.engine c.new-node.result c.serve-end.new.node served.arrivals served.stages _ _ c.new-node.ensures.keep (opened.done a cache reads) (c.in-Ok.ensures.rows a cache reads) opened.settled opened.first opened.crash_between (opened-went c.in-Ok.engine.view (content c.args.disk) (content c.in-Ok.engine.disk) (g.met.D.Disk.reads_fit c.args.disk) opened.answer opened.kept opened.settled)

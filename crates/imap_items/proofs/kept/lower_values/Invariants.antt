@@ -1,5 +1,4 @@
 use Rattle.std.proofs.Common.{◌≡◌, ◌++◌, map}
-use Rattle.mail_reader.specs.Fields.{fields_of}
 use Rattle.mail_forms.specs.NamedValues.{values_of}
 use Rattle.imap_items.specs.Kept.{lower_decoded, lower_values}
 use Rattle.imap_items.proofs.kept.lower_values.Given as goal

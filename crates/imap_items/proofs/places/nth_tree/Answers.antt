@@ -1,4 +1,4 @@
-use Rattle.std.proofs.Common.{◌≡◌, List, ◌∷◌, ◌∙◌}
+use Rattle.std.proofs.Common.{◌≡◌, ◌∷◌, ◌∙◌}
 use Rattle.mime_parts.specs.Trees.{IsPartOf}
 use Rattle.imap_items.proofs.Placing.{first-split, tree-next, within-next}
 use Rattle.imap_items.proofs.places.nth_tree.Goals as goal

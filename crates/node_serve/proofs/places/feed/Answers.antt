@@ -1,7 +1,7 @@
 use Rattle.std.proofs.Common.{[], true, false, Option, refl, sym, subst}
 use Rattle.arch_model.specs.KeeperRecord.{keeper}
 use Rattle.edge_io.specs.declared.events.What.TheVariants as what
-use Rattle.node_serve.specs.Nodes.{places_of, world_of}
+use Rattle.node_serve.specs.Nodes.{CameKept, ActsAlong, places_of, world_of}
 use Rattle.node_serve.specs.Turns.{CameTo}
 use Rattle.node_serve.specs.World.{outer}
 use Rattle.node_serve.specs.declared.session.Session.{Session}
@@ -15,7 +15,8 @@ returns-in-None-clause-turned g c = λ len s fits.
     let p = c.args.sessions.now.entries in
     let o = outer (g.H.Host.taken c.args.host.now) (g.H.Host.closings c.args.host.now) (g.K.Shelf.faults c.args.keep.now) (g.H.Host.lost c.args.host.now) (g.H.Host.closed_at c.args.host.now) in
     let came = subst (λ (x : Option Session). CameTo x c.args.moment c.args.conn c.args.piece.now (world_of s (places_of p) o) [] (world_of s (places_of p) o)) c.in-None.ensures.value (same-world (keeper g.K.Shelf g.K.Keep) s (places_of p) o, refl) in
-    rw c.get_mut.follows.holds-at-none (turns-still (keeper g.K.Shelf g.K.Keep) (record { moment = c.args.moment; what = what.Bytes c.args.conn len }, c.args.piece.now) s c.args.keep.now p p o o fits came)
+    let still = subst (λ (x : Option Session). CameKept (ActsAlong (keeper g.K.Shelf g.K.Keep)) x c.args.moment c.args.conn c.args.piece.now c.args.keep.now (world_of s (places_of p) o) [] c.args.keep.now (world_of s (places_of p) o)) c.in-None.ensures.value refl in
+    rw c.get_mut.follows.holds-at-none (turns-still (keeper g.K.Shelf g.K.Keep) (record { moment = c.args.moment; what = what.Bytes c.args.conn len }, c.args.piece.now) s c.args.keep.now p p o o fits came still)
 
 pub returns-in-Go-clause-turned : goal.returns-in-Go-clause-turned
 returns-in-Go-clause-turned g c = λ len s fits.

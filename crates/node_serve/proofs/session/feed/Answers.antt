@@ -1,4 +1,4 @@
-use Rattle.std.proofs.Common.{◌++◌}
+use Rattle.std.proofs.Common.{◌++◌, refl}
 use Rattle.arch_model.specs.KeeperRecord.{keeper}
 use Rattle.node_serve.proofs.Feeding.{control-fed, news-fed, pop-fed, http-fed}
 use Rattle.node_serve.proofs.session.feed.Goals as goal
@@ -9,15 +9,15 @@ returns-in-Control-clause-fed g c = λ s fits. rw c.in-Control.is (
 
 pub returns-in-News-clause-fed : goal.returns-in-News-clause-fed
 returns-in-News-clause-fed g c = λ s fits. rw c.in-News.is (
-    news-fed (keeper g.K.Shelf g.K.Keep) c.args.moment g.met.K.Keep.holds_files_are g.met.K.Keep.holds_left _ s c.args.keep.now _ _ _ c.feed-in-News.new.shelf _ c.feed-in-News.ensures.fed (g.met.K.Keep.alike_kept _ _ c.feed-in-News.ensures.shelf.same) c.requires.ready fits)
+    news-fed (keeper g.K.Shelf g.K.Keep) c.args.moment g.K.Shelf g.met.K.Keep.holds_files_are g.met.K.Keep.holds_left g.met.K.Keep.alike_kept (λ k. refl) _ s c.args.keep.now _ _ _ c.feed-in-News.new.shelf _ c.feed-in-News.ensures.fed (g.met.K.Keep.alike_kept _ _ c.feed-in-News.ensures.shelf.same) c.requires.ready fits)
 
 pub returns-in-Pop-clause-fed : goal.returns-in-Pop-clause-fed
 returns-in-Pop-clause-fed g c = λ s fits. rw c.in-Pop.is (
-    pop-fed (keeper g.K.Shelf g.K.Keep) c.args.moment g.met.K.Keep.holds_files_are g.met.K.Keep.holds_left _ s c.args.keep.now _ _ _ c.feed-in-Pop.new.shelf _ c.feed-in-Pop.ensures.fed (g.met.K.Keep.alike_kept _ _ c.feed-in-Pop.ensures.shelf.same) c.requires.ready fits)
+    pop-fed (keeper g.K.Shelf g.K.Keep) c.args.moment g.K.Shelf g.met.K.Keep.holds_files_are g.met.K.Keep.holds_left g.met.K.Keep.alike_kept (λ k. refl) _ s c.args.keep.now _ _ _ c.feed-in-Pop.new.shelf _ c.feed-in-Pop.ensures.fed (g.met.K.Keep.alike_kept _ _ c.feed-in-Pop.ensures.shelf.same) c.requires.ready fits)
 
 pub returns-in-Http-clause-fed : goal.returns-in-Http-clause-fed
 returns-in-Http-clause-fed g c = λ s fits. rw c.in-Http.is (
-    http-fed (keeper g.K.Shelf g.K.Keep) c.args.moment g.met.K.Keep.holds_files_are g.met.K.Keep.holds_left (c.in-Http.pages ++ c.args.piece.now) s c.args.keep.now _ _ _ c.feed-in-Http.new.shelf _ c.feed-in-Http.ensures.fed (g.met.K.Keep.alike_kept _ _ c.feed-in-Http.ensures.shelf.same) c.requires.ready fits)
+    http-fed (keeper g.K.Shelf g.K.Keep) c.args.moment g.K.Shelf g.met.K.Keep.holds_files_are g.met.K.Keep.holds_left g.met.K.Keep.alike_kept (λ k. refl) (c.in-Http.pages ++ c.args.piece.now) s c.args.keep.now _ _ _ c.feed-in-Http.new.shelf _ c.feed-in-Http.ensures.fed (g.met.K.Keep.alike_kept _ _ c.feed-in-Http.ensures.shelf.same) c.requires.ready fits)
 
 pub returns-in-Control-clause-reads : goal.returns-in-Control-clause-reads
 returns-in-Control-clause-reads g c = rw c.in-Control.is c.feed.ensures.reads

@@ -1,12 +1,16 @@
+use Rattle.std.specs.Prelude.{◌+◌, ◌<◌, ◌^◌}
 use Rattle.std.proofs.Common.{◌≡◌, ◌∙◌, ◌||◌, ℕ, List, false, not, is_ok, ap, sym, subst}
+use Rattle.std.proofs.lemmas.Bool.{false≢true}
 use Rattle.arch_model.specs.Keeping.{text_known}
 use Rattle.archive_core.specs.Commands.{cache_left, is_delivery}
 use Rattle.archive_core.specs.DamageTold.{TellsDamage}
+use Rattle.disk_model.specs.Disk.{WhereTold}
+use Rattle.epoch_store.specs.Commands.{StoreHasSizes}
 use Rattle.store_finding.specs.Kept.{IsStoreWith}
 use Rattle.archive_core.specs.Engines.{Owning, needs_opening, reading-same}
 use Rattle.arch_model.specs.Archives.{Archive}
 use Rattle.arch_model.specs.Delivery.{applied}
-use Rattle.archive_core.proofs.Engines.{starved-at, still-left, left-from, done-from, taken-from, answer-cause-from, refused-from, unmoved-from, removed-from, of-removal, kept-or-none}
+use Rattle.archive_core.proofs.Engines.{starved-at, starved-takes, taken-by-parts, still-left, left-from, done-from, taken-from, answer-cause-from, refused-from, unmoved-from, removed-from, of-removal, kept-or-none}
 use Rattle.archive_core.proofs.KeepingUp.{kept-up, followed-ready, needs-stale, on-ok, stays-ready}
 use Rattle.archive_core.proofs.Standing.{store_keeps}
 use Rattle.archive_core.proofs.engine.Engine.take.Goals as goal
@@ -100,3 +104,14 @@ returns-clause-removed g c =
 
 pub returns-clause-damage : goal.returns-clause-damage
 returns-clause-damage g c = subst (λ (e : Owning g.row.D.Denot). TellsDamage e.view (g.D.Disk.content e.disk) c.command_keeping-answer.result) c.self.view_is c.command_keeping-answer.ensures.taken.damage
+
+pub returns-then-not-has_next_root-clause-takes : goal.returns-then-not-has_next_root-clause-takes
+returns-then-not-has_next_root-clause-takes g c = starved-takes g.D.Disk g.met.D.Disk.counts_now g.met.D.Disk.only_now g.met.D.Disk.reads_fit c.args.self.now c.args.command.now c.args.moment
+    (subst (λ (o : Owning g.row.D.Denot). o.view.root.sequence + 1 < 2 ^ 64 → ⊥) c.self.view_is (λ room. false≢true (sym c.if-not-has_next_root.true ∙ c.has_next_root.ensures.1 room)))
+    (subst (λ (o : Owning g.row.D.Denot). o.stale ≡ false → WhereTold (StoreHasSizes o.view) (g.D.Disk.content o.disk)) c.self.view_is c.self.invariant c.requires.ready)
+
+pub returns-clause-takes : goal.returns-clause-takes
+returns-clause-takes g c = taken-by-parts g.D.Disk g.met.D.Disk.counts_now g.met.D.Disk.only_now g.met.D.Disk.reads_fit
+    (record { disk = c.self.inside.disk; view = c.self.inside.archive; views = c.self.inside.views; stale = c.self.inside.stale }) c.args.self.now c.self.view_is
+    (record { disk = c.command_keeping-answer.new.disk; view = c.command_keeping-answer.new.self; views = c.follow-followed.new.views; stale = c.is_left_stale-self-inside.result })
+    c.args.command.now c.args.moment c.command_keeping-answer.result c.command_keeping-answer.ensures.taken

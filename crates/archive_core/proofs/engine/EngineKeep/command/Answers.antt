@@ -1,4 +1,4 @@
-use Rattle.std.proofs.Common.{◌≡◌, ◌∙◌, sym, ap, subst}
+use Rattle.std.proofs.Common.{◌≡◌, ◌∙◌, sym, ap, subst, inl, inr}
 use Rattle.std.proofs.lemmas.Bool.{false≢true}
 use Rattle.arch_model.specs.Archives.{Archive}
 use Rattle.arch_model.specs.Delivery.{applied}
@@ -9,8 +9,8 @@ use Rattle.store_finding.specs.Kept.{IsStoreWith}
 use Rattle.epoch_store.specs.Commands.{RecoversOneOf}
 use Rattle.archive_core.specs.Commands.{DoneBy, IfRemoval, IfUnreadFor, OnDone, cache_left, is_delivery}
 use Rattle.archive_core.specs.DamageTold.{TellsDamage}
-use Rattle.archive_core.specs.Engines.{Owning, HoldsArchive, IfRefused, OnlyReadsOn, is_ready}
-use Rattle.archive_core.proofs.Engines.{not_true, commanded-after, refused-comes, refused-finds, refused-for, refused-ready, refused-cause, ready-after}
+use Rattle.archive_core.specs.Engines.{Owning, HoldsArchive, IfRefused, OnlyReadsOn, TakesOn, is_ready}
+use Rattle.archive_core.proofs.Engines.{not_true, commanded-after, refused-comes, refused-takes, refused-for, refused-ready, refused-cause, ready-after}
 use Rattle.archive_core.proofs.engine.EngineKeep.command.Goals as goal
 
 pub take-requires-clause-ready : goal.take-requires-clause-ready
@@ -20,7 +20,7 @@ pub returns-in-Ok-clause-done : goal.returns-in-Ok-clause-done
 returns-in-Ok-clause-done g c = λ s fits.
     let found = c.in-Ok.ensures.found s fits in
     commanded-after g.D.Disk g.met.D.Disk.counts_now g.met.D.Disk.only_now g.met.D.Disk.reads_fit c.args.self.now c.fresh.new.self c.take.new.self s found.0
-    (λ (a : Archive). applied a c.args.command.now c.args.moment) c.take.result found.1 found.2 found.3 c.in-Ok.ensures.ready c.take.ensures.stands
+    c.args.command.now c.args.moment c.take.result found.1 found.2 found.3 c.in-Ok.ensures.ready (λ ready. (c.in-Ok.ensures.nothing ready).1) c.take.ensures.takes c.take.ensures.stands
 
 pub returns-in-Ok-clause-ready : goal.returns-in-Ok-clause-ready
 returns-in-Ok-clause-ready g c = ready-after (is_ready c.args.self.now) (is_ready c.take.new.self) (ending c.take.result) c.take.ensures.ready
@@ -41,9 +41,12 @@ returns-in-Ok-clause-unread g c = λ a store ready unknown.
 
 pub returns-in-Err-clause-done : goal.returns-in-Err-clause-done
 returns-in-Err-clause-done g c = λ s fits.
-    let found = c.in-Err.ensures.found s fits in
-    (found.0, found.1, refused-comes (is_ready c.args.self.now) s found.0 (λ (a : Archive). applied a c.args.command.now c.args.moment) c.in-Err.refusal c.answer.result c.answer.ensures (λ ready. (c.in-Err.ensures.nothing ready).0) found.2,
-    refused-finds g.D.Disk c.args.self.now c.fresh.new.self s found.0 (λ (a : Archive). applied a c.args.command.now c.args.moment) c.in-Err.refusal c.answer.result c.answer.ensures found.2)
+    let found = c.in-Err.ensures.found s fits in (
+      found.0,
+      found.1,
+      refused-comes (is_ready c.args.self.now) s found.0 (λ (a : Archive). applied a c.args.command.now c.args.moment) c.in-Err.refusal c.answer.result c.answer.ensures (λ ready. (c.in-Err.ensures.nothing ready).0) found.2,
+      refused-takes g.D.Disk c.args.self.now c.fresh.new.self s found.0 c.args.command.now c.args.moment c.in-Err.refusal c.answer.result c.answer.ensures (λ ready. (c.in-Err.ensures.nothing ready).0) found.2,
+    )
 
 pub returns-in-Err-clause-ready : goal.returns-in-Err-clause-ready
 returns-in-Err-clause-ready g c = refused-ready (is_ready c.args.self.now) (is_ready c.fresh.new.self) c.in-Err.refusal c.answer.result c.answer.ensures (λ ready. (c.in-Err.ensures.nothing ready).0) c.in-Err.ensures.ready
@@ -101,3 +104,15 @@ returns-in-Err-clause-unmoved g c = λ ready. absurd (false≢true (c.in-Err.ens
 
 pub returns-in-Err-clause-damage : goal.returns-in-Err-clause-damage
 returns-in-Err-clause-damage g c = λ ready. absurd (false≢true (c.in-Err.ensures.nothing ready).0)
+
+pub returns-in-Ok-clause-takes : goal.returns-in-Ok-clause-takes
+returns-in-Ok-clause-takes g c = λ ready. subst (λ (o : Owning g.row.D.Denot). TakesOn g.D.Disk o c.take.new.self c.args.command.now c.args.moment c.take.result) (c.in-Ok.ensures.nothing ready).1 c.take.ensures.takes
+
+pub returns-in-Ok-clause-anew : goal.returns-in-Ok-clause-anew
+returns-in-Ok-clause-anew g c = λ stale. inl (record { middle = c.fresh.new.self; opened = c.in-Ok.ensures.opened stale; takes = c.take.ensures.takes })
+
+pub returns-in-Err-clause-takes : goal.returns-in-Err-clause-takes
+returns-in-Err-clause-takes g c = λ ready. absurd (false≢true (c.in-Err.ensures.nothing ready).0)
+
+pub returns-in-Err-clause-anew : goal.returns-in-Err-clause-anew
+returns-in-Err-clause-anew g c = λ stale. inr (record { why = c.in-Err.refusal; answer_is = c.answer.ensures; opened = c.in-Err.ensures.opened stale; kindly = c.in-Err.ensures.refused stale })

@@ -1,6 +1,7 @@
-use Rattle.std.proofs.Common.{false, ap, not}
+use Rattle.std.proofs.Common.{◌∙◌, false, ap, not, sym, Ok, Err}
+use Rattle.std.proofs.lemmas.Bool.{false≢true}
 use Rattle.archive_core.specs.HandedBack.{view_opened}
-use Rattle.archive_core.proofs.Engines.{still-ready, still-stale, ready-at, opened-from, unopened-from, passes-from, opening-why-from, opened-cause-from}
+use Rattle.archive_core.proofs.Engines.{still-ready, still-stale, opens-from, kindly-from, ready-at, opened-from, unopened-from, passes-from, opening-why-from, opened-cause-from}
 use Rattle.archive_core.proofs.engine.EngineKeep.fresh.Goals as goal
 
 pub returns-then-not-self-clause-found : goal.returns-then-not-self-clause-found
@@ -56,3 +57,25 @@ pub returns-in-Err-clause-cause : goal.returns-in-Err-clause-cause
 returns-in-Err-clause-cause g c = opening-why-from g.D.Disk g.met.D.Disk.counts_now g.met.D.Disk.only_now g.met.D.Disk.reads_fit
     (record { disk = c.self.inside.disk; view = c.self.inside.archive; views = c.self.inside.views; stale = c.self.inside.stale }) c.args.self.now c.self.view_is
     g.D.Disk.faults c.open.new.disk c.in-Err.refusal (view_opened c.open.result) (ap view_opened c.in-Err.is) c.open.ensures.opened.cause
+
+pub returns-then-not-self-clause-opened : goal.returns-then-not-self-clause-opened
+returns-then-not-self-clause-opened g c = λ stale. absurd (false≢true (sym stale ∙ still-ready g.D.Disk g.met.D.Disk.counts_now g.met.D.Disk.only_now g.met.D.Disk.reads_fit
+    (record { disk = c.self.inside.disk; view = c.self.inside.archive; views = c.self.inside.views; stale = c.self.inside.stale }) c.args.self.now c.self.view_is c.if-not-self.true))
+
+pub returns-then-not-self-clause-refused : goal.returns-then-not-self-clause-refused
+returns-then-not-self-clause-refused g c = λ stale. tt
+
+pub returns-in-Ok-clause-opened : goal.returns-in-Ok-clause-opened
+returns-in-Ok-clause-opened g c = λ stale. opens-from g.D.Disk g.met.D.Disk.counts_now g.met.D.Disk.only_now g.met.D.Disk.reads_fit
+    (record { disk = c.self.inside.disk; view = c.self.inside.archive; views = c.self.inside.views; stale = c.self.inside.stale }) c.args.self.now c.self.view_is c.open.new.disk (Ok c.in-Ok.field-0.archive) c.in-Ok.ensures.opened
+
+pub returns-in-Ok-clause-refused : goal.returns-in-Ok-clause-refused
+returns-in-Ok-clause-refused g c = λ stale. tt
+
+pub returns-in-Err-clause-opened : goal.returns-in-Err-clause-opened
+returns-in-Err-clause-opened g c = λ stale. opens-from g.D.Disk g.met.D.Disk.counts_now g.met.D.Disk.only_now g.met.D.Disk.reads_fit
+    (record { disk = c.self.inside.disk; view = c.self.inside.archive; views = c.self.inside.views; stale = c.self.inside.stale }) c.args.self.now c.self.view_is c.open.new.disk (Err c.in-Err.refusal) c.in-Err.ensures.opened
+
+pub returns-in-Err-clause-refused : goal.returns-in-Err-clause-refused
+returns-in-Err-clause-refused g c = λ stale. kindly-from g.D.Disk g.met.D.Disk.counts_now g.met.D.Disk.only_now g.met.D.Disk.reads_fit
+    (record { disk = c.self.inside.disk; view = c.self.inside.archive; views = c.self.inside.views; stale = c.self.inside.stale }) c.args.self.now c.self.view_is {T = Unit {0}} c.open.new.disk (Err c.in-Err.refusal) c.in-Err.ensures.refused

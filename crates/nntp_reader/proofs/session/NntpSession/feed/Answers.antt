@@ -1,5 +1,7 @@
-use Rattle.std.proofs.Common.{refl, inl, None}
-use Rattle.line_door.proofs.Courses.{Going-same, Going-more, Fed-last, Last-done}
+use Rattle.std.proofs.Common.{refl, sym, ap, inl, None}
+use Rattle.line_door.specs.Acts.{ConnectionState}
+use Rattle.keep_course.specs.Courses.{ShelfActs}
+use Rattle.keep_course.proofs.Courses.{coming-same, coming-more, coming-done, coming-last}
 use Rattle.arch_model.proofs.Shelving.{stays-same, stays-joined}
 use Rattle.nntp_reader.specs.Door.{Reader, said, has_request, with_piece}
 use Rattle.nntp_reader.proofs.Counting.{ahead-none, ahead-more, ahead-kept, ahead-last}
@@ -8,7 +10,7 @@ use Rattle.nntp_reader.proofs.session.NntpSession.feed.Goals as goal
 
 pub loop-taken-init : goal.loop-taken-init
 loop-taken-init g c = record {
-  going = λ a held. Going-same (said c.args.moment) has_request _;
+  going = λ a held. coming-same (ShelfActs g.S.Shelf) (said c.args.moment) has_request _ _;
   reads = λ a held. ahead-none _ _;
   shelf = stays-same g.S.Shelf.holds g.S.Shelf.ready g.S.Shelf.alike g.S.Shelf.faults g.met.S.Shelf.alike_same c.args.shelf.now c.requires.ready;
   sink = g.met.O.Sink.alike_same _;
@@ -18,7 +20,7 @@ pub loop-taken-preserved : goal.loop-taken-preserved
 loop-taken-preserved g c = rw c.split_at.ensures.back (record {
   going = λ a held.
       let turn = c.in-Went.ensures.turn a (c.loop-taken.invariant.shelf.kept a held) in
-      Going-more (said c.args.moment) has_request _ _ _ (with_piece c.loop-taken.rest.now c.loop-taken.self) (c.loop-taken.invariant.going a held) turn.0 (record { held = refl; acts = turn.1 });
+      coming-more (ShelfActs g.S.Shelf) (said c.args.moment) has_request c.args.shelf.now c.loop-taken.shelf c.act.new.shelf _ (with_piece c.loop-taken.rest.now c.loop-taken.self) a _ _ a _ (c.loop-taken.invariant.going a held) turn.0 turn.1 (record { stays = c.act.ensures.shelf; archive = refl; disk = refl });
   reads = λ a held. ahead-more _ _ _ _ _ _ (c.loop-taken.invariant.reads a held) (c.in-Went.ensures.reads a (c.loop-taken.invariant.shelf.kept a held));
   shelf = stays-joined g.S.Shelf.holds g.S.Shelf.ready g.S.Shelf.alike g.S.Shelf.faults g.met.S.Shelf.alike_joined _ _ _ c.loop-taken.invariant.shelf c.act.ensures.shelf;
   sink = g.met.O.Sink.alike_joined _ _ _ c.loop-taken.invariant.sink c.act.ensures.sink;
@@ -29,12 +31,12 @@ returns-in-Kept-clause-fed g c = λ a held.
     let turn = c.in-Kept.ensures.turn a (c.loop-taken.invariant.shelf.kept a held) in
     let before : Reader = with_piece c.loop-taken.rest.now c.loop-taken.self in
     rw (turn.0, turn.2)
-    (Fed-last (said c.args.moment) has_request _ _ _ (c.loop-taken.invariant.going a held) (last-kept c.args.moment a before _ (rw turn.0 at turn.1)))
+    (coming-done (ShelfActs g.S.Shelf) (said c.args.moment) has_request c.args.shelf.now c.loop-taken.shelf c.act.new.shelf _ _ _ (c.loop-taken.invariant.going a held) (last-kept c.args.moment a before _ (rw turn.0 at turn.1)) (record { stays = c.act.ensures.shelf; archive = refl; disk = ap (λ (o : ConnectionState). o.disk) (sym turn.2) }))
 
 pub returns-in-Closed-clause-fed : goal.returns-in-Closed-clause-fed
 returns-in-Closed-clause-fed g c = λ a held.
     let turn = c.in-Closed.ensures.turn a (c.loop-taken.invariant.shelf.kept a held) in
-    Fed-last (said c.args.moment) has_request _ _ _ (c.loop-taken.invariant.going a held) (Last-done (said c.args.moment) has_request (with_piece c.loop-taken.rest.now c.loop-taken.self) a _ None a _ turn (inl refl))
+    coming-last (ShelfActs g.S.Shelf) (said c.args.moment) has_request c.args.shelf.now c.loop-taken.shelf c.act.new.shelf _ (with_piece c.loop-taken.rest.now c.loop-taken.self) a _ None a _ (c.loop-taken.invariant.going a held) turn (inl refl) (record { stays = c.act.ensures.shelf; archive = refl; disk = refl })
 
 pub returns-in-Kept-clause-reads : goal.returns-in-Kept-clause-reads
 returns-in-Kept-clause-reads g c = λ a held.

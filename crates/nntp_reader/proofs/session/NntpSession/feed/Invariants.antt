@@ -1,6 +1,7 @@
 use Rattle.std.proofs.Common.{◌++◌, length, Some}
 use Rattle.line_door.specs.Acts.{outside}
-use Rattle.line_door.specs.Course.{talk, Going}
+use Rattle.line_door.specs.Course.{talk}
+use Rattle.keep_course.specs.Courses.{KeptAlong, ShelfActs, SessionRunning}
 use Rattle.arch_model.specs.Archives.{Archive}
 use Rattle.arch_model.specs.Shelves.{ShelfStays, ReadsAhead}
 use Rattle.nntp_reader.specs.Counting.{texts_for_bytes}
@@ -11,7 +12,7 @@ abbrev pub invariant-loop-taken : goal.invariant-loop-taken
 invariant-loop-taken g l = record {
   going :
       (a : Archive) → g.S.Shelf.holds l.fn.shelf a →
-      Going (said l.moment) has_request
+      SessionRunning (KeptAlong (ShelfActs g.S.Shelf)) (said l.moment) has_request l.fn.shelf l.shelf
       (talk (Some (with_piece l.fn.piece l.fn.self)) a (outside (g.O.Sink.taken l.fn.out) (g.S.Shelf.faults l.fn.shelf) (g.O.Sink.faults l.fn.out)))
       (talk (Some (with_piece l.rest l.self)) a (outside (g.O.Sink.taken l.out) (g.S.Shelf.faults l.shelf) (g.O.Sink.faults l.out)));
   reads :

@@ -6,22 +6,22 @@ use Rattle.node_serve.proofs.node.Node.turn.Goals as goal
 
 pub returns-in-Opened-clause-turned : goal.returns-in-Opened-clause-turned
 returns-in-Opened-clause-turned g c = rw (← c.self.view_is) (λ s fits.
-    turns-still (keeper g.K.Shelf g.K.Keep) (c.args.event.now, c.args.piece.now) s c.self.inside.keep c.self.inside.sessions.entries c.admit.new.sessions.entries _ _ fits (rw c.in-Opened.is (c.admit.ensures.made (g.K.Shelf.faults c.self.inside.keep) s, refl)))
+    turns-still (keeper g.K.Shelf g.K.Keep) (c.args.event.now, c.args.piece.now) s c.self.inside.keep c.self.inside.sessions.entries c.admit.new.sessions.entries _ _ fits (rw c.in-Opened.is (c.admit.ensures.made (g.K.Shelf.faults c.self.inside.keep) s, refl)) (rw c.in-Opened.is refl))
 
 pub returns-in-Bytes-clause-turned : goal.returns-in-Bytes-clause-turned
 returns-in-Bytes-clause-turned g c = rw (← c.self.view_is, c.in-Bytes.is) (c.feed.ensures.turned _)
 
 pub returns-in-Ended-clause-turned : goal.returns-in-Ended-clause-turned
 returns-in-Ended-clause-turned g c = rw (← c.self.view_is) (λ s fits.
-    turns-still (keeper g.K.Shelf g.K.Keep) (c.args.event.now, c.args.piece.now) s c.self.inside.keep c.self.inside.sessions.entries c.end.new.sessions.entries _ _ fits (rw c.in-Ended.is (ended-world c.in-Ended.conn (places_of c.self.inside.sessions.entries) (places_of c.end.new.sessions.entries) s _ c.end.ensures, refl)))
+    turns-still (keeper g.K.Shelf g.K.Keep) (c.args.event.now, c.args.piece.now) s c.self.inside.keep c.self.inside.sessions.entries c.end.new.sessions.entries _ _ fits (rw c.in-Ended.is (ended-world c.in-Ended.conn (places_of c.self.inside.sessions.entries) (places_of c.end.new.sessions.entries) s _ c.end.ensures, refl)) (rw c.in-Ended.is refl))
 
 pub returns-in-Quiet-clause-turned : goal.returns-in-Quiet-clause-turned
 returns-in-Quiet-clause-turned g c = rw (← c.self.view_is) (λ s fits.
-    turns-still (keeper g.K.Shelf g.K.Keep) (c.args.event.now, c.args.piece.now) s c.self.inside.keep c.self.inside.sessions.entries c.self.inside.sessions.entries _ _ fits (rw c.in-Quiet.is (same-world (keeper g.K.Shelf g.K.Keep) s _ _, refl)))
+    turns-still (keeper g.K.Shelf g.K.Keep) (c.args.event.now, c.args.piece.now) s c.self.inside.keep c.self.inside.sessions.entries c.self.inside.sessions.entries _ _ fits (rw c.in-Quiet.is (same-world (keeper g.K.Shelf g.K.Keep) s _ _, refl)) (rw c.in-Quiet.is refl))
 
 pub returns-in-Stop-clause-turned : goal.returns-in-Stop-clause-turned
 returns-in-Stop-clause-turned g c = rw (← c.self.view_is) (λ s fits.
-    turns-still (keeper g.K.Shelf g.K.Keep) (c.args.event.now, c.args.piece.now) s c.self.inside.keep c.self.inside.sessions.entries c.self.inside.sessions.entries _ _ fits (rw c.in-Stop.is (same-world (keeper g.K.Shelf g.K.Keep) s _ _, refl)))
+    turns-still (keeper g.K.Shelf g.K.Keep) (c.args.event.now, c.args.piece.now) s c.self.inside.keep c.self.inside.sessions.entries c.self.inside.sessions.entries _ _ fits (rw c.in-Stop.is (same-world (keeper g.K.Shelf g.K.Keep) s _ _, refl)) (rw c.in-Stop.is refl))
 
 pub returns-in-Opened-clause-anyway : goal.returns-in-Opened-clause-anyway
 returns-in-Opened-clause-anyway g c = rw (← c.self.view_is, c.in-Opened.is) (record {
