@@ -1,16 +1,17 @@
 -- The laws of the door.
-use Rattle.std.proofs.Common.{get_or, is_some, ◌≡◌, ◌⊎◌, ℕ, Bool, true, false, ◌||◌, List, [], ◌∷◌, Option, Some, None, inl, inr, refl, sym, ap, ◌∙◌, arith, if◌then◌else◌}
-use Rattle.arch_model.specs.Archives.{Archive, live, text_of}
-use Rattle.line_door.specs.Acts.{Plain, Memory, Disk, Newer}
+use Rattle.std.proofs.Common.{get_or, is_some, ◌≡◌, ℕ, Bool, true, false, ◌||◌, List, [], ◌∷◌, Option, Some, None, refl, sym, ap, ◌∙◌, arith, if◌then◌else◌}
+use Rattle.arch_model.specs.Archives.{Archive}
+use Rattle.line_door.specs.Acts.{Departure, Plain, Memory, Disk, Newer}
 use Rattle.line_door.proofs.Reading.{reader-laws}
 use Rattle.pop3_reader.specs.Commands.{PopCommand, User, Pass, Quit, Asks, Mistaken}
 use Rattle.pop3_reader.specs.Door.{line_limit}
 use Rattle.pop3_reader.specs.Laws.{PopLaws, IsNotQuit, MaildropStays, ReadsNone, SpeaksOfMaildrop, GoneIfNotLive}
 use Rattle.pop3_reader.specs.Maildrops.{mail_at}
 use Rattle.pop3_reader.specs.Notices.{notice_line, memory_line, disk_line}
-use Rattle.pop3_reader.specs.Replies.{PopReply, replies, answered, line_answered, too_long, takes_maildrop, reads_text, text_at, is_there, read_words, mail_words}
+use Rattle.pop3_reader.specs.Replies.{PopReply, replies, answered, in_way, line_answered, too_long, takes_maildrop, reads_text, text_at, is_there, read_words, mail_words}
 use Rattle.pop3_reader.specs.declared.maildrop.MailSize.{MailSize}
 use Rattle.pop3_reader.specs.declared.maildrop.Maildrop.{Maildrop}
+use Rattle.pop3_reader.specs.declared.maildrop.PopState.{PopState}
 use Rattle.pop3_reader.specs.declared.maildrop.PopState.TheVariants as state
 use Rattle.pop3_reader.specs.declared.notice.PopNotice.TheVariants as notice
 use Rattle.pop3_reader.specs.declared.order.MailOrder.TheVariants as order
@@ -99,7 +100,8 @@ refused-other : (a : Archive) (s : PopState) (t : Bool) (r : PopReply) (line : L
 refused-other a s true r line p never plain is = absurd (never is)
 refused-other a s false r line p never plain is = plain is
 
-fifth : List ℕ → ℕ
+-- The byte behind `-ERR `.
+abbrev fifth : List ℕ → ℕ
 fifth words = get_or words 5 0
 
 memory-other : memory_line ≡ notice_line notice.Gone → ⊥

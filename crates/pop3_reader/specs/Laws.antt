@@ -1,5 +1,5 @@
 -- The laws of the door: cuts of the bytes change nothing, and a maildrop stays.
-use Rattle.std.specs.Prelude.{◌≡◌, ◌≢◌, ◌⊎◌, ◌↔◌, ℕ, Some, None}
+use Rattle.std.specs.Prelude.{◌≡◌, ◌≢◌, ◌↔◌, ℕ, Some, None}
 use Rattle.arch_model.specs.Archives.{Archive, live, text_of}
 use Rattle.line_door.specs.Acts.{Departure}
 use Rattle.line_door.specs.Readers.{LineReaderLaws}
@@ -7,7 +7,7 @@ use Rattle.pop3_reader.specs.Commands.{PopCommand, Quit, Asks}
 use Rattle.pop3_reader.specs.Door.{line_limit}
 use Rattle.pop3_reader.specs.Maildrops.{mail_at}
 use Rattle.pop3_reader.specs.Notices.{notice_line}
-use Rattle.pop3_reader.specs.Replies.{in_way, answered, line_answered, too_long}
+use Rattle.pop3_reader.specs.Replies.{in_way, line_answered, too_long}
 use Rattle.pop3_reader.specs.declared.maildrop.MailSize.{MailSize}
 use Rattle.pop3_reader.specs.declared.maildrop.Maildrop.{Maildrop}
 use Rattle.pop3_reader.specs.declared.maildrop.PopState.TheVariants as state
