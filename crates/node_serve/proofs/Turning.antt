@@ -23,9 +23,9 @@ use Rattle.keep_course.proofs.Courses.{all-own, kept-left}
 use Rattle.node_serve.specs.Doors.{Came, said, is_asked, reopens, session_limit, busy_words, memory_words, greets, made, unmade, said_making}
 use Rattle.node_serve.specs.Nodes.{OpenSessions, serving, session_of, places_of, world_of, Refused, MakesSession, SessionEnds, GotSession, IsPut, PieceKept, CameKept, TurnKept, ActsAlong, FedFrom, TurnsTo, TurnsStill, CameAnyway}
 use Rattle.node_serve.specs.Turns.{FedAt, CameTo, Turned}
-use Rattle.node_serve.specs.World.{HostState, Around, Same, EndedAt, others_open, outside_at, one_if, closed_if, closed_at_if}
+use Rattle.edge_io.specs.declared.host.Host.{Ghosts as Host}
+use Rattle.node_serve.specs.World.{HostState, at_host, Around, Same, EndedAt, others_open, outside_at, one_if, closed_if, closed_at_if}
 use Rattle.node_serve.specs.declared.session.Session.{Session}
-use Rattle.node_serve.specs.declared.session.Session.TheVariants as session
 
 -- How many others are open, where a connection has no session.
 others-none : (c : ℕ) (s : LastKnown) (p : OpenSessions) (o : HostState) → p.session c ≡ None → others_open c (world_of s p o) ≡ p.count
@@ -320,3 +320,8 @@ greets-whole door.Http s = refl
 greets-whole door.Nntp s = refl
 greets-whole door.Pop3 s = refl
 greets-whole door.Imap s = refl
+
+-- An act at the sink of a connection is one at its host.
+pub act-at_host : {H : Type 0} (g : Host H) (words : Departure → Said Session LastKnown) (c n : ℕ) (i : ConnectionState) (held : Option Session) (s : LastKnown) (disk : ℕ) (host now : H) → n ≡ c → now ≡ host → Acts words i held s (outside_at n (at_host g host disk)) → Acts words i held s (outside_at c (at_host g now disk))
+act-at_host g words c n i held s disk host now same is acts =
+    rw is (subst (λ (m : ℕ). Acts words i held s (outside_at m (at_host g host disk))) same acts)

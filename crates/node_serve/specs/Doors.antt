@@ -22,7 +22,6 @@ use Rattle.line_door.specs.Readers as readers
 use Rattle.pop3_reader.specs.Door as pop
 use Rattle.pop3_reader.specs.Door.{PopClient}
 use Rattle.pop3_reader.specs.Notices as pop_notices
-use Rattle.pop3_reader.specs.declared.notice.PopNotice.TheVariants as pop_notice
 use Rattle.shelf_doors.specs.Refusals as refusals
 use Rattle.node_serve.specs.declared.welcome.Greeter.{Greeter}
 use Rattle.node_serve.specs.declared.welcome.Greeter.TheVariants as greeter
@@ -108,7 +107,7 @@ abbrev pub busy_words : ℕ → Door → List ℕ
 busy_words moment door.Control = control.busy_word
 busy_words moment door.Http = word TooManyRequests moment true true
 busy_words moment door.Nntp = busy_line
-busy_words moment door.Pop3 = pop_notices.notice_line pop_notice.Busy
+busy_words moment door.Pop3 = pop_notices.busy_line
 busy_words moment door.Imap = []
 
 -- A door's word at a moment for a session for which memory ran out.
@@ -125,7 +124,7 @@ abbrev pub greets : Door → LastKnown → Said Session LastKnown
 greets door.Control s = says s (session.Control []) []
 greets door.Http s = says s (session.Http []) []
 greets door.Nntp s = says s (session.News new_reader) welcome_line
-greets door.Pop3 s = says s (session.Pop pop.new_client) (pop_notices.notice_line pop_notice.Welcome)
+greets door.Pop3 s = says s (session.Pop pop.new_client) pop_notices.welcome_line
 greets door.Imap s = closes s []
 
 -- The door that greets.

@@ -6,11 +6,10 @@ use Rattle.line_door.specs.Acts.{Said, Departure}
 use Rattle.line_door.specs.Making.{says}
 use Rattle.line_door.specs.Readers.{LineReader, line_reader}
 use Rattle.line_door.specs.Readers as readers
-use Rattle.pop3_reader.specs.Notices.{notice_line}
+use Rattle.pop3_reader.specs.Notices.{welcome_line}
 use Rattle.pop3_reader.specs.Replies.{line_answered, too_long}
 use Rattle.pop3_reader.specs.declared.maildrop.PopState.{PopState}
 use Rattle.pop3_reader.specs.declared.maildrop.PopState.TheVariants as state
-use Rattle.pop3_reader.specs.declared.notice.PopNotice.TheVariants as notice
 
 -- The greatest length of a line with its line end, in octets.
 abbrev pub line_limit : ℕ
@@ -30,4 +29,4 @@ new_client = line_reader (state.Before None) []
 
 -- The greeting of a new session. It needs no memory and no disk.
 abbrev pub greeting : Archive → Departure → Said PopClient Archive
-greeting a way = says a new_client (notice_line notice.Welcome)
+greeting a way = says a new_client welcome_line

@@ -23,6 +23,14 @@ notice_words notice.Busy = codes "-ERR busy"
 abbrev pub notice_line : PopNotice → List ℕ
 notice_line what = crlf_line (notice_words what)
 
+-- The greeting of a new session.
+abbrev pub welcome_line : List ℕ
+welcome_line = notice_line notice.Welcome
+
+-- The line for a server that is full.
+abbrev pub busy_line : List ℕ
+busy_line = notice_line notice.Busy
+
 -- What stands before the words of each refusal.
 abbrev pub refused_code : List ℕ
 refused_code = codes "-ERR "

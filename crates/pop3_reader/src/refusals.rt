@@ -2,8 +2,7 @@
 //! Pure.
 ghost use Rattle.edge_io.specs.Phrases.{SaysTo};
 ghost use Rattle.shelf_doors.specs.Refusals.{unopened_line};
-ghost use Rattle.pop3_reader.specs.Notices.{notice_line, memory_line, refused_code};
-ghost use Rattle.pop3_reader.specs.declared.notice.PopNotice.TheVariants as notice;
+ghost use Rattle.pop3_reader.specs.Notices.{busy_line, memory_line, refused_code};
 
 use crate::notice::{PopNotice, say_notice};
 use arch_model::OpenRefusal;
@@ -16,7 +15,7 @@ pub(crate) const REFUSED: &[u8] = b"-ERR ";
 ///
 /// `SinkFault` if a write failed. A prefix of the line was taken, and the sink's count of faults rose.
 pub fn say_busy<O: Sink>(out: &mut O) -> Result<(), SinkFault>
-    ensures said { SaysTo O.Sink (notice_line notice.Busy) out.old out.new result }
+    ensures said { SaysTo O.Sink busy_line out.old out.new result }
     ensures sink { O.alike out.old out.new }
 {
     say_notice(PopNotice::Busy, out)

@@ -1,10 +1,8 @@
 use Rattle.std.proofs.Common.{refl}
-use Rattle.line_door.specs.Acts.{Departure}
 use Rattle.edge_io.specs.declared.events.Door.TheVariants as door
 use Rattle.arch_model.specs.Next.{continues}
 use Rattle.nntp_reader.specs.Door as news
 use Rattle.pop3_reader.specs.Door as pop
-use Rattle.node_serve.specs.Doors.{door_of}
 use Rattle.node_serve.specs.declared.session.Session.TheVariants as session
 use Rattle.node_serve.proofs.Turning.{greets-over}
 use Rattle.node_serve.proofs.welcome.greet_at.Goals as goal
