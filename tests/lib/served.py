@@ -16,7 +16,7 @@ with warnings.catch_warnings():
         nntplib = None
 
 ANSWER = 15
-LISTENS = b"piv2: listening at 127.0.0.1: port %d for commands, %d for pages (HTTP), %d for news (NNTP)\n"
+LISTENS = b"piv2: listening at 127.0.0.1: port %d for commands, %d for pages (HTTP), %d for news (NNTP), %d for mail (POP3)\n"
 ENDED = b"piv2: the input ended; serving ended\n"
 
 
@@ -25,11 +25,11 @@ def mail(name, body=b"text\n"):
 
 
 def free_port(chance):
-    """Returns a base port of which the four ports from it on are free."""
+    """Returns a base port of which the eight ports from it on are free."""
     for _ in range(100):
-        base = chance.randrange(20_000, 32_000, 4)
+        base = chance.randrange(20_000, 32_000, 8)
         try:
-            for port in range(base, base + 4):
+            for port in range(base, base + 8):
                 with socket.socket() as probe:
                     probe.bind(("127.0.0.1", port))
             return base
@@ -40,12 +40,12 @@ def free_port(chance):
 
 def listens(port):
     """Returns the line in which a server at a port says where it listens."""
-    return LISTENS % (port, port + 1, port + 2)
+    return LISTENS % (port, port + 1, port + 2, port + 4)
 
 
 def cant_listen(port):
     """Returns what a server says that can't listen at its first port."""
-    said = f"can't listen at ports {port}, {port + 1} and {port + 2} of 127.0.0.1; port=N asks for others"
+    said = f"can't listen at ports {port}, {port + 1}, {port + 2} and {port + 4} of 127.0.0.1; port=N asks for others"
     return f"piv2: {said}\npiv2: sockets: Address already in use\n".encode()
 
 

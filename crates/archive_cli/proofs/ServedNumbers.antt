@@ -1,5 +1,5 @@
 -- No number names a second message while events are served.
-use Rattle.std.proofs.Common.{◌≡◌, ℕ, Bool, true, false, List, [], ◌∷◌, ◌++◌, Option, Some, None, refl, sym, subst, inl, inr, if◌then◌else◌}
+use Rattle.std.proofs.Common.{◌≡◌, ◌||◌, ℕ, Bool, true, false, List, [], ◌∷◌, ◌++◌, Option, Some, None, refl, sym, subst, inl, inr, if◌then◌else◌}
 use Rattle.edge_io.specs.Scripts.{Arrival}
 use Rattle.edge_io.specs.declared.events.What.{What}
 use Rattle.edge_io.specs.declared.events.What.TheVariants as what
@@ -23,7 +23,17 @@ use Rattle.control_door.specs.Requests.{Request, Delivers, Shows, Removes, Purge
 use Rattle.nntp_reader.specs.Door as news
 use Rattle.nntp_reader.specs.Door.{Reader}
 use Rattle.http_front.proofs.Staying.{archive-stays}
-use Rattle.node_serve.specs.Doors.{SessionAtWork, Came, AtControl, AtNews, AtHttp, said, is_asked, unopened_words, with_piece}
+use Rattle.line_door.specs.Readers as readers
+use Rattle.line_door.specs.Lines.{content}
+use Rattle.shelf_doors.specs.Mailboxes.{mailbox_named, mailbox_at}
+use Rattle.pop3_reader.specs.Commands.{PopCommand, User, Pass, Quit, Asks, Mistaken, command_of}
+use Rattle.pop3_reader.specs.Door.{PopClient, line_limit}
+use Rattle.pop3_reader.specs.Notices.{memory_line, disk_line}
+use Rattle.pop3_reader.specs.Replies as pop
+use Rattle.pop3_reader.specs.Replies.{PopReply, user_reply, enter_reply, pass_reply, answered, in_way, takes_maildrop, reads_text, line_answered, too_long}
+use Rattle.pop3_reader.specs.declared.maildrop.PopState.{PopState}
+use Rattle.pop3_reader.specs.declared.maildrop.PopState.TheVariants as pop_state
+use Rattle.node_serve.specs.Doors.{SessionAtWork, Came, AtControl, AtNews, AtPop, AtHttp, said, is_asked, unopened_words, with_piece}
 use Rattle.node_serve.specs.Turns.{Turn, CameTo, TurnedBy, Turned, Served, passed_in}
 use Rattle.node_serve.specs.World.{NodeState}
 use Rattle.node_serve.specs.declared.session.Session.{Session}
@@ -38,6 +48,46 @@ DoubtFollows s = (b : Archive) → s.in_doubt ≡ Some b → Follows s.archive b
 pick-after : {H A : Type 0} (t : Bool) (x y : Said H A) (a : A) → x.after ≡ a → y.after ≡ a → (if t then x else y).after ≡ a
 pick-after true x y a p q = p
 pick-after false x y a p q = q
+
+-- No reply to a client that fetches mail changes the archive.
+user-after : (a : Archive) (index : Option ℕ) → (user_reply a index).after ≡ a
+user-after a None = refl
+user-after a (Some index) = refl
+
+enter-after : (a : Archive) (accepted : ℕ) (index : Option ℕ) → (enter_reply a accepted index).after ≡ a
+enter-after a accepted None = refl
+enter-after a accepted (Some index) = refl
+
+pass-after : (a : Archive) (accepted : Option ℕ) → (pass_reply a accepted).after ≡ a
+pass-after a None = refl
+pass-after a (Some index) = enter-after a index (mailbox_at a (Some index))
+
+asked-after : (a : Archive) (s : PopState) (command : PopCommand) → (answered a s command).after ≡ a
+asked-after a (pop_state.Before accepted) (User name) = user-after a (mailbox_named a name)
+asked-after a (pop_state.Before accepted) Pass = pass-after a accepted
+asked-after a (pop_state.Before accepted) Quit = refl
+asked-after a (pop_state.Before accepted) (Asks asked) = refl
+asked-after a (pop_state.Before accepted) Mistaken = refl
+asked-after a (pop_state.Entered d) (User name) = refl
+asked-after a (pop_state.Entered d) Pass = refl
+asked-after a (pop_state.Entered d) Quit = refl
+asked-after a (pop_state.Entered d) (Asks asked) = refl
+asked-after a (pop_state.Entered d) Mistaken = refl
+
+either-after : (a : Archive) (s : PopState) (line : List ℕ) (t : Bool) (r : PopReply) → r.after ≡ a → (if t then pop.replies a s line else r).after ≡ a
+either-after a s line true r is = refl
+either-after a s line false r is = is
+
+command-after : (a : Archive) (s : PopState) (command : PopCommand) (way : Departure) → (in_way a s command way).after ≡ a
+command-after a s command Plain = asked-after a s command
+command-after a s command Memory = either-after a s memory_line (takes_maildrop a s command || reads_text a s command) (answered a s command) (asked-after a s command)
+command-after a s command Disk = either-after a s disk_line (reads_text a s command) (answered a s command) (asked-after a s command)
+command-after a s command Newer = asked-after a s command
+
+mail-after : (a : Archive) (client : PopClient) (p : SkippedLine) (way : Departure) → (readers.said_at line_limit line_answered too_long a client p way).after ≡ a
+mail-after a client (Taken line rest) way = command-after a client.state (command_of (content line)) way
+mail-after a client (Skipped rest) way = refl
+mail-after a client Unended way = refl
 
 read-after : (moment : ℕ) (a : Archive) (r : Reader) (p : SkippedLine) (way : Departure) → (news.said_at moment a r p way).after ≡ a
 read-after moment a r (Taken line rest) Plain = refl
@@ -157,6 +207,8 @@ module _ (itself : FollowsItself) (commands : CommandFollows) where
   said-follows moment s (AtControl w) way kept = front-follows moment s w (ahead w.bytes) way kept
   said-follows moment s (AtNews r) way kept =
       subst (λ (a : Archive). FollowsIn s.archive (standing a s.in_doubt)) (sym (read-after moment s.archive r (skipping_front longest_line r.bytes) way)) (stays s kept)
+  said-follows moment s (AtPop client) way kept =
+      subst (λ (a : Archive). FollowsIn s.archive (standing a s.in_doubt)) (sym (mail-after s.archive client (skipping_front line_limit client.bytes) way)) (stays s kept)
   said-follows moment s (AtHttp bytes) way kept =
       subst (λ (a : Archive). FollowsIn s.archive (standing a s.in_doubt)) (sym (archive-stays moment s.archive bytes way)) (stays s kept)
 

@@ -8,7 +8,7 @@ use Rattle.edge_io.specs.Events.{IsDoor, IsWhat, IsScriptLine, IsEvent, piece_le
 use Rattle.edge_io.specs.Scripts.{Arrival, IsArrival, HasNoFirst, spelled_all, ReadInOneWay}
 use Rattle.edge_io.specs.Parsing.{LacksByte}
 use Rattle.edge_io.specs.declared.events.Door.{Door}
-use Rattle.edge_io.specs.declared.events.Door.TheVariants.{Control, Http, Nntp, Imap}
+use Rattle.edge_io.specs.declared.events.Door.TheVariants.{Control, Http, Nntp, Pop3, Imap}
 use Rattle.edge_io.specs.declared.events.Event.{Event}
 use Rattle.edge_io.specs.declared.events.What.{What}
 use Rattle.edge_io.specs.declared.events.What.TheVariants.{Opened, Bytes, Ended, Quiet, Stop}
@@ -17,21 +17,36 @@ use Rattle.edge_io.proofs.Numerals.{decimal-lacks}
 use Rattle.edge_io.proofs.Lines.{line-lacks, rest-same}
 use Rattle.edge_io.proofs.Fronts.{nil_from_length}
 
+-- The first byte of a door's name. No two doors that the server has share it.
+abbrev first_of_word : Door → ℕ
+first_of_word door = get_or (door_word door) 0 0
+
+first-same : (a b : Door) → door_word a ≡ door_word b → first_of_word a ≡ first_of_word b
+first-same a b e = ap (λ l. get_or l 0 0) e
+
 -- A word is the name of at most one door that the server has.
 doors-once : (a b : Door) → IsDoor a → IsDoor b → door_word a ≡ door_word b → a ≡ b
 doors-once Control Control p q e = refl
-doors-once Control Http p q e = let first : 99 ≡ 104 = ap (λ l. get_or l 0 0) e in absurd (omega (arith, first))
-doors-once Control Nntp p q e = let first : 99 ≡ 110 = ap (λ l. get_or l 0 0) e in absurd (omega (arith, first))
-doors-once Http Control p q e = let first : 104 ≡ 99 = ap (λ l. get_or l 0 0) e in absurd (omega (arith, first))
 doors-once Http Http p q e = refl
-doors-once Http Nntp p q e = let first : 104 ≡ 110 = ap (λ l. get_or l 0 0) e in absurd (omega (arith, first))
-doors-once Nntp Control p q e = let first : 110 ≡ 99 = ap (λ l. get_or l 0 0) e in absurd (omega (arith, first))
-doors-once Nntp Http p q e = let first : 110 ≡ 104 = ap (λ l. get_or l 0 0) e in absurd (omega (arith, first))
 doors-once Nntp Nntp p q e = refl
+doors-once Pop3 Pop3 p q e = refl
 doors-once Imap b p q e = absurd p
 doors-once Control Imap p q e = absurd q
 doors-once Http Imap p q e = absurd q
 doors-once Nntp Imap p q e = absurd q
+doors-once Pop3 Imap p q e = absurd q
+doors-once Control Http p q e = let first : 99 ≡ 104 = first-same Control Http e in absurd (omega (arith, first))
+doors-once Control Nntp p q e = let first : 99 ≡ 110 = first-same Control Nntp e in absurd (omega (arith, first))
+doors-once Control Pop3 p q e = let first : 99 ≡ 112 = first-same Control Pop3 e in absurd (omega (arith, first))
+doors-once Http Control p q e = let first : 104 ≡ 99 = first-same Http Control e in absurd (omega (arith, first))
+doors-once Http Nntp p q e = let first : 104 ≡ 110 = first-same Http Nntp e in absurd (omega (arith, first))
+doors-once Http Pop3 p q e = let first : 104 ≡ 112 = first-same Http Pop3 e in absurd (omega (arith, first))
+doors-once Nntp Control p q e = let first : 110 ≡ 99 = first-same Nntp Control e in absurd (omega (arith, first))
+doors-once Nntp Http p q e = let first : 110 ≡ 104 = first-same Nntp Http e in absurd (omega (arith, first))
+doors-once Nntp Pop3 p q e = let first : 110 ≡ 112 = first-same Nntp Pop3 e in absurd (omega (arith, first))
+doors-once Pop3 Control p q e = let first : 112 ≡ 99 = first-same Pop3 Control e in absurd (omega (arith, first))
+doors-once Pop3 Http p q e = let first : 112 ≡ 104 = first-same Pop3 Http e in absurd (omega (arith, first))
+doors-once Pop3 Nntp p q e = let first : 112 ≡ 110 = first-same Pop3 Nntp e in absurd (omega (arith, first))
 
 -- The words tell what happened.
 words-once : (a b : What) → IsWhat a → IsWhat b → words_of a ≡ words_of b → a ≡ b

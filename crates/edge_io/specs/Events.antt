@@ -6,7 +6,7 @@ use Rattle.edge_io.specs.declared.events.Event.{Event}
 use Rattle.edge_io.specs.declared.events.What.{What}
 use Rattle.edge_io.specs.declared.events.What.TheVariants.{Opened, Bytes, Ended, Quiet, Stop}
 use Rattle.edge_io.specs.declared.events.Door.{Door}
-use Rattle.edge_io.specs.declared.events.Door.TheVariants.{Control, Http, Nntp, Imap}
+use Rattle.edge_io.specs.declared.events.Door.TheVariants.{Control, Http, Nntp, Pop3, Imap}
 
 -- The connections of a script.
 abbrev pub IsConnection : ℕ → Type 0
@@ -17,6 +17,7 @@ abbrev pub IsDoor : Door → Type 0
 IsDoor Control = Unit {0}
 IsDoor Http = Unit {0}
 IsDoor Nntp = Unit {0}
+IsDoor Pop3 = Unit {0}
 IsDoor Imap = ⊥
 
 -- The length of a piece in bytes.
@@ -54,6 +55,7 @@ abbrev pub door_word : Door → List ℕ
 door_word Control = codes "control"
 door_word Http = codes "http"
 door_word Nntp = codes "nntp"
+door_word Pop3 = codes "pop3"
 door_word Imap = codes "imap"
 
 -- The words of a line after its moment.

@@ -7,6 +7,7 @@ pub enum Door {
     Control,
     Http,
     Nntp,
+    Pop3,
     Imap,
 }
 

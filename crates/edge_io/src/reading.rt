@@ -204,6 +204,9 @@ fn read_door(word: &[u8]) -> Option<Door>
     if word == b"nntp".as_slice() {
         return Some(Door::Nntp);
     }
+    if word == b"pop3".as_slice() {
+        return Some(Door::Pop3);
+    }
     None
 }
 

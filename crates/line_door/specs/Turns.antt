@@ -1,5 +1,5 @@
--- Lemmas for doors of lines: one act as the code does it. A line of the piece is answered, or the piece
--- is kept.
+-- Private: one act as the code of a door of lines does it. A line of the piece is answered, or the
+-- piece is kept.
 use Rattle.std.specs.Prelude.{◌≡◌, ◌<◌, ◌≤◌, ℕ, List, ◌++◌, length, drop, Some, None, true, false}
 use Rattle.line_door.specs.Acts.{ConnectionState, Departure, Acts}
 use Rattle.line_door.specs.Clipped.{clipped}

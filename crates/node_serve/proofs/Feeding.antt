@@ -17,8 +17,11 @@ use Rattle.control_door.specs.Door.{Waiting, waiting}
 use Rattle.control_door.specs.Sessions as sessions
 use Rattle.nntp_reader.specs.Door as news
 use Rattle.nntp_reader.specs.Door.{Reader}
+use Rattle.line_door.specs.Readers as readers
+use Rattle.pop3_reader.specs.Door as pop
+use Rattle.pop3_reader.specs.Door.{PopClient}
 use Rattle.http_front.specs.Door as pages
-use Rattle.node_serve.specs.Doors.{Came, AtControl, AtNews, AtHttp, with_piece, rest_if, said, is_asked, reopens}
+use Rattle.node_serve.specs.Doors.{Came, AtControl, AtNews, AtPop, AtHttp, with_piece, rest_if, said, is_asked, reopens}
 use Rattle.node_serve.specs.Nodes.{FedFrom, ReadsAt, ReadsCame}
 use Rattle.node_serve.specs.declared.session.Session.{Session}
 use Rattle.node_serve.specs.declared.session.Session.TheVariants as session
@@ -30,6 +33,10 @@ control-rest false left opened = refl
 news-rest : (goes_on : Bool) (left : Reader) → held_if goes_on (session.News left) ≡ rest_if (held_over AtNews (held_if goes_on left))
 news-rest true left = refl
 news-rest false left = refl
+
+pop-rest : (goes_on : Bool) (left : PopClient) → held_if goes_on (session.Pop left) ≡ rest_if (held_over AtPop (held_if goes_on left))
+pop-rest true left = refl
+pop-rest false left = refl
 
 http-rest : (goes_on : Bool) (left : List ℕ) → held_if goes_on (session.Http left) ≡ rest_if (held_over AtHttp (held_if goes_on left))
 http-rest true left = refl
@@ -62,6 +69,21 @@ module _ {K : Type 0} (g : Keeper K) (moment : ℕ) where
         held = held_over AtNews (held_if goes_on left);
         rest_is = news-rest goes_on left;
         course = reading-course shelf g AtNews (news.said moment) news.has_request (said moment) is_asked reopens (λ a h way. refl) (λ h. refl) (λ h. refl) holds_files_are holds_left alike_kept counts old new (talk (Some start) s.archive i) (talk (held_if goes_on left) s.archive j) settled.1 (fed s.archive settled.1);
+      })
+
+  -- The piece of a session of a client that fetches mail.
+  pub pop-fed : (shelf : Shelf K) → ((k : K) (a : Archive) → g.holds k a → g.files_are k a) → ((k : K) (a : Archive) (may : List (Option Archive)) → g.holds k a → Contains may (Some a) → g.leaves k k may) → ((k m : K) → shelf.alike k m → OnlyRead g k m) → ((k : K) → g.faults k ≡ shelf.faults k) → (start : PopClient) (s : LastKnown) (old : K) (i : ConnectionState) (goes_on : Bool) (left : PopClient) (new : K) (j : ConnectionState)
+      → ((a : Archive) → g.holds old a → ShelfRun shelf pop.said (readers.has_request pop.line_limit) old new (talk (Some start) a i) (talk (held_if goes_on left) a j)) → OnlyRead g old new → g.ready old ≡ true → MatchesKnown g old s
+      → FedFrom g moment (AtPop start) s old i goes_on (session.Pop left) new j
+  pop-fed shelf holds_files_are holds_left alike_kept counts start s old i goes_on left new j fed read at_hand fits =
+      let settled = settled-is g old s fits at_hand in
+      let moves = moves-read g holds_files_are holds_left old new s.archive settled.1 read in
+      subst (λ (x : LastKnown). FedFrom g moment (AtPop start) x old i goes_on (session.Pop left) new j) (sym settled.0) (record {
+        after = standing s.archive None;
+        fits = moves.fits;
+        held = held_over AtPop (held_if goes_on left);
+        rest_is = pop-rest goes_on left;
+        course = reading-course shelf g AtPop pop.said (readers.has_request pop.line_limit) (said moment) is_asked reopens (λ a h way. refl) (λ h. refl) (λ h. refl) holds_files_are holds_left alike_kept counts old new (talk (Some start) s.archive i) (talk (held_if goes_on left) s.archive j) settled.1 (fed s.archive settled.1);
       })
 
   -- The piece of a session at the door of pages.

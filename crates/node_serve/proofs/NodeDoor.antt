@@ -17,24 +17,35 @@ use Rattle.control_door.proofs.Doors.{control_cuts}
 use Rattle.nntp_reader.specs.Door as news
 use Rattle.nntp_reader.specs.Door.{Reader}
 use Rattle.nntp_reader.proofs.Doors.{reader_cuts}
+use Rattle.line_door.specs.Readers as readers
+use Rattle.line_door.proofs.Reading.{reader-cuts}
+use Rattle.pop3_reader.specs.Door as pop
+use Rattle.pop3_reader.specs.Door.{PopClient}
+use Rattle.pop3_reader.specs.Replies.{line_answered, too_long}
 use Rattle.http_front.specs.Door as pages
 use Rattle.http_front.proofs.Doors.{http_cuts}
-use Rattle.node_serve.specs.Doors.{SessionAtWork, Came, AtControl, AtNews, AtHttp, with_piece, unopened_words, said, is_asked}
+use Rattle.node_serve.specs.Doors.{SessionAtWork, Came, AtControl, AtNews, AtPop, AtHttp, with_piece, unopened_words, said, is_asked}
 use Rattle.node_serve.specs.Plain.{size_of}
 use Rattle.node_serve.specs.declared.session.Session.{Session}
 use Rattle.node_serve.specs.declared.session.Session.TheVariants as session
+
+-- The cuts of the bytes of a client that fetches mail.
+pop_cuts : CutDoor pop.said (readers.has_request pop.line_limit) (readers.with_piece pop.line_limit) readers.left
+pop_cuts = reader-cuts pop.line_limit line_answered too_long
 
 -- The session at work with more bytes.
 abbrev pub more_bytes : List ℕ → SessionAtWork → SessionAtWork
 more_bytes q (Came start piece) = Came start (piece ++ q)
 more_bytes q (AtControl w) = AtControl (control.with_piece q w)
 more_bytes q (AtNews reader) = AtNews (news.with_piece q reader)
+more_bytes q (AtPop client) = AtPop (readers.with_piece pop.line_limit q client)
 more_bytes q (AtHttp bytes) = AtHttp (pages.with_piece q bytes)
 
 -- Two pieces in order are one joined piece.
 pieces-joined : (start : Session) (p q : List ℕ) → with_piece start (p ++ q) ≡ more_bytes q (with_piece start p)
 pieces-joined (session.Control bytes) p q = ap (λ (b : List ℕ). AtControl (waiting b true)) (sym (append_assoc bytes p q))
 pieces-joined (session.News reader) p q = ap AtNews (sym ((reader_cuts 0).more_joined p q reader))
+pieces-joined (session.Pop client) p q = ap AtPop (sym (pop_cuts.more_joined p q client))
 pieces-joined (session.Http bytes) p q = ap AtHttp (sym (append_assoc bytes p q))
 
 -- A reopening leaves the bytes.
@@ -64,6 +75,7 @@ stays : (moment : ℕ) (q : List ℕ) (h : SessionAtWork) → is_asked h ≡ tru
 stays moment q (Came start piece) asked = refl
 stays moment q (AtControl w) asked = (control_cuts moment).request_stays q w asked
 stays moment q (AtNews reader) asked = (reader_cuts moment).request_stays q reader asked
+stays moment q (AtPop client) asked = pop_cuts.request_stays q client asked
 stays moment q (AtHttp bytes) asked = (http_cuts moment).request_stays q bytes asked
 
 says-more : (moment : ℕ) (q : List ℕ) (s : LastKnown) (h : SessionAtWork) (way : Departure) → is_asked h ≡ true → said moment s (more_bytes q h) way ≡ said_with (more_bytes q) (said moment s h way)
@@ -74,6 +86,9 @@ says-more moment q s (AtControl w) way asked =
 says-more moment q s (AtNews reader) way asked =
     ap (λ (x : Said Reader Archive). said_over (λ (a : Archive). standing a s.in_doubt) AtNews x) ((reader_cuts moment).said_stays q s.archive reader way asked)
     ∙ over-more (λ (a : Archive). standing a s.in_doubt) AtNews (news.with_piece q) q (news.said moment s.archive reader way) (λ h. refl)
+says-more moment q s (AtPop client) way asked =
+    ap (λ (x : Said PopClient Archive). said_over (λ (a : Archive). standing a s.in_doubt) AtPop x) (pop_cuts.said_stays q s.archive client way asked)
+    ∙ over-more (λ (a : Archive). standing a s.in_doubt) AtPop (readers.with_piece pop.line_limit q) q (pop.said s.archive client way) (λ h. refl)
 says-more moment q s (AtHttp bytes) way asked =
     ap (λ (x : Said (List ℕ) Archive). said_over (λ (a : Archive). standing a s.in_doubt) AtHttp x) ((http_cuts moment).said_stays q s.archive bytes way asked)
     ∙ over-more (λ (a : Archive). standing a s.in_doubt) AtHttp (pages.with_piece q) q (pages.said moment s.archive bytes way) (λ h. refl)
@@ -82,6 +97,7 @@ files_are : (moment : ℕ) (s : LastKnown) (h : SessionAtWork) → is_asked h �
 files_are moment s (Came start piece) none = absurd (false≢true (sym none))
 files_are moment s (AtControl w) none = ap (λ (x : Said Waiting LastKnown). said_over (λ (t : LastKnown). t) AtControl x) ((control_cuts moment).rest_plain s w none)
 files_are moment s (AtNews reader) none = ap (λ (x : Said Reader Archive). said_over (λ (a : Archive). standing a s.in_doubt) AtNews x) ((reader_cuts moment).rest_plain s.archive reader none)
+files_are moment s (AtPop client) none = ap (λ (x : Said PopClient Archive). said_over (λ (a : Archive). standing a s.in_doubt) AtPop x) (pop_cuts.rest_plain s.archive client none)
 files_are moment s (AtHttp bytes) none = ap (λ (x : Said (List ℕ) Archive). said_over (λ (a : Archive). standing a s.in_doubt) AtHttp x) ((http_cuts moment).rest_plain s.archive bytes none)
 
 keeps : (moment : ℕ) (s : LastKnown) (h : SessionAtWork) (way : Departure) → is_asked h ≡ false → ((said moment s h way).next ≡ None) ⊎ (said moment s h way ≡ silent s h)
@@ -94,6 +110,10 @@ keeps moment s (AtNews reader) way none = elim ((reader_cuts moment).rest_kept s
   | inl shut ↦ inl (ap (held_over AtNews) shut)
   | inr kept ↦ inr (ap (λ (x : Said Reader Archive). said_over (λ (a : Archive). standing a s.in_doubt) AtNews x) kept)
 ]
+keeps moment s (AtPop client) way none = elim (pop_cuts.rest_kept s.archive client way none) [
+  | inl shut ↦ inl (ap (held_over AtPop) shut)
+  | inr kept ↦ inr (ap (λ (x : Said PopClient Archive). said_over (λ (a : Archive). standing a s.in_doubt) AtPop x) kept)
+]
 keeps moment s (AtHttp bytes) way none = elim ((http_cuts moment).rest_kept s.archive bytes way none) [
   | inl shut ↦ inl (ap (held_over AtHttp) shut)
   | inr kept ↦ inr (ap (λ (x : Said (List ℕ) Archive). said_over (λ (a : Archive). standing a s.in_doubt) AtHttp x) kept)
@@ -103,11 +123,13 @@ joins : (moment : ℕ) (p q : List ℕ) (h : SessionAtWork) → more_bytes q (mo
 joins moment p q (Came start piece) = ap (Came start) (append_assoc piece p q)
 joins moment p q (AtControl w) = ap AtControl ((control_cuts moment).more_joined p q w)
 joins moment p q (AtNews reader) = ap AtNews ((reader_cuts moment).more_joined p q reader)
+joins moment p q (AtPop client) = ap AtPop (pop_cuts.more_joined p q client)
 joins moment p q (AtHttp bytes) = ap AtHttp ((http_cuts moment).more_joined p q bytes)
 
 opened-smaller : (start : Session) (piece : List ℕ) → size_of (with_piece start piece) < size_of (Came start piece)
 opened-smaller (session.Control bytes) piece = omega arith
 opened-smaller (session.News reader) piece = omega arith
+opened-smaller (session.Pop client) piece = omega arith
 opened-smaller (session.Http bytes) piece = omega arith
 
 smaller : (moment : ℕ) (s : LastKnown) (h k : SessionAtWork) → is_asked h ≡ true → (said moment s h Plain).next ≡ Some k → size_of k < size_of h
@@ -120,6 +142,9 @@ smaller moment s (AtControl w) k asked next =
 smaller moment s (AtNews reader) k asked next =
     let some = over-some (λ (a : Archive). standing a s.in_doubt) AtNews (news.said moment s.archive reader Plain).next k next in
     subst (λ (x : SessionAtWork). size_of x < size_of (AtNews reader)) some.2 ((reader_cuts moment).shorter s.archive reader some.0 asked some.1)
+smaller moment s (AtPop client) k asked next =
+    let some = over-some (λ (a : Archive). standing a s.in_doubt) AtPop (pop.said s.archive client Plain).next k next in
+    subst (λ (x : SessionAtWork). size_of x < size_of (AtPop client)) some.2 (pop_cuts.shorter s.archive client some.0 asked some.1)
 smaller moment s (AtHttp bytes) k asked next =
     let some = over-some (λ (a : Archive). standing a s.in_doubt) AtHttp (pages.said moment s.archive bytes Plain).next k next in
     subst (λ (x : SessionAtWork). size_of x < size_of (AtHttp bytes)) some.2 ((http_cuts moment).shorter s.archive bytes some.0 asked some.1)

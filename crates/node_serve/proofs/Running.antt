@@ -123,6 +123,7 @@ greets-after : (at : Door) (s : LastKnown) → (greets at s).after ≡ s
 greets-after door.Control s = refl
 greets-after door.Http s = refl
 greets-after door.Nntp s = refl
+greets-after door.Pop3 s = refl
 greets-after door.Imap s = refl
 
 pub making-after : (moment : ℕ) (at : Door) (n : ℕ) (s : LastKnown) (way : Departure) → (said_making moment at n s way).after ≡ s

@@ -20,14 +20,12 @@ use Rattle.arch_model.specs.Standing.{LastKnown}
 use Rattle.arch_model.specs.Keeping.{CrashesLeaveOnly, MatchesKnown, Keeper}
 use Rattle.keep_course.specs.Courses.{afters, archives_of}
 use Rattle.keep_course.proofs.Courses.{all-own, kept-left}
-use Rattle.nntp_reader.specs.Door.{Reader, new_reader, greeting}
-use Rattle.nntp_reader.specs.Notices.{welcome_line}
 use Rattle.node_serve.specs.Doors.{Came, said, is_asked, reopens, session_limit, busy_words, memory_words, greets, made, unmade, said_making}
 use Rattle.node_serve.specs.Nodes.{OpenSessions, serving, session_of, places_of, world_of, Refused, MakesSession, SessionEnds, GotSession, IsPut, PieceKept, CameKept, TurnKept, ActsAlong, FedFrom, TurnsTo, TurnsStill, CameAnyway}
 use Rattle.node_serve.specs.Turns.{FedAt, CameTo, Turned}
-use Rattle.node_serve.specs.World.{HostState, Around, Same, EndedAt, others_open, outside_at, one_if, closed_if, closed_at_if}
+use Rattle.edge_io.specs.declared.host.Host.{Ghosts as Host}
+use Rattle.node_serve.specs.World.{HostState, at_host, Around, Same, EndedAt, others_open, outside_at, one_if, closed_if, closed_at_if}
 use Rattle.node_serve.specs.declared.session.Session.{Session}
-use Rattle.node_serve.specs.declared.session.Session.TheVariants as session
 
 -- How many others are open, where a connection has no session.
 others-none : (c : ℕ) (s : LastKnown) (p : OpenSessions) (o : HostState) → p.session c ≡ None → others_open c (world_of s p o) ≡ p.count
@@ -139,35 +137,34 @@ acts-any {H} {A} words other x i held a j same whole plain kept acts = record { 
     by way (inr (inl s)) = inr (inl (subst (λ (y : Said H A). SaidLost y i held a j) (same way ∙ sym plain) s))
     by way (inr (inr s)) = absurd (stops way s)
 
--- The greeting of a reader is the making of its session.
-greeting-made : (moment n : ℕ) (s : LastKnown) (i j : ConnectionState) (held : Option Reader) → n < session_limit → j.disk ≡ i.disk → Acts (greeting s.archive) i held s.archive j → Acts (said_making moment door.Nntp n s) i (held_over session.News held) s j
-greeting-made moment n s i j held few kept acts =
-    let lifted = acts-over (λ (x : Archive). s) session.News (greeting s.archive) (λ (way : Departure). said_over (λ (x : Archive). s) session.News (greeting s.archive way)) i held s.archive j (λ way. refl) acts in
-    acts-any (λ (way : Departure). said_over (λ (x : Archive). s) session.News (greeting s.archive way)) (said_making moment door.Nntp n s) (says s (session.News new_reader) welcome_line) i (held_over session.News held) s j (λ way. refl) refl (made-few moment door.Nntp n s few) kept lifted
+-- The greeting of a door is the making of its session.
+greeting-made : (moment n : ℕ) (at : Door) (s : LastKnown) (i j : ConnectionState) (held : Option Session) → (greets at s).streamed ≡ false → n < session_limit → j.disk ≡ i.disk → Acts (λ (way : Departure). greets at s) i held s j → Acts (said_making moment at n s) i held s j
+greeting-made moment n at s i j held whole few kept acts =
+    acts-any (λ (way : Departure). greets at s) (said_making moment at n s) (greets at s) i held s j (λ way. refl) whole (made-few moment at n s few) kept acts
 
--- A reader's session was made, and its greeting was sent.
-pub makes-news : (moment c : ℕ) (p q r : OpenSessions) (i j : HostState) (reader : Reader) → GotSession c p q → IsPut c (session.News reader) q r → p.count < session_limit → j.disk ≡ i.disk
-    → ((a : Archive) → Acts (greeting a) (outside_at c i) (Some reader) a (outside_at c j)) → OthersKept c i.taken j.taken → ((d : ℕ) → j.closings d ≡ i.closings d) → ((d : ℕ) → j.closed_at d ≡ i.closed_at d) → MakesSession moment door.Nntp c p i r j
-makes-news moment c p q r i j reader placed put few kept acts taken closings at_kept = λ s. record {
-  acts = subst (λ (n : ℕ). Acts (said_making moment door.Nntp n s) (outside_at c i) (r.session c) s (outside_at c j)) (sym (others-none c s p i placed.none))
-      (subst (λ (x : Option Session). Acts (said_making moment door.Nntp p.count s) (outside_at c i) x s (outside_at c j)) (sym put.here) (greeting-made moment p.count s (outside_at c i) (outside_at c j) (Some reader) few kept (acts s.archive)));
-  around = around-placed c (session.News reader) s p r i j placed.none put.here (λ d other. put.others d other ∙ placed.others d other) (put.count ∙ placed.count) taken closings at_kept;
+-- A session was made that greets, and its greeting was sent.
+pub makes-greeted : (moment c : ℕ) (at : Door) (p q r : OpenSessions) (i j : HostState) (start : Session) → ((s : LastKnown) → (greets at s).streamed ≡ false) → GotSession c p q → IsPut c start q r → p.count < session_limit → j.disk ≡ i.disk
+    → ((s : LastKnown) → Acts (λ (way : Departure). greets at s) (outside_at c i) (Some start) s (outside_at c j)) → OthersKept c i.taken j.taken → ((d : ℕ) → j.closings d ≡ i.closings d) → ((d : ℕ) → j.closed_at d ≡ i.closed_at d) → MakesSession moment at c p i r j
+makes-greeted moment c at p q r i j start whole placed put few kept acts taken closings at_kept = λ s. record {
+  acts = subst (λ (n : ℕ). Acts (said_making moment at n s) (outside_at c i) (r.session c) s (outside_at c j)) (sym (others-none c s p i placed.none))
+      (subst (λ (x : Option Session). Acts (said_making moment at p.count s) (outside_at c i) x s (outside_at c j)) (sym put.here) (greeting-made moment p.count at s (outside_at c i) (outside_at c j) (Some start) (whole s) few kept (acts s)));
+  around = around-placed c start s p r i j placed.none put.here (λ d other. put.others d other ∙ placed.others d other) (put.count ∙ placed.count) taken closings at_kept;
 }
 
 -- Its greeting was lost, and it ended.
-pub makes-lost : (moment c : ℕ) (p q r : OpenSessions) (i j k : HostState) → GotSession c p q → SessionEnds c q r → p.count < session_limit → j.disk ≡ i.disk → k.disk ≡ j.disk → k.lost ≡ j.lost → ((d : ℕ) → k.taken d ≡ j.taken d)
-    → ((a : Archive) → Acts (greeting a) (outside_at c i) None a (outside_at c j)) → OthersKept c i.taken j.taken → ((d : ℕ) → j.closings d ≡ i.closings d) → OthersKept c j.closings k.closings → k.closings c ≡ one_more (j.closings c) → ((d : ℕ) → j.closed_at d ≡ i.closed_at d) → OthersKept c j.closed_at k.closed_at → k.closed_at c ≡ closed_with (j.taken c) (j.closed_at c) → MakesSession moment door.Nntp c p i r k
-makes-lost moment c p q r i j k placed ends few kept disk lost same acts taken closings others closed at_kept at_others at_closed = λ s.
+pub makes-lost : (moment c : ℕ) (at : Door) (p q r : OpenSessions) (i j k : HostState) → ((s : LastKnown) → (greets at s).streamed ≡ false) → GotSession c p q → SessionEnds c q r → p.count < session_limit → j.disk ≡ i.disk → k.disk ≡ j.disk → k.lost ≡ j.lost → ((d : ℕ) → k.taken d ≡ j.taken d)
+    → ((s : LastKnown) → Acts (λ (way : Departure). greets at s) (outside_at c i) None s (outside_at c j)) → OthersKept c i.taken j.taken → ((d : ℕ) → j.closings d ≡ i.closings d) → OthersKept c j.closings k.closings → k.closings c ≡ one_more (j.closings c) → ((d : ℕ) → j.closed_at d ≡ i.closed_at d) → OthersKept c j.closed_at k.closed_at → k.closed_at c ≡ closed_with (j.taken c) (j.closed_at c) → MakesSession moment at c p i r k
+makes-lost moment c at p q r i j k whole placed ends few kept disk lost same acts taken closings others closed at_kept at_others at_closed = λ s.
     let ended = ends in
     let zero : one_if (p.session c) ≡ 0 = ap (λ (x : Option Session). one_if x) placed.none in
     let one : one_if (q.session c) ≡ 1 = ap (λ (x : Option Session). one_if x) placed.some in
     let none : one_if (r.session c) ≡ 0 = ap (λ (x : Option Session). one_if x) ended.gone in
     let out : outside_at c j ≡ outside_at c k = λ e. record { out = sym (same c) e; disk = sym disk e; lost = sym lost e } in
-    let said = greeting-made moment p.count s (outside_at c i) (outside_at c j) None few kept (acts s.archive) in
-    let here = subst (λ (o : ConnectionState). Acts (said_making moment door.Nntp p.count s) (outside_at c i) None s o) out said in
+    let said = greeting-made moment p.count at s (outside_at c i) (outside_at c j) None (whole s) few kept (acts s) in
+    let here = subst (λ (o : ConnectionState). Acts (said_making moment at p.count s) (outside_at c i) None s o) out said in
     record {
-      acts = subst (λ (n : ℕ). Acts (said_making moment door.Nntp n s) (outside_at c i) (r.session c) s (outside_at c k)) (sym (others-none c s p i placed.none))
-          (subst (λ (x : Option Session). Acts (said_making moment door.Nntp p.count s) (outside_at c i) x s (outside_at c k)) (sym ended.gone) here);
+      acts = subst (λ (n : ℕ). Acts (said_making moment at n s) (outside_at c i) (r.session c) s (outside_at c k)) (sym (others-none c s p i placed.none))
+          (subst (λ (x : Option Session). Acts (said_making moment at p.count s) (outside_at c i) x s (outside_at c k)) (sym ended.gone) here);
       around = record {
         sessions = λ d other. ended.sessions d other ∙ placed.others d other;
         taken = λ d other. same d ∙ taken d other;
@@ -303,3 +300,28 @@ around-shut c start left s t p q r i j k here put ends taken closings same other
       closed_at = closed-last c i j k at_kept same at_closed ∙ sym (ap (λ (x : Option Session). closed_at_if x (k.taken c) (i.closed_at c)) ended.gone);
       closed_at_others = λ d other. at_others d other ∙ at_kept d;
     }
+
+-- The session of a door in the place of one, if it is open.
+held-kind : {H : Type 0} (into : H → Session) (goes_on : Bool) (left : H) → held_over into (held_if goes_on left) ≡ held_if goes_on (into left)
+held-kind into true left = refl
+held-kind into false left = refl
+
+-- What a door says as its greeting, over the sessions of all doors.
+pub greets-over : {H : Type 0} (at : Door) (into : H → Session) (s : LastKnown) (greeting : Departure → Said H Archive) (goes_on : Bool) (left : H) (i j : ConnectionState) → ((way : Departure) → greets at s ≡ said_over (λ (x : Archive). s) into (greeting way))
+    → Acts greeting i (held_if goes_on left) s.archive j → Acts (λ (way : Departure). greets at s) i (held_if goes_on (into left)) s j
+greets-over at into s greeting goes_on left i j same acts =
+    subst (λ (o : Option Session). Acts (λ (way : Departure). greets at s) i o s j) (held-kind into goes_on left)
+    (acts-over (λ (x : Archive). s) into greeting (λ (way : Departure). greets at s) i (held_if goes_on left) s.archive j same acts)
+
+-- No greeting is streamed.
+pub greets-whole : (at : Door) (s : LastKnown) → (greets at s).streamed ≡ false
+greets-whole door.Control s = refl
+greets-whole door.Http s = refl
+greets-whole door.Nntp s = refl
+greets-whole door.Pop3 s = refl
+greets-whole door.Imap s = refl
+
+-- An act at the sink of a connection is one at its host.
+pub act-at_host : {H : Type 0} (g : Host H) (words : Departure → Said Session LastKnown) (c n : ℕ) (i : ConnectionState) (held : Option Session) (s : LastKnown) (disk : ℕ) (host now : H) → n ≡ c → now ≡ host → Acts words i held s (outside_at n (at_host g host disk)) → Acts words i held s (outside_at c (at_host g now disk))
+act-at_host g words c n i held s disk host now same is acts =
+    rw is (subst (λ (m : ℕ). Acts words i held s (outside_at m (at_host g host disk))) same acts)

@@ -13,13 +13,17 @@ use Rattle.edge_io.specs.declared.events.What.{What}
 use Rattle.edge_io.specs.declared.events.What.TheVariants as what
 use Rattle.edge_io.specs.declared.sink.SinkFault.{SinkFault}
 use Rattle.line_door.specs.Acts.{ConnectionState, Departure, held_if}
+use Rattle.line_door.specs.Costs.{lines_cost}
 use Rattle.line_door.specs.Course.{SessionState, talk}
 use Rattle.keep_course.specs.Answering as answering
 use Rattle.keep_course.specs.Courses.{SessionRun, KeeperActs, KeeperRun, KeptAlong, afters, archives_of}
 use Rattle.control_door.specs.Counting.{Meets, asks_for}
 use Rattle.nntp_reader.specs.Counting.{ReadsLines}
+use Rattle.pop3_reader.specs.Door.{line_limit}
+use Rattle.pop3_reader.specs.Replies.{line_texts}
 use Rattle.http_front.specs.Sessions.{ReadsBytes, ReadsNothing}
 use Rattle.arch_model.specs.Keeping.{CrashesLeaveOnly, MatchesKnown, Keeper}
+use Rattle.arch_model.specs.Shelves.{ReadsUpTo}
 use Rattle.arch_model.specs.Standing.{LastKnown}
 use Rattle.node_serve.specs.Doors.{SessionAtWork, Came, rest_if, said, is_asked, reopens, with_piece, said_making}
 use Rattle.node_serve.specs.Ends.{ServingEnds, given_after, before_all, is_stop}
@@ -233,6 +237,9 @@ module _ {K : Type 0} (g : Keeper K) where
       Meets (asks_for (bytes ++ piece)) (g.ready new) (g.reads old) (g.reads new)
   ReadsAt moment (kind.News reader) piece old new = (g.ready new ≡ true)
       × ReadsLines g.holds moment (reader.bytes ++ piece) old (g.reads old) (g.reads new)
+  ReadsAt moment (kind.Pop client) piece old new = (g.ready new ≡ true)
+      × ReadsUpTo (lines_cost line_limit line_texts (client.bytes ++ piece)) (g.reads old)
+      (g.reads new)
   ReadsAt moment (kind.Http bytes) piece old new = (g.ready new ≡ true)
       × ReadsBytes g.holds (bytes ++ piece) old (g.reads old) (g.reads new)
       × ReadsNothing g.holds (bytes ++ piece) old (g.reads old) (g.reads new)

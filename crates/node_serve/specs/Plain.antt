@@ -12,8 +12,9 @@ use Rattle.keep_course.specs.Courses.{afters}
 use Rattle.arch_model.specs.Standing.{LastKnown}
 use Rattle.control_door.specs.Door as control
 use Rattle.nntp_reader.specs.Door as news
+use Rattle.line_door.specs.Readers as readers
 use Rattle.node_serve.specs.declared.session.Session.{Session}
-use Rattle.node_serve.specs.Doors.{SessionAtWork, Came, AtControl, AtNews, AtHttp, with_piece, rest_if, said, is_asked, said_making}
+use Rattle.node_serve.specs.Doors.{SessionAtWork, Came, AtControl, AtNews, AtPop, AtHttp, with_piece, rest_if, said, is_asked, said_making}
 use Rattle.node_serve.specs.Turns.{Turn}
 use Rattle.node_serve.specs.World.{NodeState, outer, Around, Same, EndedAt, outside_at, others_open, one_if, closed_if, closed_at_if, open_below}
 
@@ -22,6 +23,7 @@ abbrev pub size_at_door : SessionAtWork → ℕ
 size_at_door (Came start piece) = 0
 size_at_door (AtControl w) = control.left w
 size_at_door (AtNews reader) = news.left reader
+size_at_door (AtPop client) = readers.left client
 size_at_door (AtHttp bytes) = length bytes
 
 -- The size of a session at work, which the reopening before a piece makes smaller, too.
@@ -29,6 +31,7 @@ abbrev pub size_of : SessionAtWork → ℕ
 size_of (Came start piece) = suc (size_at_door (with_piece start piece))
 size_of (AtControl w) = control.left w
 size_of (AtNews reader) = news.left reader
+size_of (AtPop client) = readers.left client
 size_of (AtHttp bytes) = length bytes
 
 -- What a piece says: the answers to its whole requests in order, after which the rest is kept.

@@ -6,12 +6,12 @@ ghost use Rattle.arch_model.specs.Standing.{LastKnown};
 ghost use Rattle.edge_io.specs.declared.events.What.TheVariants.{Bytes};
 ghost use Rattle.line_door.specs.Making.{says};
 ghost use Rattle.node_serve.specs.Hosted.{EventsStay, TurnsAt, AnywayAt};
-ghost use Rattle.node_serve.specs.Doors.{session_limit, greets};
+ghost use Rattle.node_serve.specs.Doors.{session_limit, door_of, greets};
 ghost use Rattle.node_serve.specs.Nodes.{OpenSessions, MakesSession, SessionEnds, GotSession, IsPut, ReadsCame, places_of, serving};
 ghost use Rattle.node_serve.specs.World.{at_host};
 
 use crate::session::{Session, feed_one};
-use crate::welcome::{greet_reader, refuse, refuse_starved};
+use crate::welcome::{Greeter, door, greet_client, refuse, refuse_starved};
 use arch_model::{Keep, Next};
 use control_door::Session as ControlSession;
 use edge_io::{Door, Host};
@@ -62,7 +62,8 @@ pub(crate) fn admit<H: Host>(
             let session = Session::Http(HttpSession::open(alloc));
             open_silent(Door::Http, session, conn, moment, sessions, host)
         }
-        Door::Nntp => open_news(alloc, conn, moment, sessions, host),
+        Door::Nntp => open_greeting(Greeter::News, alloc, conn, moment, sessions, host),
+        Door::Pop3 => open_greeting(Greeter::Pop, alloc, conn, moment, sessions, host),
         Door::Imap => refuse(Door::Imap, conn, moment, host),
     }
 }
@@ -93,39 +94,47 @@ fn open_silent<H: Host>(
     }
 }
 
-/// Makes a session of a reader at a connection without one, which greets, or refuses it if memory
-/// runs out.
+/// Makes a session of a door that greets at a connection without one, or refuses it if memory runs
+/// out.
 ///
 /// Its place is found first, by a session that takes no memory. So none greets that has no place.
-fn open_news<H: Host>(alloc: Global, conn: u32, moment: u64, sessions: &mut Sessions, host: &mut H)
+fn open_greeting<H: Host>(
+    greeter: Greeter,
+    alloc: Global,
+    conn: u32,
+    moment: u64,
+    sessions: &mut Sessions,
+    host: &mut H,
+)
     requires moment { moment ≤ last_moment }
     requires none { (places_of sessions.old.entries).session conn ≡ None }
     requires few { (places_of sessions.old.entries).count < session_limit }
-    ensures made { (disk : ℕ) → MakesSession moment Door.Nntp conn (places_of sessions.old.entries)
+    ensures made { (disk : ℕ) → MakesSession moment (door_of greeter) conn
+        (places_of sessions.old.entries)
         (at_host H.Host host.old disk)
         (places_of sessions.new.entries)
         (at_host H.Host host.new disk) }
     ensures events { EventsStay H.Host host.old host.new }
 {
     match sessions.insert(conn, Session::Control(ControlSession::open(alloc))) {
-        Ok(_) => greet(alloc, conn, sessions, host),
-        Err(_) => refuse_starved(Door::Nntp, conn, moment, host),
+        Ok(_) => greet(greeter, alloc, conn, sessions, host),
+        Err(_) => refuse_starved(door(greeter), conn, moment, host),
     }
 }
 
-/// Opens a session of a reader in the place of the one that a connection has, and greets. If the
-/// greeting is lost, the connection is closed and has no session.
-fn greet<H: Host>(alloc: Global, conn: u32, sessions: &mut Sessions, host: &mut H)
+/// Opens a session in the place of the one that a connection has, and greets. If the greeting is lost,
+/// the connection is closed and has no session.
+fn greet<H: Host>(greeter: Greeter, alloc: Global, conn: u32, sessions: &mut Sessions, host: &mut H)
     ensures made { (disk moment : ℕ) (p : OpenSessions) → GotSession conn p (places_of sessions.old.entries)
-        → p.count < session_limit → MakesSession moment Door.Nntp conn p
+        → p.count < session_limit → MakesSession moment (door_of greeter) conn p
         (at_host H.Host host.old disk)
         (places_of sessions.new.entries)
         (at_host H.Host host.new disk) }
     ensures events { EventsStay H.Host host.old host.new }
 {
-    let (session, next) = greet_reader(alloc, conn, host);
+    let (session, next) = greet_client(greeter, alloc, conn, host);
     match next {
-        Next::Go => put(conn, Session::News(session), sessions),
+        Next::Go => put(conn, session, sessions),
         Next::Close => {
             host.close(conn);
             end(conn, sessions);

@@ -18,6 +18,7 @@ use control_door::Session as ControlSession;
 use edge_io::{ConnSink, Host, Sink, SinkFault};
 use http_front::HttpSession;
 use nntp_reader::NntpSession;
+use pop3_reader::Pop3Session;
 
 /// A session of a connection, by its door.
 #[derive(Drop)]
@@ -26,6 +27,8 @@ pub enum Session {
     Control(ControlSession),
     /// At the door of readers of news.
     News(NntpSession),
+    /// At the door of clients that fetch mail.
+    Pop(Pop3Session),
     /// At the door of pages.
     Http(HttpSession),
 }
@@ -122,6 +125,7 @@ fn say_shut<O: Sink>(
     match session {
         Session::Control(_) => say_unopened(refusal, out),
         Session::News(_) => nntp_reader::say_unopened(refusal, out),
+        Session::Pop(_) => pop3_reader::say_unopened(refusal, out),
         Session::Http(_) => http_front::say_unopened(refusal, moment, out),
     }
 }
@@ -149,6 +153,7 @@ fn feed<K: Keep, O: Sink>(
     match session {
         Session::Control(control) => control.feed(piece, moment, keep, out),
         Session::News(reader) => reader.feed(piece, moment, keep, out),
+        Session::Pop(client) => client.feed(piece, moment, keep, out),
         Session::Http(pages) => pages.feed(piece, moment, keep, out),
     }
 }

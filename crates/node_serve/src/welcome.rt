@@ -2,20 +2,21 @@
 //! Allocates.
 ghost use Rattle.std.specs.Prelude.{◌≡◌, ◌≤◌, ℕ};
 ghost use Rattle.arch_base.specs.Moments.{last_moment};
-ghost use Rattle.arch_model.specs.Archives.{Archive};
+ghost use Rattle.arch_model.specs.Standing.{LastKnown};
 ghost use Rattle.arch_model.specs.Next.{continues};
 ghost use Rattle.edge_io.specs.Phrases.{Says, SaysTo};
-ghost use Rattle.line_door.specs.Acts.{Acts, held_if};
-ghost use Rattle.nntp_reader.specs.Door.{greeting, new_reader};
+ghost use Rattle.line_door.specs.Acts.{Acts, held_if, at_sink};
 ghost use Rattle.node_serve.specs.Hosted.{EventsStay, ElsewhereStays};
-ghost use Rattle.node_serve.specs.Doors.{busy_words, memory_words};
+ghost use Rattle.node_serve.specs.Doors.{busy_words, memory_words, door_of, greets};
 ghost use Rattle.node_serve.specs.Nodes.{Refused};
 ghost use Rattle.node_serve.specs.World.{at_host, outside_at};
 
+use crate::session::Session;
 use answer_lines::say_memory;
 use arch_model::Next;
 use edge_io::{ConnSink, Door, Host, Sink, SinkFault, say};
 use nntp_reader::NntpSession;
+use pop3_reader::Pop3Session;
 use std::alloc::Global;
 
 /// Writes a door's word for a server that is full. A door that isn't built has none.
@@ -27,6 +28,7 @@ fn say_busy<O: Sink>(door: Door, moment: u64, out: &mut O) -> Result<(), SinkFau
     match door {
         Door::Control => control_door::say_busy(out),
         Door::Nntp => nntp_reader::say_busy(out),
+        Door::Pop3 => pop3_reader::say_busy(out),
         Door::Http => http_front::say_busy(moment, out),
         Door::Imap => say(b"", out),
     }
@@ -41,6 +43,7 @@ fn say_starved<O: Sink>(door: Door, moment: u64, out: &mut O) -> Result<(), Sink
     match door {
         Door::Control => say_memory(out),
         Door::Nntp => nntp_reader::say_no_memory(out),
+        Door::Pop3 => pop3_reader::say_no_memory(out),
         Door::Http => http_front::say_no_memory(moment, out),
         Door::Imap => say(b"", out),
     }
@@ -101,13 +104,36 @@ fn write_starved<H: Host>(door: Door, conn: u32, moment: u64, host: &mut H) -> R
     say_starved(door, moment, &mut sink)
 }
 
-/// Opens a session of a reader, which greets its connection.
-pub(crate) fn greet_reader<H: Host>(alloc: Global, conn: u32, host: &mut H) -> (NntpSession, Next)
-    ensures greeted { (a : Archive) (disk : ℕ) → Acts (greeting a)
+/// A door that greets.
+#[derive(Clone, Copy, Debug, PartialEq, Eq, Drop)]
+pub(crate) enum Greeter {
+    /// The door of readers of news.
+    News,
+    /// The door of clients that fetch mail.
+    Pop,
+}
+
+/// Returns the door.
+pub(crate) fn door(greeter: Greeter) -> Door
+    ensures { result ≡ door_of greeter }
+{
+    match greeter {
+        Greeter::News => Door::Nntp,
+        Greeter::Pop => Door::Pop3,
+    }
+}
+
+/// Opens a session of a door, which greets its connection.
+pub(crate) fn greet_client<H: Host>(
+    greeter: Greeter,
+    alloc: Global,
+    conn: u32,
+    host: &mut H,
+) -> (Session, Next)
+    ensures greeted { (s : LastKnown) (disk : ℕ) → Acts (λ way. greets (door_of greeter) s)
         (outside_at conn (at_host H.Host host.old disk))
-        (held_if (continues result.1) result.0) a
+        (held_if (continues result.1) result.0) s
         (outside_at conn (at_host H.Host host.new disk)) }
-    ensures session { result.0 ≡ new_reader }
     ensures host { ElsewhereStays H.Host conn
         host.old host.new }
 {
@@ -115,5 +141,25 @@ pub(crate) fn greet_reader<H: Host>(alloc: Global, conn: u32, host: &mut H) -> (
         host: &mut *host,
         conn,
     };
-    NntpSession::open(alloc, &mut sink)
+    greet_at(greeter, alloc, &mut sink)
+}
+
+/// Opens a session of a door, which greets through a sink.
+fn greet_at<O: Sink>(greeter: Greeter, alloc: Global, out: &mut O) -> (Session, Next)
+    ensures greeted { (s : LastKnown) (disk : ℕ) → Acts (λ way. greets (door_of greeter) s)
+        (at_sink O.Sink out.old disk)
+        (held_if (continues result.1) result.0) s
+        (at_sink O.Sink out.new disk) }
+    ensures sink { O.alike out.old out.new }
+{
+    match greeter {
+        Greeter::News => {
+            let (session, next) = NntpSession::open(alloc, out);
+            (Session::News(session), next)
+        }
+        Greeter::Pop => {
+            let (session, next) = Pop3Session::open(alloc, out);
+            (Session::Pop(session), next)
+        }
+    }
 }

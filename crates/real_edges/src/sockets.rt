@@ -36,6 +36,10 @@ const PORTS: [Port; LISTENERS] = [
         door: Door::Nntp,
         offset: 2,
     },
+    Port {
+        door: Door::Pop3,
+        offset: 4,
+    },
 ];
 
 /// The ports of the doors that the server has, by the first, in the words in which it says where it
@@ -46,10 +50,10 @@ pub(crate) struct Ports(pub(crate) u16);
 impl Display for Ports {
     fn fmt<W: fmt::Write>(&self, f: &mut fmt::Formatter<W>) -> fmt::Result {
         let control = u32::from(self.0);
-        let (http, nntp) = (control + 1, control + 2);
+        let (http, nntp, pop3) = (control + 1, control + 2, control + 4);
         write!(
             f,
-            "listening at 127.0.0.1: port {control} for commands, {http} for pages (HTTP), {nntp} for news (NNTP)"
+            "listening at 127.0.0.1: port {control} for commands, {http} for pages (HTTP), {nntp} for news (NNTP), {pop3} for mail (POP3)"
         )
     }
 }
@@ -62,16 +66,16 @@ pub(crate) struct NotHeard(pub(crate) u16);
 impl Display for NotHeard {
     fn fmt<W: fmt::Write>(&self, f: &mut fmt::Formatter<W>) -> fmt::Result {
         let control = u32::from(self.0);
-        let (http, nntp) = (control + 1, control + 2);
+        let (http, nntp, pop3) = (control + 1, control + 2, control + 4);
         write!(
             f,
-            "can't listen at ports {control}, {http} and {nntp} of 127.0.0.1; port=N asks for others"
+            "can't listen at ports {control}, {http}, {nntp} and {pop3} of 127.0.0.1; port=N asks for others"
         )
     }
 }
 
 /// The number of listeners. Their places in a circle come first.
-const LISTENERS: usize = 3;
+const LISTENERS: usize = 4;
 
 /// The number of clients. Their places in a circle come after those of the listeners.
 const CLIENTS: usize = 512;
@@ -330,7 +334,7 @@ fn is_served(door: Door) -> bool
     ensures { IsTrue result → IsDoor door }
 {
     match door {
-        Door::Control | Door::Http | Door::Nntp => true,
+        Door::Control | Door::Http | Door::Nntp | Door::Pop3 => true,
         Door::Imap => false,
     }
 }

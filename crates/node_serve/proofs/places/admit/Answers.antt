@@ -21,7 +21,11 @@ returns-in-Http-clause-made g c = λ disk.
 
 pub returns-in-Nntp-clause-made : goal.returns-in-Nntp-clause-made
 returns-in-Nntp-clause-made g c = λ disk.
-    rw c.in-Nntp.is (makes-after c.args.moment door.Nntp c.args.conn (places_of c.args.sessions.now.entries) (places_of c.end.new.sessions.entries) (places_of c.open_news.new.sessions.entries) _ _ c.end.ensures (c.open_news.ensures.made disk))
+    rw c.in-Nntp.is (makes-after c.args.moment door.Nntp c.args.conn (places_of c.args.sessions.now.entries) (places_of c.end.new.sessions.entries) (places_of c.open_greeting.new.sessions.entries) _ _ c.end.ensures (c.open_greeting.ensures.made disk))
+
+pub returns-in-Pop3-clause-made : goal.returns-in-Pop3-clause-made
+returns-in-Pop3-clause-made g c = λ disk.
+    rw c.in-Pop3.is (makes-after c.args.moment door.Pop3 c.args.conn (places_of c.args.sessions.now.entries) (places_of c.end.new.sessions.entries) (places_of c.open_greeting-in-Pop3.new.sessions.entries) _ _ c.end.ensures (c.open_greeting-in-Pop3.ensures.made disk))
 
 pub returns-in-Imap-clause-made : goal.returns-in-Imap-clause-made
 returns-in-Imap-clause-made g c = λ disk.
@@ -40,5 +44,8 @@ open_silent-requires-in-Http-clause-silent g c = λ s. ap (λ (bytes : List ℕ)
 pub open_silent-requires-in-Http-clause-none : goal.open_silent-requires-in-Http-clause-none
 open_silent-requires-in-Http-clause-none g c = c.end.ensures.gone
 
-pub open_news-requires-clause-none : goal.open_news-requires-clause-none
-open_news-requires-clause-none g c = c.end.ensures.gone
+pub open_greeting-requires-clause-none : goal.open_greeting-requires-clause-none
+open_greeting-requires-clause-none g c = c.end.ensures.gone
+
+pub open_greeting-requires-in-Pop3-clause-none : goal.open_greeting-requires-in-Pop3-clause-none
+open_greeting-requires-in-Pop3-clause-none g c = c.end.ensures.gone

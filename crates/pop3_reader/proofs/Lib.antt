@@ -1,0 +1,4 @@
+pub mod Acting
+pub mod DoorLaws
+pub mod Lines
+pub mod Sizes

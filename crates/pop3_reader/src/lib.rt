@@ -1,0 +1,20 @@
+//! The door of clients that fetch mail (RFC 1939): a session shows the messages of one mailbox.
+//! Reads the disk.
+#![tactic(auto)]
+
+mod answers;
+mod grammar;
+mod laws;
+mod listing;
+mod login;
+mod maildrop;
+mod notice;
+mod order;
+mod refusals;
+mod session;
+mod texts;
+
+pub use laws::door_laws;
+pub use maildrop::{MailSize, Maildrop, PopState};
+pub use refusals::{say_busy, say_no_memory, say_unopened};
+pub use session::Pop3Session;

@@ -1,0 +1,4 @@
+pub mod Walking
+pub mod Prefixes
+pub mod Reading
+pub mod Replying

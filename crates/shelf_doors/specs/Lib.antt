@@ -1,0 +1,4 @@
+pub mod Numbers
+pub mod Mailboxes
+pub mod Refusals
+pub mod Reads
