@@ -1,5 +1,5 @@
 -- The course of one door's session is one of the node's.
-use Rattle.std.proofs.Common.{◌≡◌, ℕ, Bool, true, false, List, [], ◌∷◌, ◌++◌, Option, Some, None, refl, sym, ap, subst, inl}
+use Rattle.std.proofs.Common.{◌≡◌, ℕ, Bool, true, false, List, Option, Some, None, refl, sym, subst, inl}
 use Rattle.std.specs.List.{Contains}
 use Rattle.line_door.specs.Acts.{ConnectionState, Plain, Acts, held_if}
 use Rattle.line_door.specs.Course.{talk}

@@ -1,5 +1,5 @@
 -- Turns and serving, said of the keeper and of the host.
-use Rattle.std.specs.Prelude.{ℕ, List}
+use Rattle.std.specs.Prelude.{ℕ}
 use Rattle.arch_model.specs.Keeping.{Keeper}
 use Rattle.edge_io.specs.declared.host.Host.{Ghosts as Host}
 use Rattle.edge_io.specs.Hosts.{SameEvents, SameElsewhere}

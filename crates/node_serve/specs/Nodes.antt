@@ -169,8 +169,7 @@ Along does (e ∷ es) p (m ∷ ms) q = does e p m × Along does es m ms q
 abbrev pub GoesAnyway : {K : Type 0} → Arrival → Stage K → Stage K → Type 0
 GoesAnyway arrival p q = TurnsAnyway arrival p.node p.out q.node q.out
 
--- After an event the world's count of the disk's faults is that of the keeper, whatever it holds. So a
--- fault in one event is none of another.
+-- After an event the world's count of the disk's faults is that of the keeper, whatever it holds.
 abbrev pub GoesCounting : {K : Type 0} → (K → ℕ) → Arrival → Stage K → Stage K → Type 0
 GoesCounting faults arrival p q = q.out.disk ≡ faults q.node.keep
 

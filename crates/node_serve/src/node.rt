@@ -74,8 +74,7 @@ impl<K: Keep> Node<K> {
     ///
     /// After each act of a piece, before the next request is answered, the keeper matches what stands
     /// then: its files are exactly those of the archive, where nothing is in doubt. Its count of faults
-    /// is the one that the act leaves: a fault in one act is none of another. A reopening of a ready
-    /// keeper says nothing, and is not refused.
+    /// is the one that the act leaves. A reopening of a ready keeper says nothing, and is not refused.
     ///
     /// A ready keeper isn't reopened: a piece reads no more texts than the requests ask for that it makes
     /// whole, and an event that is no piece reads none. The keeper stays ready, unless a request at the
