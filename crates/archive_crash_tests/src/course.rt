@@ -5,13 +5,12 @@ ghost use Rattle.epoch_store.specs.Commands.{StoreHasSizes};
 
 use arch_model::{Answer, Command, OpenRefusal};
 use archive_core::DiskArchive;
-use archive_tests::{accepted, opened};
+use archive_fixtures::{accepted, opened};
 use disk_model::{Disk, DiskFault, FuseDisk, MemDisk};
 use epoch_store::InitRefusal;
-use epoch_tests::{LATER, empty_disk};
+use fixtures::{LATER, empty_disk, settings};
 use std::alloc::Global;
 use std::test::Fail;
-use store_tests::settings;
 
 /// The numbers of entries and of live messages, and the next number.
 #[derive(Clone, Copy, PartialEq, Eq, Drop)]

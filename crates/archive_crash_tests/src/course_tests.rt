@@ -1,9 +1,9 @@
 //! Deliveries, a removal, a purge and an edit on disks that stop after each number of calls.
 use crate::course::{Counts, Reply, Step, answers_last, stopped, stops_are_whole};
 use arch_model::{Answer, Command};
-use archive_tests::UNCHANGED_ID;
+use archive_fixtures::UNCHANGED_ID;
 use disk_model::Disk;
-use epoch_tests::{FIRST, FIRST_ID, OTHER, SECOND, SECOND_ID};
+use fixtures::{FIRST, FIRST_ID, OTHER, SECOND, SECOND_ID};
 use std::test::Fail;
 
 /// Two messages.

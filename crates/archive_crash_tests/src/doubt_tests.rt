@@ -1,10 +1,10 @@
 //! Commands in doubt: the disk failed in one, and the archive is reopened.
 use arch_model::{Answer, Command, Keep, OpenRefusal, Shelf};
 use archive_core::Engine;
-use archive_tests::{accepted, answer, has_both, made};
+use archive_fixtures::{accepted, answer, has_both, made};
 use disk_model::{Disk, DiskFault, FileKind, FileName, MemDisk};
 use epoch_store::InitRefusal;
-use epoch_tests::{FIRST, FIRST_ID, LATER, MOMENT, failing};
+use fixtures::{FIRST, FIRST_ID, LATER, MOMENT, failing};
 use std::alloc::Global;
 use std::process::Abort;
 use std::test::Fail;

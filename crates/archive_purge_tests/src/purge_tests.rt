@@ -3,16 +3,15 @@ ghost use Rattle.std.specs.Prelude.{◌≤◌};
 
 use arch_base::Bytes;
 use arch_model::{Answer, Command, EntryLine, Keep, OpenRefusal};
-use archive_tests::{
-    Check, accepted, answer, blob_is, both_pass, epoch_len, give_alike, line, on_disk, opened,
-    put_epoch, put_text,
+use archive_fixtures::{
+    Check, accepted, answer, blob_is, both_pass, epoch_len, give_alike, in_memory, line, on_disk,
+    opened, put_epoch, put_text,
 };
 use disk_model::MemDisk;
-use epoch_tests::{FIRST, FIRST_ID, LATER, MOMENT, OTHER, SECOND, SECOND_ID};
+use fixtures::{FIRST, FIRST_ID, LATER, MOMENT, OTHER, SECOND, SECOND_ID};
 use git_objects::EntryKind;
 use std::alloc::Global;
 use std::test::Fail;
-use store_tests::in_memory;
 
 /// The moment of a command after the others.
 const LAST: u64 = MOMENT + 200;

@@ -4,16 +4,15 @@ ghost use Rattle.std.specs.Prelude.{◌≤◌, IfOk, OnOk};
 ghost use Rattle.disk_model.specs.Disk.{WhereTold};
 ghost use Rattle.epoch_store.specs.Commands.{StoreHasSizes};
 
-use crate::archives::accepted;
 use arch_model::{Answer, Command};
 use archive_core::DiskArchive;
+use archive_fixtures::{accepted, in_memory};
 use disk_model::{Disk, DiskFault};
 use epoch_store::InitRefusal;
-use epoch_tests::{FIRST, FIRST_ID, MOMENT, OTHER, OTHER_ID, SECOND, SECOND_ID, empty_disk};
+use fixtures::{FIRST, FIRST_ID, MOMENT, OTHER, OTHER_ID, SECOND, SECOND_ID, empty_disk, settings};
 use mem_archive::MemArchive;
 use std::alloc::Global;
 use std::test::Fail;
-use store_tests::{in_memory, settings};
 
 /// Makes an archive on a disk, whose epochs take one message each.
 fn made<D: Disk>(

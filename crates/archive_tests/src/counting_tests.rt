@@ -1,9 +1,9 @@
 //! Archives on disks that are opened to be counted.
-use crate::archives::{answer, on_disk};
 use arch_model::{Command, OpenRefusal};
 use archive_core::{CountedArchive, Engine};
+use archive_fixtures::{answer, on_disk};
 use disk_model::MemDisk;
-use epoch_tests::{FIRST, LATER, MOMENT, SECOND, empty_disk, failing};
+use fixtures::{FIRST, LATER, MOMENT, SECOND, empty_disk, failing};
 use std::alloc::Global;
 use std::test::Fail;
 

@@ -1,19 +1,17 @@
 //! An archive that owns its disk, by the trait of keepers: what it gives.
-use crate::alike::are_alike;
-use crate::archives::{
-    accepted, answer, blob_is, line, live_from, made, opened, put_blob, text_is,
-};
-use crate::both::{Check, both_pass};
 use arch_base::{Bytes, id_of_hex};
 use arch_model::{Answer, Command, EntryLine, Keep, OpenRefusal};
 use archive_core::{Engine, NotMade, NotOpened};
+use archive_fixtures::{
+    Check, accepted, answer, are_alike, blob_is, both_pass, line, live_from, made, opened,
+    put_blob, text_is, two_in_memory,
+};
 use disk_model::MemDisk;
 use epoch_store::InitRefusal;
-use epoch_tests::{FIRST, FIRST_ID, MOMENT, OTHER_ID, SECOND, SECOND_ID, empty_disk};
+use fixtures::{FIRST, FIRST_ID, MOMENT, OTHER_ID, SECOND, SECOND_ID, empty_disk, settings};
 use mem_archive::MemArchive;
 use std::alloc::Global;
 use std::test::Fail;
-use store_tests::{settings, two_in_memory};
 
 /// Delivers two messages to an archive without any, and returns whether each is answered as it
 /// should be.

@@ -1,15 +1,14 @@
 //! Deliveries in memory, answer by answer, against texts and ids worked out by hand and by git.
-use crate::archives::accepted;
 use arch_base::{Bytes, Config, NoMemory};
 use arch_judge::{Index, Judgement, Owner, Verdict, compared, judge};
 use arch_model::{Answer, Command};
-use epoch_tests::{FIRST, FIRST_ID, MOMENT, OTHER, OTHER_ID, SECOND};
+use archive_fixtures::{accepted, in_memory, two_in_memory};
+use fixtures::{FIRST, FIRST_ID, MOMENT, OTHER, OTHER_ID, SECOND, settings};
 use git_objects::blob_id;
 use mail_reader::content_id;
 use mem_archive::MemArchive;
 use std::alloc::Global;
 use std::test::Fail;
-use store_tests::{in_memory, settings, two_in_memory};
 
 /// Delivers a message, and returns the answer.
 fn deliver(archive: &mut MemArchive, bytes: &[u8]) -> Answer {

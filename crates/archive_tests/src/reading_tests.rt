@@ -3,12 +3,12 @@ use crate::core_tests::filled;
 use arch_base::Bytes;
 use arch_model::TextRefusal;
 use archive_core::DiskArchive;
+use archive_fixtures::{is_epoch_of, two_in_memory};
 use disk_model::{Disk, MemDisk};
-use epoch_tests::{FIRST, SECOND, empty_disk, failing};
+use fixtures::{FIRST, SECOND, empty_disk, failing};
 use mem_archive::MemArchive;
 use std::alloc::Global;
 use std::test::Fail;
-use store_tests::{is_epoch_of, two_in_memory};
 
 /// Returns a byte and after it the text of a number, if it is live.
 fn text_from<D: Disk>(

@@ -1,16 +1,13 @@
 //! Removals in memory and on a disk, answer by answer, against entries whose ids git worked out.
-use crate::alike::are_alike;
-use crate::archives::{
-    LAST, UNCHANGED_ID, accepted, answer, blob_is, epoch_len, has_both, is_entry, line, live_from,
-    on_disk, text_is,
-};
-use crate::both::{Check, both_pass};
 use arch_model::{Answer, Command, Keep, OpenRefusal};
-use epoch_tests::{FIRST, FIRST_ID, LATER, MOMENT, OTHER, SECOND, SECOND_ID};
+use archive_fixtures::{
+    Check, LAST, UNCHANGED_ID, accepted, answer, are_alike, blob_is, both_pass, epoch_len,
+    has_both, in_memory, is_entry, line, live_from, on_disk, text_is,
+};
+use fixtures::{FIRST, FIRST_ID, LATER, MOMENT, OTHER, SECOND, SECOND_ID};
 use git_objects::EntryKind;
 use std::alloc::Global;
 use std::test::Fail;
-use store_tests::in_memory;
 
 /// The commit of the first mail at `LAST`, after that of its removal.
 const AGAIN_COMMIT: &[u8] = b"935153bbca041d2b9730dbb3b5a3c993a9b6b46c";

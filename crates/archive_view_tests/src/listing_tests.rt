@@ -1,8 +1,8 @@
 //! The rows of archives in memory and on disks: what each row says, how it is found, and the listing.
 use arch_model::{Command, Keep, OpenRefusal, Shelf};
-use archive_tests::{Check, accepted, answer, both_pass, on_disk, opened};
+use archive_fixtures::{Check, accepted, answer, both_pass, on_disk, opened};
 use disk_model::MemDisk;
-use epoch_tests::{FIRST, FIRST_ID, LATER, MOMENT, SECOND};
+use fixtures::{FIRST, FIRST_ID, LATER, MOMENT, SECOND};
 use std::alloc::Global;
 use std::test::Fail;
 

@@ -3,12 +3,11 @@ use crate::listing_tests::{FollowsRemovals, has_three};
 use crate::thread_tests::{holds_two, joins_and_loses_one};
 use arch_model::{Command, Keep, OpenRefusal};
 use archive_core::Engine;
-use archive_tests::{Check, accepted, answer, both_pass, give_alike, made};
+use archive_fixtures::{Check, accepted, answer, both_pass, give_alike, made, two_in_memory};
 use disk_model::MemDisk;
-use epoch_tests::{FIRST, FIRST_ID, MOMENT, SECOND, SECOND_ID, failing};
+use fixtures::{FIRST, FIRST_ID, MOMENT, SECOND, SECOND_ID, failing};
 use std::alloc::Global;
 use std::test::Fail;
-use store_tests::two_in_memory;
 
 /// Rebuilds what is kept beside the files, and returns whether so many messages are live and the
 /// keeper is ready.

@@ -3,9 +3,9 @@ ghost use Rattle.std.specs.Prelude.{◌≡◌, true};
 
 use arch_base::NoMemory;
 use arch_model::{Command, Keep, OpenRefusal};
-use archive_tests::{Check, answer, both_pass, on_disk, opened_passes};
+use archive_fixtures::{Check, answer, both_pass, on_disk, opened_passes};
 use disk_model::MemDisk;
-use epoch_tests::{LATER, MOMENT};
+use fixtures::{LATER, MOMENT};
 use query_lang::{Query, read};
 use std::alloc::Global;
 use std::test::Fail;

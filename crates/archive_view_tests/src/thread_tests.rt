@@ -1,8 +1,8 @@
 //! The threads of archives in memory and on disks, as messages come and go, and after a reopening.
 use arch_model::{Command, Keep, OpenRefusal};
-use archive_tests::{Check, answer, both_pass, on_disk, opened_passes};
+use archive_fixtures::{Check, answer, both_pass, on_disk, opened_passes};
 use disk_model::MemDisk;
-use epoch_tests::{LATER, MOMENT};
+use fixtures::{LATER, MOMENT};
 use std::alloc::Global;
 use std::test::Fail;
 

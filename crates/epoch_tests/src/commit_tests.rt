@@ -1,6 +1,6 @@
 //! Commits and epochs against git, and authors against the rules.
-use crate::mails::{FIRST, FIRST_COMMIT, FIRST_ID, MOMENT, SECOND, SECOND_COMMIT};
 use arch_base::{Bytes, NoMemory, ObjectId, id_of_hex};
+use fixtures::{FIRST, FIRST_COMMIT, FIRST_ID, MOMENT, SECOND, SECOND_COMMIT};
 use git_objects::{Commit, EntryKind, blob_id, commit_bytes, object_id, tree_bytes};
 use mail_commits::{EntryIds, entry_commit, push_entry};
 use mail_reader::stored;

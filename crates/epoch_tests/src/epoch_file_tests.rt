@@ -3,11 +3,13 @@
 ghost use Rattle.std.specs.Prelude.{◌≡◌};
 ghost use Rattle.mail_commits.specs.Ids.{text_ids_of};
 
-use crate::disks::{add_entry, cut, empty_disk, write};
-use crate::mails::{FIRST, FIRST_COMMIT, FIRST_ID, MOMENT, SECOND, SECOND_COMMIT, SECOND_ID};
 use arch_base::{Bytes, NoMemory, ObjectId, id_of_hex};
 use disk_model::{Disk, DiskFault, FileKind, FileName, FuseDisk, WalkRefusal};
 use epoch_file::{NewEntry, Seen, StoreRefusal, Written, law_of_epochs, walk};
+use fixtures::{
+    FIRST, FIRST_COMMIT, FIRST_ID, MOMENT, SECOND, SECOND_COMMIT, SECOND_ID, add_entry, cut,
+    empty_disk, write,
+};
 use git_objects::{EntryKind, blob_id, object_id};
 use mail_commits::{push_entry, text_ids};
 use std::alloc::Global;

@@ -1,29 +1,11 @@
 //! A client that follows what it is told of an archive in memory.
 ghost use Rattle.std.specs.Prelude.{◌<◌, ◌≤◌, ◌+◌};
-ghost use Rattle.arch_base.specs.Configs.{IsConfig};
 
-use arch_base::{Config, Name};
 use arch_model::{Answer, Command, Keep};
+use fixtures::{MOMENT, list_config};
 use known_uids::{Changes, KnownUids};
 use mem_archive::MemArchive;
 use std::alloc::Global;
-
-/// When the tests change the archive: 2024-02-01 10:01:40 UTC.
-const MOMENT: u64 = 1_706_781_700;
-
-/// Returns the settings of an archive of this name.
-fn config(name: Name) -> Config
-    ensures { IsConfig result }
-{
-    Config {
-        name,
-        limit: 1_073_741_824,
-        slice: 50_000,
-        max: 2_147_483_647,
-        mirror: false,
-        born: 1_706_780_000,
-    }
-}
 
 /// An archive, and a client that was told of one of its mailboxes.
 #[derive(Drop)]
@@ -40,7 +22,7 @@ impl Client {
         requires order { first ≤ last + 1 }
         requires high { last < 4294967295 }
     {
-        let mut archive = MemArchive::new(alloc, config(Name::read(b"list")?));
+        let mut archive = MemArchive::new(alloc, list_config(50_000)?);
         for message in [
             &b"Message-ID: <a@x>\n\n1\n"[..],
             b"Message-ID: <b@x>\n\n2\n",

@@ -1,8 +1,8 @@
 //! Tests of each call with ample memory, against values worked out elsewhere.
-use crate::case::Case;
 use arch_base::{
     Bytes, Config, Id20, Name, NoMemory, Numbers, Texts, decimal, hex_of, id_of_hex, read_decimal,
 };
+use fixtures::{Case, cases};
 use std::alloc::Global;
 
 /// Returns bytes that grew by one and by three, and were then cut to three.

@@ -1,20 +1,17 @@
-//! Tests of the base types, the readers of mail, and git objects, by their public calls alone.
+//! Tests of the base types, the readers of mail and of its parts, and git objects, by their public
+//! calls alone.
 #![tactic(auto)]
-
-/// Lists cases: a text before each `=>`, and what a call makes of it after it.
-#[cfg(test)]
-macro_rules! cases {
-    ($($given:expr => $wanted:expr),* $(,)?) => {
-        [$($crate::case::Case { given: $given, wanted: $wanted }),*]
-    };
-}
 
 #[cfg(test)]
 mod arch_base_tests;
 #[cfg(test)]
-mod case;
+mod body_text_tests;
+#[cfg(test)]
+mod decoding_tests;
 #[cfg(test)]
 mod git_objects_tests;
+#[cfg(test)]
+mod heading_tests;
 #[cfg(test)]
 mod mail_address_tests;
 #[cfg(test)]
@@ -23,3 +20,11 @@ mod mail_date_tests;
 mod mail_reader_tests;
 #[cfg(test)]
 mod mime_words_tests;
+#[cfg(test)]
+mod part_limit_tests;
+#[cfg(test)]
+mod part_tree_tests;
+#[cfg(test)]
+mod part_word_tests;
+#[cfg(test)]
+mod shown_parts;

@@ -1,6 +1,6 @@
 //! Values and their addresses, worked out by hand from RFC 5322, with ample memory.
-use crate::case::BytesCase;
 use arch_base::{Bytes, Duplicate, NoMemory};
+use fixtures::{BytesCase, cases};
 use mail_address::{Address, AddressKind, Addresses, list};
 use std::alloc::Global;
 

@@ -3,7 +3,7 @@ ghost use Rattle.std.specs.Prelude.{◌≤◌};
 ghost use Rattle.mail_date.specs.Dates.{last_second};
 ghost use Rattle.mail_date.specs.Pieces.{IsZone};
 
-use crate::case::Case;
+use fixtures::{Case, cases};
 use mail_date::{Moment, print_imap, print_page, print_rfc3339, read};
 
 /// Values that are read, and their moments.

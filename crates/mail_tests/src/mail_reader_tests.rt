@@ -1,8 +1,8 @@
 //! Forms worked out by hand from the rules, and each call once with ample memory.
 ghost use Rattle.std.specs.Prelude.{◌≤◌};
 
-use crate::case::{BytesCase, Case};
 use arch_base::{Bytes, NoMemory, decimal};
+use fixtures::{BytesCase, Case, cases};
 use mail_reader::{
     Fields, StoredRefusal, body, content_id, fields, flat, is_stored, own_id, refs_of, stored,
     stored_id,

@@ -1,5 +1,5 @@
 //! Values worked out by hand from RFC 2047 and RFC 4648, with ample memory.
-use crate::case::BytesCase;
+use fixtures::{BytesCase, cases};
 use mime_words::{decode, unbase64};
 use std::alloc::Global;
 

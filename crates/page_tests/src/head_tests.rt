@@ -1,5 +1,5 @@
 //! Heads of requests, and heads of replies.
-use crate::mails::is;
+use crate::rows::is;
 use arch_base::Bytes;
 use http_heads::{Body, Status, Verdict, judge, push_reply_head, read_head};
 use std::alloc::Global;

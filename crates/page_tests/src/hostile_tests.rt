@@ -1,5 +1,5 @@
 //! Pages of mails that try to bring tags and attributes of their own.
-use crate::mails::{list, row};
+use crate::rows::{list, row};
 use arch_base::Bytes;
 use html_pages::{ThreadEntry, ThreadLine, listing_page, message_page, thread_page};
 use std::alloc::Global;

@@ -1,6 +1,7 @@
 //! Pages of listings.
-use crate::mails::{FIRST, is, length, list, row};
+use crate::rows::{is, length, list, row};
 use arch_base::Bytes;
+use fixtures::FIRST;
 use html_pages::listing_page;
 use std::alloc::Global;
 

@@ -1,6 +1,7 @@
 //! Pages of messages.
-use crate::mails::{FIRST, is, list, row};
+use crate::rows::{is, list, row};
 use arch_base::Bytes;
+use fixtures::FIRST;
 use html_pages::message_page;
 use std::alloc::Global;
 

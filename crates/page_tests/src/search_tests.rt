@@ -1,6 +1,7 @@
 //! Pages of searches.
-use crate::mails::{FIRST, is, list, row};
+use crate::rows::{is, list, row};
 use arch_base::Bytes;
+use fixtures::FIRST;
 use html_pages::search_page;
 use std::alloc::Global;
 

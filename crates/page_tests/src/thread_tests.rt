@@ -1,6 +1,7 @@
 //! Pages of threads.
-use crate::mails::{FIRST, is, length, list, row};
+use crate::rows::{is, length, list, row};
 use arch_base::Bytes;
+use fixtures::FIRST;
 use html_pages::{ThreadEntry, ThreadLine, thread_page};
 use std::alloc::Global;
 

@@ -12,7 +12,7 @@ ghost use Rattle.rewrite_tests.specs.Bare.{IsBare};
 
 use crate::plan_tests::{bare, carry_out};
 use disk_model::{Disk, DiskFault, FileKind, FileName, FuseDisk, MemDisk};
-use epoch_tests::empty_disk;
+use fixtures::empty_disk;
 use root_change::{PartPlan, RewriteRefusal, Target, epoch_file, epoch_place, map_file, rewrite};
 use root_slots::{Root, Slot, begin, read};
 use std::alloc::Global;

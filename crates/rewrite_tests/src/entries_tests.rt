@@ -2,7 +2,7 @@
 use arch_base::{NoMemory, Numbers, id_of_hex};
 use disk_model::{Disk, DiskFault, FileKind, FileName, WalkRefusal};
 use epoch_file::{EpochPlan, NewEntry, Seen, SeenList, StoreRefusal, entry_piece, rewrite, walk};
-use epoch_tests::{FIRST, MOMENT, SECOND, SECOND_ID, add_entry, empty_disk};
+use fixtures::{FIRST, MOMENT, SECOND, SECOND_ID, add_entry, empty_disk};
 use git_objects::EntryKind;
 use mail_commits::text_ids;
 use root_change::{PartPlan, Target};

@@ -3,7 +3,7 @@ ghost use Rattle.std.specs.Prelude.{◌≡◌, [], ◌∷◌, IfOk};
 
 use arch_base::{Id20, MessageNumbers, NoMemory};
 use disk_model::{Disk, DiskFault, FileKind, FileName, RECORD_SIZE, WalkRefusal};
-use epoch_tests::empty_disk;
+use fixtures::empty_disk;
 use number_map::{Record, append, plan_without, push_record, rewrite};
 use root_change::{PartPlan, Target};
 use std::alloc::Global;

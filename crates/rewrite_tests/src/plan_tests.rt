@@ -9,7 +9,7 @@ ghost use Rattle.rewrite_tests.specs.Bare.{IsBare, IsFirstPlan};
 
 use arch_base::{Config, Name, NoMemory};
 use disk_model::{Disk, DiskFault, EPOCHS, FileKind, FileName};
-use epoch_tests::empty_disk;
+use fixtures::empty_disk;
 use root_change::{FileRange, PartPlan, RewriteRefusal, Source, Target, rewrite};
 use root_slots::{Place, Root, Slot, begin, read};
 use std::alloc::Global;

@@ -12,7 +12,7 @@ use arch_base::{Id20, ObjectId, id_of_hex};
 use disk_model::{Disk, DiskFault, FileKind, FileName, MemDisk};
 use epoch_file::StoreRefusal;
 use epoch_store::Store;
-use epoch_tests::{FIRST, LATER, MOMENT, SECOND, SECOND_ID, THIRD, empty_disk, write};
+use fixtures::{FIRST, LATER, MOMENT, SECOND, SECOND_ID, THIRD, empty_disk, write};
 use git_objects::{EntryKind, blob_id};
 use mail_commits::text_ids;
 use mail_reader::{is_stored, own_id};

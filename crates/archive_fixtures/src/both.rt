@@ -2,11 +2,11 @@
 ghost use Rattle.std.specs.Prelude.{◌≤◌};
 
 use crate::archives::{on_disk, opened};
+use crate::memory::in_memory;
 use arch_model::Keep;
 use disk_model::MemDisk;
 use std::alloc::Global;
 use std::test::Fail;
-use store_tests::in_memory;
 
 /// A check of an archive, whatever keeps it.
 pub trait Check {

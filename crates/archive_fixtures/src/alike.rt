@@ -2,12 +2,12 @@
 ghost use Rattle.std.specs.Prelude.{◌≤◌};
 
 use crate::archives::{answer, give_alike, line, on_disk, opened};
+use crate::memory::in_memory;
 use arch_model::{Command, Keep};
 use disk_model::MemDisk;
-use epoch_tests::MOMENT;
+use fixtures::MOMENT;
 use std::alloc::Global;
 use std::test::Fail;
-use store_tests::in_memory;
 
 /// Returns whether two archives have the same entries, up to ten, the same live texts and the same
 /// epochs.

@@ -1,14 +1,10 @@
-//! Mails for the tests, and their rows.
+//! Rows of mails, and what pages are.
 use arch_base::{Bytes, Name};
 use mail_commits::text_ids;
 use mail_forms::Row;
 use mail_reader::is_stored;
 use mail_rows::row_of;
 use std::alloc::Global;
-
-/// A mail of three fields that are shown in a listing, and one line.
-pub(crate) const FIRST: &[u8] =
-    b"From: Ann <ann@example.org>\nDate: Thu, 1 Feb 2024 10:00:00 +0000\nSubject: first\nMessage-ID: <a@x>\n\none\n";
 
 /// Returns the name of the list.
 pub(crate) fn list() -> Option<Name> {

@@ -1,4 +1,4 @@
-//! Archives in memory and on disks, as these tests and those of the crates above make and ask them.
+//! Archives in memory and on disks, as tests make and ask them.
 ghost use Rattle.std.specs.Prelude.{◌≤◌};
 
 use arch_base::{Bytes, LAST_MOMENT, id_of_hex};
@@ -6,11 +6,10 @@ use arch_model::{Answer, Command, EntryLine, Keep, OpenRefusal};
 use archive_core::{Engine, NotMade, NotOpened};
 use disk_model::MemDisk;
 use epoch_store::InitRefusal;
-use epoch_tests::{FIRST_COMMIT, FIRST_ID, MOMENT, REMOVAL_COMMIT, empty_disk};
+use fixtures::{FIRST_COMMIT, FIRST_ID, MOMENT, REMOVAL_COMMIT, empty_disk, settings};
 use git_objects::EntryKind;
 use std::alloc::Global;
 use std::test::Fail;
-use store_tests::settings;
 
 /// A moment after `LATER`.
 pub const LAST: u64 = MOMENT + 200;
@@ -70,7 +69,7 @@ pub fn answer<K: Keep>(
 }
 
 /// Returns the least number with a message that is at least this one.
-pub(crate) fn live_from<K: Keep>(keep: &mut K, n: u32) -> Result<Option<u32>, OpenRefusal> {
+pub fn live_from<K: Keep>(keep: &mut K, n: u32) -> Result<Option<u32>, OpenRefusal> {
     keep.fresh()?;
     Ok(keep.live_from(n))
 }
@@ -95,12 +94,7 @@ pub fn put_text<K: Keep>(keep: &mut K, n: u32, into: &mut Bytes) -> Result<bool,
 }
 
 /// Returns whether the text of the least number with a message that is at least this one is this text.
-pub(crate) fn text_is<K: Keep>(
-    alloc: Global,
-    keep: &mut K,
-    n: u32,
-    wanted: &[u8],
-) -> Result<bool, Fail> {
+pub fn text_is<K: Keep>(alloc: Global, keep: &mut K, n: u32, wanted: &[u8]) -> Result<bool, Fail> {
     let mut text = Bytes::new(alloc);
     let found = put_text(keep, n, &mut text)?;
     Ok(found && text.as_slice() == wanted)
@@ -120,7 +114,7 @@ pub fn epoch_len<K: Keep>(alloc: Global, keep: &mut K, epoch: u32) -> Result<Opt
 }
 
 /// Appends the text of a blob id, and returns whether an entry has it.
-pub(crate) fn put_blob<K: Keep>(keep: &mut K, hex: &[u8], into: &mut Bytes) -> Result<bool, Fail> {
+pub fn put_blob<K: Keep>(keep: &mut K, hex: &[u8], into: &mut Bytes) -> Result<bool, Fail> {
     let id = id_of_hex(hex).ok_or("no id")?;
     keep.fresh()?;
     Ok(keep.blob(&id, into)?)
@@ -139,12 +133,7 @@ pub fn blob_is<K: Keep>(
 }
 
 /// Returns whether an entry of the first mail has this kind, number and commit.
-pub(crate) fn is_entry(
-    entry: Option<EntryLine>,
-    kind: EntryKind,
-    number: u32,
-    commit: &[u8],
-) -> bool {
+pub fn is_entry(entry: Option<EntryLine>, kind: EntryKind, number: u32, commit: &[u8]) -> bool {
     let Some(line) = entry else {
         return false;
     };
