@@ -8,7 +8,7 @@ use Rattle.edge_io.specs.declared.events.Event.{Event}
 use Rattle.edge_io.specs.declared.events.What.{What}
 use Rattle.edge_io.specs.declared.events.What.TheVariants.{Opened, Bytes, Ended, Quiet, Stop}
 use Rattle.edge_io.specs.declared.events.Door.{Door}
-use Rattle.edge_io.specs.declared.events.Door.TheVariants.{Control, Http, Nntp, Pop3, Imap}
+use Rattle.edge_io.specs.declared.events.Door.TheVariants.{Control, Http, Nntp, Pop3, Imap, Lmtp}
 use Rattle.edge_io.proofs.Dividing.{LacksByte-append}
 use Rattle.edge_io.proofs.Numerals.{decimal-lacks}
 
@@ -43,6 +43,7 @@ door-lacks Http = (refl, (refl, (refl, (refl, tt))))
 door-lacks Nntp = (refl, (refl, (refl, (refl, tt))))
 door-lacks Pop3 = (refl, (refl, (refl, (refl, tt))))
 door-lacks Imap = (refl, (refl, (refl, (refl, tt))))
+door-lacks Lmtp = (refl, (refl, (refl, (refl, tt))))
 
 words-lack : (what : What) → IsWhat what → LacksByte 10 (words_of what)
 words-lack (Opened conn door) h = (refl, (refl, LacksByte-append 10 (decimal conn) (32 ∷ door_word door) (decimal-lacks 10 conn (omega arith) (omega (arith, h.0))) (refl, door-lacks door)))
@@ -56,10 +57,11 @@ pub line-lacks : (event : Event) → IsScriptLine event → LacksByte 10 (line_o
 line-lacks event h =
     LacksByte-append 10 (decimal event.moment) (32 ∷ words_of event.what) (decimal-lacks 10 event.moment (omega arith) (omega (arith, h.moment))) (refl, words-lack event.what h.what)
 
--- A text that is none of these words names no door that the server has.
-pub no_door : (word : List ℕ) → word ≢ door_word Control → word ≢ door_word Http → word ≢ door_word Nntp → word ≢ door_word Pop3 → (door : Door) → IsDoor door → word ≢ door_word door
-no_door word a b c d Control is = a
-no_door word a b c d Http is = b
-no_door word a b c d Nntp is = c
-no_door word a b c d Pop3 is = d
-no_door word a b c d Imap is = absurd is
+-- A text that is none of these words names no door.
+pub no_door : (word : List ℕ) → word ≢ door_word Control → word ≢ door_word Http → word ≢ door_word Nntp → word ≢ door_word Pop3 → word ≢ door_word Imap → word ≢ door_word Lmtp → (door : Door) → IsDoor door → word ≢ door_word door
+no_door word a b c d e f Control is = a
+no_door word a b c d e f Http is = b
+no_door word a b c d e f Nntp is = c
+no_door word a b c d e f Pop3 is = d
+no_door word a b c d e f Imap is = e
+no_door word a b c d e f Lmtp is = f

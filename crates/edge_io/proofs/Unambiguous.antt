@@ -1,14 +1,14 @@
 -- Bytes are read in one way.
-use Rattle.std.proofs.Common.{◌≡◌, ◌≢◌, ◌+◌, ℕ, List, [], ◌∷◌, ◌++◌, length, get_or, drop, All, refl, sym, ◌∙◌, ap, arith, append_assoc, append-nil}
+use Rattle.std.proofs.Common.{◌≡◌, ◌≢◌, ◌+◌, ◌==◌, if◌then◌else◌, ℕ, List, [], ◌∷◌, ◌++◌, length, get_or, drop, All, refl, sym, ◌∙◌, ap, arith, append_assoc, append-nil}
 use Rattle.std.proofs.lemmas.Fmt.{decimal_injective}
 use Rattle.std.proofs.lemmas.List.{flat_map_more}
 use Rattle.std.proofs.lemmas.List.Elements.{All-head, All-tail}
 use Rattle.std.specs.Fmt.{decimal}
-use Rattle.edge_io.specs.Events.{IsDoor, IsWhat, IsScriptLine, IsEvent, piece_len, door_word, words_of, line_of, after_line, spelled}
+use Rattle.edge_io.specs.Events.{IsWhat, IsScriptLine, IsEvent, piece_len, door_word, words_of, line_of, after_line, spelled}
 use Rattle.edge_io.specs.Scripts.{Arrival, IsArrival, HasNoFirst, spelled_all, ReadInOneWay}
 use Rattle.edge_io.specs.Parsing.{LacksByte}
 use Rattle.edge_io.specs.declared.events.Door.{Door}
-use Rattle.edge_io.specs.declared.events.Door.TheVariants.{Control, Http, Nntp, Pop3, Imap}
+use Rattle.edge_io.specs.declared.events.Door.TheVariants.{Control, Http, Nntp, Pop3, Imap, Lmtp}
 use Rattle.edge_io.specs.declared.events.Event.{Event}
 use Rattle.edge_io.specs.declared.events.What.{What}
 use Rattle.edge_io.specs.declared.events.What.TheVariants.{Opened, Bytes, Ended, Quiet, Stop}
@@ -17,36 +17,28 @@ use Rattle.edge_io.proofs.Numerals.{decimal-lacks}
 use Rattle.edge_io.proofs.Lines.{line-lacks, rest-same}
 use Rattle.edge_io.proofs.Fronts.{nil_from_length}
 
--- The first byte of a door's name. No two doors that the server has share it.
+-- The first byte of a door's name. No two doors share it.
 abbrev first_of_word : Door → ℕ
 first_of_word door = get_or (door_word door) 0 0
 
 first-same : (a b : Door) → door_word a ≡ door_word b → first_of_word a ≡ first_of_word b
 first-same a b e = ap (λ l. get_or l 0 0) e
 
--- A word is the name of at most one door that the server has.
-doors-once : (a b : Door) → IsDoor a → IsDoor b → door_word a ≡ door_word b → a ≡ b
-doors-once Control Control p q e = refl
-doors-once Http Http p q e = refl
-doors-once Nntp Nntp p q e = refl
-doors-once Pop3 Pop3 p q e = refl
-doors-once Imap b p q e = absurd p
-doors-once Control Imap p q e = absurd q
-doors-once Http Imap p q e = absurd q
-doors-once Nntp Imap p q e = absurd q
-doors-once Pop3 Imap p q e = absurd q
-doors-once Control Http p q e = let first : 99 ≡ 104 = first-same Control Http e in absurd (omega (arith, first))
-doors-once Control Nntp p q e = let first : 99 ≡ 110 = first-same Control Nntp e in absurd (omega (arith, first))
-doors-once Control Pop3 p q e = let first : 99 ≡ 112 = first-same Control Pop3 e in absurd (omega (arith, first))
-doors-once Http Control p q e = let first : 104 ≡ 99 = first-same Http Control e in absurd (omega (arith, first))
-doors-once Http Nntp p q e = let first : 104 ≡ 110 = first-same Http Nntp e in absurd (omega (arith, first))
-doors-once Http Pop3 p q e = let first : 104 ≡ 112 = first-same Http Pop3 e in absurd (omega (arith, first))
-doors-once Nntp Control p q e = let first : 110 ≡ 99 = first-same Nntp Control e in absurd (omega (arith, first))
-doors-once Nntp Http p q e = let first : 110 ≡ 104 = first-same Nntp Http e in absurd (omega (arith, first))
-doors-once Nntp Pop3 p q e = let first : 110 ≡ 112 = first-same Nntp Pop3 e in absurd (omega (arith, first))
-doors-once Pop3 Control p q e = let first : 112 ≡ 99 = first-same Pop3 Control e in absurd (omega (arith, first))
-doors-once Pop3 Http p q e = let first : 112 ≡ 104 = first-same Pop3 Http e in absurd (omega (arith, first))
-doors-once Pop3 Nntp p q e = let first : 112 ≡ 110 = first-same Pop3 Nntp e in absurd (omega (arith, first))
+-- The door whose name has this first byte.
+abbrev door_from : ℕ → Door
+door_from n = if n == 99 then Control else (if n == 104 then Http else (if n == 110 then Nntp else (if n == 112 then Pop3 else (if n == 105 then Imap else Lmtp))))
+
+door-from : (door : Door) → door_from (first_of_word door) ≡ door
+door-from Control = refl
+door-from Http = refl
+door-from Nntp = refl
+door-from Pop3 = refl
+door-from Imap = refl
+door-from Lmtp = refl
+
+-- A word is the name of at most one door.
+doors-once : (a b : Door) → door_word a ≡ door_word b → a ≡ b
+doors-once a b e = sym (door-from a) ∙ (ap door_from (first-same a b e) ∙ door-from b)
 
 -- The words tell what happened.
 words-once : (a b : What) → IsWhat a → IsWhat b → words_of a ≡ words_of b → a ≡ b
@@ -54,7 +46,7 @@ words-once (Opened conn door) (Opened conn' door') p q e =
     let rest = divided-once 32 (decimal conn) (decimal conn') (door_word door) (door_word door') (decimal-lacks 32 conn (omega arith) (omega (arith, p.0))) (decimal-lacks 32 conn' (omega arith) (omega (arith, q.0)))
     (rest-same 111 32 (decimal conn ++ 32 ∷ door_word door) (decimal conn' ++ 32 ∷ door_word door') e) in
     let same : conn ≡ conn' = decimal_injective conn conn' (omega (arith, p.0)) (omega (arith, q.0)) rest.0 in
-    let also : door ≡ door' = doors-once door door' p.1 q.1 rest.1 in
+    let also : door ≡ door' = doors-once door door' rest.1 in
     cc
 words-once (Bytes conn len) (Bytes conn' len') p q e =
     let rest = divided-once 32 (decimal conn) (decimal conn') (decimal len) (decimal len') (decimal-lacks 32 conn (omega arith) (omega (arith, p.0))) (decimal-lacks 32 conn' (omega arith) (omega (arith, q.0)))

@@ -6,19 +6,15 @@ use Rattle.edge_io.specs.declared.events.Event.{Event}
 use Rattle.edge_io.specs.declared.events.What.{What}
 use Rattle.edge_io.specs.declared.events.What.TheVariants.{Opened, Bytes, Ended, Quiet, Stop}
 use Rattle.edge_io.specs.declared.events.Door.{Door}
-use Rattle.edge_io.specs.declared.events.Door.TheVariants.{Control, Http, Nntp, Pop3, Imap}
+use Rattle.edge_io.specs.declared.events.Door.TheVariants.{Control, Http, Nntp, Pop3, Imap, Lmtp}
 
 -- The connections of a script.
 abbrev pub IsConnection : ℕ → Type 0
 IsConnection conn = conn < 65536
 
--- The doors of a script: those that the server has.
+-- The doors of a script: all that there are.
 abbrev pub IsDoor : Door → Type 0
-IsDoor Control = Unit {0}
-IsDoor Http = Unit {0}
-IsDoor Nntp = Unit {0}
-IsDoor Pop3 = Unit {0}
-IsDoor Imap = ⊥
+IsDoor door = Unit {0}
 
 -- The length of a piece in bytes.
 abbrev pub IsPieceLen : ℕ → Type 0
@@ -57,6 +53,7 @@ door_word Http = codes "http"
 door_word Nntp = codes "nntp"
 door_word Pop3 = codes "pop3"
 door_word Imap = codes "imap"
+door_word Lmtp = codes "lmtp"
 
 -- The words of a line after its moment.
 abbrev pub words_of : What → List ℕ

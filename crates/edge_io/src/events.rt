@@ -9,6 +9,7 @@ pub enum Door {
     Nntp,
     Pop3,
     Imap,
+    Lmtp,
 }
 
 /// What happened at an event.

@@ -190,7 +190,7 @@ fn read_connection(text: &[u8]) -> Option<u32>
     }
 }
 
-/// Reads the name of a door that the server has, or returns `None` for any other word.
+/// Reads the name of a door, or returns `None` for any other word.
 #[tactic(auto, using(crate::proofs::Lines::no_door))]
 fn read_door(word: &[u8]) -> Option<Door>
     ensures { Spells IsDoor door_word word.now result }
@@ -206,6 +206,12 @@ fn read_door(word: &[u8]) -> Option<Door>
     }
     if word == b"pop3".as_slice() {
         return Some(Door::Pop3);
+    }
+    if word == b"imap".as_slice() {
+        return Some(Door::Imap);
+    }
+    if word == b"lmtp".as_slice() {
+        return Some(Door::Lmtp);
     }
     None
 }

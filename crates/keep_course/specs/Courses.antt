@@ -1,13 +1,13 @@
 -- The course of a piece over a shelf or a keeper, with its state after each act, and what a crash leaves.
-use Rattle.std.specs.Prelude.{◌≡◌, Bool, true, List, [], ◌∷◌, ◌++◌, Option, Some, None}
-use Rattle.line_door.specs.Acts.{Said, Departure, Plain}
+use Rattle.std.specs.Prelude.{◌≡◌, ℕ, Bool, true, false, List, [], ◌∷◌, ◌++◌, Option, Some, None}
+use Rattle.line_door.specs.Acts.{Said, Departure}
 use Rattle.line_door.specs.Course.{SessionState, Requests, Last}
 use Rattle.arch_model.specs.Archives.{Archive}
 use Rattle.arch_model.specs.OverShelf.{ShelfKept}
 use Rattle.arch_model.specs.Standing.{LastKnown, one_of}
 use Rattle.arch_model.specs.Keeping.{CrashesLeaveOnly, KeeperMoves, Keeper}
 use Rattle.arch_model.specs.declared.shelf.Shelf.{Ghosts as Shelf}
-use Rattle.keep_course.specs.Answering.{ReopenedAs}
+use Rattle.keep_course.specs.Answering.{KeeperAsked, DoesAsked}
 
 -- The standing in each of these talks.
 abbrev pub afters : {H : Type 0} → List (SessionState H LastKnown) → List LastKnown
@@ -59,47 +59,69 @@ module _ {K H A : Type 0} (along : K → SessionState H A → List K → List (S
     pub states : List K
     pub kept : along old w states (acts ++ v ∷ []) new
 
--- One act over a shelf. The archive and the shelf stay, but for what reading changes, and the count of
--- faults that the act leaves is the shelf's.
-pub record ShelfActs {S H : Type 0} (g : Shelf S) (old : S) (w : SessionState H Archive) (new : S)
-    (v : SessionState H Archive) : Type 0 where
-  pub stays : ShelfKept g old new
-  pub archive : v.after ≡ w.after
-  pub disk : v.outside.disk ≡ g.faults new
+-- An act of this session, if it doesn't use the disk, leaves its count of faults.
+abbrev pub SparesDisk : {H : Type 0} → (H → Bool) → Option H → ℕ → ℕ → Type 0
+SparesDisk uses_disk None before now = Unit {0}
+SparesDisk uses_disk (Some h) before now = uses_disk h ≡ false → now ≡ before
 
--- The course of a piece over a shelf.
-abbrev pub ShelfRun : {S H : Type 0} → Shelf S → (Archive → H → Departure → Said H Archive)
-    → (H → Bool) → S → S → SessionState H Archive → SessionState H Archive → Type 0
-ShelfRun g said is_request old new w v =
-    SessionRun (KeptAlong (ShelfActs g)) said is_request old new w v
+-- A door over a shelf: what an act of a session says in each way; whether a whole request is at the
+-- session's front; and whether the act may use the disk, given the archive.
+pub record ShelfDoor (H : Type 0) : Type 0 where
+  pub said : Archive → H → Departure → Said H Archive
+  pub is_request : H → Bool
+  pub uses_disk : Archive → H → Bool
 
--- A door over a keeper: what an act of a session says in each way, whether a whole request is at the
--- session's front, and whether the act reopens the archive.
-module _ {K H : Type 0} (g : Keeper K) (said : LastKnown → H → Departure → Said H LastKnown)
-    (is_request reopens : H → Bool) where
-  -- An act of this session, if it reopens the archive, is a reopening.
-  abbrev pub ReopenedIf : Option H → K → SessionState H LastKnown → K → SessionState H LastKnown
-      → Type 0
-  ReopenedIf None old w new v = Unit {0}
-  ReopenedIf (Some h) old w new v = reopens h ≡ true
-      → ReopenedAs g (said w.after h Plain) old w.outside v.held new v.after v.outside
+module _ {S H : Type 0} (g : Shelf S) (door : ShelfDoor H) where
+  -- One act over a shelf. The archive and the shelf stay, but for what reading changes. The count of
+  -- faults that the act leaves is the shelf's, and it is the one before if the act doesn't use the disk.
+  pub record ShelfActs (old : S) (w : SessionState H Archive) (new : S) (v : SessionState H Archive)
+      : Type 0 where
+    pub stays : ShelfKept g old new
+    pub archive : v.after ≡ w.after
+    pub disk : v.outside.disk ≡ g.faults new
+    pub spared : SparesDisk (door.uses_disk w.after) w.held w.outside.disk v.outside.disk
+
+  -- Some requests over the shelf lead from one talk to another.
+  abbrev pub ShelfRunning : S → S → SessionState H Archive → SessionState H Archive → Type 0
+  ShelfRunning old now w m =
+      SessionRunning (KeptAlong ShelfActs) door.said door.is_request old now w m
+
+  -- The course of a piece over the shelf.
+  abbrev pub ShelfRun : S → S → SessionState H Archive → SessionState H Archive → Type 0
+  ShelfRun old new w v = SessionRun (KeptAlong ShelfActs) door.said door.is_request old new w v
+
+-- A door over a keeper: what an act of a session says in each way; whether a whole request is at the
+-- session's front; and what the act asks of the keeper, given its standing, at which moment.
+pub record KeeperDoor (H : Type 0) : Type 0 where
+  pub said : LastKnown → H → Departure → Said H LastKnown
+  pub is_request : H → Bool
+  pub asks : LastKnown → H → KeeperAsked
+  pub moment : ℕ
+
+module _ {K H : Type 0} (g : Keeper K) (door : KeeperDoor H) where
+  -- An act of this session, if it is open, did what it asks of the keeper.
+  abbrev pub DoesIf : Option H → K → SessionState H LastKnown → K → SessionState H LastKnown → Type 0
+  DoesIf None old w new v = Unit {0}
+  DoesIf (Some h) old w new v = DoesAsked g door.moment (door.asks w.after h) (door.said w.after h) old
+      w.after w.outside v.held new v.after v.outside
 
   -- One act over a keeper. The keeper matches what the act leaves, and so its files do; a crash in the
-  -- act leaves the archive before it or the one after it, or one in doubt there; and the count of faults
-  -- that the act leaves is the keeper's.
+  -- act leaves the archive before it or the one after it, or one in doubt there; the count of faults
+  -- that the act leaves is the keeper's; and the act did of the keeper what it asks, and no more.
   pub record KeeperActs (old : K) (w : SessionState H LastKnown) (new : K) (v : SessionState H LastKnown)
       : Type 0 where
     pub moves : KeeperMoves g old w.after new v.after
     pub disk : v.outside.disk ≡ g.faults new
-    pub reopened : ReopenedIf w.held old w new v
+    pub does : DoesIf w.held old w new v
 
   -- Some requests over the keeper lead from one talk to another.
   abbrev pub KeeperRunning : K → K → SessionState H LastKnown → SessionState H LastKnown → Type 0
-  KeeperRunning old now w m = SessionRunning (KeptAlong KeeperActs) said is_request old now w m
+  KeeperRunning old now w m =
+      SessionRunning (KeptAlong KeeperActs) door.said door.is_request old now w m
 
   -- The course of a piece over the keeper.
   abbrev pub KeeperRun : K → K → SessionState H LastKnown → SessionState H LastKnown → Type 0
-  KeeperRun old new w v = SessionRun (KeptAlong KeeperActs) said is_request old new w v
+  KeeperRun old new w v = SessionRun (KeptAlong KeeperActs) door.said door.is_request old new w v
 
   -- A course, and what a crash since its start has left: an archive of one of its talks, or one in
   -- doubt there.

@@ -2,12 +2,11 @@
 -- so far, and a crash may leave any of them.
 use Rattle.std.specs.Prelude.{◌≡◌, ℕ, Bool, true, List, [], ◌∷◌, ◌++◌, Option, Some}
 use Rattle.std.specs.List.{Contains}
-use Rattle.line_door.specs.Acts.{Said, Departure}
 use Rattle.line_door.specs.Course.{SessionState}
 use Rattle.arch_model.specs.Archives.{Archive}
 use Rattle.arch_model.specs.Standing.{LastKnown}
 use Rattle.arch_model.specs.Keeping.{Keeper, CrashesLeaveOnly, MatchesKnown}
-use Rattle.keep_course.specs.Courses.{KeeperRun, archives_in}
+use Rattle.keep_course.specs.Courses.{KeeperDoor, KeeperRun, archives_in}
 
 -- It holds its last archive.
 abbrev pub HistoryHolds : List Archive → Archive → Type 0
@@ -41,10 +40,9 @@ history = record {
 
 -- A crash since the start of a course leaves an archive of one of its talks, or one in doubt there.
 abbrev pub CourseLaw : Type 0
-CourseLaw = (said : LastKnown → ℕ → Departure → Said ℕ LastKnown) (is_request reopens : ℕ → Bool)
-    (old new : List Archive) (w v : SessionState ℕ LastKnown)
+CourseLaw = (door : KeeperDoor ℕ) (old new : List Archive) (w v : SessionState ℕ LastKnown)
     → MatchesKnown history old w.after
-    → (course : KeeperRun history said is_request reopens old new w v)
+    → (course : KeeperRun history door old new w v)
     → HistoryLeaves old new (archives_in w (course.acts ++ v ∷ []))
 
 -- Courses in order: a crash since the first leaves an archive of a standing of one of them, where

@@ -1,3 +1,4 @@
 pub mod Courses
 pub mod Answering
+pub mod LineUses
 pub mod Laws

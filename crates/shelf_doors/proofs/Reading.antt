@@ -23,6 +23,9 @@ ahead-none most n = record { later = omega arith; bound = omega arith }
 pub ahead-more : (most ahead left before mid now : ℕ) → ReadsAhead most ahead before mid → ReadsAhead ahead left mid now → ReadsAhead most left before now
 ahead-more most ahead left before mid now reads more = record { later = omega (arith, reads.later, more.later); bound = omega (arith, reads.bound, more.bound) }
 
+pub ahead-all : (most ahead before now : ℕ) → ReadsAhead most ahead before now → ReadsUpTo most before now
+ahead-all most ahead before now reads = record { later = reads.later; bound = omega (arith, reads.bound) }
+
 pub ahead-kept : (most ahead before mid now : ℕ) → ReadsAhead most ahead before mid → now ≡ mid → ReadsUpTo most before now
 ahead-kept most ahead before mid now reads same = record { later = omega (arith, reads.later, same); bound = omega (arith, reads.bound, same) }
 

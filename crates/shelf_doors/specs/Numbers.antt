@@ -21,6 +21,21 @@ abbrev pub first_of : List ℕ → Option ℕ
 first_of [] = None
 first_of (n ∷ ns) = Some n
 
+-- The last of some numbers, if there is one.
+abbrev pub last_of : List ℕ → Option ℕ
+last_of [] = None
+last_of (n ∷ []) = Some n
+last_of (n ∷ m ∷ ns) = last_of (m ∷ ns)
+
 -- The greatest number of 32 bits, so that none is left out.
 abbrev pub last_number : ℕ
 last_number = 4294967295
+
+-- The least live number from `first` on.
+abbrev pub least_live : List Entry → ℕ → Option ℕ
+least_live entries first = first_of (live_in entries first last_number)
+
+-- The greatest live number below `n`.
+abbrev pub greatest_below : List Entry → ℕ → Option ℕ
+greatest_below entries zero = None
+greatest_below entries (suc n) = last_of (live_in entries 0 n)

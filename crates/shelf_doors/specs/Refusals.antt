@@ -11,6 +11,8 @@ use Rattle.arch_model.specs.declared.text_refusal.TextRefusal.TheVariants as rea
 use Rattle.edge_io.specs.Phrases.{Says}
 use Rattle.edge_io.specs.declared.sink.SinkFault.{SinkFault}
 use Rattle.line_door.specs.Acts.{ConnectionState}
+use Rattle.keep_course.specs.declared.refusal.Refusal.{Refusal}
+use Rattle.keep_course.specs.declared.refusal.Refusal.TheVariants as refused
 use Rattle.wire_replies.specs.Blocks.{crlf_line}
 
 -- The line for out of memory, after a door's code.
@@ -41,3 +43,9 @@ abbrev pub SaysUnread : List ℕ → ConnectionState → Result Unit SinkFault �
 SaysUnread code i sent j = (Rose i.disk j.disk × (i.disk ≤ j.disk)
     × Says (disk_line code) i.out i.lost j.out j.lost sent)
     ⊎ ((j.disk ≡ i.disk) × Says (memory_line code) i.out i.lost j.out j.lost sent)
+
+-- Why a connection is refused: the door's line for a server that is full, or why after its code.
+abbrev pub refusal_words : List ℕ → List ℕ → Refusal → List ℕ
+refusal_words busy code refused.Busy = busy
+refusal_words busy code refused.NoMemory = memory_line code
+refusal_words busy code (refused.Unopened why) = unopened_line code why

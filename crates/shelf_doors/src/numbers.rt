@@ -2,7 +2,7 @@
 //! Pure.
 ghost use Rattle.std.specs.Prelude.{◌≡◌, ◌+◌, ◌<◌, ◌≤◌, true, IfSome, is_some};
 ghost use Rattle.arch_model.specs.Archives.{Archive, live, text_of};
-ghost use Rattle.shelf_doors.specs.Numbers.{live_in, first_of};
+ghost use Rattle.shelf_doors.specs.Numbers.{live_in, first_of, greatest_below};
 
 use arch_model::Shelf;
 
@@ -35,4 +35,16 @@ pub fn live_after<S: Shelf>(n: u32, last: u32, shelf: &S) -> Option<u32>
         return None;
     }
     live_within(n + 1, last, shelf)
+}
+
+/// Returns the greatest live number before `n`, or `None` if there is none.
+pub fn live_before<S: Shelf>(n: u32, shelf: &S) -> Option<u32>
+    requires { S.ready shelf.now ≡ true }
+    ensures { (a : Archive) → S.holds shelf.now a
+        → result ≡ greatest_below (live a.entries) n }
+{
+    if n == 0 {
+        return None;
+    }
+    shelf.live_to(n - 1)
 }

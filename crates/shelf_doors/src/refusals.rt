@@ -4,13 +4,33 @@ ghost use Rattle.std.specs.Prelude.{◌++◌, ◌∷◌, codes, decimal};
 ghost use Rattle.arch_model.specs.Delivery.{file_words};
 ghost use Rattle.edge_io.specs.Phrases.{SaysTo};
 ghost use Rattle.wire_replies.specs.Blocks.{crlf_line};
-ghost use Rattle.shelf_doors.specs.Refusals.{memory_line, disk_line, unread_line, unopened_line};
+ghost use Rattle.shelf_doors.specs.Refusals.{refusal_words, memory_line, disk_line, unread_line, unopened_line};
 
 use arch_base::hex_of;
 use arch_model::{OpenRefusal, TextRefusal};
 use disk_model::{FileKind, FileName};
-use edge_io::{Sink, SinkFault};
+use edge_io::{Sink, SinkFault, say};
+use keep_course::Refusal;
 use wire_replies::{Phrase, send};
+
+/// Writes why a connection is refused: a door's line for a server that is full, or why after its code.
+///
+/// `SinkFault` if a write failed. A prefix of the line was taken, and the sink's count of faults rose.
+pub fn say_refusal<O: Sink>(
+    busy: &[u8],
+    code: &[u8],
+    refusal: Refusal,
+    out: &mut O,
+) -> Result<(), SinkFault>
+    ensures said { SaysTo O.Sink (refusal_words busy.now code.now refusal) out.old out.new result }
+    ensures sink { O.alike out.old out.new }
+{
+    match refusal {
+        Refusal::Busy => say(busy, out),
+        Refusal::NoMemory => say_memory(code, out),
+        Refusal::Unopened(why) => say_unopened(code, why, out),
+    }
+}
 
 /// Writes that memory ran out.
 ///

@@ -5,5 +5,5 @@ use Rattle.std.proofs.Common.{[], ◌∷◌, ◌++◌}
 use Rattle.keep_course.proofs.laws.course_law.Goals as goal
 
 pub returns : goal.returns
-returns c = λ said is_request reopens old new w v fits course.
-    crash-in history said is_request reopens old new w (course.acts ++ v ∷ []) fits (kept-left history said is_request reopens old new w course.states (course.acts ++ v ∷ []) course.kept)
+returns c = λ door old new w v fits course.
+    crash-in history door old new w (course.acts ++ v ∷ []) fits (kept-left history door old new w course.states (course.acts ++ v ∷ []) course.kept)

@@ -1,0 +1,42 @@
+-- Private: a streamed reply over a shelf, whose words wait, and which stops when a text isn't read.
+use Rattle.std.specs.Prelude.{◌≡◌, ◌≤◌, ◌⊎◌, ℕ, Bool, true, false, List, Result, Ok, Err}
+use Rattle.arch_base.specs.Counts.{Rose}
+use Rattle.edge_io.specs.declared.sink.SinkFault.{SinkFault}
+use Rattle.line_door.specs.Acts.{ConnectionState, Said, Departure, Plain, Memory, Disk}
+use Rattle.line_door.specs.Making.{says, streams}
+use Rattle.wire_replies.specs.Waits.{Waits}
+use Rattle.shelf_doors.specs.Refusals.{memory_line, disk_line, SaysUnread}
+use Rattle.shelf_doors.specs.declared.streamed.Streamed.{Streamed}
+use Rattle.shelf_doors.specs.declared.streamed.Streamed.TheVariants as part
+
+-- An act is a streamed reply, after which the session goes on as `h`. Before its first word is said, it
+-- may say instead that memory ran out; or, if it reads texts, that the disk failed.
+pub record StreamWays {H A : Type 0} (words : Departure → Said H A) (a : A) (h : H)
+    (reply : List ℕ) (code : List ℕ) (reads : Bool)
+    : Type 0 where
+  pub by_rules : words Plain ≡ streams a h reply
+  pub no_memory : words Memory ≡ says a h (memory_line code)
+  pub no_disk : reads ≡ true → words Disk ≡ says a h (disk_line code)
+  pub after : (way : Departure) → a ≡ (words way).after
+
+-- Words were appended to those that wait, and no fault of the disk was met.
+abbrev pub Given : List ℕ → List ℕ → ConnectionState → Result Unit SinkFault → List ℕ
+    → ConnectionState → Type 0
+Given words old i sent new j =
+    (j.disk ≡ i.disk) × Waits words old i.out i.lost new j.out j.lost sent
+
+-- A text wasn't read, and nothing was said since.
+abbrev pub Missed : List ℕ → ConnectionState → List ℕ → ConnectionState → Type 0
+Missed old i new j = (new ≡ old) × (j.out ≡ i.out) × (j.lost ≡ i.lost) × (i.disk ≤ j.disk)
+    × (Rose i.disk j.disk ⊎ (j.disk ≡ i.disk))
+
+-- What became of the next part of a reply: it was appended to the words that wait; or its text was not
+-- read, which was said after a door's code if nothing was said before; or a write failed.
+abbrev pub StreamsNext : List ℕ → List ℕ → Bool → List ℕ → ConnectionState → Streamed → List ℕ
+    → ConnectionState → Type 0
+StreamsNext code words begun old i part.Said new j = Given words old i (Ok tt) new j
+StreamsNext code words begun old i (part.Unread sent) new j =
+    (begun ≡ false) × (new ≡ old) × SaysUnread code i sent j
+StreamsNext code words begun old i part.Short new j = (begun ≡ true) × Missed old i new j
+StreamsNext code words begun old i part.Lost new j =
+    (fault : SinkFault) × Given words old i (Err fault) new j
