@@ -1,6 +1,6 @@
 -- The keys of SEARCH (RFC 3501, section 6.4.4).
 use Rattle.std.specs.Prelude.{ℕ, nat_lt, Bool, true, false, ◌&&◌, ◌||◌, not, List, codes}
-use Rattle.std.specs.List.{list_any, list_all}
+use Rattle.std.specs.List.{list_any}
 use Rattle.std.specs.Str.{str_eq_ignore_ascii_case}
 use Rattle.mail_date.specs.declared.moment.CivilDate.{CivilDate}
 use Rattle.mail_reader.specs.Fields.{FieldText, fields_of}
@@ -10,11 +10,19 @@ use Rattle.mail_forms.specs.declared.row.Row.{Row}
 use Rattle.mail_forms.specs.WireForms.{wire_of}
 use Rattle.mime_words.specs.Decoding.{decoded}
 use Rattle.mime_parts.specs.Texts.{body_text_of}
-use Rattle.imap_syntax.specs.declared.keys.Key.{Key}
-use Rattle.imap_syntax.specs.declared.keys.Key.TheFolds.{fold-Key}
-use Rattle.imap_syntax.specs.declared.keys.Key.TheOpen.{Key-F}
-use Rattle.imap_syntax.specs.declared.keys.Key.TheOpen as key
+use Rattle.imap_syntax.specs.declared.keys.Date.{Date}
+use Rattle.imap_syntax.specs.declared.key_names.DayKey.{DayKey}
+use Rattle.imap_syntax.specs.declared.key_names.DayKey.TheVariants as day
+use Rattle.imap_syntax.specs.declared.key_names.FlagKey.{FlagKey}
+use Rattle.imap_syntax.specs.declared.key_names.FlagKey.TheVariants as flag
+use Rattle.imap_syntax.specs.declared.key_names.PlainKey.{PlainKey}
+use Rattle.imap_syntax.specs.declared.key_names.PlainKey.TheVariants as plain
+use Rattle.imap_syntax.specs.declared.key_names.SizeKey.{SizeKey}
+use Rattle.imap_syntax.specs.declared.key_names.SizeKey.TheVariants as size
+use Rattle.imap_syntax.specs.declared.key_names.TextKey.{TextKey}
+use Rattle.imap_syntax.specs.declared.key_names.TextKey.TheVariants as text
 use Rattle.imap_syntax.specs.Sets.{in_set}
+use Rattle.imap_syntax.specs.Trees.{KeyTest, Plain, Text, Header, Flag, Day, Size, Uid, Numbers, KeyTree, Single, Opposite, Either, Every, KeyTrees, no_tree, one_tree}
 use Rattle.imap_items.specs.Searching.{is_found}
 use Rattle.imap_items.specs.Days.{arrival_day, day_shown, is_day_before, is_day}
 
@@ -50,47 +58,6 @@ found_in_header piece text = is_found piece (wire_of (wholes (fields_of text)))
 abbrev pub in_text : List ℕ → List ℕ → Bool
 in_text piece text = found_in_header piece text || in_body piece text
 
--- The message matches a key, of whose own keys it is known whether it matches them. A message has
--- none of the flags.
-abbrev pub step : MessageText → Key-F Bool → Bool
-step a key.All = true
-step a key.Answered = false
-step a key.Deleted = false
-step a key.Draft = false
-step a key.Flagged = false
-step a key.New = false
-step a key.Old = true
-step a key.Recent = false
-step a key.Seen = false
-step a key.Unanswered = true
-step a key.Undeleted = true
-step a key.Undraft = true
-step a key.Unflagged = true
-step a key.Unseen = true
-step a (key.Bcc piece) = in_field (codes "Bcc") piece a.text
-step a (key.Body piece) = in_body piece a.text
-step a (key.Cc piece) = in_field (codes "Cc") piece a.text
-step a (key.From piece) = in_field (codes "From") piece a.text
-step a (key.Subject piece) = in_field (codes "Subject") piece a.text
-step a (key.Text piece) = in_text piece a.text
-step a (key.To piece) = in_field (codes "To") piece a.text
-step a (key.Header name piece) = in_field name piece a.text
-step a (key.Keyword flag) = false
-step a (key.Unkeyword flag) = true
-step a (key.Before day) = is_day_before a.arrived day
-step a (key.On day) = is_day a.arrived day
-step a (key.Since day) = not (is_day_before a.arrived day)
-step a (key.SentBefore day) = is_day_before a.sent day
-step a (key.SentOn day) = is_day a.sent day
-step a (key.SentSince day) = not (is_day_before a.sent day)
-step a (key.Larger n) = nat_lt n a.row.wire
-step a (key.Smaller n) = nat_lt a.row.wire n
-step a (key.Uid set) = in_set a.row.number a.uids set
-step a (key.Numbers set) = in_set a.sequence a.greatest set
-step a (key.Not k) = not k.value
-step a (key.Or k l) = k.value || l.value
-step a (key.Each ks) = list_all (λ b. b) ks.items
-
 -- A message with a text and a row, and these numbers.
 abbrev pub message_of : List ℕ → Row → ℕ → ℕ → ℕ → MessageText
 message_of text row sequence greatest uids = record {
@@ -103,50 +70,96 @@ message_of text row sequence greatest uids = record {
   sent = day_shown row.date;
 }
 
--- The message matches a key.
-unfoldable pub matches_of : MessageText → Key → Bool
-matches_of a = fold-Key Bool (step a)
+-- A message matches a key without arguments. It has none of the flags, and is old.
+abbrev pub plain_matches : PlainKey → Bool
+plain_matches plain.All = true
+plain_matches plain.Answered = false
+plain_matches plain.Deleted = false
+plain_matches plain.Draft = false
+plain_matches plain.Flagged = false
+plain_matches plain.New = false
+plain_matches plain.Recent = false
+plain_matches plain.Seen = false
+plain_matches plain.Old = true
+plain_matches plain.Unanswered = true
+plain_matches plain.Undeleted = true
+plain_matches plain.Undraft = true
+plain_matches plain.Unflagged = true
+plain_matches plain.Unseen = true
 
--- The key reads the text, if it is known whether its own keys do: those of fields and of the body do.
-abbrev pub reads_step : Key-F Bool → Bool
-reads_step key.All = false
-reads_step key.Answered = false
-reads_step key.Deleted = false
-reads_step key.Draft = false
-reads_step key.Flagged = false
-reads_step key.New = false
-reads_step key.Old = false
-reads_step key.Recent = false
-reads_step key.Seen = false
-reads_step key.Unanswered = false
-reads_step key.Undeleted = false
-reads_step key.Undraft = false
-reads_step key.Unflagged = false
-reads_step key.Unseen = false
-reads_step (key.Bcc piece) = true
-reads_step (key.Body piece) = true
-reads_step (key.Cc piece) = true
-reads_step (key.From piece) = true
-reads_step (key.Subject piece) = true
-reads_step (key.Text piece) = true
-reads_step (key.To piece) = true
-reads_step (key.Header name piece) = true
-reads_step (key.Keyword flag) = false
-reads_step (key.Unkeyword flag) = false
-reads_step (key.Before day) = false
-reads_step (key.On day) = false
-reads_step (key.Since day) = false
-reads_step (key.SentBefore day) = false
-reads_step (key.SentOn day) = false
-reads_step (key.SentSince day) = false
-reads_step (key.Larger n) = false
-reads_step (key.Smaller n) = false
-reads_step (key.Uid set) = false
-reads_step (key.Numbers set) = false
-reads_step (key.Not k) = k.value
-reads_step (key.Or k l) = k.value || l.value
-reads_step (key.Each ks) = list_any (λ b. b) ks.items
+-- The message matches a key with a text.
+abbrev pub text_matches : MessageText → TextKey → List ℕ → Bool
+text_matches m text.Bcc piece = in_field (codes "Bcc") piece m.text
+text_matches m text.Body piece = in_body piece m.text
+text_matches m text.Cc piece = in_field (codes "Cc") piece m.text
+text_matches m text.From piece = in_field (codes "From") piece m.text
+text_matches m text.Subject piece = in_field (codes "Subject") piece m.text
+text_matches m text.Text piece = in_text piece m.text
+text_matches m text.To piece = in_field (codes "To") piece m.text
 
--- The key reads the text of a message.
-unfoldable pub reads_text : Key → Bool
-reads_text = fold-Key Bool reads_step
+-- A message matches a key with a flag. It has none.
+abbrev pub flag_matches : FlagKey → Bool
+flag_matches flag.Keyword = false
+flag_matches flag.Unkeyword = true
+
+-- The message matches a key with a date.
+abbrev pub day_matches : MessageText → DayKey → Date → Bool
+day_matches m day.Before date = is_day_before m.arrived date
+day_matches m day.On date = is_day m.arrived date
+day_matches m day.Since date = not (is_day_before m.arrived date)
+day_matches m day.SentBefore date = is_day_before m.sent date
+day_matches m day.SentOn date = is_day m.sent date
+day_matches m day.SentSince date = not (is_day_before m.sent date)
+
+-- The message matches a key with a number of octets.
+abbrev pub size_matches : MessageText → SizeKey → ℕ → Bool
+size_matches m size.Larger n = nat_lt n m.row.wire
+size_matches m size.Smaller n = nat_lt m.row.wire n
+
+-- The message matches a key that has no keys within it.
+abbrev pub test_matches : MessageText → KeyTest → Bool
+test_matches m (Plain name) = plain_matches name
+test_matches m (Text name piece) = text_matches m name piece
+test_matches m (Header field piece) = in_field field piece m.text
+test_matches m (Flag name word) = flag_matches name
+test_matches m (Day name date) = day_matches m name date
+test_matches m (Size name n) = size_matches m name n
+test_matches m (Uid set) = in_set m.row.number m.uids set
+test_matches m (Numbers set) = in_set m.sequence m.greatest set
+
+unfoldable mutual
+  -- The message matches a key.
+  pub tree_matches : MessageText → KeyTree → Bool
+  tree_matches m (Single test) = test_matches m test
+  tree_matches m (Opposite t) = not (tree_matches m t)
+  tree_matches m (Either t u) = tree_matches m t || tree_matches m u
+  tree_matches m (Every ts) = trees_match m ts
+
+  -- The message matches each of these keys.
+  pub trees_match : MessageText → KeyTrees → Bool
+  trees_match m no_tree = true
+  trees_match m (one_tree t ts) = tree_matches m t && trees_match m ts
+
+-- A key that has no keys within it reads the text of a message: those of fields and of the body do.
+abbrev pub test_reads : KeyTest → Bool
+test_reads (Plain name) = false
+test_reads (Text name piece) = true
+test_reads (Header field piece) = true
+test_reads (Flag name word) = false
+test_reads (Day name date) = false
+test_reads (Size name n) = false
+test_reads (Uid set) = false
+test_reads (Numbers set) = false
+
+unfoldable mutual
+  -- A key reads the text of a message: one within it does.
+  pub tree_reads : KeyTree → Bool
+  tree_reads (Single test) = test_reads test
+  tree_reads (Opposite t) = tree_reads t
+  tree_reads (Either t u) = tree_reads t || tree_reads u
+  tree_reads (Every ts) = trees_read ts
+
+  -- One of these keys reads it.
+  pub trees_read : KeyTrees → Bool
+  trees_read no_tree = false
+  trees_read (one_tree t ts) = tree_reads t || trees_read ts

@@ -5,10 +5,10 @@ use Rattle.mime_parts.specs.declared.part.Shape.TheVariants.{Message}
 use Rattle.imap_syntax.specs.declared.items.Section.{Section}
 use Rattle.imap_syntax.specs.declared.items.SectionText.{SectionText}
 use Rattle.imap_syntax.specs.declared.items.SectionText.TheVariants as asked
-use Rattle.imap_syntax.specs.declared.keys.Key.{Key}
+use Rattle.imap_syntax.specs.Trees.{KeyTree}
 use Rattle.imap_items.specs.Sections.{PlaceText, whole_mail, place_at, header_bytes, source_of}
 use Rattle.imap_items.specs.Searching.{has_piece}
-use Rattle.imap_items.specs.Keys.{MessageText, matches_of, reads_text}
+use Rattle.imap_items.specs.Keys.{MessageText, tree_matches, tree_reads}
 
 -- The fields of a message in a text that a section has, and an empty line.
 pub record IsHeaderIn (what : SectionText) (text source : List ℕ) : Type 0 where
@@ -57,8 +57,8 @@ InnerMailsAgree = (text numbers : List ℕ) (place : PlaceText) (what : SectionT
 
 -- The law of unread texts: a key that doesn't read the text answers the same of any text.
 abbrev pub UnreadTextsAreAlike : Type 0
-UnreadTextsAreAlike = (a : MessageText) (text : List ℕ) (key : Key) → reads_text key ≡ false
-    → matches_of (record a { text = text }) key ≡ matches_of a key
+UnreadTextsAreAlike = (m : MessageText) (text : List ℕ) (key : KeyTree) → tree_reads key ≡ false
+    → tree_matches (record m { text = text }) key ≡ tree_matches m key
 
 -- The law of pieces: a text has another in it exactly where that is a piece of it.
 abbrev pub PiecesAreFound : Type 0

@@ -1,8 +1,8 @@
 //! The keys by which SEARCH finds messages (RFC 3501, section 6.4.4).
 //! Allocates.
 ghost use Rattle.std.specs.Prelude.{◌≡◌, IfOk, OnOk, map};
-ghost use Rattle.std.specs.List.{list_all, list_any};
-ghost use Rattle.imap_items.specs.Keys.{message_of, matches_of, reads_text};
+ghost use Rattle.imap_syntax.specs.Trees.{tree_of, trees};
+ghost use Rattle.imap_items.specs.Keys.{message_of, tree_matches, trees_match, tree_reads, trees_read};
 ghost use Rattle.imap_items.specs.Kept.{shown_message, IsKeptText};
 
 use crate::days::{arrival_day, day_shown, is_day, is_day_before};
@@ -42,7 +42,7 @@ pub fn matches<'a>(
     key: &Key,
 ) -> Result<bool, NoMemory>
     ensures { IfOk result (λ found.
-        found ≡ matches_of (message_of text.now row.now sequence greatest uids) key.now) }
+        found ≡ tree_matches (message_of text.now row.now sequence greatest uids) (tree_of key.now)) }
 {
     let message = message_of(text, row, sequence, greatest, uids);
     let mut kept = Kept::new(alloc, text);
@@ -73,7 +73,7 @@ fn message_of<'a>(
 
 /// Returns whether a message matches a key.
 #[cycle(keys)]
-#[tactic(auto, unfolding(crate::specs::Keys::matches_of))]
+#[tactic(auto, unfolding(crate::specs::Keys::tree_matches))]
 fn matches_key(
     alloc: Global,
     message: &Message<'_>,
@@ -81,7 +81,8 @@ fn matches_key(
     kept: &mut Kept,
 ) -> Result<bool, NoMemory>
     requires { IsKeptText message.now.text.now kept.old }
-    ensures found { IfOk result (λ found. found ≡ matches_of (shown_message message.now) key.now) }
+    ensures found { IfOk result (λ found.
+        found ≡ tree_matches (shown_message message.now) (tree_of key.now)) }
     ensures kept { OnOk result (IsKeptText message.now.text.now kept.new) }
 {
     match key {
@@ -134,7 +135,7 @@ fn matches_key(
 
 /// Returns whether a message matches each of these keys.
 #[cycle(keys)]
-#[tactic(auto, unfolding(crate::specs::Keys::matches_of))]
+#[tactic(auto, unfolding(crate::specs::Keys::tree_matches))]
 fn matches_each(
     alloc: Global,
     message: &Message<'_>,
@@ -142,8 +143,8 @@ fn matches_each(
     kept: &mut Kept,
 ) -> Result<bool, NoMemory>
     requires { IsKeptText message.now.text.now kept.old }
-    ensures found { IfOk result (λ found. found
-        ≡ list_all (λ b. b) (map (matches_of (shown_message message.now)) keys.now)) }
+    ensures found { IfOk result (λ found.
+        found ≡ trees_match (shown_message message.now) (trees (map tree_of keys.now))) }
     ensures kept { OnOk result (IsKeptText message.now.text.now kept.new) }
 {
     for key in keys {
@@ -157,9 +158,9 @@ fn matches_each(
 /// Returns whether a key reads the text of a message. Any other key asks only of its row and its
 /// numbers, so that a search by it needs no text.
 #[cycle(readings)]
-#[tactic(auto, unfolding(crate::specs::Keys::reads_text))]
+#[tactic(auto, unfolding(crate::specs::Keys::tree_reads))]
 pub fn reads_text(key: &Key) -> bool
-    ensures { result ≡ reads_text key.now }
+    ensures { result ≡ tree_reads (tree_of key.now) }
 {
     match key {
         Key::Bcc(_)
@@ -204,9 +205,9 @@ pub fn reads_text(key: &Key) -> bool
 
 /// Returns whether one of these keys reads the text of a message.
 #[cycle(readings)]
-#[tactic(auto, unfolding(crate::specs::Keys::reads_text))]
+#[tactic(auto, unfolding(crate::specs::Keys::tree_reads))]
 fn one_reads_text(keys: &[Key]) -> bool
-    ensures { result ≡ list_any (λ b. b) (map reads_text keys.now) }
+    ensures { result ≡ trees_read (trees (map tree_of keys.now)) }
 {
     for key in keys {
         if reads_text(key) {

@@ -9,7 +9,7 @@ use imap_words::is_keyword;
 
 /// A command without arguments.
 #[derive(Clone, Copy)]
-pub(crate) enum PlainCommand {
+pub enum PlainCommand {
     /// `CAPABILITY`
     Capability,
     /// `NOOP`
@@ -28,7 +28,7 @@ pub(crate) enum PlainCommand {
 
 /// A command with a mailbox alone.
 #[derive(Clone, Copy)]
-pub(crate) enum MailboxCommand {
+pub enum MailboxCommand {
     /// `SELECT`
     Select,
     /// `EXAMINE`
@@ -45,7 +45,7 @@ pub(crate) enum MailboxCommand {
 
 /// A command that lists mailboxes.
 #[derive(Clone, Copy)]
-pub(crate) enum ListCommand {
+pub enum ListCommand {
     /// `LIST`
     List,
     /// `LSUB`

@@ -10,7 +10,7 @@ use imap_words::is_keyword;
 
 /// A key without arguments.
 #[derive(Clone, Copy)]
-pub(crate) enum PlainKey {
+pub enum PlainKey {
     /// `ALL`
     All,
     /// `ANSWERED`
@@ -43,7 +43,7 @@ pub(crate) enum PlainKey {
 
 /// A key with a text.
 #[derive(Clone, Copy)]
-pub(crate) enum TextKey {
+pub enum TextKey {
     /// `BCC`
     Bcc,
     /// `BODY`
@@ -62,7 +62,7 @@ pub(crate) enum TextKey {
 
 /// A key with a date.
 #[derive(Clone, Copy)]
-pub(crate) enum DayKey {
+pub enum DayKey {
     /// `BEFORE`
     Before,
     /// `ON`
@@ -79,7 +79,7 @@ pub(crate) enum DayKey {
 
 /// A key with a flag.
 #[derive(Clone, Copy)]
-pub(crate) enum FlagKey {
+pub enum FlagKey {
     /// `KEYWORD`
     Keyword,
     /// `UNKEYWORD`
@@ -88,7 +88,7 @@ pub(crate) enum FlagKey {
 
 /// A key with a number of octets.
 #[derive(Clone, Copy)]
-pub(crate) enum SizeKey {
+pub enum SizeKey {
     /// `LARGER`
     Larger,
     /// `SMALLER`

@@ -21,10 +21,12 @@ mod set_reading;
 mod sets;
 
 pub use asks::{Ask, AskRefusal, StatusItem};
+pub use command_names::{ListCommand, MailboxCommand, PlainCommand};
 pub use dates::{DateTime, Time, Zone};
 pub use flags::{FlagChange, StoreItem};
 pub use imap_framer::{Found, Framed, Framer};
 pub use items::{Item, Partial, Section, SectionText};
+pub use key_names::{DayKey, FlagKey, PlainKey, SizeKey, TextKey};
 pub use keys::{Date, Key};
 pub use laws::keys_are_read;
 pub use reading::read;

@@ -1,0 +1,4 @@
+pub mod Streams
+pub mod Named
+pub mod Messages
+pub mod Seekings

@@ -1,0 +1,130 @@
+-- A streamed reply whose words wait, and which stops when a text isn't read.
+use Rattle.std.proofs.Common.{◌≡◌, ◌+◌, ◌≤◌, ◌<◌, ◌⊎◌, ℕ, zero, suc, min, Bool, true, false, List, [], ◌++◌, length, take, Option, None, Result, Ok, Err, is_ok, inl, inr, refl, sym, ap, subst, ◌∙◌, append_assoc, length-append, arith}
+use Rattle.arch_base.specs.Counts.{Rose}
+use Rattle.edge_io.specs.Taken.{plus}
+use Rattle.edge_io.specs.Phrases.{Says}
+use Rattle.edge_io.specs.declared.sink.SinkFault.{SinkFault}
+use Rattle.edge_io.proofs.Wording.{take-first}
+use Rattle.line_door.specs.Acts.{ConnectionState, Said, Departure, Plain, Memory, Disk, DepartureCause, SaidShort, Acts, held_if}
+use Rattle.line_door.specs.Making.{says, streams}
+use Rattle.line_door.proofs.Acting.{acts-by_held, acts-by_says}
+use Rattle.line_door.proofs.Streaming.{acts-short}
+use Rattle.shelf_doors.specs.Refusals.{memory_line, disk_line}
+use Rattle.wire_replies.proofs.Wording.{SoFar, sofar-none, sofar-lost, Waits-then, Waits-flushed}
+use Rattle.shelf_doors.proofs.Replying.{Waits-ended}
+use Rattle.imap_messages.specs.FetchActs.{IsAppended, IsUnmade, SaysWhy}
+
+-- A write that failed after the reply had to stop: what was taken is a prefix of the reply.
+module _ {H A : Type 0} (words : Departure → Said H A) (s : Said H A) (front more : List ℕ) (i k : ConnectionState) (a : A) where
+  short_of : (count : ℕ) → words Plain ≡ s → s.streamed ≡ true → s.words ≡ front ++ more → 0 < length front → 0 < length more → a ≡ s.after → k.out ≡ plus i.out (take (suc count) front) → SaidShort (words Plain) i None a k
+  short_of count is streamed parts some rest after out = subst (λ (t : Said H A). SaidShort t i None a k) (sym is) (record {
+    streamed = streamed;
+    held_is = refl;
+    after_is = after;
+    count = min (suc count) (length front);
+    some = omega (arith, some);
+    proper = omega (arith, rest, ap length parts, length-append front more);
+    out_is = out ∙ ap (plus i.out) (sym (ap (take (min (suc count) (length front))) parts ∙ take-first (suc count) front more));
+  })
+
+  acts-lost_short : (way : Departure) (count : ℕ) → ((w : Departure) → a ≡ (words w).after) → (SaidShort (words Plain) i None a k → Acts words i None a k) → DepartureCause way i.disk k.disk → i.disk ≤ k.disk → i.lost ≤ k.lost → Rose i.lost k.lost
+      → words Plain ≡ s → s.streamed ≡ true → s.words ≡ front ++ more → 0 < length front → 0 < length more → k.out ≡ plus i.out (take count front) → Acts words i None a k
+  acts-lost_short way zero after by_short cause later lost rose is streamed parts some rest out = record {
+    way = way;
+    cause = cause;
+    disk_later = later;
+    lost_later = lost;
+    sent = inr (inl (record { lost_rose = rose; held_is = refl; after_is = after way; count = 0; out_is = out }));
+  }
+  acts-lost_short way (suc count) after by_short cause later lost rose is streamed parts some rest out =
+      by_short (short_of count is streamed parts some rest (after Plain ∙ ap (λ (t : Said H A). t.after) is) out)
+
+  -- A streamed reply stops: what waits of it is written, or the write fails, too.
+  pub acts-stopped : (sent : Result Unit SinkFault) → ((w : Departure) → a ≡ (words w).after) → words Plain ≡ s → s.streamed ≡ true → s.words ≡ front ++ more → 0 < length front → 0 < length more
+      → Rose i.disk k.disk ⊎ (k.disk ≡ i.disk) → i.disk ≤ k.disk → Says front i.out i.lost k.out k.lost sent → Acts words i None a k
+  acts-stopped (Ok done) after is streamed parts some rest cause later said = acts-short words s front more i k a is streamed parts some rest cause later said (after Plain ∙ ap (λ (t : Said H A). t.after) is)
+  acts-stopped (Err fault) after is streamed parts some rest (inl rose) later said =
+      acts-lost_short Disk said.2.0 after (λ short. record { way = Disk; cause = rose; disk_later = later; lost_later = said.0; sent = inr (inr short) }) rose later said.0 said.1 is streamed parts some rest said.2.1
+  acts-stopped (Err fault) after is streamed parts some rest (inr kept) later said =
+      acts-lost_short Memory said.2.0 after (λ short. record { way = Memory; cause = kept; disk_later = later; lost_later = said.0; sent = inr (inr short) }) kept later said.0 said.1 is streamed parts some rest said.2.1
+
+-- Of a reply some words were appended, and others are left. `begun` says whether any were.
+pub record Under (reply left : List ℕ) (begun : Bool) (i : ConnectionState) (waiting : List ℕ) (j : ConnectionState) : Type 0 where
+  pub so_far : SoFar reply left [] i.out i.lost waiting j.out j.lost
+  pub some : begun ≡ true → 0 < length so_far.front
+  pub none : begun ≡ false → (j.out ≡ i.out) × (j.lost ≡ i.lost)
+  pub kept : j.disk ≡ i.disk
+
+-- Nothing was appended.
+pub under-start : (reply : List ℕ) (i : ConnectionState) → Under reply reply false i [] i
+under-start reply i = record {
+  so_far = sofar-none reply [] i.out i.lost;
+  some = λ e. absurd (cc e);
+  none = λ e. (refl, refl);
+  kept = refl;
+}
+
+module _ (reply left : List ℕ) (begun : Bool) (i : ConnectionState) (waiting : List ℕ) (j : ConnectionState) (before : Under reply left begun i waiting j) where
+  -- The next words were appended.
+  pub under-more : (piece rest new : List ℕ) (k : ConnectionState) → left ≡ piece ++ rest → 0 < length piece → IsAppended piece waiting j (Ok tt) new k → Under reply rest true i new k
+  under-more piece rest new k is some given = record {
+    so_far = record {
+      front = before.so_far.front ++ piece;
+      joined = before.so_far.joined ∙ ap (λ (x : List ℕ). before.so_far.front ++ x) is ∙ sym (append_assoc before.so_far.front piece rest);
+      waits = Waits-then before.so_far.front piece [] waiting new i.out j.out k.out i.lost j.lost k.lost tt (Ok tt) before.so_far.waits given.1;
+    };
+    some = λ e. omega (arith, some, length-append before.so_far.front piece);
+    none = λ e. absurd (cc e);
+    kept = given.0 ∙ before.kept;
+  }
+
+  -- There were no words.
+  pub under-same : (rest new : List ℕ) (now : Bool) (k : ConnectionState) → left ≡ rest → new ≡ waiting → k ≡ j → now ≡ begun → Under reply rest now i new k
+  under-same rest new now k is same still started = rw (← is, same, still, started) before
+
+-- What an act says in each way that is a streamed reply, after which the session goes on as `h`. Before
+-- its first word is said, it may say instead that memory ran out, or that the disk failed.
+pub record StreamWays {H A : Type 0} (words : Departure → Said H A) (a : A) (h : H) (reply code : List ℕ) (texts : ℕ) : Type 0 where
+  pub by_rules : words Plain ≡ streams a h reply
+  pub no_memory : words Memory ≡ says a h (memory_line code)
+  pub no_disk : 0 < texts → words Disk ≡ says a h (disk_line code)
+  pub after : (way : Departure) → a ≡ (words way).after
+
+-- A cause after the disk's count was kept.
+cause-on : (first before now last : ℕ) → before ≡ first → last ≡ now → Rose before now ⊎ (now ≡ before) → Rose first last ⊎ (last ≡ first)
+cause-on first before now last kept same (inl rose) = let more : Rose first last = omega (arith, kept, same, rose) in inl more
+cause-on first before now last kept same (inr stayed) = inr (same ∙ stayed ∙ kept)
+
+module _ {H A : Type 0} (words : Departure → Said H A) (a : A) (h : H) (reply code : List ℕ) (texts : ℕ) (ways : StreamWays words a h reply code texts) (left : List ℕ) (i : ConnectionState) (waiting : List ℕ) (j : ConnectionState) where
+  -- A write failed at the next words.
+  pub under-lost : (begun : Bool) → Under reply left begun i waiting j → (piece rest new : List ℕ) (k : ConnectionState) (fault : SinkFault) → left ≡ piece ++ rest → IsAppended piece waiting j (Err fault) new k → Acts words i None a k
+  under-lost begun before piece rest new k fault is given =
+      acts-by_says words Plain (streams a h reply) i k None a (Err fault) ways.by_rules (given.0 ∙ before.kept) (let kept = before.kept in omega (arith, given.0, kept))
+      (sofar-lost reply [] i.out i.lost left waiting j.out j.lost before.so_far piece rest k.out k.lost fault is given.1) refl refl
+
+  -- Before the first words, it was said why they weren't made.
+  pub under-unread : (begun : Bool) → Under reply left begun i waiting j → (some : ℕ) (k : ConnectionState) (sent : Result Unit SinkFault) → begun ≡ false → some ≤ texts → SaysWhy some code j sent k → Acts words i (held_if (is_ok sent) h) a k
+  under-unread begun before some k sent not_begun fits unread = by (subst (λ (o : ConnectionState). SaysWhy some code o sent k) still unread)
+    where
+      still : j ≡ i
+      still = let none = before.none not_begun in λ e. record { out = none.0 e; disk = before.kept e; lost = none.1 e }
+
+      by : SaysWhy some code i sent k → Acts words i (held_if (is_ok sent) h) a k
+      by (inl disk) = acts-by_held words Disk (says a h (disk_line code)) i k h a sent (ways.no_disk (omega (arith, fits, disk.0))) refl disk.1 disk.2 disk.3 refl
+      by (inr memory) = acts-by_held words Memory (says a h (memory_line code)) i k h a sent ways.no_memory refl memory.0 (omega (arith, memory.0)) memory.1 refl
+
+  -- After some words a text wasn't read, and what waits is written.
+  pub under-short : (begun : Bool) → Under reply left begun i waiting j → (new : List ℕ) (k m : ConnectionState) (sent : Result Unit SinkFault) → begun ≡ true → 0 < length left → IsUnmade waiting j new k → m.disk ≡ k.disk → Says new k.out k.lost m.out m.lost sent → Acts words i None a m
+  under-short begun before new k m sent started more missed same said =
+      let on : Says waiting j.out j.lost m.out m.lost sent = subst (λ (x : List ℕ). Says x j.out j.lost m.out m.lost sent) missed.0
+      (subst (λ (o : Option (List ℕ)). Says new o j.lost m.out m.lost sent) missed.1
+      (subst (λ (l : ℕ). Says new k.out l m.out m.lost sent) missed.2 said)) in
+      acts-stopped words (streams a h reply) before.so_far.front left i m a sent ways.after ways.by_rules refl before.so_far.joined (before.some started) more
+      (cause-on i.disk j.disk k.disk m.disk before.kept same missed.4) (let later = missed.3 in omega (arith, before.kept, same))
+      (Waits-flushed before.so_far.front [] waiting i.out j.out m.out i.lost j.lost m.lost tt sent before.so_far.waits on)
+
+  -- All words were appended, and the last were written.
+  pub under-all : (begun : Bool) → Under reply left begun i waiting j → (k : ConnectionState) (sent : Result Unit SinkFault) → k.disk ≡ j.disk → Says (waiting ++ left) j.out j.lost k.out k.lost sent → Acts words i (held_if (is_ok sent) h) a k
+  under-all begun before k sent same said =
+      acts-by_held words Plain (streams a h reply) i k h a sent ways.by_rules refl (same ∙ before.kept) (let kept = before.kept in omega (arith, same, kept))
+      (rw before.so_far.joined (Waits-ended before.so_far.front left [] waiting i.out j.out k.out i.lost j.lost k.lost tt sent before.so_far.waits said)) refl

@@ -1,0 +1,7 @@
+use Rattle.std.proofs.Common.{◌++◌, ◌∷◌, codes, append_assoc}
+use Rattle.wire_replies.specs.Blocks.{crlf_line}
+use Rattle.imap_messages.proofs.refusals.say_damaged.Goals as goal
+
+pub returns-clause-said : goal.returns-clause-said
+returns-clause-said g c =
+    rw (append_assoc c.args.tag.now (codes " NO ") (codes "damaged " ++ (c.args.named.now ++ (32 ∷ crlf_line c.args.found.now)))) c.send.ensures.said

@@ -1,0 +1,5 @@
+pub mod Acting
+pub mod Suiting
+mod Rests
+mod Ranges
+mod Lines
